@@ -1,0 +1,160 @@
+#!/usr/bin/env python3
+"""Times the program on documents of 1,000 to 1,000,000 nodes.
+
+    bench/bench.py [--program PATH] [--most NODES] [--shape NAME]
+
+Prints seconds and peak memory of one run for each shape and size, and the cost
+of a node. Where the cost of a node grows with the size, something isn't linear.
+"""
+
+import argparse
+import json
+import os
+import subprocess
+import sys
+import tempfile
+import time
+
+TOP = os.path.dirname(os.path.dirname(os.path.abspath(__file__)))
+BUILT = os.path.join(TOP, "crates", "lower_tool", "out", "lower_tool")
+SIZES = [1_000, 10_000, 100_000, 1_000_000]
+# A tree has at most 256 levels. A chain stands on three others: the function, its body, the statement.
+CHAIN = 252
+
+
+class Nodes:
+    """A list of nodes in which each child stands after its parent."""
+
+    def __init__(self):
+        self.all = []
+
+    def add(self, kind, **fields):
+        self.all.append({"k": kind, **fields})
+        return len(self.all) - 1
+
+    def statement(self, block):
+        """Adds a statement with a semicolon, whose expression is the next node."""
+        statement = self.add("ExprStmt", semi=True)
+        self.all[statement]["expr"] = statement + 1
+        self.all[block]["stmts"].append(statement)
+
+
+def body():
+    nodes = Nodes()
+    nodes.add("Fn", body=1)
+    return nodes, nodes.add("BlockExpr", stmts=[])
+
+
+def wide(size):
+    """One block of very many literals."""
+    nodes, block = body()
+    while len(nodes.all) + 2 <= size:
+        nodes.statement(block)
+        nodes.add("Literal", lit="int", t="1")
+    return nodes
+
+
+def calls(size):
+    """One call with very many arguments, each a path."""
+    nodes, block = body()
+    nodes.statement(block)
+    call = nodes.add("CallExpr", args=[])
+    while len(nodes.all) + 3 <= size:
+        argument = nodes.add("PathExpr")
+        nodes.all[argument]["path"] = nodes.add("Path", segs=[argument + 2])
+        nodes.add("PathSegment", seg="name", name="a")
+        nodes.all[call]["args"].append(argument)
+    return nodes
+
+
+def deep(size):
+    """Many chains of parentheses, each as deep as a tree may be."""
+    nodes, block = body()
+    while len(nodes.all) + CHAIN + 2 <= size:
+        nodes.statement(block)
+        for _ in range(CHAIN):
+            here = nodes.add("ParenExpr")
+            nodes.all[here]["expr"] = here + 1
+        nodes.add("Literal", lit="bool", t="true")
+    return nodes
+
+
+def labels(size):
+    """Many chains of labelled loops, each left by a break from inside all of them to the outermost label."""
+    nodes, block = body()
+    loops = CHAIN // 2
+    while len(nodes.all) + 3 * loops + 2 <= size:
+        nodes.statement(block)
+        for level in range(loops):
+            loop = nodes.add("LoopExpr")
+            nodes.all[loop]["label"] = nodes.add("Label", lifetime="'l%d" % level)
+            inner = nodes.add("BlockExpr")
+            nodes.all[loop]["body"] = inner
+            nodes.all[inner]["tail"] = inner + 1
+        nodes.add("BreakExpr", lifetime="'l0")
+    return nodes
+
+
+SHAPES = {"wide": wide, "calls": calls, "deep": deep, "labels": labels}
+
+
+def make(name, size, path):
+    """Writes a document in a process of its own, and answers how many nodes it has.
+
+    A child's peak memory is at least that of the process that started it, so this one stays small.
+    """
+    command = [sys.executable, os.path.abspath(__file__), "--make", name, str(size), path]
+    return int(subprocess.run(command, check=True, stdout=subprocess.PIPE).stdout)
+
+
+def write(name, size, path):
+    nodes = SHAPES[name](size).all
+    with open(path, "w") as document:
+        json.dump({"nodes": nodes}, document)
+    print(len(nodes))
+
+
+def measure(program, path):
+    """Runs the program on a file: its status, seconds and peak memory in bytes."""
+    with open(path, "rb") as document:
+        began = time.monotonic()
+        child = subprocess.Popen([program, "body"], stdin=document, stdout=subprocess.DEVNULL)
+        _, status, used = os.wait4(child.pid, 0)
+        seconds = time.monotonic() - began
+    return os.waitstatus_to_exitcode(status), seconds, used.ru_maxrss * 1024
+
+
+def main():
+    options = argparse.ArgumentParser(description=__doc__.split("\n")[0])
+    options.add_argument("--program", default=BUILT)
+    options.add_argument("--most", type=int, default=SIZES[-1], help="leave larger documents out")
+    options.add_argument("--shape", choices=sorted(SHAPES))
+    options.add_argument("--make", nargs=3, metavar=("SHAPE", "SIZE", "FILE"), help="only write a document")
+    given = options.parse_args()
+    if given.make:
+        return write(given.make[0], int(given.make[1]), given.make[2])
+    if not os.access(given.program, os.X_OK):
+        sys.exit("bench: no program %s; `rt run` in crates/lower_tool builds it" % given.program)
+    print("%-7s %9s %9s %8s %9s %9s %9s" % ("shape", "nodes", "MB", "seconds", "peak MB", "us/node", "B/node"))
+    failed = False
+    for name in [given.shape] if given.shape else list(SHAPES):
+        for size in [size for size in SIZES if size <= given.most]:
+            failed = line(given.program, name, size) or failed
+    return 1 if failed else 0
+
+
+def line(program, name, size):
+    """Prints one line, and answers whether the run failed."""
+    with tempfile.TemporaryDirectory() as folder:
+        path = os.path.join(folder, "document.json")
+        count = make(name, size, path)
+        length = os.path.getsize(path)
+        status, seconds, peak = measure(program, path)
+    shown = (name, count, length / 1e6, seconds, peak / 1e6, seconds * 1e6 / count, peak / count)
+    print("%-7s %9d %9.1f %8.3f %9.1f %9.2f %9.0f" % shown, end="")
+    print("" if status == 0 else "  status %d" % status, flush=True)
+    return status != 0
+
+
+if __name__ == "__main__":
+    sys.exit(main())

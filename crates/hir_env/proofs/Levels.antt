@@ -1,0 +1,141 @@
+-- An answered tree is one level of it around its answered parts.
+use Rattle.std.proofs.Common.{◌≡◌, ◌∙◌, refl, sym, ap, Option, Some, None, List, [], ◌∷◌}
+use Rattle.std.specs.Prelude.{option_map}
+use Rattle.hir_syntax.specs.declared.node.AstPtr.{AstPtr}
+use Rattle.hir_syntax.specs.declared.ast.ElseBranch.{ElseBranch as AstElseBranch, out-ElseBranch}
+use Rattle.hir_syntax.specs.declared.ast.ExprKind.{ExprKind as AstExprKind, out-ExprKind}
+use Rattle.hir_syntax.specs.declared.ast.StmtKind.{StmtKind as AstStmtKind, out-StmtKind}
+use Rattle.hir_syntax.specs.declared.ast.BlockExpr.{BlockExpr as AstBlockExpr, out-BlockExpr}
+use Rattle.hir_syntax.specs.declared.ast.Expr.{Expr as AstExpr}
+use Rattle.hir_syntax.specs.declared.ast.Stmt.{Stmt as AstStmt}
+use Rattle.hir_syntax.specs.declared.ast.ElseBranch.TheFolds as folds
+use Rattle.hir_syntax.specs.declared.ast.ElseBranch.TheOpen.{ElseBranch-F, ExprKind-F, StmtKind-F}
+use Rattle.hir_syntax.specs.formers.seq.Seq as seq
+use mathlib.Core.Former.{this}
+use Rattle.hir_store.specs.Pointers.{Pointer}
+use Rattle.hir_env.specs.declared.place.Place.{Place}
+use Rattle.hir_env.specs.Answers.{Answers}
+use Rattle.hir_env.specs.Layers.{BlockReading, Sorts, Reader, ElseBranchLayer, ExprKindLayer, StmtKindLayer, BlockExprLayer, readings, itself}
+use Rattle.hir_env.specs.Answering as of
+use Rattle.hir_env.specs.Answered as tree
+use Rattle.hir_env.specs.Answered.{Label, Expr, OptionExpr, Exprs, Block, OptionBlock, Stmts, Stmt}
+use Rattle.hir_env.specs.Whole.{written, reader, read_else_branch, read_expr_kind, read_stmt_kind, read_block, read_expr, read_stmt, answered, answered_plain, answered_block, answered_stmt, answered_else, asked_expr, block_level, stmt_level, else_level}
+
+-- how a fold passes an option and a list on
+abbrev optional : {A B : Type 0} → (A → B) → Option A → Option B
+optional {A} {B} h x = (folds.map-BlockExpr (Unit {0}) (Unit {0}) (Unit {0}) (Unit {0}) A (Unit {0}) (Unit {0}) (Unit {0}) (Unit {0}) (Unit {0}) B (Unit {0}) (λ x. x) (λ x. x) (λ x. x) (λ x. x) h (λ x. x)
+    (record { id = record { 0 = 0 }; range = record { start = 0; end = 0 }; label = None; stmts = []; tail = x })).tail
+
+abbrev listed : {A B : Type 0} → (A → B) → List A → List B
+listed {A} {B} h xs = (seq.the_former (this {0})).map A B h xs
+
+expr_is : {A : Type 0} (h : A → Place → Expr) (x : Option A) (p : Place) → of.expr_or_none (λ y. y) (optional h x) p ≡ of.expr_or_none h x p
+expr_is h None p = refl
+expr_is h (Some x) p = refl
+
+plain_is : {A : Type 0} (h : A → BlockReading) (x : Option A) (p : Place) → of.plain_or_none (λ y. y) (optional h x) p ≡ of.plain_or_none h x p
+plain_is h None p = refl
+plain_is h (Some x) p = refl
+
+exprs_is : {A : Type 0} (h : A → Place → Expr) (xs : List A) (p : Place) → of.exprs_of (λ y. y) (listed h xs) p ≡ of.exprs_of h xs p
+exprs_is h [] p = refl
+exprs_is h (x ∷ xs) p = λ i. tree.more_exprs (h x p) (exprs_is h xs p i)
+
+stmts_is : {A : Type 0} (h : A → Place → Stmt) (xs : List A) (p : Place) → of.stmts_of (λ y. y) (listed h xs) p ≡ of.stmts_of h xs p
+stmts_is h [] p = refl
+stmts_is h (x ∷ xs) p = λ j. tree.more_stmts (h x p) (stmts_is h xs p j)
+
+module _ (env : Answers) where
+  abbrev rd : Reader written
+  rd = reader env
+
+  abbrev mapped_kind : ExprKindLayer written → ExprKindLayer readings
+  mapped_kind = folds.map-ExprKind written.ElseBranch written.ExprKind written.StmtKind written.BlockExpr written.Expr written.Stmt readings.ElseBranch readings.ExprKind readings.StmtKind readings.BlockExpr readings.Expr readings.Stmt rd.else_branch rd.expr_kind rd.stmt_kind rd.block_expr rd.expr rd.stmt
+
+  abbrev mapped_block : BlockExprLayer written → BlockExprLayer readings
+  mapped_block = folds.map-BlockExpr written.ElseBranch written.ExprKind written.StmtKind written.BlockExpr written.Expr written.Stmt readings.ElseBranch readings.ExprKind readings.StmtKind readings.BlockExpr readings.Expr readings.Stmt rd.else_branch rd.expr_kind rd.stmt_kind rd.block_expr rd.expr rd.stmt
+
+  abbrev mapped_stmt_kind : StmtKindLayer written → StmtKindLayer readings
+  mapped_stmt_kind = folds.map-StmtKind written.ElseBranch written.ExprKind written.StmtKind written.BlockExpr written.Expr written.Stmt readings.ElseBranch readings.ExprKind readings.StmtKind readings.BlockExpr readings.Expr readings.Stmt rd.else_branch rd.expr_kind rd.stmt_kind rd.block_expr rd.expr rd.stmt
+
+  abbrev mapped_else : ElseBranchLayer written → ElseBranchLayer readings
+  mapped_else = folds.map-ElseBranch written.ElseBranch written.ExprKind written.StmtKind written.BlockExpr written.Expr written.Stmt readings.ElseBranch readings.ExprKind readings.StmtKind readings.BlockExpr readings.Expr readings.Stmt rd.else_branch rd.expr_kind rd.stmt_kind rd.block_expr rd.expr rd.stmt
+
+  expr_at_is : (k : ExprKindLayer written) (p : Place) (s : Pointer) → of.expr_at env itself (mapped_kind k) p s ≡ of.expr_at env rd k p s
+  expr_at_is (ExprKind-F.IfExpr c t e) p s = λ j. tree.if_expr s (expr_is rd.expr c p j) (plain_is rd.block_expr t p j) (expr_is rd.else_branch e p j)
+  expr_at_is (ExprKind-F.BlockExpr b) p s = refl
+  expr_at_is (ExprKind-F.LoopExpr l b) p s = λ j. tree.loop_expr s (option_map (of.label_of env p) l) (plain_is rd.block_expr b p j)
+  expr_at_is (ExprKind-F.CallExpr f None) p s = λ j. tree.call_expr s (expr_is rd.expr f p j) tree.no_exprs
+  expr_at_is (ExprKind-F.CallExpr f (Some es)) p s = λ j. tree.call_expr s (expr_is rd.expr f p j) (exprs_is rd.expr es p j)
+  expr_at_is (ExprKind-F.PathExpr x) p s = refl
+  expr_at_is (ExprKind-F.ContinueExpr l) p s = refl
+  expr_at_is (ExprKind-F.BreakExpr l e) p s = λ j. tree.break_expr s (option_map (of.jump_of env p) l) (expr_is rd.expr e p j)
+  expr_at_is (ExprKind-F.ParenExpr e) p s = λ j. tree.paren_expr s (expr_is rd.expr e p j)
+  expr_at_is (ExprKind-F.Literal l) p s = refl
+
+  expr_kind_is : (k : ExprKindLayer written) (n : AstPtr) (p : Place) → of.expr_kind env itself (mapped_kind k) n p ≡ of.expr_kind env rd k n p
+  expr_kind_is k n p = λ j. let s = of.in_file p n in of.asked s (env.cfg (of.site_of s)) (expr_at_is k p s j)
+
+  block_at_is : (b : BlockExprLayer written) (label : Option Label) (p : Place) → of.block_at env itself (mapped_block b) label p ≡ of.block_at env rd b label p
+  block_at_is b label p = λ j.
+      let number = of.numbered env p b.id in
+      let q = of.inside number p in
+      tree.block (of.in_file p (of.ptr b.id b.range)) label (option_map (λ n. n.0) number) (stmts_is rd.stmt b.stmts q j) (expr_is rd.expr b.tail q j)
+
+  stmt_kind_is : (k : StmtKindLayer written) (p : Place) → of.stmt_kind env itself (mapped_stmt_kind k) p ≡ of.stmt_kind env rd k p
+  stmt_kind_is (StmtKind-F.ExprStmt e semi) p = λ j. tree.expr_stmt (expr_is rd.expr e p j) semi
+  stmt_kind_is StmtKind-F.Item p = refl
+
+  else_is : (k : ElseBranchLayer written) (p : Place) → of.else_branch env itself (mapped_else k) p ≡ of.else_branch env rd k p
+  else_is (ElseBranch-F.ElseBlock b) p = refl
+  else_is (ElseBranch-F.ElseIf e) p = refl
+
+  read_expr_kind_is : (k : AstExprKind) (n : AstPtr) (p : Place) → read_expr_kind env k n p ≡ of.expr_kind env rd (out-ExprKind k) n p
+  unfolding read_else_branch read_expr_kind read_stmt_kind read_block read_expr read_stmt
+  read_expr_kind_is k n p = (λ j. folds.fold_out-ExprKind readings.ElseBranch readings.ExprKind readings.StmtKind readings.BlockExpr readings.Expr readings.Stmt
+      (of.else_branch env itself) (of.expr_kind env itself) (of.stmt_kind env itself) (of.block_step env itself) (of.expr_step env itself) (of.stmt_step env itself) k j n p) ∙ expr_kind_is (out-ExprKind k) n p
+
+  read_expr_is : (e : AstExpr) (p : Place) → read_expr env e p ≡ of.expr_kind env rd (out-ExprKind e.kind) (of.ptr e.id e.range) p
+  unfolding read_else_branch read_expr_kind read_stmt_kind read_block read_expr read_stmt
+  read_expr_is e p = (λ j. folds.fold_out-Expr readings.ElseBranch readings.ExprKind readings.StmtKind readings.BlockExpr readings.Expr readings.Stmt
+      (of.else_branch env itself) (of.expr_kind env itself) (of.stmt_kind env itself) (of.block_step env itself) (of.expr_step env itself) (of.stmt_step env itself) e j p) ∙ read_expr_kind_is e.kind (of.ptr e.id e.range) p
+
+  read_plain_is : (b : AstBlockExpr) (p : Place) → (read_block env b).plain p ≡ of.block_at env rd (out-BlockExpr b) None p
+  unfolding read_else_branch read_expr_kind read_stmt_kind read_block read_expr read_stmt
+  read_plain_is b p = (λ j. (folds.fold_out-BlockExpr readings.ElseBranch readings.ExprKind readings.StmtKind readings.BlockExpr readings.Expr readings.Stmt
+      (of.else_branch env itself) (of.expr_kind env itself) (of.stmt_kind env itself) (of.block_step env itself) (of.expr_step env itself) (of.stmt_step env itself) b j).plain p) ∙ block_at_is (out-BlockExpr b) None p
+
+  read_own_is : (b : AstBlockExpr) (p : Place) → (read_block env b).own p ≡ of.block_at env rd (out-BlockExpr b) (option_map (of.label_of env p) (out-BlockExpr b).label) p
+  unfolding read_else_branch read_expr_kind read_stmt_kind read_block read_expr read_stmt
+  read_own_is b p = (λ j. (folds.fold_out-BlockExpr readings.ElseBranch readings.ExprKind readings.StmtKind readings.BlockExpr readings.Expr readings.Stmt
+      (of.else_branch env itself) (of.expr_kind env itself) (of.stmt_kind env itself) (of.block_step env itself) (of.expr_step env itself) (of.stmt_step env itself) b j).own p) ∙ block_at_is (out-BlockExpr b) (option_map (of.label_of env p) (out-BlockExpr b).label) p
+
+  read_stmt_kind_is : (k : AstStmtKind) (p : Place) → read_stmt_kind env k p ≡ of.stmt_kind env rd (out-StmtKind k) p
+  unfolding read_else_branch read_expr_kind read_stmt_kind read_block read_expr read_stmt
+  read_stmt_kind_is k p = (λ j. folds.fold_out-StmtKind readings.ElseBranch readings.ExprKind readings.StmtKind readings.BlockExpr readings.Expr readings.Stmt
+      (of.else_branch env itself) (of.expr_kind env itself) (of.stmt_kind env itself) (of.block_step env itself) (of.expr_step env itself) (of.stmt_step env itself) k j p) ∙ stmt_kind_is (out-StmtKind k) p
+
+  read_stmt_is : (s : AstStmt) (p : Place) → read_stmt env s p ≡ of.stmt_kind env rd (out-StmtKind s.kind) p
+  unfolding read_else_branch read_expr_kind read_stmt_kind read_block read_expr read_stmt
+  read_stmt_is s p = (λ j. folds.fold_out-Stmt readings.ElseBranch readings.ExprKind readings.StmtKind readings.BlockExpr readings.Expr readings.Stmt
+      (of.else_branch env itself) (of.expr_kind env itself) (of.stmt_kind env itself) (of.block_step env itself) (of.expr_step env itself) (of.stmt_step env itself) s j p) ∙ read_stmt_kind_is s.kind p
+
+  read_else_is : (e : AstElseBranch) (p : Place) → read_else_branch env e p ≡ of.else_branch env rd (out-ElseBranch e) p
+  unfolding read_else_branch read_expr_kind read_stmt_kind read_block read_expr read_stmt
+  read_else_is e p = (λ j. folds.fold_out-ElseBranch readings.ElseBranch readings.ExprKind readings.StmtKind readings.BlockExpr readings.Expr readings.Stmt
+      (of.else_branch env itself) (of.expr_kind env itself) (of.stmt_kind env itself) (of.block_step env itself) (of.expr_step env itself) (of.stmt_step env itself) e j p) ∙ else_is (out-ElseBranch e) p
+
+pub expr_is_level : (env : Answers) (p : Place) (e : AstExpr) → answered env p e ≡ asked_expr env p e
+expr_is_level env p e = read_expr_is env e p
+
+pub plain_is_level : (env : Answers) (p : Place) (b : AstBlockExpr) → answered_plain env p b ≡ block_level env p None b
+plain_is_level env p b = read_plain_is env b p
+
+pub block_is_level : (env : Answers) (p : Place) (b : AstBlockExpr) → answered_block env p b ≡ block_level env p (option_map (of.label_of env p) (out-BlockExpr b).label) b
+block_is_level env p b = read_own_is env b p
+
+pub stmt_is_level : (env : Answers) (p : Place) (s : AstStmt) → answered_stmt env p s ≡ stmt_level env p s
+stmt_is_level env p s = read_stmt_is env s p
+
+pub else_is_level : (env : Answers) (p : Place) (e : AstElseBranch) → answered_else env p e ≡ else_level env p e
+else_is_level env p e = read_else_is env e p

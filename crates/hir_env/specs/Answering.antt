@@ -1,0 +1,148 @@
+-- How the answers are written into one level of a tree. The steps ask; nothing above them does.
+use Rattle.std.specs.Prelude.{ℕ, List, [], ◌∷◌, Option, Some, None, Bool, Result, Ok, Err, option_map, map}
+use Rattle.hir_syntax.specs.declared.node.NodeId.{NodeId}
+use Rattle.hir_syntax.specs.declared.node.TextRange.{TextRange}
+use Rattle.hir_syntax.specs.declared.node.AstPtr.{AstPtr}
+use Rattle.hir_syntax.specs.declared.ast.Name.{Name as AstName}
+use Rattle.hir_syntax.specs.declared.ast.Label.{Label as AstLabel}
+use Rattle.hir_syntax.specs.declared.ast.Lifetime.{Lifetime as AstLifetime}
+use Rattle.hir_syntax.specs.declared.ast.Path.{Path as AstPath}
+use Rattle.hir_syntax.specs.declared.ast.PathSegment.{PathSegment as AstPathSegment}
+use Rattle.hir_syntax.specs.declared.ast.SegmentKind.{SegmentKind}
+use Rattle.hir_syntax.specs.declared.ast.SegmentKind.TheVariants as kind
+use Rattle.hir_syntax.specs.declared.ast.ElseBranch.TheOpen.{ElseBranch-F, ExprKind-F, StmtKind-F}
+use Rattle.hir_store.specs.Pointers.{Pointer}
+use Rattle.hir_store.specs.declared.ids.CfgId.{CfgId}
+use Rattle.hir_store.specs.declared.ids.BlockId.{BlockId}
+use Rattle.hir_store.specs.declared.ids.ModuleId.{ModuleId}
+use Rattle.hir_store.specs.declared.name.Name.{Name}
+use Rattle.hir_store.specs.declared.name.Name.TheVariants as name
+use Rattle.hir_env.specs.declared.place.Place.{Place}
+use Rattle.hir_env.specs.declared.place.LoweringMode.{LoweringMode}
+use Rattle.hir_env.specs.declared.place.LoweringMode.TheVariants as mode
+use Rattle.hir_env.specs.NodeMap.{Site}
+use Rattle.hir_env.specs.Answers.{Answers}
+use Rattle.hir_env.specs.Layers.{BlockReading, Sorts, Reader, ElseBranchLayer, ExprKindLayer, StmtKindLayer, BlockExprLayer, ExprLayer, StmtLayer}
+use Rattle.hir_env.specs.Answered as tree
+use Rattle.hir_env.specs.Answered.{Label, Jump, Segments, Expr, OptionExpr, Exprs, Block, OptionBlock, Stmts, Stmt}
+
+abbrev pub in_file : Place → AstPtr → Pointer
+in_file p n = record { file_id = p.file_id; value = n }
+
+abbrev pub ptr : NodeId → TextRange → AstPtr
+ptr id range = record { node = id; range = range }
+
+abbrev pub site_of : Pointer → Site
+site_of s = record { file_id = s.file_id; value = s.value.node }
+
+-- ---- names, labels and paths
+
+abbrev pub named : Option AstName → Option Name
+named None = None
+named (Some n) = Some (name.Text n.t)
+
+abbrev pub segment_name : Option AstPathSegment → Option Name
+segment_name None = Some name.Missing
+segment_name (Some s) = kinded s.seg s.name
+  where
+    kinded : Option SegmentKind → Option AstName → Option Name
+    kinded None n = None
+    kinded (Some kind.Name) n = named n
+
+abbrev pub segments_of : List (Option AstPathSegment) → Segments
+segments_of [] = Some name.Missing ∷ []
+segments_of (s ∷ ss) = map segment_name (s ∷ ss)
+
+abbrev pub path_of : AstPath → Segments
+path_of x = segments_of x.segs
+
+abbrev pub label_name : Option AstLifetime → Name
+label_name None = name.Missing
+label_name (Some l) = name.Text l.t
+
+abbrev pub label_of : Answers → Place → AstLabel → Label
+label_of env p l = let s = in_file p (ptr l.id l.range) in record { pointer = s; name = label_name l.lifetime; hygiene = env.hygiene (site_of s) }
+
+abbrev pub jump_of : Answers → Place → AstLifetime → Jump
+jump_of env p l = let s = in_file p (ptr l.id l.range) in record { pointer = s; name = name.Text l.t; hygiene = env.hygiene (site_of s) }
+
+-- ---- blocks
+
+-- the number and the module of a block, where numbers are asked for
+abbrev pub numbered : Answers → Place → NodeId → Option (BlockId × ModuleId)
+numbered env p id = by p.mode
+  where
+    by : LoweringMode → Option (BlockId × ModuleId)
+    by mode.Analysis = env.block (record { file_id = p.file_id; value = id }) p.module_id
+    by mode.Untracked = None
+
+abbrev pub inside : Option (BlockId × ModuleId) → Place → Place
+inside None p = p
+inside (Some n) p = record p { module_id = n.1 }
+
+-- ---- parts that may be absent, and lists
+
+abbrev pub expr_or_none : {A : Type 0} → (A → Place → Expr) → Option A → Place → OptionExpr
+expr_or_none read None p = tree.no_expr
+expr_or_none read (Some e) p = tree.some_expr (read e p)
+
+abbrev pub plain_or_none : {A : Type 0} → (A → BlockReading) → Option A → Place → OptionBlock
+plain_or_none read None p = tree.no_block
+plain_or_none read (Some b) p = tree.some_block ((read b).plain p)
+
+abbrev pub exprs_of : {A : Type 0} → (A → Place → Expr) → List A → Place → Exprs
+exprs_of read [] p = tree.no_exprs
+exprs_of read (e ∷ es) p = tree.more_exprs (read e p) (exprs_of read es p)
+
+abbrev pub exprs_or_none : {A : Type 0} → (A → Place → Expr) → Option (List A) → Place → Exprs
+exprs_or_none read None p = tree.no_exprs
+exprs_or_none read (Some es) p = exprs_of read es p
+
+abbrev pub stmts_of : {A : Type 0} → (A → Place → Stmt) → List A → Place → Stmts
+stmts_of read [] p = tree.no_stmts
+stmts_of read (s ∷ ss) p = tree.more_stmts (read s p) (stmts_of read ss p)
+
+-- ---- one level
+
+-- the expression, with the condition that disables it
+abbrev pub asked : Pointer → Result (Unit {0}) CfgId → Expr → Expr
+asked s (Ok _) e = e
+asked s (Err by) e = tree.disabled_expr s by e
+
+module _ (env : Answers) {S : Sorts} (part : Reader S) where
+  abbrev pub else_branch : ElseBranchLayer S → Place → Expr
+  else_branch (ElseBranch-F.ElseBlock b) p = tree.block_expr ((part.block_expr b).plain p)
+  else_branch (ElseBranch-F.ElseIf e) p = part.expr e p
+
+  abbrev pub expr_at : ExprKindLayer S → Place → Pointer → Expr
+  expr_at (ExprKind-F.IfExpr c t e) p s = tree.if_expr s (expr_or_none part.expr c p) (plain_or_none part.block_expr t p) (expr_or_none part.else_branch e p)
+  expr_at (ExprKind-F.BlockExpr b) p s = tree.block_expr ((part.block_expr b).own p)
+  expr_at (ExprKind-F.LoopExpr l b) p s = tree.loop_expr s (option_map (label_of env p) l) (plain_or_none part.block_expr b p)
+  expr_at (ExprKind-F.CallExpr f es) p s = tree.call_expr s (expr_or_none part.expr f p) (exprs_or_none part.expr es p)
+  expr_at (ExprKind-F.PathExpr x) p s = tree.path_expr s (option_map path_of x) (env.hygiene (site_of s))
+  expr_at (ExprKind-F.ContinueExpr l) p s = tree.continue_expr s (option_map (jump_of env p) l)
+  expr_at (ExprKind-F.BreakExpr l e) p s = tree.break_expr s (option_map (jump_of env p) l) (expr_or_none part.expr e p)
+  expr_at (ExprKind-F.ParenExpr e) p s = tree.paren_expr s (expr_or_none part.expr e p)
+  expr_at (ExprKind-F.Literal l) p s = tree.literal_expr s l
+
+  abbrev pub expr_kind : ExprKindLayer S → AstPtr → Place → Expr
+  expr_kind k n p = let s = in_file p n in asked s (env.cfg (site_of s)) (expr_at k p s)
+
+  abbrev pub expr_step : ExprLayer S → Place → Expr
+  expr_step e = part.expr_kind e.kind (ptr e.id e.range)
+
+  abbrev pub block_at : BlockExprLayer S → Option Label → Place → Block
+  block_at b label p =
+      let number = numbered env p b.id in
+      let q = inside number p in
+      tree.block (in_file p (ptr b.id b.range)) label (option_map (λ n. n.0) number) (stmts_of part.stmt b.stmts q) (expr_or_none part.expr b.tail q)
+
+  abbrev pub block_step : BlockExprLayer S → BlockReading
+  block_step b = record { plain = λ p. block_at b None p; own = λ p. block_at b (option_map (label_of env p) b.label) p }
+
+  abbrev pub stmt_kind : StmtKindLayer S → Place → Stmt
+  stmt_kind (StmtKind-F.ExprStmt e semi) p = tree.expr_stmt (expr_or_none part.expr e p) semi
+  stmt_kind StmtKind-F.Item p = tree.item_stmt
+
+  abbrev pub stmt_step : StmtLayer S → Place → Stmt
+  stmt_step s = part.stmt_kind s.kind

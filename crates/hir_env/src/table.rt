@@ -1,0 +1,115 @@
+//! An environment of tables.
+
+ghost use Rattle.std.specs.Prelude.{◌≡◌, OnOk, OnErr, false};
+ghost use Rattle.hir_env.specs.Tables as spec;
+ghost use Rattle.hir_env.specs.NodeMap.{with_first};
+
+use crate::env::LowerEnv;
+use crate::node_map::NodeMap;
+use hir_store::ids::{BlockId, CfgId, DefWithBodyId, HygieneId, ItemContainerId, ModuleId};
+use hir_syntax::node::{InFile, NodeId};
+use std::alloc::{AllocError, Global};
+use std::marker::Model;
+
+/// An environment that answers all from tables. A node that stands in none is enabled, has root hygiene and no
+/// block; of two entries for one node the first counts.
+#[derive(Drop)]
+pub struct TableEnv {
+    disabled: NodeMap<CfgId>,
+    hygiene: NodeMap<HygieneId>,
+    blocks: NodeMap<(BlockId, ModuleId)>,
+    skip: bool,
+    container: ItemContainerId,
+}
+
+impl Model for TableEnv {
+    ghost use Rattle.hir_env.specs.Tables.{Tables};
+
+    ghost Value = { Tables };
+
+    ghost view = { λ t. record { disabled = t.disabled; hygiene = t.hygiene; blocks = t.blocks; skip = t.skip; container = t.container } };
+}
+
+impl TableEnv {
+    /// Tables without entries, of a body that is not skipped and stands in the container.
+    pub fn new(alloc: Global, container: ItemContainerId) -> TableEnv
+        ensures { result ≡ spec.empty container }
+    {
+        TableEnv {
+            disabled: NodeMap::new(alloc),
+            hygiene: NodeMap::new(alloc),
+            blocks: NodeMap::new(alloc),
+            skip: false,
+            container,
+        }
+    }
+
+    /// Disables a node. Where memory is refused the tables are unchanged, here and below.
+    pub fn disable(&mut self, node: InFile<NodeId>, by: CfgId) -> Result<(), AllocError>
+        ensures ok { OnOk result (self.new ≡ record self.old { disabled = with_first self.old.disabled node by }) }
+        ensures err { OnErr result (self.new ≡ self.old) }
+    {
+        self.disabled.insert(node, by)
+    }
+
+    /// Gives the name at a node a hygiene.
+    pub fn set_hygiene(
+        &mut self,
+        node: InFile<NodeId>,
+        hygiene: HygieneId,
+    ) -> Result<(), AllocError>
+        ensures ok { OnOk result (self.new ≡ record self.old { hygiene = with_first self.old.hygiene node hygiene }) }
+        ensures err { OnErr result (self.new ≡ self.old) }
+    {
+        self.hygiene.insert(node, hygiene)
+    }
+
+    /// Makes the block at a node a scope of items.
+    pub fn number_block(
+        &mut self,
+        node: InFile<NodeId>,
+        block: BlockId,
+        inside: ModuleId,
+    ) -> Result<(), AllocError>
+        ensures ok { OnOk result (self.new ≡ record self.old { blocks = with_first self.old.blocks node (block, inside) }) }
+        ensures err { OnErr result (self.new ≡ self.old) }
+    {
+        self.blocks.insert(node, (block, inside))
+    }
+
+    /// Marks the body to be skipped, or not.
+    pub fn set_skip(&mut self, skip: bool)
+        ensures { self.new ≡ record self.old { skip = skip } }
+    {
+        self.skip = skip;
+    }
+}
+
+impl LowerEnv for TableEnv {
+    ghost use Rattle.hir_env.specs.Tables.{answers_of};
+
+    ghost answers = { answers_of };
+
+    fn cfg(&self, node: InFile<NodeId>) -> Result<(), CfgId> {
+        match self.disabled.get(node) {
+            Some(by) => Err(by),
+            None => Ok(()),
+        }
+    }
+
+    fn hygiene(&self, node: InFile<NodeId>) -> HygieneId {
+        self.hygiene.get(node).unwrap_or(HygieneId::ROOT)
+    }
+
+    fn block(&self, node: InFile<NodeId>, _inside: ModuleId) -> Option<(BlockId, ModuleId)> {
+        self.blocks.get(node)
+    }
+
+    fn skip(&self, _owner: DefWithBodyId) -> bool {
+        self.skip
+    }
+
+    fn container(&self, _owner: DefWithBodyId) -> ItemContainerId {
+        self.container
+    }
+}

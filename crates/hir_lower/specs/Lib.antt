@@ -1,0 +1,5 @@
+pub mod Calls
+pub mod Nests
+pub mod Roots
+pub mod Means
+pub mod OneResult

@@ -1,0 +1,81 @@
+-- What the entry functions make of a tree.
+use Rattle.std.specs.Prelude.{◌≡◌, ℕ, Bool, true, false, [], Option, Some, None, Ok}
+use Rattle.hir_store.specs.Stored.{Store, SourceMap}
+use Rattle.hir_store.specs.Storing.{empty}
+use Rattle.hir_lower.specs.declared.collector.ConstRef.{ConstRef}
+use Rattle.hir_lower_form.specs.Builder.{Builder}
+use Rattle.hir_store.specs.Pointers.{Pointer}
+use Rattle.hir_store.specs.declared.ids.ExprId.{ExprId}
+use Rattle.hir_store.specs.declared.ids.DefWithBodyId.{DefWithBodyId}
+use Rattle.hir_store.specs.declared.ids.DefWithBodyId.TheVariants as owner
+use Rattle.hir_store.specs.declared.ids.ItemContainerId.{ItemContainerId}
+use Rattle.hir_store.specs.declared.ids.ItemContainerId.TheVariants as container
+use Rattle.hir_store.specs.declared.diagnostics.MissingBodyItemKind.{MissingBodyItemKind}
+use Rattle.hir_store.specs.declared.diagnostics.MissingBodyItemKind.TheVariants as kind
+use Rattle.hir_store.specs.declared.diagnostics.ExpressionStoreDiagnostics.TheVariants.{MissingBody}
+use Rattle.hir_syntax.specs.declared.node.AstPtr.{AstPtr}
+use Rattle.hir_syntax.specs.declared.node.HirFileId.{HirFileId}
+use Rattle.hir_syntax.specs.declared.ast.Expr.{Expr as AstExpr}
+use Rattle.hir_store.specs.declared.ids.ModuleId.{ModuleId}
+use Rattle.hir_env.specs.declared.place.Place.{Place}
+use Rattle.hir_env.specs.declared.place.LoweringMode.TheVariants.{Analysis}
+use Rattle.hir_env.specs.Answers.{Answers}
+use Rattle.hir_env.specs.Answering.{in_file}
+use Rattle.hir_env.specs.Whole.{expr_part}
+use Rattle.hir_env.specs.Answered as tree
+use Rattle.hir_env.specs.Answered.{OptionExpr}
+use Rattle.hir_lower_form.specs.Lowering.{Lowering, ◌>>=◌, ◌>>◌, pure, close_labels, report, record_root}
+use Rattle.hir_lower_form.specs.Lower.{Node, missing, lower_part}
+
+-- the expression as a root, in which no label around it is open
+unfoldable pub root_of : OptionExpr → Node
+root_of e = do
+  close_labels
+  id ← lower_part e
+  record_root id
+  pure id
+
+-- statics and constants of modules and constants of impls must have a body
+abbrev pub required_body : DefWithBodyId → ItemContainerId → Option MissingBodyItemKind
+required_body (owner.StaticId _) (container.ModuleId _) = Some kind.Static
+required_body (owner.ConstId _) (container.ModuleId _) = Some kind.Const
+required_body (owner.ConstId _) (container.ImplId _) = Some kind.AssocConst
+required_body _ _ = None
+
+abbrev pub body_fault : Option MissingBodyItemKind → OptionExpr → Option MissingBodyItemKind
+body_fault k tree.no_expr = k
+body_fault k (tree.some_expr e) = None
+
+unfoldable pub report_missing : Pointer → Option MissingBodyItemKind → Lowering (Unit {0})
+report_missing at None = pure tt
+report_missing at (Some k) = report (MissingBody at k)
+
+-- a body: a skipped one is a missing root
+unfoldable pub body_of : Bool → Pointer → Option MissingBodyItemKind → OptionExpr → Node
+body_of true at k e = root_of tree.no_expr
+body_of false at k e = do
+  report_missing at (body_fault k e)
+  root_of e
+
+unfoldable pub const_of : OptionExpr → Lowering ConstRef
+const_of e = do
+  id ← root_of e
+  pure (record { expr = id })
+
+-- nothing is stored and no label is open
+abbrev pub fresh : ℕ → Builder
+fresh limit = record { stored = empty limit; scopes = [] }
+
+-- what the steps store, from nothing
+pub record Stores {A : Type 0} (p : Lowering A) (limit : ℕ) (store : Store) (source_map : SourceMap) : Type 0 where
+  pub answer : A
+  pub builder : Builder
+  pub done : p (fresh limit) ≡ Ok (answer, builder)
+  pub store_is : store ≡ builder.stored.store
+  pub source_map_is : source_map ≡ builder.stored.source_map
+
+-- the body of an item, read in a file and a module
+abbrev pub lowered_body : Answers → DefWithBodyId → AstPtr → HirFileId → ModuleId → Option AstExpr → Node
+lowered_body env owner node file inside body =
+    let p : Place = record { file_id = file; module_id = inside; mode = Analysis } in
+    body_of (env.skip owner) (in_file p node) (required_body owner (env.container owner)) (expr_part env p body)

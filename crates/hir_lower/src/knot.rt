@@ -1,0 +1,202 @@
+//! The functions that lower a node call each other through the forms: each hands the others to the forms by name.
+
+ghost use Rattle.std.specs.Prelude.{◌≡◌, option_map};
+ghost use Rattle.hir_store.specs.Range.{HasExpr, HasExprOption, HasLabelOption};
+ghost use Rattle.hir_env.specs.Answering.{inside as place_inside, numbered as number_at};
+ghost use Rattle.hir_env.specs.Whole.{answered, answered_plain};
+ghost use Rattle.hir_lower_form.specs.Lowering.{Lowers};
+ghost use Rattle.hir_lower_form.specs.Lower as spec;
+ghost use Rattle.hir_lower.specs.Nests.{HandlesExpr, HandlesKept, HandlesBlock};
+
+use hir_env::env::LowerEnv;
+use hir_env::place::{LoweringMode, Place};
+use hir_lower_form::builder::BodyBuilder;
+use hir_lower_form::parts::{LowerParts, Lowerer};
+use hir_store::fault::StoreFault;
+use hir_store::ids::{BlockId, CfgId, ExprId, HygieneId, LabelId, ModuleId};
+use hir_syntax::ast;
+use hir_syntax::node::{InFile, NodeId};
+use std::alloc::Global;
+
+/// The functions that lower the parts of a form, at one place.
+#[derive_where(Clone, Copy; F, K, B)]
+pub struct Handlers<'e, E, F, K, B> {
+    alloc: Global,
+    env: &'e E,
+    place: Place,
+    expr: F,
+    kept: K,
+    block: B,
+}
+
+impl<
+    'e,
+    E: LowerEnv,
+    F: Fn(Global, &E, Place, &mut BodyBuilder, &ast::Expr) -> Result<ExprId, StoreFault>,
+    K: Fn(Global, &E, Place, &mut BodyBuilder, &ast::Expr) -> Result<Option<ExprId>, StoreFault>,
+    B: Fn(
+        Global,
+        &E,
+        Place,
+        &mut BodyBuilder,
+        Option<LabelId>,
+        &ast::BlockExpr,
+    ) -> Result<ExprId, StoreFault>,
+> LowerParts for Handlers<'e, E, F, K, B> {
+    ghost can = { λ it. record {
+      expr = λ e. HandlesExpr E.answers (F.pre it.expr) (F.post it.expr) it.env.now it.place e × HandlesKept E.answers (K.pre it.kept) (K.post it.kept) it.env.now it.place e;
+      block = HandlesBlock E.answers (B.pre it.block) (B.post it.block) it.env.now it.place;
+    } };
+
+    ghost answers = { λ it. E.answers it.env.now };
+
+    ghost place = { λ it. it.place };
+
+    fn place(&self) -> Place {
+        self.place
+    }
+
+    fn cfg(&self, node: InFile<NodeId>) -> Result<(), CfgId> {
+        self.env.cfg(node)
+    }
+
+    fn hygiene(&self, node: InFile<NodeId>) -> HygieneId {
+        self.env.hygiene(node)
+    }
+
+    fn expr(&self, state: &mut BodyBuilder, node: &ast::Expr) -> Result<ExprId, StoreFault> {
+        (self.expr)(self.alloc, self.env, self.place, state, node)
+    }
+
+    fn kept(
+        &self,
+        state: &mut BodyBuilder,
+        node: &ast::Expr,
+    ) -> Result<Option<ExprId>, StoreFault> {
+        (self.kept)(self.alloc, self.env, self.place, state, node)
+    }
+
+    fn block(
+        &self,
+        state: &mut BodyBuilder,
+        label: Option<LabelId>,
+        node: &ast::BlockExpr,
+    ) -> Result<ExprId, StoreFault> {
+        (self.block)(self.alloc, self.env, self.place, state, label, node)
+    }
+}
+
+/// The number and the module of a block, where numbers are asked for.
+pub fn number<E: LowerEnv>(env: &E, place: Place, node: NodeId) -> Option<(BlockId, ModuleId)>
+    ensures { result ≡ number_at (E.answers env.now) place node }
+{
+    match place.mode {
+        LoweringMode::Untracked => None,
+        LoweringMode::Analysis => env.block(
+            InFile {
+                file_id: place.file_id,
+                value: node,
+            },
+            place.module_id,
+        ),
+    }
+}
+
+/// Where the parts of a block are read.
+pub fn inside(place: Place, number: Option<(BlockId, ModuleId)>) -> Place
+    ensures { result ≡ place_inside number place }
+{
+    match number {
+        None => place,
+        Some((_, module_id)) => Place { module_id, ..place },
+    }
+}
+
+pub fn block_number(number: Option<(BlockId, ModuleId)>) -> Option<BlockId>
+    ensures { result ≡ option_map (λ n. n.0) number }
+{
+    match number {
+        None => None,
+        Some((block, _)) => Some(block),
+    }
+}
+
+/// The expression, missing where a condition disables it.
+#[cycle(lower)]
+pub fn lower_expr<E: LowerEnv>(
+    alloc: Global,
+    env: &E,
+    place: Place,
+    state: &mut BodyBuilder,
+    node: &ast::Expr,
+) -> Result<ExprId, StoreFault>
+    ensures { Lowers HasExpr (spec.lower (answered (E.answers env.now) place node.now)) state.old result state.new }
+{
+    Lowerer {
+        alloc,
+        parts: Handlers {
+            alloc,
+            env,
+            place,
+            expr: lower_expr::<E>,
+            kept: lower_kept::<E>,
+            block: lower_block::<E>,
+        },
+    }
+    .expr_node(state, node)
+}
+
+/// The expression, none where a condition disables it.
+#[cycle(lower)]
+pub fn lower_kept<E: LowerEnv>(
+    alloc: Global,
+    env: &E,
+    place: Place,
+    state: &mut BodyBuilder,
+    node: &ast::Expr,
+) -> Result<Option<ExprId>, StoreFault>
+    ensures { Lowers HasExprOption (spec.kept_expr (answered (E.answers env.now) place node.now)) state.old result state.new }
+{
+    Lowerer {
+        alloc,
+        parts: Handlers {
+            alloc,
+            env,
+            place,
+            expr: lower_expr::<E>,
+            kept: lower_kept::<E>,
+            block: lower_block::<E>,
+        },
+    }
+    .kept_node(state, node)
+}
+
+/// The block, inside the label of this number.
+#[cycle(lower)]
+pub fn lower_block<E: LowerEnv>(
+    alloc: Global,
+    env: &E,
+    place: Place,
+    state: &mut BodyBuilder,
+    label: Option<LabelId>,
+    node: &ast::BlockExpr,
+) -> Result<ExprId, StoreFault>
+    requires { HasLabelOption state.old.stored.store label }
+    ensures { Lowers HasExpr (spec.lower_inside label (answered_plain (E.answers env.now) place node.now)) state.old result state.new }
+{
+    let found = number(env, place, node.id);
+    let inner = inside(place, found);
+    let block = block_number(found);
+    Lowerer {
+        alloc,
+        parts: Handlers {
+            alloc,
+            env,
+            place: inner,
+            expr: lower_expr::<E>,
+            kept: lower_kept::<E>,
+            block: lower_block::<E>,
+        },
+    }
+    .block_node(state, label, block, node)
+}

@@ -1,0 +1,169 @@
+//! What lowering works on.
+
+ghost use Rattle.std.specs.Prelude.{◌≡◌, [], Ok, Some};
+ghost use Rattle.hir_store.specs.Range.{HasExpr, HasLabel, HasLabelOption, HasNone, HasParts};
+ghost use Rattle.hir_store.specs.Storing.{empty};
+ghost use Rattle.hir_lower_form.specs.Lowering as spec;
+ghost use Rattle.hir_lower_form.specs.Lowering.{Lowers};
+
+use hir_lower_scope::labels::{LabelRib, LabelScopes};
+use hir_store::builder::ExpressionStoreBuilder;
+use hir_store::diagnostics::ExpressionStoreDiagnostics;
+use hir_store::fault::StoreFault;
+use hir_store::hir::{Expr, Label};
+use hir_store::ids::{BlockId, ExprId, HygieneId, LabelId};
+use hir_store::name::Name;
+use hir_syntax::node::{AstPtr, InFile};
+use std::alloc::Global;
+use std::marker::Model;
+
+/// What is stored so far, and the labels that are open. Each number in it is in range, whatever happens.
+///
+/// Each call answers `Full` exactly where the arena that it adds to has reached its limit, and `Memory` where a growth
+/// was refused.
+#[derive(Drop)]
+pub struct BodyBuilder {
+    store: ExpressionStoreBuilder,
+    scopes: LabelScopes,
+}
+
+impl Model for BodyBuilder {
+    ghost use Rattle.hir_lower_form.specs.Builder.{Builder, RibsExist};
+
+    ghost Value = { Builder };
+
+    ghost view = { λ b. record { stored = b.store; scopes = b.scopes } };
+
+    ghost invariant = { λ b. RibsExist (record { stored = b.store; scopes = b.scopes }) };
+}
+
+impl BodyBuilder {
+    /// A builder that has stored nothing, with this limit for each arena. It takes no memory.
+    pub fn new(alloc: Global, limit: u32) -> BodyBuilder
+        ensures { result ≡ record { stored = empty limit; scopes = [] } }
+    {
+        BodyBuilder {
+            store: ExpressionStoreBuilder::new(alloc, limit),
+            scopes: LabelScopes::new(alloc),
+        }
+    }
+
+    /// Stores an expression, to which its node, where it came from one, leads from now on.
+    #[tactic(auto, unfolding(crate::specs::Lowering::alloc_expr))]
+    pub fn alloc_expr(
+        &mut self,
+        expr: Expr,
+        source: Option<InFile<AstPtr>>,
+    ) -> Result<ExprId, StoreFault>
+        requires { HasParts self.old.stored.store expr }
+        ensures { Lowers HasExpr (spec.alloc_expr expr source) self.old result self.new }
+    {
+        self.store.alloc_expr(expr, source)
+    }
+
+    /// Lets a further node lead to an expression.
+    #[tactic(auto, unfolding(crate::specs::Lowering::point))]
+    pub fn point(&mut self, node: InFile<AstPtr>, id: ExprId) -> Result<(), StoreFault>
+        requires { HasExpr self.old.stored.store id }
+        ensures { Lowers HasNone (spec.point node id) self.old result self.new }
+    {
+        self.store.point(node, id)
+    }
+
+    #[tactic(auto, unfolding(crate::specs::Lowering::report))]
+    pub fn report(&mut self, fault: ExpressionStoreDiagnostics) -> Result<(), StoreFault>
+        ensures { Lowers HasNone (spec.report fault) self.old result self.new }
+    {
+        self.store.report(fault)
+    }
+
+    /// Notes the number of a block that lowering enters, where it has one.
+    #[tactic(auto, unfolding(crate::specs::Lowering::enter_block))]
+    pub fn enter_block(&mut self, block: Option<BlockId>) -> Result<(), StoreFault>
+        ensures { Lowers HasNone (spec.enter_block block) self.old result self.new }
+    {
+        match block {
+            None => Ok(()),
+            Some(block) => self.store.enter_block(block),
+        }
+    }
+
+    /// Records a root, to which all belongs that no root before it has.
+    #[tactic(auto, unfolding(crate::specs::Lowering::record_root))]
+    pub fn record_root(&mut self, root: ExprId) -> Result<(), StoreFault>
+        requires { HasExpr self.old.stored.store root }
+        ensures { Lowers HasNone (spec.record_root root) self.old result self.new }
+    {
+        self.store.record_root(root)
+    }
+
+    /// Stores a label and opens it inside all that are open.
+    #[tactic(auto, unfolding(crate::specs::Lowering::open_label))]
+    pub fn open_label(
+        &mut self,
+        name: Name,
+        hygiene: HygieneId,
+        source: InFile<AstPtr>,
+    ) -> Result<LabelId, StoreFault>
+        ensures { Lowers HasLabel (spec.open_label (record { pointer = source; name = name; hygiene = hygiene })) self.old result self.new }
+    {
+        let copy = name.clone()?;
+        let label = self.store.alloc_label(Label { name }, source)?;
+        self.scopes.enter(LabelRib {
+            name: copy,
+            hygiene,
+            label,
+        })?;
+        Ok(label)
+    }
+
+    /// Closes the innermost label.
+    #[tactic(auto, unfolding(crate::specs::Lowering::close_label))]
+    pub fn close_label(&mut self)
+        ensures { Lowers HasNone spec.close_label self.old (Ok tt) self.new }
+    {
+        self.scopes.leave();
+    }
+
+    /// Closes all labels: a root is reached by no jump from outside.
+    #[tactic(auto, unfolding(crate::specs::Lowering::close_labels))]
+    pub fn close_labels(&mut self, alloc: Global)
+        ensures { Lowers HasNone spec.close_labels self.old (Ok tt) self.new }
+    {
+        self.scopes = LabelScopes::new(alloc);
+    }
+
+    /// The innermost open label that has this name and this hygiene, or none and a fault at the node.
+    #[tactic(auto, using(crate::proofs::Ribs::target_exists), unfolding(crate::specs::Lowering::jump_target))]
+    pub fn jump_target(
+        &mut self,
+        name: Name,
+        hygiene: HygieneId,
+        source: InFile<AstPtr>,
+    ) -> Result<Option<LabelId>, StoreFault>
+        ensures { Lowers HasLabelOption (spec.jump_target (Some (record { pointer = source; name = name; hygiene = hygiene }))) self.old result self.new }
+    {
+        match self.scopes.find(&name, hygiene) {
+            Some(label) => Ok(Some(label)),
+            None => {
+                self.report(ExpressionStoreDiagnostics::UndeclaredLabel(source, name))?;
+                Ok(None)
+            }
+        }
+    }
+
+    /// What is stored.
+    pub fn store(&self) -> &ExpressionStoreBuilder
+        ensures { result.now ≡ self.now.stored }
+    {
+        &self.store
+    }
+
+    /// What is stored, without the scopes. It takes no memory.
+    pub fn into_store(self) -> ExpressionStoreBuilder
+        ensures { result ≡ self.stored }
+    {
+        let BodyBuilder { store, scopes: _ } = self;
+        store
+    }
+}

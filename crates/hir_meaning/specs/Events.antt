@@ -1,0 +1,55 @@
+-- What a run reports and what it is told.
+use Rattle.std.specs.Prelude.{ℕ, Bool, List, Option}
+use Rattle.hir_store.specs.declared.hir.Literal.{Literal}
+use Rattle.hir_store.specs.declared.path.Path.{Path}
+use Rattle.hir_store.specs.declared.ids.HygieneId.{HygieneId}
+use Rattle.hir_store.specs.declared.ids.BlockId.{BlockId}
+use Rattle.hir_env.specs.NodeMap.{Site}
+
+-- a value: what an event was answered, `()`, or `true` or `false`
+pub data Value : Type 0 where
+  answered : ℕ → Value
+  unit : Value
+  truth : Bool → Value
+
+-- what is asked of a value (Rust Reference, `if` expressions)
+pub data Test : Type 0 where
+  is_true : Test
+
+-- what happens: a literal with its data, the read of a path with the hygiene that it is looked up with, a call, the
+-- entering of a numbered block, a test (Rust Reference, literal, path, call and block expressions)
+pub data Operation : Type 0 where
+  literal : Literal → Operation
+  read : Path → HygieneId → Operation
+  call : Operation
+  enter : BlockId → Operation
+  test : Test → Operation
+
+-- what happens to which values, and at which node of which file, where it has one
+pub record Event : Type 0 where
+  pub operation : Operation
+  pub operands : List Value
+  pub site : Option Site
+
+-- what the surroundings say to one event
+pub record Answer : Type 0 where
+  pub yes : Bool
+  pub value : ℕ
+
+-- the k-th answer goes to the k-th event
+abbrev pub Answerer : Type 0
+Answerer = List Answer
+
+-- How a run ends: with a value, by a jump, where something is missing, or cut short. J is what is known of a jump.
+pub data Outcome (J A : Type 0) : Type 0 where
+  value : A → Outcome J A
+  break : J → Value → Outcome J A
+  continue : J → Outcome J A
+  missing : Outcome J A
+  cut : Outcome J A
+
+-- T is what a run keeps besides, such as the values of generated names.
+pub record World (T : Type 0) : Type 0 where
+  pub answers : Answerer
+  pub events : List Event
+  pub table : T

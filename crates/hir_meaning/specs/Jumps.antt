@@ -1,0 +1,60 @@
+-- That each labelled jump that a stored body reaches names a loop or a block around it.
+use Rattle.std.specs.Prelude.{◌≡◌, ◌⊎◌, ℕ, zero, suc, length, List, [], ◌∷◌, Option, Some, None, slice_get}
+use Rattle.hir_store.specs.declared.hir.Expr.{Expr}
+use Rattle.hir_store.specs.declared.hir.Expr.TheVariants as hir
+use Rattle.hir_store.specs.declared.hir.Statement.{Statement}
+use Rattle.hir_store.specs.declared.hir.Statement.TheVariants as statement
+use Rattle.hir_store.specs.declared.ids.ExprId.{ExprId}
+use Rattle.hir_store.specs.declared.ids.LabelId.{LabelId}
+
+-- a number among others
+abbrev pub Among : List LabelId → LabelId → Type 0
+Among [] n = ⊥
+Among (l ∷ ls) n = (l ≡ n) ⊎ Among ls n
+
+abbrev pub NamesAmong : List LabelId → Option LabelId → Type 0
+NamesAmong ls None = Unit {0}
+NamesAmong ls (Some n) = Among ls n
+
+abbrev pub and_label : Option LabelId → List LabelId → List LabelId
+and_label None ls = ls
+and_label (Some n) ls = n ∷ ls
+
+abbrev pub IfSome : (ExprId → Type 0) → Option ExprId → Type 0
+IfSome P None = Unit {0}
+IfSome P (Some i) = P i
+
+abbrev pub Each : (ExprId → Type 0) → List ExprId → Type 0
+Each P [] = Unit {0}
+Each P (i ∷ is) = P i × Each P is
+
+abbrev pub EachStatement : (ExprId → Type 0) → List Statement → Type 0
+EachStatement P [] = Unit {0}
+EachStatement P (statement.Item ∷ ss) = EachStatement P ss
+EachStatement P (statement.Expr i semi ∷ ss) = P i × EachStatement P ss
+
+-- The jumps of a node and of its parts name what encloses them; `ls` are the numbers around the node.
+module _ (Part : List LabelId → ExprId → Type 0) (ls : List LabelId) where
+  abbrev pub NodeEnclosed : Expr → Type 0
+  NodeEnclosed hir.Missing = Unit {0}
+  NodeEnclosed (hir.Literal l) = Unit {0}
+  NodeEnclosed (hir.Path p h) = Unit {0}
+  NodeEnclosed (hir.Call f xs) = Part ls f × Each (Part ls) xs
+  NodeEnclosed (hir.If c t e) = Part ls c × Part ls t × IfSome (Part ls) e
+  NodeEnclosed (hir.Loop b l source) = Part (and_label l ls) b
+  NodeEnclosed (hir.Block l number ss tail) = EachStatement (Part (and_label l ls)) ss × IfSome (Part (and_label l ls)) tail
+  NodeEnclosed (hir.Break l e) = NamesAmong ls l × IfSome (Part ls) e
+  NodeEnclosed (hir.Continue l) = NamesAmong ls l
+
+  abbrev pub FoundEnclosed : Option Expr → Type 0
+  FoundEnclosed None = Unit {0}
+  FoundEnclosed (Some e) = NodeEnclosed e
+
+module _ (exprs : List Expr) where
+  unfoldable pub EnclosedTo : ℕ → List LabelId → ExprId → Type 0
+  EnclosedTo zero ls i = Unit {0}
+  EnclosedTo (suc depth) ls i = FoundEnclosed (EnclosedTo depth) ls (slice_get exprs i.0)
+
+  -- around the body itself stands nothing
+  unfoldable pub Enclosed : ExprId → Type 0
+  Enclosed i = EnclosedTo (length exprs) [] i

@@ -1,0 +1,26 @@
+-- What conditions leave of lists, statements and tails (Rust Reference, conditional compilation; rust-analyzer, `check_cfg`
+-- and `collect_block_`). Anywhere else a disabled expression is a missing one.
+use Rattle.std.specs.Prelude.{Bool, true, false, not, ◌&&◌}
+use Rattle.hir_env.specs.Answered as tree
+use Rattle.hir_env.specs.Answered.{Expr, OptionExpr, Stmts, Stmt}
+
+abbrev pub is_kept : Expr → Bool
+is_kept (tree.disabled_expr at by e) = false
+is_kept _ = true
+
+abbrev pub is_left : OptionExpr → Bool
+is_left tree.no_expr = false
+is_left (tree.some_expr e) = is_kept e
+
+abbrev pub stmt_is_left : Stmt → Bool
+stmt_is_left (tree.expr_stmt e semi) = is_left e
+stmt_is_left tree.item_stmt = true
+
+abbrev pub none_left : Stmts → Bool
+none_left tree.no_stmts = true
+none_left (tree.more_stmts s ss) = not (stmt_is_left s) && none_left ss
+
+-- Whether an expression statement gives its block the value: it has no semicolon, and neither a statement nor a tail is left
+-- after it (Rust Reference, block expressions).
+abbrev pub is_last : Bool → Stmts → Bool → Bool
+is_last semi after has_tail = not semi && (none_left after && not has_tail)

@@ -1,0 +1,12 @@
+pub mod Events
+pub mod Run
+pub mod Catching
+pub mod Scopes
+pub mod Paths
+pub mod Left
+pub mod Syntax
+pub mod Store
+pub mod Jumps
+pub mod Same
+pub mod Rows
+pub mod Worked

@@ -1,0 +1,99 @@
+-- How a written body runs: over the answered tree, by the rules of the Rust Reference for each form. It knows no store, no
+-- numbers and no stack of labels.
+use Rattle.std.specs.Prelude.{ℕ, Bool, List, [], ◌∷◌, Option, Some, None, if◌then◌else◌}
+use Rattle.hir_store.specs.declared.path.Path.TheVariants.{BarePath}
+use Rattle.hir_store.specs.declared.path.PathKind.TheVariants.{Plain}
+use Rattle.hir_store.specs.declared.name.Name.{Name}
+use Rattle.hir_store.specs.declared.ids.HygieneId.{HygieneId}
+use Rattle.hir_env.specs.NodeMap.{Site}
+use Rattle.hir_env.specs.Answering.{site_of}
+use Rattle.hir_env.specs.Answered as tree
+use Rattle.hir_env.specs.Answered.{Label, Expr, OptionExpr, Exprs, Block, OptionBlock, Stmts}
+use Rattle.hir_meaning.specs.Run.{Value, unit, is_true, literal, read, call, break, continue, missing, Run, ends, pure, ◌>>=◌, ◌>>◌, ask, tests, entering}
+use Rattle.hir_meaning.specs.Catching.{turn, loop, block}
+use Rattle.hir_meaning.specs.Scopes.{Scope, loop_scope, Count, break_target, continue_target, outward, past_block, in_block}
+use Rattle.hir_meaning.specs.Paths.{literal_of, names_if_written, read_hygiene}
+use Rattle.hir_meaning.specs.Left.{is_kept, is_left, is_last}
+
+-- it keeps nothing besides
+abbrev pub SyntaxRun : Type 0 → Type 0
+SyntaxRun A = Run (Unit {0}) Count A
+
+-- a path that is absent or refused is missing
+abbrev pub run_path : Option (List Name) → HygieneId → Option Site → SyntaxRun Value
+run_path None h site = ends missing
+run_path (Some ns) h site = ask (read (BarePath (record { kind = Plain; segments = ns })) (read_hygiene ns h)) [] site
+
+-- a block with a label catches the breaks that are for it
+abbrev pub catching : Option Label → SyntaxRun Value → SyntaxRun Value
+catching None m = m
+catching (Some l) m = block outward past_block m
+
+-- with so many turns at each entry of a loop
+module _ (turns : ℕ) where
+  abbrev mutual
+    pub run_expr : Expr → List Scope → SyntaxRun Value
+    run_expr (tree.disabled_expr at by e) ss = ends missing
+    run_expr (tree.literal_expr at l) ss = ask (literal (literal_of l)) [] (Some (site_of at))
+    run_expr (tree.path_expr at x h) ss = run_path (names_if_written x) h (Some (site_of at))
+    run_expr (tree.paren_expr at e) ss = run_part e ss
+    run_expr (tree.call_expr at f es) ss = do
+      v ← run_part f ss
+      vs ← run_each es ss
+      ask call (v ∷ vs) (Some (site_of at))
+    run_expr (tree.if_expr at c t e) ss = do
+      v ← run_part c ss
+      holds ← tests is_true v (Some (site_of at))
+      if holds then run_block_part t ss else run_or_unit e ss
+    run_expr (tree.loop_expr at label b) ss = loop outward turns (turn (run_block_part b (loop_scope label ∷ ss)))
+    run_expr (tree.break_expr at jump e) ss = do
+      v ← run_or_unit e ss
+      ends (break (break_target ss jump) v)
+    run_expr (tree.continue_expr at jump) ss = ends (continue (continue_target ss jump))
+    run_expr (tree.block_expr b) ss = run_block b ss
+
+    -- a part that is absent is missing
+    pub run_part : OptionExpr → List Scope → SyntaxRun Value
+    run_part tree.no_expr ss = ends missing
+    run_part (tree.some_expr e) ss = run_expr e ss
+
+    pub run_block_part : OptionBlock → List Scope → SyntaxRun Value
+    run_block_part tree.no_block ss = ends missing
+    run_block_part (tree.some_block b) ss = run_block b ss
+
+    -- an `else` or the value of a break that is absent is unit
+    pub run_or_unit : OptionExpr → List Scope → SyntaxRun Value
+    run_or_unit tree.no_expr ss = pure unit
+    run_or_unit (tree.some_expr e) ss = run_expr e ss
+
+    -- the elements that are kept, from left to right
+    pub run_each : Exprs → List Scope → SyntaxRun (List Value)
+    run_each tree.no_exprs ss = pure []
+    run_each (tree.more_exprs e es) ss = if is_kept e then (do
+      v ← run_expr e ss
+      vs ← run_each es ss
+      pure (v ∷ vs)) else run_each es ss
+
+    pub run_block : Block → List Scope → SyntaxRun Value
+    run_block (tree.block at label number stmts tail) ss =
+        entering number (Some (site_of at)) (catching label (run_stmts stmts (is_left tail) (run_tail tail (in_block label ss)) (in_block label ss)))
+
+    -- the tail that is written, where it is left
+    pub run_tail : OptionExpr → List Scope → SyntaxRun Value
+    run_tail tree.no_expr ss = pure unit
+    run_tail (tree.some_expr e) ss = if is_kept e then run_expr e ss else pure unit
+
+    -- the statements that are left, in order, and then the tail; the last of them may give the block its value
+    pub run_stmts : Stmts → Bool → SyntaxRun Value → List Scope → SyntaxRun Value
+    run_stmts tree.no_stmts has_tail tail ss = tail
+    run_stmts (tree.more_stmts tree.item_stmt stmts) has_tail tail ss = run_stmts stmts has_tail tail ss
+    run_stmts (tree.more_stmts (tree.expr_stmt e semi) stmts) has_tail tail ss =
+        if is_left e
+        then (if is_last semi stmts has_tail then run_part e ss else (do
+          run_part e ss
+          run_stmts stmts has_tail tail ss))
+        else run_stmts stmts has_tail tail ss
+
+-- the run of a body that stands by itself, with so many turns
+abbrev pub run_syntax : OptionExpr → ℕ → SyntaxRun Value
+run_syntax e turns = run_part turns e []

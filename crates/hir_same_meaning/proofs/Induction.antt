@@ -1,0 +1,60 @@
+-- Each tree becomes what runs as it is written.
+use Rattle.std.proofs.Common.{List, []}
+use Rattle.hir_store.specs.declared.hir.Statement.{Statement}
+use Rattle.hir_store.specs.declared.ids.ExprId.{ExprId}
+use Rattle.hir_env.specs.Answered as tree
+use Rattle.hir_env.specs.Answered.{Expr, OptionExpr, Exprs, Block, OptionBlock, Stmts, Stmt}
+use Rattle.hir_lower_form.specs.Lower.{push_some, lower, lower_part, present, kept_part, lower_each, lower_block, lower_block_part, lower_stmts, lower_stmt}
+use Rattle.hir_meaning.specs.Left.{is_kept, is_left}
+use Rattle.hir_meaning.specs.Syntax.{run_expr, run_part, run_block_part, run_or_unit, run_each, run_block}
+use Rattle.hir_same_meaning.proofs.Steps.{Correct, correct_bind, correct_as, correct_pure}
+use Rattle.hir_same_meaning.proofs.Senses.{one, optional, many, Runs}
+use Rattle.hir_same_meaning.proofs.Blocks.{KeptIs, StmtIs}
+use Rattle.hir_same_meaning.proofs.Nodes
+use Rattle.hir_same_meaning.proofs.Forms
+
+mutual
+  pub expr_fine : (e : Expr) → Correct (lower e) (Runs one (λ turns. run_expr turns e))
+  expr_fine (tree.disabled_expr at by e) = Forms.disabled_fine at by
+  expr_fine (tree.literal_expr at l) = Forms.literal_fine at l
+  expr_fine (tree.path_expr at x h) = Forms.path_fine at x h
+  expr_fine (tree.paren_expr at e) = Forms.paren_fine at (part_fine e)
+  expr_fine (tree.call_expr at f es) = Forms.call_fine at (part_fine f) (Forms.pushed_all (each_fine es []))
+  expr_fine (tree.if_expr at c t e) = Forms.if_fine at (part_fine c) (block_part_fine t) (present_fine e)
+  expr_fine (tree.loop_expr at label b) = Forms.loop_fine at label (block_part_fine b)
+  expr_fine (tree.break_expr at jump e) = Forms.break_fine at jump (present_fine e)
+  expr_fine (tree.continue_expr at jump) = Forms.continue_fine at jump
+  expr_fine (tree.block_expr b) = block_is_fine b
+
+  pub part_fine : (e : OptionExpr) → Correct (lower_part e) (Runs one (λ turns. run_part turns e))
+  part_fine tree.no_expr = Forms.missing_fine
+  part_fine (tree.some_expr e) = expr_fine e
+
+  block_part_fine : (b : OptionBlock) → Correct (lower_block_part b) (Runs one (λ turns. run_block_part turns b))
+  block_part_fine tree.no_block = Forms.missing_fine
+  block_part_fine (tree.some_block b) = block_is_fine b
+
+  present_fine : (e : OptionExpr) → Correct (present e) (Runs optional (λ turns. run_or_unit turns e))
+  present_fine tree.no_expr = Forms.none_fine
+  present_fine (tree.some_expr e) = Forms.some_fine (expr_fine e)
+
+  kept_part_fine : (e : OptionExpr) → Correct (kept_part e) (λ final ps m m' o. KeptIs m.labels m'.nodes final ps (is_left e) (λ turns. run_part turns e) o)
+  kept_part_fine tree.no_expr = Forms.nothing_fine (λ turns. run_part turns tree.no_expr)
+  kept_part_fine (tree.some_expr e) = Forms.kept_fine e (expr_fine e)
+
+  each_fine : (es : Exprs) (done : List ExprId) → Correct (lower_each done es) (Forms.Pushed done (Runs many (λ turns. run_each turns es)))
+  each_fine tree.no_exprs done = correct_as (correct_pure done) (λ final ps m m' r g row. Forms.pushed_none done row.is Nodes.goes_nil)
+  each_fine (tree.more_exprs e es) done = correct_as (correct_bind (Forms.kept_fine e (expr_fine e)) (λ o. each_fine es (push_some done o)))
+      (λ final ps m m' r g row. Forms.each_more (is_kept e) (λ turns. run_expr turns e) (λ turns. run_each turns es) done row.one row.before row.after row.first row.second)
+
+  block_is_fine : (b : Block) → Correct (lower_block b) (Runs one (λ turns. run_block turns b))
+  block_is_fine (tree.block at label number ss e) = Forms.block_fine at label number ss e (stmts_fine ss []) (kept_part_fine e)
+
+  stmts_fine : (ss : Stmts) (done : List Statement) → Correct (lower_stmts done ss) (Forms.Pushed done (Forms.StmtsRel ss))
+  stmts_fine tree.no_stmts done = correct_as (correct_pure done) (λ final ps m m' r g row. Forms.pushed_none done row.is (λ labels nodes le le'. tt))
+  stmts_fine (tree.more_stmts s ss) done = correct_as (correct_bind (stmt_fine s) (λ o. stmts_fine ss (push_some done o)))
+      (λ final ps m m' r g row. Forms.stmts_more s ss done row.one row.before row.after row.first row.second)
+
+  stmt_fine : (s : Stmt) → Correct (lower_stmt s) (λ final ps m m' o. StmtIs m.labels m'.nodes final ps s o)
+  stmt_fine (tree.expr_stmt e semi) = Forms.expr_stmt_fine e semi (kept_part_fine e)
+  stmt_fine tree.item_stmt = Forms.item_stmt_fine

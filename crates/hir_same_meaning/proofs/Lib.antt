@@ -1,0 +1,11 @@
+pub mod Places
+pub mod Relation
+pub mod Steps
+pub mod Senses
+pub mod Nodes
+pub mod Blocks
+pub mod Forms
+pub mod Induction
+pub mod Owned
+pub mod Tree
+pub mod Computed

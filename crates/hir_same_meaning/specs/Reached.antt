@@ -1,0 +1,74 @@
+-- Which numbers a stored body reaches, and that it reaches each in one way only.
+use Rattle.std.specs.Prelude.{◌≢◌, ℕ, zero, suc, ◌<◌, ◌≤◌, length, List, [], ◌∷◌, ◌++◌, Option, Some, None, slice_get}
+use Rattle.hir_store.specs.Stored.{Stored}
+use Rattle.hir_store.specs.declared.hir.Expr.{Expr}
+use Rattle.hir_store.specs.declared.hir.Expr.TheVariants as hir
+use Rattle.hir_store.specs.declared.hir.Statement.{Statement}
+use Rattle.hir_store.specs.declared.hir.Statement.TheVariants as statement
+use Rattle.hir_store.specs.declared.ids.ExprId.{ExprId}
+use Rattle.hir_env.specs.Answered.{OptionExpr}
+use Rattle.hir_lower_form.specs.Builder.{Builder}
+use Rattle.hir_same_meaning.specs.Extends.{Extends}
+use Rattle.hir_same_meaning.specs.Headline.{Lowered}
+
+-- ---- the numbers that are reached, one for each way
+
+module _ (f : ExprId → List ℕ) where
+  abbrev pub of_some : Option ExprId → List ℕ
+  of_some None = []
+  of_some (Some i) = f i
+
+  abbrev pub of_each : List ExprId → List ℕ
+  of_each [] = []
+  of_each (i ∷ is) = f i ++ of_each is
+
+  abbrev pub of_statement : Statement → List ℕ
+  of_statement statement.Item = []
+  of_statement (statement.Expr i semi) = f i
+
+  abbrev pub of_statements : List Statement → List ℕ
+  of_statements [] = []
+  of_statements (s ∷ ss) = of_statement s ++ of_statements ss
+
+  abbrev pub below : Expr → List ℕ
+  below hir.Missing = []
+  below (hir.Literal l) = []
+  below (hir.Path p h) = []
+  below (hir.Call g xs) = f g ++ of_each xs
+  below (hir.If c t e) = f c ++ (f t ++ of_some e)
+  below (hir.Loop b l source) = f b
+  below (hir.Block l number ss tail) = of_statements ss ++ of_some tail
+  below (hir.Break l e) = of_some e
+  below (hir.Continue l) = []
+
+  abbrev pub below_found : Option Expr → List ℕ
+  below_found None = []
+  below_found (Some e) = below e
+
+-- so deep
+unfoldable pub reached_to : List Expr → ℕ → ExprId → List ℕ
+reached_to exprs zero i = []
+reached_to exprs (suc depth) i = i.0 ∷ below_found (reached_to exprs depth) (slice_get exprs i.0)
+
+-- ---- each in one way, and in a range
+
+abbrev pub AllOf : (ℕ → Type 0) → List ℕ → Type 0
+AllOf P [] = Unit {0}
+AllOf P (k ∷ ks) = P k × AllOf P ks
+
+abbrev pub Distinct : List ℕ → Type 0
+Distinct [] = Unit {0}
+Distinct (k ∷ ks) = AllOf (λ j. k ≢ j) ks × Distinct ks
+
+abbrev pub From : ℕ → ℕ → ℕ → Type 0
+From lo hi k = (lo ≤ k) × (k < hi)
+
+pub record Spread (lo hi : ℕ) (ks : List ℕ) : Type 0 where
+  pub within : AllOf (From lo hi) ks
+  pub distinct : Distinct ks
+
+-- However deep one looks, each number that the body reaches is reached in one way, so none reaches itself, and is one of
+-- those that its lowering gave out.
+abbrev pub ReachedOnce : Type 0
+ReachedOnce = (e : OptionExpr) (b b' : Builder) (i : ExprId) → Lowered e b i b' → (final : Stored) → Extends b'.stored final
+    → (depth : ℕ) → length final.store.exprs ≤ depth → Spread (length b.stored.store.exprs) (length b'.stored.store.exprs) (reached_to final.store.exprs depth i)

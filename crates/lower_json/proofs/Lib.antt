@@ -1,0 +1,9 @@
+pub mod Pairs
+pub mod Lists
+pub mod Builds
+pub mod Outs
+pub mod Indexing
+pub mod Planting
+pub mod Tuples
+pub mod Counting
+pub mod Rooting

@@ -1,0 +1,33 @@
+-- Lists that have not the length that is wanted.
+use Rattle.std.proofs.Common.{◌≡◌, ℕ, ◌<◌, ◌≤◌, List, [], ◌∷◌, length, refl, arith, Some, None}
+use Rattle.serde_json.specs.View.{items_view}
+use Rattle.serde_json.specs.declared.value.Value.{Value}
+use Rattle.lower_json.specs.Tables.{triple_of, quadruple_of}
+
+pub under_three : (vs : List Value) → length vs < 3 → None ≡ triple_of (Some (items_view vs))
+under_three [] h = refl
+under_three (v ∷ []) h = refl
+under_three (v ∷ w ∷ []) h = refl
+under_three (v ∷ w ∷ x ∷ vs) h = absurd (omega arith)
+
+pub over_three : (vs : List Value) → 4 ≤ length vs → None ≡ triple_of (Some (items_view vs))
+over_three [] h = absurd (omega arith)
+over_three (v ∷ []) h = absurd (omega arith)
+over_three (v ∷ w ∷ []) h = absurd (omega arith)
+over_three (v ∷ w ∷ x ∷ []) h = absurd (omega arith)
+over_three (v ∷ w ∷ x ∷ y ∷ vs) h = refl
+
+pub under_four : (vs : List Value) → length vs < 4 → None ≡ quadruple_of (Some (items_view vs))
+under_four [] h = refl
+under_four (v ∷ []) h = refl
+under_four (v ∷ w ∷ []) h = refl
+under_four (v ∷ w ∷ x ∷ []) h = refl
+under_four (v ∷ w ∷ x ∷ y ∷ vs) h = absurd (omega arith)
+
+pub over_four : (vs : List Value) → 5 ≤ length vs → None ≡ quadruple_of (Some (items_view vs))
+over_four [] h = absurd (omega arith)
+over_four (v ∷ []) h = absurd (omega arith)
+over_four (v ∷ w ∷ []) h = absurd (omega arith)
+over_four (v ∷ w ∷ x ∷ []) h = absurd (omega arith)
+over_four (v ∷ w ∷ x ∷ y ∷ []) h = absurd (omega arith)
+over_four (v ∷ w ∷ x ∷ y ∷ z ∷ vs) h = refl

@@ -1,0 +1,34 @@
+-- When a text is which fault.
+use Rattle.std.specs.Prelude.{◌≡◌, ◌⊎◌, ◌<◌, ℕ, List, codes, Some, None, option_and_then, IsUtf8}
+use Rattle.serde_json.specs.Data.{Data, Items}
+use Rattle.serde_json.specs.Find.{get, as_array}
+use Rattle.serde_json.specs.Read.{read}
+use Rattle.lower_json.specs.Documents.{count}
+use Rattle.lower_json.specs.declared.fault.Fault.{Fault}
+use Rattle.lower_json.specs.declared.fault.Fault.TheVariants as fault
+use Rattle.lower_json.specs.declared.fault.ReadError.{ReadError}
+use Rattle.lower_json.specs.declared.fault.ReadError.TheVariants as error
+
+pub record HasTooMany (d : Data) : Type 0 where
+  pub nodes : Items
+  pub listed : option_and_then as_array (get (codes "nodes") d) ≡ Some nodes
+  pub many : 1000000 < count nodes
+
+-- the data of a text that is JSON
+abbrev pub IsFaultOf : Data → Fault → Type 0
+IsFaultOf d fault.NotJson = ⊥
+IsFaultOf d fault.NotADocument = Unit {0}
+IsFaultOf d fault.TooManyNodes = HasTooMany d
+
+abbrev pub IsErrorOf : Data → ReadError → Type 0
+IsErrorOf d error.Memory = Unit {0}
+IsErrorOf d (error.Fault f) = IsFaultOf d f
+
+abbrev pub IsTextFault : List ℕ → Fault → Type 0
+IsTextFault text fault.NotJson = ¬ (IsUtf8 text) ⊎ (read text ≡ None)
+IsTextFault text f = (d : Data) × (read text ≡ Some d) × IsFaultOf d f
+
+-- memory may be refused for any text
+abbrev pub IsTextError : List ℕ → ReadError → Type 0
+IsTextError text error.Memory = Unit {0}
+IsTextError text (error.Fault f) = IsTextFault text f

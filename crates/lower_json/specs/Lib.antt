@@ -1,0 +1,11 @@
+pub mod Kinds
+pub mod Fields
+pub mod Literals
+pub mod Parts
+pub mod Standing
+pub mod Forests
+pub mod Nodes
+pub mod Tables
+pub mod Documents
+pub mod Refusals
+pub mod Faults

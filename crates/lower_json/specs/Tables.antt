@@ -1,0 +1,72 @@
+-- The tables of a document.
+use Rattle.std.specs.Prelude.{◌≡◌, ℕ, codes, List, [], ◌∷◌, Bool, Option, Some, None, IsSome, option_map, option_and_then}
+use Rattle.serde_json.specs.Data.{Data, string, Items, no_items, item}
+use Rattle.serde_json.specs.Find.{get, as_array, as_object}
+use Rattle.hir_env.specs.NodeMap.{Site, with_first}
+use Rattle.hir_env.specs.Tables.{Tables}
+use Rattle.hir_store.specs.declared.ids.CfgId.{CfgId}
+use Rattle.hir_store.specs.declared.ids.HygieneId.{HygieneId}
+use Rattle.hir_store.specs.declared.ids.BlockId.{BlockId}
+use Rattle.hir_store.specs.declared.ids.ModuleId.{ModuleId}
+use Rattle.lower_json.specs.Fields.{small_of, flag_of}
+
+-- the node of a number in a file
+abbrev pub site_of : Option ℕ → Option ℕ → Option Site
+site_of (Some file) (Some node) = Some (record { file_id = record { 0 = file }; value = record { 0 = node } })
+site_of _ _ = None
+
+abbrev pub said : {T : Type 0} → Option Site → Option T → Option (Site × T)
+said (Some s) (Some t) = Some (s, t)
+said _ _ = None
+
+abbrev pub both : Option ℕ → Option ℕ → Option (ℕ × ℕ)
+both (Some a) (Some b) = Some (a, b)
+both _ _ = None
+
+abbrev pub triple_of : Option Items → Option (Site × ℕ)
+triple_of (Some (item f (item n (item x no_items)))) = said (site_of (small_of f) (small_of n)) (small_of x)
+triple_of _ = None
+
+abbrev pub quadruple_of : Option Items → Option (Site × (ℕ × ℕ))
+quadruple_of (Some (item f (item n (item x (item y no_items))))) = said (site_of (small_of f) (small_of n)) (both (small_of x) (small_of y))
+quadruple_of _ = None
+
+-- [file, node, condition]
+abbrev pub disabled_of : Option Items → Option (Site × CfgId)
+disabled_of ds = option_map (λ e. (e.0, record { 0 = e.1 })) (triple_of ds)
+
+-- [file, node, hygiene]
+abbrev pub named_of : Option Items → Option (Site × HygieneId)
+named_of ds = option_map (λ e. (e.0, record { 0 = e.1 })) (triple_of ds)
+
+-- [file, node, block, module]
+abbrev pub numbered_of : Option Items → Option (Site × (BlockId × ModuleId))
+numbered_of ds = option_map (λ e. (e.0, (record { 0 = e.1.0 }, record { 0 = e.1.1 }))) (quadruple_of ds)
+
+-- a table with the entries of a list behind its own, where each is one; of two for one node the first counts
+abbrev pub with_all : {T : Type 0} → (Option Items → Option (Site × T)) → Items → List (Site × T) → Option (List (Site × T))
+with_all entry no_items es = Some es
+with_all entry (item d ds) es = option_and_then (λ e. with_all entry ds (with_first es e.0 e.1)) (entry (as_array d))
+
+-- the rows of a table, none where it is absent
+abbrev pub rows : Option Data → Option Items
+rows None = Some no_items
+rows (Some d) = as_array d
+
+abbrev pub table : {T : Type 0} → (Option Items → Option (Site × T)) → Option Data → Option (List (Site × T))
+table entry d = option_and_then (λ ds. with_all entry ds []) (rows d)
+
+-- an object, or nothing
+abbrev pub IsObject : Option Data → Type 0
+IsObject None = Unit {0}
+IsObject (Some d) = IsSome (as_object d)
+
+abbrev pub member_of : List ℕ → Option Data → Option Data
+member_of name env = option_and_then (get name) env
+
+-- the tables of the environment that a document writes
+pub record AreTables (env : Option Data) (t : Tables) : Type 0 where
+  pub object : IsObject env
+  pub disabled : table disabled_of (member_of (codes "disabled") env) ≡ Some t.disabled
+  pub hygiene : table named_of (member_of (codes "hygiene") env) ≡ Some t.hygiene
+  pub blocks : table numbered_of (member_of (codes "blocks") env) ≡ Some t.blocks

@@ -1,0 +1,66 @@
+//! Fields of one value.
+
+ghost use Rattle.std.specs.Prelude.{◌≡◌, option_map, option_and_then, IfOk, IfErr, None, Some, codes, OnOk, OnSome, IsOk, ◌↔◌};
+ghost use Rattle.serde_json.specs.Data.{string};
+ghost use Rattle.serde_json.specs.View.{view, items_view};
+ghost use Rattle.serde_json.specs.Find.{get, as_array};
+ghost use Rattle.lower_json.specs.Fields.{small_of, id_of, range_in, range_of, flag_of};
+
+use hir_syntax::node::TextRange;
+use serde_json::Value;
+
+/// A number of 32 bits.
+pub fn small(value: &Value) -> Option<u32>
+    ensures { result ≡ small_of (view value.now) }
+{
+    match value.as_u64() {
+        Some(n) if n <= 4_294_967_295 => Some(n as u32),
+        _ => None,
+    }
+}
+
+/// A flag, which is false where it is absent.
+pub fn flag(node: &Value, name: &str) -> Option<bool>
+    ensures { result ≡ flag_of (get name.now (view node.now)) }
+{
+    match node.get(name) {
+        None => Some(false),
+        Some(value) => value.as_bool(),
+    }
+}
+
+/// The number of a node, which is its index where it has none.
+pub fn id(node: &Value, at: u32) -> Option<u32>
+    ensures { result ≡ id_of at (get (codes "id") (view node.now)) }
+{
+    match node.get("id") {
+        None => Some(at),
+        Some(value) => small(value),
+    }
+}
+
+#[tactic(auto, using(crate::proofs::Pairs::too_short, crate::proofs::Pairs::too_long))]
+fn pair(items: &[Value]) -> Option<TextRange>
+    ensures { result ≡ range_in (Some (items_view items.now)) }
+{
+    match items {
+        [start, end] => Some(TextRange {
+            start: small(start)?,
+            end: small(end)?,
+        }),
+        _ => None,
+    }
+}
+
+/// The range of a node, which goes from its number to the next where it has none.
+pub fn range(node: &Value, id: u32) -> Option<TextRange>
+    ensures { result ≡ range_of id (get (codes "r") (view node.now)) }
+{
+    match node.get("r") {
+        None => Some(TextRange {
+            start: id,
+            end: id.saturating_add(1),
+        }),
+        Some(value) => pair(value.as_array()?.as_slice()),
+    }
+}

@@ -1,0 +1,36 @@
+//! Reads a document from standard input and prints what its body is lowered to.
+#![tactic(auto)]
+
+mod failure;
+mod input;
+mod listing;
+mod run;
+#[cfg(test)]
+mod tests;
+
+use failure::Failure;
+use run::run;
+use std::env;
+use std::process::ExitCode;
+use std::rt::Env;
+
+/// The words that the program was given, without its own name.
+fn words(rt: &(impl Env + AllocGlobal)) -> Result<Vec<String>, Failure> {
+    let all = env::args(rt).map_err(|error| Failure::of_words(&error))?;
+    Ok(all.skip(1).collect(rt.alloc())?)
+}
+
+fn main(rt: HostRuntime) -> ExitCode {
+    let mut errors = rt.stderr();
+    let status = match words(&rt) {
+        Ok(words) => run(
+            rt.alloc(),
+            words.as_slice(),
+            &mut rt.stdin().lock(),
+            &mut rt.stdout(),
+            &mut errors,
+        ),
+        Err(failure) => failure.report(&mut errors),
+    };
+    ExitCode::from(status)
+}
