@@ -20,6 +20,7 @@ use Rattle.hir_one_result.specs.Diagnostics.{Faults}
 use Rattle.hir_one_result.specs.Growth as growth
 use Rattle.hir_one_result.specs.Growth.{AsMany}
 use Rattle.hir_one_result.proofs.Adds.{prefix_same}
+use Rattle.hir_one_result.proofs.Leading.{leads_nowhere}
 use Rattle.hir_one_result.proofs.Steps.{as_many_then}
 use Rattle.hir_one_result.proofs.Fitting.{lowered_adds}
 use Rattle.hir_one_result.proofs.TreeSays.{all_diagnosed}
@@ -55,13 +56,16 @@ root_result e limit ds b' i h = by (lower_part e (closed (begun limit ds))) refl
         record { exprs = record { more = []; is = sym (append-nil x.1.stored.store.exprs) }; sources = record { more = []; is = sym (append-nil x.1.stored.source_map.expr_sources) } } in
         let lowered : Lowered e b x.0 x.1 = record { fresh = refl; paired = record { same = refl }; is = is } in
         let diagnosed = all_diagnosed e b x.0 x.1 is in
+        let standing = all_stand e b x.0 x.1 is (record { exprs = refl; labels = refl }) final stays in
         subst P whole (record {
           root = x.0;
           only = ap (λ rs. rs ++ root_at x.1.stored.store x.0 ∷ []) added.grown.roots;
           exprs = exprs;
           labels = labels;
           sources = record { exprs = sources.exprs; labels = sources.labels };
-          stands = all_stand e b x.0 x.1 is (record { exprs = refl; labels = refl }) final stays;
+          ways = standing.ways;
+          stands = standing.stands;
+          leads = standing.led [] (leads_nowhere refl refl);
           reached_once = λ depth le. reached_once e b x.1 x.0 lowered final has depth le;
           found = diagnosed.more;
           faults = diagnosed.is;

@@ -20,20 +20,24 @@ use Rattle.hir_env.specs.Whole.{expr_part}
 use Rattle.hir_same_meaning.specs.Reached.{Spread, reached_to}
 use Rattle.hir_one_result.specs.Sizes.{exprs_of_part, labels_of_part}
 use Rattle.hir_one_result.specs.Growth.{AsMany}
+use Rattle.hir_one_result.specs.Leads.{Way, MapLeads}
 use Rattle.hir_one_result.specs.Stands.{StandsPart}
 use Rattle.hir_one_result.specs.Diagnostics.{Faults, part_diagnostics}
 use Rattle.hir_lower.specs.Roots.{body_fault, required_body}
 
 -- What is stored where one body was lowered: as many expressions and labels as the tree says, each with its source and
--- all in the range of the one root, which stands for the tree and reaches each expression in one way only. Behind the
--- faults that the body owes as a whole come those of what is read of the tree, in some order.
+-- all in the range of the one root, which stands for the tree and reaches each expression in one way only. The source
+-- map leads from each written expression and label to what it became, and nowhere else. Behind the faults that the body
+-- owes as a whole come those of what is read of the tree, in some order.
 pub record OneResult (final : Stored) (owed : Faults) (e : OptionExpr) : Type 0 where
   pub root : ExprId
   pub only : final.store.roots ≡ root_at final.store root ∷ []
   pub exprs : length final.store.exprs ≡ exprs_of_part e
   pub labels : length final.store.labels ≡ labels_of_part e
   pub sources : AsMany final
-  pub stands : StandsPart final [] e root
+  pub ways : List Way
+  pub stands : StandsPart final [] e root ways
+  pub leads : MapLeads final.source_map ways
   pub reached_once : (depth : ℕ) → length final.store.exprs ≤ depth → Spread 0 (length final.store.exprs) (reached_to final.store.exprs depth root)
   pub found : Faults
   pub faults : final.source_map.diagnostics ≡ owed ++ found

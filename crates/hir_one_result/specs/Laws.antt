@@ -8,6 +8,7 @@ use Rattle.hir_lower_form.specs.Builder.{Builder}
 use Rattle.hir_lower_form.specs.Lower.{lower_part}
 use Rattle.hir_one_result.specs.Sizes.{exprs_of_part, labels_of_part, Fits}
 use Rattle.hir_one_result.specs.Growth.{Grown, AsMany, Extends}
+use Rattle.hir_one_result.specs.Leads.{Way, Led}
 use Rattle.hir_one_result.specs.Stands.{StandsPart}
 use Rattle.hir_one_result.specs.Diagnostics.{Faults, around, part_diagnostics}
 
@@ -45,8 +46,14 @@ pub record Diagnosed (e : OptionExpr) (old new : Builder) : Type 0 where
 abbrev pub DiagnosticsAre : Type 0
 DiagnosticsAre = Lowered (λ e old id new. Diagnosed e old new)
 
--- ---- forms, parts and sources
+-- ---- forms, parts and sources, and ways back
 
--- the answered expression stands for the tree, in each final store that begins with what is stored by then
+-- the expression stands for the tree, and what led somewhere before leads there or by the ways of the tree
+pub record Standing (final : Stored) (e : OptionExpr) (old new : Builder) (id : ExprId) : Type 0 where
+  pub ways : List Way
+  pub stands : StandsPart final old.scopes e id ways
+  pub led : Led old.stored.source_map new.stored.source_map ways
+
+-- so it is in each final store that begins with what is stored by then
 abbrev pub AllStand : Type 0
-AllStand = Lowered (λ e old id new. AsMany old.stored → (final : Stored) → Extends new.stored final → StandsPart final old.scopes e id)
+AllStand = Lowered (λ e old id new. AsMany old.stored → (final : Stored) → Extends new.stored final → Standing final e old new id)
