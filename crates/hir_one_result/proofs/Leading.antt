@@ -1,5 +1,5 @@
 -- How storing changes where the source map leads.
-use Rattle.std.proofs.Common.{arith, ◌≡◌, ◌∙◌, refl, sym, ap, subst, ℕ, ◌<◌, Bool, true, false, ◌&&◌, if◌then◌else◌, nat_eq, List, [], ◌∷◌, ◌++◌, length, append_assoc, append-nil, Option, Some, None, Contains, ◌⊎◌, inl, inr, ⊎_elim, true≢false, is_some}
+use Rattle.std.proofs.Common.{arith, ◌≡◌, ◌∙◌, refl, sym, ap, subst, ℕ, ◌<◌, Bool, true, false, ◌&&◌, if◌then◌else◌, nat_eq, List, [], ◌∷◌, ◌++◌, append_assoc, append-nil, Some, None, Contains, ◌⊎◌, inl, inr, ⊎_elim, true≢false, is_some}
 use Rattle.std.proofs.lemmas.List.Elements.{Contains-append_left, Contains-append_right, Contains-append_cases, Contains-push, Contains-push_cases}
 use Rattle.std.proofs.lemmas.Bool.{eqb-true, eq-eqb}
 use Rattle.indexmap.specs.IndexMap.{insert_entry}
@@ -7,7 +7,7 @@ use Rattle.hir_store.specs.Pointers.{Pointer, same_pointer, found}
 use Rattle.hir_store.specs.Stored.{SourceMap, Stored}
 use Rattle.hir_store.specs.declared.ids.ExprId.{ExprId}
 use Rattle.hir_store.specs.declared.ids.LabelId.{LabelId}
-use Rattle.hir_one_result.specs.Leads.{Way, expr_way, label_way, Leads, MapLeads, Led, Ways, From, FromLabel, Both, ◌&◌}
+use Rattle.hir_one_result.specs.Leads.{Way, expr_way, label_way, Leads, MapLeads, Led, Ways, From, FromLabel, ◌&◌}
 
 -- ---- one node more
 
@@ -76,11 +76,11 @@ module _ {T : Type 0} (way : Pointer → T → Way) (es : List (Pointer × T)) (
   leads_more : ((p q : Pointer) (t u : T) → way p t ≡ way q u → (p ≡ q) × (t ≡ u)) → (p : Pointer) (t : T) → Leads (insert_entry same_pointer es p t) way (ws ++ way p t ∷ [])
   leads_more split p t = record {
     each = λ q u c. ⊎_elim (λ old. let was = h.each q u old in found_still p t es q was.0 was.1)
-    (λ e. (t, subst (λ x. found (insert_entry same_pointer es p t) x ≡ Some t) (split p q t u e).0 (found_new p t es)))
-    (Contains-push_cases ws (way p t) (way q u) c);
+        (λ e. (t, subst (λ x. found (insert_entry same_pointer es p t) x ≡ Some t) (split p q t u e).0 (found_new p t es)))
+        (Contains-push_cases ws (way p t) (way q u) c);
     only = λ q u f. ⊎_elim (λ old. Contains-append_left ws (way p t ∷ []) (way q u) (h.only q u old))
-    (λ e. subst (λ w. Contains (ws ++ way p t ∷ []) w) (λ j. way (e.0 j) (e.1 j)) (Contains-push ws (way p t)))
-    (found_split p t es q u f);
+        (λ e. subst (λ w. Contains (ws ++ way p t ∷ []) w) (λ j. way (e.0 j) (e.1 j)) (Contains-push ws (way p t)))
+        (found_split p t es q u f);
   }
 
   leads_beside : (w : Way) → ((p : Pointer) (t : T) → w ≡ way p t → ⊥) → Leads es way (ws ++ w ∷ [])

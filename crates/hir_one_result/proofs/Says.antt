@@ -1,8 +1,7 @@
 -- Steps that report these faults.
-use Rattle.std.proofs.Common.{◌≡◌, ◌∙◌, refl, sym, ap, subst, nat_lt, nat_eq, ◌&&◌, ◌||◌, find, option_map, Bool, true, false, if◌then◌else◌, List, [], ◌∷◌, ◌++◌, length, append_assoc, append-nil, Option, Some, None, Ok, Err, IsPermutation}
+use Rattle.std.proofs.Common.{◌≡◌, ◌∙◌, refl, sym, ap, subst, nat_lt, ◌||◌, find, option_map, Bool, true, false, if◌then◌else◌, List, [], ◌∷◌, ◌++◌, length, append_assoc, append-nil, Option, Some, None, Ok, Err, IsPermutation}
 use Rattle.std.proofs.lemmas.List.Sorted.{IsPermutation-refl, IsPermutation-trans, IsPermutation-append}
 use Rattle.hir_store.specs.Pointers.{Pointer}
-use Rattle.hir_store.specs.Names.{same_name}
 use Rattle.hir_store.specs.Stored.{Stored}
 use Rattle.hir_store.specs.Storing.{expr_id, label_id, with_expr, with_label, alloc_expr as store_expr, alloc_label as store_label, point as store_point, report as store_report, enter_block as store_block}
 use Rattle.hir_store.specs.declared.fault.StoreFault.TheVariants.{Full}

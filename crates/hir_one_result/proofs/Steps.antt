@@ -1,9 +1,9 @@
 -- What a step answers and adds, as a final store that begins with what is stored by then shows it.
-use Rattle.std.proofs.Common.{arith, ◌≡◌, ◌∙◌, refl, sym, ap, subst, ℕ, suc, ◌+◌, ◌≤◌, ◌<◌, nat_lt, T, ltb→lt, Bool, true, false, if◌then◌else◌, List, [], ◌∷◌, ◌++◌, length, length-append, append_assoc, slice_get, Option, Some, None, Ok, Err}
+use Rattle.std.proofs.Common.{arith, ◌≡◌, ◌∙◌, refl, sym, ap, subst, ℕ, ◌+◌, ◌<◌, nat_lt, T, ltb→lt, Bool, true, false, if◌then◌else◌, List, [], ◌∷◌, ◌++◌, length, length-append, append_assoc, slice_get, Option, Some, None, Ok, Err}
 use Rattle.std.proofs.Math.Seq.{get_or-append_seam}
 use Rattle.std.proofs.lemmas.Option.{slice_get-get_or}
-use Rattle.hir_store.specs.Pointers.{Pointer, same_pointer}
-use Rattle.hir_store.specs.Stored.{Store, SourceMap, Stored}
+use Rattle.hir_store.specs.Pointers.{Pointer}
+use Rattle.hir_store.specs.Stored.{Stored}
 use Rattle.hir_store.specs.Storing.{expr_id, label_id, with_expr, with_label, alloc_expr as store_expr, alloc_label as store_label, point as store_point, report as store_report, enter_block as store_block}
 use Rattle.hir_store.specs.declared.fault.StoreFault.TheVariants.{Full}
 use Rattle.hir_store.specs.declared.hir.Expr.{Expr as HirExpr}
@@ -13,16 +13,15 @@ use Rattle.hir_store.specs.declared.ids.BlockId.{BlockId}
 use Rattle.hir_store.specs.declared.diagnostics.ExpressionStoreDiagnostics.{ExpressionStoreDiagnostics}
 use Rattle.hir_lower_scope.specs.declared.labels.LabelRib.{LabelRib}
 use Rattle.hir_lower_scope.specs.Labels.{target, rest}
-use Rattle.hir_env.specs.Answered as tree
-use Rattle.hir_env.specs.Answered.{Label, Jump, Expr}
+use Rattle.hir_env.specs.Answered.{Label, Jump}
 use Rattle.hir_lower_form.specs.Builder.{Builder}
 use Rattle.hir_lower_form.specs.Lowering.{Checked, Lowering, and_then, ◌>>=◌, ◌>>◌, pure, alloc_expr, point, report, enter_block, open_label, close_label, jump_target, found_or_undeclared}
-use Rattle.hir_lower_form.specs.Lower.{Node as NodeSteps, some, kept}
+use Rattle.hir_lower_form.specs.Lower.{some}
 use Rattle.hir_one_result.specs.Growth.{Prefix, Grown, AsMany, Extends}
 use Rattle.hir_one_result.specs.Leads.{Way, expr_way, label_way, Led}
 use Rattle.hir_one_result.specs.Stands.{Node, LabelNode, rib, jump_label}
 use Rattle.hir_one_result.proofs.Leading.{led_still, led_expr, led_label}
-use Rattle.hir_one_result.proofs.Adds.{Added, prefix_then, grown_then, still, expr_added, opened, label_added}
+use Rattle.hir_one_result.proofs.Adds.{prefix_then, grown_then, still, expr_added, opened, label_added}
 
 abbrev pub Rel : Type 0 → Type 1
 Rel A = Stored → List LabelRib → Stored → Stored → A → Type 0

@@ -1,15 +1,14 @@
 -- Lowering a tree adds as many expressions and labels as the tree becomes.
-use Rattle.std.proofs.Common.{arith, ◌≡◌, ℕ, suc, ◌+◌, List, [], ◌∷◌, ◌++◌, Option, Some, None}
+use Rattle.std.proofs.Common.{arith, ◌≡◌, ℕ, suc, ◌+◌, List, [], Option, Some, None}
 use Rattle.hir_store.specs.Pointers.{Pointer}
 use Rattle.hir_store.specs.declared.hir.Statement.{Statement}
-use Rattle.hir_store.specs.declared.hir.Statement.TheVariants as statement
 use Rattle.hir_store.specs.declared.ids.ExprId.{ExprId}
 use Rattle.hir_store.specs.declared.ids.LabelId.{LabelId}
 use Rattle.hir_store.specs.declared.ids.BlockId.{BlockId}
 use Rattle.hir_env.specs.Answered as tree
 use Rattle.hir_env.specs.Answered.{Label, Jump, Expr, OptionExpr, Exprs, Block, OptionBlock, Stmts, Stmt}
-use Rattle.hir_lower_form.specs.Lowering.{Lowering, ◌>>=◌, ◌>>◌, pure}
-use Rattle.hir_lower_form.specs.Lower.{Node, push_some, missing, some, if_form, loop_form, call_form, continue_form, break_form, paren_form, block_form, labelled, kept, lower, lower_part, present, kept_part, lower_each, lower_block, lower_block_part, lower_stmts, lower_stmt}
+use Rattle.hir_lower_form.specs.Lowering.{Lowering, pure}
+use Rattle.hir_lower_form.specs.Lower.{Node, push_some, missing, if_form, loop_form, call_form, continue_form, break_form, paren_form, block_form, labelled, kept, lower, lower_part, present, kept_part, lower_each, lower_block, lower_block_part, lower_stmts, lower_stmt}
 use Rattle.hir_one_result.specs.Sizes.{unless_disabled, one_label, exprs_of, exprs_of_part, exprs_of_present, exprs_of_kept, exprs_of_each, exprs_of_block, exprs_of_block_part, exprs_of_stmts, exprs_of_stmt, labels_of, labels_of_part, labels_of_each, labels_of_block, labels_of_block_part, labels_of_stmts, labels_of_stmt}
 use Rattle.hir_one_result.proofs.Adds.{Adds, adds_bind, adds_as, adds_pure, adds_some, adds_point, adds_report, adds_enter_block, adds_jump_target, adds_alloc, adds_inside}
 

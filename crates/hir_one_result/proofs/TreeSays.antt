@@ -1,5 +1,5 @@
 -- Lowering a tree reports the faults of what it reads.
-use Rattle.std.proofs.Common.{◌≡◌, ◌∙◌, refl, sym, ap, subst, List, [], ◌∷◌, ◌++◌, append_assoc, append-nil, Option, Some, None, Ok, Err, IsPermutation}
+use Rattle.std.proofs.Common.{subst, List, [], ◌++◌, append_assoc, Option, Some, None, IsPermutation}
 use Rattle.std.proofs.lemmas.List.Sorted.{IsPermutation-append_comm}
 use Rattle.hir_store.specs.Pointers.{Pointer}
 use Rattle.hir_store.specs.declared.hir.Statement.{Statement}
@@ -8,9 +8,8 @@ use Rattle.hir_store.specs.declared.ids.LabelId.{LabelId}
 use Rattle.hir_store.specs.declared.ids.BlockId.{BlockId}
 use Rattle.hir_env.specs.Answered as tree
 use Rattle.hir_env.specs.Answered.{Label, Jump, Expr, OptionExpr, Exprs, Block, OptionBlock, Stmts, Stmt}
-use Rattle.hir_lower_form.specs.Builder.{Builder}
-use Rattle.hir_lower_form.specs.Lowering.{Lowering, ◌>>=◌, ◌>>◌, pure}
-use Rattle.hir_lower_form.specs.Lower.{Node, push_some, missing, some, if_form, loop_form, call_form, continue_form, break_form, paren_form, block_form, labelled, kept, lower, lower_part, present, kept_part, lower_each, lower_block, lower_block_part, lower_stmts, lower_stmt}
+use Rattle.hir_lower_form.specs.Lowering.{Lowering, pure}
+use Rattle.hir_lower_form.specs.Lower.{Node, push_some, missing, if_form, loop_form, call_form, continue_form, break_form, paren_form, block_form, labelled, kept, lower, lower_part, present, kept_part, lower_each, lower_block, lower_block_part, lower_stmts, lower_stmt}
 use Rattle.hir_one_result.specs.Diagnostics.{Faults, Around, around, inside_label, jump_faults, diagnostics, part_diagnostics, each_diagnostics, block_diagnostics, block_part_diagnostics, stmts_diagnostics, stmt_diagnostics}
 use Rattle.hir_one_result.specs.Laws.{DiagnosticsAre}
 use Rattle.hir_one_result.proofs.Says.{Told, Says, nothing, says_bind, says_as, says_end, says_pure, says_some, says_point, says_report, says_enter_block, says_alloc, says_jump_target, says_inside}

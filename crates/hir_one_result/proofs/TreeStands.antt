@@ -1,5 +1,5 @@
 -- What lowering a tree answers stands for the tree.
-use Rattle.std.proofs.Common.{◌≡◌, ◌∙◌, refl, sym, ap, subst, List, [], ◌∷◌, ◌++◌, append_assoc, append-nil, option_to_list, option_map, Option, Some, None, Ok, Err}
+use Rattle.std.proofs.Common.{◌≡◌, ◌∙◌, refl, sym, subst, List, [], ◌∷◌, ◌++◌, append_assoc, append-nil, option_to_list, option_map, Option, Some, None}
 use Rattle.hir_store.specs.Pointers.{Pointer}
 use Rattle.hir_store.specs.Stored.{Stored}
 use Rattle.hir_store.specs.declared.hir.Expr.{Expr as HirExpr}
@@ -13,14 +13,13 @@ use Rattle.hir_store.specs.declared.ids.BlockId.{BlockId}
 use Rattle.hir_lower_scope.specs.declared.labels.LabelRib.{LabelRib}
 use Rattle.hir_env.specs.Answered as tree
 use Rattle.hir_env.specs.Answered.{Label, Jump, Expr, OptionExpr, Exprs, Block, OptionBlock, Stmts, Stmt}
-use Rattle.hir_lower_form.specs.Builder.{Builder}
-use Rattle.hir_lower_form.specs.Lowering.{Checked, Lowering, ◌>>=◌, ◌>>◌, pure, alloc_expr}
-use Rattle.hir_lower_form.specs.Lower.{Node as Steps, push_some, missing, some, if_form, loop_form, call_form, continue_form, break_form, paren_form, block_form, labelled, settled, settled_block, stored_path, stored_literal, kept, lower, lower_part, present, kept_part, lower_each, lower_block, lower_block_part, lower_stmts, lower_stmt}
-use Rattle.hir_one_result.specs.Stands.{Node, LabelNode, rib, jump_label, InLabel, Keeps, Stands, StandsPart, StandsPresent, StandsKept, StandsEach, StandsBlock, StandsBlockPart, StandsStmts, StandsStmt}
+use Rattle.hir_lower_form.specs.Lowering.{Lowering, pure, alloc_expr}
+use Rattle.hir_lower_form.specs.Lower.{Node as Steps, push_some, missing, if_form, loop_form, call_form, continue_form, break_form, paren_form, block_form, labelled, settled, settled_block, stored_path, stored_literal, kept, lower, lower_part, present, kept_part, lower_each, lower_block, lower_block_part, lower_stmts, lower_stmt}
+use Rattle.hir_one_result.specs.Stands.{Node, rib, jump_label, InLabel, Keeps, Stands, StandsPart, StandsPresent, StandsKept, StandsEach, StandsBlock, StandsBlockPart, StandsStmts, StandsStmt}
 use Rattle.hir_one_result.specs.Leads.{Ways, No, From, ◌&◌}
 use Rattle.hir_one_result.specs.Laws.{AllStand}
 use Rattle.hir_one_result.proofs.Leading.{Shown, shown_as, shown_none, shown_own, shown_label, shown_both, shown_swap, shown_after, shown_before, led_then}
-use Rattle.hir_one_result.proofs.Steps.{Rel, Holds, Outcome, Correct, Seq, Moves, InSome, Allocated, Targeted, Pointed, Inside, correct_bind, correct_as, correct_pure, correct_some, correct_point, correct_report, correct_enter_block, correct_alloc, correct_target, correct_inside}
+use Rattle.hir_one_result.proofs.Steps.{Rel, Holds, Outcome, Correct, Moves, Allocated, correct_bind, correct_as, correct_pure, correct_some, correct_point, correct_report, correct_enter_block, correct_alloc, correct_target, correct_inside}
 
 abbrev Of : Type 0 → Type 1
 Of A = Stored → List LabelRib → A → Ways
@@ -152,7 +151,7 @@ mutual
   pub block_stands : (b : Block) → Correct (lower_block b) (Shows (λ final ribs i. StandsBlock final ribs b i))
   block_stands (tree.block at label number ss e) =
       labelled_stands label {S = λ final inner n i ws. (statements : List Statement) × (tail : Option ExprId) × Node final i (settled_block n number (settled statements tail)) (Some at)
-          × (StandsStmts final inner ss statements & StandsKept final inner e tail & From at i) ws}
+      × (StandsStmts final inner ss statements & StandsKept final inner e tail & From at i) ws}
       (λ n. block_form_stands at n number (correct_as (stmts_stands [] ss) (λ final ribs s s' is x. behind_none (StandsStmts final ribs ss) x)) (kept_part_stands e))
 
   pub block_part_stands : (b : OptionBlock) → Correct (lower_block_part b) (Shows (λ final ribs i. StandsBlockPart final ribs b i))

@@ -1,6 +1,6 @@
 -- The faults of what lowering reads of a tree, in written order: one for each disabled node that is asked about, and one for each named jump
 -- in no label of its name and hygiene. What is in a disabled node isn't read.
-use Rattle.std.specs.Prelude.{Bool, ◌&&◌, ◌||◌, true, false, if◌then◌else◌, nat_eq, List, [], ◌∷◌, ◌++◌, Option, Some, None}
+use Rattle.std.specs.Prelude.{Bool, ◌&&◌, ◌||◌, false, if◌then◌else◌, nat_eq, List, [], ◌∷◌, ◌++◌, Option, Some, None}
 use Rattle.hir_store.specs.Names.{same_name}
 use Rattle.hir_store.specs.declared.name.Name.{Name}
 use Rattle.hir_store.specs.declared.ids.HygieneId.{HygieneId}

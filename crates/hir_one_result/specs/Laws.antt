@@ -1,13 +1,13 @@
 -- What lowering a tree does to what is stored.
-use Rattle.std.specs.Prelude.{◌≡◌, ℕ, ◌+◌, ◌≤◌, ◌<◌, List, ◌++◌, length, Ok, Err, IsPermutation}
-use Rattle.hir_store.specs.Stored.{Store, SourceMap, Stored}
+use Rattle.std.specs.Prelude.{◌≡◌, ◌+◌, List, ◌++◌, length, Ok, Err, IsPermutation}
+use Rattle.hir_store.specs.Stored.{Stored}
 use Rattle.hir_store.specs.declared.ids.ExprId.{ExprId}
 use Rattle.hir_store.specs.declared.fault.StoreFault.TheVariants.{Full}
 use Rattle.hir_env.specs.Answered.{OptionExpr}
 use Rattle.hir_lower_form.specs.Builder.{Builder}
 use Rattle.hir_lower_form.specs.Lower.{lower_part}
 use Rattle.hir_one_result.specs.Sizes.{exprs_of_part, labels_of_part, Fits}
-use Rattle.hir_one_result.specs.Growth.{Grown, AsMany, Extends}
+use Rattle.hir_one_result.specs.Growth.{AsMany, Extends}
 use Rattle.hir_one_result.specs.Leads.{Way, Led}
 use Rattle.hir_one_result.specs.Stands.{StandsPart}
 use Rattle.hir_one_result.specs.Diagnostics.{Faults, around, part_diagnostics}

@@ -16,7 +16,7 @@ use Rattle.hir_lower_scope.specs.Labels.{target}
 use Rattle.hir_env.specs.Answered as tree
 use Rattle.hir_env.specs.Answered.{Label, Jump, Expr, OptionExpr, Exprs, Block, OptionBlock, Stmts, Stmt}
 use Rattle.hir_lower_form.specs.Lower.{stored_path, stored_literal, settled, settled_block}
-use Rattle.hir_one_result.specs.Leads.{Way, Ways, No, From, FromLabel, ◌&◌}
+use Rattle.hir_one_result.specs.Leads.{Ways, No, From, FromLabel, ◌&◌}
 
 -- the expression of this number, and the node that it came from
 pub record Node (final : Stored) (i : ExprId) (e : HirExpr) (from : Option Pointer) : Type 0 where
