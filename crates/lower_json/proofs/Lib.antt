@@ -1,9 +1,8 @@
 pub mod Pairs
-pub mod Lists
-pub mod Builds
-pub mod Outs
-pub mod Indexing
-pub mod Planting
 pub mod Tuples
 pub mod Counting
-pub mod Rooting
+pub mod Levels
+pub mod Marking
+pub mod Used
+pub mod Digits
+pub mod Saying

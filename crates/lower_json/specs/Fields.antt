@@ -1,12 +1,13 @@
 -- What the fields of a node hold.
-use Rattle.std.specs.Prelude.{◌≡◌, ℕ, ◌^◌, ◌+◌, ◌-◌, ◌<◌, min, codes, List, [], ◌∷◌, Bool, false, Option, Some, None, nat_lt, option_and_then, unwrap_or, if◌then◌else◌}
-use Rattle.serde_json.specs.Data.{Data, null, string, Items, no_items, item}
-use Rattle.serde_json.specs.Find.{as_u64, as_number, as_bool, as_array, get, get_item}
+use Rattle.std.specs.Prelude.{ℕ, ◌^◌, ◌+◌, ◌-◌, min, List, Bool, true, false, Option, Some, None, is_none, nat_lt, option_and_then, option_map, if◌then◌else◌}
+use Rattle.serde_json.specs.Data.{Data, Items, no_items, item}
+use Rattle.serde_json.specs.Find.{as_u64, as_number, as_bool, as_str, as_array, get}
 use Rattle.hir_syntax.specs.declared.node.TextRange.{TextRange}
 
--- the i-th node, which is no object past the end
-abbrev pub data_at : Items → ℕ → Data
-data_at ns i = unwrap_or (get_item i ns) null
+-- something, where the test holds
+abbrev pub provided : Bool → Option (Unit {0})
+provided true = Some tt
+provided false = None
 
 -- a number of 32 bits
 abbrev pub small : Option ℕ → Option ℕ
@@ -38,3 +39,20 @@ range_of id (Some d) = range_in (as_array d)
 abbrev pub flag_of : Option Data → Option Bool
 flag_of None = Some false
 flag_of (Some d) = as_bool d
+
+-- the text in a field
+abbrev pub text_in : List ℕ → Data → Option (List ℕ)
+text_in name d = option_and_then as_str (get name d)
+
+-- a text, if it is there
+abbrev pub optional_text_of : Option Data → Option (Option (List ℕ))
+optional_text_of None = Some None
+optional_text_of (Some d) = option_map Some (as_str d)
+
+-- the text in a field, if the field is there
+abbrev pub optional_text_in : List ℕ → Data → Option (Option (List ℕ))
+optional_text_in name d = optional_text_of (get name d)
+
+-- something, where the field is absent
+abbrev pub lacks_in : List ℕ → Data → Option (Unit {0})
+lacks_in name d = provided (is_none (get name d))

@@ -1,9 +1,14 @@
+pub mod Words
 pub mod Kinds
 pub mod Fields
 pub mod Literals
+pub mod Told
+pub mod Groups
 pub mod Parts
-pub mod Standing
-pub mod Forests
+pub mod Reading
+pub mod Reads
+pub mod Uses
+pub mod Marks
 pub mod Nodes
 pub mod Tables
 pub mod Documents

@@ -1,47 +1,97 @@
 -- What stands in the fields for parts.
-use Rattle.std.specs.Prelude.{◌≡◌, ℕ, ◌<◌, List, [], ◌∷◌, Option, Some, None, MatchOption, ⊤}
-use Rattle.serde_json.specs.Data.{Data, null, Items, no_items, item}
-use Rattle.serde_json.specs.Find.{as_array, as_str}
+use Rattle.std.specs.Prelude.{ℕ, List, [], ◌∷◌, Option, Some, None, nat_lt, if◌then◌else◌}
+use Rattle.serde_json.specs.Data.{Data, null, boolean, number, string, array, object, Items, no_items, item}
+use Rattle.serde_json.specs.Find.{as_array, as_str, get}
+use Rattle.hir_syntax.specs.declared.ast.Lifetime.{Lifetime}
+use Rattle.hir_syntax.specs.declared.ast.Name.{Name}
+use Rattle.hir_syntax.specs.declared.node.NodeId.{NodeId}
+use Rattle.hir_syntax.specs.declared.node.TextRange.{TextRange}
 use Rattle.lower_json.specs.Fields.{small_of}
+use Rattle.lower_json.specs.Groups.{as_lifetime, as_name}
+use Rattle.lower_json.specs.Told.{◌>>=◌}
+use Rattle.lower_json.specs.declared.part.AnyPart.{AnyPart}
 
--- the index of a later node, at which x stands
-pub record Child (at : ℕ) {T : Type 0} (P : ℕ → T → Type 0) (d : Data) (x : T) : Type 0 where
-  pub place : ℕ
-  pub named : small_of d ≡ Some place
-  pub later : at < place
-  pub stands : P place x
+-- a node, with what stands at each node
+pub record Here : Type 0 where
+  pub part : ℕ → Option AnyPart
+  pub at : ℕ
+  pub value : Data
+  pub id : NodeId
+  pub range : TextRange
 
--- null, or such an index
-abbrev pub ChildOrNull : ℕ → {T : Type 0} → (ℕ → T → Type 0) → Data → Option T → Type 0
-ChildOrNull at P d None = d ≡ null
-ChildOrNull at P d (Some x) = Child at P d x
+-- a number, where it is above another
+abbrev pub above : ℕ → ℕ → Option ℕ
+above at k = if nat_lt at k then Some k else None
 
--- a text, or such an index
-abbrev pub ChildOrText : ℕ → {T : Type 0} → (List ℕ → T) → (ℕ → T → Type 0) → Data → T → Type 0
-ChildOrText at made P d x = MatchOption (as_str d) (Child at P d x) (λ s. x ≡ made s)
+-- what may be absent
+abbrev pub optional : {T : Type 0} → (Data → Option T) → Option Data → Option (Option T)
+optional f None = Some None
+optional f (Some d) = do
+  x ← f d
+  Some (Some x)
 
--- something that is absent where its field is, and else as Q says
-abbrev pub Optional : {T : Type 0} → (Data → T → Type 0) → Option Data → Option T → Type 0
-Optional Q None None = ⊤
-Optional Q None (Some x) = ⊥
-Optional Q (Some d) None = ⊥
-Optional Q (Some d) (Some x) = Q d x
+-- what may be null
+abbrev pub or_null : {T : Type 0} → (Data → Option T) → Data → Option (Option T)
+or_null f null = Some None
+or_null f (boolean b) = optional f (Some (boolean b))
+or_null f (number n) = optional f (Some (number n))
+or_null f (string s) = optional f (Some (string s))
+or_null f (array ds) = optional f (Some (array ds))
+or_null f (object ms) = optional f (Some (object ms))
 
-abbrev pub Each : {T : Type 0} → (Data → T → Type 0) → Items → List T → Type 0
-Each Q no_items [] = ⊤
-Each Q no_items (x ∷ xs) = ⊥
-Each Q (item d ds) [] = ⊥
-Each Q (item d ds) (x ∷ xs) = Q d x × Each Q ds xs
+-- what a text makes, or else the other
+abbrev pub text_or : {T : Type 0} → (List ℕ → T) → Option T → Option (List ℕ) → Option T
+text_or made other None = other
+text_or made other (Some t) = Some (made t)
 
-abbrev pub EachOf : {T : Type 0} → (Data → T → Type 0) → Option Items → List T → Type 0
-EachOf Q None xs = ⊥
-EachOf Q (Some ds) xs = Each Q ds xs
+abbrev pub each : {T : Type 0} → (Data → Option T) → Items → Option (List T)
+each f no_items = Some []
+each f (item d ds) = do
+  x ← f d
+  xs ← each f ds
+  Some (x ∷ xs)
 
 -- the items of an array
-abbrev pub IsArray : {T : Type 0} → (Data → T → Type 0) → Data → List T → Type 0
-IsArray Q d xs = EachOf Q (as_array d) xs
+abbrev pub items_as : {T : Type 0} → (Data → Option T) → Data → Option (List T)
+items_as f d = do
+  ds ← as_array d
+  each f ds
 
 -- a list, which is empty where it is absent
-abbrev pub IsList : {T : Type 0} → (Data → T → Type 0) → Option Data → List T → Type 0
-IsList Q None xs = xs ≡ []
-IsList Q (Some d) xs = IsArray Q d xs
+abbrev pub list : {T : Type 0} → (Data → Option T) → Option Data → Option (List T)
+list f None = Some []
+list f (Some d) = items_as f d
+
+module _ (h : Here) where
+  -- the part at a later node, by its index
+  abbrev pub child : {T : Type 0} → (AnyPart → Option T) → Data → Option T
+  child as_group d = do
+    k ← small_of d
+    k ← above h.at k
+    x ← h.part k
+    as_group x
+
+  abbrev pub part_in : {T : Type 0} → (AnyPart → Option T) → List ℕ → Option (Option T)
+  part_in as_group name = optional (child as_group) (get name h.value)
+
+  abbrev pub list_in : {T : Type 0} → (AnyPart → Option T) → List ℕ → Option (List T)
+  list_in as_group name = list (child as_group) (get name h.value)
+
+  abbrev pub list_if_there : {T : Type 0} → (AnyPart → Option T) → List ℕ → Option (Option (List T))
+  list_if_there as_group name = optional (items_as (child as_group)) (get name h.value)
+
+  abbrev pub list_with_nulls_in : {T : Type 0} → (AnyPart → Option T) → List ℕ → Option (List (Option T))
+  list_with_nulls_in as_group name = list (or_null (child as_group)) (get name h.value)
+
+  -- a text in place of a node has the number and the range of the node that holds it
+  abbrev pub lifetime : Data → Option Lifetime
+  lifetime d = text_or (λ t. record { id = h.id; range = h.range; t = t }) (child as_lifetime d) (as_str d)
+
+  abbrev pub name : Data → Option Name
+  name d = text_or (λ t. record { id = h.id; range = h.range; t = t }) (child as_name d) (as_str d)
+
+  abbrev pub lifetime_in : List ℕ → Option (Option Lifetime)
+  lifetime_in field = optional lifetime (get field h.value)
+
+  abbrev pub name_in : List ℕ → Option (Option Name)
+  name_in field = optional name (get field h.value)

@@ -1,14 +1,16 @@
 -- The tables of a document.
-use Rattle.std.specs.Prelude.{◌≡◌, ℕ, codes, List, [], ◌∷◌, Bool, Option, Some, None, IsSome, option_map, option_and_then}
-use Rattle.serde_json.specs.Data.{Data, string, Items, no_items, item}
+use Rattle.std.specs.Prelude.{ℕ, codes, List, [], false, Option, Some, None, option_map, option_and_then}
+use Rattle.serde_json.specs.Data.{Data, Items, no_items, item}
 use Rattle.serde_json.specs.Find.{get, as_array, as_object}
 use Rattle.hir_env.specs.NodeMap.{Site, with_first}
-use Rattle.hir_env.specs.Tables.{Tables}
+use Rattle.hir_env.specs.Tables.{Tables, empty}
 use Rattle.hir_store.specs.declared.ids.CfgId.{CfgId}
 use Rattle.hir_store.specs.declared.ids.HygieneId.{HygieneId}
 use Rattle.hir_store.specs.declared.ids.BlockId.{BlockId}
 use Rattle.hir_store.specs.declared.ids.ModuleId.{ModuleId}
-use Rattle.lower_json.specs.Fields.{small_of, flag_of}
+use Rattle.hir_store.specs.declared.ids.ItemContainerId.{ItemContainerId}
+use Rattle.lower_json.specs.Fields.{small_of}
+use Rattle.lower_json.specs.Told.{◌>>=◌}
 
 -- the node of a number in a file
 abbrev pub site_of : Option ℕ → Option ℕ → Option Site
@@ -56,17 +58,12 @@ rows (Some d) = as_array d
 abbrev pub table : {T : Type 0} → (Option Items → Option (Site × T)) → Option Data → Option (List (Site × T))
 table entry d = option_and_then (λ ds. with_all entry ds []) (rows d)
 
--- an object, or nothing
-abbrev pub IsObject : Option Data → Type 0
-IsObject None = Unit {0}
-IsObject (Some d) = IsSome (as_object d)
-
-abbrev pub member_of : List ℕ → Option Data → Option Data
-member_of name env = option_and_then (get name) env
-
--- the tables of the environment that a document writes
-pub record AreTables (env : Option Data) (t : Tables) : Type 0 where
-  pub object : IsObject env
-  pub disabled : table disabled_of (member_of (codes "disabled") env) ≡ Some t.disabled
-  pub hygiene : table named_of (member_of (codes "hygiene") env) ≡ Some t.hygiene
-  pub blocks : table numbered_of (member_of (codes "blocks") env) ≡ Some t.blocks
+-- the tables that an environment writes, of a body that is not skipped and stands in the container; empty ones where there is none
+abbrev pub tables_of : ItemContainerId → Option Data → Option Tables
+tables_of container None = Some (empty container)
+tables_of container (Some env) = do
+  _ ← as_object env
+  disabled ← table disabled_of (get (codes "disabled") env)
+  hygiene ← table named_of (get (codes "hygiene") env)
+  blocks ← table numbered_of (get (codes "blocks") env)
+  Some (record { disabled = disabled; hygiene = hygiene; blocks = blocks; skip = false; container = container })

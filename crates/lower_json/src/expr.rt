@@ -1,24 +1,24 @@
 //! Expressions.
 
-ghost use Rattle.std.specs.Prelude.{◌≡◌, OnOk, IfOk};
-ghost use Rattle.lower_json.specs.Nodes.{Ready, Stands, IsWord};
+ghost use Rattle.lower_json.specs.Told.{Told};
+ghost use Rattle.lower_json.specs.Nodes.{here};
+ghost use Rattle.lower_json.specs.Reading as spec;
 
-use crate::forest::{AnyPart, Forest};
-use crate::kind::Kind;
-use crate::node::Node;
+use crate::field::lacks;
+use crate::literal::literal;
+use crate::node::{Node, Parts};
+use crate::part::AnyPart;
 use crate::refusal::Refusal;
 use hir_syntax::ast::{BlockExpr, ElseBranch, Expr, ExprKind, Label, Path, Stmt};
 
-impl Node<'_> {
-    pub fn if_expr(&self, forest: &mut Forest) -> Result<AnyPart, Refusal>
-        requires ready { Ready self.now forest.old }
-        requires word { IsWord self.now Kind.IfExpr }
-        ensures ready { OnOk result (Ready self.now forest.new) }
-        ensures stands { IfOk result (λ x. Stands self.now forest.new x) }
+impl<P: Parts> Node<'_, P> {
+    pub fn if_expr(&self) -> Result<AnyPart, Refusal>
+        requires { P.can self.now.parts.now }
+        ensures { Told (spec.if_expr (here P.parts self.now)) result }
     {
-        let condition = self.boxed::<Expr>(forest, "condition")?;
-        let then = self.boxed::<BlockExpr>(forest, "then")?;
-        let else_ = self.part::<ElseBranch>(forest, "else")?;
+        let condition = self.boxed::<Expr>("condition")?;
+        let then = self.boxed::<BlockExpr>("then")?;
+        let else_ = self.part::<ElseBranch>("else")?;
         Ok(AnyPart::Expr(Expr {
             id: self.id,
             range: self.range,
@@ -30,14 +30,12 @@ impl Node<'_> {
         }))
     }
 
-    pub fn loop_expr(&self, forest: &mut Forest) -> Result<AnyPart, Refusal>
-        requires ready { Ready self.now forest.old }
-        requires word { IsWord self.now Kind.LoopExpr }
-        ensures ready { OnOk result (Ready self.now forest.new) }
-        ensures stands { IfOk result (λ x. Stands self.now forest.new x) }
+    pub fn loop_expr(&self) -> Result<AnyPart, Refusal>
+        requires { P.can self.now.parts.now }
+        ensures { Told (spec.loop_expr (here P.parts self.now)) result }
     {
-        let label = self.part::<Label>(forest, "label")?;
-        let body = self.boxed::<BlockExpr>(forest, "body")?;
+        let label = self.part::<Label>("label")?;
+        let body = self.boxed::<BlockExpr>("body")?;
         Ok(AnyPart::Expr(Expr {
             id: self.id,
             range: self.range,
@@ -45,14 +43,12 @@ impl Node<'_> {
         }))
     }
 
-    pub fn call_expr(&self, forest: &mut Forest) -> Result<AnyPart, Refusal>
-        requires ready { Ready self.now forest.old }
-        requires word { IsWord self.now Kind.CallExpr }
-        ensures ready { OnOk result (Ready self.now forest.new) }
-        ensures stands { IfOk result (λ x. Stands self.now forest.new x) }
+    pub fn call_expr(&self) -> Result<AnyPart, Refusal>
+        requires { P.can self.now.parts.now }
+        ensures { Told (spec.call_expr (here P.parts self.now)) result }
     {
-        let expr = self.boxed::<Expr>(forest, "expr")?;
-        let args = self.listed::<Expr>(forest, "args")?;
+        let expr = self.boxed::<Expr>("expr")?;
+        let args = self.list_if_there::<Expr>("args")?;
         Ok(AnyPart::Expr(Expr {
             id: self.id,
             range: self.range,
@@ -60,13 +56,11 @@ impl Node<'_> {
         }))
     }
 
-    pub fn path_expr(&self, forest: &mut Forest) -> Result<AnyPart, Refusal>
-        requires ready { Ready self.now forest.old }
-        requires word { IsWord self.now Kind.PathExpr }
-        ensures ready { OnOk result (Ready self.now forest.new) }
-        ensures stands { IfOk result (λ x. Stands self.now forest.new x) }
+    pub fn path_expr(&self) -> Result<AnyPart, Refusal>
+        requires { P.can self.now.parts.now }
+        ensures { Told (spec.path_expr (here P.parts self.now)) result }
     {
-        let path = self.part::<Path>(forest, "path")?;
+        let path = self.part::<Path>("path")?;
         Ok(AnyPart::Expr(Expr {
             id: self.id,
             range: self.range,
@@ -74,13 +68,11 @@ impl Node<'_> {
         }))
     }
 
-    pub fn continue_expr(&self, forest: &mut Forest) -> Result<AnyPart, Refusal>
-        requires ready { Ready self.now forest.old }
-        requires word { IsWord self.now Kind.ContinueExpr }
-        ensures ready { OnOk result (Ready self.now forest.new) }
-        ensures stands { IfOk result (λ x. Stands self.now forest.new x) }
+    pub fn continue_expr(&self) -> Result<AnyPart, Refusal>
+        requires { P.can self.now.parts.now }
+        ensures { Told (spec.continue_expr (here P.parts self.now)) result }
     {
-        let lifetime = self.lifetime(forest, "lifetime")?;
+        let lifetime = self.lifetime("lifetime")?;
         Ok(AnyPart::Expr(Expr {
             id: self.id,
             range: self.range,
@@ -88,14 +80,12 @@ impl Node<'_> {
         }))
     }
 
-    pub fn break_expr(&self, forest: &mut Forest) -> Result<AnyPart, Refusal>
-        requires ready { Ready self.now forest.old }
-        requires word { IsWord self.now Kind.BreakExpr }
-        ensures ready { OnOk result (Ready self.now forest.new) }
-        ensures stands { IfOk result (λ x. Stands self.now forest.new x) }
+    pub fn break_expr(&self) -> Result<AnyPart, Refusal>
+        requires { P.can self.now.parts.now }
+        ensures { Told (spec.break_expr (here P.parts self.now)) result }
     {
-        let lifetime = self.lifetime(forest, "lifetime")?;
-        let expr = self.boxed::<Expr>(forest, "expr")?;
+        let lifetime = self.lifetime("lifetime")?;
+        let expr = self.boxed::<Expr>("expr")?;
         Ok(AnyPart::Expr(Expr {
             id: self.id,
             range: self.range,
@@ -103,13 +93,11 @@ impl Node<'_> {
         }))
     }
 
-    pub fn paren_expr(&self, forest: &mut Forest) -> Result<AnyPart, Refusal>
-        requires ready { Ready self.now forest.old }
-        requires word { IsWord self.now Kind.ParenExpr }
-        ensures ready { OnOk result (Ready self.now forest.new) }
-        ensures stands { IfOk result (λ x. Stands self.now forest.new x) }
+    pub fn paren_expr(&self) -> Result<AnyPart, Refusal>
+        requires { P.can self.now.parts.now }
+        ensures { Told (spec.paren_expr (here P.parts self.now)) result }
     {
-        let expr = self.boxed::<Expr>(forest, "expr")?;
+        let expr = self.boxed::<Expr>("expr")?;
         Ok(AnyPart::Expr(Expr {
             id: self.id,
             range: self.range,
@@ -117,13 +105,11 @@ impl Node<'_> {
         }))
     }
 
-    pub fn literal_expr(&self, forest: &mut Forest) -> Result<AnyPart, Refusal>
-        requires ready { Ready self.now forest.old }
-        requires word { IsWord self.now Kind.Literal }
-        ensures ready { OnOk result (Ready self.now forest.new) }
-        ensures stands { IfOk result (λ x. Stands self.now forest.new x) }
+    pub fn literal_expr(&self) -> Result<AnyPart, Refusal>
+        requires { P.can self.now.parts.now }
+        ensures { Told (spec.literal_expr (here P.parts self.now)) result }
     {
-        let literal = self.literal(forest.alloc)?;
+        let literal = literal(self.alloc, self.value)?;
         Ok(AnyPart::Expr(Expr {
             id: self.id,
             range: self.range,
@@ -131,18 +117,16 @@ impl Node<'_> {
         }))
     }
 
-    pub fn block_expr(&self, forest: &mut Forest) -> Result<AnyPart, Refusal>
-        requires ready { Ready self.now forest.old }
-        requires word { IsWord self.now Kind.BlockExpr }
-        ensures ready { OnOk result (Ready self.now forest.new) }
-        ensures stands { IfOk result (λ x. Stands self.now forest.new x) }
+    pub fn block_expr(&self) -> Result<AnyPart, Refusal>
+        requires { P.can self.now.parts.now }
+        ensures { Told (spec.block_expr (here P.parts self.now)) result }
     {
-        self.lacks("mod")?;
-        self.lacks("move")?;
-        self.lacks("ty")?;
-        let label = self.part::<Label>(forest, "label")?;
-        let stmts = self.list::<Stmt>(forest, "stmts")?;
-        let tail = self.boxed::<Expr>(forest, "tail")?;
+        lacks(self.value, "mod")?;
+        lacks(self.value, "move")?;
+        lacks(self.value, "ty")?;
+        let label = self.part::<Label>("label")?;
+        let stmts = self.list::<Stmt>("stmts")?;
+        let tail = self.boxed::<Expr>("tail")?;
         Ok(AnyPart::Block(BlockExpr {
             id: self.id,
             range: self.range,

@@ -1,7 +1,11 @@
 //! The kinds of nodes, by their words.
 
-ghost use Rattle.std.specs.Prelude.{◌≡◌, IfSome};
-ghost use Rattle.lower_json.specs.Kinds.{word_of};
+ghost use Rattle.std.specs.Prelude.{◌≡◌};
+ghost use Rattle.serde_json.specs.View.{view};
+ghost use Rattle.lower_json.specs.Kinds.{kind_of, kind_in};
+
+use crate::field::word;
+use serde_json::Value;
 
 /// A kind of nodes that a document may use.
 #[derive(Clone, Copy, Debug, PartialEq, Eq)]
@@ -26,59 +30,36 @@ pub enum Kind {
 }
 
 impl Kind {
-    fn word(self) -> &'static str
-        ensures { result.now ≡ word_of self }
-    {
-        match self {
-            Kind::Fn => "Fn",
-            Kind::IfExpr => "IfExpr",
-            Kind::BlockExpr => "BlockExpr",
-            Kind::LoopExpr => "LoopExpr",
-            Kind::CallExpr => "CallExpr",
-            Kind::PathExpr => "PathExpr",
-            Kind::ContinueExpr => "ContinueExpr",
-            Kind::BreakExpr => "BreakExpr",
-            Kind::ParenExpr => "ParenExpr",
-            Kind::Literal => "Literal",
-            Kind::ExprStmt => "ExprStmt",
-            Kind::Item => "Item",
-            Kind::Path => "Path",
-            Kind::PathSegment => "PathSegment",
-            Kind::Label => "Label",
-            Kind::Lifetime => "Lifetime",
-            Kind::Name => "Name",
-        }
-    }
-
     /// The kind with that word.
     pub fn from_word(word: &str) -> Option<Kind>
-        ensures { IfSome result (λ k. word.now ≡ word_of k) }
+        ensures { result ≡ kind_of word.now }
     {
-        for kind in KINDS {
-            if word == kind.word() {
-                return Some(kind);
-            }
+        match word {
+            "Fn" => Some(Kind::Fn),
+            "IfExpr" => Some(Kind::IfExpr),
+            "BlockExpr" => Some(Kind::BlockExpr),
+            "LoopExpr" => Some(Kind::LoopExpr),
+            "CallExpr" => Some(Kind::CallExpr),
+            "PathExpr" => Some(Kind::PathExpr),
+            "ContinueExpr" => Some(Kind::ContinueExpr),
+            "BreakExpr" => Some(Kind::BreakExpr),
+            "ParenExpr" => Some(Kind::ParenExpr),
+            "Literal" => Some(Kind::Literal),
+            "ExprStmt" => Some(Kind::ExprStmt),
+            "Item" => Some(Kind::Item),
+            "Path" => Some(Kind::Path),
+            "PathSegment" => Some(Kind::PathSegment),
+            "Label" => Some(Kind::Label),
+            "Lifetime" => Some(Kind::Lifetime),
+            "Name" => Some(Kind::Name),
+            _ => None,
         }
-        None
     }
 }
 
-const KINDS: [Kind; 17] = [
-    Kind::BlockExpr,
-    Kind::ExprStmt,
-    Kind::PathExpr,
-    Kind::Path,
-    Kind::PathSegment,
-    Kind::CallExpr,
-    Kind::Literal,
-    Kind::IfExpr,
-    Kind::LoopExpr,
-    Kind::ContinueExpr,
-    Kind::BreakExpr,
-    Kind::ParenExpr,
-    Kind::Item,
-    Kind::Label,
-    Kind::Lifetime,
-    Kind::Name,
-    Kind::Fn,
-];
+/// The kind of a node, by its field "k"; none where that is not the word of a kind.
+pub fn kind_in(node: &Value) -> Option<Kind>
+    ensures { result ≡ kind_in (view node.now) }
+{
+    Kind::from_word(word(node, "k")?)
+}

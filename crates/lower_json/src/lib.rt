@@ -6,8 +6,6 @@ mod expr;
 pub mod fault;
 mod field;
 mod floats;
-mod forest;
-mod grow;
 mod kind;
 mod literal;
 mod node;
@@ -18,3 +16,5 @@ mod refusal;
 mod tables;
 #[cfg(test)]
 mod tests;
+mod tree;
+mod uses;

@@ -1,57 +1,38 @@
 //! Literals.
 
-ghost use Rattle.std.specs.Prelude.{◌≡◌, ◌+◌, ◌-◌, ◌*◌, IfOk, IfSome, IsTrue, Some, codes};
-ghost use Rattle.serde_json.specs.Data.{string};
-ghost use Rattle.serde_json.specs.Find.{get};
-ghost use Rattle.lower_json.specs.Kinds.{literal_word};
-ghost use Rattle.lower_json.specs.Literals.{IsDigit, IsInteger, IsText};
-ghost use Rattle.lower_json.specs.Nodes.{data_of};
-ghost use Rattle.lower_json.specs.Standing.{IsLiteral};
+ghost use Rattle.std.specs.Prelude.{◌≡◌, ◌+◌, ◌-◌, ◌*◌, ◌^◌, ◌<◌, IsTrue, SomeIff, codes, option_and_then};
+ghost use Rattle.std.specs.Char.{is_ascii_digit};
+ghost use Rattle.serde_json.specs.View.{view};
+ghost use Rattle.lower_json.specs.Fields.{text_in};
+ghost use Rattle.lower_json.specs.Kinds.{literal_kind_of};
+ghost use Rattle.lower_json.specs.Literals.{is_integer, fits, literal_of};
+ghost use Rattle.lower_json.specs.Told.{Told};
 
-use crate::node::Node;
+use crate::field;
 use crate::refusal::Refusal;
 use hir_syntax::ast::{Literal, LiteralKind};
+use serde_json::Value;
 use std::alloc::Global;
-
-fn word_of(kind: LiteralKind) -> &'static str
-    ensures { result.now ≡ literal_word kind }
-{
-    match kind {
-        LiteralKind::Str => "str",
-        LiteralKind::ByteStr => "bytestr",
-        LiteralKind::CStr => "cstr",
-        LiteralKind::Char => "char",
-        LiteralKind::Bool => "bool",
-        LiteralKind::Int => "int",
-        LiteralKind::Float => "float",
-    }
-}
-
-const KINDS: [LiteralKind; 7] = [
-    LiteralKind::Str,
-    LiteralKind::ByteStr,
-    LiteralKind::CStr,
-    LiteralKind::Char,
-    LiteralKind::Bool,
-    LiteralKind::Int,
-    LiteralKind::Float,
-];
 
 /// The kind with that word.
 fn kind_of(word: &str) -> Option<LiteralKind>
-    ensures { IfSome result (λ k. word.now ≡ literal_word k) }
+    ensures { result ≡ literal_kind_of word.now }
 {
-    for kind in KINDS {
-        if word == word_of(kind) {
-            return Some(kind);
-        }
+    match word {
+        "str" => Some(LiteralKind::Str),
+        "bytestr" => Some(LiteralKind::ByteStr),
+        "cstr" => Some(LiteralKind::CStr),
+        "char" => Some(LiteralKind::Char),
+        "bool" => Some(LiteralKind::Bool),
+        "int" => Some(LiteralKind::Int),
+        "float" => Some(LiteralKind::Float),
+        _ => None,
     }
-    None
 }
 
 /// The number with one more digit, where it fits.
 fn with_digit(number: u128, byte: u8) -> Option<u128>
-    ensures { IfSome result (λ n. IsDigit byte × (n ≡ number * 10 + (byte - 48))) }
+    ensures { SomeIff result (IsTrue (is_ascii_digit byte) × (number * 10 + (byte - 48) < 2 ^ 128)) (number * 10 + (byte - 48)) }
 {
     if !byte.is_ascii_digit() {
         return None;
@@ -61,7 +42,7 @@ fn with_digit(number: u128, byte: u8) -> Option<u128>
 
 /// Whether the text is an integer of 128 bits in digits alone.
 fn is_integer(text: &[u8]) -> bool
-    ensures { IsTrue result → IsInteger text.now }
+    ensures { result ≡ is_integer text.now }
 {
     if text.is_empty() {
         return false;
@@ -80,7 +61,7 @@ fn is_integer(text: &[u8]) -> bool
 
 /// Whether the text fits the kind.
 fn fits(kind: LiteralKind, text: &str) -> bool
-    ensures { IsTrue result → IsText kind text.now }
+    ensures { result ≡ fits kind text.now }
 {
     match kind {
         LiteralKind::Int => is_integer(text.as_bytes()),
@@ -89,32 +70,24 @@ fn fits(kind: LiteralKind, text: &str) -> bool
     }
 }
 
-impl Node<'_> {
-    fn literal_kind(&self) -> Result<LiteralKind, Refusal>
-        ensures { IfOk result (λ k. get (codes "lit") (data_of self.now) ≡ Some (string (literal_word k))) }
-    {
-        let Some(word) = self.value.get("lit") else {
-            return Err(Refusal::NotADocument);
-        };
-        let Some(word) = word.as_str() else {
-            return Err(Refusal::NotADocument);
-        };
-        match kind_of(word) {
-            Some(kind) => Ok(kind),
-            None => Err(Refusal::NotADocument),
-        }
-    }
+fn literal_kind(node: &Value) -> Option<LiteralKind>
+    ensures { result ≡ option_and_then literal_kind_of (text_in (codes "lit") (view node.now)) }
+{
+    kind_of(field::word(node, "lit")?)
+}
 
-    /// The literal that stands at this node.
-    pub fn literal(&self, alloc: Global) -> Result<Literal, Refusal>
-        ensures { IfOk result (λ l. IsLiteral (data_of self.now) l) }
-    {
-        let lit = self.literal_kind()?;
-        let t = self.text(alloc, "t")?;
-        let suffix = self.optional_text(alloc, "suffix")?;
-        if !fits(lit, t.as_str()) {
-            return Err(Refusal::NotADocument);
-        }
-        Ok(Literal { lit, t, suffix })
+/// The literal that a node writes. `NotADocument` where a field is absent or of another type, or the text does not fit
+/// the kind; `Memory` where memory is refused.
+pub fn literal(alloc: Global, node: &Value) -> Result<Literal, Refusal>
+    ensures { Told (literal_of (view node.now)) result }
+{
+    let Some(lit) = literal_kind(node) else {
+        return Err(Refusal::NotADocument);
+    };
+    let t = field::text(alloc, node, "t")?;
+    let suffix = field::optional_text(alloc, node, "suffix")?;
+    if !fits(lit, t.as_str()) {
+        return Err(Refusal::NotADocument);
     }
+    Ok(Literal { lit, t, suffix })
 }

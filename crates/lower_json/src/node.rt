@@ -1,18 +1,15 @@
 //! A node and its fields.
 
-ghost use Rattle.std.specs.Prelude.{◌≡◌, ◌≤◌, ◌<◌, ℕ, IfOk, OnOk, IfSome, Some, None, codes, map};
+ghost use Rattle.std.specs.Prelude.{ℕ, Option};
 ghost use Rattle.serde_json.specs.View.{view, items_view};
-ghost use Rattle.serde_json.specs.Find.{get, as_str};
-ghost use Rattle.lower_json.specs.Parts.{Child, ChildOrNull, ChildOrText, Optional, Each, IsArray, IsList};
-ghost use Rattle.lower_json.specs.Nodes.{Ready, From, nodes_of, data_of};
-ghost use Rattle.lower_json.specs.Forests.{TreeStands};
-ghost use Rattle.lower_json.specs.Standing.{Lacks, IsString, LifetimeIn, NameIn, standing};
-ghost use Rattle.lower_json.specs.Fields.{flag_of};
-ghost use Rattle.serde_json.specs.Data.{string};
+ghost use Rattle.lower_json.specs.Told.{Told};
+ghost use Rattle.lower_json.specs.Parts as spec;
+ghost use Rattle.lower_json.specs.Parts.{each, items_as, or_null};
+ghost use Rattle.lower_json.specs.Nodes.{here};
+ghost use Rattle.lower_json.specs.declared.part.AnyPart.{AnyPart};
 
-use crate::field::{flag, small};
-use crate::forest::{Forest, Tree};
-use crate::part::Part;
+use crate::field::small;
+use crate::part::{AnyPart, Part};
 use crate::refusal::Refusal;
 use hir_syntax::ast::{Lifetime, Name};
 use hir_syntax::node::{NodeId, TextRange};
@@ -20,36 +17,35 @@ use hir_syntax::{Boxed, Seq, Text};
 use serde_json::Value;
 use std::alloc::Global;
 
-/// A node of a list, with its index, number and range.
-#[derive(Clone, Copy)]
-pub struct Node<'a> {
-    pub nodes: &'a [Value],
+/// What reads the parts of a node.
+pub trait Parts {
+    /// It may be asked.
+    ghost can: { Self → Type 0 };
+    /// What stands at each node.
+    ghost parts: { Self → ℕ → Option AnyPart };
+
+    /// The part that stands at a node.
+    fn part_at(&self, alloc: Global, at: u32) -> Result<AnyPart, Refusal>
+        requires { can self.now }
+        ensures { Told (parts self.now at) result };
+}
+
+/// A node of a list, with its index, number and range, and what reads its parts.
+#[derive_where(Clone, Copy)]
+pub struct Node<'a, P> {
+    pub alloc: Global,
+    pub parts: &'a P,
     pub value: &'a Value,
     pub at: u32,
     pub id: NodeId,
     pub range: TextRange,
 }
 
-impl Node<'_> {
-    /// Takes the tree that stands at a later node.
-    pub fn take_tree(&self, forest: &mut Forest, place: u32) -> Option<Tree>
-        requires { Ready self.now forest.old }
-        ensures ready { Ready self.now forest.new }
-        ensures highest { forest.old.highest ≤ forest.new.highest }
-        ensures tree { IfSome result (λ t. TreeStands (nodes_of self.now) place t) }
-        ensures levels { IfSome result (λ t. t.levels ≤ forest.new.highest) }
-    {
-        let tree = forest.trees.get_mut(place as usize)?.take()?;
-        forest.highest = forest.highest.max(tree.levels);
-        Some(tree)
-    }
-
+impl<P: Parts> Node<'_, P> {
     /// The part that stands at the index in a value.
-    fn child<T: Part>(&self, forest: &mut Forest, value: &Value) -> Result<T, Refusal>
-        requires { Ready self.now forest.old }
-        ensures ready { OnOk result (Ready self.now forest.new) }
-        ensures highest { OnOk result (forest.old.highest ≤ forest.new.highest) }
-        ensures child { IfOk result (λ x. From forest.new.highest (λ m. Child self.now.at (T.stands m (nodes_of self.now)) (view value.now) x)) }
+    fn child<T: Part>(&self, value: &Value) -> Result<T, Refusal>
+        requires { P.can self.now.parts.now }
+        ensures { Told (spec.child (here P.parts self.now) T.as_group (view value.now)) result }
     {
         let Some(place) = small(value) else {
             return Err(Refusal::NotADocument);
@@ -57,253 +53,165 @@ impl Node<'_> {
         if place <= self.at {
             return Err(Refusal::NotADocument);
         }
-        let Some(tree) = self.take_tree(forest, place) else {
-            return Err(Refusal::NotADocument);
-        };
-        match T::from_part(forest.alloc, tree.part)? {
+        let part = self.parts.part_at(self.alloc, place)?;
+        match T::from_part(self.alloc, part)? {
             Some(part) => Ok(part),
             None => Err(Refusal::NotADocument),
         }
     }
 
     /// The part in a field, which may be absent.
-    pub fn part<T: Part>(&self, forest: &mut Forest, name: &str) -> Result<Option<T>, Refusal>
-        requires { Ready self.now forest.old }
-        ensures ready { OnOk result (Ready self.now forest.new) }
-        ensures highest { OnOk result (forest.old.highest ≤ forest.new.highest) }
-        ensures part { IfOk result (λ x. From forest.new.highest (λ m. Optional (Child self.now.at (T.stands m (nodes_of self.now))) (get name.now (data_of self.now)) x)) }
+    pub fn part<T: Part>(&self, field: &str) -> Result<Option<T>, Refusal>
+        requires { P.can self.now.parts.now }
+        ensures { Told (spec.part_in (here P.parts self.now) T.as_group field.now) result }
     {
-        match self.value.get(name) {
+        match self.value.get(field) {
             None => Ok(None),
-            Some(value) => Ok(Some(self.child(forest, value)?)),
+            Some(value) => Ok(Some(self.child(value)?)),
         }
     }
 
     /// The same in a box.
-    pub fn boxed<T: Part>(
-        &self,
-        forest: &mut Forest,
-        name: &str,
-    ) -> Result<Option<Boxed<T>>, Refusal>
-        requires { Ready self.now forest.old }
-        ensures ready { OnOk result (Ready self.now forest.new) }
-        ensures highest { OnOk result (forest.old.highest ≤ forest.new.highest) }
-        ensures part { IfOk result (λ x. From forest.new.highest (λ m. Optional (Child self.now.at (T.stands m (nodes_of self.now))) (get name.now (data_of self.now)) x)) }
+    pub fn boxed<T: Part>(&self, field: &str) -> Result<Option<Boxed<T>>, Refusal>
+        requires { P.can self.now.parts.now }
+        ensures { Told (spec.part_in (here P.parts self.now) T.as_group field.now) result }
     {
-        match self.part::<T>(forest, name)? {
+        match self.part::<T>(field)? {
             None => Ok(None),
-            Some(part) => Ok(Some(Boxed::new(forest.alloc, part)?)),
+            Some(part) => Ok(Some(Boxed::new(self.alloc, part)?)),
         }
     }
 
     /// The parts at the indices in values.
-    fn children<T: Part>(&self, forest: &mut Forest, items: &[Value]) -> Result<Seq<T>, Refusal>
-        requires { Ready self.now forest.old }
-        ensures ready { OnOk result (Ready self.now forest.new) }
-        ensures highest { OnOk result (forest.old.highest ≤ forest.new.highest) }
-        ensures parts { IfOk result (λ xs. From forest.new.highest (λ m. Each (Child self.now.at (T.stands m (nodes_of self.now))) (items_view items.now) xs)) }
+    fn children<T: Part>(&self, items: &[Value]) -> Result<Seq<T>, Refusal>
+        requires { P.can self.now.parts.now }
+        ensures { Told (each (spec.child (here P.parts self.now) T.as_group) (items_view items.now)) result }
     {
-        let mut parts = Seq::new(forest.alloc);
+        let mut parts = Seq::new(self.alloc);
         let mut rest = items;
         while let Some((value, more)) = rest.split_first() {
-            parts.push(self.child::<T>(forest, value)?)?;
+            parts.push(self.child::<T>(value)?)?;
             rest = more;
         }
         Ok(parts)
     }
 
-    fn array<T: Part>(&self, forest: &mut Forest, value: &Value) -> Result<Seq<T>, Refusal>
-        requires { Ready self.now forest.old }
-        ensures ready { OnOk result (Ready self.now forest.new) }
-        ensures highest { OnOk result (forest.old.highest ≤ forest.new.highest) }
-        ensures parts { IfOk result (λ xs. From forest.new.highest (λ m. IsArray (Child self.now.at (T.stands m (nodes_of self.now))) (view value.now) xs)) }
+    fn array<T: Part>(&self, value: &Value) -> Result<Seq<T>, Refusal>
+        requires { P.can self.now.parts.now }
+        ensures { Told (items_as (spec.child (here P.parts self.now) T.as_group) (view value.now)) result }
     {
         match value.as_array() {
             None => Err(Refusal::NotADocument),
-            Some(items) => self.children(forest, items.as_slice()),
+            Some(items) => self.children(items.as_slice()),
         }
     }
 
     /// The parts in a field, none where it is absent.
-    pub fn list<T: Part>(&self, forest: &mut Forest, name: &str) -> Result<Seq<T>, Refusal>
-        requires { Ready self.now forest.old }
-        ensures ready { OnOk result (Ready self.now forest.new) }
-        ensures highest { OnOk result (forest.old.highest ≤ forest.new.highest) }
-        ensures parts { IfOk result (λ xs. From forest.new.highest (λ m. IsList (Child self.now.at (T.stands m (nodes_of self.now))) (get name.now (data_of self.now)) xs)) }
+    pub fn list<T: Part>(&self, field: &str) -> Result<Seq<T>, Refusal>
+        requires { P.can self.now.parts.now }
+        ensures { Told (spec.list_in (here P.parts self.now) T.as_group field.now) result }
     {
-        match self.value.get(name) {
-            None => Ok(Seq::new(forest.alloc)),
-            Some(value) => self.array(forest, value),
+        match self.value.get(field) {
+            None => Ok(Seq::new(self.alloc)),
+            Some(value) => self.array(value),
         }
     }
 
     /// The parts in a field, which may be absent.
-    pub fn listed<T: Part>(
-        &self,
-        forest: &mut Forest,
-        name: &str,
-    ) -> Result<Option<Seq<T>>, Refusal>
-        requires { Ready self.now forest.old }
-        ensures ready { OnOk result (Ready self.now forest.new) }
-        ensures highest { OnOk result (forest.old.highest ≤ forest.new.highest) }
-        ensures parts { IfOk result (λ xs. From forest.new.highest (λ m. Optional (IsArray (Child self.now.at (T.stands m (nodes_of self.now)))) (get name.now (data_of self.now)) xs)) }
+    pub fn list_if_there<T: Part>(&self, field: &str) -> Result<Option<Seq<T>>, Refusal>
+        requires { P.can self.now.parts.now }
+        ensures { Told (spec.list_if_there (here P.parts self.now) T.as_group field.now) result }
     {
-        match self.value.get(name) {
+        match self.value.get(field) {
             None => Ok(None),
-            Some(value) => Ok(Some(self.array(forest, value)?)),
+            Some(value) => Ok(Some(self.array(value)?)),
         }
     }
 
-    fn child_or_null<T: Part>(
-        &self,
-        forest: &mut Forest,
-        value: &Value,
-    ) -> Result<Option<T>, Refusal>
-        requires { Ready self.now forest.old }
-        ensures ready { OnOk result (Ready self.now forest.new) }
-        ensures highest { OnOk result (forest.old.highest ≤ forest.new.highest) }
-        ensures child { IfOk result (λ x. From forest.new.highest (λ m. ChildOrNull self.now.at (T.stands m (nodes_of self.now)) (view value.now) x)) }
+    fn child_or_null<T: Part>(&self, value: &Value) -> Result<Option<T>, Refusal>
+        requires { P.can self.now.parts.now }
+        ensures { Told (or_null (spec.child (here P.parts self.now) T.as_group) (view value.now)) result }
     {
-        if value.is_null() {
-            return Ok(None);
+        match value {
+            Value::Null => Ok(None),
+            _ => Ok(Some(self.child(value)?)),
         }
-        Ok(Some(self.child(forest, value)?))
     }
 
-    fn children_or_nulls<T: Part>(
-        &self,
-        forest: &mut Forest,
-        items: &[Value],
-    ) -> Result<Seq<Option<T>>, Refusal>
-        requires { Ready self.now forest.old }
-        ensures ready { OnOk result (Ready self.now forest.new) }
-        ensures highest { OnOk result (forest.old.highest ≤ forest.new.highest) }
-        ensures parts { IfOk result (λ xs. From forest.new.highest (λ m. Each (ChildOrNull self.now.at (T.stands m (nodes_of self.now))) (items_view items.now) xs)) }
+    fn children_or_nulls<T: Part>(&self, items: &[Value]) -> Result<Seq<Option<T>>, Refusal>
+        requires { P.can self.now.parts.now }
+        ensures { Told (each (or_null (spec.child (here P.parts self.now) T.as_group)) (items_view items.now)) result }
     {
-        let mut parts = Seq::new(forest.alloc);
+        let mut parts = Seq::new(self.alloc);
         let mut rest = items;
         while let Some((value, more)) = rest.split_first() {
-            parts.push(self.child_or_null::<T>(forest, value)?)?;
+            parts.push(self.child_or_null::<T>(value)?)?;
             rest = more;
         }
         Ok(parts)
     }
 
-    /// The parts in a field, each of which may be absent; none where the field is absent.
-    pub fn list_with_nulls<T: Part>(
-        &self,
-        forest: &mut Forest,
-        name: &str,
-    ) -> Result<Seq<Option<T>>, Refusal>
-        requires { Ready self.now forest.old }
-        ensures ready { OnOk result (Ready self.now forest.new) }
-        ensures highest { OnOk result (forest.old.highest ≤ forest.new.highest) }
-        ensures parts { IfOk result (λ xs. From forest.new.highest (λ m. IsList (ChildOrNull self.now.at (T.stands m (nodes_of self.now))) (get name.now (data_of self.now)) xs)) }
+    /// The parts in a field, each of which may be null; none where the field is absent.
+    pub fn list_with_nulls<T: Part>(&self, field: &str) -> Result<Seq<Option<T>>, Refusal>
+        requires { P.can self.now.parts.now }
+        ensures { Told (spec.list_with_nulls_in (here P.parts self.now) T.as_group field.now) result }
     {
-        let Some(value) = self.value.get(name) else {
-            return Ok(Seq::new(forest.alloc));
+        let Some(value) = self.value.get(field) else {
+            return Ok(Seq::new(self.alloc));
         };
         match value.as_array() {
             None => Err(Refusal::NotADocument),
-            Some(items) => self.children_or_nulls(forest, items.as_slice()),
+            Some(items) => self.children_or_nulls(items.as_slice()),
         }
     }
 
-    fn lifetime_in(&self, forest: &mut Forest, value: &Value) -> Result<Lifetime, Refusal>
-        requires { Ready self.now forest.old }
-        ensures ready { OnOk result (Ready self.now forest.new) }
-        ensures highest { OnOk result (forest.old.highest ≤ forest.new.highest) }
-        ensures lifetime { IfOk result (λ x. From forest.new.highest (λ m. ChildOrText self.now.at (λ t. record { id = self.now.id; range = self.now.range; t = t }) (standing m (nodes_of self.now)).lifetime (view value.now) x)) }
+    fn lifetime_of(&self, value: &Value) -> Result<Lifetime, Refusal>
+        requires { P.can self.now.parts.now }
+        ensures { Told (spec.lifetime (here P.parts self.now) (view value.now)) result }
     {
         match value.as_str() {
-            None => Ok(self.child(forest, value)?),
+            None => self.child(value),
             Some(text) => Ok(Lifetime {
                 id: self.id,
                 range: self.range,
-                t: Text::new(forest.alloc, text)?,
+                t: Text::new(self.alloc, text)?,
             }),
         }
     }
 
-    fn name_in(&self, forest: &mut Forest, value: &Value) -> Result<Name, Refusal>
-        requires { Ready self.now forest.old }
-        ensures ready { OnOk result (Ready self.now forest.new) }
-        ensures highest { OnOk result (forest.old.highest ≤ forest.new.highest) }
-        ensures name { IfOk result (λ x. From forest.new.highest (λ m. ChildOrText self.now.at (λ t. record { id = self.now.id; range = self.now.range; t = t }) (standing m (nodes_of self.now)).name (view value.now) x)) }
+    fn name_of(&self, value: &Value) -> Result<Name, Refusal>
+        requires { P.can self.now.parts.now }
+        ensures { Told (spec.name (here P.parts self.now) (view value.now)) result }
     {
         match value.as_str() {
-            None => Ok(self.child(forest, value)?),
+            None => self.child(value),
             Some(text) => Ok(Name {
                 id: self.id,
                 range: self.range,
-                t: Text::new(forest.alloc, text)?,
+                t: Text::new(self.alloc, text)?,
             }),
         }
     }
 
     /// The lifetime in a field, which may be absent. A text there is a lifetime with the number and range of this node.
-    pub fn lifetime(&self, forest: &mut Forest, name: &str) -> Result<Option<Lifetime>, Refusal>
-        requires { Ready self.now forest.old }
-        ensures ready { OnOk result (Ready self.now forest.new) }
-        ensures highest { OnOk result (forest.old.highest ≤ forest.new.highest) }
-        ensures lifetime { IfOk result (λ x. From forest.new.highest (λ m. LifetimeIn (standing m (nodes_of self.now)) self.now.at (data_of self.now) self.now.id self.now.range name.now x)) }
+    pub fn lifetime(&self, field: &str) -> Result<Option<Lifetime>, Refusal>
+        requires { P.can self.now.parts.now }
+        ensures { Told (spec.lifetime_in (here P.parts self.now) field.now) result }
     {
-        match self.value.get(name) {
+        match self.value.get(field) {
             None => Ok(None),
-            Some(value) => Ok(Some(self.lifetime_in(forest, value)?)),
+            Some(value) => Ok(Some(self.lifetime_of(value)?)),
         }
     }
 
     /// The name in a field, likewise.
-    pub fn name(&self, forest: &mut Forest, name: &str) -> Result<Option<Name>, Refusal>
-        requires { Ready self.now forest.old }
-        ensures ready { OnOk result (Ready self.now forest.new) }
-        ensures highest { OnOk result (forest.old.highest ≤ forest.new.highest) }
-        ensures name { IfOk result (λ x. From forest.new.highest (λ m. NameIn (standing m (nodes_of self.now)) self.now.at (data_of self.now) self.now.id self.now.range name.now x)) }
+    pub fn name(&self, field: &str) -> Result<Option<Name>, Refusal>
+        requires { P.can self.now.parts.now }
+        ensures { Told (spec.name_in (here P.parts self.now) field.now) result }
     {
-        match self.value.get(name) {
+        match self.value.get(field) {
             None => Ok(None),
-            Some(value) => Ok(Some(self.name_in(forest, value)?)),
-        }
-    }
-
-    /// Fails where a field is there, which says something that is not read yet.
-    pub fn lacks(&self, name: &str) -> Result<(), Refusal>
-        ensures { IfOk result (λ _. Lacks (data_of self.now) name.now) }
-    {
-        match self.value.get(name) {
-            None => Ok(()),
-            Some(_) => Err(Refusal::NotADocument),
-        }
-    }
-
-    /// The text in a field.
-    pub fn text(&self, alloc: Global, name: &str) -> Result<Text, Refusal>
-        ensures { IfOk result (λ t. get name.now (data_of self.now) ≡ Some (string t)) }
-    {
-        match self.value.get(name) {
-            Some(Value::String(text)) => Ok(Text::new(alloc, text.as_str())?),
-            _ => Err(Refusal::NotADocument),
-        }
-    }
-
-    /// A text in a field, which may be absent.
-    pub fn optional_text(&self, alloc: Global, name: &str) -> Result<Option<Text>, Refusal>
-        ensures { IfOk result (λ t. Optional IsString (get name.now (data_of self.now)) t) }
-    {
-        match self.value.get(name) {
-            None => Ok(None),
-            Some(_) => Ok(Some(self.text(alloc, name)?)),
-        }
-    }
-
-    /// A flag, which is false where it is absent.
-    pub fn flag(&self, name: &str) -> Result<bool, Refusal>
-        ensures { IfOk result (λ b. flag_of (get name.now (data_of self.now)) ≡ Some b) }
-    {
-        match flag(self.value, name) {
-            Some(flag) => Ok(flag),
-            None => Err(Refusal::NotADocument),
+            Some(value) => Ok(Some(self.name_of(value)?)),
         }
     }
 }

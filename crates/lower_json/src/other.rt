@@ -1,28 +1,66 @@
 //! Statements, paths, labels, names and functions.
 
-ghost use Rattle.std.specs.Prelude.{◌≡◌, ◌≤◌, OnOk, IfOk, IfSome, codes, None, ◌≢◌};
 ghost use Rattle.serde_json.specs.Find.{get};
-ghost use Rattle.lower_json.specs.Nodes.{Ready, Stands, IsWord, From, data_of, nodes_of};
-ghost use Rattle.lower_json.specs.Parts.{Optional};
-ghost use Rattle.lower_json.specs.Standing.{IsSegmentKind, NameIn, standing, HasNoGenerics, HasOnlyBody};
+ghost use Rattle.std.specs.Prelude.{◌≡◌, codes};
+ghost use Rattle.serde_json.specs.View.{view};
+ghost use Rattle.lower_json.specs.Told.{Told};
+ghost use Rattle.lower_json.specs.Nodes.{here};
+ghost use Rattle.lower_json.specs.Parts.{optional};
+ghost use Rattle.lower_json.specs.Reading as spec;
+ghost use Rattle.lower_json.specs.Reading.{segment_kind, plain_name, no_generics, only_body};
 
-use crate::forest::{AnyPart, Forest};
-use crate::kind::Kind;
-use crate::node::Node;
+use crate::field::{flag, lacks, text};
+use crate::node::{Node, Parts};
+use crate::part::AnyPart;
 use crate::refusal::Refusal;
 use hir_syntax::ast::{
     Expr, Fn, Label, Lifetime, Name, Path, PathSegment, SegmentKind, Stmt, StmtKind,
 };
+use serde_json::Value;
 
-impl Node<'_> {
-    pub fn expr_stmt(&self, forest: &mut Forest) -> Result<AnyPart, Refusal>
-        requires ready { Ready self.now forest.old }
-        requires word { IsWord self.now Kind.ExprStmt }
-        ensures ready { OnOk result (Ready self.now forest.new) }
-        ensures stands { IfOk result (λ x. Stands self.now forest.new x) }
+fn segment_kind(node: &Value) -> Result<Option<SegmentKind>, Refusal>
+    ensures { Told (optional segment_kind (get (codes "seg") (view node.now))) result }
+{
+    let Some(value) = node.get("seg") else {
+        return Ok(None);
+    };
+    match value.as_str() {
+        Some("name") => Ok(Some(SegmentKind::Name)),
+        _ => Err(Refusal::NotADocument),
+    }
+}
+
+fn has_no_generics(node: &Value) -> Result<(), Refusal>
+    ensures { Told (no_generics (view node.now)) result }
+{
+    lacks(node, "generics")?;
+    lacks(node, "parens")?;
+    lacks(node, "ret")?;
+    lacks(node, "rtn")?;
+    lacks(node, "ty")?;
+    lacks(node, "trait")
+}
+
+fn has_only_body(node: &Value) -> Result<(), Refusal>
+    ensures { Told (only_body (view node.now)) result }
+{
+    lacks(node, "generics")?;
+    lacks(node, "where")?;
+    lacks(node, "params")?;
+    lacks(node, "ret")?;
+    lacks(node, "async")?;
+    lacks(node, "gen")
+}
+
+impl<P: Parts> Node<'_, P> {
+    pub fn expr_stmt(&self) -> Result<AnyPart, Refusal>
+        requires { P.can self.now.parts.now }
+        ensures { Told (spec.expr_stmt (here P.parts self.now)) result }
     {
-        let expr = self.boxed::<Expr>(forest, "expr")?;
-        let semi = self.flag("semi")?;
+        let expr = self.boxed::<Expr>("expr")?;
+        let Some(semi) = flag(self.value, "semi") else {
+            return Err(Refusal::NotADocument);
+        };
         Ok(AnyPart::Stmt(Stmt {
             id: self.id,
             range: self.range,
@@ -30,11 +68,8 @@ impl Node<'_> {
         }))
     }
 
-    pub fn item(&self, forest: &mut Forest) -> AnyPart
-        requires ready { Ready self.now forest.old }
-        requires word { IsWord self.now Kind.Item }
-        ensures same { forest.new ≡ forest.old }
-        ensures stands { Stands self.now forest.new result }
+    pub fn item(&self) -> AnyPart
+        ensures { result ≡ spec.item (here P.parts self.now) }
     {
         AnyPart::Stmt(Stmt {
             id: self.id,
@@ -43,16 +78,14 @@ impl Node<'_> {
         })
     }
 
-    pub fn path(&self, forest: &mut Forest) -> Result<AnyPart, Refusal>
-        requires ready { Ready self.now forest.old }
-        requires word { IsWord self.now Kind.Path }
-        ensures ready { OnOk result (Ready self.now forest.new) }
-        ensures stands { IfOk result (λ x. Stands self.now forest.new x) }
+    pub fn path(&self) -> Result<AnyPart, Refusal>
+        requires { P.can self.now.parts.now }
+        ensures { Told (spec.path (here P.parts self.now)) result }
     {
-        self.lacks("leading")?;
-        self.lacks("in_macro")?;
-        self.lacks("use")?;
-        let segs = self.list_with_nulls::<PathSegment>(forest, "segs")?;
+        lacks(self.value, "leading")?;
+        lacks(self.value, "in_macro")?;
+        lacks(self.value, "use")?;
+        let segs = self.list_with_nulls::<PathSegment>("segs")?;
         Ok(AnyPart::Path(Path {
             id: self.id,
             range: self.range,
@@ -60,38 +93,12 @@ impl Node<'_> {
         }))
     }
 
-    fn segment_kind(&self) -> Result<Option<SegmentKind>, Refusal>
-        ensures { IfOk result (λ k. Optional IsSegmentKind (get (codes "seg") (data_of self.now)) k) }
-    {
-        let Some(value) = self.value.get("seg") else {
-            return Ok(None);
-        };
-        match value.as_str() {
-            Some("name") => Ok(Some(SegmentKind::Name)),
-            _ => Err(Refusal::NotADocument),
-        }
-    }
-
-    fn has_no_generics(&self) -> Result<(), Refusal>
-        ensures { IfOk result (λ _. HasNoGenerics (data_of self.now)) }
-    {
-        self.lacks("generics")?;
-        self.lacks("parens")?;
-        self.lacks("ret")?;
-        self.lacks("rtn")?;
-        self.lacks("ty")?;
-        self.lacks("trait")
-    }
-
     /// The name of a segment, which is not `$crate`.
-    fn segment_name(&self, forest: &mut Forest) -> Result<Option<Name>, Refusal>
-        requires { Ready self.now forest.old }
-        ensures ready { OnOk result (Ready self.now forest.new) }
-        ensures highest { OnOk result (forest.old.highest ≤ forest.new.highest) }
-        ensures name { IfOk result (λ x. From forest.new.highest (λ m. NameIn (standing m (nodes_of self.now)) self.now.at (data_of self.now) self.now.id self.now.range (codes "name") x)) }
-        ensures plain { IfOk result (λ x. IfSome x (λ n. n.t ≢ codes "$crate")) }
+    fn segment_name(&self) -> Result<Option<Name>, Refusal>
+        requires { P.can self.now.parts.now }
+        ensures { Told (spec.segment_name (here P.parts self.now)) result }
     {
-        let name = self.name(forest, "name")?;
+        let name = self.name("name")?;
         if let Some(name) = &name
             && name.t.as_str() == "$crate"
         {
@@ -100,15 +107,13 @@ impl Node<'_> {
         Ok(name)
     }
 
-    pub fn segment(&self, forest: &mut Forest) -> Result<AnyPart, Refusal>
-        requires ready { Ready self.now forest.old }
-        requires word { IsWord self.now Kind.PathSegment }
-        ensures ready { OnOk result (Ready self.now forest.new) }
-        ensures stands { IfOk result (λ x. Stands self.now forest.new x) }
+    pub fn segment(&self) -> Result<AnyPart, Refusal>
+        requires { P.can self.now.parts.now }
+        ensures { Told (spec.segment (here P.parts self.now)) result }
     {
-        self.has_no_generics()?;
-        let seg = self.segment_kind()?;
-        let name = self.segment_name(forest)?;
+        has_no_generics(self.value)?;
+        let seg = segment_kind(self.value)?;
+        let name = self.segment_name()?;
         Ok(AnyPart::Segment(PathSegment {
             id: self.id,
             range: self.range,
@@ -117,13 +122,11 @@ impl Node<'_> {
         }))
     }
 
-    pub fn label(&self, forest: &mut Forest) -> Result<AnyPart, Refusal>
-        requires ready { Ready self.now forest.old }
-        requires word { IsWord self.now Kind.Label }
-        ensures ready { OnOk result (Ready self.now forest.new) }
-        ensures stands { IfOk result (λ x. Stands self.now forest.new x) }
+    pub fn label(&self) -> Result<AnyPart, Refusal>
+        requires { P.can self.now.parts.now }
+        ensures { Told (spec.label (here P.parts self.now)) result }
     {
-        let lifetime = self.lifetime(forest, "lifetime")?;
+        let lifetime = self.lifetime("lifetime")?;
         Ok(AnyPart::Label(Label {
             id: self.id,
             range: self.range,
@@ -131,13 +134,10 @@ impl Node<'_> {
         }))
     }
 
-    pub fn lifetime_node(&self, forest: &mut Forest) -> Result<AnyPart, Refusal>
-        requires ready { Ready self.now forest.old }
-        requires word { IsWord self.now Kind.Lifetime }
-        ensures ready { OnOk result (Ready self.now forest.new) }
-        ensures stands { IfOk result (λ x. Stands self.now forest.new x) }
+    pub fn lifetime_node(&self) -> Result<AnyPart, Refusal>
+        ensures { Told (spec.lifetime_node (here P.parts self.now)) result }
     {
-        let t = self.text(forest.alloc, "t")?;
+        let t = text(self.alloc, self.value, "t")?;
         Ok(AnyPart::Lifetime(Lifetime {
             id: self.id,
             range: self.range,
@@ -145,13 +145,10 @@ impl Node<'_> {
         }))
     }
 
-    pub fn name_node(&self, forest: &mut Forest) -> Result<AnyPart, Refusal>
-        requires ready { Ready self.now forest.old }
-        requires word { IsWord self.now Kind.Name }
-        ensures ready { OnOk result (Ready self.now forest.new) }
-        ensures stands { IfOk result (λ x. Stands self.now forest.new x) }
+    pub fn name_node(&self) -> Result<AnyPart, Refusal>
+        ensures { Told (spec.name_node (here P.parts self.now)) result }
     {
-        let t = self.text(forest.alloc, "t")?;
+        let t = text(self.alloc, self.value, "t")?;
         Ok(AnyPart::Name(Name {
             id: self.id,
             range: self.range,
@@ -159,25 +156,12 @@ impl Node<'_> {
         }))
     }
 
-    fn has_only_body(&self) -> Result<(), Refusal>
-        ensures { IfOk result (λ _. HasOnlyBody (data_of self.now)) }
+    pub fn function(&self) -> Result<AnyPart, Refusal>
+        requires { P.can self.now.parts.now }
+        ensures { Told (spec.function (here P.parts self.now)) result }
     {
-        self.lacks("generics")?;
-        self.lacks("where")?;
-        self.lacks("params")?;
-        self.lacks("ret")?;
-        self.lacks("async")?;
-        self.lacks("gen")
-    }
-
-    pub fn function(&self, forest: &mut Forest) -> Result<AnyPart, Refusal>
-        requires ready { Ready self.now forest.old }
-        requires word { IsWord self.now Kind.Fn }
-        ensures ready { OnOk result (Ready self.now forest.new) }
-        ensures stands { IfOk result (λ x. Stands self.now forest.new x) }
-    {
-        self.has_only_body()?;
-        let body = self.part::<Expr>(forest, "body")?;
+        has_only_body(self.value)?;
+        let body = self.part::<Expr>("body")?;
         Ok(AnyPart::Fn(Fn {
             id: self.id,
             range: self.range,

@@ -1,29 +1,42 @@
-//! The kinds of parts.
+//! The parts of trees, by their group.
 
-ghost use Rattle.std.specs.Prelude.{◌≡◌, ℕ, IfOk, IfSome};
-ghost use Rattle.serde_json.specs.Data.{Items};
-ghost use Rattle.lower_json.specs.Standing.{standing, IsElse};
-ghost use Rattle.lower_json.specs.Forests.{Holds};
+ghost use Rattle.std.specs.Prelude.{◌≡◌, IfOk, Option};
+ghost use Rattle.lower_json.specs.Groups.{as_expr, as_block, as_else, as_stmt, as_path, as_segment, as_label, as_lifetime, as_name, as_function};
 
-use crate::forest::AnyPart;
 use hir_syntax::Boxed;
 use hir_syntax::ast::{
     BlockExpr, ElseBranch, Expr, ExprKind, Fn, Label, Lifetime, Name, Path, PathSegment, Stmt,
 };
 use std::alloc::{AllocError, Global};
 
-/// What a field for one kind of parts may hold.
-pub trait Part: Drop {
-    /// It stands at a node of a list, with so many levels at most.
-    ghost stands: { ℕ → Items → ℕ → Self → Type 0 };
+/// A part of a tree.
+#[derive(Drop)]
+pub enum AnyPart {
+    Expr(Expr),
+    Block(BlockExpr),
+    Stmt(Stmt),
+    Path(Path),
+    Segment(PathSegment),
+    Label(Label),
+    Lifetime(Lifetime),
+    Name(Name),
+    Fn(Fn),
+}
 
-    /// The part, where it is one of this kind.
+/// What a field for one group of parts may hold.
+pub trait Part: Drop {
+    ghost use Rattle.lower_json.specs.declared.part.AnyPart.{AnyPart};
+
+    /// What a part is in such a field, if it serves there.
+    ghost as_group: { AnyPart → Option Self };
+
+    /// The part as one of this group, none where it is of another.
     fn from_part(alloc: Global, part: AnyPart) -> Result<Option<Self>, AllocError>
-        ensures { (m : ℕ) → (ns : Items) → (at : ℕ) → Holds m ns at part → IfOk result (λ o. IfSome o (λ x. stands m ns at x)) };
+        ensures { IfOk result (λ found. found ≡ as_group part) };
 }
 
 impl Part for Expr {
-    ghost stands = { λ m ns at x. (standing m ns).expr at x };
+    ghost as_group = { as_expr };
 
     fn from_part(alloc: Global, part: AnyPart) -> Result<Option<Expr>, AllocError> {
         match part {
@@ -39,7 +52,7 @@ impl Part for Expr {
 }
 
 impl Part for BlockExpr {
-    ghost stands = { λ m ns at x. (standing m ns).block at x };
+    ghost as_group = { as_block };
 
     fn from_part(_alloc: Global, part: AnyPart) -> Result<Option<BlockExpr>, AllocError> {
         match part {
@@ -50,7 +63,7 @@ impl Part for BlockExpr {
 }
 
 impl Part for ElseBranch {
-    ghost stands = { λ m ns at x. IsElse (standing m ns) at x };
+    ghost as_group = { as_else };
 
     fn from_part(alloc: Global, part: AnyPart) -> Result<Option<ElseBranch>, AllocError> {
         match part {
@@ -65,7 +78,7 @@ impl Part for ElseBranch {
 }
 
 impl Part for Stmt {
-    ghost stands = { λ m ns at x. (standing m ns).stmt at x };
+    ghost as_group = { as_stmt };
 
     fn from_part(_alloc: Global, part: AnyPart) -> Result<Option<Stmt>, AllocError> {
         match part {
@@ -76,7 +89,7 @@ impl Part for Stmt {
 }
 
 impl Part for Path {
-    ghost stands = { λ m ns at x. (standing m ns).path at x };
+    ghost as_group = { as_path };
 
     fn from_part(_alloc: Global, part: AnyPart) -> Result<Option<Path>, AllocError> {
         match part {
@@ -87,7 +100,7 @@ impl Part for Path {
 }
 
 impl Part for PathSegment {
-    ghost stands = { λ m ns at x. (standing m ns).segment at x };
+    ghost as_group = { as_segment };
 
     fn from_part(_alloc: Global, part: AnyPart) -> Result<Option<PathSegment>, AllocError> {
         match part {
@@ -98,7 +111,7 @@ impl Part for PathSegment {
 }
 
 impl Part for Label {
-    ghost stands = { λ m ns at x. (standing m ns).label at x };
+    ghost as_group = { as_label };
 
     fn from_part(_alloc: Global, part: AnyPart) -> Result<Option<Label>, AllocError> {
         match part {
@@ -109,7 +122,7 @@ impl Part for Label {
 }
 
 impl Part for Lifetime {
-    ghost stands = { λ m ns at x. (standing m ns).lifetime at x };
+    ghost as_group = { as_lifetime };
 
     fn from_part(_alloc: Global, part: AnyPart) -> Result<Option<Lifetime>, AllocError> {
         match part {
@@ -120,7 +133,7 @@ impl Part for Lifetime {
 }
 
 impl Part for Name {
-    ghost stands = { λ m ns at x. (standing m ns).name at x };
+    ghost as_group = { as_name };
 
     fn from_part(_alloc: Global, part: AnyPart) -> Result<Option<Name>, AllocError> {
         match part {
@@ -131,7 +144,7 @@ impl Part for Name {
 }
 
 impl Part for Fn {
-    ghost stands = { λ m ns at x. (standing m ns).function at x };
+    ghost as_group = { as_function };
 
     fn from_part(_alloc: Global, part: AnyPart) -> Result<Option<Fn>, AllocError> {
         match part {

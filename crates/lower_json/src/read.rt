@@ -1,24 +1,30 @@
 //! From a text to a document.
 
-ghost use Rattle.std.specs.Prelude.{◌≡◌, ◌≤◌, IfOk, IfErr, Some, codes, option_and_then, length};
+ghost use Rattle.std.specs.Prelude.{◌≡◌, ◌≤◌, IfOk, IfErr, Some, None, codes, length};
 ghost use Rattle.serde_json.specs.Read.{read};
 ghost use Rattle.serde_json.specs.View.{view, items_view};
-ghost use Rattle.serde_json.specs.Find.{get, as_array};
-ghost use Rattle.lower_json.specs.Documents.{IsOwner, IsContainer, IsHeading, Says, IsDocument};
+ghost use Rattle.serde_json.specs.Find.{get};
+ghost use Rattle.lower_json.specs.Documents.{owner_of, container_of, heading_of, nodes_of, root_of, Says, IsDocument};
 ghost use Rattle.lower_json.specs.Faults.{IsErrorOf, IsTextError};
-ghost use Rattle.lower_json.specs.Fields.{id_of, flag_of};
+ghost use Rattle.lower_json.specs.Fields.{flag_of};
+ghost use Rattle.lower_json.specs.Reading.{tree_at};
+ghost use Rattle.lower_json.specs.Uses.{AllUsed};
+ghost use Rattle.lower_json.specs.Told.{Told, ToldAs};
+ghost use Rattle.lower_json.specs.declared.document.Document.{Document};
 
 use crate::document::Document;
 use crate::fault::{Fault, ReadError};
 use crate::field;
 use crate::floats::has_float;
-use crate::grow::root_tree;
 use crate::refusal::Refusal;
 use crate::tables::tables;
+use crate::tree::read_tree_at;
+use crate::uses::each_is_used_once;
 use hir_store::ids::{
     ConstId, DefWithBodyId, ExternBlockId, FunctionId, ImplId, ItemContainerId, ModuleId, StaticId,
     TraitId, VariantId,
 };
+use hir_syntax::ast::Fn;
 use serde_json::Value;
 use std::alloc::Global;
 
@@ -42,7 +48,7 @@ fn parse(alloc: Global, text: &[u8]) -> Result<Value, ReadError>
 }
 
 fn owner(document: &Value) -> Result<DefWithBodyId, Refusal>
-    ensures { IfOk result (λ o. IsOwner (get (codes "owner") (view document.now)) o) }
+    ensures { Told (owner_of (get (codes "owner") (view document.now))) result }
 {
     let Some(word) = document.get("owner") else {
         return Ok(DefWithBodyId::FunctionId(FunctionId(0)));
@@ -57,7 +63,7 @@ fn owner(document: &Value) -> Result<DefWithBodyId, Refusal>
 }
 
 fn container(document: &Value) -> Result<ItemContainerId, Refusal>
-    ensures { IfOk result (λ o. IsContainer (get (codes "container") (view document.now)) o) }
+    ensures { Told (container_of (get (codes "container") (view document.now))) result }
 {
     let Some(word) = document.get("container") else {
         return Ok(ItemContainerId::ModuleId(ModuleId(0)));
@@ -72,7 +78,7 @@ fn container(document: &Value) -> Result<ItemContainerId, Refusal>
 }
 
 fn flag(document: &Value, name: &str) -> Result<bool, Refusal>
-    ensures { IfOk result (λ b. flag_of (get name.now (view document.now)) ≡ Some b) }
+    ensures { Told (flag_of (get name.now (view document.now))) result }
 {
     match field::flag(document, name) {
         Some(flag) => Ok(flag),
@@ -82,7 +88,7 @@ fn flag(document: &Value, name: &str) -> Result<bool, Refusal>
 
 /// The nodes of a document, however many.
 fn nodes(document: &Value) -> Result<&[Value], Refusal>
-    ensures { IfOk result (λ nodes. option_and_then as_array (get (codes "nodes") (view document.entry.now)) ≡ Some (items_view nodes.now)) }
+    ensures { ToldAs (λ nodes. items_view nodes.now) (nodes_of (view document.entry.now)) result }
 {
     let Some(nodes) = document.get("nodes") else {
         return Err(Refusal::NotADocument);
@@ -95,7 +101,7 @@ fn nodes(document: &Value) -> Result<&[Value], Refusal>
 
 /// The index of the root, 0 where there is none.
 fn root(document: &Value) -> Result<u32, Refusal>
-    ensures { IfOk result (λ n. id_of 0 (get (codes "root") (view document.now)) ≡ Some n) }
+    ensures { Told (root_of (view document.now)) result }
 {
     let Some(root) = document.get("root") else {
         return Ok(0);
@@ -116,7 +122,7 @@ struct Heading {
 }
 
 fn heading_of(document: &Value) -> Result<Heading, Refusal>
-    ensures { IfOk result (λ h. IsHeading (view document.now) h) }
+    ensures { Told (heading_of (view document.now)) result }
 {
     if has_float(document) {
         return Err(Refusal::NotADocument);
@@ -134,6 +140,17 @@ fn heading_of(document: &Value) -> Result<Heading, Refusal>
     })
 }
 
+/// The tree at the root, of nodes that are used once each.
+fn tree_of(alloc: Global, nodes: &[Value], root: u32) -> Result<Fn, Refusal>
+    ensures tree { IfOk result (λ tree. AllUsed (items_view nodes.now) root × (tree_at (items_view nodes.now) root ≡ Some tree)) }
+    ensures fault { IfErr result (λ e. e ≡ Refusal.NotADocument → AllUsed (items_view nodes.now) root → tree_at (items_view nodes.now) root ≡ None) }
+{
+    if !each_is_used_once(alloc, nodes, root)? {
+        return Err(Refusal::NotADocument);
+    }
+    read_tree_at(alloc, nodes, root)
+}
+
 fn body(
     alloc: Global,
     document: &Value,
@@ -141,12 +158,13 @@ fn body(
     heading: Heading,
 ) -> Result<Document, Refusal>
     requires few { length nodes.now ≤ 1000000 }
-    requires listed { option_and_then as_array (get (codes "nodes") (view document.now)) ≡ Some (items_view nodes.now) }
-    requires heading { IsHeading (view document.now) heading }
-    ensures { IfOk result (λ d. Says (view document.now) d) }
+    requires listed { nodes_of (view document.now) ≡ Some (items_view nodes.now) }
+    requires heading { heading_of (view document.now) ≡ Some heading }
+    ensures document { IfOk result (λ d. Says (view document.now) d) }
+    ensures fault { IfErr result (λ e. e ≡ Refusal.NotADocument → (d : Document) → ¬ (Says (view document.now) d)) }
 {
     let at = root(document)?;
-    let tree = root_tree(alloc, nodes, at)?;
+    let tree = tree_of(alloc, nodes, at)?;
     let mut env = tables(alloc, document, heading.container)?;
     env.set_skip(heading.skip);
     Ok(Document {

@@ -1,10 +1,11 @@
 //! The tables of a document.
 
-ghost use Rattle.std.specs.Prelude.{◌≡◌, false, Some, OnOk, IfOk, codes, option_map};
+ghost use Rattle.std.specs.Prelude.{◌≡◌, Some, None, OnOk, IfErr, codes};
 ghost use Rattle.serde_json.specs.View.{view, items_view};
 ghost use Rattle.serde_json.specs.Find.{as_array, get};
 ghost use Rattle.lower_json.specs.Fields.{small_of};
-ghost use Rattle.lower_json.specs.Tables.{site_of, triple_of, quadruple_of, both, disabled_of, named_of, numbered_of, with_all, rows, member_of, IsObject, AreTables};
+ghost use Rattle.lower_json.specs.Tables.{site_of, triple_of, quadruple_of, both, disabled_of, named_of, numbered_of, with_all, rows, tables_of};
+ghost use Rattle.lower_json.specs.Told.{Told, ToldAs};
 
 use crate::field::small;
 use crate::refusal::Refusal;
@@ -73,6 +74,7 @@ fn numbered(entry: &Value) -> Option<(InFile<NodeId>, (BlockId, ModuleId))>
 fn disable_all(tables: &mut TableEnv, entries: &[Value]) -> Result<(), Refusal>
     ensures entries { OnOk result (with_all disabled_of (items_view entries.now) tables.old.disabled ≡ Some tables.new.disabled) }
     ensures others { OnOk result (tables.new ≡ record tables.old { disabled = tables.new.disabled }) }
+    ensures fault { IfErr result (λ e. e ≡ Refusal.NotADocument → with_all disabled_of (items_view entries.now) tables.old.disabled ≡ None) }
 {
     let mut rest = entries;
     while let Some((entry, more)) = rest.split_first() {
@@ -88,6 +90,7 @@ fn disable_all(tables: &mut TableEnv, entries: &[Value]) -> Result<(), Refusal>
 fn name_all(tables: &mut TableEnv, entries: &[Value]) -> Result<(), Refusal>
     ensures entries { OnOk result (with_all named_of (items_view entries.now) tables.old.hygiene ≡ Some tables.new.hygiene) }
     ensures others { OnOk result (tables.new ≡ record tables.old { hygiene = tables.new.hygiene }) }
+    ensures fault { IfErr result (λ e. e ≡ Refusal.NotADocument → with_all named_of (items_view entries.now) tables.old.hygiene ≡ None) }
 {
     let mut rest = entries;
     while let Some((entry, more)) = rest.split_first() {
@@ -103,6 +106,7 @@ fn name_all(tables: &mut TableEnv, entries: &[Value]) -> Result<(), Refusal>
 fn number_all(tables: &mut TableEnv, entries: &[Value]) -> Result<(), Refusal>
     ensures entries { OnOk result (with_all numbered_of (items_view entries.now) tables.old.blocks ≡ Some tables.new.blocks) }
     ensures others { OnOk result (tables.new ≡ record tables.old { blocks = tables.new.blocks }) }
+    ensures fault { IfErr result (λ e. e ≡ Refusal.NotADocument → with_all numbered_of (items_view entries.now) tables.old.blocks ≡ None) }
 {
     let mut rest = entries;
     while let Some((entry, more)) = rest.split_first() {
@@ -117,7 +121,7 @@ fn number_all(tables: &mut TableEnv, entries: &[Value]) -> Result<(), Refusal>
 
 /// The entries of a table, none where it is absent.
 fn entries_of<'a>(env: &'a Value, name: &str) -> Result<&'a [Value], Refusal>
-    ensures { IfOk result (λ entries. rows (get name.now (view env.entry.now)) ≡ Some (items_view entries.now)) }
+    ensures { ToldAs (λ entries. items_view entries.now) (rows (get name.now (view env.entry.now))) result }
 {
     let Some(table) = env.get(name) else {
         return Ok(&[]);
@@ -129,32 +133,26 @@ fn entries_of<'a>(env: &'a Value, name: &str) -> Result<&'a [Value], Refusal>
 }
 
 fn tables_of(alloc: Global, env: &Value, container: ItemContainerId) -> Result<TableEnv, Refusal>
-    ensures tables { IfOk result (λ t. AreTables (Some (view env.now)) t) }
-    ensures skip { IfOk result (λ t. t.skip ≡ false) }
-    ensures container { IfOk result (λ t. t.container ≡ container) }
+    ensures { Told (tables_of container (Some (view env.now))) result }
 {
     if !env.is_object() {
         return Err(Refusal::NotADocument);
     }
-    let disabled = entries_of(env, "disabled")?;
-    let hygiene = entries_of(env, "hygiene")?;
-    let blocks = entries_of(env, "blocks")?;
     let mut tables = TableEnv::new(alloc, container);
-    disable_all(&mut tables, disabled)?;
-    name_all(&mut tables, hygiene)?;
-    number_all(&mut tables, blocks)?;
+    disable_all(&mut tables, entries_of(env, "disabled")?)?;
+    name_all(&mut tables, entries_of(env, "hygiene")?)?;
+    number_all(&mut tables, entries_of(env, "blocks")?)?;
     Ok(tables)
 }
 
-/// The tables that a document writes for a body that is not skipped and stands in the container.
+/// The tables that a document writes for a body that is not skipped and stands in the container. `NotADocument` where
+/// the environment is no object, a table no list, or an entry no such entry; `Memory` where memory is refused.
 pub fn tables(
     alloc: Global,
     document: &Value,
     container: ItemContainerId,
 ) -> Result<TableEnv, Refusal>
-    ensures tables { IfOk result (λ t. AreTables (get (codes "env") (view document.now)) t) }
-    ensures skip { IfOk result (λ t. t.skip ≡ false) }
-    ensures container { IfOk result (λ t. t.container ≡ container) }
+    ensures { Told (tables_of container (get (codes "env") (view document.now))) result }
 {
     match document.get("env") {
         None => Ok(TableEnv::new(alloc, container)),

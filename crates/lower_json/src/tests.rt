@@ -64,6 +64,12 @@ fn faulty_documents(rt: HostRuntime) -> Result<(), Fail> {
         "{\"nodes\":[{\"k\":\"Fn\",\"body\":2},{\"k\":\"BlockExpr\"}]}",
         // a child used twice
         "{\"nodes\":[{\"k\":\"Fn\",\"body\":1},{\"k\":\"IfExpr\",\"condition\":2,\"then\":2},{\"k\":\"BlockExpr\"}]}",
+        // a node that two nodes use
+        "{\"nodes\":[{\"k\":\"Fn\",\"body\":1},{\"k\":\"BlockExpr\",\"tail\":2},{\"k\":\"ParenExpr\",\"expr\":3},{\"k\":\"BlockExpr\",\"label\":4},{\"k\":\"Label\",\"lifetime\":3}]}",
+        // nodes that use each other, and that no other uses
+        "{\"nodes\":[{\"k\":\"Fn\",\"body\":1},{\"k\":\"BlockExpr\"},{\"k\":\"ParenExpr\",\"expr\":3},{\"k\":\"ParenExpr\",\"expr\":2}]}",
+        // a root that another node uses
+        "{\"root\":1,\"nodes\":[{\"k\":\"ParenExpr\",\"expr\":1},{\"k\":\"Fn\"}]}",
         // a node that none uses
         "{\"nodes\":[{\"k\":\"Fn\",\"body\":1},{\"k\":\"BlockExpr\"},{\"k\":\"BlockExpr\"}]}",
         // a kind that is not read yet
@@ -96,6 +102,19 @@ fn faulty_documents(rt: HostRuntime) -> Result<(), Fail> {
             Some(ReadError::Fault(Fault::NotADocument)),
             "{text}"
         );
+    }
+    Ok(())
+}
+
+#[test]
+fn unknown_fields_are_passed_over(rt: HostRuntime) -> Result<(), Fail> {
+    for text in [
+        // one that other kinds have, with an index
+        "{\"nodes\":[{\"k\":\"Fn\",\"body\":1,\"expr\":1},{\"k\":\"Literal\",\"lit\":\"int\",\"t\":\"1\",\"body\":0}]}",
+        // one that no kind has, in a node, in the document and in its environment
+        "{\"x\":[],\"nodes\":[{\"k\":\"Fn\",\"x\":7}],\"env\":{\"x\":{}}}",
+    ] {
+        assert!(rt; read_tree(rt.alloc(), text.as_bytes()).is_ok(), "{text}");
     }
     Ok(())
 }

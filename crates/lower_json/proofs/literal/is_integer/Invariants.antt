@@ -1,12 +1,12 @@
 use Rattle.std.proofs.Common.{◌≡◌, ◌≢◌, ◌^◌, ◌<◌, [], length}
-use Rattle.std.specs.Prelude.{All}
-use Rattle.lower_json.specs.Literals.{IsDigit, written_after}
+use Rattle.std.specs.Str.{all_ascii_digits}
+use Rattle.lower_json.specs.Literals.{written_after}
 use Rattle.lower_json.proofs.literal.is_integer.Given as goal
 
 abbrev pub invariant-loop-byte : goal.invariant-loop-byte
 invariant-loop-byte l = record {
   some : l.text ≢ [];
-  digits : All IsDigit l.rest → All IsDigit l.text;
+  digits : all_ascii_digits l.text ≡ all_ascii_digits l.rest;
   same : written_after 0 l.text ≡ written_after l.number l.rest;
   fits : l.number < 2 ^ 128;
 }

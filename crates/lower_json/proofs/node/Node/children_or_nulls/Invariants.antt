@@ -1,15 +1,15 @@
-use Rattle.std.proofs.Common.{◌≡◌, ◌≤◌, ◌<◌, ℕ, List, Option, ◌++◌, length}
-use Rattle.serde_json.specs.View.{view, items_view}
-use Rattle.lower_json.specs.Parts.{ChildOrNull, Each}
-use Rattle.lower_json.specs.Nodes.{Ready, From, nodes_of, data_of}
+use Rattle.std.proofs.Common.{◌≡◌, ◌++◌, length}
+use Rattle.std.specs.Prelude.{option_map}
+use Rattle.serde_json.specs.View.{items_view}
+use Rattle.lower_json.specs.Parts as spec
+use Rattle.lower_json.specs.Parts.{each, or_null}
+use Rattle.lower_json.specs.Nodes.{here}
 use Rattle.lower_json.proofs.node.Node.children_or_nulls.Given as goal
 
 abbrev pub invariant-loop-value : goal.invariant-loop-value
 invariant-loop-value g l = record {
   same : l.self ≡ l.fn.self;
-  ready : Ready l.self l.forest;
-  highest : l.initial.forest.highest ≤ l.forest.highest;
-  so_far : (m : ℕ) → l.forest.highest ≤ m → (ys : List (Option g.row.T.Denot)) → Each (ChildOrNull l.self.at (g.T.Part.stands m (nodes_of l.self))) (items_view l.rest) ys → Each (ChildOrNull l.self.at (g.T.Part.stands m (nodes_of l.self))) (items_view l.items) (l.parts ++ ys);
+  so_far : each (or_null (spec.child (here g.P.Parts.parts l.self) g.T.Part.as_group)) (items_view l.items) ≡ option_map (λ ys. l.parts ++ ys) (each (or_null (spec.child (here g.P.Parts.parts l.self) g.T.Part.as_group)) (items_view l.rest));
 }
 
 abbrev pub decreases-loop-value : goal.decreases-loop-value

@@ -1,0 +1,6 @@
+-- The words of a language of few.
+use Rattle.std.specs.Prelude.{ℕ, List, Option, bytes_eq, find}
+
+-- the first of some things whose word it is
+abbrev pub named : {T : Type 0} → (T → List ℕ) → List T → List ℕ → Option T
+named word_of all word = find (λ x. bytes_eq word (word_of x)) all
