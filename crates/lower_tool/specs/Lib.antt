@@ -1,3 +1,4 @@
 pub mod Numbering
 pub mod Statuses
 pub mod Words
+pub mod Answers

@@ -1,7 +1,7 @@
 //! Why a run ends without a listing.
 
 ghost use Rattle.std.specs.Prelude.{◌≡◌};
-ghost use Rattle.lower_tool.specs.Statuses.{status_of};
+ghost use Rattle.lower_tool.specs.Statuses.{status_of, not_read, not_lowered};
 
 use hir_lower::LowerError;
 use lower_json::fault::{Fault, ReadError};
@@ -48,12 +48,18 @@ impl Failure {
 }
 
 impl From<AllocError> for Failure {
+    ghost use Rattle.lower_tool.specs.declared.failure.Failure.TheVariants.{Memory};
+
+    ghost from_gives = { λ _ failure. failure ≡ Memory };
+
     fn from(_: AllocError) -> Failure {
         Failure::Memory
     }
 }
 
 impl From<ReadError> for Failure {
+    ghost from_gives = { λ error failure. failure ≡ not_read error };
+
     fn from(error: ReadError) -> Failure {
         match error {
             ReadError::Memory => Failure::Memory,
@@ -63,6 +69,8 @@ impl From<ReadError> for Failure {
 }
 
 impl From<LowerError> for Failure {
+    ghost from_gives = { λ error failure. failure ≡ not_lowered error };
+
     /// A fresh collector hasn't failed before, so `Failed` isn't met.
     fn from(error: LowerError) -> Failure {
         match error {

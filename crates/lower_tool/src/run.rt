@@ -1,8 +1,9 @@
 //! The whole run.
 
-ghost use Rattle.std.specs.Prelude.{◌≡◌, ◌≢◌, ◌⊎◌, ◌↔◌, ◌∷◌, [], IsTrue, IfOk, OnOk, IsErrOf, List, ℕ, codes, map, string_bytes};
+ghost use Rattle.std.specs.Prelude.{◌≡◌, ◌≢◌, ◌⊎◌, ◌↔◌, ◌∷◌, [], IsTrue, IfOk, IfErr, OnOk, IsErrOf, List, ℕ, codes, map, string_bytes};
 ghost use Rattle.lower_tool.specs.Words.{IsCall};
-ghost use Rattle.std.specs.Io.KnownBytes.{Consumes, IsAtEnd, Appends};
+ghost use Rattle.lower_tool.specs.Answers.{CameOf, Answered, ReadsAll, SaysSome};
+ghost use Rattle.std.specs.Io.KnownBytes.{Appends};
 
 use crate::failure::Failure;
 use crate::input::read_all;
@@ -10,6 +11,7 @@ use crate::listing::body_listing;
 use hir_lower::lower_body;
 use hir_store::ids::ModuleId;
 use hir_syntax::node::{AstPtr, HirFileId};
+use lower_json::document::Document;
 use lower_json::read::read_tree;
 use std::alloc::Global;
 use std::convert::AsStr;
@@ -36,9 +38,10 @@ fn is_call<W: AsStr>(words: &[W]) -> bool
     is_mode(word.as_str())
 }
 
-/// The listing of the body in a document.
-fn listing(alloc: Global, text: &[u8]) -> Result<String, Failure> {
-    let document = read_tree(alloc, text)?;
+/// The listing of a document's body.
+fn document_listing(alloc: Global, document: &Document) -> Result<String, Failure>
+    ensures { IfErr result (λ e. (e ≡ Failure.Memory) ⊎ (e ≡ Failure.Full)) }
+{
     let tree = &document.tree;
     let node = AstPtr {
         node: tree.id,
@@ -59,10 +62,19 @@ fn listing(alloc: Global, text: &[u8]) -> Result<String, Failure> {
     Ok(body_listing(alloc, &body.store, &source_map.store, document.sources)?)
 }
 
+/// The listing of the document that a text is.
+fn listing(alloc: Global, text: &[u8]) -> Result<String, Failure>
+    ensures { CameOf text.now result }
+{
+    let document = read_tree(alloc, text)?;
+    document_listing(alloc, &document)
+}
+
 /// The listing of what stands in the input. The words are judged before the input is read.
 fn answer<W: AsStr, R: Read>(alloc: Global, words: &[W], input: &mut R) -> Result<String, Failure>
     ensures usage { ¬ IsCall W.text words.now → (result ≡ Err Failure.Usage) × (input.new ≡ input.old) }
-    ensures end { OnOk result (IsAtEnd (R.remaining input.new)) }
+    ensures called { result ≡ Err Failure.Usage → ¬ IsCall W.text words.now }
+    ensures answered { Answered (R.remaining input.old) (R.remaining input.new) result }
 {
     if !is_call(words) {
         return Err(Failure::Usage);
@@ -85,7 +97,8 @@ pub fn run<W: AsStr, R: Read, O: Write, X: Write>(
 ) -> u8
     ensures status { (result ≡ 0) ⊎ (result ≡ 2) ⊎ (result ≡ 3) }
     ensures usage { ¬ IsCall W.text words.now → (result ≡ 2) × (input.new ≡ input.old) × (out.new ≡ out.old) }
-    ensures listed { result ≡ 0 → IsAtEnd (R.remaining input.new) × ((text : List ℕ) × Appends (O.contents out.old) (O.contents out.new) text) }
+    ensures document { result ≡ 0 → (text : List ℕ) × ReadsAll (R.remaining input.old) (R.remaining input.new) text × SaysSome text }
+    ensures listed { result ≡ 0 → (text : List ℕ) × Appends (O.contents out.old) (O.contents out.new) text }
     ensures refused { result ≡ 3 → out.new ≡ out.old }
     ensures silent { result ≡ 0 → errors.new ≡ errors.old }
     ensures one_writer { (out.new ≡ out.old) ⊎ (errors.new ≡ errors.old) }
