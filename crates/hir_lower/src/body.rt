@@ -59,10 +59,11 @@ fn body_steps<E: LowerEnv>(
 ///
 /// The stored body does what the written one does, for every answerer and every number of turns that a loop may take.
 /// Store, source map and diagnostics are one result of the tree: what is stored stands for it, each expression reached
-/// in one way and with its source, all in the range of the one root; the diagnostics are those that body and tree owe. A
-/// skipped body is a missing expression and owes no fault. `Memory` where a growth was refused; `Full` exactly where
-/// what the body becomes doesn't fit, unless memory was refused before; never `Failed`. Until patterns come the caller
-/// hands in no parameters, and until inner bodies come neither flag.
+/// in one way and with its source, all in the range of the one root; the source map leads from each written expression
+/// and label to what it became, and from nothing else; the diagnostics are those that body and tree owe. A skipped body
+/// is a missing expression and owes no fault. `Memory` where a growth was refused; `Full` exactly where what the body
+/// becomes doesn't fit, unless memory was refused before; never `Failed`. Until patterns come the caller hands in no
+/// parameters, and until inner bodies come neither flag.
 pub fn lower_body<E: LowerEnv>(
     alloc: Global,
     db: &E,
