@@ -6,12 +6,12 @@ ghost use Rattle.lower_json.specs.Reading as spec;
 
 use crate::field::lacks;
 use crate::literal::literal;
-use crate::node::{Node, Parts};
+use crate::node::{Node, ReadParts};
 use crate::part::AnyPart;
 use crate::refusal::Refusal;
 use hir_syntax::ast::{BlockExpr, ElseBranch, Expr, ExprKind, Label, Path, Stmt};
 
-impl<P: Parts> Node<'_, P> {
+impl<P: ReadParts> Node<'_, P> {
     pub fn if_expr(&self) -> Result<AnyPart, Refusal>
         requires { P.can self.now.parts.now }
         ensures { Told (spec.if_expr (here P.parts self.now)) result }

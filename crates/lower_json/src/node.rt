@@ -18,7 +18,7 @@ use serde_json::Value;
 use std::alloc::Global;
 
 /// What reads the parts of a node.
-pub trait Parts {
+pub trait ReadParts {
     /// It may be asked.
     ghost can: { Self → Type 0 };
     /// What stands at each node.
@@ -41,7 +41,7 @@ pub struct Node<'a, P> {
     pub range: TextRange,
 }
 
-impl<P: Parts> Node<'_, P> {
+impl<P: ReadParts> Node<'_, P> {
     /// The part that stands at the index in a value.
     fn child<T: Part>(&self, value: &Value) -> Result<T, Refusal>
         requires { P.can self.now.parts.now }

@@ -10,7 +10,7 @@ ghost use Rattle.lower_json.specs.Reading as spec;
 ghost use Rattle.lower_json.specs.Reading.{segment_kind, plain_name, no_generics, only_body};
 
 use crate::field::{flag, lacks, text};
-use crate::node::{Node, Parts};
+use crate::node::{Node, ReadParts};
 use crate::part::AnyPart;
 use crate::refusal::Refusal;
 use hir_syntax::ast::{
@@ -52,7 +52,7 @@ fn has_only_body(node: &Value) -> Result<(), Refusal>
     lacks(node, "gen")
 }
 
-impl<P: Parts> Node<'_, P> {
+impl<P: ReadParts> Node<'_, P> {
     pub fn expr_stmt(&self) -> Result<AnyPart, Refusal>
         requires { P.can self.now.parts.now }
         ensures { Told (spec.expr_stmt (here P.parts self.now)) result }

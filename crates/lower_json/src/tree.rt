@@ -9,7 +9,7 @@ ghost use Rattle.lower_json.specs.Reading.{of_kind, node_at, tree_at};
 
 use crate::field;
 use crate::kind::{Kind, kind_in};
-use crate::node::{Node, Parts};
+use crate::node::{Node, ReadParts};
 use crate::part::{AnyPart, Part};
 use crate::refusal::Refusal;
 use hir_syntax::ast::Fn as Function;
@@ -27,7 +27,7 @@ pub struct Level<'a, F> {
     read: F,
 }
 
-impl<F: Fn(Global, &[Value], u32, u32) -> Result<AnyPart, Refusal>> Parts for Level<'_, F> {
+impl<F: Fn(Global, &[Value], u32, u32) -> Result<AnyPart, Refusal>> ReadParts for Level<'_, F> {
     ghost can = { λ it. Reads (F.pre it.read) (F.post it.read) it.nodes.now it.levels };
 
     ghost parts = { λ it. spec.part_at it.levels (items_view it.nodes.now) };
@@ -37,7 +37,7 @@ impl<F: Fn(Global, &[Value], u32, u32) -> Result<AnyPart, Refusal>> Parts for Le
     }
 }
 
-impl<P: Parts> Node<'_, P> {
+impl<P: ReadParts> Node<'_, P> {
     #[tactic(auto, unfolding(crate::specs::Reading::of_kind))]
     fn build(&self, kind: Kind) -> Result<AnyPart, Refusal>
         requires { P.can self.now.parts.now }
@@ -66,7 +66,7 @@ impl<P: Parts> Node<'_, P> {
 }
 
 #[tactic(auto, unfolding(crate::specs::Reading::node_at))]
-pub fn read_node<P: Parts>(
+pub fn read_node<P: ReadParts>(
     alloc: Global,
     parts: &P,
     value: &Value,

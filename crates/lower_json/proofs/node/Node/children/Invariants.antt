@@ -9,7 +9,7 @@ use Rattle.lower_json.proofs.node.Node.children.Given as goal
 abbrev pub invariant-loop-value : goal.invariant-loop-value
 invariant-loop-value g l = record {
   same : l.self ≡ l.fn.self;
-  so_far : each (spec.child (here g.P.Parts.parts l.self) g.T.Part.as_group) (items_view l.items) ≡ option_map (λ ys. l.parts ++ ys) (each (spec.child (here g.P.Parts.parts l.self) g.T.Part.as_group) (items_view l.rest));
+  so_far : each (spec.child (here g.P.ReadParts.parts l.self) g.T.Part.as_group) (items_view l.items) ≡ option_map (λ ys. l.parts ++ ys) (each (spec.child (here g.P.ReadParts.parts l.self) g.T.Part.as_group) (items_view l.rest));
 }
 
 abbrev pub decreases-loop-value : goal.decreases-loop-value
