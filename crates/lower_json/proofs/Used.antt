@@ -1,16 +1,12 @@
 -- Marks, and how often a node is named.
 use Rattle.std.proofs.Common.{◌≡◌, ◌∙◌, ℕ, suc, zero, ◌+◌, ◌<◌, ◌≤◌, Bool, true, false, nat_lt, List, [], ◌∷◌, ◌++◌, Option, Some, None, length, get_or, replicate, refl, ap, sym, rules, arith}
 use Rattle.std.specs.Prelude.{slice_set, if◌then◌else◌, All}
-use Rattle.std.proofs.lemmas.Option.{none-some, same_Some}
+use Rattle.std.proofs.lemmas.Option.{none-some, same_Some, option_and_then_some}
 use Rattle.std.proofs.lemmas.List.Elements.{All-get_or, All-from_get_or, All-nil, All-cons, All-head, All-tail}
 use Rattle.serde_json.specs.Data.{Items, no_items, item}
 use Rattle.lower_json.specs.Told.{◌>>=◌}
 use Rattle.lower_json.specs.Marks.{mark, mark_later, mark_each, mark_named, all_marks}
 use Rattle.lower_json.specs.Uses.{hit, times, named, named_by, NameLater, AllUsed, count}
-
-both_some : {A B P : Type 0} (o : Option A) (f : A → Option B) (y : B) → (o >>= f) ≡ Some y → ((x : A) → o ≡ Some x → f x ≡ Some y → P) → P
-both_some None f y e k = absurd (none-some y e)
-both_some (Some x) f y e k = k x refl e
 
 either_none : {A B P : Type 0} (o : Option A) (f : A → Option B) → (o >>= f) ≡ None → (o ≡ None → P) → ((x : A) → o ≡ Some x → f x ≡ None → P) → P
 either_none None f e first next = first refl
@@ -109,7 +105,7 @@ record Made (at : ℕ) (ms ns : List Bool) (ks : List ℕ) : Type 0 where
 
 each_made : (at : ℕ) (ms ns : List Bool) (ks : List ℕ) → mark_each at ms ks ≡ Some ns → Made at ms ns ks
 each_made at ms ns [] e = let same = same_Some ms ns e in record { later = All-nil (λ k. at < k); counts = record { same_length = rw same refl; each = λ k l. rw same (omega arith) } }
-each_made at ms ns (j ∷ ks) e = both_some (mark_later at ms j) (λ os. mark_each at os ks) ns e
+each_made at ms ns (j ∷ ks) e = option_and_then_some (λ os. mark_each at os ks) (mark_later at ms j) ns e
     (λ os first rest. let m = later_made (nat_lt at j) (mark ms j) os first in let r = each_made at os ns ks rest in
     record { later = All-cons (λ k. at < k) j ks (lt_true at j m.0) r.later; counts = counts_more ms os ns (j ∷ []) ks (one_mark ms os j m.1) r.counts })
 
@@ -125,7 +121,7 @@ record NamedMade (i : ℕ) (ms os : List Bool) (ns : Items) : Type 0 where
 
 named_made : (i : ℕ) (ms os : List Bool) (ns : Items) → mark_named i ms ns ≡ Some os → NamedMade i ms os ns
 named_made i ms os no_items e = let same = same_Some ms os e in record { later = tt; counts = record { same_length = rw same refl; each = λ k l. rw same (omega arith) } }
-named_made i ms os (item d ds) e = both_some (mark_each i ms (named_by d)) (λ ps. mark_named (suc i) ps ds) os e
+named_made i ms os (item d ds) e = option_and_then_some (λ ps. mark_named (suc i) ps ds) (mark_each i ms (named_by d)) os e
     (λ ps first rest. let m = each_made i ms ps (named_by d) first in let r = named_made (suc i) ps os ds rest in
     record { later = (m.later, r.later); counts = counts_more ms ps os (named_by d) (named ds) m.counts r.counts })
 
@@ -142,7 +138,7 @@ no_marks (suc n) zero = refl
 no_marks (suc n) (suc k) = no_marks n k
 
 all_made : (ms os : List Bool) (ns : Items) (root : ℕ) → all_marks ms ns root ≡ Some os → NameLater 0 ns × Counts ms os (root ∷ named ns)
-all_made ms os ns root e = both_some (mark ms root) (λ ps. mark_named 0 ps ns) os e
+all_made ms os ns root e = option_and_then_some (λ ps. mark_named 0 ps ns) (mark ms root) os e
     (λ ps first rest. let m = named_made 0 ps os ns rest in (m.later, counts_more ms ps os (root ∷ []) (named ns) (one_mark ms ps root first) m.counts))
 
 all_not_made : (ms : List Bool) (ns : Items) (root : ℕ) → all_marks ms ns root ≡ None → NameLater 0 ns → Twice ms (root ∷ named ns)

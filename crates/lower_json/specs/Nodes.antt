@@ -7,4 +7,4 @@ use Rattle.lower_json.specs.declared.part.AnyPart.{AnyPart}
 
 -- the node, where `parts` says what its reader reads
 abbrev pub here : {P : Type 0} → (P → ℕ → Option AnyPart) → Node P → Here
-here parts n = record { part = parts n.parts.now; at = n.at; value = view n.value.now; id = n.id; range = n.range }
+here parts n = record { part = parts n.parts.now; value = view n.value.now; id = n.id; range = n.range }

@@ -1,5 +1,5 @@
 -- What stands in the fields for parts.
-use Rattle.std.specs.Prelude.{ℕ, List, [], ◌∷◌, Option, Some, None, nat_lt, if◌then◌else◌}
+use Rattle.std.specs.Prelude.{ℕ, List, [], ◌∷◌, Option, Some, None}
 use Rattle.serde_json.specs.Data.{Data, null, boolean, number, string, array, object, Items, no_items, item}
 use Rattle.serde_json.specs.Find.{as_array, as_str, get}
 use Rattle.hir_syntax.specs.declared.ast.Lifetime.{Lifetime}
@@ -14,14 +14,9 @@ use Rattle.lower_json.specs.declared.part.AnyPart.{AnyPart}
 -- a node, with what stands at each node
 pub record Here : Type 0 where
   pub part : ℕ → Option AnyPart
-  pub at : ℕ
   pub value : Data
   pub id : NodeId
   pub range : TextRange
-
--- a number, where it is above another
-abbrev pub above : ℕ → ℕ → Option ℕ
-above at k = if nat_lt at k then Some k else None
 
 -- what may be absent
 abbrev pub optional : {T : Type 0} → (Data → Option T) → Option Data → Option (Option T)
@@ -63,11 +58,10 @@ list f None = Some []
 list f (Some d) = items_as f d
 
 module _ (h : Here) where
-  -- the part at a later node, by its index
+  -- the part at a node, by its index
   abbrev pub child : {T : Type 0} → (AnyPart → Option T) → Data → Option T
   child as_group d = do
     k ← small_of d
-    k ← above h.at k
     x ← h.part k
     as_group x
 

@@ -187,7 +187,7 @@ node_at parts at d = do
   id ← id_of at (get (codes "id") d)
   range ← range_of id (get (codes "r") d)
   k ← kind_in d
-  of_kind (record { part = parts; at = at; value = d; id = record { 0 = id }; range = range }) k
+  of_kind (record { part = parts; value = d; id = record { 0 = id }; range = range }) k
 
 -- what stands at a node, on so many levels at most
 unfoldable pub part_at : ℕ → Items → ℕ → Option AnyPart

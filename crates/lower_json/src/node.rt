@@ -30,13 +30,12 @@ pub trait ReadParts {
         ensures { Told (parts self.now at) result };
 }
 
-/// A node of a list, with its index, number and range, and what reads its parts.
+/// A node of a list, with its number and range, and what reads its parts.
 #[derive_where(Clone, Copy)]
 pub struct Node<'a, P> {
     pub alloc: Global,
     pub parts: &'a P,
     pub value: &'a Value,
-    pub at: u32,
     pub id: NodeId,
     pub range: TextRange,
 }
@@ -50,9 +49,6 @@ impl<P: ReadParts> Node<'_, P> {
         let Some(place) = small(value) else {
             return Err(Refusal::NotADocument);
         };
-        if place <= self.at {
-            return Err(Refusal::NotADocument);
-        }
         let part = self.parts.part_at(self.alloc, place)?;
         match T::from_part(self.alloc, part)? {
             Some(part) => Ok(part),

@@ -88,7 +88,6 @@ pub fn read_node<P: ReadParts>(
         alloc,
         parts,
         value,
-        at,
         id: NodeId(id),
         range,
     }

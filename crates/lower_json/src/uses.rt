@@ -1,10 +1,10 @@
 //! Whether each node of a list is used once.
 
-ghost use Rattle.std.specs.Prelude.{◌≡◌, ◌≤◌, ◌↔◌, map, true, IfOk, IsTrue, IsFalse, length, replicate, false, All};
+ghost use Rattle.std.specs.Prelude.{◌≡◌, ◌↔◌, map, true, IfOk, IsTrue, length, replicate, false, All};
 ghost use Rattle.serde_json.specs.View.{view, items_view};
 ghost use Rattle.serde_json.specs.Find.{get};
 ghost use Rattle.lower_json.specs.Marks as spec;
-ghost use Rattle.lower_json.specs.Marks.{Marks, mark_each, mark_later, mark_named, all_marks};
+ghost use Rattle.lower_json.specs.Marks.{Marks, mark_each, mark_named, all_marks};
 ghost use Rattle.lower_json.specs.Uses.{AllUsed, index_in, indexes_of, indexes_in, named_in, named_by, part_fields};
 
 use crate::field::small;
