@@ -1,5 +1,5 @@
 -- An answered tree is one level of it around its answered parts.
-use Rattle.std.proofs.Common.{◌≡◌, ◌∙◌, refl, sym, ap, Option, Some, None, List, [], ◌∷◌}
+use Rattle.std.proofs.Common.{◌≡◌, ◌∙◌, refl, Option, Some, None, List, [], ◌∷◌}
 use Rattle.std.specs.Prelude.{option_map}
 use Rattle.hir_syntax.specs.declared.node.AstPtr.{AstPtr}
 use Rattle.hir_syntax.specs.declared.ast.ElseBranch.{ElseBranch as AstElseBranch, out-ElseBranch}
@@ -15,11 +15,12 @@ use mathlib.Core.Former.{this}
 use Rattle.hir_store.specs.Pointers.{Pointer}
 use Rattle.hir_env.specs.declared.place.Place.{Place}
 use Rattle.hir_env.specs.Answers.{Answers}
-use Rattle.hir_env.specs.Layers.{BlockReading, Sorts, Reader, ElseBranchLayer, ExprKindLayer, StmtKindLayer, BlockExprLayer, readings, itself}
+use Rattle.hir_env.specs.Spot.{Spot}
+use Rattle.hir_env.specs.Layers.{BlockReading, Reader, ElseBranchLayer, ExprKindLayer, StmtKindLayer, BlockExprLayer, readings, itself}
 use Rattle.hir_env.specs.Answering as of
 use Rattle.hir_env.specs.Answered as tree
 use Rattle.hir_env.specs.Answered.{Label, Expr, OptionExpr, Exprs, Block, OptionBlock, Stmts, Stmt}
-use Rattle.hir_env.specs.Whole.{written, reader, read_else_branch, read_expr_kind, read_stmt_kind, read_block, read_expr, read_stmt, answered, answered_plain, answered_block, answered_stmt, answered_else, asked_expr, block_level, stmt_level, else_level}
+use Rattle.hir_env.specs.Whole.{written, reader, read_else_branch, read_expr_kind, read_stmt_kind, read_block, read_expr, read_stmt, answered, answered_plain, answered_block, answered_stmt, answered_else, label_part, asked_expr, block_level, stmt_level, else_level}
 
 -- how a fold passes an option and a list on
 abbrev optional : {A B : Type 0} → (A → B) → Option A → Option B
@@ -105,10 +106,10 @@ module _ (env : Answers) where
   read_plain_is b p = (λ j. (folds.fold_out-BlockExpr readings.ElseBranch readings.ExprKind readings.StmtKind readings.BlockExpr readings.Expr readings.Stmt
       (of.else_branch env itself) (of.expr_kind env itself) (of.stmt_kind env itself) (of.block_step env itself) (of.expr_step env itself) (of.stmt_step env itself) b j).plain p) ∙ block_at_is (out-BlockExpr b) None p
 
-  read_own_is : (b : AstBlockExpr) (p : Place) → (read_block env b).own p ≡ of.block_at env rd (out-BlockExpr b) (option_map (of.label_of env p) (out-BlockExpr b).label) p
+  read_own_is : (b : AstBlockExpr) (p : Place) → (read_block env b).own p ≡ tree.block_expr (of.block_at env rd (out-BlockExpr b) (option_map (of.label_of env p) (out-BlockExpr b).label) p)
   unfolding read_else_branch read_expr_kind read_stmt_kind read_block read_expr read_stmt
   read_own_is b p = (λ j. (folds.fold_out-BlockExpr readings.ElseBranch readings.ExprKind readings.StmtKind readings.BlockExpr readings.Expr readings.Stmt
-      (of.else_branch env itself) (of.expr_kind env itself) (of.stmt_kind env itself) (of.block_step env itself) (of.expr_step env itself) (of.stmt_step env itself) b j).own p) ∙ block_at_is (out-BlockExpr b) (option_map (of.label_of env p) (out-BlockExpr b).label) p
+      (of.else_branch env itself) (of.expr_kind env itself) (of.stmt_kind env itself) (of.block_step env itself) (of.expr_step env itself) (of.stmt_step env itself) b j).own p) ∙ (λ j. tree.block_expr (block_at_is (out-BlockExpr b) (option_map (of.label_of env p) (out-BlockExpr b).label) p j))
 
   read_stmt_kind_is : (k : AstStmtKind) (p : Place) → read_stmt_kind env k p ≡ of.stmt_kind env rd (out-StmtKind k) p
   unfolding read_else_branch read_expr_kind read_stmt_kind read_block read_expr read_stmt
@@ -125,17 +126,17 @@ module _ (env : Answers) where
   read_else_is e p = (λ j. folds.fold_out-ElseBranch readings.ElseBranch readings.ExprKind readings.StmtKind readings.BlockExpr readings.Expr readings.Stmt
       (of.else_branch env itself) (of.expr_kind env itself) (of.stmt_kind env itself) (of.block_step env itself) (of.expr_step env itself) (of.stmt_step env itself) e j p) ∙ else_is (out-ElseBranch e) p
 
-pub expr_is_level : (env : Answers) (p : Place) (e : AstExpr) → answered env p e ≡ asked_expr env p e
-expr_is_level env p e = read_expr_is env e p
+pub expr_is_level : (at : Spot) (e : AstExpr) → answered at e ≡ asked_expr at e
+expr_is_level at e = read_expr_is at.answers e at.place
 
-pub plain_is_level : (env : Answers) (p : Place) (b : AstBlockExpr) → answered_plain env p b ≡ block_level env p None b
-plain_is_level env p b = read_plain_is env b p
+pub plain_is_level : (at : Spot) (b : AstBlockExpr) → answered_plain at b ≡ block_level at None b
+plain_is_level at b = read_plain_is at.answers b at.place
 
-pub block_is_level : (env : Answers) (p : Place) (b : AstBlockExpr) → answered_block env p b ≡ block_level env p (option_map (of.label_of env p) (out-BlockExpr b).label) b
-block_is_level env p b = read_own_is env b p
+pub block_is_level : (at : Spot) (b : AstBlockExpr) → answered_block at b ≡ tree.block_expr (block_level at (label_part at (out-BlockExpr b).label) b)
+block_is_level at b = read_own_is at.answers b at.place
 
-pub stmt_is_level : (env : Answers) (p : Place) (s : AstStmt) → answered_stmt env p s ≡ stmt_level env p s
-stmt_is_level env p s = read_stmt_is env s p
+pub stmt_is_level : (at : Spot) (s : AstStmt) → answered_stmt at s ≡ stmt_level at s
+stmt_is_level at s = read_stmt_is at.answers s at.place
 
-pub else_is_level : (env : Answers) (p : Place) (e : AstElseBranch) → answered_else env p e ≡ else_level env p e
-else_is_level env p e = read_else_is env e p
+pub else_is_level : (at : Spot) (e : AstElseBranch) → answered_else at e ≡ else_level at e
+else_is_level at e = read_else_is at.answers e at.place

@@ -1,5 +1,5 @@
 -- How the answers are written into one level of a tree. The steps ask; nothing above them does.
-use Rattle.std.specs.Prelude.{ℕ, List, [], ◌∷◌, Option, Some, None, Bool, Result, Ok, Err, option_map, map}
+use Rattle.std.specs.Prelude.{List, [], ◌∷◌, Option, Some, None, Result, Ok, Err, option_map, map}
 use Rattle.hir_syntax.specs.declared.node.NodeId.{NodeId}
 use Rattle.hir_syntax.specs.declared.node.TextRange.{TextRange}
 use Rattle.hir_syntax.specs.declared.node.AstPtr.{AstPtr}
@@ -64,7 +64,7 @@ abbrev pub label_of : Answers → Place → AstLabel → Label
 label_of env p l = let s = in_file p (ptr l.id l.range) in record { pointer = s; name = label_name l.lifetime; hygiene = env.hygiene (site_of s) }
 
 abbrev pub jump_of : Answers → Place → AstLifetime → Jump
-jump_of env p l = let s = in_file p (ptr l.id l.range) in record { pointer = s; name = name.Text l.t; hygiene = env.hygiene (site_of s) }
+jump_of env p l = let s = in_file p (ptr l.id l.range) in record { pointer = s; name = name.Text l.t; hygiene = env.hygiene (site_of s); contexts = env.contexts }
 
 -- ---- blocks
 
@@ -116,7 +116,7 @@ module _ (env : Answers) {S : Sorts} (part : Reader S) where
 
   abbrev pub expr_at : ExprKindLayer S → Place → Pointer → Expr
   expr_at (ExprKind-F.IfExpr c t e) p s = tree.if_expr s (expr_or_none part.expr c p) (plain_or_none part.block_expr t p) (expr_or_none part.else_branch e p)
-  expr_at (ExprKind-F.BlockExpr b) p s = tree.block_expr ((part.block_expr b).own p)
+  expr_at (ExprKind-F.BlockExpr b) p s = (part.block_expr b).own p
   expr_at (ExprKind-F.LoopExpr l b) p s = tree.loop_expr s (option_map (label_of env p) l) (plain_or_none part.block_expr b p)
   expr_at (ExprKind-F.CallExpr f es) p s = tree.call_expr s (expr_or_none part.expr f p) (exprs_or_none part.expr es p)
   expr_at (ExprKind-F.PathExpr x) p s = tree.path_expr s (option_map path_of x) (env.hygiene (site_of s))
@@ -138,7 +138,7 @@ module _ (env : Answers) {S : Sorts} (part : Reader S) where
       tree.block (in_file p (ptr b.id b.range)) label (option_map (λ n. n.0) number) (stmts_of part.stmt b.stmts q) (expr_or_none part.expr b.tail q)
 
   abbrev pub block_step : BlockExprLayer S → BlockReading
-  block_step b = record { plain = λ p. block_at b None p; own = λ p. block_at b (option_map (label_of env p) b.label) p }
+  block_step b = record { plain = λ p. block_at b None p; own = λ p. tree.block_expr (block_at b (option_map (label_of env p) b.label) p) }
 
   abbrev pub stmt_kind : StmtKindLayer S → Place → Stmt
   stmt_kind (StmtKind-F.ExprStmt e semi) p = tree.expr_stmt (expr_or_none part.expr e p) semi
