@@ -13,6 +13,7 @@ use Rattle.hir_syntax.specs.declared.ast.SegmentKind.TheVariants as kind
 use Rattle.hir_syntax.specs.declared.ast.ElseBranch.TheOpen.{ElseBranch-F, ExprKind-F, StmtKind-F}
 use Rattle.hir_store.specs.Pointers.{Pointer}
 use Rattle.hir_store.specs.declared.ids.CfgId.{CfgId}
+use Rattle.hir_store.specs.declared.ids.HygieneId.{HygieneId}
 use Rattle.hir_store.specs.declared.ids.BlockId.{BlockId}
 use Rattle.hir_store.specs.declared.ids.ModuleId.{ModuleId}
 use Rattle.hir_store.specs.declared.name.Name.{Name}
@@ -63,8 +64,12 @@ label_name (Some l) = name.Text l.t
 abbrev pub label_of : Answers → Place → AstLabel → Label
 label_of env p l = let s = in_file p (ptr l.id l.range) in record { pointer = s; name = label_name l.lifetime; hygiene = env.hygiene (site_of s) }
 
+-- a jump to this name, with what is answered about contexts
+abbrev pub jump : Answers → Pointer → Name → HygieneId → Jump
+jump env s n h = record { pointer = s; name = n; hygiene = h; contexts = env.contexts }
+
 abbrev pub jump_of : Answers → Place → AstLifetime → Jump
-jump_of env p l = let s = in_file p (ptr l.id l.range) in record { pointer = s; name = name.Text l.t; hygiene = env.hygiene (site_of s); contexts = env.contexts }
+jump_of env p l = let s = in_file p (ptr l.id l.range) in jump env s (name.Text l.t) (env.hygiene (site_of s))
 
 -- ---- blocks
 
