@@ -1,5 +1,5 @@
 -- A block where only a block may stand has no label of its own.
-use Rattle.std.proofs.Common.{arith, ◌≡◌, refl, subst, sym, ℕ, suc, ◌≤◌, ◌-◌, max, true, false}
+use Rattle.std.proofs.Common.{arith, ◌≡◌, refl, subst, sym, suc, ◌-◌, true, false}
 use Rattle.std.proofs.Common.{List, [], ◌∷◌, ◌++◌, length, length-append, Option, Some, None}
 use Rattle.std.specs.Prelude.{slice_get, MatchOption}
 use Rattle.hir_syntax.specs.declared.ast.BlockExpr.{BlockExpr as AstBlockExpr, out-BlockExpr}
@@ -28,7 +28,8 @@ get_end (y ∷ xs) x =
     let e : length (y ∷ (xs ++ x ∷ [])) - 1 ≡ suc (length (xs ++ x ∷ []) - 1) = omega arith in
     rw e (get_end xs x)
 
-get_last : (s t : Statement) (ss : List Statement) → slice_get (s ∷ t ∷ ss) (length (s ∷ t ∷ ss) - 1) ≡ slice_get (t ∷ ss) (length (t ∷ ss) - 1)
+get_last : (s t : Statement) (ss : List Statement)
+    → slice_get (s ∷ t ∷ ss) (length (s ∷ t ∷ ss) - 1) ≡ slice_get (t ∷ ss) (length (t ∷ ss) - 1)
 get_last s t ss =
     let e : length (s ∷ t ∷ ss) - 1 ≡ suc (length ss) = omega arith in
     let f : length (t ∷ ss) - 1 ≡ length ss = omega arith in
@@ -38,10 +39,12 @@ settled_expr : (ss : List Statement) (id : ExprId) → settled (ss ++ statement.
 settled_expr [] id = refl
 settled_expr (statement.Expr i true ∷ ss) id = λ k. (statement.Expr i true ∷ (settled_expr ss id k).0, (settled_expr ss id k).1)
 settled_expr (statement.Expr i false ∷ []) id = refl
-settled_expr (statement.Expr i false ∷ s ∷ ss) id = λ k. (statement.Expr i false ∷ (settled_expr (s ∷ ss) id k).0, (settled_expr (s ∷ ss) id k).1)
+settled_expr (statement.Expr i false ∷ s ∷ ss) id =
+    λ k. (statement.Expr i false ∷ (settled_expr (s ∷ ss) id k).0, (settled_expr (s ∷ ss) id k).1)
 settled_expr (statement.Item ∷ ss) id = λ k. (statement.Item ∷ (settled_expr ss id k).0, (settled_expr ss id k).1)
 
-settled_some : (ss : List Statement) (s : Statement) (id : ExprId) → value_of (Some s) ≡ Some id → settled (ss ++ s ∷ []) None ≡ (ss, Some id)
+settled_some : (ss : List Statement) (s : Statement) (id : ExprId)
+    → value_of (Some s) ≡ Some id → settled (ss ++ s ∷ []) None ≡ (ss, Some id)
 settled_some ss (statement.Expr i false) id h = let e : i ≡ id = cc in rw e (settled_expr ss id)
 settled_some ss (statement.Expr i true) id h = cc
 settled_some ss statement.Item id h = cc
@@ -70,7 +73,8 @@ settled_none (statement.Item ∷ t ∷ ss) h =
 abbrev Settled : Stored → List Statement × Option ExprId → Type 0
 Settled s r = HasStatements s r.0 × HasExprOption s r.1
 
-pub settled_range : (s : Stored) (ss : List Statement) (t : Option ExprId) → HasStatements s ss → HasExprOption s t → Settled s (settled ss t)
+pub settled_range : (s : Stored) (ss : List Statement) (t : Option ExprId)
+    → HasStatements s ss → HasExprOption s t → Settled s (settled ss t)
 settled_range s ss (Some t) h k = (h, k)
 settled_range s [] None h k = (h, k)
 settled_range s (statement.Expr i false ∷ []) None h k = (omega arith, omega arith)

@@ -6,7 +6,7 @@ use Rattle.hir_env.specs.Answered as tree
 use Rattle.hir_env.specs.Answered.{Stmts}
 use Rattle.hir_lower_form.specs.Builder.{Builder}
 use Rattle.hir_lower_form.specs.Lowering.{Checked, Lowering, go_on}
-use Rattle.hir_lower_form.specs.Lower.{Contents, push_some, lower_stmt, lower_stmts}
+use Rattle.hir_lower_form.specs.Lower.{push_some, lower_stmt, lower_stmts}
 use Rattle.hir_lower_form.specs.Outcomes.{flat}
 
 again : {A B C : Type 0} (o : Checked A) (b : Builder) (f : A → Lowering B) (g : B → Lowering C)
@@ -14,7 +14,8 @@ again : {A B C : Type 0} (o : Checked A) (b : Builder) (f : A → Lowering B) (g
 again (Ok a) b f g = refl
 again (Err e) b f g = refl
 
-flat_on : (done : List Statement) (ss : Stmts) (tail : Lowering (Option ExprId)) (b : Builder) → lower_stmts done ss tail b ≡ flat done ss tail b
+flat_on : (done : List Statement) (ss : Stmts) (tail : Lowering (Option ExprId)) (b : Builder)
+    → lower_stmts done ss tail b ≡ flat done ss tail b
 flat_on done tree.no_stmts tail b = refl
 flat_on done (tree.more_stmts s ss) tail b =
     (λ i. go_on (lower_stmt s b).0 (lower_stmt s b).1 (λ x c. flat_on (push_some done x) ss tail c i))

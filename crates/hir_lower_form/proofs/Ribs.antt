@@ -6,7 +6,8 @@ use Rattle.hir_store.specs.Range.{HasLabel}
 use Rattle.hir_env.specs.Answered.{Jump}
 use Rattle.hir_env.specs.Answers.{Answers}
 use Rattle.hir_env.specs.Answering.{jump}
-use Rattle.hir_scope.specs.Ribs.{Rib, label_rib, macro_rib, barrier_rib, Target, found, unreachable, undeclared, target, search, sought_first}
+use Rattle.hir_scope.specs.Ribs.{Rib, label_rib, macro_rib, barrier_rib}
+use Rattle.hir_scope.specs.Ribs.{Target, found, unreachable, undeclared, target, search, sought_first}
 use Rattle.hir_scope.proofs.Ribs.{InReach, IfFound, target_in_reach}
 use Rattle.hir_store.specs.Pointers.{Pointer}
 use Rattle.hir_store.specs.declared.name.Name.{Name}
@@ -26,12 +27,14 @@ abbrev Lowered : Builder → Jump → Target LabelId → Result LabelId NoTarget
 Lowered b j t (Ok n) = (found_or_fault j t b ≡ (Ok (Some n), b)) × HasLabel b.stored n
 Lowered b j t (Err x) = Unit {0}
 
-pub found_lowers : (b : Builder) (env : Answers) (source : Pointer) (name : Name) (hygiene : HygieneId) (n : LabelId) → answer (search env.contexts name (sought_first hygiene) b.scopes) ≡ Ok n → RibsExist b
+pub found_lowers : (b : Builder) (env : Answers) (source : Pointer) (name : Name) (hygiene : HygieneId) (n : LabelId)
+    → answer (search env.contexts name (sought_first hygiene) b.scopes) ≡ Ok n → RibsExist b
     → (jump_target (Some (jump env source name hygiene)) b ≡ (Ok (Some n), b)) × HasLabel b.stored n
 unfolding jump_target
 found_lowers b env source name hygiene n e exist =
     let j : Jump = jump env source name hygiene in
-    subst (Lowered b j (target j b.scopes)) e (by j (target j b.scopes) (target_in_reach (HasLabel b.stored) j b.scopes (all_exist b.stored b.scopes exist)))
+    let reach = target_in_reach (HasLabel b.stored) j b.scopes (all_exist b.stored b.scopes exist) in
+    subst (Lowered b j (target j b.scopes)) e (by j (target j b.scopes) reach)
   where
     by : (j : Jump) (t : Target LabelId) → IfFound (HasLabel b.stored) t → Lowered b j t (answer t)
     by j (found k) h = (refl, h)

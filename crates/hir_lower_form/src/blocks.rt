@@ -23,10 +23,12 @@ fn value_at_end(statements: &[Statement]) -> Option<ExprId>
     ensures { result ≡ spec.value_of (slice_get statements.now (length statements.now - 1)) }
 {
     match statements.last() {
-        Some(Statement::Expr {
-            expr,
-            has_semi: false,
-        }) => Some(*expr),
+        Some(
+            Statement::Expr {
+                expr,
+                has_semi: false,
+            },
+        ) => Some(*expr),
         _ => None,
     }
 }
@@ -108,12 +110,10 @@ impl<P: LowerParts> Lowerer<P> {
         node: &ast::BlockExpr,
     ) -> Result<(Seq<Statement>, Option<ExprId>), StoreFault>
         requires { KidsBlock (P.can self.now.parts) (out-BlockExpr node.now) }
-        ensures {
-            let block = out-BlockExpr node.now in
+        ensures { let block = out-BlockExpr node.now in
             let spot = P.spot self.now.parts in
             let tail = spec.kept_part (expr_part spot block.tail) in
-            Lowers HasContents (flat [] (stmts_part spot block.stmts) tail) state.old result state.new
-        }
+            Lowers HasContents (flat [] (stmts_part spot block.stmts) tail) state.old result state.new }
     {
         let statements = self.collect_stmts(state, node.stmts.as_slice())?;
         let tail = self.maybe_collect_expr_opt(state, &node.tail)?;
@@ -165,11 +165,9 @@ impl<P: LowerParts> Lowerer<P> {
         node: &ast::BlockExpr,
     ) -> Result<ExprId, StoreFault>
         requires { (P.can self.now.parts).block node.now }
-        ensures {
-            let block = answered_plain (P.spot self.now.parts) node.now in
+        ensures { let block = answered_plain (P.spot self.now.parts) node.now in
             let label = label_part (P.spot self.now.parts) label.now in
-            Lowers HasExpr (spec.labelled label (λ id. spec.lower_inside id block)) state.old result state.new
-        }
+            Lowers HasExpr (spec.labelled label (λ id. spec.lower_inside id block)) state.old result state.new }
     {
         let Some(label) = label else {
             return self.parts.collect_block_inside(state, None, node);

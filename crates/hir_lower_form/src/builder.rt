@@ -31,7 +31,10 @@ pub struct BodyBuilder {
 
 impl Drop for BodyBuilder {
     fn drop(self) {
-        let BodyBuilder { store: _, scopes: _ } = self;
+        let BodyBuilder {
+            store: _,
+            scopes: _,
+        } = self;
     }
 }
 
@@ -121,10 +124,8 @@ impl BodyBuilder {
         hygiene: HygieneId,
         source: InFile<AstPtr>,
     ) -> Result<LabelId, StoreFault>
-        ensures {
-            Lowers HasLabel (spec.open_label
-              (record { pointer = source; name = name; hygiene = hygiene })) self.old result self.new
-        }
+        ensures { Lowers HasLabel (spec.open_label
+            (record { pointer = source; name = name; hygiene = hygiene })) self.old result self.new }
     {
         let copy = name.clone()?;
         let label = self.store.alloc_label(Label { name }, Some(source))?;
@@ -157,10 +158,8 @@ impl BodyBuilder {
         hygiene: HygieneId,
         source: InFile<AstPtr>,
     ) -> Result<Option<LabelId>, StoreFault>
-        ensures {
-            Lowers HasLabelOption (spec.jump_target
-              (Some (jump (P.spot parts.now).answers source name hygiene))) self.old result self.new
-        }
+        ensures { Lowers HasLabelOption (spec.jump_target
+            (Some (jump (P.spot parts.now).answers source name hygiene))) self.old result self.new }
     {
         match parts.find_label(&self.scopes, &name, hygiene) {
             Ok(label) => Ok(Some(label)),

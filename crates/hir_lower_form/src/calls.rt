@@ -58,11 +58,9 @@ impl<P: LowerParts> Lowerer<P> {
     ) -> Result<ExprId, StoreFault>
         requires callee { IfPresent (P.can self.now.parts).expr callee.now }
         requires args { IfPresent (Each (P.can self.now.parts).expr) args.now }
-        ensures {
-            LowersExpr (tree.call_expr at
-              (expr_part (P.spot self.now.parts) callee.now)
-              (args_part (P.spot self.now.parts) args.now)) state.old result state.new
-        }
+        ensures { LowersExpr (tree.call_expr at
+            (expr_part (P.spot self.now.parts) callee.now)
+            (args_part (P.spot self.now.parts) args.now)) state.old result state.new }
     {
         let callee = self.collect_expr_opt(state, callee)?;
         let args = self.arguments(state, args)?;

@@ -67,12 +67,10 @@ impl<P: LowerParts> Lowerer<P> {
         requires condition { IfPresent (P.can self.now.parts).expr condition.now }
         requires then { IfPresent (P.can self.now.parts).block then.now }
         requires else_ { IfPresent (λ e. KidsElse (P.can self.now.parts) (out-ElseBranch e)) else_.now }
-        ensures {
-            LowersExpr (tree.if_expr at
-              (expr_part (P.spot self.now.parts) condition.now)
-              (block_part (P.spot self.now.parts) then.now)
-              (else_part (P.spot self.now.parts) else_.now)) state.old result state.new
-        }
+        ensures { LowersExpr (tree.if_expr at
+            (expr_part (P.spot self.now.parts) condition.now)
+            (block_part (P.spot self.now.parts) then.now)
+            (else_part (P.spot self.now.parts) else_.now)) state.old result state.new }
     {
         let then_branch = self.collect_block_opt(state, then)?;
         let else_branch = self.else_if_present(state, else_)?;
@@ -94,25 +92,37 @@ impl<P: LowerParts> Lowerer<P> {
         body: &Option<Boxed<ast::BlockExpr>>,
     ) -> Result<ExprId, StoreFault>
         requires { IfPresent (P.can self.now.parts).block body.now }
-        ensures {
-            LowersExpr (tree.loop_expr at
-              (label_part (P.spot self.now.parts) label.now)
-              (block_part (P.spot self.now.parts) body.now)) state.old result state.new
-        }
+        ensures { LowersExpr (tree.loop_expr at
+            (label_part (P.spot self.now.parts) label.now)
+            (block_part (P.spot self.now.parts) body.now)) state.old result state.new }
     {
         let source = LoopSource::Loop;
         match label {
             None => {
                 let body = self.collect_block_opt(state, body)?;
                 let label = None;
-                state.alloc_expr(Expr::Loop { body, label, source }, Some(at))
+                state.alloc_expr(
+                    Expr::Loop {
+                        body,
+                        label,
+                        source,
+                    },
+                    Some(at),
+                )
             }
             Some(label) => {
                 let label = self.open_label(state, label)?;
                 let body = self.collect_block_opt(state, body)?;
                 state.close();
                 let label = Some(label);
-                state.alloc_expr(Expr::Loop { body, label, source }, Some(at))
+                state.alloc_expr(
+                    Expr::Loop {
+                        body,
+                        label,
+                        source,
+                    },
+                    Some(at),
+                )
             }
         }
     }

@@ -26,10 +26,8 @@ impl<P: LowerParts> Lowerer<P> {
         state: &mut BodyBuilder,
         label: &ast::Label,
     ) -> Result<LabelId, StoreFault>
-        ensures {
-            let spot = P.spot self.now.parts in
-            Lowers HasLabel (step.open_label (label_of spot.answers spot.place label.now)) state.old result state.new
-        }
+        ensures { let spot = P.spot self.now.parts in
+            Lowers HasLabel (step.open_label (label_of spot.answers spot.place label.now)) state.old result state.new }
     {
         let source = self.pointer(label.id, label.range);
         let hygiene = self.parts.hygiene(site(source));
@@ -44,9 +42,7 @@ impl<P: LowerParts> Lowerer<P> {
         state: &mut BodyBuilder,
         lifetime: &Option<ast::Lifetime>,
     ) -> Result<Option<LabelId>, StoreFault>
-        ensures {
-            Lowers HasLabelOption (step.jump_target (jump_part (P.spot self.now.parts) lifetime.now)) state.old result state.new
-        }
+        ensures { Lowers HasLabelOption (step.jump_target (jump_part (P.spot self.now.parts) lifetime.now)) state.old result state.new }
     {
         match lifetime {
             None => Ok(None),
@@ -81,11 +77,9 @@ impl<P: LowerParts> Lowerer<P> {
         value: &Option<Boxed<ast::Expr>>,
     ) -> Result<ExprId, StoreFault>
         requires { IfPresent (P.can self.now.parts).expr value.now }
-        ensures {
-            LowersExpr (tree.break_expr at
-              (jump_part (P.spot self.now.parts) lifetime.now)
-              (expr_part (P.spot self.now.parts) value.now)) state.old result state.new
-        }
+        ensures { LowersExpr (tree.break_expr at
+            (jump_part (P.spot self.now.parts) lifetime.now)
+            (expr_part (P.spot self.now.parts) value.now)) state.old result state.new }
     {
         let label = self.jump_target(state, lifetime)?;
         let expr = self.collect_expr_if_present(state, value)?;

@@ -21,10 +21,8 @@ impl<P: LowerParts> Lowerer<P> {
         at: InFile<AstPtr>,
         path: &Option<ast::Path>,
     ) -> Result<ExprId, StoreFault>
-        ensures {
-            let hygiene = (P.spot self.now.parts).answers.hygiene (site_of at) in
-            LowersExpr (tree.path_expr at (option_map path_of path.now) hygiene) state.old result state.new
-        }
+        ensures { let hygiene = (P.spot self.now.parts).answers.hygiene (site_of at) in
+            LowersExpr (tree.path_expr at (option_map path_of path.now) hygiene) state.old result state.new }
     {
         let hygiene = self.parts.hygiene(site(at));
         let expr = path_expr(self.alloc, path, hygiene)?;
