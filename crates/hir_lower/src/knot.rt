@@ -101,7 +101,7 @@ impl<
 }
 
 /// The number and the module of a block, where numbers are asked for.
-fn number<E: LowerEnv>(env: &E, place: Place, node: NodeId) -> Option<(BlockId, ModuleId)>
+pub fn number<E: LowerEnv>(env: &E, place: Place, node: NodeId) -> Option<(BlockId, ModuleId)>
     ensures { result ≡ number_at (E.answers env.now) place node }
 {
     match place.mode {
@@ -117,7 +117,7 @@ fn number<E: LowerEnv>(env: &E, place: Place, node: NodeId) -> Option<(BlockId, 
 }
 
 /// Where the parts of a block are read.
-fn inside(place: Place, number: Option<(BlockId, ModuleId)>) -> Place
+pub fn inside(place: Place, number: Option<(BlockId, ModuleId)>) -> Place
     ensures { result ≡ place_inside number place }
 {
     match number {
@@ -126,7 +126,7 @@ fn inside(place: Place, number: Option<(BlockId, ModuleId)>) -> Place
     }
 }
 
-fn block_number(number: Option<(BlockId, ModuleId)>) -> Option<BlockId>
+pub fn block_number(number: Option<(BlockId, ModuleId)>) -> Option<BlockId>
     ensures { result ≡ option_map (λ n. n.0) number }
 {
     match number {

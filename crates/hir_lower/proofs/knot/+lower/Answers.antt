@@ -11,7 +11,8 @@ use Rattle.hir_lower.proofs.Kids.{kids_expr, kids_block, expr_below, in_inside}
 use Rattle.hir_lower.proofs.knot.+lower.Goals as goal
 
 pub collect_expr-returns : goal.collect_expr-returns
-collect_expr-returns g t c = rw (expr_is_level (spot_at (g.E.LowerEnv.answers c.args.env.now) c.args.place) c.args.node.now) c.expr_node.ensures
+collect_expr-returns g t c =
+    rw (expr_is_level (spot_at (g.E.LowerEnv.answers c.args.env.now) c.args.place) c.args.node.now) c.expr_node.ensures
 
 pub maybe_collect_expr-returns : goal.maybe_collect_expr-returns
 maybe_collect_expr-returns g t c =
