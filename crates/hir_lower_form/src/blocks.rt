@@ -4,7 +4,7 @@ ghost use Rattle.std.specs.Prelude.{◌≡◌, ◌-◌, [], length, slice_get};
 ghost use Rattle.hir_syntax.specs.declared.ast.BlockExpr.{out-BlockExpr};
 ghost use Rattle.hir_syntax.specs.declared.ast.StmtKind.{out-StmtKind};
 ghost use Rattle.hir_store.specs.Range.{HasExpr, HasLabelOption};
-ghost use Rattle.hir_env.specs.Whole.{answered_block, answered_plain, answered_stmt, expr_part, label_part, stmt_level, stmts_part};
+ghost use Rattle.hir_env.specs.Whole.{answered_block, answered_plain, expr_part, label_part, stmt_level, stmts_part};
 ghost use Rattle.hir_lower_form.specs.Lowering.{Lowers};
 ghost use Rattle.hir_lower_form.specs.Lower as spec;
 ghost use Rattle.hir_lower_form.specs.Nests.{Each, KidsBlock, KidsStmt};
@@ -51,7 +51,8 @@ fn settle(statements: &mut Seq<Statement>, tail: Option<ExprId>) -> Option<ExprI
 }
 
 impl<P: LowerParts> Lowerer<P> {
-    fn stmt_node(
+    /// What a statement leaves, where it leaves something.
+    fn collect_stmt(
         &self,
         state: &mut BodyBuilder,
         node: &ast::Stmt,
@@ -71,18 +72,6 @@ impl<P: LowerParts> Lowerer<P> {
             }
             ast::StmtKind::Item => Ok(Some(Statement::Item)),
         }
-    }
-
-    /// What a statement leaves, where it leaves something.
-    fn collect_stmt(
-        &self,
-        state: &mut BodyBuilder,
-        node: &ast::Stmt,
-    ) -> Result<Option<Statement>, StoreFault>
-        requires { KidsStmt (P.can self.now.parts) (out-StmtKind node.now.kind) }
-        ensures { LowersStmt (answered_stmt (P.spot self.now.parts) node.now) state.old result state.new }
-    {
-        self.stmt_node(state, node)
     }
 
     fn collect_stmts(

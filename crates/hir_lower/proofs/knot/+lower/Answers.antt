@@ -1,9 +1,10 @@
-use Rattle.std.proofs.Common.{arith, ap, ◌≡◌, ◌<◌}
+use Rattle.std.proofs.Common.{arith, ap, ℕ, suc, sym, ◌∙◌, ◌≡◌, ◌<◌, ◌+◌}
 use Rattle.hir_syntax.specs.declared.ast.ExprKind.{out-ExprKind}
 use Rattle.hir_syntax.specs.declared.ast.BlockExpr.{out-BlockExpr}
 use Rattle.hir_env.specs.Answering.{ptr, numbered}
-use Rattle.hir_env.specs.Count.{count_block}
-use Rattle.hir_env.specs.Whole.{pointer_at}
+use Rattle.hir_env.specs.declared.place.Place.{Place}
+use Rattle.hir_env.specs.Count.{count_block, count_stmts, count_option_expr}
+use Rattle.hir_env.specs.Whole.{answered_plain, expr_part, pointer_at, stmts_part}
 use Rattle.hir_env.proofs.Levels.{expr_is_level, plain_is_level}
 use Rattle.hir_lower.specs.Nests.{HandlesExpr, HandlesMaybe, HandlesBlock}
 use Rattle.hir_lower.specs.Roots.{spot_at}
@@ -79,7 +80,10 @@ collect_block_inside-block_node-requires-clause-parts g t c =
     let d = c.decreases in
     let env = g.E.LowerEnv.answers c.args.env.now in
     let inner = rw c.number-found.ensures at c.inside-inner.ensures in
-    let size = rw (← inner) at (ap count_block (plain_is_level (spot_at env c.args.place) c.args.node.now)) in
+    let node = out-BlockExpr c.args.node.now in
+    let level : Place → ℕ = λ q. suc (count_stmts (stmts_part (spot_at env q) node.stmts) + count_option_expr (expr_part (spot_at env q) node.tail)) in
+    let size : count_block (answered_plain (spot_at env c.args.place) c.args.node.now) ≡ level c.inside-inner.result =
+        ap count_block (plain_is_level (spot_at env c.args.place) c.args.node.now) ∙ ap level (sym inner) in
     kids_block env (HandlesExpr g.E.LowerEnv.answers _ _ c.args.env.now) (HandlesMaybe g.E.LowerEnv.answers _ _ c.args.env.now)
     (HandlesBlock g.E.LowerEnv.answers _ _ c.args.env.now) t
     (λ p e h. (
