@@ -28,15 +28,28 @@ past_root r = max (suc r.root.0) r.exprs_end.0
 -- the expressions that an expression names
 abbrev pub exprs_in : Expr → ℕ
 exprs_in (hir.If c t e) = max (suc c.0) (max (suc t.0) (past_option past_expr e))
-exprs_in (hir.Block label id ss tail) = max (past past_statement ss) (past_option past_expr tail)
+exprs_in (hir.Block is_unsafe label id ss tail) = max (past past_statement ss) (past_option past_expr tail)
 exprs_in (hir.Loop b label source) = suc b.0
 exprs_in (hir.Call f es) = max (suc f.0) (past past_expr es)
 exprs_in (hir.Break label e) = past_option past_expr e
+exprs_in (hir.MethodCall receiver name es) = max (suc receiver.0) (past past_expr es)
+exprs_in (hir.Field e name) = suc e.0
+exprs_in (hir.UnaryOp op e) = suc e.0
+exprs_in (hir.BinaryOp op lhs rhs) = max (suc lhs.0) (suc rhs.0)
+exprs_in (hir.Index base index) = max (suc base.0) (suc index.0)
+exprs_in (hir.Ref rawness mutability e) = suc e.0
+exprs_in (hir.Tuple es) = past past_expr es
+exprs_in (hir.Array es) = past past_expr es
+exprs_in (hir.Return e) = past_option past_expr e
+exprs_in (hir.Become e) = suc e.0
+exprs_in (hir.Yield e) = past_option past_expr e
+exprs_in (hir.Yeet e) = past_option past_expr e
+exprs_in (hir.Await e) = suc e.0
 exprs_in _ = 0
 
 -- the labels that it names
 abbrev pub labels_in : Expr → ℕ
-labels_in (hir.Block label id ss tail) = past_option past_label label
+labels_in (hir.Block is_unsafe label id ss tail) = past_option past_label label
 labels_in (hir.Loop b label source) = past_option past_label label
 labels_in (hir.Continue label) = past_option past_label label
 labels_in (hir.Break label e) = past_option past_label label
