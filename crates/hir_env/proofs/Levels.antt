@@ -1,5 +1,5 @@
 -- An answered tree is one level of it around its answered parts.
-use Rattle.std.proofs.Common.{◌≡◌, ◌∙◌, refl, ap, Option, Some, None, List, [], ◌∷◌}
+use Rattle.std.proofs.Common.{◌≡◌, ◌∙◌, refl, ap, Bool, false, Option, Some, None, List, [], ◌∷◌}
 use Rattle.std.specs.Prelude.{option_map}
 use Rattle.hir_syntax.specs.declared.node.AstPtr.{AstPtr}
 use Rattle.hir_syntax.specs.declared.ast.ElseBranch.{ElseBranch as AstElseBranch, out-ElseBranch}
@@ -20,12 +20,12 @@ use Rattle.hir_env.specs.Layers.{BlockReading, StmtReading, Reader, ElseBranchLa
 use Rattle.hir_env.specs.Answering as of
 use Rattle.hir_env.specs.Answered as tree
 use Rattle.hir_env.specs.Answered.{Label, Expr, OptionExpr, Exprs, Block, OptionBlock, Stmts, Stmt}
-use Rattle.hir_env.specs.Whole.{written, reader, read_else_branch, read_expr_kind, read_stmt_kind, read_block, read_expr, read_stmt, answered, answered_plain, answered_block, answered_else, label_part, stmts_part, in_block, block_number, pointer_at, asked_expr, block_level, stmt_level, else_level}
+use Rattle.hir_env.specs.Whole.{written, reader, read_else_branch, read_expr_kind, read_stmt_kind, read_block, read_expr, read_stmt, answered, answered_plain, answered_block, answered_else, block_head, stmts_part, in_block, block_number, pointer_at, asked_expr, block_level, stmt_level, else_level}
 
 -- how a fold passes an option and a list on
 abbrev optional : {A B : Type 0} → (A → B) → Option A → Option B
 optional {A} {B} h x = (folds.map-BlockExpr (Unit {0}) (Unit {0}) (Unit {0}) (Unit {0}) A (Unit {0}) (Unit {0}) (Unit {0}) (Unit {0}) (Unit {0}) B (Unit {0}) (λ x. x) (λ x. x) (λ x. x) (λ x. x) h (λ x. x)
-    (record { id = record { 0 = 0 }; range = record { start = 0; end = 0 }; label = None; stmts = []; tail = x })).tail
+    (record { id = record { 0 = 0 }; range = record { start = 0; end = 0 }; mod_ = None; label = None; stmts = []; tail = x })).tail
 
 abbrev listed : {A B : Type 0} → (A → B) → List A → List B
 listed {A} {B} h xs = (seq.the_former (this {0})).map A B h xs
@@ -74,15 +74,34 @@ module _ (env : Answers) where
   expr_at_is (ExprKind-F.BreakExpr l e) p s = λ j. tree.break_expr s (option_map (of.jump_of env p) l) (expr_is rd.expr e p j)
   expr_at_is (ExprKind-F.ParenExpr e) p s = λ j. tree.paren_expr s (expr_is rd.expr e p j)
   expr_at_is (ExprKind-F.Literal l) p s = refl
+  expr_at_is (ExprKind-F.MethodCallExpr e n None) p s = λ j. tree.method_call_expr s (expr_is rd.expr e p j) (of.name_or_missing n) tree.no_exprs
+  expr_at_is (ExprKind-F.MethodCallExpr e n (Some es)) p s = λ j. tree.method_call_expr s (expr_is rd.expr e p j) (of.name_or_missing n) (exprs_is rd.expr es p j)
+  expr_at_is (ExprKind-F.FieldExpr e n) p s = λ j. tree.unary_expr s (tree.field_of (of.name_or_missing n)) (expr_is rd.expr e p j)
+  expr_at_is (ExprKind-F.PrefixExpr o e) p s = λ j. of.prefix_expr s o (expr_is rd.expr e p j)
+  expr_at_is (ExprKind-F.BinExpr o a b) p s = λ j. of.bin_expr s o (expr_is rd.expr a p j) (expr_is rd.expr b p j)
+  expr_at_is (ExprKind-F.IndexExpr a b) p s = λ j. tree.binary_expr s tree.index_of (expr_is rd.expr a p j) (expr_is rd.expr b p j)
+  expr_at_is (ExprKind-F.RefExpr r m e) p s = λ j. tree.unary_expr s (tree.reference_to (of.rawness r) (of.mutability m)) (expr_is rd.expr e p j)
+  expr_at_is (ExprKind-F.TupleExpr comma es) p s = λ j. tree.list_expr s (tree.tuple_of comma) (exprs_is rd.expr es p j)
+  expr_at_is (ExprKind-F.ArrayExpr es) p s = λ j. tree.list_expr s tree.array_of (exprs_is rd.expr es p j)
+  expr_at_is (ExprKind-F.ReturnExpr e) p s = λ j. tree.leaving_expr s tree.returning (expr_is rd.expr e p j)
+  expr_at_is (ExprKind-F.BecomeExpr e) p s = λ j. tree.become_expr s (expr_is rd.expr e p j)
+  expr_at_is (ExprKind-F.YieldExpr e) p s = λ j. tree.yield_expr s (expr_is rd.expr e p j)
+  expr_at_is (ExprKind-F.YeetExpr e) p s = λ j. tree.leaving_expr s tree.yeeting (expr_is rd.expr e p j)
+  expr_at_is (ExprKind-F.AwaitExpr e) p s = λ j. tree.await_expr s p.await_location (expr_is rd.expr e p j)
+  expr_at_is (ExprKind-F.CfgPredExpr pred) p s = refl
+  expr_at_is ExprKind-F.UnderscoreExpr p s = refl
+  expr_at_is ExprKind-F.IncludeBytesExpr p s = refl
+  expr_at_is ExprKind-F.AsmExpr p s = refl
+  expr_at_is ExprKind-F.FormatArgsExpr p s = refl
 
   expr_kind_is : (k : ExprKindLayer written) (n : AstPtr) (p : Place) → of.expr_kind env itself (mapped_kind k) n p ≡ of.expr_kind env rd k n p
   expr_kind_is k n p = λ j. let s = of.in_file p n in of.asked s (env.cfg (of.site_of s)) (expr_at_is k p s j)
 
-  block_at_is : (b : BlockExprLayer written) (label : Option Label) (p : Place) → of.block_at env itself (mapped_block b) label p ≡ of.block_at env rd b label p
-  block_at_is b label p = λ j.
+  block_at_is : (b : BlockExprLayer written) (head : Bool × Option Label) (p : Place) → of.block_at env itself (mapped_block b) head p ≡ of.block_at env rd b head p
+  block_at_is b head p = λ j.
       let number = of.numbered env p b.id in
       let c = contents_is rd.stmt b.stmts (of.expr_or_none (λ y. y) (optional rd.expr b.tail)) (of.expr_or_none rd.expr b.tail) (expr_is rd.expr b.tail) (of.inside number p) j in
-      tree.block (of.in_file p (of.ptr b.id b.range)) label (option_map (λ n. n.0) number) c.0 c.1
+      tree.block (of.in_file p (of.ptr b.id b.range)) head.0 head.1 (option_map (λ n. n.0) number) c.0 c.1
 
   stmt_kind_is : (k : StmtKindLayer written) (p : Place) → of.stmt_kind env itself (mapped_stmt_kind k) p ≡ of.stmt_kind env rd k p
   stmt_kind_is (StmtKind-F.ExprStmt e semi) p = λ j. record { before = tree.more_stmts (tree.expr_stmt (expr_is rd.expr e p j) semi); place = p }
@@ -102,15 +121,15 @@ module _ (env : Answers) where
   read_expr_is e p = (λ j. folds.fold_out-Expr readings.ElseBranch readings.ExprKind readings.StmtKind readings.BlockExpr readings.Expr readings.Stmt
       (of.else_branch env itself) (of.expr_kind env itself) (of.stmt_kind env itself) (of.block_step env itself) (of.expr_step env itself) (of.stmt_step env itself) e j p) ∙ read_expr_kind_is e.kind (of.ptr e.id e.range) p
 
-  read_plain_is : (b : AstBlockExpr) (p : Place) → (read_block env b).plain p ≡ of.block_at env rd (out-BlockExpr b) None p
+  read_plain_is : (b : AstBlockExpr) (p : Place) → (read_block env b).plain p ≡ of.block_at env rd (out-BlockExpr b) (false, None) p
   unfolding read_else_branch read_expr_kind read_stmt_kind read_block read_expr read_stmt
   read_plain_is b p = (λ j. (folds.fold_out-BlockExpr readings.ElseBranch readings.ExprKind readings.StmtKind readings.BlockExpr readings.Expr readings.Stmt
-      (of.else_branch env itself) (of.expr_kind env itself) (of.stmt_kind env itself) (of.block_step env itself) (of.expr_step env itself) (of.stmt_step env itself) b j).plain p) ∙ block_at_is (out-BlockExpr b) None p
+      (of.else_branch env itself) (of.expr_kind env itself) (of.stmt_kind env itself) (of.block_step env itself) (of.expr_step env itself) (of.stmt_step env itself) b j).plain p) ∙ block_at_is (out-BlockExpr b) (false, None) p
 
-  read_own_is : (b : AstBlockExpr) (p : Place) → (read_block env b).own p ≡ tree.block_expr (of.block_at env rd (out-BlockExpr b) (option_map (of.label_of env p) (out-BlockExpr b).label) p)
+  read_own_is : (b : AstBlockExpr) (p : Place) → (read_block env b).own p ≡ tree.block_expr (of.block_at env rd (out-BlockExpr b) (of.modified (out-BlockExpr b).mod_ (option_map (of.label_of env p) (out-BlockExpr b).label)) p)
   unfolding read_else_branch read_expr_kind read_stmt_kind read_block read_expr read_stmt
   read_own_is b p = (λ j. (folds.fold_out-BlockExpr readings.ElseBranch readings.ExprKind readings.StmtKind readings.BlockExpr readings.Expr readings.Stmt
-      (of.else_branch env itself) (of.expr_kind env itself) (of.stmt_kind env itself) (of.block_step env itself) (of.expr_step env itself) (of.stmt_step env itself) b j).own p) ∙ (λ j. tree.block_expr (block_at_is (out-BlockExpr b) (option_map (of.label_of env p) (out-BlockExpr b).label) p j))
+      (of.else_branch env itself) (of.expr_kind env itself) (of.stmt_kind env itself) (of.block_step env itself) (of.expr_step env itself) (of.stmt_step env itself) b j).own p) ∙ (λ j. tree.block_expr (block_at_is (out-BlockExpr b) (of.modified (out-BlockExpr b).mod_ (option_map (of.label_of env p) (out-BlockExpr b).label)) p j))
 
   read_stmt_kind_is : (k : AstStmtKind) (p : Place) → read_stmt_kind env k p ≡ of.stmt_kind env rd (out-StmtKind k) p
   unfolding read_else_branch read_expr_kind read_stmt_kind read_block read_expr read_stmt
@@ -133,20 +152,20 @@ flat env [] tail p = refl
 flat env (s ∷ ss) tail p = (λ j. let r = read_stmt_is env s p j in let rest = of.contents_of (read_stmt env) ss tail r.place in (r.before rest.0, rest.1))
     ∙ (λ j. let rest = flat env ss tail p j in (tree.more_stmts (stmt_level (record { answers = env; place = p }) s) rest.0, rest.1))
 
-block_at_level : (at : Spot) (label : Option Label) (b : AstBlockExpr) → of.block_at at.answers (reader at.answers) (out-BlockExpr b) label at.place ≡ block_level at label b
-block_at_level at label b = λ j.
+block_at_level : (at : Spot) (head : Bool × Option Label) (b : AstBlockExpr) → of.block_at at.answers (reader at.answers) (out-BlockExpr b) head at.place ≡ block_level at head b
+block_at_level at head b = λ j.
     let level = out-BlockExpr b in
     let c = flat at.answers level.stmts (of.expr_or_none (read_expr at.answers) level.tail) (in_block at level.id).place j in
-    tree.block (pointer_at at level.id level.range) label (block_number at level.id) c.0 c.1
+    tree.block (pointer_at at level.id level.range) head.0 head.1 (block_number at level.id) c.0 c.1
 
 pub expr_is_level : (at : Spot) (e : AstExpr) → answered at e ≡ asked_expr at e
 expr_is_level at e = read_expr_is at.answers e at.place
 
-pub plain_is_level : (at : Spot) (b : AstBlockExpr) → answered_plain at b ≡ block_level at None b
-plain_is_level at b = read_plain_is at.answers b at.place ∙ block_at_level at None b
+pub plain_is_level : (at : Spot) (b : AstBlockExpr) → answered_plain at b ≡ block_level at (false, None) b
+plain_is_level at b = read_plain_is at.answers b at.place ∙ block_at_level at (false, None) b
 
-pub block_is_level : (at : Spot) (b : AstBlockExpr) → answered_block at b ≡ tree.block_expr (block_level at (label_part at (out-BlockExpr b).label) b)
-block_is_level at b = read_own_is at.answers b at.place ∙ ap tree.block_expr (block_at_level at (label_part at (out-BlockExpr b).label) b)
+pub block_is_level : (at : Spot) (b : AstBlockExpr) → answered_block at b ≡ tree.block_expr (block_level at (block_head at b) b)
+block_is_level at b = read_own_is at.answers b at.place ∙ ap tree.block_expr (block_at_level at (block_head at b) b)
 
 pub else_is_level : (at : Spot) (e : AstElseBranch) → answered_else at e ≡ else_level at e
 else_is_level at e = read_else_is at.answers e at.place

@@ -1,12 +1,18 @@
 -- A tree with all that the environment says of it written into it. What lowering does, how a body runs and what is
 -- wrong with it are each a recursion over this one family.
 use Rattle.std.specs.Prelude.{List, Option, Bool}
+use Rattle.hir_syntax.specs.declared.ast.UnaryOp.{UnaryOp}
+use Rattle.hir_syntax.specs.declared.ast.LogicOp.{LogicOp}
+use Rattle.hir_syntax.specs.declared.ast.BinaryOp.{BinaryOp}
 use Rattle.hir_syntax.specs.declared.ast.Literal.{Literal}
 use Rattle.hir_store.specs.Pointers.{Pointer}
 use Rattle.hir_store.specs.declared.ids.CfgId.{CfgId}
 use Rattle.hir_store.specs.declared.ids.HygieneId.{HygieneId}
 use Rattle.hir_store.specs.declared.ids.BlockId.{BlockId}
 use Rattle.hir_store.specs.declared.name.Name.{Name}
+use Rattle.hir_store.specs.declared.hir.Rawness.{Rawness}
+use Rattle.hir_store.specs.declared.hir.Mutability.{Mutability}
+use Rattle.hir_store.specs.declared.diagnostics.AwaitLocation.{AwaitLocation}
 use Rattle.hir_env.specs.Answers.{Contexts}
 
 -- a label, with the hygiene of its node; its name is missing where it has no lifetime
@@ -26,6 +32,35 @@ pub record Jump : Type 0 where
 abbrev pub Segments : Type 0
 Segments = List (Option Name)
 
+-- ---- families of forms, by their operands
+
+-- no operand; what is left out (inline assembly, format strings) does nothing
+pub data Leaf : Type 0 where
+  underscore : Leaf
+  include_bytes : Leaf
+  left_out : Leaf
+
+-- something is done with the value of one operand
+pub data Unary : Type 0 where
+  field_of : Name → Unary
+  prefix_of : UnaryOp → Unary
+  reference_to : Rawness → Mutability → Unary
+
+-- with the values of two
+pub data Binary : Type 0 where
+  operator : Option BinaryOp → Binary
+  index_of : Binary
+
+-- with those of many; a tuple may begin with a comma
+pub data Listing : Type 0 where
+  tuple_of : Bool → Listing
+  array_of : Listing
+
+-- the body is left, with a value that may be absent
+pub data Leaving : Type 0 where
+  returning : Leaving
+  yeeting : Leaving
+
 mutual
   pub data Expr : Type 0 where
     disabled_expr : Pointer → CfgId → Expr → Expr
@@ -38,6 +73,19 @@ mutual
     break_expr : Pointer → Option Jump → OptionExpr → Expr
     paren_expr : Pointer → OptionExpr → Expr
     literal_expr : Pointer → Literal → Expr
+    leaf_expr : Pointer → Leaf → Expr
+    unary_expr : Pointer → Unary → OptionExpr → Expr
+    binary_expr : Pointer → Binary → OptionExpr → OptionExpr → Expr
+    lazy_expr : Pointer → LogicOp → OptionExpr → OptionExpr → Expr
+    list_expr : Pointer → Listing → Exprs → Expr
+    method_call_expr : Pointer → OptionExpr → Name → Exprs → Expr
+    leaving_expr : Pointer → Leaving → OptionExpr → Expr
+    become_expr : Pointer → OptionExpr → Expr
+    yield_expr : Pointer → OptionExpr → Expr
+    -- with what it stands in, where that isn't async
+    await_expr : Pointer → Option AwaitLocation → OptionExpr → Expr
+    -- a prefix without its operator
+    nameless_expr : Pointer → OptionExpr → Expr
 
   pub data OptionExpr : Type 0 where
     no_expr : OptionExpr
@@ -47,9 +95,10 @@ mutual
     no_exprs : Exprs
     more_exprs : Expr → Exprs → Exprs
 
-  -- its label, its number, its statements and its written tail; a block that stands where only a block may has no label
+  -- whether it is unsafe, its label, its number, its statements and its written tail; a block that stands where only a
+  -- block may is neither unsafe nor labelled
   pub data Block : Type 0 where
-    block : Pointer → Option Label → Option BlockId → Stmts → OptionExpr → Block
+    block : Pointer → Bool → Option Label → Option BlockId → Stmts → OptionExpr → Block
 
   pub data OptionBlock : Type 0 where
     no_block : OptionBlock

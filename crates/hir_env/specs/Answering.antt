@@ -1,5 +1,16 @@
 -- How the answers are written into one level of a tree. The steps ask; nothing above them does.
-use Rattle.std.specs.Prelude.{List, [], ◌∷◌, Option, Some, None, Result, Ok, Err, option_map, map}
+use Rattle.std.specs.Prelude.{List, [], ◌∷◌, Bool, true, false, codes, Option, Some, None, Result, Ok, Err, option_map, map}
+use Rattle.hir_syntax.specs.declared.ast.UnaryOp.{UnaryOp}
+use Rattle.hir_syntax.specs.declared.ast.BinaryOp.{BinaryOp}
+use Rattle.hir_syntax.specs.declared.ast.BinaryOp.TheVariants as op
+use Rattle.hir_syntax.specs.declared.ast.BlockModifier.{BlockModifier}
+use Rattle.hir_syntax.specs.declared.ast.BlockModifier.TheVariants as modifier
+use Rattle.hir_syntax.specs.declared.ast.Literal.{Literal}
+use Rattle.hir_syntax.specs.declared.ast.LiteralKind.TheVariants as literal
+use Rattle.hir_store.specs.declared.hir.Rawness.{Rawness}
+use Rattle.hir_store.specs.declared.hir.Rawness.TheVariants as raw
+use Rattle.hir_store.specs.declared.hir.Mutability.{Mutability}
+use Rattle.hir_store.specs.declared.hir.Mutability.TheVariants as mutable
 use Rattle.hir_syntax.specs.declared.node.NodeId.{NodeId}
 use Rattle.hir_syntax.specs.declared.node.TextRange.{TextRange}
 use Rattle.hir_syntax.specs.declared.node.AstPtr.{AstPtr}
@@ -71,7 +82,41 @@ jump env s n h = record { pointer = s; name = n; hygiene = h; contexts = env.con
 abbrev pub jump_of : Answers → Place → AstLifetime → Jump
 jump_of env p l = let s = in_file p (ptr l.id l.range) in jump env s (name.Text l.t) (env.hygiene (site_of s))
 
+-- the name that a form has, which is missing where it is absent
+abbrev pub name_or_missing : Option AstName → Name
+name_or_missing None = name.Missing
+name_or_missing (Some n) = name.Text n.t
+
+-- ---- operators
+
+-- `&&` and `||` have a meaning of their own
+abbrev pub bin_expr : Pointer → Option BinaryOp → OptionExpr → OptionExpr → Expr
+bin_expr s (Some (op.LogicOp o)) a b = tree.lazy_expr s o a b
+bin_expr s o a b = tree.binary_expr s (tree.operator o) a b
+
+abbrev pub prefix_expr : Pointer → Option UnaryOp → OptionExpr → Expr
+prefix_expr s None e = tree.nameless_expr s e
+prefix_expr s (Some o) e = tree.unary_expr s (tree.prefix_of o) e
+
+abbrev pub rawness : Bool → Rawness
+rawness true = raw.RawPtr
+rawness false = raw.Ref
+
+abbrev pub mutability : Bool → Mutability
+mutability true = mutable.Mut
+mutability false = mutable.Shared
+
+-- a predicate is true unless it is known not to be
+abbrev pub truth : Option Bool → Literal
+truth (Some false) = record { lit = literal.Bool; t = codes "false"; suffix = None }
+truth _ = record { lit = literal.Bool; t = codes "true"; suffix = None }
+
 -- ---- blocks
+
+-- whether a block is unsafe, and its label, which counts only where no modifier stands
+abbrev pub modified : Option BlockModifier → Option Label → Bool × Option Label
+modified None label = (false, label)
+modified (Some modifier.Unsafe) label = (true, None)
 
 -- the number and the module of a block, where numbers are asked for
 abbrev pub numbered : Answers → Place → NodeId → Option (BlockId × ModuleId)
@@ -136,6 +181,24 @@ module _ (env : Answers) {S : Sorts} (part : Reader S) where
   expr_at (ExprKind-F.BreakExpr l e) p s = tree.break_expr s (option_map (jump_of env p) l) (expr_or_none part.expr e p)
   expr_at (ExprKind-F.ParenExpr e) p s = tree.paren_expr s (expr_or_none part.expr e p)
   expr_at (ExprKind-F.Literal l) p s = tree.literal_expr s l
+  expr_at (ExprKind-F.MethodCallExpr e n es) p s = tree.method_call_expr s (expr_or_none part.expr e p) (name_or_missing n) (exprs_or_none part.expr es p)
+  expr_at (ExprKind-F.FieldExpr e n) p s = tree.unary_expr s (tree.field_of (name_or_missing n)) (expr_or_none part.expr e p)
+  expr_at (ExprKind-F.PrefixExpr o e) p s = prefix_expr s o (expr_or_none part.expr e p)
+  expr_at (ExprKind-F.BinExpr o a b) p s = bin_expr s o (expr_or_none part.expr a p) (expr_or_none part.expr b p)
+  expr_at (ExprKind-F.IndexExpr a b) p s = tree.binary_expr s tree.index_of (expr_or_none part.expr a p) (expr_or_none part.expr b p)
+  expr_at (ExprKind-F.RefExpr r m e) p s = tree.unary_expr s (tree.reference_to (rawness r) (mutability m)) (expr_or_none part.expr e p)
+  expr_at (ExprKind-F.TupleExpr comma es) p s = tree.list_expr s (tree.tuple_of comma) (exprs_of part.expr es p)
+  expr_at (ExprKind-F.ArrayExpr es) p s = tree.list_expr s tree.array_of (exprs_of part.expr es p)
+  expr_at (ExprKind-F.ReturnExpr e) p s = tree.leaving_expr s tree.returning (expr_or_none part.expr e p)
+  expr_at (ExprKind-F.BecomeExpr e) p s = tree.become_expr s (expr_or_none part.expr e p)
+  expr_at (ExprKind-F.YieldExpr e) p s = tree.yield_expr s (expr_or_none part.expr e p)
+  expr_at (ExprKind-F.YeetExpr e) p s = tree.leaving_expr s tree.yeeting (expr_or_none part.expr e p)
+  expr_at (ExprKind-F.AwaitExpr e) p s = tree.await_expr s p.await_location (expr_or_none part.expr e p)
+  expr_at (ExprKind-F.CfgPredExpr pred) p s = tree.literal_expr s (truth (env.cfg_pred pred))
+  expr_at ExprKind-F.UnderscoreExpr p s = tree.leaf_expr s tree.underscore
+  expr_at ExprKind-F.IncludeBytesExpr p s = tree.leaf_expr s tree.include_bytes
+  expr_at ExprKind-F.AsmExpr p s = tree.leaf_expr s tree.left_out
+  expr_at ExprKind-F.FormatArgsExpr p s = tree.leaf_expr s tree.left_out
 
   abbrev pub expr_kind : ExprKindLayer S → AstPtr → Place → Expr
   expr_kind k n p = let s = in_file p n in asked s (env.cfg (site_of s)) (expr_at k p s)
@@ -143,14 +206,14 @@ module _ (env : Answers) {S : Sorts} (part : Reader S) where
   abbrev pub expr_step : ExprLayer S → Place → Expr
   expr_step e = part.expr_kind e.kind (ptr e.id e.range)
 
-  abbrev pub block_at : BlockExprLayer S → Option Label → Place → Block
-  block_at b label p =
+  abbrev pub block_at : BlockExprLayer S → Bool × Option Label → Place → Block
+  block_at b head p =
       let number = numbered env p b.id in
       let c = contents_of part.stmt b.stmts (expr_or_none part.expr b.tail) (inside number p) in
-      tree.block (in_file p (ptr b.id b.range)) label (option_map (λ n. n.0) number) c.0 c.1
+      tree.block (in_file p (ptr b.id b.range)) head.0 head.1 (option_map (λ n. n.0) number) c.0 c.1
 
   abbrev pub block_step : BlockExprLayer S → BlockReading
-  block_step b = record { plain = λ p. block_at b None p; own = λ p. tree.block_expr (block_at b (option_map (label_of env p) b.label) p) }
+  block_step b = record { plain = λ p. block_at b (false, None) p; own = λ p. tree.block_expr (block_at b (modified b.mod_ (option_map (label_of env p) b.label)) p) }
 
   -- the one statement that it stands for
   abbrev pub stmt_at : StmtKindLayer S → Place → Stmt

@@ -15,6 +15,17 @@ abbrev mutual
   count_expr (tree.break_expr at jump e) = suc (count_option_expr e)
   count_expr (tree.paren_expr at e) = suc (count_option_expr e)
   count_expr (tree.literal_expr at l) = 1
+  count_expr (tree.leaf_expr at form) = 1
+  count_expr (tree.unary_expr at form e) = suc (count_option_expr e)
+  count_expr (tree.binary_expr at form a b) = suc (count_option_expr a + count_option_expr b)
+  count_expr (tree.lazy_expr at op a b) = suc (count_option_expr a + count_option_expr b)
+  count_expr (tree.list_expr at form es) = suc (count_exprs es)
+  count_expr (tree.method_call_expr at e name es) = suc (count_option_expr e + count_exprs es)
+  count_expr (tree.leaving_expr at form e) = suc (count_option_expr e)
+  count_expr (tree.become_expr at e) = suc (count_option_expr e)
+  count_expr (tree.yield_expr at e) = suc (count_option_expr e)
+  count_expr (tree.await_expr at location e) = suc (count_option_expr e)
+  count_expr (tree.nameless_expr at e) = suc (count_option_expr e)
 
   pub count_option_expr : OptionExpr → ℕ
   count_option_expr tree.no_expr = 0
@@ -25,7 +36,7 @@ abbrev mutual
   count_exprs (tree.more_exprs e es) = count_expr e + count_exprs es
 
   pub count_block : Block → ℕ
-  count_block (tree.block at label number ss e) = suc (count_stmts ss + count_option_expr e)
+  count_block (tree.block at is_unsafe label number ss e) = suc (count_stmts ss + count_option_expr e)
 
   pub count_option_block : OptionBlock → ℕ
   count_option_block tree.no_block = 0

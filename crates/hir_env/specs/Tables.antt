@@ -1,7 +1,9 @@
 -- The answers of tables.
 use Rattle.std.specs.Prelude.{Bool, false, List, [], Option, Some, None, Result, Ok, Err, unwrap_or}
 use Rattle.hir_env.specs.Answers.{Contexts, Answers}
-use Rattle.hir_env.specs.NodeMap.{Site, found}
+use Rattle.hir_env.specs.NodeMap.{Site, found, pred_found}
+use Rattle.hir_store.specs.declared.ids.ItemContainerId.TheVariants as holder
+use Rattle.hir_syntax.specs.declared.node.PredId.{PredId}
 use Rattle.hir_store.specs.declared.ids.CfgId.{CfgId}
 use Rattle.hir_store.specs.declared.ids.HygieneId.{HygieneId}
 use Rattle.hir_store.specs.declared.ids.BlockId.{BlockId}
@@ -10,13 +12,14 @@ use Rattle.hir_store.specs.declared.ids.ItemContainerId.{ItemContainerId}
 
 pub record Tables : Type 0 where
   pub disabled : List (Site × CfgId)
+  pub preds : List (PredId × Option Bool)
   pub hygiene : List (Site × HygieneId)
   pub blocks : List (Site × (BlockId × ModuleId))
   pub skip : Bool
   pub container : ItemContainerId
 
 abbrev pub empty : ItemContainerId → Tables
-empty container = record { disabled = []; hygiene = []; blocks = []; skip = false; container = container }
+empty container = record { disabled = []; preds = []; hygiene = []; blocks = []; skip = false; container = container }
 
 abbrev pub enabled : Option CfgId → Result (Unit {0}) CfgId
 enabled None = Ok tt
@@ -26,12 +29,23 @@ enabled (Some by) = Err by
 abbrev pub no_contexts : Contexts
 no_contexts = record { parent = λ c. record { 0 = 0 }; opaque = λ c. record { 0 = c.0 }; outer_macro = λ c. None }
 
+-- a predicate of which nothing is said is undecided
+abbrev pub decided : List (PredId × Option Bool) → Option PredId → Option Bool
+decided es None = None
+decided es (Some p) = unwrap_or (pred_found es p) None
+
+abbrev pub module_in : ItemContainerId → ModuleId
+module_in (holder.ModuleId inside) = inside
+module_in _ = record { 0 = 0 }
+
 abbrev pub answers_of : Tables → Answers
 answers_of t = record {
   cfg = λ s. enabled (found t.disabled s);
   hygiene = λ s. unwrap_or (found t.hygiene s) (record { 0 = 0 });
   contexts = no_contexts;
+  cfg_pred = λ pred. decided t.preds pred;
   block = λ s inside. found t.blocks s;
   skip = λ _. t.skip;
   container = λ _. t.container;
+  module_of = module_in;
 }

@@ -1,5 +1,5 @@
 -- A whole tree with the answers written into it, by one fold, and the equations of its levels.
-use Rattle.std.specs.Prelude.{List, [], ◌∷◌, Option, option_map}
+use Rattle.std.specs.Prelude.{Bool, List, [], ◌∷◌, Option, option_map}
 use Rattle.hir_syntax.specs.declared.ast.ElseBranch.{ElseBranch as AstElseBranch, out-ElseBranch}
 use Rattle.hir_syntax.specs.declared.ast.ExprKind.{ExprKind as AstExprKind, out-ExprKind}
 use Rattle.hir_syntax.specs.declared.ast.StmtKind.{StmtKind as AstStmtKind, out-StmtKind}
@@ -17,7 +17,7 @@ use Rattle.hir_env.specs.Answers.{Answers}
 use Rattle.hir_env.specs.Spot.{Spot}
 use Rattle.hir_store.specs.declared.ids.BlockId.{BlockId}
 use Rattle.hir_env.specs.Layers.{BlockReading, StmtReading, Sorts, Reader, readings, itself}
-use Rattle.hir_env.specs.Answering.{in_file, ptr, site_of, label_of, jump_of, expr_or_none, plain_or_none, exprs_of, exprs_or_none, numbered, inside, asked, else_branch, expr_at, expr_kind, expr_step, block_step, stmt_at, stmt_kind, stmt_step}
+use Rattle.hir_env.specs.Answering.{in_file, ptr, site_of, label_of, jump_of, modified, expr_or_none, plain_or_none, exprs_of, exprs_or_none, numbered, inside, asked, else_branch, expr_at, expr_kind, expr_step, block_step, stmt_at, stmt_kind, stmt_step}
 use Rattle.hir_env.specs.Answered as tree
 use Rattle.hir_env.specs.Answered.{Label, Jump, Expr, OptionExpr, Exprs, Block, OptionBlock, Stmts, Stmt}
 
@@ -99,6 +99,10 @@ jump_part at l = option_map (jump_of at.answers at.place) l
 abbrev pub pointer_at : Spot → NodeId → TextRange → Pointer
 pointer_at at id range = in_file at.place (ptr id range)
 
+-- whether the block is unsafe, and its label
+abbrev pub block_head : Spot → AstBlockExpr → Bool × Option Label
+block_head at b = let level = out-BlockExpr b in modified level.mod_ (label_part at level.label)
+
 -- one level
 abbrev pub kept_expr : Spot → AstExpr → Expr
 kept_expr at e = expr_at at.answers (reader at.answers) (out-ExprKind e.kind) at.place (pointer_at at e.id e.range)
@@ -121,11 +125,11 @@ in_block at id = record at { place = inside (numbered at.answers at.place id) at
 abbrev pub block_number : Spot → NodeId → Option BlockId
 block_number at id = option_map (λ n. n.0) (numbered at.answers at.place id)
 
-abbrev pub block_level : Spot → Option Label → AstBlockExpr → Block
-block_level at label b =
+abbrev pub block_level : Spot → Bool × Option Label → AstBlockExpr → Block
+block_level at head b =
     let level = out-BlockExpr b in
     let within = in_block at level.id in
-    tree.block (pointer_at at level.id level.range) label (block_number at level.id) (stmts_part within level.stmts) (expr_part within level.tail)
+    tree.block (pointer_at at level.id level.range) head.0 head.1 (block_number at level.id) (stmts_part within level.stmts) (expr_part within level.tail)
 
 abbrev pub else_level : Spot → AstElseBranch → Expr
 else_level at e = else_branch at.answers (reader at.answers) (out-ElseBranch e) at.place

@@ -2,23 +2,24 @@
 
 ghost use Rattle.std.specs.Prelude.{◌≡◌, OnOk, OnErr, false};
 ghost use Rattle.hir_env.specs.Tables as spec;
-ghost use Rattle.hir_env.specs.NodeMap.{with_first};
+ghost use Rattle.hir_env.specs.NodeMap.{with_first, with_first_pred};
 
 use crate::env::LowerEnv;
-use crate::node_map::NodeMap;
+use crate::first_map::FirstMap;
 use hir_store::ids::{
     BlockId, CfgId, CtxId, DefWithBodyId, HygieneId, ItemContainerId, MacroDefId, ModuleId,
 };
-use hir_syntax::node::{InFile, NodeId};
+use hir_syntax::node::{InFile, NodeId, PredId};
 use std::alloc::{AllocError, Global};
 use std::marker::Model;
 
 /// An environment that answers all from tables. A node that stands in none is enabled, has root hygiene and no
 /// block; of two entries for one node the first counts.
 pub struct TableEnv {
-    disabled: NodeMap<CfgId>,
-    hygiene: NodeMap<HygieneId>,
-    blocks: NodeMap<(BlockId, ModuleId)>,
+    disabled: FirstMap<InFile<NodeId>, CfgId>,
+    preds: FirstMap<PredId, Option<bool>>,
+    hygiene: FirstMap<InFile<NodeId>, HygieneId>,
+    blocks: FirstMap<InFile<NodeId>, (BlockId, ModuleId)>,
     skip: bool,
     container: ItemContainerId,
 }
@@ -27,6 +28,7 @@ impl Drop for TableEnv {
     fn drop(self) {
         let TableEnv {
             disabled: _,
+            preds: _,
             hygiene: _,
             blocks: _,
             skip: _,
@@ -40,7 +42,7 @@ impl Model for TableEnv {
 
     ghost Value = { Tables };
 
-    ghost view = { λ t. record { disabled = t.disabled; hygiene = t.hygiene; blocks = t.blocks; skip = t.skip; container = t.container } };
+    ghost view = { λ t. record { disabled = t.disabled; preds = t.preds; hygiene = t.hygiene; blocks = t.blocks; skip = t.skip; container = t.container } };
 }
 
 impl TableEnv {
@@ -49,9 +51,10 @@ impl TableEnv {
         ensures { result ≡ spec.empty container }
     {
         TableEnv {
-            disabled: NodeMap::new(alloc),
-            hygiene: NodeMap::new(alloc),
-            blocks: NodeMap::new(alloc),
+            disabled: FirstMap::new(alloc),
+            preds: FirstMap::new(alloc),
+            hygiene: FirstMap::new(alloc),
+            blocks: FirstMap::new(alloc),
             skip: false,
             container,
         }
@@ -63,6 +66,14 @@ impl TableEnv {
         ensures err { OnErr result (self.new ≡ self.old) }
     {
         self.disabled.insert(node, by)
+    }
+
+    /// Says whether a predicate holds, or that it is undecided.
+    pub fn decide(&mut self, pred: PredId, holds: Option<bool>) -> Result<(), AllocError>
+        ensures ok { OnOk result (self.new ≡ record self.old { preds = with_first_pred self.old.preds pred holds }) }
+        ensures err { OnErr result (self.new ≡ self.old) }
+    {
+        self.preds.insert(pred, holds)
     }
 
     /// Gives the name at a node a hygiene.
@@ -110,6 +121,13 @@ impl LowerEnv for TableEnv {
         }
     }
 
+    fn cfg_pred(&self, pred: Option<PredId>) -> Option<bool> {
+        match pred {
+            Some(pred) => self.preds.get(pred).unwrap_or(None),
+            None => None,
+        }
+    }
+
     fn hygiene(&self, node: InFile<NodeId>) -> HygieneId {
         self.hygiene.get(node).unwrap_or(HygieneId::ROOT)
     }
@@ -136,5 +154,12 @@ impl LowerEnv for TableEnv {
 
     fn container(&self, _owner: DefWithBodyId) -> ItemContainerId {
         self.container
+    }
+
+    fn module_of(&self, container: ItemContainerId) -> ModuleId {
+        match container {
+            ItemContainerId::ModuleId(inside) => inside,
+            _ => ModuleId(0),
+        }
     }
 }
