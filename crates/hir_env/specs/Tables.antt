@@ -30,9 +30,13 @@ abbrev pub no_contexts : Contexts
 no_contexts = record { parent = λ c. record { 0 = 0 }; opaque = λ c. record { 0 = c.0 }; outer_macro = λ c. None }
 
 -- a predicate of which nothing is said is undecided
+abbrev pub if_said : Option (Option Bool) → Option Bool
+if_said None = None
+if_said (Some holds) = holds
+
 abbrev pub decided : List (PredId × Option Bool) → Option PredId → Option Bool
 decided es None = None
-decided es (Some p) = unwrap_or (pred_found es p) None
+decided es (Some p) = if_said (pred_found es p)
 
 abbrev pub module_in : ItemContainerId → ModuleId
 module_in (holder.ModuleId inside) = inside

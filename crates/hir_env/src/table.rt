@@ -123,7 +123,10 @@ impl LowerEnv for TableEnv {
 
     fn cfg_pred(&self, pred: Option<PredId>) -> Option<bool> {
         match pred {
-            Some(pred) => self.preds.get(pred).unwrap_or(None),
+            Some(pred) => match self.preds.get(pred) {
+                Some(holds) => holds,
+                None => None,
+            },
             None => None,
         }
     }
