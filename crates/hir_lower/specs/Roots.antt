@@ -6,7 +6,6 @@ use Rattle.hir_store.specs.declared.fault.StoreFault.TheVariants.{Full}
 use Rattle.hir_lower.specs.declared.collector.ConstRef.{ConstRef}
 use Rattle.hir_lower_form.specs.Builder.{Builder}
 use Rattle.hir_store.specs.Pointers.{Pointer}
-use Rattle.hir_store.specs.declared.ids.ExprId.{ExprId}
 use Rattle.hir_store.specs.declared.ids.DefWithBodyId.{DefWithBodyId}
 use Rattle.hir_store.specs.declared.ids.DefWithBodyId.TheVariants as owner
 use Rattle.hir_store.specs.declared.ids.ItemContainerId.{ItemContainerId}
@@ -27,7 +26,7 @@ use Rattle.hir_env.specs.Whole.{expr_part}
 use Rattle.hir_env.specs.Answered as tree
 use Rattle.hir_env.specs.Answered.{OptionExpr}
 use Rattle.hir_lower_form.specs.Lowering.{Lowering, ◌>>=◌, ◌>>◌, pure, close_labels, report, record_root}
-use Rattle.hir_lower_form.specs.Lower.{Node, missing, lower_part}
+use Rattle.hir_lower_form.specs.Lower.{Node, lower_part}
 
 -- the expression as a root, in which no label around it is open
 unfoldable pub root_of : OptionExpr → Node
