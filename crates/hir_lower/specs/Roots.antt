@@ -6,7 +6,6 @@ use Rattle.hir_store.specs.declared.fault.StoreFault.TheVariants.{Full}
 use Rattle.hir_lower.specs.declared.collector.ConstRef.{ConstRef}
 use Rattle.hir_lower_form.specs.Builder.{Builder}
 use Rattle.hir_store.specs.Pointers.{Pointer}
-use Rattle.hir_store.specs.declared.ids.ExprId.{ExprId}
 use Rattle.hir_store.specs.declared.ids.DefWithBodyId.{DefWithBodyId}
 use Rattle.hir_store.specs.declared.ids.DefWithBodyId.TheVariants as owner
 use Rattle.hir_store.specs.declared.ids.ItemContainerId.{ItemContainerId}
@@ -27,7 +26,7 @@ use Rattle.hir_env.specs.Whole.{expr_part}
 use Rattle.hir_env.specs.Answered as tree
 use Rattle.hir_env.specs.Answered.{OptionExpr}
 use Rattle.hir_lower_form.specs.Lowering.{Lowering, ◌>>=◌, ◌>>◌, pure, close_labels, report, record_root}
-use Rattle.hir_lower_form.specs.Lower.{Node, missing, lower_part}
+use Rattle.hir_lower_form.specs.Lower.{Node, lower_part}
 
 -- the expression as a root, in which no label around it is open
 unfoldable pub root_of : OptionExpr → Node
@@ -93,7 +92,6 @@ item_of at owner node body =
     let required = required_body owner (at.answers.container owner) in
     body_of (at.answers.skip owner) (in_file at.place node) required (expr_part at body)
 
--- the body of an item, read in a file and a module
-abbrev pub lowered_body : Answers → DefWithBodyId → AstPtr → HirFileId → ModuleId → Option AstExpr → Node
-lowered_body env owner node file inside body =
-    item_of (spot_at env (record { file_id = file; module_id = inside; mode = Analysis })) owner node body
+-- where the body of an item is read
+abbrev pub body_spot : Answers → HirFileId → ModuleId → Spot
+body_spot env file inside = spot_at env (record { file_id = file; module_id = inside; mode = Analysis })

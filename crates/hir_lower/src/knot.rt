@@ -5,7 +5,7 @@ ghost use Rattle.hir_store.specs.Range.{HasLabelOption};
 ghost use Rattle.hir_env.specs.Answering.{inside as place_inside, numbered as number_at};
 ghost use Rattle.hir_env.specs.Whole.{answered, answered_plain};
 ghost use Rattle.hir_lower_form.specs.Outcomes.{LowersExpr, LowersInside, MaybeLowersExpr};
-ghost use Rattle.hir_lower.specs.Nests.{HandlesBlock, HandlesExpr, HandlesMaybe};
+ghost use Rattle.hir_lower.specs.Nests.{HandlesBlock, HandlesExpr};
 ghost use Rattle.hir_lower.specs.Roots.{spot_at};
 
 use hir_env::env::LowerEnv;
@@ -21,21 +21,19 @@ use hir_syntax::node::{InFile, NodeId};
 use std::alloc::Global;
 
 /// The functions that lower the parts of a form, at one place.
-#[derive_where(Clone, Copy; F, K, B)]
-pub struct Handlers<'e, E, F, K, B> {
+#[derive_where(Clone, Copy; F, B)]
+pub struct Handlers<'e, E, F, B> {
     alloc: Global,
     env: &'e E,
     place: Place,
     expr: F,
-    maybe_expr: K,
     block: B,
 }
 
 impl<
     'e,
     E: LowerEnv,
-    F: Fn(Global, &E, Place, &mut BodyBuilder, &ast::Expr) -> Result<ExprId, StoreFault>,
-    K: Fn(Global, &E, Place, &mut BodyBuilder, &ast::Expr) -> Result<Option<ExprId>, StoreFault>,
+    F: Fn(Global, &E, Place, &mut BodyBuilder, &ast::Expr) -> Result<Option<ExprId>, StoreFault>,
     B: Fn(
         Global,
         &E,
@@ -44,10 +42,9 @@ impl<
         Option<LabelId>,
         &ast::BlockExpr,
     ) -> Result<ExprId, StoreFault>,
-> LowerParts for Handlers<'e, E, F, K, B> {
+> LowerParts for Handlers<'e, E, F, B> {
     ghost can = { λ it. record {
-      expr = λ e. HandlesExpr E.answers (F.pre it.expr) (F.post it.expr) it.env.now it.place e
-          × HandlesMaybe E.answers (K.pre it.maybe_expr) (K.post it.maybe_expr) it.env.now it.place e;
+      expr = HandlesExpr E.answers (F.pre it.expr) (F.post it.expr) it.env.now it.place;
       block = HandlesBlock E.answers (B.pre it.block) (B.post it.block) it.env.now it.place;
     } };
 
@@ -74,20 +71,12 @@ impl<
         scopes.find(self.env, name, hygiene)
     }
 
-    fn collect_expr(
-        &self,
-        state: &mut BodyBuilder,
-        node: &ast::Expr,
-    ) -> Result<ExprId, StoreFault> {
-        (self.expr)(self.alloc, self.env, self.place, state, node)
-    }
-
     fn maybe_collect_expr(
         &self,
         state: &mut BodyBuilder,
         node: &ast::Expr,
     ) -> Result<Option<ExprId>, StoreFault> {
-        (self.maybe_expr)(self.alloc, self.env, self.place, state, node)
+        (self.expr)(self.alloc, self.env, self.place, state, node)
     }
 
     fn collect_block_inside(
@@ -135,31 +124,6 @@ pub fn block_number(number: Option<(BlockId, ModuleId)>) -> Option<BlockId>
     }
 }
 
-/// The expression, missing where a condition disables it.
-#[cycle(lower)]
-pub fn collect_expr<E: LowerEnv>(
-    alloc: Global,
-    env: &E,
-    place: Place,
-    state: &mut BodyBuilder,
-    node: &ast::Expr,
-) -> Result<ExprId, StoreFault>
-    ensures { LowersExpr (answered (spot_at (E.answers env.now) place) node.now) state.old result state.new }
-{
-    Lowerer {
-        alloc,
-        parts: Handlers {
-            alloc,
-            env,
-            place,
-            expr: collect_expr::<E>,
-            maybe_expr: maybe_collect_expr::<E>,
-            block: collect_block_inside::<E>,
-        },
-    }
-    .expr_node(state, node)
-}
-
 /// The expression, none where a condition disables it.
 #[cycle(lower)]
 pub fn maybe_collect_expr<E: LowerEnv>(
@@ -177,12 +141,11 @@ pub fn maybe_collect_expr<E: LowerEnv>(
             alloc,
             env,
             place,
-            expr: collect_expr::<E>,
-            maybe_expr: maybe_collect_expr::<E>,
+            expr: maybe_collect_expr::<E>,
             block: collect_block_inside::<E>,
         },
     }
-    .maybe_expr_node(state, node)
+    .expr_node(state, node)
 }
 
 /// The block, inside the label of this number.
@@ -207,10 +170,26 @@ pub fn collect_block_inside<E: LowerEnv>(
             alloc,
             env,
             place: inner,
-            expr: collect_expr::<E>,
-            maybe_expr: maybe_collect_expr::<E>,
+            expr: maybe_collect_expr::<E>,
             block: collect_block_inside::<E>,
         },
     }
     .block_node(state, label, block, node)
+}
+
+/// The expression, missing where a condition disables it.
+#[tactic(auto, using(hir_lower_form::proofs::Kept::lower_on))]
+pub fn collect_expr<E: LowerEnv>(
+    alloc: Global,
+    env: &E,
+    place: Place,
+    state: &mut BodyBuilder,
+    node: &ast::Expr,
+) -> Result<ExprId, StoreFault>
+    ensures { LowersExpr (answered (spot_at (E.answers env.now) place) node.now) state.old result state.new }
+{
+    match maybe_collect_expr(alloc, env, place, state, node)? {
+        Some(id) => Ok(id),
+        None => state.missing_expr(),
+    }
 }

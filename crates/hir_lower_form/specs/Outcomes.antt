@@ -1,5 +1,5 @@
 -- What each kind of method does: the outcome of the steps of one part, as it is answered.
-use Rattle.std.specs.Prelude.{List, [], Option}
+use Rattle.std.specs.Prelude.{List, [], Option, Some, None}
 use Rattle.hir_syntax.specs.declared.ast.BlockExpr.{BlockExpr as AstBlockExpr, out-BlockExpr}
 use Rattle.hir_store.specs.Stored.{Stored}
 use Rattle.hir_store.specs.Range.{HasExpr, HasExprOption, HasExprs, HasStatements, HasStatementOption}
@@ -51,6 +51,11 @@ LowersBlockOpt b old result new = Lowers HasExpr (spec.lower_block_part b) old r
 
 abbrev pub LowersStmt : Stmt → Builder → Checked (Option Statement) → Builder → Type 0
 LowersStmt s old result new = Lowers HasStatementOption (spec.lower_stmt s) old result new
+
+-- what upstream does to make an expression of one that may be disabled
+abbrev pub or_missing : Option ExprId → Node
+or_missing None = spec.missing
+or_missing (Some id) = pure id
 
 -- ---- the contents of a block
 

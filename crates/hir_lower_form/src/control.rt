@@ -25,7 +25,7 @@ impl<P: LowerParts> Lowerer<P> {
     {
         match part {
             ast::ElseBranch::ElseBlock(block) => self.collect_block(state, block.get()),
-            ast::ElseBranch::ElseIf(expr) => self.parts.collect_expr(state, expr.get()),
+            ast::ElseBranch::ElseIf(expr) => self.collect_expr(state, expr.get()),
         }
     }
 

@@ -38,24 +38,9 @@ impl<P: LowerParts> Lowerer<P> {
         }
     }
 
-    /// The expression, missing where a condition disables it.
-    pub fn expr_node(&self, state: &mut BodyBuilder, node: &ast::Expr) -> Result<ExprId, StoreFault>
-        requires { KidsExpr (P.can self.now.parts) (out-ExprKind node.now.kind) }
-        ensures { LowersExpr (asked_expr (P.spot self.now.parts) node.now) state.old result state.new }
-    {
-        let at = self.pointer(node.id, node.range);
-        match self.parts.cfg(site(at)) {
-            Err(cfg) => {
-                state.report(ExpressionStoreDiagnostics::InactiveCode { node: at, cfg })?;
-                state.missing_expr()
-            }
-            Ok(()) => self.expr_form(state, node),
-        }
-    }
-
     /// The expression, none where a condition disables it.
     #[tactic(auto, using(crate::proofs::Kept::kept_is_some))]
-    pub fn maybe_expr_node(
+    pub fn expr_node(
         &self,
         state: &mut BodyBuilder,
         node: &ast::Expr,

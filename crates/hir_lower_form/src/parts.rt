@@ -49,11 +49,6 @@ pub trait LowerParts {
     ) -> Result<LabelId, NoTarget>
         ensures { result ≡ answer (search (spot self.now).answers.contexts name.now (sought_first hygiene) scopes.now) };
 
-    /// The expression, missing where a condition disables it.
-    fn collect_expr(&self, state: &mut BodyBuilder, node: &ast::Expr) -> Result<ExprId, StoreFault>
-        requires { (can self.now).expr node.now }
-        ensures { LowersExpr (answered (spot self.now) node.now) state.old result state.new };
-
     /// The expression, none where a condition disables it.
     fn maybe_collect_expr(
         &self,
@@ -102,6 +97,22 @@ impl<P: LowerParts> Lowerer<P> {
         }
     }
 
+    /// The expression, missing where a condition disables it.
+    #[tactic(auto, using(crate::proofs::Kept::lower_on))]
+    pub(crate) fn collect_expr(
+        &self,
+        state: &mut BodyBuilder,
+        node: &ast::Expr,
+    ) -> Result<ExprId, StoreFault>
+        requires { (P.can self.now.parts).expr node.now }
+        ensures { LowersExpr (answered (P.spot self.now.parts) node.now) state.old result state.new }
+    {
+        match self.parts.maybe_collect_expr(state, node)? {
+            Some(id) => Ok(id),
+            None => state.missing_expr(),
+        }
+    }
+
     /// The expression, missing where it is absent or a condition disables it.
     pub(crate) fn collect_expr_opt(
         &self,
@@ -113,7 +124,7 @@ impl<P: LowerParts> Lowerer<P> {
     {
         match part {
             None => state.missing_expr(),
-            Some(part) => self.parts.collect_expr(state, part.get()),
+            Some(part) => self.collect_expr(state, part.get()),
         }
     }
 
@@ -128,7 +139,7 @@ impl<P: LowerParts> Lowerer<P> {
     {
         match part {
             None => Ok(None),
-            Some(part) => Ok(Some(self.parts.collect_expr(state, part.get())?)),
+            Some(part) => Ok(Some(self.collect_expr(state, part.get())?)),
         }
     }
 

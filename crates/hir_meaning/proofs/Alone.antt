@@ -29,7 +29,7 @@ module _ (turns : ℕ) (outer : List Scope) where
         part_alone f inner i >>= (λ v. each_alone es inner i >>= (λ vs. ask call (v ∷ vs) (Some (site_of at))))
     expr_alone (tree.if_expr at c t e) inner = λ i.
         part_alone c inner i >>= (λ v. tests is_true v (Some (site_of at))
-          >>= (λ holds. if holds then block_part_alone t inner i else or_unit_alone e inner i))
+        >>= (λ holds. if holds then block_part_alone t inner i else or_unit_alone e inner i))
     expr_alone (tree.loop_expr at label b) inner = λ i. loop outward turns (turn (block_part_alone b (loop_scope label ∷ inner) i))
     expr_alone (tree.break_expr at jump e) inner = λ i.
         or_unit_alone e inner i >>= (λ v. ends (break ((nothing_outside inner outer jump).breaks i) v))
@@ -59,7 +59,7 @@ module _ (turns : ℕ) (outer : List Scope) where
     block_alone : (b : Block) (inner : List Scope) → run_block turns b (inner ++ barrier ∷ outer) ≡ run_block turns b inner
     block_alone (tree.block at label number ss e) inner = rw (in_block_alone label inner)
         (ap (λ m. entering number (Some (site_of at)) (catching label m))
-          (stmts_alone ss (is_left e) (run_tail turns e) (tail_alone e) (in_block label inner)))
+        (stmts_alone ss (is_left e) (run_tail turns e) (tail_alone e) (in_block label inner)))
 
     tail_alone : (e : OptionExpr) (inner : List Scope) → run_tail turns e (inner ++ barrier ∷ outer) ≡ run_tail turns e inner
     tail_alone tree.no_expr inner = refl

@@ -58,15 +58,17 @@ has_fresh_turns = record { written = record { events = refl; ends = refl }; stor
 
 pub hygienes_differ : HygienesDiffer
 unfolding ends event ◌>>=◌ loop block run_store run_to
-hygienes_differ =
-    (record { written = record { events = refl; ends = refl }; stored = record { events = refl; ends = refl } },
-    record { written = record { events = refl; ends = refl }; stored = record { events = refl; ends = refl } })
+hygienes_differ = (
+  record { written = record { events = refl; ends = refl }; stored = record { events = refl; ends = refl } },
+  record { written = record { events = refl; ends = refl }; stored = record { events = refl; ends = refl } },
+)
 
 pub undeclared_is_plain : UndeclaredIsPlain
 unfolding ends event ◌>>=◌ loop block run_store run_to
-undeclared_is_plain =
-    (record { written = record { events = refl; ends = refl }; stored = record { events = refl; ends = refl } },
-    record { written = record { events = refl; ends = refl }; stored = record { events = refl; ends = refl } })
+undeclared_is_plain = (
+  record { written = record { events = refl; ends = refl }; stored = record { events = refl; ends = refl } },
+  record { written = record { events = refl; ends = refl }; stored = record { events = refl; ends = refl } },
+)
 
 pub runs_as_worked : RunsAsWorked
 unfolding ends event ◌>>=◌ loop block run_store run_to
@@ -110,4 +112,4 @@ module _ (q : Pointer) (by : CfgId) (e : Expr) (semi : Bool) (after : Stmts) whe
 pub disabled_is_nothing : DisabledIsNothing
 disabled_is_nothing turns p q label number before after by e semi tail ss =
     ap (λ m. entering number (Some (site_of p)) (catching label m))
-      (run_more q by e semi after turns (is_left tail) (run_tail turns tail) (in_block label ss) before)
+    (run_more q by e semi after turns (is_left tail) (run_tail turns tail) (in_block label ss) before)

@@ -90,10 +90,10 @@ two_calls = record {
 abbrev pub HasTwoSites : Type 0
 HasTwoSites = BothDo two_calls 0 []
     (event_of (read_name 102) [] 1
-      ∷ event_of (read_name 103) [] 3
-      ∷ event_of call (answered 0 ∷ []) 2
-      ∷ event_of call (answered 0 ∷ answered 0 ∷ []) 0
-      ∷ [])
+    ∷ event_of (read_name 103) [] 3
+    ∷ event_of call (answered 0 ∷ []) 2
+    ∷ event_of call (answered 0 ∷ answered 0 ∷ []) 0
+    ∷ [])
     (ended (answered 0))
 
 -- ---- a block `{ 1 }` with a number

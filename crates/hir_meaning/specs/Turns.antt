@@ -35,13 +35,12 @@ EndsTheTurn = BothDo continue_early 2 [] (literal_event one 2 ∷ literal_event 
 
 -- ---- `'a: loop { loop { 1; continue 'a }; 2 }`
 
+abbrev pub loop_inside : Expr
+loop_inside = loop_of 3 None (block_of 4 None (first (literal_at 5 one) tree.no_stmts) (tree.continue_expr (at 6) (Some jump_a)))
+
 abbrev pub continue_outer : Example
 continue_outer = record {
-  written = tree.some_expr (loop_of 0 (Some label_a) (block_of 2 None
-      (first (loop_of 3 None (block_of 4 None
-          (first (literal_at 5 one) tree.no_stmts)
-          (tree.continue_expr (at 6) (Some jump_a)))) tree.no_stmts)
-      (literal_at 8 two)));
+  written = tree.some_expr (loop_of 0 (Some label_a) (block_of 2 None (first loop_inside tree.no_stmts) (literal_at 8 two)));
   nodes = (stored_one, 5)
       ∷ (hir.Continue (Some (number 0)), 6)
       ∷ (stored_block None (statement.Expr (id 0) true ∷ []) 1, 4)
@@ -122,12 +121,16 @@ UndeclaredIsPlain =
 
 -- ---- `loop { loop { if 1 { break } } }`
 
+-- `if 1 { break }`
+abbrev pub break_if : Expr
+break_if = tree.if_expr (at 4)
+    (tree.some_expr (literal_at 5 one))
+    (tree.some_block (in_braces 6 None (tree.break_expr (at 7) None tree.no_expr)))
+    tree.no_expr
+
 abbrev pub break_second : Example
 break_second = record {
-  written = tree.some_expr (loop_of 0 None (in_braces 1 None (loop_of 2 None (in_braces 3 None
-      (tree.if_expr (at 4) (tree.some_expr (literal_at 5 one))
-        (tree.some_block (in_braces 6 None (tree.break_expr (at 7) None tree.no_expr)))
-        tree.no_expr)))));
+  written = tree.some_expr (loop_of 0 None (in_braces 1 None (loop_of 2 None (in_braces 3 None break_if))));
   nodes = (hir.Break None None, 7)
       ∷ (stored_block None [] 0, 6)
       ∷ (stored_one, 5)

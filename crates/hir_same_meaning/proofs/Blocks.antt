@@ -12,12 +12,16 @@ use Rattle.hir_meaning.specs.Run.{Value, unit, pure, ◌>>◌}
 use Rattle.hir_scope.specs.Scopes.{Scope}
 use Rattle.hir_meaning.specs.Syntax.{SyntaxRun, run_expr, run_part, run_stmts, run_tail}
 use Rattle.hir_meaning.specs.Left.{is_kept, is_left, none_left}
-use Rattle.hir_meaning.specs.Store.{run_statements}
+use Rattle.hir_meaning.specs.Store.{StoreRun, run_statements}
 use Rattle.hir_meaning.specs.Jumps.{IfSome, EachStatement, EnclosedTo}
 use Rattle.hir_steps.proofs.Frames.{Frame, scopes, Falls}
 use Rattle.hir_same_meaning.proofs.Views.{numbers}
 use Rattle.hir_same_meaning.proofs.Relation.{SameWhere, same_pure, same_bind}
 use Rattle.hir_same_meaning.proofs.Senses.{Walk, run_in, one, contents, Goes}
+
+-- the walk of a part
+abbrev pub part_walk : OptionExpr → Walk Value
+part_walk e turns = run_part turns e
 
 -- ---- what is kept of an expression
 
@@ -34,7 +38,8 @@ abbrev pub Stored1 : ℕ → ℕ → Stored → List Frame → Bool → Walk Val
 Stored1 labels nodes final ps false x semi Rest new = Rest new
 Stored1 labels nodes final ps true x semi Rest [] = ⊥
 Stored1 labels nodes final ps true x semi Rest (statement.Item ∷ new) = ⊥
-Stored1 labels nodes final ps true x semi Rest (statement.Expr i semi' ∷ new) = (semi' ≡ semi) × Goes labels nodes one x final ps i × Rest new
+Stored1 labels nodes final ps true x semi Rest (statement.Expr i semi' ∷ new) =
+    (semi' ≡ semi) × Goes labels nodes one x final ps i × Rest new
 
 abbrev pub Item1 : (List Statement → Type 0) → List Statement → Type 0
 Item1 Rest [] = ⊥
@@ -50,16 +55,14 @@ module _ (labels nodes : ℕ) (final : Stored) (kept : Bool) (x : Walk Value) wh
   abbrev pub ContentsAre : List Frame → Stmts → List Statement → Option ExprId → Type 0
   ContentsAre ps tree.no_stmts new o = None1 new × KeptIs labels nodes final ps kept x o
   ContentsAre ps (tree.more_stmts tree.item_stmt ss) new o = Item1 (λ more. ContentsAre ps ss more o) new
-  ContentsAre ps (tree.more_stmts (tree.expr_stmt e semi) ss) new o = Stored1 labels nodes final ps (is_left e) (λ turns. run_part turns e) semi (λ more. ContentsAre ps ss more o) new
+  ContentsAre ps (tree.more_stmts (tree.expr_stmt e semi) ss) new o =
+      Stored1 labels nodes final ps (is_left e) (part_walk e) semi (λ more. ContentsAre ps ss more o) new
 
 -- ---- which statement is the last
 
 abbrev empty : List Statement → Bool
 empty [] = true
 empty (s ∷ ss) = false
-
-abbrev both : Bool → Bool → Bool
-both s t = not s && t
 
 module _ (labels nodes : ℕ) (final : Stored) (kept : Bool) (x : Walk Value) where
   none_left_is : (ps : List Frame) (ss : Stmts) (new : List Statement) (o : Option ExprId)
@@ -69,7 +72,8 @@ module _ (labels nodes : ℕ) (final : Stored) (kept : Bool) (x : Walk Value) wh
   none_left_is ps (tree.more_stmts tree.item_stmt ss) [] o h = absurd h
   none_left_is ps (tree.more_stmts tree.item_stmt ss) (statement.Item ∷ new) o h = refl
   none_left_is ps (tree.more_stmts tree.item_stmt ss) (statement.Expr i semi ∷ new) o h = absurd h
-  none_left_is ps (tree.more_stmts (tree.expr_stmt e semi) ss) new o h = go (is_left e) (λ turns. run_part turns e) new (λ more. none_left_is ps ss more o) h
+  none_left_is ps (tree.more_stmts (tree.expr_stmt e semi) ss) new o h =
+      go (is_left e) (part_walk e) new (λ more. none_left_is ps ss more o) h
     where
       go : (t : Bool) (y : Walk Value) (new : List Statement)
           → ((more : List Statement) → ContentsAre labels nodes final kept x ps ss more o → none_left ss ≡ empty more)
@@ -91,47 +95,58 @@ and_true false = refl
 
 -- ---- the same run
 
+-- the run of a stored block's contents
+abbrev stored_run : Stored → ℕ → ℕ → List Statement × Option ExprId → StoreRun Value
+stored_run final turns d r = run_statements turns (run_in final d turns) r.0 r.1
+
+-- an expression statement that is left or not, and others behind it
+abbrev before : Bool → Bool → SyntaxRun Value → SyntaxRun Value → SyntaxRun Value
+before left last y others = if left then (if last then y else (y >> others)) else others
+
 module _ (labels nodes : ℕ) (final : Stored) (turns d : ℕ) (deep : nodes ≤ d) (x : Walk Value) where
   -- with a tail, the statements as they are
   with_tail : (ps : List Frame) → Falls labels ps → (ss : Stmts) (new : List Statement) (i : ExprId)
       → ContentsAre labels nodes final true x ps ss new (Some i)
-      → SameWhere ps (run_statements turns (run_in final d turns) new (Some i)) (run_stmts turns ss true (x turns) (scopes ps))
+      → SameWhere ps (stored_run final turns d (new, Some i)) (run_stmts turns ss true (x turns) (scopes ps))
   with_tail ps f tree.no_stmts [] i h = h.1.same turns d deep f
   with_tail ps f tree.no_stmts (s ∷ new) i h = absurd h.0
   with_tail ps f (tree.more_stmts tree.item_stmt ss) [] i h = absurd h
   with_tail ps f (tree.more_stmts tree.item_stmt ss) (statement.Item ∷ new) i h = with_tail ps f ss new i h
   with_tail ps f (tree.more_stmts tree.item_stmt ss) (statement.Expr j semi ∷ new) i h = absurd h
-  with_tail ps f (tree.more_stmts (tree.expr_stmt e semi) ss) new i h = go (is_left e) (λ turns. run_part turns e) new (λ more h'. with_tail ps f ss more i h') h
+  with_tail ps f (tree.more_stmts (tree.expr_stmt e semi) ss) new i h =
+      go (is_left e) (part_walk e) new (λ more h'. with_tail ps f ss more i h') h
     where
       go : (t : Bool) (y : Walk Value) (new : List Statement)
           → ((more : List Statement) → ContentsAre labels nodes final true x ps ss more (Some i)
-          → SameWhere ps (run_statements turns (run_in final d turns) more (Some i)) (run_stmts turns ss true (x turns) (scopes ps)))
+          → SameWhere ps (stored_run final turns d (more, Some i)) (run_stmts turns ss true (x turns) (scopes ps)))
           → Stored1 labels nodes final ps t y semi (λ more. ContentsAre labels nodes final true x ps ss more (Some i)) new
-          → SameWhere ps (run_statements turns (run_in final d turns) new (Some i))
-          (if t then (if not semi && (none_left ss && false) then y turns (scopes ps) else (y turns (scopes ps) >> run_stmts turns ss true (x turns) (scopes ps))) else run_stmts turns ss true (x turns) (scopes ps))
+          → SameWhere ps (stored_run final turns d (new, Some i))
+          (before t (not semi && (none_left ss && false)) (y turns (scopes ps)) (run_stmts turns ss true (x turns) (scopes ps)))
       go false y new more h = more new h
       go true y [] more h = absurd h
       go true y (statement.Item ∷ new) more h = absurd h
-      go true y (statement.Expr j semi' ∷ new) more h = rw (and_false (not semi) (none_left ss)) (same_bind (h.1.same turns d deep f) (λ v. more new h.2))
+      go true y (statement.Expr j semi' ∷ new) more h =
+          rw (and_false (not semi) (none_left ss)) (same_bind (h.1.same turns d deep f) (λ v. more new h.2))
 
   -- without one, the last statement may become it
   without_tail : (ps : List Frame) → Falls labels ps → (ss : Stmts) (new : List Statement)
       → ContentsAre labels nodes final false x ps ss new None
-      → SameWhere ps (run_statements turns (run_in final d turns) (settled new None).0 (settled new None).1) (run_stmts turns ss false (λ qs. pure unit) (scopes ps))
+      → SameWhere ps (stored_run final turns d (settled new None)) (run_stmts turns ss false (λ qs. pure unit) (scopes ps))
   without_tail ps f tree.no_stmts [] h = same_pure unit
   without_tail ps f tree.no_stmts (s ∷ new) h = absurd h.0
   without_tail ps f (tree.more_stmts tree.item_stmt ss) [] h = absurd h
   without_tail ps f (tree.more_stmts tree.item_stmt ss) (statement.Item ∷ new) h = without_tail ps f ss new h
   without_tail ps f (tree.more_stmts tree.item_stmt ss) (statement.Expr j semi ∷ new) h = absurd h
-  without_tail ps f (tree.more_stmts (tree.expr_stmt e semi) ss) new h = go (is_left e) (λ turns. run_part turns e) semi new (without_tail ps f ss) (λ more. none_left_is labels nodes final false x ps ss more None) h
+  without_tail ps f (tree.more_stmts (tree.expr_stmt e semi) ss) new h =
+      go (is_left e) (part_walk e) semi new (without_tail ps f ss) (λ more. none_left_is labels nodes final false x ps ss more None) h
     where
       go : (t : Bool) (y : Walk Value) (semi : Bool) (new : List Statement)
           → ((more : List Statement) → ContentsAre labels nodes final false x ps ss more None
-          → SameWhere ps (run_statements turns (run_in final d turns) (settled more None).0 (settled more None).1) (run_stmts turns ss false (λ qs. pure unit) (scopes ps)))
+          → SameWhere ps (stored_run final turns d (settled more None)) (run_stmts turns ss false (λ qs. pure unit) (scopes ps)))
           → ((more : List Statement) → ContentsAre labels nodes final false x ps ss more None → none_left ss ≡ empty more)
           → Stored1 labels nodes final ps t y semi (λ more. ContentsAre labels nodes final false x ps ss more None) new
-          → SameWhere ps (run_statements turns (run_in final d turns) (settled new None).0 (settled new None).1)
-          (if t then (if not semi && (none_left ss && true) then y turns (scopes ps) else (y turns (scopes ps) >> run_stmts turns ss false (λ qs. pure unit) (scopes ps))) else run_stmts turns ss false (λ qs. pure unit) (scopes ps))
+          → SameWhere ps (stored_run final turns d (settled new None))
+          (before t (not semi && (none_left ss && true)) (y turns (scopes ps)) (run_stmts turns ss false (λ qs. pure unit) (scopes ps)))
       go false y semi new more left h = more new h
       go true y semi [] more left h = absurd h
       go true y semi (statement.Item ∷ new) more left h = absurd h
@@ -139,9 +154,14 @@ module _ (labels nodes : ℕ) (final : Stored) (turns d : ℕ) (deep : nodes ≤
       go true y true (statement.Expr j false ∷ new) more left h = absurd (true≢false (sym h.0))
       go true y false (statement.Expr j true ∷ new) more left h = absurd (true≢false h.0)
       go true y false (statement.Expr j false ∷ []) more left h = rw (left [] h.2) (h.1.same turns d deep f)
-      go true y false (statement.Expr j false ∷ (s ∷ new)) more left h = rw (left (s ∷ new) h.2) (same_bind (h.1.same turns d deep f) (λ v. more (s ∷ new) h.2))
+      go true y false (statement.Expr j false ∷ (s ∷ new)) more left h =
+          rw (left (s ∷ new) h.2) (same_bind (h.1.same turns d deep f) (λ v. more (s ∷ new) h.2))
 
 -- ---- jumps
+
+-- each jump of the contents of a block names what encloses it
+abbrev AllEnclosed : (ExprId → Type 0) → List Statement → Option ExprId → Type 0
+AllEnclosed P ss o = EachStatement P ss × IfSome P o
 
 module _ (labels nodes : ℕ) (final : Stored) (d : ℕ) (deep : nodes ≤ d) (kept : Bool) (x : Walk Value) where
   kept_jumps : (ps : List Frame) (t : Bool) (y : Walk Value) (o : Option ExprId) → KeptIs labels nodes final ps t y o
@@ -152,31 +172,33 @@ module _ (labels nodes : ℕ) (final : Stored) (d : ℕ) (deep : nodes ≤ d) (k
   kept_jumps ps false y (Some i) k = absurd k
 
   all_jumps : (ps : List Frame) (ss : Stmts) (new : List Statement) (o : Option ExprId) → ContentsAre labels nodes final kept x ps ss new o
-      → EachStatement (EnclosedTo final.exprs.entries d (numbers ps)) new × IfSome (EnclosedTo final.exprs.entries d (numbers ps)) o
+      → AllEnclosed (EnclosedTo final.exprs.entries d (numbers ps)) new o
   all_jumps ps tree.no_stmts [] o h = (tt, kept_jumps ps kept x o h.1)
   all_jumps ps tree.no_stmts (s ∷ new) o h = absurd h.0
   all_jumps ps (tree.more_stmts tree.item_stmt ss) [] o h = absurd h
   all_jumps ps (tree.more_stmts tree.item_stmt ss) (statement.Item ∷ new) o h = all_jumps ps ss new o h
   all_jumps ps (tree.more_stmts tree.item_stmt ss) (statement.Expr j semi ∷ new) o h = absurd h
-  all_jumps ps (tree.more_stmts (tree.expr_stmt e semi) ss) new o h = go (is_left e) (λ turns. run_part turns e) new (λ more. all_jumps ps ss more o) h
+  all_jumps ps (tree.more_stmts (tree.expr_stmt e semi) ss) new o h =
+      go (is_left e) (part_walk e) new (λ more. all_jumps ps ss more o) h
     where
       go : (t : Bool) (y : Walk Value) (new : List Statement)
-          → ((more : List Statement) → ContentsAre labels nodes final kept x ps ss more o → EachStatement (EnclosedTo final.exprs.entries d (numbers ps)) more × IfSome (EnclosedTo final.exprs.entries d (numbers ps)) o)
+          → ((more : List Statement) → ContentsAre labels nodes final kept x ps ss more o
+          → AllEnclosed (EnclosedTo final.exprs.entries d (numbers ps)) more o)
           → Stored1 labels nodes final ps t y semi (λ more. ContentsAre labels nodes final kept x ps ss more o) new
-          → EachStatement (EnclosedTo final.exprs.entries d (numbers ps)) new × IfSome (EnclosedTo final.exprs.entries d (numbers ps)) o
+          → AllEnclosed (EnclosedTo final.exprs.entries d (numbers ps)) new o
       go false y new more h = more new h
       go true y [] more h = absurd h
       go true y (statement.Item ∷ new) more h = absurd h
       go true y (statement.Expr j semi' ∷ new) more h = let r = more new h.2 in ((h.1.jumps d deep, r.0), r.1)
 
-settled_jumps : (P : ExprId → Type 0) (new : List Statement) (o : Option ExprId) → EachStatement P new → IfSome P o
-    → EachStatement P (settled new o).0 × IfSome P (settled new o).1
-settled_jumps P new (Some i) h k = (h, k)
-settled_jumps P [] None h k = (tt, tt)
-settled_jumps P (statement.Item ∷ new) None h k = settled_jumps P new None h k
-settled_jumps P (statement.Expr i true ∷ new) None h k = let r = settled_jumps P new None h.1 tt in ((h.0, r.0), r.1)
-settled_jumps P (statement.Expr i false ∷ []) None h k = (tt, h.0)
-settled_jumps P (statement.Expr i false ∷ (s ∷ new)) None h k = let r = settled_jumps P (s ∷ new) None h.1 tt in ((h.0, r.0), r.1)
+settled_jumps : (P : ExprId → Type 0) (new : List Statement) (o : Option ExprId) → AllEnclosed P new o
+    → AllEnclosed P (settled new o).0 (settled new o).1
+settled_jumps P new (Some i) h = h
+settled_jumps P [] None h = (tt, tt)
+settled_jumps P (statement.Item ∷ new) None h = settled_jumps P new None h
+settled_jumps P (statement.Expr i true ∷ new) None h = let r = settled_jumps P new None (h.0.1, tt) in ((h.0.0, r.0), r.1)
+settled_jumps P (statement.Expr i false ∷ []) None h = (tt, h.0.0)
+settled_jumps P (statement.Expr i false ∷ (s ∷ new)) None h = let r = settled_jumps P (s ∷ new) None (h.0.1, tt) in ((h.0.0, r.0), r.1)
 
 -- ---- the tail is stored where it is kept
 
@@ -186,7 +208,7 @@ module _ (labels nodes : ℕ) (final : Stored) (x : Walk Value) where
   no_tail ps (tree.more_stmts tree.item_stmt ss) [] h = h
   no_tail ps (tree.more_stmts tree.item_stmt ss) (statement.Item ∷ new) h = no_tail ps ss new h
   no_tail ps (tree.more_stmts tree.item_stmt ss) (statement.Expr j semi ∷ new) h = h
-  no_tail ps (tree.more_stmts (tree.expr_stmt e semi) ss) new h = go (is_left e) (λ turns. run_part turns e) new (no_tail ps ss) h
+  no_tail ps (tree.more_stmts (tree.expr_stmt e semi) ss) new h = go (is_left e) (part_walk e) new (no_tail ps ss) h
     where
       go : (t : Bool) (y : Walk Value) (new : List Statement)
           → ((more : List Statement) → ContentsAre labels nodes final true x ps ss more None → ⊥)
@@ -202,7 +224,7 @@ module _ (labels nodes : ℕ) (final : Stored) (x : Walk Value) (i : ExprId) whe
   a_tail ps (tree.more_stmts tree.item_stmt ss) [] h = h
   a_tail ps (tree.more_stmts tree.item_stmt ss) (statement.Item ∷ new) h = a_tail ps ss new h
   a_tail ps (tree.more_stmts tree.item_stmt ss) (statement.Expr j semi ∷ new) h = h
-  a_tail ps (tree.more_stmts (tree.expr_stmt e semi) ss) new h = go (is_left e) (λ turns. run_part turns e) new (a_tail ps ss) h
+  a_tail ps (tree.more_stmts (tree.expr_stmt e semi) ss) new h = go (is_left e) (part_walk e) new (a_tail ps ss) h
     where
       go : (t : Bool) (y : Walk Value) (new : List Statement)
           → ((more : List Statement) → ContentsAre labels nodes final false x ps ss more (Some i) → ⊥)
@@ -228,17 +250,20 @@ tail_is tree.no_expr turns = refl
 tail_is (tree.some_expr e) turns = kept_tail (is_kept e) (run_expr turns e)
 
 -- the contents of a block, where `e` is its written tail
-pub contents_go : {labels nodes : ℕ} {final : Stored} {ps : List Frame} (ss : Stmts) (e : OptionExpr) (new : List Statement) (o : Option ExprId)
-    → ContentsAre labels nodes final (is_left e) (λ turns. run_part turns e) ps ss new o
+pub contents_go : {labels nodes : ℕ} {final : Stored} {ps : List Frame} (ss : Stmts) (e : OptionExpr)
+    (new : List Statement) (o : Option ExprId)
+    → ContentsAre labels nodes final (is_left e) (part_walk e) ps ss new o
     → Goes labels nodes contents (λ turns qs. run_stmts turns ss (is_left e) (run_tail turns e) qs) final ps (settled new o)
 contents_go {labels = labels} {nodes = nodes} {final = final} {ps = ps} ss e new o h = record {
-  same = λ turns d le f. rw (tail_is e turns) (runs (is_left e) (λ turns. run_part turns e) o h turns d le f);
-  jumps = λ d le. let r = all_jumps labels nodes final d le (is_left e) (λ turns. run_part turns e) ps ss new o h in settled_jumps (EnclosedTo final.exprs.entries d (numbers ps)) new o r.0 r.1;
+  same = λ turns d le f. rw (tail_is e turns) (runs (is_left e) (part_walk e) o h turns d le f);
+  jumps = λ d le.
+      settled_jumps (EnclosedTo final.exprs.entries d (numbers ps)) new o
+      (all_jumps labels nodes final d le (is_left e) (part_walk e) ps ss new o h);
 }
   where
     runs : (t : Bool) (x : Walk Value) (o : Option ExprId) → ContentsAre labels nodes final t x ps ss new o → (turns d : ℕ) → nodes ≤ d
         → Falls labels ps
-        → SameWhere ps (run_statements turns (run_in final d turns) (settled new o).0 (settled new o).1) (run_stmts turns ss t (tail_of t (x turns)) (scopes ps))
+        → SameWhere ps (stored_run final turns d (settled new o)) (run_stmts turns ss t (tail_of t (x turns)) (scopes ps))
     runs true x None h turns d le f = absurd (no_tail labels nodes final x ps ss new h)
     runs true x (Some i) h turns d le f = with_tail labels nodes final turns d le x ps f ss new i h
     runs false x None h turns d le f = without_tail labels nodes final turns d le x ps f ss new h

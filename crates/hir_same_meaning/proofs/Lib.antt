@@ -4,6 +4,7 @@ pub mod Relation
 pub mod Senses
 pub mod Nodes
 pub mod Blocks
+pub mod Strict
 pub mod Forms
 pub mod Induction
 pub mod Spread

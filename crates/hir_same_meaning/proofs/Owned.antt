@@ -31,7 +31,8 @@ use Rattle.hir_same_meaning.proofs.Forms.{Pushed, pushed_none, pushed_one, corre
 
 -- ---- what was answered has its numbers
 
-pub record OwnsAs {A : Type 0} (numbers : (ExprId → List ℕ) → A → List ℕ) (final : Stored) (ps : List Frame) (m m' : Mark) (a : A) : Type 0 where
+pub record OwnsAs {A : Type 0} (numbers : (ExprId → List ℕ) → A → List ℕ)
+    (final : Stored) (ps : List Frame) (m m' : Mark) (a : A) : Type 0 where
   pub spread : (d : ℕ) → m'.nodes ≤ d → Spread m.nodes m'.nodes (numbers (reached_to final.exprs.entries d) a)
 
 abbrev pub Owns : Rel ExprId
@@ -60,7 +61,8 @@ owns_at {final = final} m {m1 = m1} {m' = m'} {i = i} at le h = record { spread 
 -- ---- forms
 
 leaf_owns : (e : HirExpr) (from : Option Pointer) → ((f : ExprId → List ℕ) → below f e ≡ []) → Correct (alloc_expr e from) Owns
-leaf_owns e from n = correct_as (correct_alloc e from) (λ final ps m m' i g a. owns_at m a (omega arith) (λ d le. rw (n (reached_to final.exprs.entries d)) (spread_none m.nodes m.nodes)))
+leaf_owns e from n = correct_as (correct_alloc e from)
+    (λ final ps m m' i g a. owns_at m a (omega arith) (λ d le. rw (n (reached_to final.exprs.entries d)) (spread_none m.nodes m.nodes)))
 
 missing_owns : Correct missing Owns
 unfolding missing
@@ -70,34 +72,48 @@ none_owns : Correct (pure None) OwnsSome
 none_owns = correct_as (correct_pure None) (λ final ps m m' o g row. rw row.is (owns_none None (λ f. refl)))
 
 some_owns : {p : Node} → Correct p Owns → Correct (some p) OwnsSome
-some_owns h = correct_as (correct_bind h (λ i. correct_pure (Some i))) (λ final ps m m' o g row. rw (row.second.is, row.second.still) (record { spread = row.first.spread }))
+some_owns h = correct_as (correct_bind h (λ i. correct_pure (Some i)))
+    (λ final ps m m' o g row. rw (row.second.is, row.second.still) (record { spread = row.first.spread }))
+
+-- a node of two parts, or lists of them
+owns2 : {A C : Type 0} {n : (ExprId → List ℕ) → A → List ℕ} {k : (ExprId → List ℕ) → C → List ℕ}
+    {p : Lowering A} {q : Lowering C} (e : A → C → HirExpr) (from : Option Pointer)
+    → ((f : ExprId → List ℕ) (a : A) (c : C) → below f (e a c) ≡ n f a ++ k f c)
+    → Correct p (OwnsAs n) → Correct q (OwnsAs k) → Correct (p >>= (λ a. q >>= (λ c. alloc_expr (e a c) from))) Owns
+owns2 e from is hp hq = correct_as (correct_bind hp (λ a. correct_bind hq (λ c. correct_alloc (e a c) from)))
+    (λ final ps m m' i g row. let r = row.second in
+    owns_at m r.second (omega arith) (λ d le. rw (is (reached_to final.exprs.entries d) row.one r.one)
+    (spread_append m.nodes r.middle.nodes (inl (omega arith)) (omega arith) (row.first.spread d (omega arith)) (r.first.spread d le))))
 
 module _ (at : Pointer) where
   if_owns : {c t : Node} {e : Lowering (Option ExprId)} → Correct c Owns → Correct t Owns → Correct e OwnsSome
       → Correct (if_form at c t e) Owns
   unfolding if_form
-  if_owns hc ht he = correct_as (correct_bind ht (λ i. correct_bind he (λ j. correct_bind hc (λ k. correct_alloc (hir.If k i j) (Some at)))))
+  if_owns hc ht he = correct_as
+      (correct_bind ht (λ i. correct_bind he (λ j. correct_bind hc (λ k. correct_alloc (hir.If k i j) (Some at)))))
       (λ final ps m m' i g row. let r = row.second in let q = r.second in
       owns_at m q.second (omega arith) (λ d le. spread_append m.nodes q.middle.nodes (inr (omega arith)) (omega arith) (q.first.spread d le)
-      (spread_append m.nodes r.middle.nodes (inl (omega arith)) (omega arith) (row.first.spread d (omega arith)) (r.first.spread d (omega arith)))))
+      (spread_append m.nodes r.middle.nodes (inl (omega arith)) (omega arith)
+      (row.first.spread d (omega arith)) (r.first.spread d (omega arith)))))
 
   call_owns : {p : Node} {q : Lowering (List ExprId)} → Correct p Owns → Correct q (OwnsAs of_each) → Correct (call_form at p q) Owns
   unfolding call_form
-  call_owns hf hs = correct_as (correct_bind hf (λ i. correct_bind hs (λ is. correct_alloc (hir.Call i is) (Some at))))
-      (λ final ps m m' i g row. let r = row.second in
-      owns_at m r.second (omega arith) (λ d le. spread_append m.nodes r.middle.nodes (inl (omega arith)) (omega arith) (row.first.spread d (omega arith)) (r.first.spread d le)))
+  call_owns hf hs = owns2 hir.Call (Some at) (λ f g xs. refl) hf hs
 
   loop_owns : (l : Option Label) {p : Node} → Correct p Owns → Correct (loop_form at l p) Owns
   unfolding loop_form
   loop_owns None h = correct_as (correct_bind h (λ i. correct_alloc (hir.Loop i None source.Loop) (Some at)))
       (λ final ps m m' i g row. owns_at m row.second (omega arith) (λ d le. row.first.spread d le))
-  loop_owns (Some l) h = correct_as (correct_opened loop_at l (λ n ps. refl) (λ n. h) (λ n i. correct_alloc (hir.Loop i (Some n) source.Loop) (Some at)))
-      (λ final ps m m' i g row. let e = row.nodes in let b = row.before in owns_at m row.second (omega arith) (λ d le. spread_wider m.nodes row.left.nodes (omega arith) (omega arith) (row.first.spread d le)))
+  loop_owns (Some l) h = correct_as
+      (correct_opened loop_at l (λ n ps. refl) (λ n. h) (λ n i. correct_alloc (hir.Loop i (Some n) source.Loop) (Some at)))
+      (λ final ps m m' i g row. let e = row.nodes in let b = row.before in
+      owns_at m row.second (omega arith) (λ d le. spread_wider m.nodes row.left.nodes (omega arith) (omega arith) (row.first.spread d le)))
 
   break_owns : (j : Option Jump) {p : Lowering (Option ExprId)} → Correct p OwnsSome → Correct (break_form at j p) Owns
   unfolding break_form
   break_owns j h = correct_as (correct_bind (correct_target j) (λ n. correct_bind h (λ e. correct_alloc (hir.Break n e) (Some at))))
-      (λ final ps m m' i g row. let r = row.second in owns_at m r.second (omega arith) (λ d le. spread_wider m.nodes r.middle.nodes (omega arith) (omega arith) (r.first.spread d le)))
+      (λ final ps m m' i g row. let r = row.second in
+      owns_at m r.second (omega arith) (λ d le. spread_wider m.nodes r.middle.nodes (omega arith) (omega arith) (r.first.spread d le)))
 
   continue_owns : (j : Option Jump) → Correct (continue_form at j) Owns
   unfolding continue_form
@@ -121,21 +137,30 @@ path_below (Some ss) h f = go (names_of ss)
 -- ---- what is kept, lists, statements
 
 kept_owns : (e : Expr) {p : Node} → Correct p Owns → Correct (kept e p) OwnsSome
-kept_owns (tree.disabled_expr at by e) h = correct_as (correct_bind (correct_report (InactiveCode at by)) (λ u. correct_pure None)) (λ final ps m m' o g row. rw row.second.is (owns_none None (λ f. refl)))
-kept_owns e h = correct_as (correct_bind h (λ i. correct_pure (Some i))) (λ final ps m m' o g row. rw (row.second.is, row.second.still) (record { spread = row.first.spread }))
+kept_owns (tree.disabled_expr at by e) h = correct_as (correct_bind (correct_report (InactiveCode at by)) (λ u. correct_pure None))
+    (λ final ps m m' o g row. rw row.second.is (owns_none None (λ f. refl)))
+kept_owns e h = correct_as (correct_bind h (λ i. correct_pure (Some i)))
+    (λ final ps m m' o g row. rw (row.second.is, row.second.still) (record { spread = row.first.spread }))
 
 disabled_owns : (at : Pointer) (by : CfgId) → Correct (report (InactiveCode at by) >>= (λ u. missing)) Owns
 disabled_owns at by = correct_as (correct_bind (correct_report (InactiveCode at by)) (λ u. missing_owns))
-    (λ final ps m m' i g row. record { spread = λ d le. spread_wider m.nodes m'.nodes (omega arith) (omega arith) (row.second.spread d le) })
+    (λ final ps m m' i g row.
+    record { spread = λ d le. spread_wider m.nodes m'.nodes (omega arith) (omega arith) (row.second.spread d le) })
 
 each_more : {final : Stored} {ps : List Frame} {m m1 m' : Mark} {r : List ExprId} (done : List ExprId) (o : Option ExprId) → Grows m m1
     → Grows m1 m'
     → OwnsSome final ps m m1 o → Pushed (push_some done o) (OwnsAs of_each) final ps m1 m' r → Pushed done (OwnsAs of_each) final ps m m' r
-each_more {m = m} {m' = m'} done None g g' h p = record { new = p.new; is = p.is; rel = record { spread = λ d le. spread_wider m.nodes m'.nodes (omega arith) (omega arith) (p.rel.spread d le) } }
+each_more {m = m} {m' = m'} done None g g' h p = record {
+  new = p.new;
+  is = p.is;
+  rel = record { spread = λ d le. spread_wider m.nodes m'.nodes (omega arith) (omega arith) (p.rel.spread d le) };
+}
 each_more {m = m} {m' = m'} done (Some i) g g' h p = record {
   new = i ∷ p.new;
   is = pushed_one done i p.new p.is;
-  rel = record { spread = λ d le. spread_append m.nodes m'.nodes (inl (omega arith)) (omega arith) (h.spread d (omega arith)) (p.rel.spread d le) };
+  rel = record {
+    spread = λ d le. spread_append m.nodes m'.nodes (inl (omega arith)) (omega arith) (h.spread d (omega arith)) (p.rel.spread d le);
+  };
 }
 
 -- the statements are pushed on those that stand
@@ -151,38 +176,56 @@ filled_end done o e h = rw e (record { new = []; is = sym (append-nil done); rel
 filled_silent : {final : Stored} {ps qs : List Frame} {m m' : Mark} {r : Contents} (s : Statement) (done : List Statement)
     → ((f : ExprId → List ℕ) → of_statement f s ≡ [])
     → Filled (done ++ s ∷ []) final qs m m' r → Filled done final ps m m' r
-filled_silent {final = final} s done n p = record { new = s ∷ p.new; is = pushed_one done s p.new p.is; rel = record { spread = λ d le. rw (n (reached_to final.exprs.entries d)) (p.rel.spread d le) } }
+filled_silent {final = final} s done n p = record {
+  new = s ∷ p.new;
+  is = pushed_one done s p.new p.is;
+  rel = record { spread = λ d le. rw (n (reached_to final.exprs.entries d)) (p.rel.spread d le) };
+}
 
 filled_expr : {final : Stored} {ps : List Frame} {m m1 m' : Mark} {r : Contents} (semi : Bool) (done : List Statement) (o : Option ExprId)
     → Grows m m1 → Grows m1 m'
     → OwnsSome final ps m m1 o → Filled (push_some done (option_map (λ i. statement.Expr i semi) o)) final ps m1 m' r
     → Filled done final ps m m' r
-filled_expr {m = m} {m' = m'} semi done None g g' h p = record { new = p.new; is = p.is; rel = record { spread = λ d le. spread_wider m.nodes m'.nodes (omega arith) (omega arith) (p.rel.spread d le) } }
+filled_expr {m = m} {m' = m'} semi done None g g' h p = record {
+  new = p.new;
+  is = p.is;
+  rel = record { spread = λ d le. spread_wider m.nodes m'.nodes (omega arith) (omega arith) (p.rel.spread d le) };
+}
 filled_expr {final = final} {m = m} {m1 = m1} {m' = m'} {r = r} semi done (Some i) g g' h p = record {
   new = statement.Expr i semi ∷ p.new;
   is = pushed_one done (statement.Expr i semi) p.new p.is;
   rel = record {
     spread = λ d le. let f = reached_to final.exprs.entries d in
-        rw (append_assoc (f i) (of_statements f p.new) (of_some f r.1)) (spread_append m.nodes m'.nodes (inl (omega arith)) (omega arith) (h.spread d (omega arith)) (p.rel.spread d le));
+        rw (append_assoc (f i) (of_statements f p.new) (of_some f r.1))
+        (spread_append m.nodes m'.nodes (inl (omega arith)) (omega arith) (h.spread d (omega arith)) (p.rel.spread d le));
   };
 }
 
 -- ---- blocks
+
+one_below : (f : ExprId → List ℕ) (i : ExprId) (ss ss' : List Statement) (o o' : Option ExprId)
+    → of_statements f ss ++ of_some f o ≡ of_statements f ss' ++ of_some f o'
+    → (f i ++ of_statements f ss) ++ of_some f o ≡ (f i ++ of_statements f ss') ++ of_some f o'
+one_below f i ss ss' o o' e = append_assoc (f i) (of_statements f ss) (of_some f o)
+    ∙ ap (λ ks. f i ++ ks) e
+    ∙ sym (append_assoc (f i) (of_statements f ss') (of_some f o'))
 
 settled_below : (f : ExprId → List ℕ) (ss : List Statement) (o : Option ExprId)
     → of_statements f (settled ss o).0 ++ of_some f (settled ss o).1 ≡ of_statements f ss ++ of_some f o
 settled_below f ss (Some i) = refl
 settled_below f [] None = refl
 settled_below f (statement.Item ∷ ss) None = settled_below f ss None
-settled_below f (statement.Expr i true ∷ ss) None = append_assoc (f i) (of_statements f (settled ss None).0) (of_some f (settled ss None).1) ∙ ap (λ ks. f i ++ ks) (settled_below f ss None) ∙ sym (append_assoc (f i) (of_statements f ss) [])
+settled_below f (statement.Expr i true ∷ ss) None = one_below f i (settled ss None).0 ss (settled ss None).1 None (settled_below f ss None)
 settled_below f (statement.Expr i false ∷ []) None = sym (append-nil (f i ++ []) ∙ append-nil (f i))
-settled_below f (statement.Expr i false ∷ (s ∷ ss)) None = append_assoc (f i) (of_statements f (settled (s ∷ ss) None).0) (of_some f (settled (s ∷ ss) None).1) ∙ ap (λ ks. f i ++ ks) (settled_below f (s ∷ ss) None) ∙ sym (append_assoc (f i) (of_statements f (s ∷ ss)) [])
+settled_below f (statement.Expr i false ∷ (s ∷ ss)) None =
+    one_below f i (settled (s ∷ ss) None).0 (s ∷ ss) (settled (s ∷ ss) None).1 None (settled_below f (s ∷ ss) None)
 
 block_form_owns : (at : Pointer) (label : Option LabelId) (number : Option BlockId) {p : Lowering Contents} → Correct p (Filled [])
     → Correct (block_form at label number p) Owns
 unfolding block_form
 block_form_owns at label number hp = correct_as
-    (correct_bind (correct_enter_block number) (λ u. correct_bind hp (λ r. correct_alloc (settled_block label number (settled r.0 r.1)) (Some at))))
+    (correct_bind (correct_enter_block number)
+    (λ u. correct_bind hp (λ r. correct_alloc (settled_block label number (settled r.0 r.1)) (Some at))))
     (λ final ps m m' i g row. let r = row.second in
     owns_at m r.second (omega arith) (λ d le. rw (settled_below (reached_to final.exprs.entries d) r.one.0 r.one.1, r.first.is)
     (spread_wider m.nodes r.middle.nodes (omega arith) (omega arith) (r.first.rel.spread d (omega arith)))))
@@ -191,7 +234,8 @@ block_owns : (at : Pointer) (label : Option Label) (number : Option BlockId) {p 
     → Correct (labelled label (λ n. block_form at n number p)) Owns
 unfolding labelled
 block_owns at None number hp = block_form_owns at None number hp
-block_owns at (Some l) number hp = correct_as (correct_opened block_at l (λ n ps. refl) (λ n. block_form_owns at (Some n) number hp) (λ n i. correct_pure i))
+block_owns at (Some l) number hp = correct_as
+    (correct_opened block_at l (λ n ps. refl) (λ n. block_form_owns at (Some n) number hp) (λ n i. correct_pure i))
     (λ final ps m m' i g row. let e = row.nodes in rw (row.second.is, row.second.still)
     (record { spread = λ d le. spread_wider m.nodes row.left.nodes (omega arith) (omega arith) (row.first.spread d le) }))
 
@@ -230,7 +274,8 @@ mutual
   kept_part_owns (tree.some_expr e) = kept_owns e (expr_owns e)
 
   each_owns : (es : Exprs) (done : List ExprId) → Correct (lower_each done es) (Pushed done (OwnsAs of_each))
-  each_owns tree.no_exprs done = correct_as (correct_pure done) (λ final ps m m' r g row. pushed_none done row.is (owns_none [] (λ f. refl)))
+  each_owns tree.no_exprs done = correct_as (correct_pure done)
+      (λ final ps m m' r g row. pushed_none done row.is (owns_none [] (λ f. refl)))
   each_owns (tree.more_exprs e es) done = correct_as (correct_bind (kept_owns e (expr_owns e)) (λ o. each_owns es (push_some done o)))
       (λ final ps m m' r g row. each_more done row.one row.before row.after row.first row.second)
 
@@ -239,8 +284,11 @@ mutual
 
   stmts_owns : {q : Lowering (Option ExprId)} → Correct q OwnsSome → (ss : Stmts) (done : List Statement)
       → Correct (lower_stmts done ss q) (Filled done)
-  stmts_owns hq tree.no_stmts done = correct_as (correct_bind hq (λ o. correct_pure (done, o))) (λ final ps m m' r g row. rw row.second.still (filled_end done row.one row.second.is row.first))
-  stmts_owns hq (tree.more_stmts (tree.expr_stmt e semi) ss) done = correct_as (correct_bind (correct_statement semi (kept_part_owns e)) (λ o. stmts_owns hq ss (push_some done o)))
+  stmts_owns hq tree.no_stmts done = correct_as (correct_bind hq (λ o. correct_pure (done, o)))
+      (λ final ps m m' r g row. rw row.second.still (filled_end done row.one row.second.is row.first))
+  stmts_owns hq (tree.more_stmts (tree.expr_stmt e semi) ss) done = correct_as
+      (correct_bind (correct_statement semi (kept_part_owns e)) (λ o. stmts_owns hq ss (push_some done o)))
       (λ final ps m m' r g row. let s = row.first in let others = row.second in
       filled_expr semi done s.value row.before row.after s.rel (rw s.is at others))
-  stmts_owns hq (tree.more_stmts tree.item_stmt ss) done = correct_as (stmts_owns hq ss (done ++ statement.Item ∷ [])) (λ final ps m m' r g p. filled_silent {qs = ps} statement.Item done (λ f. refl) p)
+  stmts_owns hq (tree.more_stmts tree.item_stmt ss) done = correct_as (stmts_owns hq ss (done ++ statement.Item ∷ []))
+      (λ final ps m m' r g p. filled_silent {qs = ps} statement.Item done (λ f. refl) p)

@@ -12,7 +12,8 @@ use Rattle.hir_meaning.specs.Store.{Named, StoreRun, past_loop, past_block}
 use Rattle.hir_steps.proofs.Frames.{Frame, block_at}
 use Rattle.hir_same_meaning.proofs.Views.{Numbered, number, view, view_step, turn_ends, block_ends, plain_block_ends, loop_frame}
 
-pub record Agrees {A : Type 0} (ps : List Frame) (o : Outcome Named A) (w : World (Unit {0})) (o' : Outcome Count A) (w' : World (Unit {0})) : Type 0 where
+pub record Agrees {A : Type 0} (ps : List Frame) (o : Outcome Named A) (w : World (Unit {0}))
+    (o' : Outcome Count A) (w' : World (Unit {0})) : Type 0 where
   pub outcome : view ps o ≡ o'
   pub world : w ≡ w'
 
@@ -20,7 +21,9 @@ pub record Agrees {A : Type 0} (ps : List Frame) (o : Outcome Named A) (w : Worl
 pub record SameWhere {A : Type 0} (ps : List Frame) (m : StoreRun A) (n : SyntaxRun A) : Type 0 where
   pub same : (w : World (Unit {0})) → Agrees ps (m w).0 (m w).1 (n w).0 (n w).1
 
-agrees_as : {A S : Type 0} {ps : List Frame} {o : Outcome Named A} {w : World (Unit {0})} (k : S → World (Unit {0}) → Outcome Count A × World (Unit {0})) {s s' : S} {v v' : World (Unit {0})}
+agrees_as : {A S : Type 0} {ps : List Frame} {o : Outcome Named A} {w : World (Unit {0})}
+    (k : S → World (Unit {0}) → Outcome Count A × World (Unit {0}))
+    {s s' : S} {v v' : World (Unit {0})}
     → s ≡ s' → v ≡ v' → Agrees ps o w (k s v).0 (k s v).1 → Agrees ps o w (k s' v').0 (k s' v').1
 agrees_as {ps = ps} {o = o} {w = w} k {s = s} {s' = s'} {v = v} e e' h =
     subst (λ u. Agrees ps o w (k s' u).0 (k s' u).1) e' (subst (λ t. Agrees ps o w (k t v).0 (k t v).1) e h)

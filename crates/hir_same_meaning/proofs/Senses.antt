@@ -5,6 +5,7 @@ use Rattle.hir_store.specs.Stored.{Stored, store_of, map_of}
 use Rattle.hir_store.specs.declared.hir.Expr.{Expr}
 use Rattle.hir_store.specs.declared.hir.Statement.{Statement}
 use Rattle.hir_store.specs.declared.ids.ExprId.{ExprId}
+use Rattle.hir_env.specs.NodeMap.{Site}
 use Rattle.hir_env.specs.Answering.{site_of}
 use Rattle.hir_meaning.specs.Run.{Value}
 use Rattle.hir_scope.specs.Scopes.{Scope}
@@ -23,6 +24,10 @@ Walk B = ℕ → List Scope → SyntaxRun B
 -- the run of an expression of a final store, where it is looked into so deep
 abbrev pub run_in : Stored → ℕ → ℕ → ExprId → StoreRun Value
 run_in final d turns = run_to (store_of final) (map_of final) d turns
+
+-- the run of a node whose parts are looked into so deep
+abbrev pub node_in : Stored → ℕ → ℕ → Expr → Option Site → StoreRun Value
+node_in final d turns e site = run_node (store_of final) (map_of final) turns (run_in final d turns) e site
 
 -- how numbers are read: one, an optional one, a list, the contents of a block
 pub record Reading (A B : Type 0) : Type 1 where
@@ -61,12 +66,15 @@ goes_within {labels = labels} {labels' = labels'} {ps = ps} wide h = record {
 }
 
 -- an expression that was stored under the number from
-pub goes_at : {labels : ℕ} {m m' : Mark} {e : Expr} {source : Option Pointer} {x : Walk Value} {final : Stored} {ps qs : List Frame} {i : ExprId} → Allocated e source final qs m m' i
-    → ((turns d : ℕ) → m.nodes ≤ d → Falls labels ps → SameWhere ps (run_node (store_of final) (map_of final) turns (run_in final d turns) e (option_map site_of source)) (x turns (scopes ps)))
+pub goes_at : {labels : ℕ} {m m' : Mark} {e : Expr} {source : Option Pointer} {x : Walk Value} {final : Stored} {ps qs : List Frame}
+    {i : ExprId} → Allocated e source final qs m m' i
+    → ((turns d : ℕ) → m.nodes ≤ d → Falls labels ps
+    → SameWhere ps (node_in final d turns e (option_map site_of source)) (x turns (scopes ps)))
     → ((d : ℕ) → m.nodes ≤ d → NodeEnclosed (EnclosedTo final.exprs.entries d) (numbers ps) e)
     → Goes labels m'.nodes one x final ps i
 unfolding run_to EnclosedTo
-goes_at {labels = labels} {m = m} {m' = m'} {x = x} {final = final} {ps = ps} {i = i} at same jumps = record { same = λ turns d le f. at_depth turns d le f; jumps = jumps_at }
+goes_at {labels = labels} {m = m} {m' = m'} {x = x} {final = final} {ps = ps} {i = i} at same jumps =
+    record { same = λ turns d le f. at_depth turns d le f; jumps = jumps_at }
   where
     at_depth : (turns d : ℕ) → m'.nodes ≤ d → Falls labels ps → SameWhere ps (run_in final d turns i) (x turns (scopes ps))
     at_depth turns zero le f = absurd (omega (arith, at.next))

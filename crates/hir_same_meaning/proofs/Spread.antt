@@ -16,14 +16,19 @@ apart lo hi lo' hi' k js (inr le) h h' = let a : lo ≤ k = h.0 in all_less js (
 
 distinct_append : (lo hi lo' hi' : ℕ) (ks js : List ℕ) → (hi ≤ lo') ⊎ (hi' ≤ lo) → Spread lo hi ks → Spread lo' hi' js → Distinct (ks ++ js)
 distinct_append lo hi lo' hi' [] js e h h' = h'.distinct
-distinct_append lo hi lo' hi' (k ∷ ks) js e h h' =
-    (all_append _ ks js h.distinct.0 (apart lo hi lo' hi' k js e h.within.0 h'.within), distinct_append lo hi lo' hi' ks js e (record { within = h.within.1; distinct = h.distinct.1 }) h')
+distinct_append lo hi lo' hi' (k ∷ ks) js e h h' = (
+  all_append _ ks js h.distinct.0 (apart lo hi lo' hi' k js e h.within.0 h'.within),
+  distinct_append lo hi lo' hi' ks js e (record { within = h.within.1; distinct = h.distinct.1 }) h',
+)
 
 pub spread_none : (lo hi : ℕ) → Spread lo hi []
 spread_none lo hi = record { within = tt; distinct = tt }
 
 pub spread_wider : {lo hi : ℕ} {ks : List ℕ} (lo' hi' : ℕ) → lo' ≤ lo → hi ≤ hi' → Spread lo hi ks → Spread lo' hi' ks
-spread_wider {lo = lo} {hi = hi} {ks = ks} lo' hi' le le' h = record { within = all_less ks (λ k f. let a : lo ≤ k = f.0 in let b : k < hi = f.1 in omega arith) h.within; distinct = h.distinct }
+spread_wider {lo = lo} {hi = hi} {ks = ks} lo' hi' le le' h = record {
+  within = all_less ks (λ k f. let a : lo ≤ k = f.0 in let b : k < hi = f.1 in omega arith) h.within;
+  distinct = h.distinct;
+}
 
 pub spread_append : {lo hi lo' hi' : ℕ} {ks js : List ℕ} (from to : ℕ) → (hi ≤ lo') ⊎ (hi' ≤ lo)
     → (from ≤ lo) × (from ≤ lo') × (hi ≤ to) × (hi' ≤ to) → Spread lo hi ks → Spread lo' hi' js → Spread from to (ks ++ js)
@@ -33,4 +38,7 @@ spread_append {lo = lo} {hi = hi} {lo' = lo'} {hi' = hi'} {ks = ks} {js = js} fr
 
 pub spread_node : (lo n : ℕ) (ks : List ℕ) → lo ≤ n → Spread lo n ks → Spread lo (suc n) (n ∷ ks)
 spread_node lo n ks le h = let w = spread_wider lo (suc n) (omega arith) (omega arith) h in
-    record { within = ((le, omega arith), w.within); distinct = (all_less ks (λ k f. let b : k < n = f.1 in omega arith) h.within, h.distinct) }
+    record {
+      within = ((le, omega arith), w.within);
+      distinct = (all_less ks (λ k f. let b : k < n = f.1 in omega arith) h.within, h.distinct);
+    }

@@ -96,8 +96,10 @@ farther rs xs e = ap (map_ribs one_out) e ∙ (map_ribs_twice bearer_of one_out 
 scopes_reach : (ps : List Frame) → scope_ribs (scopes ps) ≡ map_ribs bearer_of (reach ps)
 scopes_reach [] = refl
 scopes_reach (plain_loop ∷ ps) = farther (scope_ribs (scopes ps)) (reach ps) (scopes_reach ps)
-scopes_reach (loop_at l n ∷ ps) = ap (λ x. label_rib l.name l.hygiene (a_loop 0) ∷ x) (farther (scope_ribs (scopes ps)) (reach ps) (scopes_reach ps))
-scopes_reach (block_at l n ∷ ps) = ap (λ x. label_rib l.name l.hygiene (a_block 0) ∷ x) (farther (scope_ribs (scopes ps)) (reach ps) (scopes_reach ps))
+scopes_reach (loop_at l n ∷ ps) =
+    ap (λ x. label_rib l.name l.hygiene (a_loop 0) ∷ x) (farther (scope_ribs (scopes ps)) (reach ps) (scopes_reach ps))
+scopes_reach (block_at l n ∷ ps) =
+    ap (λ x. label_rib l.name l.hygiene (a_block 0) ∷ x) (farther (scope_ribs (scopes ps)) (reach ps) (scopes_reach ps))
 scopes_reach (try_at n ∷ ps) = farther (scope_ribs (scopes ps)) (reach ps) (scopes_reach ps)
 scopes_reach (macro_at d ∷ ps) = ap (λ x. macro_rib d ∷ x) (scopes_reach ps)
 scopes_reach (barrier_at ∷ ps) = refl
@@ -126,17 +128,23 @@ out_of_loop b ps (n, a_block k) h = (h.0, ap further h.1, ap further h.2)
 
 out_of_loop_at : (b : ℕ) (l : Label) (m : LabelId) (ps : List Frame) → m.0 < b → (x : Reached) → Right m.0 ps x
     → Right b (loop_at l m ∷ ps) (outer x)
-out_of_loop_at b l m ps lt (n, a_loop k) h = let n_lt : n.0 < m.0 = h.0 in let ne = differs m n h.0 in (omega arith, rw ne (ap further h.1), rw ne (ap further h.2))
-out_of_loop_at b l m ps lt (n, a_block k) h = let n_lt : n.0 < m.0 = h.0 in let ne = differs m n h.0 in (omega arith, rw ne (ap further h.1), rw ne (ap further h.2))
+out_of_loop_at b l m ps lt (n, a_loop k) h =
+    let n_lt : n.0 < m.0 = h.0 in let ne = differs m n h.0 in (omega arith, rw ne (ap further h.1), rw ne (ap further h.2))
+out_of_loop_at b l m ps lt (n, a_block k) h =
+    let n_lt : n.0 < m.0 = h.0 in let ne = differs m n h.0 in (omega arith, rw ne (ap further h.1), rw ne (ap further h.2))
 
 out_of_block_at : (b : ℕ) (l : Label) (m : LabelId) (ps : List Frame) → m.0 < b → (x : Reached) → Right m.0 ps x
     → Right b (block_at l m ∷ ps) (outer x)
-out_of_block_at b l m ps lt (n, a_loop k) h = let n_lt : n.0 < m.0 = h.0 in let ne = differs m n h.0 in (omega arith, rw ne (ap further h.1), ap further h.2)
-out_of_block_at b l m ps lt (n, a_block k) h = let n_lt : n.0 < m.0 = h.0 in let ne = differs m n h.0 in (omega arith, rw ne (ap further h.1), ap further h.2)
+out_of_block_at b l m ps lt (n, a_loop k) h =
+    let n_lt : n.0 < m.0 = h.0 in let ne = differs m n h.0 in (omega arith, rw ne (ap further h.1), ap further h.2)
+out_of_block_at b l m ps lt (n, a_block k) h =
+    let n_lt : n.0 < m.0 = h.0 in let ne = differs m n h.0 in (omega arith, rw ne (ap further h.1), ap further h.2)
 
 out_of_try_at : (b : ℕ) (m : LabelId) (ps : List Frame) → m.0 < b → (x : Reached) → Right m.0 ps x → Right b (try_at m ∷ ps) (outer x)
-out_of_try_at b m ps lt (n, a_loop k) h = let n_lt : n.0 < m.0 = h.0 in let ne = differs m n h.0 in (omega arith, rw ne (ap further h.1), ap further h.2)
-out_of_try_at b m ps lt (n, a_block k) h = let n_lt : n.0 < m.0 = h.0 in let ne = differs m n h.0 in (omega arith, rw ne (ap further h.1), ap further h.2)
+out_of_try_at b m ps lt (n, a_loop k) h =
+    let n_lt : n.0 < m.0 = h.0 in let ne = differs m n h.0 in (omega arith, rw ne (ap further h.1), ap further h.2)
+out_of_try_at b m ps lt (n, a_block k) h =
+    let n_lt : n.0 < m.0 = h.0 in let ne = differs m n h.0 in (omega arith, rw ne (ap further h.1), ap further h.2)
 
 past_macro_at : (b : ℕ) (d : MacroDefId) (ps : List Frame) (x : Reached) → Right b ps x → Right b (macro_at d ∷ ps) x
 past_macro_at b d ps (n, a_loop k) h = h
@@ -153,13 +161,21 @@ map_itself (barrier_rib ∷ rs) = ap (λ x. barrier_rib ∷ x) (map_itself rs)
 
 all_right : (ps : List Frame) (b : ℕ) → Falls b ps → InReach (Right b ps) (reach ps)
 all_right [] b f = tt
-all_right (plain_loop ∷ ps) b f = in_reach_map outer (Right b ps) (Right b (plain_loop ∷ ps)) (reach ps) (out_of_loop b ps) (all_right ps b f)
-all_right (loop_at l n ∷ ps) b f = let e = is_same n in
-    ((f.0, rw e refl, rw e refl), in_reach_map outer (Right n.0 ps) (Right b (loop_at l n ∷ ps)) (reach ps) (out_of_loop_at b l n ps f.0) (all_right ps n.0 f.1))
-all_right (block_at l n ∷ ps) b f = let e = is_same n in let le : n.0 ≤ n.0 = omega arith in
-    ((f.0, rw e refl, ap further (none_left ps n.0 n f.1 le)), in_reach_map outer (Right n.0 ps) (Right b (block_at l n ∷ ps)) (reach ps) (out_of_block_at b l n ps f.0) (all_right ps n.0 f.1))
-all_right (try_at n ∷ ps) b f = in_reach_map outer (Right n.0 ps) (Right b (try_at n ∷ ps)) (reach ps) (out_of_try_at b n ps f.0) (all_right ps n.0 f.1)
-all_right (macro_at d ∷ ps) b f = rw (← map_itself (reach ps)) (in_reach_map itself (Right b ps) (Right b (macro_at d ∷ ps)) (reach ps) (past_macro_at b d ps) (all_right ps b f))
+all_right (plain_loop ∷ ps) b f =
+    in_reach_map outer (Right b ps) (Right b (plain_loop ∷ ps)) (reach ps) (out_of_loop b ps) (all_right ps b f)
+all_right (loop_at l n ∷ ps) b f = let e = is_same n in (
+  (f.0, rw e refl, rw e refl),
+  in_reach_map outer (Right n.0 ps) (Right b (loop_at l n ∷ ps)) (reach ps) (out_of_loop_at b l n ps f.0) (all_right ps n.0 f.1),
+)
+all_right (block_at l n ∷ ps) b f = let e = is_same n in let le : n.0 ≤ n.0 = omega arith in (
+  (f.0, rw e refl, ap further (none_left ps n.0 n f.1 le)),
+  in_reach_map outer (Right n.0 ps) (Right b (block_at l n ∷ ps)) (reach ps) (out_of_block_at b l n ps f.0) (all_right ps n.0 f.1),
+)
+all_right (try_at n ∷ ps) b f =
+    in_reach_map outer (Right n.0 ps) (Right b (try_at n ∷ ps)) (reach ps) (out_of_try_at b n ps f.0) (all_right ps n.0 f.1)
+all_right (macro_at d ∷ ps) b f =
+    rw (← map_itself (reach ps))
+    (in_reach_map itself (Right b ps) (Right b (macro_at d ∷ ps)) (reach ps) (past_macro_at b d ps) (all_right ps b f))
 all_right (barrier_at ∷ ps) b f = tt
 
 breaks : (b : ℕ) (ps : List Frame) (t : Target Reached) → IfFound (Right b ps) t
@@ -179,12 +195,16 @@ continues b ps undeclared h = (plain_target ps).1
 pub break_meets : (b : ℕ) (ps : List Frame) (j : Option Jump) → Falls b ps
     → count_break ps (jump_number (ribs ps) j) ≡ break_target (scopes ps) j
 break_meets b ps None f = (plain_target ps).0
-break_meets b ps (Some j) f = let h = joined ps j in rw (h.number, h.bearer) (breaks b ps (target j (reach ps)) (target_in_reach (Right b ps) j (reach ps) (all_right ps b f)))
+break_meets b ps (Some j) f = let h = joined ps j in
+    rw (h.number, h.bearer) (breaks b ps (target j (reach ps))
+    (target_in_reach (Right b ps) j (reach ps) (all_right ps b f)))
 
 pub continue_meets : (b : ℕ) (ps : List Frame) (j : Option Jump) → Falls b ps
     → count_continue ps (jump_number (ribs ps) j) ≡ continue_target (scopes ps) j
 continue_meets b ps None f = (plain_target ps).1
-continue_meets b ps (Some j) f = let h = joined ps j in rw (h.number, h.bearer) (continues b ps (target j (reach ps)) (target_in_reach (Right b ps) j (reach ps) (all_right ps b f)))
+continue_meets b ps (Some j) f = let h = joined ps j in
+    rw (h.number, h.bearer) (continues b ps (target j (reach ps))
+    (target_in_reach (Right b ps) j (reach ps) (all_right ps b f)))
 
 -- ---- labels around
 
@@ -197,9 +217,16 @@ further_out n ls x h = inr h
 all_among : (ps : List Frame) → InReach (NumberAmong (numbers ps)) (reach ps)
 all_among [] = tt
 all_among (plain_loop ∷ ps) = in_reach_map outer (NumberAmong (numbers ps)) (NumberAmong (numbers ps)) (reach ps) (λ x h. h) (all_among ps)
-all_among (loop_at l n ∷ ps) = (inl refl, in_reach_map outer (NumberAmong (numbers ps)) (NumberAmong (n ∷ numbers ps)) (reach ps) (further_out n (numbers ps)) (all_among ps))
-all_among (block_at l n ∷ ps) = (inl refl, in_reach_map outer (NumberAmong (numbers ps)) (NumberAmong (n ∷ numbers ps)) (reach ps) (further_out n (numbers ps)) (all_among ps))
-all_among (try_at n ∷ ps) = in_reach_map outer (NumberAmong (numbers ps)) (NumberAmong (n ∷ numbers ps)) (reach ps) (further_out n (numbers ps)) (all_among ps)
+all_among (loop_at l n ∷ ps) = (
+  inl refl,
+  in_reach_map outer (NumberAmong (numbers ps)) (NumberAmong (n ∷ numbers ps)) (reach ps) (further_out n (numbers ps)) (all_among ps),
+)
+all_among (block_at l n ∷ ps) = (
+  inl refl,
+  in_reach_map outer (NumberAmong (numbers ps)) (NumberAmong (n ∷ numbers ps)) (reach ps) (further_out n (numbers ps)) (all_among ps),
+)
+all_among (try_at n ∷ ps) =
+    in_reach_map outer (NumberAmong (numbers ps)) (NumberAmong (n ∷ numbers ps)) (reach ps) (further_out n (numbers ps)) (all_among ps)
 all_among (macro_at d ∷ ps) = all_among ps
 all_among (barrier_at ∷ ps) = tt
 
@@ -211,4 +238,6 @@ found_among ls undeclared h = tt
 -- A number that lowering gives a jump is that of a label around it.
 pub among : (ps : List Frame) (j : Option Jump) → NamesAmong (numbers ps) (jump_number (ribs ps) j)
 among ps None = tt
-among ps (Some j) = rw (joined ps j).number (found_among (numbers ps) (target j (reach ps)) (target_in_reach (NumberAmong (numbers ps)) j (reach ps) (all_among ps)))
+among ps (Some j) =
+    rw (joined ps j).number (found_among (numbers ps) (target j (reach ps))
+    (target_in_reach (NumberAmong (numbers ps)) j (reach ps) (all_among ps)))

@@ -88,7 +88,8 @@ loop_continue (Some n) ps None = refl
 loop_continue (Some n) ps (Some k) = split (nat_eq n.number.0 k.0)
   where
     split : (b : Bool)
-        → outward (if b then Some 0 else further (count_continue ps (Some k))) ≡ map_jump (count_continue ps) (if b then None else Some (Some k))
+        → outward (if b then Some 0 else further (count_continue ps (Some k)))
+        ≡ map_jump (count_continue ps) (if b then None else Some (Some k))
     split true = refl
     split false = out_further (count_continue ps (Some k))
 
@@ -106,7 +107,9 @@ pub turn_ends : (x : Option Numbered) (ps : List Frame) (o : Outcome Named (Opti
     → view_step ps (turn_end (past_loop (number x)) o) ≡ turn_end outward (view (loop_frame x ∷ ps) o)
 turn_ends x ps (value None) = refl
 turn_ends x ps (value (Some v)) = refl
-turn_ends x ps (break j v) = view_broken ps v (past_loop (number x) j) ∙ ap (λ i. broken v i (λ v'. done (value v')) done) (sym (loop_break x ps j))
+turn_ends x ps (break j v) =
+    view_broken ps v (past_loop (number x) j)
+    ∙ ap (λ i. broken v i (λ v'. done (value v')) done) (sym (loop_break x ps j))
 turn_ends x ps (continue j) = view_continued ps (past_loop (number x) j) ∙ ap (λ i. continued i again done) (sym (loop_continue x ps j))
 turn_ends x ps (leave y) = refl
 
@@ -136,9 +139,12 @@ view_block_broken ps v None = refl
 view_block_broken ps v (Some j) = refl
 
 pub block_ends : (n : Numbered) (ps : List Frame) (o : Outcome Named Value)
-    → view ps (block_end (past_block (Some n.number)) (λ j. j) o) ≡ block_end outward past_block_scope (view (block_at n.label n.number ∷ ps) o)
+    → view ps (block_end (past_block (Some n.number)) (λ j. j) o)
+    ≡ block_end outward past_block_scope (view (block_at n.label n.number ∷ ps) o)
 block_ends n ps (value v) = refl
-block_ends n ps (break j v) = view_block_broken ps v (past_block (Some n.number) j) ∙ ap (λ i. broken v i value (λ o. o)) (sym (block_break n ps j))
+block_ends n ps (break j v) =
+    view_block_broken ps v (past_block (Some n.number) j)
+    ∙ ap (λ i. broken v i value (λ o. o)) (sym (block_break n ps j))
 block_ends n ps (continue j) = ap continue (sym (past_further (count_continue ps j)))
 block_ends n ps (leave x) = refl
 
