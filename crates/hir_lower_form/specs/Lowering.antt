@@ -12,7 +12,8 @@ use Rattle.hir_store.specs.declared.ids.ExprId.{ExprId}
 use Rattle.hir_store.specs.declared.ids.LabelId.{LabelId}
 use Rattle.hir_store.specs.declared.ids.BlockId.{BlockId}
 use Rattle.hir_store.specs.declared.diagnostics.ExpressionStoreDiagnostics.{ExpressionStoreDiagnostics}
-use Rattle.hir_store.specs.declared.diagnostics.ExpressionStoreDiagnostics.TheVariants.{UndeclaredLabel, UnreachableLabel}
+use Rattle.hir_store.specs.declared.diagnostics.ExpressionStoreDiagnostics.TheVariants.{AwaitOutsideOfAsync, UndeclaredLabel, UnreachableLabel}
+use Rattle.hir_store.specs.declared.diagnostics.AwaitLocation.{AwaitLocation}
 use Rattle.hir_scope.specs.Ribs.{label_rib, Target, found, unreachable, undeclared, target}
 use Rattle.hir_lower_scope.specs.Labels.{rest}
 use Rattle.hir_env.specs.Answered.{Label, Jump}
@@ -51,6 +52,11 @@ point node id = stored (storing.point node id)
 
 unfoldable pub report : ExpressionStoreDiagnostics → Lowering (Unit {0})
 report fault = stored (storing.report fault)
+
+-- what awaits stands in this, which isn't async
+unfoldable pub report_await : Pointer → Option AwaitLocation → Lowering (Unit {0})
+report_await node None = pure tt
+report_await node (Some location) = report (AwaitOutsideOfAsync node location)
 
 unfoldable pub enter_block : Option BlockId → Lowering (Unit {0})
 enter_block None = pure tt

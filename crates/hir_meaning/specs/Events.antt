@@ -2,6 +2,11 @@
 use Rattle.std.specs.Prelude.{ℕ, Bool, List, Option}
 use Rattle.hir_store.specs.declared.ids.HygieneId.{HygieneId}
 use Rattle.hir_store.specs.declared.ids.BlockId.{BlockId}
+use Rattle.hir_syntax.specs.declared.ast.UnaryOp.{UnaryOp}
+use Rattle.hir_syntax.specs.declared.ast.BinaryOp.{BinaryOp}
+use Rattle.hir_store.specs.declared.hir.Rawness.{Rawness}
+use Rattle.hir_store.specs.declared.hir.Mutability.{Mutability}
+use Rattle.hir_store.specs.declared.name.Name.{Name}
 use Rattle.hir_env.specs.NodeMap.{Site}
 use Rattle.hir_meaning.specs.Data.{LiteralData, PathData}
 
@@ -16,12 +21,25 @@ pub data Test : Type 0 where
   is_true : Test
 
 -- what happens: a literal with its data, the read of a path with the hygiene that it is looked up with, a call, the
--- entering of a numbered block, a test (Rust Reference, literal, path, call and block expressions)
+-- entering of a block with its number and whether it is unsafe, a test; and what is done with the values of operands
+-- (Rust Reference, the expressions of these names)
 pub data Operation : Type 0 where
   literal : LiteralData → Operation
   read : PathData → HygieneId → Operation
   call : Operation
-  enter : BlockId → Operation
+  enter : Option BlockId → Bool → Operation
+  underscore : Operation
+  include_bytes : Operation
+  field : Name → Operation
+  prefix : UnaryOp → Operation
+  reference : Rawness → Mutability → Operation
+  operator : Option BinaryOp → Operation
+  index : Operation
+  tuple : Operation
+  array : Operation
+  method_call : Name → Operation
+  yielding : Operation
+  awaiting : Operation
   test : Test → Operation
 
 -- what happens to which values, and at which node of which file, where it has one

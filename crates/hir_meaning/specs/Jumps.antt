@@ -42,9 +42,24 @@ module _ (Part : List LabelId → ExprId → Type 0) (ls : List LabelId) where
   NodeEnclosed (hir.Call f xs) = Part ls f × Each (Part ls) xs
   NodeEnclosed (hir.If c t e) = Part ls c × Part ls t × IfSome (Part ls) e
   NodeEnclosed (hir.Loop b l source) = Part (and_label l ls) b
-  NodeEnclosed (hir.Block l number ss tail) = EachStatement (Part (and_label l ls)) ss × IfSome (Part (and_label l ls)) tail
+  NodeEnclosed (hir.Block is_unsafe l number ss tail) = EachStatement (Part (and_label l ls)) ss × IfSome (Part (and_label l ls)) tail
   NodeEnclosed (hir.Break l e) = NamesAmong ls l × IfSome (Part ls) e
   NodeEnclosed (hir.Continue l) = NamesAmong ls l
+  NodeEnclosed hir.Underscore = Unit {0}
+  NodeEnclosed hir.IncludeBytes = Unit {0}
+  NodeEnclosed (hir.Field e name) = Part ls e
+  NodeEnclosed (hir.UnaryOp op e) = Part ls e
+  NodeEnclosed (hir.Ref rawness mutability e) = Part ls e
+  NodeEnclosed (hir.Await e) = Part ls e
+  NodeEnclosed (hir.Become e) = Part ls e
+  NodeEnclosed (hir.BinaryOp op a b) = Part ls a × Part ls b
+  NodeEnclosed (hir.Index a b) = Part ls a × Part ls b
+  NodeEnclosed (hir.Tuple es) = Each (Part ls) es
+  NodeEnclosed (hir.Array es) = Each (Part ls) es
+  NodeEnclosed (hir.MethodCall e name es) = Part ls e × Each (Part ls) es
+  NodeEnclosed (hir.Return e) = IfSome (Part ls) e
+  NodeEnclosed (hir.Yeet e) = IfSome (Part ls) e
+  NodeEnclosed (hir.Yield e) = IfSome (Part ls) e
 
   abbrev pub FoundEnclosed : Option Expr → Type 0
   FoundEnclosed None = Unit {0}

@@ -1,9 +1,12 @@
 -- Runs: what is done with the answers that are left and the events so far. Both readings of a body, of its syntax and of
 -- the store, are made of these steps.
-use Rattle.std.specs.Prelude.{ℕ, Bool, false, List, [], ◌∷◌, ◌++◌, Option, Some, None}
+use Rattle.std.specs.Prelude.{ℕ, Bool, true, false, List, [], ◌∷◌, ◌++◌, Option, Some, None}
 use Rattle.hir_store.specs.declared.ids.BlockId.{BlockId}
+use Rattle.hir_syntax.specs.declared.ast.LogicOp.{LogicOp}
+use Rattle.hir_syntax.specs.declared.ast.LogicOp.TheVariants as logic
 use Rattle.hir_env.specs.NodeMap.{Site}
 pub use Rattle.hir_meaning.specs.Events.{Value, answered, unit, truth, Test, is_true, Operation, literal, read, call, enter, test, Event}
+pub use Rattle.hir_meaning.specs.Events.{underscore, include_bytes, field, prefix, reference, operator, index, tuple, array, method_call, yielding, awaiting}
 pub use Rattle.hir_meaning.specs.Events.{Answer, Answerer, Leave, returned, became, yeeted, unmatched, missing, cut}
 pub use Rattle.hir_meaning.specs.Events.{Outcome, value, break, continue, leave, World}
 
@@ -67,9 +70,23 @@ tests t v site = do
   a ← event (test t) (v ∷ []) site
   pure a.yes
 
--- A block with a number is a scope of items, and is entered.
-abbrev pub entering : {T J A : Type 0} → Option BlockId → Option Site → Run T J A → Run T J A
-entering None site m = m
-entering (Some b) site m = do
-  event (enter b) [] site
+-- A block with a number is a scope of items, and is entered, and so is an unsafe one.
+abbrev pub entering : {T J A : Type 0} → Bool → Option BlockId → Option Site → Run T J A → Run T J A
+entering false None site m = m
+entering is_unsafe number site m = do
+  event (enter number is_unsafe) [] site
   m
+
+-- ---- what the forms of both readings do with values
+
+-- an empty tuple is silent
+abbrev pub made_tuple : {T J : Type 0} → List Value → Option Site → Run T J Value
+made_tuple [] site = pure unit
+made_tuple (v ∷ vs) site = ask tuple (v ∷ vs) site
+
+-- the right side runs where the left side doesn't decide (Rust Reference, lazy boolean operators)
+abbrev pub lazily : {T J : Type 0} → LogicOp → Bool → Run T J Value → Run T J Value
+lazily logic.And true right = right
+lazily logic.And false right = pure (truth false)
+lazily logic.Or true right = pure (truth true)
+lazily logic.Or false right = right

@@ -13,7 +13,10 @@ use Rattle.hir_store.specs.declared.ids.LabelId.{LabelId}
 use Rattle.hir_env.specs.NodeMap.{Site}
 use Rattle.hir_env.specs.Answering.{site_of}
 use Rattle.hir_meaning.specs.Data.{literal_read, path_read}
-use Rattle.hir_meaning.specs.Run.{Value, unit, is_true, literal, read, call, break, continue, leave, missing, Body, Run}
+use Rattle.hir_meaning.specs.Run.{Value, unit, is_true, Operation, literal, read, call, break, continue, leave, missing, Body, Run}
+use Rattle.hir_meaning.specs.Run.{underscore, include_bytes, field, prefix, reference, operator, index, array, method_call, yielding, awaiting}
+use Rattle.hir_meaning.specs.Run.{returned, became, yeeted, made_tuple, lazily}
+use Rattle.hir_syntax.specs.declared.ast.BinaryOp.TheVariants as ast
 use Rattle.hir_meaning.specs.Run.{ends, pure, ◌>>=◌, ◌>>◌, ask, tests, entering}
 use Rattle.hir_meaning.specs.Catching.{turn, loop, block}
 
@@ -77,6 +80,18 @@ module _ (turns : ℕ) (part : ExprId → StoreRun Value) where
 module _ (store : Store) (source_map : SourceMap) where
   -- one node, with what runs its parts
   module _ (turns : ℕ) (part : ExprId → StoreRun Value) where
+    -- what is done with the value of one operand, and of two
+    abbrev pub operand : ExprId → Operation → Option Site → StoreRun Value
+    operand e operation site = do
+      v ← part e
+      ask operation (v ∷ []) site
+
+    abbrev pub operands : ExprId → ExprId → Operation → Option Site → StoreRun Value
+    operands a b operation site = do
+      v ← part a
+      w ← part b
+      ask operation (v ∷ w ∷ []) site
+
     abbrev pub run_node : Expr → Option Site → StoreRun Value
     run_node hir.Missing site = ends (leave missing)
     run_node (hir.Literal l) site = ask (literal (literal_read l)) [] site
@@ -90,12 +105,46 @@ module _ (store : Store) (source_map : SourceMap) where
       holds ← tests is_true v site
       if holds then part t else run_or_unit turns part e
     run_node (hir.Loop b l source) site = loop (past_loop l) turns (turn (part b))
-    run_node (hir.Block l number statements tail) site =
-        entering number site (block (past_block l) (λ j. j) (run_statements turns part statements tail))
+    run_node (hir.Block is_unsafe l number statements tail) site =
+        entering is_unsafe number site (block (past_block l) (λ j. j) (run_statements turns part statements tail))
     run_node (hir.Break l e) site = do
       v ← run_or_unit turns part e
       ends (break l v)
     run_node (hir.Continue l) site = ends (continue l)
+    run_node hir.Underscore site = ask underscore [] site
+    run_node hir.IncludeBytes site = ask include_bytes [] site
+    run_node (hir.Field e name) site = operand e (field name) site
+    run_node (hir.UnaryOp op e) site = operand e (prefix op) site
+    run_node (hir.Ref rawness mutability e) site = operand e (reference rawness mutability) site
+    run_node (hir.Await e) site = operand e awaiting site
+    run_node (hir.BinaryOp (Some (ast.LogicOp op)) a b) site = do
+      v ← part a
+      holds ← tests is_true v site
+      lazily op holds (part b)
+    run_node (hir.BinaryOp op a b) site = operands a b (operator op) site
+    run_node (hir.Index a b) site = operands a b index site
+    run_node (hir.Tuple es) site = do
+      vs ← run_each turns part es
+      made_tuple vs site
+    run_node (hir.Array es) site = do
+      vs ← run_each turns part es
+      ask array vs site
+    run_node (hir.MethodCall e name es) site = do
+      v ← part e
+      vs ← run_each turns part es
+      ask (method_call name) (v ∷ vs) site
+    run_node (hir.Return e) site = do
+      v ← run_or_unit turns part e
+      ends (leave (returned v))
+    run_node (hir.Become e) site = do
+      v ← part e
+      ends (leave (became v))
+    run_node (hir.Yeet e) site = do
+      v ← run_or_unit turns part e
+      ends (leave (yeeted v))
+    run_node (hir.Yield e) site = do
+      v ← run_or_unit turns part e
+      ask yielding (v ∷ []) site
 
   -- the node that an expression came from, where it came from one
   abbrev pub site_at : ExprId → Option Site

@@ -1,12 +1,15 @@
 -- How a written body runs: over the answered tree, by the rules of the Rust Reference for each form. It knows no store, no
 -- numbers and no stack of labels.
-use Rattle.std.specs.Prelude.{ℕ, Bool, List, [], ◌∷◌, Option, Some, None, if◌then◌else◌}
+use Rattle.std.specs.Prelude.{ℕ, Bool, true, false, List, [], ◌∷◌, Option, Some, None, if◌then◌else◌}
 use Rattle.hir_store.specs.declared.ids.HygieneId.{HygieneId}
 use Rattle.hir_env.specs.NodeMap.{Site}
 use Rattle.hir_env.specs.Answering.{site_of}
 use Rattle.hir_env.specs.Answered as tree
+use Rattle.hir_env.specs.Answered.{Leaf, Unary, Binary, Listing, Leaving}
 use Rattle.hir_env.specs.Answered.{Label, Expr, OptionExpr, Exprs, Block, OptionBlock, Stmts}
-use Rattle.hir_meaning.specs.Run.{Value, unit, is_true, literal, read, call, break, continue, leave, missing, Body, Run}
+use Rattle.hir_meaning.specs.Run.{Value, unit, is_true, Operation, literal, read, call, break, continue, leave, missing, Body, Run}
+use Rattle.hir_meaning.specs.Run.{underscore, include_bytes, field, prefix, reference, operator, index, array, method_call, yielding, awaiting}
+use Rattle.hir_meaning.specs.Run.{Leave, returned, became, yeeted, made_tuple, lazily}
 use Rattle.hir_meaning.specs.Run.{ends, pure, ◌>>=◌, ◌>>◌, ask, tests, entering}
 use Rattle.hir_meaning.specs.Catching.{turn, loop, block}
 use Rattle.hir_scope.specs.Scopes.{Scope, loop_scope, Count, break_target, continue_target, outward, past_block, in_block}
@@ -24,6 +27,35 @@ SyntaxBody = Body (Unit {0}) Count
 abbrev pub run_path : Option PathData → HygieneId → Option Site → SyntaxRun Value
 run_path None h site = ends (leave missing)
 run_path (Some p) h site = ask (read p (lookup_hygiene p h)) [] site
+
+-- what is left out does nothing that is known
+abbrev pub run_leaf : Leaf → Option Site → SyntaxRun Value
+run_leaf tree.underscore site = ask underscore [] site
+run_leaf tree.include_bytes site = ask include_bytes [] site
+run_leaf tree.left_out site = ends (leave missing)
+
+abbrev pub unary_operation : Unary → Operation
+unary_operation (tree.field_of name) = field name
+unary_operation (tree.prefix_of op) = prefix op
+unary_operation (tree.reference_to rawness mutability) = reference rawness mutability
+
+abbrev pub binary_operation : Binary → Operation
+binary_operation (tree.operator op) = operator op
+binary_operation tree.index_of = index
+
+-- a leading comma stands for an element in front that is missing
+abbrev pub run_list : Listing → SyntaxRun (List Value) → Option Site → SyntaxRun Value
+run_list (tree.tuple_of true) elements site = ends (leave missing)
+run_list (tree.tuple_of false) elements site = do
+  vs ← elements
+  made_tuple vs site
+run_list tree.array_of elements site = do
+  vs ← elements
+  ask array vs site
+
+abbrev pub leaves_with : Leaving → Value → Leave
+leaves_with tree.returning v = returned v
+leaves_with tree.yeeting v = yeeted v
 
 -- a block with a label catches the breaks that are for it
 abbrev pub catching : Option Label → SyntaxRun Value → SyntaxRun Value
@@ -52,6 +84,36 @@ module _ (turns : ℕ) where
       ends (break (break_target ss jump) v)
     run_expr (tree.continue_expr at jump) ss = ends (continue (continue_target ss jump))
     run_expr (tree.block_expr b) ss = run_block b ss
+    run_expr (tree.leaf_expr at form) ss = run_leaf form (Some (site_of at))
+    run_expr (tree.unary_expr at form e) ss = do
+      v ← run_part e ss
+      ask (unary_operation form) (v ∷ []) (Some (site_of at))
+    run_expr (tree.binary_expr at form a b) ss = do
+      v ← run_part a ss
+      w ← run_part b ss
+      ask (binary_operation form) (v ∷ w ∷ []) (Some (site_of at))
+    run_expr (tree.lazy_expr at op a b) ss = do
+      v ← run_part a ss
+      holds ← tests is_true v (Some (site_of at))
+      lazily op holds (run_part b ss)
+    run_expr (tree.list_expr at form es) ss = run_list form (run_each es ss) (Some (site_of at))
+    run_expr (tree.method_call_expr at e name es) ss = do
+      v ← run_part e ss
+      vs ← run_each es ss
+      ask (method_call name) (v ∷ vs) (Some (site_of at))
+    run_expr (tree.leaving_expr at form e) ss = do
+      v ← run_or_unit e ss
+      ends (leave (leaves_with form v))
+    run_expr (tree.become_expr at e) ss = do
+      v ← run_part e ss
+      ends (leave (became v))
+    run_expr (tree.yield_expr at e) ss = do
+      v ← run_or_unit e ss
+      ask yielding (v ∷ []) (Some (site_of at))
+    run_expr (tree.await_expr at location e) ss = do
+      v ← run_part e ss
+      ask awaiting (v ∷ []) (Some (site_of at))
+    run_expr (tree.nameless_expr at e) ss = ends (leave missing)
 
     -- a part that is absent is missing
     pub run_part : OptionExpr → List Scope → SyntaxRun Value
@@ -76,8 +138,8 @@ module _ (turns : ℕ) where
       pure (v ∷ vs)) else run_each es ss
 
     pub run_block : Block → List Scope → SyntaxRun Value
-    run_block (tree.block at label number stmts tail) ss =
-        entering number (Some (site_of at)) (catching label (run_stmts stmts (is_left tail) (run_tail tail) (in_block label ss)))
+    run_block (tree.block at is_unsafe label number stmts tail) ss =
+        entering is_unsafe number (Some (site_of at)) (catching label (run_stmts stmts (is_left tail) (run_tail tail) (in_block label ss)))
 
     -- the tail that is written, where it is left
     pub run_tail : OptionExpr → List Scope → SyntaxRun Value
