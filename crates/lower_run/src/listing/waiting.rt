@@ -1,0 +1,183 @@
+//! What is still to be printed, and the order in which the parts of a form are.
+
+use hir_store::hir::{Expr, Literal, LoopSource, Statement};
+use hir_store::ids::{BlockId, ExprId, HygieneId, LabelId};
+use hir_store::path::Path;
+use std::alloc::{AllocError, Global};
+
+/// A piece of a listing.
+#[derive(Clone, Copy)]
+pub enum Piece<'a> {
+    /// A text that stands for itself.
+    Word(&'static str),
+    Expr(ExprId),
+    Exprs(&'a [ExprId]),
+    Statement(&'a Statement),
+    Statements(&'a [Statement]),
+    Label(LabelId),
+    Block(BlockId),
+    Path(&'a Path, HygieneId),
+    Literal(&'a Literal),
+}
+
+const ABSENT: Piece<'static> = Piece::Word("-");
+
+fn expr_or_absent(expr: Option<ExprId>) -> Piece<'static> {
+    match expr {
+        Some(id) => Piece::Expr(id),
+        None => ABSENT,
+    }
+}
+
+fn label_or_absent(label: Option<LabelId>) -> Piece<'static> {
+    match label {
+        Some(id) => Piece::Label(id),
+        None => ABSENT,
+    }
+}
+
+fn block_or_absent(block: Option<BlockId>) -> Piece<'static> {
+    match block {
+        Some(id) => Piece::Block(id),
+        None => ABSENT,
+    }
+}
+
+/// The pieces that wait. The next one stands last.
+#[derive(Drop)]
+pub struct Waiting<'a> {
+    pieces: Vec<Piece<'a>>,
+}
+
+impl<'a> Waiting<'a> {
+    pub fn new(alloc: Global) -> Waiting<'a> {
+        Waiting {
+            pieces: Vec::new(alloc),
+        }
+    }
+
+    /// Takes the next piece.
+    pub fn pop(&mut self) -> Option<Piece<'a>> {
+        self.pieces.pop()
+    }
+
+    /// Lets a piece wait before all others.
+    pub fn push(&mut self, piece: Piece<'a>) -> Result<(), AllocError> {
+        self.pieces.push(piece)?;
+        Ok(())
+    }
+
+    /// Lets the parts of an expression wait, and the bracket after them.
+    pub fn push_expr_parts(&mut self, expr: &'a Expr) -> Result<(), AllocError> {
+        match expr {
+            Expr::Missing => self.push_parts(&[]),
+            Expr::Path(path, hygiene) => self.push_parts(&[Piece::Path(path, *hygiene)]),
+            Expr::If(condition, then_branch, else_branch) => self.push_parts(&[
+                Piece::Expr(*condition),
+                Piece::Expr(*then_branch),
+                expr_or_absent(*else_branch),
+            ]),
+            Expr::Block(label, block, statements, tail) => self.push_parts(&[
+                ABSENT,
+                label_or_absent(*label),
+                block_or_absent(*block),
+                Piece::Statements(statements.as_slice()),
+                expr_or_absent(*tail),
+            ]),
+            Expr::Loop(body, label, source) => self.push_parts(&[
+                Piece::Expr(*body),
+                label_or_absent(*label),
+                Piece::Word(loop_word(*source)),
+            ]),
+            Expr::Call(callee, arguments) => self.push_parts(&[
+                Piece::Expr(*callee),
+                Piece::Exprs(arguments.as_slice()),
+            ]),
+            Expr::Continue(label) => self.push_parts(&[label_or_absent(*label)]),
+            Expr::Break(label, value) => self.push_parts(&[
+                label_or_absent(*label),
+                expr_or_absent(*value),
+            ]),
+            Expr::Literal(literal) => self.push_parts(&[Piece::Literal(literal)]),
+        }
+    }
+
+    /// Lets the parts of a statement wait, and the bracket after them.
+    pub fn push_statement_parts(&mut self, statement: &Statement) -> Result<(), AllocError> {
+        match statement {
+            Statement::Expr(expr, _) => self.push_parts(&[Piece::Expr(*expr)]),
+            Statement::Item => self.push_parts(&[]),
+        }
+    }
+
+    /// Lets these parts wait, each after a space, and then a bracket.
+    fn push_parts(&mut self, parts: &[Piece<'a>]) -> Result<(), AllocError> {
+        self.push(Piece::Word(")"))?;
+        for part in parts.iter().rev() {
+            self.push(*part)?;
+            self.push(Piece::Word(" "))?;
+        }
+        Ok(())
+    }
+
+    /// Lets a list of expressions wait.
+    pub fn push_exprs(&mut self, exprs: &[ExprId]) -> Result<(), AllocError> {
+        let Some((first, rest)) = exprs.split_first() else {
+            return self.push(Piece::Word("[]"));
+        };
+        self.push(Piece::Word("]"))?;
+        for id in rest.iter().rev() {
+            self.push(Piece::Expr(*id))?;
+            self.push(Piece::Word(" "))?;
+        }
+        self.push_first(Piece::Expr(*first))
+    }
+
+    /// Lets a list of statements wait.
+    pub fn push_statements(&mut self, statements: &'a [Statement]) -> Result<(), AllocError> {
+        let Some((first, rest)) = statements.split_first() else {
+            return self.push(Piece::Word("[]"));
+        };
+        self.push(Piece::Word("]"))?;
+        for statement in rest.iter().rev() {
+            self.push(Piece::Statement(statement))?;
+            self.push(Piece::Word(" "))?;
+        }
+        self.push_first(Piece::Statement(first))
+    }
+
+    fn push_first(&mut self, item: Piece<'a>) -> Result<(), AllocError> {
+        self.push(item)?;
+        self.push(Piece::Word("["))
+    }
+}
+
+fn loop_word(source: LoopSource) -> &'static str {
+    match source {
+        LoopSource::Loop => "loop",
+    }
+}
+
+/// The kind that an expression begins with.
+pub fn expr_word(expr: &Expr) -> &'static str {
+    match expr {
+        Expr::Missing => "Missing",
+        Expr::Path(_, _) => "Path",
+        Expr::If(_, _, _) => "If",
+        Expr::Block(_, _, _, _) => "Block",
+        Expr::Loop(_, _, _) => "Loop",
+        Expr::Call(_, _) => "Call",
+        Expr::Continue(_) => "Continue",
+        Expr::Break(_, _) => "Break",
+        Expr::Literal(_) => "Literal",
+    }
+}
+
+/// The kind that a statement begins with: with a semicolon, without one, or an item.
+pub fn statement_word(statement: &Statement) -> &'static str {
+    match statement {
+        Statement::Expr(_, true) => "Semi",
+        Statement::Expr(_, false) => "Expr",
+        Statement::Item => "Item",
+    }
+}
