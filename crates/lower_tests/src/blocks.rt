@@ -5,9 +5,9 @@ use hir_lower::{BodySourceMap, lower_body};
 use hir_store::ids::{BlockId, DefWithBodyId, FunctionId, ModuleId};
 use hir_syntax::node::{AstPtr, HirFileId, NodeId, TextRange};
 use lower_json::document::Document;
+use lower_json::fault::ReadError;
 use lower_json::read::read_tree;
 use std::alloc::Global;
-use std::test::Fail;
 
 const BLOCK_IN_BLOCK: &str = r#"{
     "nodes": [{"k": "Fn", "body": 1}, {"k": "BlockExpr", "tail": 2}, {"k": "BlockExpr"}],
@@ -55,11 +55,17 @@ fn entered_in(alloc: Global, document: &Document) -> Option<[Option<BlockId>; 3]
     }
 }
 
-#[test]
-fn blocks_are_noted_in_the_order_of_entering(rt: HostRuntime) -> Result<(), Fail> {
-    let document = read_tree(rt.alloc(), BLOCK_IN_BLOCK.as_bytes())?;
-    let blocks = entered_in(rt.alloc(), &document);
+fn entered_in_text(alloc: Global, text: &str) -> Result<Option<[Option<BlockId>; 3]>, ReadError> {
+    let document = read_tree(alloc, text.as_bytes())?;
+    let blocks = entered_in(alloc, &document);
     drop(document);
-    assert_eq!(rt; blocks, Some([Some(BlockId(3)), Some(BlockId(4)), None]));
-    Ok(())
+    Ok(blocks)
+}
+
+#[test]
+fn blocks_are_noted_in_the_order_of_entering(rt: HostRuntime) {
+    assert_eq!(rt;
+        entered_in_text(rt.alloc(), BLOCK_IN_BLOCK),
+        Ok(Some([Some(BlockId(3)), Some(BlockId(4)), None]))
+    );
 }

@@ -11,7 +11,6 @@ use hir_syntax::ast::{
 use hir_syntax::node::{HirFileId, NodeId, TextRange};
 use hir_syntax::{Boxed, Seq, Text};
 use std::alloc::{AllocError, Global};
-use std::test::Fail;
 
 fn range(node: u32) -> TextRange {
     TextRange {
@@ -102,8 +101,10 @@ fn only_root_end(store: &ExpressionStore) -> Option<ExprId> {
     }
 }
 
-/// Where the only root ends of what is stored, or why nothing is handed out.
-fn stored_end(collector: ExprCollector<'_, TableEnv>) -> Result<Option<ExprId>, LowerError> {
+/// Where the only root of a store ends, or why no store is handed out.
+type Stored = Result<Option<ExprId>, LowerError>;
+
+fn stored(collector: ExprCollector<'_, TableEnv>) -> Stored {
     match collector.into_store() {
         Ok((store, source_map)) => {
             let end = only_root_end(&store);
@@ -116,12 +117,12 @@ fn stored_end(collector: ExprCollector<'_, TableEnv>) -> Result<Option<ExprId>, 
 }
 
 /// What a collector answers, call by call.
-#[derive(Clone, Copy)]
+#[derive(Clone, Copy, Debug, PartialEq)]
 struct Answers {
     first: Option<LowerError>,
     exprs: u32,
     again: Option<LowerError>,
-    stored: Result<Option<ExprId>, LowerError>,
+    stored: Stored,
 }
 
 fn lowered_twice(alloc: Global, constant: &ConstArg, limit: u32) -> Answers {
@@ -130,7 +131,7 @@ fn lowered_twice(alloc: Global, constant: &ConstArg, limit: u32) -> Answers {
     let first = collector.lower_const_arg(constant).err();
     let exprs = collector.store().exprs_len();
     let again = collector.lower_const_arg(constant).err();
-    let stored = stored_end(collector);
+    let stored = stored(collector);
     drop(env);
     Answers {
         first,
@@ -140,39 +141,50 @@ fn lowered_twice(alloc: Global, constant: &ConstArg, limit: u32) -> Answers {
     }
 }
 
-fn lowered_once(
-    alloc: Global,
-    constant: &ConstArg,
-    limit: u32,
-) -> Result<Option<ExprId>, LowerError> {
+fn lowered_once(alloc: Global, constant: &ConstArg, limit: u32) -> Stored {
     let env = table(alloc);
     let mut collector = collector(alloc, &env, limit);
     let _lowered = collector.lower_const_arg(constant);
-    let stored = stored_end(collector);
+    let stored = stored(collector);
     drop(env);
     stored
 }
 
-#[test]
-fn a_call_of_one_takes_three_expressions(rt: HostRuntime) -> Result<(), Fail> {
-    let call = call_of_one(rt.alloc())?;
-    let refused = lowered_twice(rt.alloc(), &call, 2);
-    let fitted = lowered_once(rt.alloc(), &call, 3);
+/// The call in a collector for two expressions, and in one for three.
+fn call_in_two_and_three(alloc: Global) -> Result<(Answers, Stored), AllocError> {
+    let call = call_of_one(alloc)?;
+    let in_two = lowered_twice(alloc, &call, 2);
+    let in_three = lowered_once(alloc, &call, 3);
     drop(call);
-    assert_eq!(rt; refused.first, Some(LowerError::Full));
-    assert_eq!(rt; refused.exprs, 2);
-    assert_eq!(rt; refused.again, Some(LowerError::Failed));
-    assert_eq!(rt; refused.stored, Err(LowerError::Failed));
-    assert_eq!(rt; fitted, Ok(Some(ExprId(3))));
-    Ok(())
+    Ok((in_two, in_three))
 }
 
 #[test]
-fn a_literal_does_not_fit_where_nothing_may_be_stored(rt: HostRuntime) -> Result<(), Fail> {
-    let literal = constant(one(rt.alloc(), 1)?);
-    let refused = lowered_twice(rt.alloc(), &literal, 0);
+fn a_call_of_one_takes_three_expressions(rt: HostRuntime) {
+    let in_two = Answers {
+        first: Some(LowerError::Full),
+        exprs: 2,
+        again: Some(LowerError::Failed),
+        stored: Err(LowerError::Failed),
+    };
+    let in_three = Ok(Some(ExprId(3)));
+    assert_eq!(rt; call_in_two_and_three(rt.alloc()), Ok((in_two, in_three)));
+}
+
+fn literal_in_none(alloc: Global) -> Result<Answers, AllocError> {
+    let literal = constant(one(alloc, 1)?);
+    let answers = lowered_twice(alloc, &literal, 0);
     drop(literal);
-    assert_eq!(rt; refused.first, Some(LowerError::Full));
-    assert_eq!(rt; refused.exprs, 0);
-    Ok(())
+    Ok(answers)
+}
+
+#[test]
+fn a_literal_does_not_fit_where_nothing_may_be_stored(rt: HostRuntime) {
+    let answers = Answers {
+        first: Some(LowerError::Full),
+        exprs: 0,
+        again: Some(LowerError::Failed),
+        stored: Err(LowerError::Failed),
+    };
+    assert_eq!(rt; literal_in_none(rt.alloc()), Ok(answers));
 }

@@ -2,7 +2,6 @@
 
 use lower_run::run::run;
 use std::io::{self, ErrorKind, Read, Write};
-use std::process::Abort;
 
 /// Is interrupted, then gives one byte, then fails.
 #[derive(Drop)]
@@ -37,19 +36,11 @@ impl Write for Closed {
     }
 }
 
-/// Whether the room holds this text and nothing more.
-fn assert_holds(rt: &impl Abort, room: &[u8; 64], text: &str) {
-    let bytes = text.as_bytes();
-    assert!(rt; bytes.len() < 64);
-    assert_eq!(rt; &room[..bytes.len()], bytes);
-    assert_eq!(rt; room[bytes.len()], 0);
-}
-
 #[test]
 fn a_read_that_fails_in_mid_stream_is_a_fault(rt: HostRuntime) {
     let mut input = Failing { calls: 0 };
-    let mut out = [0u8; 64];
-    let mut errors = [0u8; 64];
+    let mut out = [];
+    let mut errors = [0u8; 13];
     let status = run(
         rt.alloc(),
         &["body"],
@@ -57,15 +48,13 @@ fn a_read_that_fails_in_mid_stream_is_a_fault(rt: HostRuntime) {
         &mut out.as_mut_slice(),
         &mut errors.as_mut_slice(),
     );
-    assert_eq!(rt; status, 2);
-    assert_eq!(rt; input.calls, 3);
-    assert_holds(&rt, &out, "");
-    assert_holds(&rt, &errors, "fault: input\n");
+    assert_eq!(rt; (status, input.calls), (2, 3));
+    assert_eq!(rt; errors, *b"fault: input\n");
 }
 
 #[test]
 fn errors_that_cannot_be_written_change_no_status(rt: HostRuntime) {
-    let mut out = [0u8; 64];
+    let mut out = [];
     let status = run(
         rt.alloc(),
         &["loop"],
@@ -74,5 +63,4 @@ fn errors_that_cannot_be_written_change_no_status(rt: HostRuntime) {
         &mut Closed,
     );
     assert_eq!(rt; status, 2);
-    assert_holds(&rt, &out, "");
 }

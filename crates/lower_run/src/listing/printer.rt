@@ -103,14 +103,41 @@ impl<'a> Printer<'a> {
         match piece {
             Piece::Word(text) => self.writer.word(text),
             Piece::Expr(id) => self.open_expr(id),
-            Piece::Exprs(exprs) => self.waiting.push_exprs(exprs),
+            Piece::Exprs(exprs) => self.exprs("[", exprs, "[]"),
+            Piece::MoreExprs(exprs) => self.exprs(" ", exprs, "]"),
             Piece::Statement(statement) => self.open_statement(statement),
-            Piece::Statements(statements) => self.waiting.push_statements(statements),
+            Piece::Statements(statements) => self.statements("[", statements, "[]"),
+            Piece::MoreStatements(statements) => self.statements(" ", statements, "]"),
             Piece::Label(id) => self.label(id),
             Piece::Block(id) => self.writer.numbered("b", id.0),
             Piece::Path(path, hygiene) => self.writer.path(path, hygiene),
             Piece::Literal(literal) => self.writer.literal(literal),
         }
+    }
+
+    /// Prints what stands before the first of these, and lets them wait; prints the end where there are none.
+    fn exprs(&mut self, before: &str, exprs: &'a [ExprId], end: &str) -> Result<(), AllocError> {
+        let Some((first, rest)) = exprs.split_first() else {
+            return self.writer.word(end);
+        };
+        self.waiting.push(Piece::MoreExprs(rest))?;
+        self.waiting.push(Piece::Expr(*first))?;
+        self.writer.word(before)
+    }
+
+    /// The same of statements.
+    fn statements(
+        &mut self,
+        before: &str,
+        statements: &'a [Statement],
+        end: &str,
+    ) -> Result<(), AllocError> {
+        let Some((first, rest)) = statements.split_first() else {
+            return self.writer.word(end);
+        };
+        self.waiting.push(Piece::MoreStatements(rest))?;
+        self.waiting.push(Piece::Statement(first))?;
+        self.writer.word(before)
     }
 
     fn label(&mut self, id: LabelId) -> Result<(), AllocError> {

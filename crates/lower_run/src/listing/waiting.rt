@@ -11,9 +11,13 @@ pub enum Piece<'a> {
     /// A text that stands for itself.
     Word(&'static str),
     Expr(ExprId),
+    /// A list.
     Exprs(&'a [ExprId]),
+    /// What is left of a list after its first items.
+    MoreExprs(&'a [ExprId]),
     Statement(&'a Statement),
     Statements(&'a [Statement]),
+    MoreStatements(&'a [Statement]),
     Label(LabelId),
     Block(BlockId),
     Path(&'a Path, HygieneId),
@@ -118,37 +122,6 @@ impl<'a> Waiting<'a> {
             self.push(Piece::Word(" "))?;
         }
         Ok(())
-    }
-
-    /// Lets a list of expressions wait.
-    pub fn push_exprs(&mut self, exprs: &[ExprId]) -> Result<(), AllocError> {
-        let Some((first, rest)) = exprs.split_first() else {
-            return self.push(Piece::Word("[]"));
-        };
-        self.push(Piece::Word("]"))?;
-        for id in rest.iter().rev() {
-            self.push(Piece::Expr(*id))?;
-            self.push(Piece::Word(" "))?;
-        }
-        self.push_first(Piece::Expr(*first))
-    }
-
-    /// Lets a list of statements wait.
-    pub fn push_statements(&mut self, statements: &'a [Statement]) -> Result<(), AllocError> {
-        let Some((first, rest)) = statements.split_first() else {
-            return self.push(Piece::Word("[]"));
-        };
-        self.push(Piece::Word("]"))?;
-        for statement in rest.iter().rev() {
-            self.push(Piece::Statement(statement))?;
-            self.push(Piece::Word(" "))?;
-        }
-        self.push_first(Piece::Statement(first))
-    }
-
-    fn push_first(&mut self, item: Piece<'a>) -> Result<(), AllocError> {
-        self.push(item)?;
-        self.push(Piece::Word("["))
     }
 }
 
