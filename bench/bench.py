@@ -8,7 +8,8 @@ of a node, in two parts: parsing the text, and the rest of the run. Where the co
 of a node grows with the size, something isn't linear.
 
 The same list of nodes as another member makes a text that is parsed whole and
-then is no document, so a run on it costs the parsing alone.
+then is no document, so a run on it costs the parsing alone. A peak below some
+16 MB is that of this script, which starts the program.
 """
 
 import argparse
