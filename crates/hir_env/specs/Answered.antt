@@ -7,6 +7,7 @@ use Rattle.hir_store.specs.declared.ids.CfgId.{CfgId}
 use Rattle.hir_store.specs.declared.ids.HygieneId.{HygieneId}
 use Rattle.hir_store.specs.declared.ids.BlockId.{BlockId}
 use Rattle.hir_store.specs.declared.name.Name.{Name}
+use Rattle.hir_env.specs.Answers.{Contexts}
 
 -- a label, with the hygiene of its node; its name is missing where it has no lifetime
 pub record Label : Type 0 where
@@ -14,11 +15,12 @@ pub record Label : Type 0 where
   pub name : Name
   pub hygiene : HygieneId
 
--- the lifetime of a jump
+-- the lifetime of a jump, with what is answered about the contexts that its hygiene came from
 pub record Jump : Type 0 where
   pub pointer : Pointer
   pub name : Name
   pub hygiene : HygieneId
+  pub contexts : Contexts
 
 -- the names of a path's segments, none for a segment without a kind
 abbrev pub Segments : Type 0

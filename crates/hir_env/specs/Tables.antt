@@ -1,6 +1,6 @@
 -- The answers of tables.
 use Rattle.std.specs.Prelude.{Bool, false, List, [], Option, Some, None, Result, Ok, Err, unwrap_or}
-use Rattle.hir_env.specs.Answers.{Answers}
+use Rattle.hir_env.specs.Answers.{Contexts, Answers}
 use Rattle.hir_env.specs.NodeMap.{Site, found}
 use Rattle.hir_store.specs.declared.ids.CfgId.{CfgId}
 use Rattle.hir_store.specs.declared.ids.HygieneId.{HygieneId}
@@ -22,10 +22,15 @@ abbrev pub enabled : Option CfgId → Result (Unit {0}) CfgId
 enabled None = Ok tt
 enabled (Some by) = Err by
 
+-- each context was made in the root, has the hygiene of its own number, and came from no macro
+abbrev pub no_contexts : Contexts
+no_contexts = record { parent = λ c. record { 0 = 0 }; opaque = λ c. record { 0 = c.0 }; outer_macro = λ c. None }
+
 abbrev pub answers_of : Tables → Answers
 answers_of t = record {
   cfg = λ s. enabled (found t.disabled s);
   hygiene = λ s. unwrap_or (found t.hygiene s) (record { 0 = 0 });
+  contexts = no_contexts;
   block = λ s inside. found t.blocks s;
   skip = λ _. t.skip;
   container = λ _. t.container;

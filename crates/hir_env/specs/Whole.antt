@@ -1,5 +1,5 @@
 -- A whole tree with the answers written into it, by one fold, and the equations of its levels.
-use Rattle.std.specs.Prelude.{List, Option, option_map}
+use Rattle.std.specs.Prelude.{List, [], ◌∷◌, Option, option_map}
 use Rattle.hir_syntax.specs.declared.ast.ElseBranch.{ElseBranch as AstElseBranch, out-ElseBranch}
 use Rattle.hir_syntax.specs.declared.ast.ExprKind.{ExprKind as AstExprKind, out-ExprKind}
 use Rattle.hir_syntax.specs.declared.ast.StmtKind.{StmtKind as AstStmtKind, out-StmtKind}
@@ -9,10 +9,16 @@ use Rattle.hir_syntax.specs.declared.ast.Stmt.{Stmt as AstStmt}
 use Rattle.hir_syntax.specs.declared.ast.Label.{Label as AstLabel}
 use Rattle.hir_syntax.specs.declared.ast.Lifetime.{Lifetime as AstLifetime}
 use Rattle.hir_syntax.specs.declared.ast.ElseBranch.TheFolds.{fold-ElseBranch, fold-ExprKind, fold-StmtKind, fold-BlockExpr, fold-Expr, fold-Stmt}
+use Rattle.hir_syntax.specs.declared.node.NodeId.{NodeId}
+use Rattle.hir_syntax.specs.declared.node.TextRange.{TextRange}
+use Rattle.hir_store.specs.Pointers.{Pointer}
 use Rattle.hir_env.specs.declared.place.Place.{Place}
 use Rattle.hir_env.specs.Answers.{Answers}
-use Rattle.hir_env.specs.Layers.{BlockReading, Sorts, Reader, readings, itself}
-use Rattle.hir_env.specs.Answering.{in_file, ptr, site_of, label_of, jump_of, numbered, inside, expr_or_none, plain_or_none, exprs_of, exprs_or_none, stmts_of, asked, else_branch, expr_at, expr_kind, expr_step, block_at, block_step, stmt_kind, stmt_step}
+use Rattle.hir_env.specs.Spot.{Spot}
+use Rattle.hir_store.specs.declared.ids.BlockId.{BlockId}
+use Rattle.hir_env.specs.Layers.{BlockReading, StmtReading, Sorts, Reader, readings, itself}
+use Rattle.hir_env.specs.Answering.{in_file, ptr, site_of, label_of, jump_of, expr_or_none, plain_or_none, exprs_of, exprs_or_none, numbered, inside, asked, else_branch, expr_at, expr_kind, expr_step, block_step, stmt_at, stmt_kind, stmt_step}
+use Rattle.hir_env.specs.Answered as tree
 use Rattle.hir_env.specs.Answered.{Label, Jump, Expr, OptionExpr, Exprs, Block, OptionBlock, Stmts, Stmt}
 
 abbrev pub written : Sorts
@@ -31,7 +37,7 @@ module _ (env : Answers) where
   read_expr = fold-Expr readings.ElseBranch readings.ExprKind readings.StmtKind readings.BlockExpr readings.Expr readings.Stmt
       (else_branch env itself) (expr_kind env itself) (stmt_kind env itself) (block_step env itself) (expr_step env itself) (stmt_step env itself)
 
-  unfoldable pub read_stmt : AstStmt → Place → Stmt
+  unfoldable pub read_stmt : AstStmt → Place → StmtReading
   read_stmt = fold-Stmt readings.ElseBranch readings.ExprKind readings.StmtKind readings.BlockExpr readings.Expr readings.Stmt
       (else_branch env itself) (expr_kind env itself) (stmt_kind env itself) (block_step env itself) (expr_step env itself) (stmt_step env itself)
 
@@ -39,7 +45,7 @@ module _ (env : Answers) where
   read_expr_kind = fold-ExprKind readings.ElseBranch readings.ExprKind readings.StmtKind readings.BlockExpr readings.Expr readings.Stmt
       (else_branch env itself) (expr_kind env itself) (stmt_kind env itself) (block_step env itself) (expr_step env itself) (stmt_step env itself)
 
-  unfoldable pub read_stmt_kind : AstStmtKind → Place → Stmt
+  unfoldable pub read_stmt_kind : AstStmtKind → Place → StmtReading
   read_stmt_kind = fold-StmtKind readings.ElseBranch readings.ExprKind readings.StmtKind readings.BlockExpr readings.Expr readings.Stmt
       (else_branch env itself) (expr_kind env itself) (stmt_kind env itself) (block_step env itself) (expr_step env itself) (stmt_step env itself)
 
@@ -53,59 +59,73 @@ module _ (env : Answers) where
     stmt = read_stmt;
   }
 
--- the expression, read at a place
-abbrev pub answered : Answers → Place → AstExpr → Expr
-answered env p e = read_expr env e p
+-- ---- read at a spot
 
-abbrev pub answered_plain : Answers → Place → AstBlockExpr → Block
-answered_plain env p b = (read_block env b).plain p
+abbrev pub answered : Spot → AstExpr → Expr
+answered at e = read_expr at.answers e at.place
 
-abbrev pub answered_block : Answers → Place → AstBlockExpr → Block
-answered_block env p b = (read_block env b).own p
+abbrev pub answered_plain : Spot → AstBlockExpr → Block
+answered_plain at b = (read_block at.answers b).plain at.place
 
-abbrev pub answered_stmt : Answers → Place → AstStmt → Stmt
-answered_stmt env p s = read_stmt env s p
+abbrev pub answered_block : Spot → AstBlockExpr → Expr
+answered_block at b = (read_block at.answers b).own at.place
 
-abbrev pub answered_else : Answers → Place → AstElseBranch → Expr
-answered_else env p e = read_else_branch env e p
+abbrev pub answered_else : Spot → AstElseBranch → Expr
+answered_else at e = read_else_branch at.answers e at.place
 
 -- parts that may be absent, and lists
-abbrev pub expr_part : Answers → Place → Option AstExpr → OptionExpr
-expr_part env p e = expr_or_none (read_expr env) e p
+abbrev pub expr_part : Spot → Option AstExpr → OptionExpr
+expr_part at e = expr_or_none (read_expr at.answers) e at.place
 
-abbrev pub else_part : Answers → Place → Option AstElseBranch → OptionExpr
-else_part env p e = expr_or_none (read_else_branch env) e p
+abbrev pub else_part : Spot → Option AstElseBranch → OptionExpr
+else_part at e = expr_or_none (read_else_branch at.answers) e at.place
 
-abbrev pub block_part : Answers → Place → Option AstBlockExpr → OptionBlock
-block_part env p b = plain_or_none (read_block env) b p
+abbrev pub block_part : Spot → Option AstBlockExpr → OptionBlock
+block_part at b = plain_or_none (read_block at.answers) b at.place
 
-abbrev pub exprs_part : Answers → Place → List AstExpr → Exprs
-exprs_part env p es = exprs_of (read_expr env) es p
+abbrev pub exprs_part : Spot → List AstExpr → Exprs
+exprs_part at es = exprs_of (read_expr at.answers) es at.place
 
-abbrev pub args_part : Answers → Place → Option (List AstExpr) → Exprs
-args_part env p es = exprs_or_none (read_expr env) es p
+abbrev pub args_part : Spot → Option (List AstExpr) → Exprs
+args_part at es = exprs_or_none (read_expr at.answers) es at.place
 
-abbrev pub stmts_part : Answers → Place → List AstStmt → Stmts
-stmts_part env p ss = stmts_of (read_stmt env) ss p
+abbrev pub label_part : Spot → Option AstLabel → Option Label
+label_part at l = option_map (label_of at.answers at.place) l
 
-abbrev pub label_part : Answers → Place → Option AstLabel → Option Label
-label_part env p l = option_map (label_of env p) l
+abbrev pub jump_part : Spot → Option AstLifetime → Option Jump
+jump_part at l = option_map (jump_of at.answers at.place) l
 
-abbrev pub jump_part : Answers → Place → Option AstLifetime → Option Jump
-jump_part env p l = option_map (jump_of env p) l
+-- the node of a number and a range
+abbrev pub pointer_at : Spot → NodeId → TextRange → Pointer
+pointer_at at id range = in_file at.place (ptr id range)
 
 -- one level
-abbrev pub kept_expr : Answers → Place → AstExpr → Expr
-kept_expr env p e = expr_at env (reader env) (out-ExprKind e.kind) p (in_file p (ptr e.id e.range))
+abbrev pub kept_expr : Spot → AstExpr → Expr
+kept_expr at e = expr_at at.answers (reader at.answers) (out-ExprKind e.kind) at.place (pointer_at at e.id e.range)
 
-abbrev pub asked_expr : Answers → Place → AstExpr → Expr
-asked_expr env p e = let s = in_file p (ptr e.id e.range) in asked s (env.cfg (site_of s)) (kept_expr env p e)
+abbrev pub asked_expr : Spot → AstExpr → Expr
+asked_expr at e = let s = pointer_at at e.id e.range in asked s (at.answers.cfg (site_of s)) (kept_expr at e)
 
-abbrev pub block_level : Answers → Place → Option Label → AstBlockExpr → Block
-block_level env p label b = block_at env (reader env) (out-BlockExpr b) label p
+abbrev pub stmt_level : Spot → AstStmt → Stmt
+stmt_level at s = stmt_at at.answers (reader at.answers) (out-StmtKind s.kind) at.place
 
-abbrev pub stmt_level : Answers → Place → AstStmt → Stmt
-stmt_level env p s = stmt_kind env (reader env) (out-StmtKind s.kind) p
+-- so far each statement stands for itself alone, and those after it are read where it is
+abbrev pub stmts_part : Spot → List AstStmt → Stmts
+stmts_part at [] = tree.no_stmts
+stmts_part at (s ∷ ss) = tree.more_stmts (stmt_level at s) (stmts_part at ss)
 
-abbrev pub else_level : Answers → Place → AstElseBranch → Expr
-else_level env p e = else_branch env (reader env) (out-ElseBranch e) p
+-- the spot inside of a block
+abbrev pub in_block : Spot → NodeId → Spot
+in_block at id = record at { place = inside (numbered at.answers at.place id) at.place }
+
+abbrev pub block_number : Spot → NodeId → Option BlockId
+block_number at id = option_map (λ n. n.0) (numbered at.answers at.place id)
+
+abbrev pub block_level : Spot → Option Label → AstBlockExpr → Block
+block_level at label b =
+    let level = out-BlockExpr b in
+    let within = in_block at level.id in
+    tree.block (pointer_at at level.id level.range) label (block_number at level.id) (stmts_part within level.stmts) (expr_part within level.tail)
+
+abbrev pub else_level : Spot → AstElseBranch → Expr
+else_level at e = else_branch at.answers (reader at.answers) (out-ElseBranch e) at.place

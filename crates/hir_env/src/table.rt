@@ -6,20 +6,33 @@ ghost use Rattle.hir_env.specs.NodeMap.{with_first};
 
 use crate::env::LowerEnv;
 use crate::node_map::NodeMap;
-use hir_store::ids::{BlockId, CfgId, DefWithBodyId, HygieneId, ItemContainerId, ModuleId};
+use hir_store::ids::{
+    BlockId, CfgId, CtxId, DefWithBodyId, HygieneId, ItemContainerId, MacroDefId, ModuleId,
+};
 use hir_syntax::node::{InFile, NodeId};
 use std::alloc::{AllocError, Global};
 use std::marker::Model;
 
 /// An environment that answers all from tables. A node that stands in none is enabled, has root hygiene and no
 /// block; of two entries for one node the first counts.
-#[derive(Drop)]
 pub struct TableEnv {
     disabled: NodeMap<CfgId>,
     hygiene: NodeMap<HygieneId>,
     blocks: NodeMap<(BlockId, ModuleId)>,
     skip: bool,
     container: ItemContainerId,
+}
+
+impl Drop for TableEnv {
+    fn drop(self) {
+        let TableEnv {
+            disabled: _,
+            hygiene: _,
+            blocks: _,
+            skip: _,
+            container: _,
+        } = self;
+    }
 }
 
 impl Model for TableEnv {
@@ -99,6 +112,18 @@ impl LowerEnv for TableEnv {
 
     fn hygiene(&self, node: InFile<NodeId>) -> HygieneId {
         self.hygiene.get(node).unwrap_or(HygieneId::ROOT)
+    }
+
+    fn context_parent(&self, _context: CtxId) -> CtxId {
+        CtxId(0)
+    }
+
+    fn opaque(&self, context: CtxId) -> HygieneId {
+        HygieneId(context.0)
+    }
+
+    fn outer_macro(&self, _context: CtxId) -> Option<MacroDefId> {
+        None
     }
 
     fn block(&self, node: InFile<NodeId>, _inside: ModuleId) -> Option<(BlockId, ModuleId)> {

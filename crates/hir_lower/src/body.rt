@@ -1,10 +1,8 @@
 //! Bodies of items.
 
-ghost use Rattle.std.specs.Prelude.{◌≡◌, ◌≢◌, None, false, IfOk, OnOk, IsErrOf, option_copied};
-ghost use Rattle.hir_store.specs.declared.fault.StoreFault.TheVariants as fault;
-ghost use Rattle.hir_lower.specs.Means.{FitsBelow, HasBody, body_read};
-ghost use Rattle.hir_lower.specs.OneResult.{OneResult, body_owes};
-ghost use Rattle.hir_lower.specs.Roots.{Stores, fresh, lowered_body};
+ghost use Rattle.std.specs.Prelude.{◌≡◌, ◌≢◌, None, false, IfOk, IsErrOf, option_copied};
+ghost use Rattle.hir_store.specs.Range.{InRange};
+ghost use Rattle.hir_lower.specs.Roots.{RefusedAtLimit, Stores, lowered_body};
 
 use crate::collector::ExprCollector;
 use crate::error::LowerError;
@@ -18,15 +16,25 @@ use hir_syntax::node::{AstPtr, HirFileId};
 use std::alloc::Global;
 
 /// A lowered body. Its one recorded root is the body's expression.
-#[derive(Drop)]
 pub struct Body {
     pub store: ExpressionStore,
 }
 
+impl Drop for Body {
+    fn drop(self) {
+        let Body { store: _ } = self;
+    }
+}
+
 /// From the written body to the lowered one, and back.
-#[derive(Drop)]
 pub struct BodySourceMap {
     pub store: ExpressionStoreSourceMap,
+}
+
+impl Drop for BodySourceMap {
+    fn drop(self) {
+        let BodySourceMap { store: _ } = self;
+    }
 }
 
 /// The steps of `lower_body`, with what they store.
@@ -39,8 +47,11 @@ fn body_steps<E: LowerEnv>(
     inside: ModuleId,
     body: Option<&ast::Expr>,
 ) -> Result<(Body, BodySourceMap), LowerError>
-    ensures stores { IfOk result (λ r. Stores (lowered_body (E.answers db.now) owner syntax_node current_file_id inside (option_copied body.entry)) 4294967295 r.0.store r.1.store) }
-    ensures full { IsErrOf result LowerError.Full → lowered_body (E.answers db.now) owner syntax_node current_file_id inside (option_copied body.entry) (fresh 4294967295) ≡ Err fault.Full }
+    ensures stores { let steps = lowered_body (E.answers db.now) owner syntax_node current_file_id inside (option_copied body.entry) in
+        IfOk result (λ r. Stores steps 4294967295 r.0.store r.1.store) }
+    ensures in_range { IfOk result (λ r. InRange r.0.store r.1.store) }
+    ensures full { let steps = lowered_body (E.answers db.now) owner syntax_node current_file_id inside (option_copied body.entry) in
+        IsErrOf result LowerError.Full → RefusedAtLimit steps 4294967295 }
     ensures own { result ≢ Err LowerError.Failed }
 {
     let mut collector = ExprCollector::new(
@@ -50,20 +61,24 @@ fn body_steps<E: LowerEnv>(
         current_file_id,
         LoweringMode::Analysis,
     );
-    let _root = collector.lower_item_body(owner, syntax_node, body)?;
-    let (store, source_map) = collector.into_store()?;
-    Ok((Body { store }, BodySourceMap { store: source_map }))
+    match collector.lower_item_body(owner, syntax_node, body) {
+        Ok(_root) => {
+            let (store, source_map) = collector.into_store()?;
+            Ok((Body { store }, BodySourceMap { store: source_map }))
+        }
+        Err(error) => {
+            drop(collector);
+            Err(error)
+        }
+    }
 }
 
 /// Lowers the body of an item (upstream's function of this name).
 ///
-/// The stored body does what the written one does, for every answerer and every number of turns that a loop may take.
-/// Store, source map and diagnostics are one result of the tree: what is stored stands for it, each expression reached
-/// in one way and with its source, all in the range of the one root; the source map leads from each written expression
-/// and label to what it became, and from nothing else; the diagnostics are those that body and tree owe. A skipped body
-/// is a missing expression and owes no fault. `Memory` where a growth was refused; `Full` exactly where what the body
-/// becomes doesn't fit, unless memory was refused before; never `Failed`. Until patterns come the caller hands in no
-/// parameters, and until inner bodies come neither flag.
+/// What is stored is what the tree with its answers says. Each number in store and source map is in range. A skipped
+/// body is a missing expression and owes no fault. `Memory` where a growth was refused; `Full` only where the steps
+/// have filled an arena by then; never `Failed`. Until patterns come the caller hands in no parameters, and until inner
+/// bodies come neither flag.
 pub fn lower_body<E: LowerEnv>(
     alloc: Global,
     db: &E,
@@ -79,10 +94,11 @@ pub fn lower_body<E: LowerEnv>(
     requires no_params { option_copied params ≡ None }
     requires no_async { is_async_fn ≡ false }
     requires no_gen { is_gen_fn ≡ false }
-    ensures same_meaning { IfOk result (λ r. HasBody r.0.store r.1.store (body_read (E.answers db.now) owner current_file_id inside (option_copied body.entry))) }
-    ensures one_result { IfOk result (λ r. OneResult (record { limit = 4294967295; store = r.0.store; source_map = r.1.store }) (body_owes (E.answers db.now) owner syntax_node current_file_id inside (option_copied body.entry)) (body_read (E.answers db.now) owner current_file_id inside (option_copied body.entry))) }
-    ensures fits { OnOk result (FitsBelow 4294967295 (body_read (E.answers db.now) owner current_file_id inside (option_copied body.entry))) }
-    ensures full { IsErrOf result LowerError.Full → ¬ FitsBelow 4294967295 (body_read (E.answers db.now) owner current_file_id inside (option_copied body.entry)) }
+    ensures stores { let steps = lowered_body (E.answers db.now) owner syntax_node current_file_id inside (option_copied body.entry) in
+        IfOk result (λ r. Stores steps 4294967295 r.0.store r.1.store) }
+    ensures in_range { IfOk result (λ r. InRange r.0.store r.1.store) }
+    ensures full { let steps = lowered_body (E.answers db.now) owner syntax_node current_file_id inside (option_copied body.entry) in
+        IsErrOf result LowerError.Full → RefusedAtLimit steps 4294967295 }
     ensures own { result ≢ Err LowerError.Failed }
 {
     body_steps(alloc, db, owner, syntax_node, current_file_id, inside, body)

@@ -1,25 +1,23 @@
 //! The collector, which lowers trees into one store and stops for good after its first error.
 
-ghost use Rattle.std.specs.Prelude.{◌≡◌, false, true, IfOk, IsOkAnd, option_copied};
-ghost use Rattle.hir_store.specs.Range.{HasExpr};
-ghost use Rattle.hir_env.specs.Answering.{in_file};
+ghost use Rattle.std.specs.Prelude.{◌≡◌, false, true, IfOk, IsErrOf, IsOkAnd, option_copied};
+ghost use Rattle.hir_store.specs.Range.{HasExpr, InRange};
+ghost use Rattle.hir_store.specs.Stored.{map_of, store_of};
+ghost use Rattle.hir_store.specs.Storing.{SomeAtLimit};
 ghost use Rattle.hir_env.specs.Whole.{expr_part};
 ghost use Rattle.hir_lower_form.specs.Lowering.{Lowers};
-ghost use Rattle.hir_lower_form.specs.Lower.{lower_part};
-ghost use Rattle.hir_same_meaning.specs.Extends.{Paired};
+ghost use Rattle.hir_lower_form.specs.Outcomes.{LowersExprOpt};
 ghost use Rattle.hir_lower.specs.Calls.{Calls};
-ghost use Rattle.hir_lower.specs.Means.{Rooted, unless_skipped};
-ghost use Rattle.hir_lower.specs.Roots.{body_of, const_of, fresh, required_body, root_of};
+ghost use Rattle.hir_lower.specs.Roots.{const_of, fresh, item_of, required_body, root_of, spot_at};
 
 use crate::error::LowerError;
-use crate::knot::lower_expr;
+use crate::knot::collect_expr;
 use hir_env::env::LowerEnv;
 use hir_env::place::{LoweringMode, Place};
 use hir_lower_form::builder::BodyBuilder;
 use hir_store::builder::ExpressionStoreBuilder;
 use hir_store::diagnostics::{ExpressionStoreDiagnostics, MissingBodyItemKind};
 use hir_store::fault::StoreFault;
-use hir_store::hir::Expr;
 use hir_store::ids::{DefWithBodyId, ExprId, ItemContainerId, ModuleId};
 use hir_store::source_map::ExpressionStoreSourceMap;
 use hir_store::store::ExpressionStore;
@@ -33,23 +31,25 @@ pub struct ConstRef {
     pub expr: ExprId,
 }
 
-#[tactic(auto, unfolding(crate::specs::Roots::root_of))]
-fn root_steps<E: LowerEnv>(
+/// The expression, missing where it is absent or a condition disables it.
+fn collect_expr_opt<E: LowerEnv>(
     alloc: Global,
     env: &E,
     place: Place,
     state: &mut BodyBuilder,
     expr: Option<&ast::Expr>,
 ) -> Result<ExprId, StoreFault>
-    ensures { Lowers HasExpr (root_of (expr_part (E.answers env.now) place (option_copied expr.entry))) state.old result state.new }
+    ensures { let spot = spot_at (E.answers env.now) place in
+        LowersExprOpt (expr_part spot (option_copied expr.entry)) state.old result state.new }
 {
-    state.close_labels(alloc);
-    let root = part_or_missing(alloc, env, place, state, expr)?;
-    state.record_root(root)?;
-    Ok(root)
+    match expr {
+        None => state.missing_expr(),
+        Some(expr) => collect_expr(alloc, env, place, state, expr),
+    }
 }
 
 /// Lowers an expression as a root: no label around it is open in it.
+#[tactic(auto, unfolding(crate::specs::Roots::root_of))]
 fn lower_root<E: LowerEnv>(
     alloc: Global,
     env: &E,
@@ -57,26 +57,13 @@ fn lower_root<E: LowerEnv>(
     state: &mut BodyBuilder,
     expr: Option<&ast::Expr>,
 ) -> Result<ExprId, StoreFault>
-    ensures lowers { Lowers HasExpr (root_of (expr_part (E.answers env.now) place (option_copied expr.entry))) state.old result state.new }
-    ensures rooted { Paired state.old.stored → IfOk result (λ i. Rooted state.old.stored state.new.stored i (expr_part (E.answers env.now) place (option_copied expr.entry))) }
+    ensures { let spot = spot_at (E.answers env.now) place in
+        Lowers HasExpr (root_of (expr_part spot (option_copied expr.entry))) state.old result state.new }
 {
-    root_steps(alloc, env, place, state, expr)
-}
-
-#[tactic(auto, unfolding(hir_lower_form::specs::Lower::missing))]
-fn part_or_missing<E: LowerEnv>(
-    alloc: Global,
-    env: &E,
-    place: Place,
-    state: &mut BodyBuilder,
-    expr: Option<&ast::Expr>,
-) -> Result<ExprId, StoreFault>
-    ensures { Lowers HasExpr (lower_part (expr_part (E.answers env.now) place (option_copied expr.entry))) state.old result state.new }
-{
-    match expr {
-        None => state.alloc_expr(Expr::Missing, None),
-        Some(expr) => lower_expr(alloc, env, place, state, expr),
-    }
+    state.close_labels(alloc);
+    let root = collect_expr_opt(alloc, env, place, state, expr)?;
+    state.record_root(root)?;
+    Ok(root)
 }
 
 /// The kind of the fault that an item without a body owes.
@@ -100,8 +87,9 @@ fn required_body_kind(
     }
 }
 
+/// Lowers the body of an item, which is absent where the item is skipped.
 #[tactic(auto, unfolding(crate::specs::Roots::body_of, crate::specs::Roots::report_missing))]
-fn item_steps<E: LowerEnv>(
+fn lower_item<E: LowerEnv>(
     alloc: Global,
     env: &E,
     place: Place,
@@ -110,7 +98,8 @@ fn item_steps<E: LowerEnv>(
     node: AstPtr,
     body: Option<&ast::Expr>,
 ) -> Result<ExprId, StoreFault>
-    ensures { Lowers HasExpr (body_of ((E.answers env.now).skip owner) (in_file place node) (required_body owner ((E.answers env.now).container owner)) (expr_part (E.answers env.now) place (option_copied body.entry))) state.old result state.new }
+    ensures { let spot = spot_at (E.answers env.now) place in
+        Lowers HasExpr (item_of spot owner node (option_copied body.entry)) state.old result state.new }
 {
     if env.skip(owner) {
         return lower_root(alloc, env, place, state, None);
@@ -123,39 +112,33 @@ fn item_steps<E: LowerEnv>(
             file_id: place.file_id,
             value: node,
         };
-        state.report(ExpressionStoreDiagnostics::MissingBody(node, kind))?;
+        state.report(ExpressionStoreDiagnostics::MissingBody { node, kind })?;
     }
     lower_root(alloc, env, place, state, body)
-}
-
-/// Lowers the body of an item, which is absent where the item is skipped.
-fn lower_item<E: LowerEnv>(
-    alloc: Global,
-    env: &E,
-    place: Place,
-    state: &mut BodyBuilder,
-    owner: DefWithBodyId,
-    node: AstPtr,
-    body: Option<&ast::Expr>,
-) -> Result<ExprId, StoreFault>
-    ensures lowers { Lowers HasExpr (body_of ((E.answers env.now).skip owner) (in_file place node) (required_body owner ((E.answers env.now).container owner)) (expr_part (E.answers env.now) place (option_copied body.entry))) state.old result state.new }
-    ensures rooted { Paired state.old.stored → IfOk result (λ i. Rooted state.old.stored state.new.stored i (unless_skipped ((E.answers env.now).skip owner) (expr_part (E.answers env.now) place (option_copied body.entry)))) }
-{
-    item_steps(alloc, env, place, state, owner, node, body)
 }
 
 /// Lowers trees into one store.
 ///
 /// After an error, and only then, each later lowering call and `into_store` answer `Failed`; the store stays readable,
 /// and each number in it is in range.
-#[derive(Drop)]
 pub struct ExprCollector<'db, E: LowerEnv> {
     alloc: Global,
     db: &'db E,
     place: Place,
     state: BodyBuilder,
     failed: bool,
-    ghost paired: { failed ≡ false → Paired state.stored },
+}
+
+impl<'db, E: LowerEnv> Drop for ExprCollector<'db, E> {
+    fn drop(self) {
+        let ExprCollector {
+            alloc: _,
+            db: _,
+            place: _,
+            state: _,
+            failed: _,
+        } = self;
+    }
 }
 
 impl<'db, E: LowerEnv> ExprCollector<'db, E> {
@@ -208,8 +191,9 @@ impl<'db, E: LowerEnv> ExprCollector<'db, E> {
     /// then nothing changes.
     #[tactic(auto, unfolding(crate::specs::Roots::const_of))]
     pub fn lower_const_arg(&mut self, arg: &ast::ConstArg) -> Result<ConstRef, LowerError>
-        ensures calls { Calls (const_of (expr_part (E.answers self.old.db.now) self.old.place arg.now.expr)) self.old.failed self.old.state result self.new.state self.new.failed }
-        ensures same_meaning { IfOk result (λ c. Rooted self.old.state.stored self.new.state.stored c.expr (expr_part (E.answers self.old.db.now) self.old.place arg.now.expr)) }
+        ensures calls { let steps = const_of (expr_part (spot_at (E.answers self.old.db.now) self.old.place) arg.now.expr) in
+            Calls steps self.old.failed self.old.state result self.new.state self.new.failed }
+        ensures full { IsErrOf result LowerError.Full → SomeAtLimit self.new.state.stored }
         ensures db { self.new.db ≡ self.old.db }
         ensures place { self.new.place ≡ self.old.place }
     {
@@ -235,8 +219,10 @@ impl<'db, E: LowerEnv> ExprCollector<'db, E> {
         node: AstPtr,
         body: Option<&ast::Expr>,
     ) -> Result<ExprId, LowerError>
-        ensures calls { Calls (body_of ((E.answers self.old.db.now).skip owner) (in_file self.old.place node) (required_body owner ((E.answers self.old.db.now).container owner)) (expr_part (E.answers self.old.db.now) self.old.place (option_copied body.entry))) self.old.failed self.old.state result self.new.state self.new.failed }
-        ensures same_meaning { IfOk result (λ i. Rooted self.old.state.stored self.new.state.stored i (unless_skipped ((E.answers self.old.db.now).skip owner) (expr_part (E.answers self.old.db.now) self.old.place (option_copied body.entry)))) }
+        ensures calls { let spot = spot_at (E.answers self.old.db.now) self.old.place in
+            let steps = item_of spot owner node (option_copied body.entry) in
+            Calls steps self.old.failed self.old.state result self.new.state self.new.failed }
+        ensures full { IsErrOf result LowerError.Full → SomeAtLimit self.new.state.stored }
         ensures db { self.new.db ≡ self.old.db }
         ensures place { self.new.place ≡ self.old.place }
     {
@@ -264,10 +250,12 @@ impl<'db, E: LowerEnv> ExprCollector<'db, E> {
         self.state.store()
     }
 
-    /// The store and its source map, or `Failed` after an error. It takes no memory.
+    /// The store and its source map, in which each number is in range, or `Failed` after an error. It takes no memory.
     pub fn into_store(self) -> Result<(ExpressionStore, ExpressionStoreSourceMap), LowerError>
         ensures failed { self.entry.failed ≡ true → result ≡ Err LowerError.Failed }
-        ensures works { self.entry.failed ≡ false → IsOkAnd result (λ r. (r.0 ≡ self.entry.state.stored.store) × (r.1 ≡ self.entry.state.stored.source_map)) }
+        ensures works { self.entry.failed ≡ false
+            → IsOkAnd result (λ r. (r.0 ≡ store_of self.entry.state.stored) × (r.1 ≡ map_of self.entry.state.stored)) }
+        ensures in_range { IfOk result (λ r. InRange r.0 r.1) }
     {
         let ExprCollector {
             alloc: _,

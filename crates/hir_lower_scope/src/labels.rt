@@ -1,46 +1,57 @@
-//! Labels that are open.
+//! What is open around what is being lowered, as far as a jump by name goes: labels, macro definitions, and the borders of closures, coroutines and
+//! constants.
 
-ghost use Rattle.std.specs.Prelude.{◌≡◌, [], ◌∷◌, OnOk, OnErr, find, reverse, option_copied};
-ghost use Rattle.hir_lower_scope.specs.Labels.{bears, target, rest};
+ghost use Rattle.std.specs.Prelude.{◌≡◌, [], ◌∷◌, OnOk, OnErr, reverse};
+ghost use Rattle.hir_scope.specs.Ribs.{Rib, label_rib, macro_rib, barrier_rib, Sought, sought_first, is_for, past_macro, search};
+ghost use Rattle.hir_lower_scope.specs.Labels.{answer, rest};
+ghost use Rattle.hir_lower_scope.specs.Found.{rib_of, ribs_of, sought_of};
 
-use hir_store::ids::{HygieneId, LabelId};
+use hir_env::env::LowerEnv;
+use hir_store::ids::{CtxId, HygieneId, LabelId, MacroDefId};
 use hir_store::name::Name;
 use std::alloc::{AllocError, Global};
 use std::marker::Model;
 
-/// An open label: a jump in it that has its name and its hygiene is for it.
-#[derive(Debug, Drop)]
-pub struct LabelRib {
-    pub name: Name,
-    pub hygiene: HygieneId,
-    pub label: LabelId,
+/// Why a jump by name has no target.
+#[derive(Clone, Copy, Debug, PartialEq, Eq)]
+pub enum NoTarget {
+    /// Its label lies behind a closure, a coroutine or a constant.
+    Unreachable,
+    /// No label around it has its name and its hygiene.
+    Undeclared,
 }
 
-impl LabelRib {
-    fn bears(&self, name: &Name, hygiene: HygieneId) -> bool
-        ensures { result ≡ bears name.now hygiene self.now }
-    {
-        self.name.is_same(name) && self.hygiene == hygiene
-    }
-}
-
-/// The labels that are open, which contracts see innermost first.
 #[derive(Drop)]
+enum LabelRib {
+    Label(Name, HygieneId, LabelId),
+    MacroDef(MacroDefId),
+    Barrier,
+}
+
+/// The labels that are open, with the macro definitions and the borders between them. Contracts see them innermost first.
 pub struct LabelScopes {
     ribs: Vec<LabelRib>,
 }
 
+impl Drop for LabelScopes {
+    fn drop(self) {
+        let LabelScopes { ribs: _ } = self;
+    }
+}
+
 impl Model for LabelScopes {
     ghost use Rattle.std.specs.Prelude.{List, reverse};
-    ghost use Rattle.hir_lower_scope.specs.declared.labels.LabelRib.{LabelRib};
+    ghost use Rattle.hir_store.specs.declared.ids.LabelId.{LabelId};
+    ghost use Rattle.hir_scope.specs.Ribs.{Rib};
+    ghost use Rattle.hir_lower_scope.specs.Found.{ribs_of};
 
-    ghost Value = { List LabelRib };
+    ghost Value = { List (Rib LabelId) };
 
-    ghost view = { λ s. reverse s.ribs.items };
+    ghost view = { λ s. ribs_of (reverse s.ribs.items) };
 }
 
 impl LabelScopes {
-    /// No label is open. It takes no memory.
+    /// Nothing is open. It takes no memory.
     pub fn new(alloc: Global) -> LabelScopes
         ensures { result ≡ [] }
     {
@@ -49,33 +60,116 @@ impl LabelScopes {
         }
     }
 
-    /// Opens a label inside all that are open. Where memory is refused nothing changes.
-    pub fn enter(&mut self, rib: LabelRib) -> Result<(), AllocError>
-        ensures ok { OnOk result (self.new ≡ rib ∷ self.old) }
+    /// Opens a label inside all that is open. Where memory is refused nothing changes, here and below.
+    pub fn enter_label(
+        &mut self,
+        name: Name,
+        hygiene: HygieneId,
+        label: LabelId,
+    ) -> Result<(), AllocError>
+        ensures ok { OnOk result (self.new ≡ label_rib name hygiene label ∷ self.old) }
         ensures err { OnErr result (self.new ≡ self.old) }
     {
-        self.ribs.push(rib)?;
+        self.ribs.push(LabelRib::Label(name, hygiene, label))?;
         Ok(())
     }
 
-    /// Closes the innermost label, where one is open.
+    /// From here on a macro is defined.
+    pub fn enter_macro(&mut self, def: MacroDefId) -> Result<(), AllocError>
+        ensures ok { OnOk result (self.new ≡ macro_rib def ∷ self.old) }
+        ensures err { OnErr result (self.new ≡ self.old) }
+    {
+        self.ribs.push(LabelRib::MacroDef(def))?;
+        Ok(())
+    }
+
+    /// Enters a closure, a coroutine or a constant.
+    pub fn enter_barrier(&mut self) -> Result<(), AllocError>
+        ensures ok { OnOk result (self.new ≡ barrier_rib ∷ self.old) }
+        ensures err { OnErr result (self.new ≡ self.old) }
+    {
+        self.ribs.push(LabelRib::Barrier)?;
+        Ok(())
+    }
+
+    /// Leaves what was entered last, where something is open.
     pub fn leave(&mut self)
         ensures { self.new ≡ rest self.old }
     {
         let _ = self.ribs.pop();
     }
 
-    /// The innermost open label that has this name and this hygiene.
-    pub fn find(&self, name: &Name, hygiene: HygieneId) -> Option<LabelId>
-        ensures { result ≡ target self.now name.now hygiene }
+    /// The label that a jump is for that has this name and this hygiene.
+    pub fn find<E: LowerEnv>(
+        &self,
+        env: &E,
+        name: &Name,
+        hygiene: HygieneId,
+    ) -> Result<LabelId, NoTarget>
+        ensures { result ≡ answer (search (E.answers env.now).contexts name.now (sought_first hygiene) self.now) }
     {
-        Some(innermost(self.ribs.as_slice(), name, hygiene)?.label)
+        let context = if hygiene == HygieneId::ROOT {
+            None
+        } else {
+            Some(CtxId(hygiene.0))
+        };
+        search_from(env, name, Wanted { hygiene, context }, self.ribs.as_slice())
     }
 }
 
-/// The last of the labels that has this name and this hygiene.
-fn innermost<'a>(ribs: &'a [LabelRib], name: &Name, hygiene: HygieneId) -> Option<&'a LabelRib>
-    ensures { option_copied result ≡ find (bears name.now hygiene) (reverse ribs.now) }
+/// The hygiene that a label is to have, and the context that it is of.
+#[derive(Clone, Copy)]
+struct Wanted {
+    hygiene: HygieneId,
+    context: Option<CtxId>,
+}
+
+/// What is sought behind the definition of a macro.
+fn past<E: LowerEnv>(env: &E, def: MacroDefId, wanted: Wanted) -> Wanted
+    ensures { sought_of result ≡ past_macro (E.answers env.now).contexts def (sought_of wanted) wanted.context }
 {
-    ribs.iter().rev().find(|rib| rib.bears(name, hygiene))
+    let Some(context) = wanted.context else {
+        return wanted;
+    };
+    if env.outer_macro(context) != Some(def) {
+        return wanted;
+    }
+    let parent = env.context_parent(context);
+    Wanted {
+        hygiene: env.opaque(parent),
+        context: Some(parent),
+    }
+}
+
+/// What is sought among these ribs, of which the last is the innermost.
+fn search_from<E: LowerEnv>(
+    env: &E,
+    name: &Name,
+    mut wanted: Wanted,
+    mut ribs: &[LabelRib],
+) -> Result<LabelId, NoTarget>
+    ensures { result ≡ answer (search (E.answers env.now).contexts name.now (sought_of wanted) (ribs_of (reverse ribs.entry.now))) }
+{
+    let mut hidden = false;
+    while let [outer @ .., rib] = ribs {
+        match rib {
+            LabelRib::Label(label_name, hygiene, label) => {
+                if label_name.is_same(name) && *hygiene == wanted.hygiene {
+                    return if hidden {
+                        Err(NoTarget::Unreachable)
+                    } else {
+                        Ok(*label)
+                    };
+                }
+            }
+            LabelRib::MacroDef(def) => {
+                wanted = past(env, *def, wanted);
+            }
+            LabelRib::Barrier => {
+                hidden = true;
+            }
+        }
+        ribs = outer;
+    }
+    Err(NoTarget::Undeclared)
 }

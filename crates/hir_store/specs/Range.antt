@@ -1,7 +1,7 @@
 -- Which entries an entry names, and that they exist.
-use Rattle.std.specs.Prelude.{◌≡◌, ℕ, suc, ◌≤◌, max, List, [], ◌∷◌, length, Option, Some, None}
-use Rattle.hir_store.specs.Pointers.{Pointer}
-use Rattle.hir_store.specs.Stored.{Store, SourceMap, Stored}
+use Rattle.std.specs.Prelude.{◌≡◌, ℕ, suc, ◌≤◌, max, List, length, Option}
+use Rattle.hir_store.specs.Arenas.{past, past_option}
+use Rattle.hir_store.specs.Stored.{Stored, Store, SourceMap}
 use Rattle.hir_store.specs.declared.hir.Expr.{Expr}
 use Rattle.hir_store.specs.declared.hir.Expr.TheVariants as hir
 use Rattle.hir_store.specs.declared.hir.Statement.{Statement}
@@ -10,91 +10,85 @@ use Rattle.hir_store.specs.declared.roots.ExprRoot.{ExprRoot}
 use Rattle.hir_store.specs.declared.ids.ExprId.{ExprId}
 use Rattle.hir_store.specs.declared.ids.LabelId.{LabelId}
 
--- the least number above those that are named
-abbrev pub past_ids : List ExprId → ℕ
-past_ids [] = 0
-past_ids (id ∷ ids) = max (suc id.0) (past_ids ids)
+-- ---- the least number above those that are named, for each arena
+
+abbrev pub past_expr : ExprId → ℕ
+past_expr id = suc id.0
+
+abbrev pub past_label : LabelId → ℕ
+past_label id = suc id.0
 
 abbrev pub past_statement : Statement → ℕ
 past_statement (statement.Expr id semi) = suc id.0
 past_statement statement.Item = 0
 
-abbrev pub past_statements : List Statement → ℕ
-past_statements [] = 0
-past_statements (s ∷ ss) = max (past_statement s) (past_statements ss)
+abbrev pub past_root : ExprRoot → ℕ
+past_root r = max (suc r.root.0) r.exprs_end.0
 
-abbrev pub past_expr_map : List (Pointer × ExprId) → ℕ
-past_expr_map [] = 0
-past_expr_map (e ∷ es) = max (suc e.1.0) (past_expr_map es)
+-- the expressions that an expression names
+abbrev pub exprs_in : Expr → ℕ
+exprs_in (hir.If c t e) = max (suc c.0) (max (suc t.0) (past_option past_expr e))
+exprs_in (hir.Block label id ss tail) = max (past past_statement ss) (past_option past_expr tail)
+exprs_in (hir.Loop b label source) = suc b.0
+exprs_in (hir.Call f es) = max (suc f.0) (past past_expr es)
+exprs_in (hir.Break label e) = past_option past_expr e
+exprs_in _ = 0
 
-abbrev pub past_label_map : List (Pointer × LabelId) → ℕ
-past_label_map [] = 0
-past_label_map (e ∷ es) = max (suc e.1.0) (past_label_map es)
+-- the labels that it names
+abbrev pub labels_in : Expr → ℕ
+labels_in (hir.Block label id ss tail) = past_option past_label label
+labels_in (hir.Loop b label source) = past_option past_label label
+labels_in (hir.Continue label) = past_option past_label label
+labels_in (hir.Break label e) = past_option past_label label
+labels_in _ = 0
 
-abbrev pub past_roots : List ExprRoot → ℕ
-past_roots [] = 0
-past_roots (r ∷ rs) = max (max (suc r.root.0) r.exprs_end.0) (past_roots rs)
+-- ---- what is named exists
 
--- what is named exists
-abbrev pub HasNone : Store → Unit {0} → Type 0
+abbrev pub HasNone : Stored → Unit {0} → Type 0
 HasNone s _ = Unit {0}
 
-abbrev pub HasExpr : Store → ExprId → Type 0
-HasExpr s id = suc id.0 ≤ length s.exprs
+abbrev pub HasExpr : Stored → ExprId → Type 0
+HasExpr s id = suc id.0 ≤ length s.exprs.entries
 
-abbrev pub HasExprOption : Store → Option ExprId → Type 0
-HasExprOption s None = Unit {0}
-HasExprOption s (Some id) = HasExpr s id
+abbrev pub HasExprOption : Stored → Option ExprId → Type 0
+HasExprOption s o = past_option past_expr o ≤ length s.exprs.entries
 
-abbrev pub HasExprs : Store → List ExprId → Type 0
-HasExprs s ids = past_ids ids ≤ length s.exprs
+abbrev pub HasExprs : Stored → List ExprId → Type 0
+HasExprs s ids = past past_expr ids ≤ length s.exprs.entries
 
-abbrev pub HasStatements : Store → List Statement → Type 0
-HasStatements s ss = past_statements ss ≤ length s.exprs
+abbrev pub HasStatementOption : Stored → Option Statement → Type 0
+HasStatementOption s o = past_option past_statement o ≤ length s.exprs.entries
 
-abbrev pub HasLabel : Store → LabelId → Type 0
-HasLabel s id = suc id.0 ≤ length s.labels
+abbrev pub HasStatements : Stored → List Statement → Type 0
+HasStatements s ss = past past_statement ss ≤ length s.exprs.entries
 
-abbrev pub HasLabelOption : Store → Option LabelId → Type 0
-HasLabelOption s None = Unit {0}
-HasLabelOption s (Some id) = HasLabel s id
+abbrev pub HasLabel : Stored → LabelId → Type 0
+HasLabel s id = suc id.0 ≤ length s.labels.entries
+
+abbrev pub HasLabelOption : Stored → Option LabelId → Type 0
+HasLabelOption s o = past_option past_label o ≤ length s.labels.entries
 
 -- the parts of an expression
-abbrev pub HasParts : Store → Expr → Type 0
-HasParts s hir.Missing = Unit {0}
-HasParts s (hir.Path path hygiene) = Unit {0}
-HasParts s (hir.If c t e) = HasExpr s c × HasExpr s t × HasExprOption s e
-HasParts s (hir.Block label id ss tail) = HasLabelOption s label × HasStatements s ss × HasExprOption s tail
-HasParts s (hir.Loop b label source) = HasExpr s b × HasLabelOption s label
-HasParts s (hir.Call f es) = HasExpr s f × HasExprs s es
-HasParts s (hir.Continue label) = HasLabelOption s label
-HasParts s (hir.Break label e) = HasLabelOption s label × HasExprOption s e
-HasParts s (hir.Literal l) = Unit {0}
-
-abbrev pub AllHaveParts : Store → List Expr → Type 0
-AllHaveParts s [] = Unit {0}
-AllHaveParts s (e ∷ es) = HasParts s e × AllHaveParts s es
+abbrev pub HasParts : Stored → Expr → Type 0
+HasParts s e = (exprs_in e ≤ length s.exprs.entries) × (labels_in e ≤ length s.labels.entries)
 
 -- every number in the store is in range
 pub record StoreInRange (s : Store) : Type 0 where
-  pub exprs : AllHaveParts s s.exprs
-  pub roots : past_roots s.roots ≤ length s.exprs
+  pub exprs : past exprs_in s.exprs ≤ length s.exprs
+  pub labels : past labels_in s.exprs ≤ length s.labels
+  pub roots : past past_root s.roots ≤ length s.exprs
 
--- every number in the map is in range of the store
+-- every number in the source map is one of the store, and each entry has its source
 pub record MapInRange (s : Store) (m : SourceMap) : Type 0 where
-  pub expr_sources : length m.expr_sources ≤ length s.exprs
-  pub label_sources : length m.label_sources ≤ length s.labels
-  pub expr_map : past_expr_map m.expr_map ≤ length s.exprs
-  pub label_map : past_label_map m.label_map ≤ length s.labels
+  pub expr_sources : length m.expr_sources ≡ length s.exprs
+  pub label_sources : length m.label_sources ≡ length s.labels
+  pub exprs : past (λ way. past_expr way.1) m.expr_map ≤ length s.exprs
+  pub labels : past (λ way. past_label way.1) m.label_map ≤ length s.labels
 
-pub record InRange (s : Stored) : Type 0 where
-  pub store : StoreInRange s.store
-  pub source_map : MapInRange s.store s.source_map
+pub record InRange (s : Store) (m : SourceMap) : Type 0 where
+  pub store : StoreInRange s
+  pub source_map : MapInRange s m
 
 -- no arena is shorter in `new` than in `old`
-abbrev pub Grows : Store → Store → Type 0
-Grows old new = (length old.exprs ≤ length new.exprs) × (length old.labels ≤ length new.labels)
-
-abbrev pub HasStatementOption : Store → Option Statement → Type 0
-HasStatementOption s None = Unit {0}
-HasStatementOption s (Some t) = past_statement t ≤ length s.exprs
+abbrev pub Grows : Stored → Stored → Type 0
+Grows old new = (length old.exprs.entries ≤ length new.exprs.entries) × (length old.labels.entries ≤ length new.labels.entries)

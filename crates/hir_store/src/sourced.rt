@@ -1,0 +1,133 @@
+//! Arenas whose entries have sources.
+
+ghost use Rattle.std.specs.Prelude.{◌≡◌, ◌<◌, ◌≤◌, ◌↔◌, IfOk, OnOk, OnErr, IsErrOf, length, slice_get};
+ghost use Rattle.std.specs.Option.{option_copied};
+ghost use Rattle.hir_store.specs.Arenas.{Allocs, Kept, none_yet, pointed, with_way};
+
+use crate::arena::{Arena, Entry};
+use crate::fault::StoreFault;
+use crate::pointers::PointerMap;
+use hir_syntax::Seq;
+use hir_syntax::node::{AstPtr, InFile};
+use std::alloc::{AllocError, Global};
+use std::marker::Model;
+
+/// Entries of one kind, each with the node that it came from, where it came from one, and the way from nodes to them.
+pub struct SourcedArena<T: Entry> {
+    entries: Vec<T>,
+    sources: Vec<Option<InFile<AstPtr>>>,
+    map: PointerMap<T::Id>,
+    limit: u32,
+}
+
+impl<T: Entry> Drop for SourcedArena<T> {
+    fn drop(self) {
+        let SourcedArena {
+            entries: _,
+            sources: _,
+            map: _,
+            limit: _,
+        } = self;
+    }
+}
+
+impl<T: Entry> Model for SourcedArena<T> {
+    ghost use Rattle.std.specs.Prelude.{length, ◌≤◌, ◌<◌, ◌^◌};
+    ghost use Rattle.hir_store.specs.Arenas.{Kept, Sourced, sourced_code};
+
+    ghost Value = { Sourced T T.Id };
+
+    ghost coded = { sourced_code T.code T.Id.code };
+
+    ghost view = { λ a. record { entries = a.entries.items; sources = a.sources.items; map = a.map; limit = a.limit } };
+
+    ghost invariant = { λ a. Kept T.place (record { entries = a.entries.items; sources = a.sources.items; map = a.map; limit = a.limit }) × (a.limit < 2 ^ 32) };
+}
+
+/// Lets the node, where there is one, lead to the entry. Where memory is refused nothing changes.
+fn lead<I: Copy>(
+    map: &mut PointerMap<I>,
+    node: Option<InFile<AstPtr>>,
+    id: I,
+) -> Result<(), AllocError>
+    ensures ok { OnOk result (map.new ≡ pointed map.old node id) }
+    ensures unchanged { OnErr result (map.new ≡ map.old) }
+{
+    match node {
+        None => Ok(()),
+        Some(node) => map.insert(node, id),
+    }
+}
+
+impl<T: Entry> SourcedArena<T> {
+    /// An empty arena for so many entries. It takes no memory.
+    pub fn with_limit(alloc: Global, limit: u32) -> SourcedArena<T>
+        ensures { result ≡ none_yet limit }
+    {
+        SourcedArena {
+            entries: Vec::new(alloc),
+            sources: Vec::new(alloc),
+            map: PointerMap::new(alloc),
+            limit,
+        }
+    }
+
+    pub fn len(&self) -> u32
+        ensures { result ≡ length self.now.entries }
+    {
+        self.entries.len() as u32
+    }
+
+    pub fn get(&self, id: T::Id) -> Option<&T>
+        ensures value { option_copied result ≡ slice_get self.now.entries (T.place id) }
+        ensures kept { Kept T.place self.now }
+    {
+        self.entries.get(T::place(id) as usize)
+    }
+
+    /// Stores an entry. The node that it came from, where it came from one, leads to it from now on.
+    ///
+    /// `Full` exactly where the limit is reached, and then no memory is asked for; `Memory` where a growth was
+    /// refused. On either the entry is dropped and nothing changes.
+    pub fn alloc(&mut self, entry: T, source: Option<InFile<AstPtr>>) -> Result<T::Id, StoreFault>
+        ensures { Allocs T.number entry source self.old result self.new }
+    {
+        let at = self.len();
+        if at >= self.limit {
+            return Err(StoreFault::Full);
+        }
+        self.entries.reserve(1)?;
+        self.sources.reserve(1)?;
+        let id = T::number(at);
+        lead(&mut self.map, source, id)?;
+        self.entries.push_reserved(entry);
+        self.sources.push_reserved(source);
+        Ok(id)
+    }
+
+    /// Lets a further node lead to an entry. Where memory is refused nothing changes.
+    pub fn point(&mut self, node: InFile<AstPtr>, id: T::Id) -> Result<(), AllocError>
+        requires { T.place id < length self.old.entries }
+        ensures ok { OnOk result (self.new ≡ with_way self.old node id) }
+        ensures unchanged { OnErr result (self.new ≡ self.old) }
+    {
+        self.map.insert(node, id)?;
+        Ok(())
+    }
+
+    /// The entries, their sources and the way to them. It takes no memory.
+    pub fn split(self) -> (Arena<T>, Seq<Option<InFile<AstPtr>>>, PointerMap<T::Id>)
+        ensures entries { result.0 ≡ record { entries = self.entries; limit = self.limit } }
+        ensures sources { result.1 ≡ self.sources }
+        ensures map { result.2 ≡ self.map }
+        ensures kept { Kept T.place self }
+    {
+        let SourcedArena {
+            entries,
+            sources,
+            map,
+            limit,
+        } = self;
+        (Arena::of(entries, limit), Seq::from_vec(sources), map)
+    }
+}
