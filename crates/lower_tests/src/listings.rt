@@ -74,7 +74,11 @@ fn record_path(
         kind: PathKind::Plain,
         segments,
     });
-    let root = builder.alloc_expr(Expr::Path(path, HygieneId(2)), Some(OTHER_FILE))?;
+    let path = Expr::Path {
+        path,
+        hygiene: HygieneId(2),
+    };
+    let root = builder.alloc_expr(path, Some(OTHER_FILE))?;
     builder.record_root(root)
 }
 

@@ -39,15 +39,19 @@ pub fn diagnostics(
 
 fn detail(writer: &mut Writer, fault: &ExpressionStoreDiagnostics) -> Result<(), AllocError> {
     match fault {
-        ExpressionStoreDiagnostics::InactiveCode(_, cfg) => writer.numbered(
+        ExpressionStoreDiagnostics::InactiveCode { cfg, .. } => writer.numbered(
             "diag InactiveCode ",
             cfg.0,
         ),
-        ExpressionStoreDiagnostics::UndeclaredLabel(_, name) => writer.named(
+        ExpressionStoreDiagnostics::UnreachableLabel { name, .. } => writer.named(
+            "diag UnreachableLabel ",
+            name,
+        ),
+        ExpressionStoreDiagnostics::UndeclaredLabel { name, .. } => writer.named(
             "diag UndeclaredLabel ",
             name,
         ),
-        ExpressionStoreDiagnostics::MissingBody(_, kind) => writer.word(missing_body(*kind)),
+        ExpressionStoreDiagnostics::MissingBody { kind, .. } => writer.word(missing_body(*kind)),
     }
 }
 
@@ -61,8 +65,9 @@ fn missing_body(kind: MissingBodyItemKind) -> &'static str {
 
 fn node(fault: &ExpressionStoreDiagnostics) -> InFile<AstPtr> {
     match fault {
-        ExpressionStoreDiagnostics::InactiveCode(node, _) => *node,
-        ExpressionStoreDiagnostics::UndeclaredLabel(node, _) => *node,
-        ExpressionStoreDiagnostics::MissingBody(node, _) => *node,
+        ExpressionStoreDiagnostics::InactiveCode { node, .. } => *node,
+        ExpressionStoreDiagnostics::UnreachableLabel { node, .. } => *node,
+        ExpressionStoreDiagnostics::UndeclaredLabel { node, .. } => *node,
+        ExpressionStoreDiagnostics::MissingBody { node, .. } => *node,
     }
 }

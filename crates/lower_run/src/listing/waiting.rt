@@ -75,32 +75,45 @@ impl<'a> Waiting<'a> {
     pub fn push_expr_parts(&mut self, expr: &'a Expr) -> Result<(), AllocError> {
         match expr {
             Expr::Missing => self.push_parts(&[]),
-            Expr::Path(path, hygiene) => self.push_parts(&[Piece::Path(path, *hygiene)]),
-            Expr::If(condition, then_branch, else_branch) => self.push_parts(&[
+            Expr::Path { path, hygiene } => self.push_parts(&[Piece::Path(path, *hygiene)]),
+            Expr::If {
+                condition,
+                then_branch,
+                else_branch,
+            } => self.push_parts(&[
                 Piece::Expr(*condition),
                 Piece::Expr(*then_branch),
                 expr_or_absent(*else_branch),
             ]),
-            Expr::Block(label, block, statements, tail) => self.push_parts(&[
+            Expr::Block {
+                label,
+                id,
+                statements,
+                tail,
+            } => self.push_parts(&[
                 ABSENT,
                 label_or_absent(*label),
-                block_or_absent(*block),
+                block_or_absent(*id),
                 Piece::Statements(statements.as_slice()),
                 expr_or_absent(*tail),
             ]),
-            Expr::Loop(body, label, source) => self.push_parts(&[
+            Expr::Loop {
+                body,
+                label,
+                source,
+            } => self.push_parts(&[
                 Piece::Expr(*body),
                 label_or_absent(*label),
                 Piece::Word(loop_word(*source)),
             ]),
-            Expr::Call(callee, arguments) => self.push_parts(&[
+            Expr::Call { callee, args } => self.push_parts(&[
                 Piece::Expr(*callee),
-                Piece::Exprs(arguments.as_slice()),
+                Piece::Exprs(args.as_slice()),
             ]),
-            Expr::Continue(label) => self.push_parts(&[label_or_absent(*label)]),
-            Expr::Break(label, value) => self.push_parts(&[
+            Expr::Continue { label } => self.push_parts(&[label_or_absent(*label)]),
+            Expr::Break { label, expr } => self.push_parts(&[
                 label_or_absent(*label),
-                expr_or_absent(*value),
+                expr_or_absent(*expr),
             ]),
             Expr::Literal(literal) => self.push_parts(&[Piece::Literal(literal)]),
         }
@@ -109,7 +122,7 @@ impl<'a> Waiting<'a> {
     /// Lets the parts of a statement wait, and the bracket after them.
     pub fn push_statement_parts(&mut self, statement: &Statement) -> Result<(), AllocError> {
         match statement {
-            Statement::Expr(expr, _) => self.push_parts(&[Piece::Expr(*expr)]),
+            Statement::Expr { expr, .. } => self.push_parts(&[Piece::Expr(*expr)]),
             Statement::Item => self.push_parts(&[]),
         }
     }
@@ -135,13 +148,13 @@ fn loop_word(source: LoopSource) -> &'static str {
 pub fn expr_word(expr: &Expr) -> &'static str {
     match expr {
         Expr::Missing => "Missing",
-        Expr::Path(_, _) => "Path",
-        Expr::If(_, _, _) => "If",
-        Expr::Block(_, _, _, _) => "Block",
-        Expr::Loop(_, _, _) => "Loop",
-        Expr::Call(_, _) => "Call",
-        Expr::Continue(_) => "Continue",
-        Expr::Break(_, _) => "Break",
+        Expr::Path { .. } => "Path",
+        Expr::If { .. } => "If",
+        Expr::Block { .. } => "Block",
+        Expr::Loop { .. } => "Loop",
+        Expr::Call { .. } => "Call",
+        Expr::Continue { .. } => "Continue",
+        Expr::Break { .. } => "Break",
         Expr::Literal(_) => "Literal",
     }
 }
@@ -149,8 +162,8 @@ pub fn expr_word(expr: &Expr) -> &'static str {
 /// The kind that a statement begins with: with a semicolon, without one, or an item.
 pub fn statement_word(statement: &Statement) -> &'static str {
     match statement {
-        Statement::Expr(_, true) => "Semi",
-        Statement::Expr(_, false) => "Expr",
+        Statement::Expr { has_semi: true, .. } => "Semi",
+        Statement::Expr { .. } => "Expr",
         Statement::Item => "Item",
     }
 }
