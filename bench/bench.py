@@ -7,9 +7,9 @@ Prints seconds and peak memory of one run for each shape and size, and the cost
 of a node, in two parts: parsing the text, and the rest of the run. Where the cost
 of a node grows with the size, something isn't linear.
 
-The same list of nodes as another member makes a text that is parsed whole and
-then is no document, so a run on it costs the parsing alone. A peak below some
-16 MB is that of this script, which starts the program.
+A text whose only list of nodes is another member, behind a fraction, is parsed
+whole and then is no document for its fraction, so a run on it costs the parsing
+alone. A peak below some 16 MB is that of this script, which starts the program.
 """
 
 import argparse
@@ -119,9 +119,9 @@ def write(name, size, path):
     """Writes a document, and beside it the text that is only parsed."""
     nodes = SHAPES[name](size).all
     text = json.dumps(nodes)
-    for member, to in [("nodes", path), ("parsed", path + ".parsed")]:
+    for begin, to in [('{"nodes": ', path), ('{"fraction": 0.5, "parsed": ', path + ".parsed")]:
         with open(to, "w") as document:
-            document.write('{"%s": ' % member)
+            document.write(begin)
             document.write(text)
             document.write("}")
     print(len(nodes))
