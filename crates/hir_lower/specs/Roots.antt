@@ -92,7 +92,6 @@ item_of at owner node body =
     let required = required_body owner (at.answers.container owner) in
     body_of (at.answers.skip owner) (in_file at.place node) required (expr_part at body)
 
--- the body of an item, read in a file and a module
-abbrev pub lowered_body : Answers → DefWithBodyId → AstPtr → HirFileId → ModuleId → Option AstExpr → Node
-lowered_body env owner node file inside body =
-    item_of (spot_at env (record { file_id = file; module_id = inside; mode = Analysis })) owner node body
+-- where the body of an item is read
+abbrev pub body_spot : Answers → HirFileId → ModuleId → Spot
+body_spot env file inside = spot_at env (record { file_id = file; module_id = inside; mode = Analysis })

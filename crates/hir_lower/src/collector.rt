@@ -1,14 +1,16 @@
 //! The collector, which lowers trees into one store and stops for good after its first error.
 
-ghost use Rattle.std.specs.Prelude.{◌≡◌, false, true, IfOk, IsErrOf, IsOkAnd, option_copied};
+ghost use Rattle.std.specs.Prelude.{◌≡◌, ◌≢◌, false, true, Err, IfOk, IsErrOf, IsOkAnd, option_copied};
 ghost use Rattle.hir_store.specs.Range.{HasExpr, InRange};
 ghost use Rattle.hir_store.specs.Stored.{map_of, store_of};
-ghost use Rattle.hir_store.specs.Storing.{SomeAtLimit};
+ghost use Rattle.hir_store.specs.Storing.{Extends, SomeAtLimit};
 ghost use Rattle.hir_env.specs.Whole.{expr_part};
 ghost use Rattle.hir_lower_form.specs.Lowering.{Lowers};
 ghost use Rattle.hir_lower_form.specs.Outcomes.{LowersExprOpt};
+ghost use Rattle.hir_steps.specs.Keeps.{Paired};
 ghost use Rattle.hir_lower.specs.Calls.{Calls};
-ghost use Rattle.hir_lower.specs.Roots.{const_of, fresh, item_of, required_body, root_of, spot_at};
+ghost use Rattle.hir_lower.specs.Means.{Rooted};
+ghost use Rattle.hir_lower.specs.Roots.{const_of, fresh, root_of, spot_at};
 
 use crate::error::LowerError;
 use crate::knot::collect_expr;
@@ -16,13 +18,12 @@ use hir_env::env::LowerEnv;
 use hir_env::place::{LoweringMode, Place};
 use hir_lower_form::builder::BodyBuilder;
 use hir_store::builder::ExpressionStoreBuilder;
-use hir_store::diagnostics::{ExpressionStoreDiagnostics, MissingBodyItemKind};
 use hir_store::fault::StoreFault;
-use hir_store::ids::{DefWithBodyId, ExprId, ItemContainerId, ModuleId};
+use hir_store::ids::{ExprId, ModuleId};
 use hir_store::source_map::ExpressionStoreSourceMap;
 use hir_store::store::ExpressionStore;
 use hir_syntax::ast;
-use hir_syntax::node::{AstPtr, HirFileId, InFile};
+use hir_syntax::node::HirFileId;
 use std::alloc::Global;
 
 /// A lowered constant.
@@ -48,9 +49,8 @@ fn collect_expr_opt<E: LowerEnv>(
     }
 }
 
-/// Lowers an expression as a root: no label around it is open in it.
 #[tactic(auto, unfolding(crate::specs::Roots::root_of))]
-fn lower_root<E: LowerEnv>(
+fn root_steps<E: LowerEnv>(
     alloc: Global,
     env: &E,
     place: Place,
@@ -66,55 +66,21 @@ fn lower_root<E: LowerEnv>(
     Ok(root)
 }
 
-/// The kind of the fault that an item without a body owes.
-fn required_body_kind(
-    owner: DefWithBodyId,
-    container: ItemContainerId,
-) -> Option<MissingBodyItemKind>
-    ensures { result ≡ required_body owner container }
-{
-    match (owner, container) {
-        (DefWithBodyId::StaticId(_), ItemContainerId::ModuleId(_)) => Some(
-            MissingBodyItemKind::Static,
-        ),
-        (DefWithBodyId::ConstId(_), ItemContainerId::ModuleId(_)) => Some(
-            MissingBodyItemKind::Const,
-        ),
-        (DefWithBodyId::ConstId(_), ItemContainerId::ImplId(_)) => Some(
-            MissingBodyItemKind::AssocConst,
-        ),
-        _ => None,
-    }
-}
-
-/// Lowers the body of an item, which is absent where the item is skipped.
-#[tactic(auto, unfolding(crate::specs::Roots::body_of, crate::specs::Roots::report_missing))]
-fn lower_item<E: LowerEnv>(
+/// Lowers an expression as a root: no label around it is open in it.
+pub(crate) fn lower_root<E: LowerEnv>(
     alloc: Global,
     env: &E,
     place: Place,
     state: &mut BodyBuilder,
-    owner: DefWithBodyId,
-    node: AstPtr,
-    body: Option<&ast::Expr>,
+    expr: Option<&ast::Expr>,
 ) -> Result<ExprId, StoreFault>
-    ensures { let spot = spot_at (E.answers env.now) place in
-        Lowers HasExpr (item_of spot owner node (option_copied body.entry)) state.old result state.new }
+    ensures lowers { let spot = spot_at (E.answers env.now) place in
+        Lowers HasExpr (root_of (expr_part spot (option_copied expr.entry))) state.old result state.new }
+    ensures rooted { let e = expr_part (spot_at (E.answers env.now) place) (option_copied expr.entry) in
+        Paired state.old.stored → IfOk result (λ i. Rooted state.old.stored state.new.stored i e) }
+    ensures stays { result ≢ Err StoreFault.Memory → Extends state.old.stored state.new.stored }
 {
-    if env.skip(owner) {
-        return lower_root(alloc, env, place, state, None);
-    }
-    let required = required_body_kind(owner, env.container(owner));
-    if body.is_none()
-        && let Some(kind) = required
-    {
-        let node = InFile {
-            file_id: place.file_id,
-            value: node,
-        };
-        state.report(ExpressionStoreDiagnostics::MissingBody { node, kind })?;
-    }
-    lower_root(alloc, env, place, state, body)
+    root_steps(alloc, env, place, state, expr)
 }
 
 /// Lowers trees into one store.
@@ -127,6 +93,7 @@ pub struct ExprCollector<'db, E: LowerEnv> {
     place: Place,
     state: BodyBuilder,
     failed: bool,
+    ghost paired: { failed ≡ false → Paired state.stored },
 }
 
 impl<'db, E: LowerEnv> Drop for ExprCollector<'db, E> {
@@ -187,13 +154,19 @@ impl<'db, E: LowerEnv> ExprCollector<'db, E> {
 
     /// Lowers a constant as a root of its own.
     ///
-    /// `Memory` where a growth was refused, `Full` where an arena has reached its limit, `Failed` after an error, and
-    /// then nothing changes.
+    /// In each later store its expression does what the constant does, for every answerer and every number of turns
+    /// that a loop may take; what is stored stands for the tree, and faults, blocks and ways of the source map come
+    /// behind those of before. `Memory` where a growth was refused, `Full` where an arena has reached its limit,
+    /// `Failed` after an error, and then nothing changes. All that was stored is stored still, unless memory was
+    /// refused.
     #[tactic(auto, unfolding(crate::specs::Roots::const_of))]
     pub fn lower_const_arg(&mut self, arg: &ast::ConstArg) -> Result<ConstRef, LowerError>
         ensures calls { let steps = const_of (expr_part (spot_at (E.answers self.old.db.now) self.old.place) arg.now.expr) in
             Calls steps self.old.failed self.old.state result self.new.state self.new.failed }
+        ensures rooted { let e = expr_part (spot_at (E.answers self.old.db.now) self.old.place) arg.now.expr in
+            IfOk result (λ c. Rooted self.old.state.stored self.new.state.stored c.expr e) }
         ensures full { IsErrOf result LowerError.Full → SomeAtLimit self.new.state.stored }
+        ensures stays { result ≢ Err LowerError.Memory → Extends self.old.state.stored self.new.state.stored }
         ensures db { self.new.db ≡ self.old.db }
         ensures place { self.new.place ≡ self.old.place }
     {
@@ -210,37 +183,6 @@ impl<'db, E: LowerEnv> ExprCollector<'db, E> {
         )?;
         self.failed = false;
         Ok(ConstRef { expr })
-    }
-
-    /// Lowers the body of an item, with the errors of `lower_const_arg`.
-    pub(crate) fn lower_item_body(
-        &mut self,
-        owner: DefWithBodyId,
-        node: AstPtr,
-        body: Option<&ast::Expr>,
-    ) -> Result<ExprId, LowerError>
-        ensures calls { let spot = spot_at (E.answers self.old.db.now) self.old.place in
-            let steps = item_of spot owner node (option_copied body.entry) in
-            Calls steps self.old.failed self.old.state result self.new.state self.new.failed }
-        ensures full { IsErrOf result LowerError.Full → SomeAtLimit self.new.state.stored }
-        ensures db { self.new.db ≡ self.old.db }
-        ensures place { self.new.place ≡ self.old.place }
-    {
-        if self.failed {
-            return Err(LowerError::Failed);
-        }
-        self.failed = true;
-        let root = lower_item(
-            self.alloc,
-            self.db,
-            self.place,
-            &mut self.state,
-            owner,
-            node,
-            body,
-        )?;
-        self.failed = false;
-        Ok(root)
     }
 
     /// What is stored so far, after an error too.

@@ -1,4 +1,4 @@
-use Rattle.std.proofs.Common.{arith, ap}
+use Rattle.std.proofs.Common.{arith, ap, ℕ, suc, sym, ◌∙◌, ◌≡◌, ◌+◌}
 use Rattle.hir_syntax.specs.declared.ast.ExprKind.{out-ExprKind}
 use Rattle.hir_syntax.specs.declared.ast.BlockExpr.{out-BlockExpr}
 use Rattle.hir_env.specs.Answering.{ptr, numbered}
@@ -48,7 +48,7 @@ collect_block_inside-block_node-requires-clause-parts g t c =
     let node = out-BlockExpr c.args.node.now in
     let level : Place → ℕ = λ q. suc (count_stmts (stmts_part (spot_at env q) node.stmts) + count_option_expr (expr_part (spot_at env q) node.tail)) in
     let size : count_block (answered_plain (spot_at env c.args.place) c.args.node.now) ≡ level c.inside-inner.result =
-        ap count_block (plain_is_level (spot_at env c.args.place) c.args.node.now) ∙ ap level (sym inner) in
+    ap count_block (plain_is_level (spot_at env c.args.place) c.args.node.now) ∙ ap level (sym inner) in
     kids_block env (HandlesExpr g.E.LowerEnv.answers _ _ c.args.env.now) (HandlesBlock g.E.LowerEnv.answers _ _ c.args.env.now) t
     (λ p e h. record {
       callable = λ alloc v old b same is. (rw same (rw is h), λ a m. m);
