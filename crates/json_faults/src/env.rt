@@ -10,7 +10,7 @@ ghost use Rattle.json_faults.specs.Tables.{said};
 
 use crate::fault::Fault;
 use crate::table::{Cell, Table, tables};
-use crate::value::small;
+use crate::value::{item_at, small};
 use serde_json::Value;
 
 /// Whether a value suits a place.
@@ -19,18 +19,6 @@ fn suits(cell: Cell, value: &Value) -> bool
 {
     match cell {
         Cell::Small => small(value).is_some(),
-    }
-}
-
-/// The item at a place.
-#[tactic(auto, using(crate::proofs::Items::found_at, crate::proofs::Items::past_items))]
-fn item_at(items: &[Value], at: usize) -> Option<&Value>
-    ensures { option_map (λ v. view v.now) result ≡ get_item at (items_view items.entry.now) }
-{
-    if at < items.len() {
-        Some(&items[at])
-    } else {
-        None
     }
 }
 

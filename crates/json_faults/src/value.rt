@@ -1,7 +1,8 @@
 //! What JSON values are.
 
-ghost use Rattle.std.specs.Prelude.{◌≡◌, map, Some};
+ghost use Rattle.std.specs.Prelude.{◌≡◌, map, option_map, Some};
 ghost use Rattle.json_kinds.specs.Words.{words};
+ghost use Rattle.serde_json.specs.Find.{get_item};
 ghost use Rattle.serde_json.specs.View.{view, items_view};
 ghost use Rattle.json_faults.specs.Values.{small_of, index_of, is_pair, has_word, is_word, is_plain, is_part, stands_for};
 ghost use Rattle.json_faults.specs.Values as spec;
@@ -131,4 +132,16 @@ pub fn are_between(low: usize, high: usize, items: &[Value]) -> bool
         }
     }
     true
+}
+
+/// The item at a place, none past the end.
+#[tactic(auto, using(crate::proofs::Items::found_at, crate::proofs::Items::past_items))]
+pub fn item_at(items: &[Value], at: usize) -> Option<&Value>
+    ensures { option_map (λ v. view v.now) result ≡ get_item at (items_view items.entry.now) }
+{
+    if at < items.len() {
+        Some(&items[at])
+    } else {
+        None
+    }
 }
