@@ -1,5 +1,5 @@
 -- What a text says, where it is a document.
-use Rattle.std.specs.Prelude.{◌≡◌, ℕ, codes, List, [], ◌∷◌, Option, Some, None, option_and_then, unwrap_or}
+use Rattle.std.specs.Prelude.{◌≡◌, ℕ, codes, List, [], ◌∷◌, Option, Some, None, option_and_then, unwrap_or, IsUtf8}
 use Rattle.serde_json.specs.Data.{Data}
 use Rattle.serde_json.specs.Find.{get}
 use Rattle.serde_json.specs.Read.{read}
@@ -73,6 +73,7 @@ first_fault d = document_fault 1000000 group.Fn d
 
 -- the text is a document without fault, and says that
 pub record IsDocument (text : List ℕ) (x : Document) : Type 0 where
+  pub utf8 : IsUtf8 text
   pub value : Data
   pub json : read text ≡ Some value
   pub sound : first_fault value ≡ None

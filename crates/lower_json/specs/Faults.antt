@@ -17,7 +17,7 @@ IsErrorOf d (error.Fault (fault.Document f)) = first_fault d ≡ Some (fault_of 
 
 abbrev pub IsTextFault : List ℕ → Fault → Type 0
 IsTextFault text fault.NotJson = ¬ (IsUtf8 text) ⊎ (read text ≡ None)
-IsTextFault text (fault.Document f) = (d : Data) × (read text ≡ Some d) × (first_fault d ≡ Some (fault_of f))
+IsTextFault text (fault.Document f) = IsUtf8 text × ((d : Data) × (read text ≡ Some d) × (first_fault d ≡ Some (fault_of f)))
 
 -- memory may be refused for any text
 abbrev pub IsTextError : List ℕ → ReadError → Type 0

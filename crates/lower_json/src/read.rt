@@ -1,6 +1,6 @@
 //! Reading a document.
 
-ghost use Rattle.std.specs.Prelude.{◌≡◌, IfOk, IfErr, Some, None};
+ghost use Rattle.std.specs.Prelude.{◌≡◌, IfOk, IfErr, OnOk, Some, None, IsUtf8};
 ghost use Rattle.serde_json.specs.Read.{read};
 ghost use Rattle.serde_json.specs.View.{view};
 ghost use Rattle.json_faults.specs.Documents.{nodes};
@@ -24,6 +24,7 @@ use std::alloc::{AllocError, Global};
 const MOST_NODES: usize = 1_000_000;
 
 fn parse(alloc: Global, text: &[u8]) -> Result<Value, ReadError>
+    ensures utf8 { OnOk result (IsUtf8 text.now) }
     ensures value { IfOk result (λ v. read text.now ≡ Some (view v)) }
     ensures fault { IfErr result (λ e. IsTextError text.now e) }
 {
