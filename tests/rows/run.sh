@@ -61,6 +61,14 @@ run_row() {
     diff "$want_err" "$work/err" | sed 's/^/  /'
 }
 
+# Runs the checks of a folder whose documents are made.
+run_made() {
+    sh "$1" "$tool" >"$work/made"
+    passed=$((passed + $(grep -c '^passed' "$work/made")))
+    failed=$((failed + $(grep -vc '^passed' "$work/made")))
+    grep -v '^passed' "$work/made"
+}
+
 for folder in "$@"; do
     folder=${folder%/}
     [ -d "$folder" ] || folder=$here/$folder
@@ -73,6 +81,7 @@ for folder in "$@"; do
             run_row "${mode%.mode}"
         fi
     done
+    [ -f "$folder/made.sh" ] && run_made "$folder/made.sh"
 done
 
 echo "$passed passed, $failed failed"
