@@ -68,8 +68,10 @@ inside_stands : (at : Pointer) (n : Option LabelId) (number : Option BlockId) (s
 inside_stands at n number ss e h =
     correct_as (block_form_stands at n number {S = λ final rs r. contents final rs ss e r.0 r.1} (correct_as h (λ final ps m m' r g row.
     record { shown = behind_none (λ is. contents final (ribs ps) ss e is r.1) row.shown })))
-    (λ final ps m m' i g row. record { shown = shown_as row.shown (λ ws y.
-        (y.0.0, y.0.1, settled y.0.0 y.0.1, has_contents (store_of final) (map_of final) (ribs ps) ss e y.0.0 y.0.1 y.2.left y.2.first, y.1, y.2)) })
+    (λ final ps m m' i g row. record {
+      shown = shown_as row.shown (λ ws y.
+          (y.0.0, y.0.1, settled y.0.0 y.0.1, has_contents (store_of final) (map_of final) (ribs ps) ss e y.0.0 y.0.1 y.2.left y.2.first, y.1, y.2));
+    })
 
 mutual
   node_stands : (e : Expr) → Correct (lower e) (Shows (λ final rs i. Stands (store_of final) (map_of final) rs e i))

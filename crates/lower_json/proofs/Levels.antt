@@ -1,33 +1,35 @@
 -- One level of what stands at the nodes of a list.
-use Rattle.std.proofs.Common.{◌≡◌, ℕ, suc, zero, ◌<◌, ◌≤◌, List, [], ◌∷◌, Some, None, length, get_or, refl, arith}
-use Rattle.serde_json.specs.Data.{Items}
+use Rattle.std.proofs.Common.{◌≡◌, ℕ, suc, zero, List, Option, Some, None, refl, arith}
+use Rattle.std.specs.Prelude.{option_and_then}
+use Rattle.serde_json.specs.Data.{Data, Items}
 use Rattle.serde_json.specs.Find.{get_item}
-use Rattle.serde_json.specs.View.{view, items_view}
-use Rattle.serde_json.specs.declared.value.Value.{Value}
-use Rattle.lower_json.specs.Reading.{part_at, node_at}
+use Rattle.json_faults.specs.Kinds.{kind_at}
+use Rattle.json_kinds.specs.declared.kind.Kind.{Kind}
+use Rattle.lower_json.specs.Reading.{part_at, node_at, of_kind}
+use Rattle.lower_json.specs.declared.part.AnyPart.{AnyPart}
 
-item_here : (vs : List Value) (i : ℕ) (v : Value) → i < length vs → v ≡ get_or vs i v → get_item i (items_view vs) ≡ Some (view v)
-item_here [] i v l h = absurd (omega arith)
-item_here (w ∷ vs) zero v l h = cc
-item_here (w ∷ vs) (suc i) v l h = item_here vs i v (omega arith) h
-
-item_past : (vs : List Value) (i : ℕ) → length vs ≤ i → get_item i (items_view vs) ≡ None
-item_past [] zero h = refl
-item_past [] (suc i) h = refl
-item_past (v ∷ vs) zero h = absurd (omega arith)
-item_past (v ∷ vs) (suc i) h = item_past vs i (omega arith)
-
-pub no_level : (n : ℕ) (ns : Items) (at : ℕ) → n ≡ 0 → part_at n ns at ≡ None
+pub no_level : (n : ℕ) (kinds : List (Option Kind)) (ns : Items) (at : ℕ) → n ≡ 0 → None ≡ part_at n kinds ns at
 unfolding part_at
-no_level zero ns at h = refl
-no_level (suc n) ns at h = absurd (omega arith)
+no_level zero kinds ns at h = refl
+no_level (suc n) kinds ns at h = absurd (omega arith)
 
-pub past_end : (n : ℕ) (vs : List Value) (at : ℕ) → length vs ≤ at → part_at n (items_view vs) at ≡ None
+pub no_item : (n : ℕ) (kinds : List (Option Kind)) (ns : Items) (at : ℕ) → get_item at ns ≡ None → None ≡ part_at n kinds ns at
 unfolding part_at
-past_end zero vs at h = refl
-past_end (suc n) vs at h = rw (item_past vs at h) refl
+no_item zero kinds ns at h = refl
+no_item (suc n) kinds ns at h = rw h refl
 
-pub one_level : (n m : ℕ) (vs : List Value) (at : ℕ) (v : Value) → n ≡ suc m → at < length vs → v ≡ get_or vs at v → part_at n (items_view vs) at ≡ node_at (part_at m (items_view vs)) at (view v)
+without_kind : (f : Data → Kind → Option AnyPart) (k : Option Kind) (o : Option Data) → k ≡ None → None ≡ option_and_then (λ d. option_and_then (f d) k) o
+without_kind f k None h = refl
+without_kind f k (Some d) h = rw h refl
+
+pub no_kind : (n : ℕ) (kinds : List (Option Kind)) (ns : Items) (at : ℕ) → kind_at kinds at ≡ None → None ≡ part_at n kinds ns at
 unfolding part_at
-one_level zero m vs at v e l h = absurd (omega (arith, e))
-one_level (suc n) m vs at v e l h = rw (item_here vs at v l h) (let same : n ≡ m = omega (arith, e) in rw same refl)
+no_kind zero kinds ns at h = refl
+no_kind (suc n) kinds ns at h = without_kind (λ d. of_kind (node_at (part_at n kinds ns) at d)) (kind_at kinds at) (get_item at ns) h
+
+pub one_level : (n m : ℕ) (kinds : List (Option Kind)) (ns : Items) (at : ℕ) (d : Data) (k : Kind)
+    → n ≡ suc m → get_item at ns ≡ Some d → kind_at kinds at ≡ Some k
+    → part_at n kinds ns at ≡ of_kind (node_at (part_at m kinds ns) at d) k
+unfolding part_at
+one_level zero m kinds ns at d k e i s = absurd (omega (arith, e))
+one_level (suc n) m kinds ns at d k e i s = rw i (rw s (let same : n ≡ m = omega (arith, e) in rw same refl))

@@ -1,26 +1,13 @@
--- What the fields of a node hold.
-use Rattle.std.specs.Prelude.{ℕ, ◌^◌, ◌+◌, ◌-◌, min, List, Bool, true, false, Option, Some, None, is_none, nat_lt, option_and_then, option_map, if◌then◌else◌}
+-- What the fields of a node say. One that does not hold what it may says nothing, as if it were absent.
+use Rattle.std.specs.Prelude.{ℕ, ◌^◌, ◌+◌, ◌-◌, min, List, Bool, false, Option, Some, None, option_and_then, unwrap_or}
 use Rattle.serde_json.specs.Data.{Data, Items, no_items, item}
-use Rattle.serde_json.specs.Find.{as_u64, as_number, as_bool, as_str, as_array, get}
+use Rattle.serde_json.specs.Find.{as_bool, as_str, as_array, get}
+use Rattle.json_faults.specs.Values.{small_of}
 use Rattle.hir_syntax.specs.declared.node.TextRange.{TextRange}
 
--- something, where the test holds
-abbrev pub provided : Bool → Option (Unit {0})
-provided true = Some tt
-provided false = None
-
--- a number of 32 bits
-abbrev pub small : Option ℕ → Option ℕ
-small None = None
-small (Some n) = if nat_lt n (2 ^ 32) then Some n else None
-
-abbrev pub small_of : Data → Option ℕ
-small_of d = small (option_and_then as_u64 (as_number d))
-
--- the number of a node, which is its index where it has none
-abbrev pub id_of : ℕ → Option Data → Option ℕ
-id_of at None = Some at
-id_of at (Some d) = small_of d
+-- a number of 32 bits, which is another where none is said
+abbrev pub number_or : ℕ → Option Data → ℕ
+number_or other d = unwrap_or (option_and_then small_of d) other
 
 abbrev pub range_from : Option ℕ → Option ℕ → Option TextRange
 range_from (Some start) (Some end) = Some (record { start = start; end = end })
@@ -30,29 +17,18 @@ abbrev pub range_in : Option Items → Option TextRange
 range_in (Some (item a (item b no_items))) = range_from (small_of a) (small_of b)
 range_in _ = None
 
--- the range of a node, which goes from its number to the next where it has none
-abbrev pub range_of : ℕ → Option Data → Option TextRange
-range_of id None = Some (record { start = id; end = min (id + 1) (2 ^ 32 - 1) })
-range_of id (Some d) = range_in (as_array d)
+-- the range that goes from a number to the next
+abbrev pub range_at : ℕ → TextRange
+range_at id = record { start = id; end = min (id + 1) (2 ^ 32 - 1) }
 
--- a flag, which is false where it is absent
-abbrev pub flag_of : Option Data → Option Bool
-flag_of None = Some false
-flag_of (Some d) = as_bool d
+-- the range of a node, which goes from its number to the next where none is said
+abbrev pub range_of : ℕ → Option Data → TextRange
+range_of id d = unwrap_or (range_in (option_and_then as_array d)) (range_at id)
+
+-- a flag, which is false where it is not said
+abbrev pub flag_of : Option Data → Bool
+flag_of d = unwrap_or (option_and_then as_bool d) false
 
 -- the text in a field
 abbrev pub text_in : List ℕ → Data → Option (List ℕ)
 text_in name d = option_and_then as_str (get name d)
-
--- a text, if it is there
-abbrev pub optional_text_of : Option Data → Option (Option (List ℕ))
-optional_text_of None = Some None
-optional_text_of (Some d) = option_map Some (as_str d)
-
--- the text in a field, if the field is there
-abbrev pub optional_text_in : List ℕ → Data → Option (Option (List ℕ))
-optional_text_in name d = optional_text_of (get name d)
-
--- something, where the field is absent
-abbrev pub lacks_in : List ℕ → Data → Option (Unit {0})
-lacks_in name d = provided (is_none (get name d))

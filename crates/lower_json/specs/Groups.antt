@@ -1,13 +1,9 @@
 -- Which parts serve where a part of one group is wanted.
 use Rattle.std.specs.Prelude.{Option, Some, None}
 use Rattle.hir_syntax.specs.declared.ast.Expr.{Expr}
-use Rattle.hir_syntax.specs.declared.ast.ExprKind.{out-ExprKind}
 use Rattle.hir_syntax.specs.declared.ast.ExprKind.TheVariants as expr
 use Rattle.hir_syntax.specs.declared.ast.ElseBranch.{ElseBranch}
 use Rattle.hir_syntax.specs.declared.ast.ElseBranch.TheVariants as branch
-use Rattle.hir_syntax.specs.declared.ast.ElseBranch.TheOpen.{ExprKind-F}
-use Rattle.hir_syntax.specs.declared.ast.ExprKind.{ExprKind}
-use Rattle.hir_syntax.specs.declared.ast.StmtKind.{StmtKind}
 use Rattle.hir_syntax.specs.declared.ast.BlockExpr.{BlockExpr, out-BlockExpr}
 use Rattle.hir_syntax.specs.declared.ast.Stmt.{Stmt}
 use Rattle.hir_syntax.specs.declared.ast.Path.{Path}
@@ -15,13 +11,13 @@ use Rattle.hir_syntax.specs.declared.ast.PathSegment.{PathSegment}
 use Rattle.hir_syntax.specs.declared.ast.Label.{Label}
 use Rattle.hir_syntax.specs.declared.ast.Lifetime.{Lifetime}
 use Rattle.hir_syntax.specs.declared.ast.Name.{Name}
-use Rattle.hir_syntax.specs.declared.ast.Fn.{Fn}
 use Rattle.lower_json.specs.declared.part.AnyPart.{AnyPart}
 use Rattle.lower_json.specs.declared.part.AnyPart.TheVariants as part
 
 -- a block serves as an expression
 abbrev pub as_expr : AnyPart → Option Expr
 as_expr (part.Expr x) = Some x
+as_expr (part.If x) = Some x
 as_expr (part.Block b) = Some (record { id = (out-BlockExpr b).id; range = (out-BlockExpr b).range; kind = expr.BlockExpr b })
 as_expr _ = None
 
@@ -29,14 +25,10 @@ abbrev pub as_block : AnyPart → Option BlockExpr
 as_block (part.Block b) = Some b
 as_block _ = None
 
-abbrev else_if : Expr → ExprKind-F ElseBranch ExprKind StmtKind BlockExpr Expr Stmt → Option ElseBranch
-else_if x (ExprKind-F.IfExpr c t e) = Some (branch.ElseIf x)
-else_if x _ = None
-
 -- what follows `else` is a block, or an `if`
 abbrev pub as_else : AnyPart → Option ElseBranch
 as_else (part.Block b) = Some (branch.ElseBlock b)
-as_else (part.Expr x) = else_if x (out-ExprKind x.kind)
+as_else (part.If x) = Some (branch.ElseIf x)
 as_else _ = None
 
 abbrev pub as_stmt : AnyPart → Option Stmt
@@ -62,7 +54,3 @@ as_lifetime _ = None
 abbrev pub as_name : AnyPart → Option Name
 as_name (part.Name n) = Some n
 as_name _ = None
-
-abbrev pub as_function : AnyPart → Option Fn
-as_function (part.Fn f) = Some f
-as_function _ = None

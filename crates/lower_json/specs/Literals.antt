@@ -1,35 +1,38 @@
 -- Literals.
-use Rattle.std.specs.Prelude.{ℕ, ◌+◌, ◌*◌, ◌-◌, ◌^◌, ◌==◌, List, [], ◌∷◌, Bool, true, not, ◌&&◌, ◌||◌, Option, Some, length, nat_lt, bytes_eq, codes}
-use Rattle.std.specs.Str.{all_ascii_digits}
+use Rattle.std.specs.Prelude.{ℕ, List, [], ◌∷◌, Option, Some, None, codes, option_and_then, option_map}
 use Rattle.serde_json.specs.Data.{Data}
 use Rattle.hir_syntax.specs.declared.ast.Literal.{Literal}
 use Rattle.hir_syntax.specs.declared.ast.LiteralKind.{LiteralKind}
 use Rattle.hir_syntax.specs.declared.ast.LiteralKind.TheVariants as literal
-use Rattle.lower_json.specs.Fields.{provided, text_in, optional_text_in}
-use Rattle.lower_json.specs.Kinds.{literal_kind_of}
-use Rattle.lower_json.specs.Told.{◌>>=◌}
+use Rattle.lower_json.specs.Fields.{text_in}
+use Rattle.lower_json.specs.Words.{named}
 
--- the number that digits write, after what is written in front of them
-abbrev pub written_after : ℕ → List ℕ → ℕ
-written_after n [] = n
-written_after n (b ∷ bs) = written_after (n * 10 + (b - 48)) bs
+-- the word of a kind of literals
+abbrev pub literal_word : LiteralKind → List ℕ
+literal_word literal.Str = codes "str"
+literal_word literal.ByteStr = codes "bytestr"
+literal_word literal.CStr = codes "cstr"
+literal_word literal.Char = codes "char"
+literal_word literal.Bool = codes "bool"
+literal_word literal.Int = codes "int"
+literal_word literal.Float = codes "float"
 
--- digits of a number of 128 bits
-abbrev pub is_integer : List ℕ → Bool
-is_integer t = not (length t == 0) && all_ascii_digits t && nat_lt (written_after 0 t) (2 ^ 128)
+-- all kinds of literals
+abbrev pub literal_kinds : List LiteralKind
+literal_kinds = literal.Str ∷ literal.ByteStr ∷ literal.CStr ∷ literal.Char ∷ literal.Bool ∷ literal.Int ∷ literal.Float ∷ []
 
--- the text fits the kind
-abbrev pub fits : LiteralKind → List ℕ → Bool
-fits literal.Bool t = bytes_eq t (codes "true") || bytes_eq t (codes "false")
-fits literal.Int t = is_integer t
-fits _ t = true
+-- the kind of literals whose word it is
+abbrev pub literal_kind_of : List ℕ → Option LiteralKind
+literal_kind_of word = named literal_word literal_kinds word
 
--- the literal that a node writes
+-- the kind of the literal that a node writes
+abbrev pub kind_in : Data → Option LiteralKind
+kind_in d = option_and_then literal_kind_of (text_in (codes "lit") d)
+
+abbrev with_text : Data → LiteralKind → Option (List ℕ) → Option Literal
+with_text d kind None = None
+with_text d kind (Some t) = Some (record { lit = kind; t = t; suffix = text_in (codes "suffix") d })
+
+-- the literal that a node writes, where it says its kind and its text
 abbrev pub literal_of : Data → Option Literal
-literal_of d = do
-  word ← text_in (codes "lit") d
-  lit ← literal_kind_of word
-  t ← text_in (codes "t") d
-  suffix ← optional_text_in (codes "suffix") d
-  _ ← provided (fits lit t)
-  Some (record { lit = lit; t = t; suffix = suffix })
+literal_of d = option_and_then (λ kind. with_text d kind (text_in (codes "t") d)) (kind_in d)

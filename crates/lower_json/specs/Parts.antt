@@ -1,14 +1,13 @@
--- What stands in the fields for parts.
-use Rattle.std.specs.Prelude.{ℕ, List, [], ◌∷◌, Option, Some, None}
+-- What stands in the fields for parts. A value that leads to no such part says nothing, and a list passes over it.
+use Rattle.std.specs.Prelude.{ℕ, List, [], ◌∷◌, Option, Some, None, option_and_then, option_map}
 use Rattle.serde_json.specs.Data.{Data, null, boolean, number, string, array, object, Items, no_items, item}
 use Rattle.serde_json.specs.Find.{as_array, as_str, get}
+use Rattle.json_faults.specs.Values.{small_of}
 use Rattle.hir_syntax.specs.declared.ast.Lifetime.{Lifetime}
 use Rattle.hir_syntax.specs.declared.ast.Name.{Name}
 use Rattle.hir_syntax.specs.declared.node.NodeId.{NodeId}
 use Rattle.hir_syntax.specs.declared.node.TextRange.{TextRange}
-use Rattle.lower_json.specs.Fields.{small_of}
 use Rattle.lower_json.specs.Groups.{as_lifetime, as_name}
-use Rattle.lower_json.specs.Told.{◌>>=◌}
 use Rattle.lower_json.specs.declared.part.AnyPart.{AnyPart}
 
 -- a node, with what stands at each node
@@ -18,64 +17,53 @@ pub record Here : Type 0 where
   pub id : NodeId
   pub range : TextRange
 
--- what may be absent
-abbrev pub optional : {T : Type 0} → (Data → Option T) → Option Data → Option (Option T)
-optional f None = Some None
-optional f (Some d) = do
-  x ← f d
-  Some (Some x)
-
 -- what may be null
 abbrev pub or_null : {T : Type 0} → (Data → Option T) → Data → Option (Option T)
 or_null f null = Some None
-or_null f (boolean b) = optional f (Some (boolean b))
-or_null f (number n) = optional f (Some (number n))
-or_null f (string s) = optional f (Some (string s))
-or_null f (array ds) = optional f (Some (array ds))
-or_null f (object ms) = optional f (Some (object ms))
+or_null f (boolean b) = option_map Some (f (boolean b))
+or_null f (number n) = option_map Some (f (number n))
+or_null f (string s) = option_map Some (f (string s))
+or_null f (array ds) = option_map Some (f (array ds))
+or_null f (object ms) = option_map Some (f (object ms))
 
 -- what a text makes, or else the other
 abbrev pub text_or : {T : Type 0} → (List ℕ → T) → Option T → Option (List ℕ) → Option T
 text_or made other None = other
 text_or made other (Some t) = Some (made t)
 
-abbrev pub each : {T : Type 0} → (Data → Option T) → Items → Option (List T)
-each f no_items = Some []
-each f (item d ds) = do
-  x ← f d
-  xs ← each f ds
-  Some (x ∷ xs)
+abbrev pub with_some : {T : Type 0} → Option T → List T → List T
+with_some None xs = xs
+with_some (Some x) xs = x ∷ xs
 
--- the items of an array
-abbrev pub items_as : {T : Type 0} → (Data → Option T) → Data → Option (List T)
-items_as f d = do
-  ds ← as_array d
-  each f ds
+-- what there is of the items
+abbrev pub kept : {T : Type 0} → (Data → Option T) → Items → List T
+kept f no_items = []
+kept f (item d ds) = with_some (f d) (kept f ds)
 
 -- a list, which is empty where it is absent
-abbrev pub list : {T : Type 0} → (Data → Option T) → Option Data → Option (List T)
-list f None = Some []
-list f (Some d) = items_as f d
+abbrev pub listed : {T : Type 0} → (Data → Option T) → Option Items → List T
+listed f None = []
+listed f (Some ds) = kept f ds
 
 module _ (h : Here) where
   -- the part at a node, by its index
   abbrev pub child : {T : Type 0} → (AnyPart → Option T) → Data → Option T
-  child as_group d = do
-    k ← small_of d
-    x ← h.part k
-    as_group x
+  child as_group d = option_and_then as_group (option_and_then h.part (small_of d))
 
-  abbrev pub part_in : {T : Type 0} → (AnyPart → Option T) → List ℕ → Option (Option T)
-  part_in as_group name = optional (child as_group) (get name h.value)
+  abbrev pub items_in : List ℕ → Option Items
+  items_in name = option_and_then as_array (get name h.value)
 
-  abbrev pub list_in : {T : Type 0} → (AnyPart → Option T) → List ℕ → Option (List T)
-  list_in as_group name = list (child as_group) (get name h.value)
+  abbrev pub part_in : {T : Type 0} → (AnyPart → Option T) → List ℕ → Option T
+  part_in as_group name = option_and_then (child as_group) (get name h.value)
 
-  abbrev pub list_if_there : {T : Type 0} → (AnyPart → Option T) → List ℕ → Option (Option (List T))
-  list_if_there as_group name = optional (items_as (child as_group)) (get name h.value)
+  abbrev pub list_in : {T : Type 0} → (AnyPart → Option T) → List ℕ → List T
+  list_in as_group name = listed (child as_group) (items_in name)
 
-  abbrev pub list_with_nulls_in : {T : Type 0} → (AnyPart → Option T) → List ℕ → Option (List (Option T))
-  list_with_nulls_in as_group name = list (or_null (child as_group)) (get name h.value)
+  abbrev pub list_if_there : {T : Type 0} → (AnyPart → Option T) → List ℕ → Option (List T)
+  list_if_there as_group name = option_map (kept (child as_group)) (items_in name)
+
+  abbrev pub list_with_nulls_in : {T : Type 0} → (AnyPart → Option T) → List ℕ → List (Option T)
+  list_with_nulls_in as_group name = listed (or_null (child as_group)) (items_in name)
 
   -- a text in place of a node has the number and the range of the node that holds it
   abbrev pub lifetime : Data → Option Lifetime
@@ -84,8 +72,8 @@ module _ (h : Here) where
   abbrev pub name : Data → Option Name
   name d = text_or (λ t. record { id = h.id; range = h.range; t = t }) (child as_name d) (as_str d)
 
-  abbrev pub lifetime_in : List ℕ → Option (Option Lifetime)
-  lifetime_in field = optional lifetime (get field h.value)
+  abbrev pub lifetime_in : List ℕ → Option Lifetime
+  lifetime_in field = option_and_then lifetime (get field h.value)
 
-  abbrev pub name_in : List ℕ → Option (Option Name)
-  name_in field = optional name (get field h.value)
+  abbrev pub name_in : List ℕ → Option Name
+  name_in field = option_and_then name (get field h.value)

@@ -1,15 +1,24 @@
 -- A function value that reads the parts of a list.
-use Rattle.std.specs.Prelude.{◌≡◌, ℕ, List, Result}
+use Rattle.std.specs.Prelude.{◌≡◌, ℕ, List, Option, Result, IfOk}
+use Rattle.std.specs.declared.alloc.AllocError.{AllocError}
 use Rattle.std.specs.declared.alloc.Global.{Global}
 use denote.Ref.{Bor}
 use Rattle.serde_json.specs.View.{items_view}
 use Rattle.serde_json.specs.declared.value.Value.{Value}
-use Rattle.lower_json.specs.Told.{Told}
+use Rattle.json_kinds.specs.declared.kind.Kind.{Kind}
 use Rattle.lower_json.specs.Reading.{part_at}
 use Rattle.lower_json.specs.declared.part.AnyPart.{AnyPart}
-use Rattle.lower_json.specs.declared.refusal.Refusal.{Refusal}
+
+-- of such a function, with the kinds of the nodes, the nodes, levels and an index
+abbrev Pre : Type 1
+Pre = Global → Bor (List (Option Kind)) → Bor (List Value) → ℕ → ℕ → Type 0
+
+abbrev Post : Type 1
+Post = Global → Bor (List (Option Kind)) → Bor (List Value) → ℕ → ℕ → Result (Option AnyPart) AllocError → Type 0
 
 -- it may be called on the list for so many levels, and then answers what stands at a node
-pub record Reads (pre : Global → Bor (List Value) → ℕ → ℕ → Type 0) (post : Global → Bor (List Value) → ℕ → ℕ → Result AnyPart Refusal → Type 0) (nodes : List Value) (levels : ℕ) : Type 0 where
-  pub callable : (alloc : Global) (v : Bor (List Value)) (at : ℕ) → v.now ≡ nodes → pre alloc v levels at
-  pub told : (alloc : Global) (v : Bor (List Value)) (at : ℕ) (r : Result AnyPart Refusal) → v.now ≡ nodes → post alloc v levels at r → Told (part_at levels (items_view nodes) at) r
+pub record Reads (pre : Pre) (post : Post) (kinds : List (Option Kind)) (nodes : List Value) (levels : ℕ) : Type 0 where
+  pub callable : (alloc : Global) (ks : Bor (List (Option Kind))) (vs : Bor (List Value)) (at : ℕ)
+      → ks.now ≡ kinds → vs.now ≡ nodes → pre alloc ks vs levels at
+  pub told : (alloc : Global) (ks : Bor (List (Option Kind))) (vs : Bor (List Value)) (at : ℕ) (r : Result (Option AnyPart) AllocError)
+      → ks.now ≡ kinds → vs.now ≡ nodes → post alloc ks vs levels at r → IfOk r (λ p. p ≡ part_at levels kinds (items_view nodes) at)

@@ -1,7 +1,7 @@
--- The tables of a document.
-use Rattle.std.specs.Prelude.{ℕ, codes, List, [], false, Option, Some, None, option_map, option_and_then}
+-- The tables of a document. What is no entry of a table says nothing.
+use Rattle.std.specs.Prelude.{ℕ, codes, List, [], Option, Some, None, option_map, option_and_then}
 use Rattle.serde_json.specs.Data.{Data, Items, no_items, item}
-use Rattle.serde_json.specs.Find.{get, as_array, as_object}
+use Rattle.serde_json.specs.Find.{get, as_array}
 use Rattle.hir_env.specs.NodeMap.{Site, with_first}
 use Rattle.hir_env.specs.Tables.{Tables, empty}
 use Rattle.hir_store.specs.declared.ids.CfgId.{CfgId}
@@ -9,8 +9,7 @@ use Rattle.hir_store.specs.declared.ids.HygieneId.{HygieneId}
 use Rattle.hir_store.specs.declared.ids.BlockId.{BlockId}
 use Rattle.hir_store.specs.declared.ids.ModuleId.{ModuleId}
 use Rattle.hir_store.specs.declared.ids.ItemContainerId.{ItemContainerId}
-use Rattle.lower_json.specs.Fields.{small_of}
-use Rattle.lower_json.specs.Told.{◌>>=◌}
+use Rattle.json_faults.specs.Values.{small_of}
 
 -- the node of a number in a file
 abbrev pub site_of : Option ℕ → Option ℕ → Option Site
@@ -45,25 +44,32 @@ named_of ds = option_map (λ e. (e.0, record { 0 = e.1 })) (triple_of ds)
 abbrev pub numbered_of : Option Items → Option (Site × (BlockId × ModuleId))
 numbered_of ds = option_map (λ e. (e.0, (record { 0 = e.1.0 }, record { 0 = e.1.1 }))) (quadruple_of ds)
 
--- a table with the entries of a list behind its own, where each is one; of two for one node the first counts
-abbrev pub with_all : {T : Type 0} → (Option Items → Option (Site × T)) → Items → List (Site × T) → Option (List (Site × T))
-with_all entry no_items es = Some es
-with_all entry (item d ds) es = option_and_then (λ e. with_all entry ds (with_first es e.0 e.1)) (entry (as_array d))
+abbrev pub with_entry : {T : Type 0} → Option (Site × T) → List (Site × T) → List (Site × T)
+with_entry None es = es
+with_entry (Some e) es = with_first es e.0 e.1
+
+-- a table with the entries of a list behind its own; of two for one node the first counts
+abbrev pub with_all : {T : Type 0} → (Option Items → Option (Site × T)) → Items → List (Site × T) → List (Site × T)
+with_all entry no_items es = es
+with_all entry (item d ds) es = with_all entry ds (with_entry (entry (as_array d)) es)
+
+abbrev items_or_none : Option Items → Items
+items_or_none (Some ds) = ds
+items_or_none None = no_items
 
 -- the rows of a table, none where it is absent
-abbrev pub rows : Option Data → Option Items
-rows None = Some no_items
-rows (Some d) = as_array d
+abbrev pub rows : List ℕ → Data → Items
+rows name env = items_or_none (option_and_then as_array (get name env))
 
-abbrev pub table : {T : Type 0} → (Option Items → Option (Site × T)) → Option Data → Option (List (Site × T))
-table entry d = option_and_then (λ ds. with_all entry ds []) (rows d)
+-- the tables with what an environment writes
+abbrev pub with_tables : Data → Tables → Tables
+with_tables env ts = record ts {
+  disabled = with_all disabled_of (rows (codes "disabled") env) ts.disabled;
+  hygiene = with_all named_of (rows (codes "hygiene") env) ts.hygiene;
+  blocks = with_all numbered_of (rows (codes "blocks") env) ts.blocks;
+}
 
--- the tables that an environment writes, of a body that is not skipped and stands in the container; empty ones where there is none
-abbrev pub tables_of : ItemContainerId → Option Data → Option Tables
-tables_of container None = Some (empty container)
-tables_of container (Some env) = do
-  _ ← as_object env
-  disabled ← table disabled_of (get (codes "disabled") env)
-  hygiene ← table named_of (get (codes "hygiene") env)
-  blocks ← table numbered_of (get (codes "blocks") env)
-  Some (record { disabled = disabled; hygiene = hygiene; blocks = blocks; skip = false; container = container })
+-- of a body that is not skipped and stands in the container; empty ones where there is no environment
+abbrev pub tables_of : ItemContainerId → Option Data → Tables
+tables_of container None = empty container
+tables_of container (Some env) = with_tables env (empty container)

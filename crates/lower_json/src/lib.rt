@@ -2,19 +2,14 @@
 #![tactic(auto)]
 
 pub mod document;
-mod expr;
+mod exprs;
 pub mod fault;
 mod field;
-mod floats;
-mod kind;
+mod heading;
 mod literal;
 mod node;
-mod other;
+mod others;
 mod part;
 pub mod read;
-mod refusal;
 mod tables;
-#[cfg(test)]
-mod tests;
 mod tree;
-mod uses;

@@ -1,21 +1,20 @@
 //! A node and its fields.
 
-ghost use Rattle.std.specs.Prelude.{ℕ, Option};
+ghost use Rattle.std.specs.Prelude.{◌≡◌, ℕ, IfOk, Option, option_and_then, option_map};
 ghost use Rattle.serde_json.specs.View.{view, items_view};
-ghost use Rattle.lower_json.specs.Told.{Told};
+ghost use Rattle.json_faults.specs.Values.{small_of};
 ghost use Rattle.lower_json.specs.Parts as spec;
-ghost use Rattle.lower_json.specs.Parts.{each, items_as, or_null};
+ghost use Rattle.lower_json.specs.Parts.{kept, or_null};
 ghost use Rattle.lower_json.specs.Nodes.{here};
 ghost use Rattle.lower_json.specs.declared.part.AnyPart.{AnyPart};
 
-use crate::field::small;
 use crate::part::{AnyPart, Part};
-use crate::refusal::Refusal;
 use hir_syntax::ast::{Lifetime, Name};
 use hir_syntax::node::{NodeId, TextRange};
 use hir_syntax::{Boxed, Seq, Text};
+use json_faults::value::small;
 use serde_json::Value;
-use std::alloc::Global;
+use std::alloc::{AllocError, Global};
 
 /// What reads the parts of a node.
 pub trait ReadParts {
@@ -24,13 +23,16 @@ pub trait ReadParts {
     /// What stands at each node.
     ghost parts: { Self → ℕ → Option AnyPart };
 
-    /// The part that stands at a node.
-    fn part_at(&self, alloc: Global, at: u32) -> Result<AnyPart, Refusal>
+    /// The part that stands at a node, if one does.
+    fn part_at(&self, alloc: Global, at: u32) -> Result<Option<AnyPart>, AllocError>
         requires { can self.now }
-        ensures { Told (parts self.now at) result };
+        ensures { IfOk result (λ part. part ≡ parts self.now at) };
 }
 
 /// A node of a list, with its number and range, and what reads its parts.
+///
+/// A value that leads to no part of the group that is wanted says nothing, as if it were absent; memory alone may be
+/// refused.
 #[derive_where(Clone, Copy)]
 pub struct Node<'a, P> {
     pub alloc: Global,
@@ -41,173 +43,173 @@ pub struct Node<'a, P> {
 }
 
 impl<P: ReadParts> Node<'_, P> {
-    /// The part that stands at the index in a value.
-    fn child<T: Part>(&self, value: &Value) -> Result<T, Refusal>
+    fn part_in(&self, value: &Value) -> Result<Option<AnyPart>, AllocError>
         requires { P.can self.now.parts.now }
-        ensures { Told (spec.child (here P.parts self.now) T.as_group (view value.now)) result }
+        ensures { IfOk result (λ part. part ≡ option_and_then (P.parts self.now.parts.now) (small_of (view value.now))) }
     {
-        let Some(place) = small(value) else {
-            return Err(Refusal::NotADocument);
-        };
-        let part = self.parts.part_at(self.alloc, place)?;
-        match T::from_part(self.alloc, part)? {
-            Some(part) => Ok(part),
-            None => Err(Refusal::NotADocument),
+        match small(value) {
+            Some(at) => self.parts.part_at(self.alloc, at),
+            None => Ok(None),
         }
     }
 
-    /// The part in a field, which may be absent.
-    pub fn part<T: Part>(&self, field: &str) -> Result<Option<T>, Refusal>
+    /// The part that stands at the index in a value.
+    fn child<T: Part>(&self, value: &Value) -> Result<Option<T>, AllocError>
         requires { P.can self.now.parts.now }
-        ensures { Told (spec.part_in (here P.parts self.now) T.as_group field.now) result }
+        ensures { IfOk result (λ part. part ≡ spec.child (here P.parts self.now) T.as_group (view value.now)) }
+    {
+        match self.part_in(value)? {
+            Some(part) => T::from_part(self.alloc, part),
+            None => Ok(None),
+        }
+    }
+
+    /// The part in a field.
+    pub fn part<T: Part>(&self, field: &str) -> Result<Option<T>, AllocError>
+        requires { P.can self.now.parts.now }
+        ensures { IfOk result (λ part. part ≡ spec.part_in (here P.parts self.now) T.as_group field.now) }
     {
         match self.value.get(field) {
+            Some(value) => self.child(value),
             None => Ok(None),
-            Some(value) => Ok(Some(self.child(value)?)),
         }
     }
 
     /// The same in a box.
-    pub fn boxed<T: Part>(&self, field: &str) -> Result<Option<Boxed<T>>, Refusal>
+    pub fn boxed<T: Part>(&self, field: &str) -> Result<Option<Boxed<T>>, AllocError>
         requires { P.can self.now.parts.now }
-        ensures { Told (spec.part_in (here P.parts self.now) T.as_group field.now) result }
+        ensures { IfOk result (λ part. part ≡ spec.part_in (here P.parts self.now) T.as_group field.now) }
     {
         match self.part::<T>(field)? {
-            None => Ok(None),
             Some(part) => Ok(Some(Boxed::new(self.alloc, part)?)),
+            None => Ok(None),
         }
     }
 
+    /// The values in a field, if it is a list.
+    fn items(&self, field: &str) -> Option<&[Value]>
+        ensures { option_map (λ items. items_view items.now) result ≡ spec.items_in (here P.parts self.entry.now) field.now }
+    {
+        Some(self.value.get(field)?.as_array()?.as_slice())
+    }
+
     /// The parts at the indices in values.
-    fn children<T: Part>(&self, items: &[Value]) -> Result<Seq<T>, Refusal>
+    fn children<T: Part>(&self, items: &[Value]) -> Result<Seq<T>, AllocError>
         requires { P.can self.now.parts.now }
-        ensures { Told (each (spec.child (here P.parts self.now) T.as_group) (items_view items.now)) result }
+        ensures { IfOk result (λ parts. parts ≡ kept (spec.child (here P.parts self.now) T.as_group) (items_view items.now)) }
     {
         let mut parts = Seq::new(self.alloc);
-        let mut rest = items;
-        while let Some((value, more)) = rest.split_first() {
-            parts.push(self.child::<T>(value)?)?;
-            rest = more;
+        for value in items {
+            if let Some(part) = self.child::<T>(value)? {
+                parts.push(part)?;
+            }
         }
         Ok(parts)
     }
 
-    fn array<T: Part>(&self, value: &Value) -> Result<Seq<T>, Refusal>
-        requires { P.can self.now.parts.now }
-        ensures { Told (items_as (spec.child (here P.parts self.now) T.as_group) (view value.now)) result }
-    {
-        match value.as_array() {
-            None => Err(Refusal::NotADocument),
-            Some(items) => self.children(items.as_slice()),
-        }
-    }
-
     /// The parts in a field, none where it is absent.
-    pub fn list<T: Part>(&self, field: &str) -> Result<Seq<T>, Refusal>
+    pub fn list<T: Part>(&self, field: &str) -> Result<Seq<T>, AllocError>
         requires { P.can self.now.parts.now }
-        ensures { Told (spec.list_in (here P.parts self.now) T.as_group field.now) result }
+        ensures { IfOk result (λ parts. parts ≡ spec.list_in (here P.parts self.now) T.as_group field.now) }
     {
-        match self.value.get(field) {
+        match self.items(field) {
+            Some(items) => self.children(items),
             None => Ok(Seq::new(self.alloc)),
-            Some(value) => self.array(value),
         }
     }
 
     /// The parts in a field, which may be absent.
-    pub fn list_if_there<T: Part>(&self, field: &str) -> Result<Option<Seq<T>>, Refusal>
+    pub fn list_if_there<T: Part>(&self, field: &str) -> Result<Option<Seq<T>>, AllocError>
         requires { P.can self.now.parts.now }
-        ensures { Told (spec.list_if_there (here P.parts self.now) T.as_group field.now) result }
+        ensures { IfOk result (λ parts. parts ≡ spec.list_if_there (here P.parts self.now) T.as_group field.now) }
     {
-        match self.value.get(field) {
+        match self.items(field) {
+            Some(items) => Ok(Some(self.children(items)?)),
             None => Ok(None),
-            Some(value) => Ok(Some(self.array(value)?)),
         }
     }
 
-    fn child_or_null<T: Part>(&self, value: &Value) -> Result<Option<T>, Refusal>
+    fn child_or_null<T: Part>(&self, value: &Value) -> Result<Option<Option<T>>, AllocError>
         requires { P.can self.now.parts.now }
-        ensures { Told (or_null (spec.child (here P.parts self.now) T.as_group) (view value.now)) result }
+        ensures { IfOk result (λ part. part ≡ or_null (spec.child (here P.parts self.now) T.as_group) (view value.now)) }
     {
         match value {
-            Value::Null => Ok(None),
-            _ => Ok(Some(self.child(value)?)),
+            Value::Null => Ok(Some(None)),
+            _ => Ok(self.child::<T>(value)?.map(Some)),
         }
     }
 
-    fn children_or_nulls<T: Part>(&self, items: &[Value]) -> Result<Seq<Option<T>>, Refusal>
+    fn children_or_nulls<T: Part>(&self, items: &[Value]) -> Result<Seq<Option<T>>, AllocError>
         requires { P.can self.now.parts.now }
-        ensures { Told (each (or_null (spec.child (here P.parts self.now) T.as_group)) (items_view items.now)) result }
+        ensures { IfOk result (λ parts. parts ≡ kept (or_null (spec.child (here P.parts self.now) T.as_group)) (items_view items.now)) }
     {
         let mut parts = Seq::new(self.alloc);
-        let mut rest = items;
-        while let Some((value, more)) = rest.split_first() {
-            parts.push(self.child_or_null::<T>(value)?)?;
-            rest = more;
+        for value in items {
+            if let Some(part) = self.child_or_null::<T>(value)? {
+                parts.push(part)?;
+            }
         }
         Ok(parts)
     }
 
     /// The parts in a field, each of which may be null; none where the field is absent.
-    pub fn list_with_nulls<T: Part>(&self, field: &str) -> Result<Seq<Option<T>>, Refusal>
+    pub fn list_with_nulls<T: Part>(&self, field: &str) -> Result<Seq<Option<T>>, AllocError>
         requires { P.can self.now.parts.now }
-        ensures { Told (spec.list_with_nulls_in (here P.parts self.now) T.as_group field.now) result }
+        ensures { IfOk result (λ parts. parts ≡ spec.list_with_nulls_in (here P.parts self.now) T.as_group field.now) }
     {
-        let Some(value) = self.value.get(field) else {
-            return Ok(Seq::new(self.alloc));
-        };
-        match value.as_array() {
-            None => Err(Refusal::NotADocument),
-            Some(items) => self.children_or_nulls(items.as_slice()),
+        match self.items(field) {
+            Some(items) => self.children_or_nulls(items),
+            None => Ok(Seq::new(self.alloc)),
         }
     }
 
-    fn lifetime_of(&self, value: &Value) -> Result<Lifetime, Refusal>
+    fn lifetime_of(&self, value: &Value) -> Result<Option<Lifetime>, AllocError>
         requires { P.can self.now.parts.now }
-        ensures { Told (spec.lifetime (here P.parts self.now) (view value.now)) result }
+        ensures { IfOk result (λ lifetime. lifetime ≡ spec.lifetime (here P.parts self.now) (view value.now)) }
     {
         match value.as_str() {
             None => self.child(value),
-            Some(text) => Ok(Lifetime {
+            Some(text) => Ok(Some(Lifetime {
                 id: self.id,
                 range: self.range,
                 t: Text::new(self.alloc, text)?,
-            }),
+            })),
         }
     }
 
-    fn name_of(&self, value: &Value) -> Result<Name, Refusal>
+    fn name_of(&self, value: &Value) -> Result<Option<Name>, AllocError>
         requires { P.can self.now.parts.now }
-        ensures { Told (spec.name (here P.parts self.now) (view value.now)) result }
+        ensures { IfOk result (λ name. name ≡ spec.name (here P.parts self.now) (view value.now)) }
     {
         match value.as_str() {
             None => self.child(value),
-            Some(text) => Ok(Name {
+            Some(text) => Ok(Some(Name {
                 id: self.id,
                 range: self.range,
                 t: Text::new(self.alloc, text)?,
-            }),
+            })),
         }
     }
 
-    /// The lifetime in a field, which may be absent. A text there is a lifetime with the number and range of this node.
-    pub fn lifetime(&self, field: &str) -> Result<Option<Lifetime>, Refusal>
+    /// The lifetime in a field. A text there is a lifetime with the number and range of this node.
+    pub fn lifetime(&self, field: &str) -> Result<Option<Lifetime>, AllocError>
         requires { P.can self.now.parts.now }
-        ensures { Told (spec.lifetime_in (here P.parts self.now) field.now) result }
+        ensures { IfOk result (λ lifetime. lifetime ≡ spec.lifetime_in (here P.parts self.now) field.now) }
     {
         match self.value.get(field) {
+            Some(value) => self.lifetime_of(value),
             None => Ok(None),
-            Some(value) => Ok(Some(self.lifetime_of(value)?)),
         }
     }
 
     /// The name in a field, likewise.
-    pub fn name(&self, field: &str) -> Result<Option<Name>, Refusal>
+    pub fn name(&self, field: &str) -> Result<Option<Name>, AllocError>
         requires { P.can self.now.parts.now }
-        ensures { Told (spec.name_in (here P.parts self.now) field.now) result }
+        ensures { IfOk result (λ name. name ≡ spec.name_in (here P.parts self.now) field.now) }
     {
         match self.value.get(field) {
+            Some(value) => self.name_of(value),
             None => Ok(None),
-            Some(value) => Ok(Some(self.name_of(value)?)),
         }
     }
 }

@@ -1,18 +1,19 @@
 //! The parts of trees, by their group.
 
 ghost use Rattle.std.specs.Prelude.{◌≡◌, IfOk, Option};
-ghost use Rattle.lower_json.specs.Groups.{as_expr, as_block, as_else, as_stmt, as_path, as_segment, as_label, as_lifetime, as_name, as_function};
+ghost use Rattle.lower_json.specs.Groups.{as_expr, as_block, as_else, as_stmt, as_path, as_segment, as_label, as_lifetime, as_name};
 
 use hir_syntax::Boxed;
 use hir_syntax::ast::{
-    BlockExpr, ElseBranch, Expr, ExprKind, Fn, Label, Lifetime, Name, Path, PathSegment, Stmt,
+    BlockExpr, ElseBranch, Expr, ExprKind, Label, Lifetime, Name, Path, PathSegment, Stmt,
 };
 use std::alloc::{AllocError, Global};
 
 /// A part of a tree.
-#[derive(Drop)]
 pub enum AnyPart {
     Expr(Expr),
+    /// An expression that may follow `else`.
+    If(Expr),
     Block(BlockExpr),
     Stmt(Stmt),
     Path(Path),
@@ -20,7 +21,140 @@ pub enum AnyPart {
     Label(Label),
     Lifetime(Lifetime),
     Name(Name),
-    Fn(Fn),
+}
+
+impl Drop for AnyPart {
+    fn drop(self) {
+        match self {
+            AnyPart::Expr(_) => {}
+            AnyPart::If(_) => {}
+            AnyPart::Block(_) => {}
+            AnyPart::Stmt(_) => {}
+            AnyPart::Path(_) => {}
+            AnyPart::Segment(_) => {}
+            AnyPart::Label(_) => {}
+            AnyPart::Lifetime(_) => {}
+            AnyPart::Name(_) => {}
+        }
+    }
+}
+
+/// The part as one of a group, none where it is of another.
+impl AnyPart {
+    fn into_expr(self, alloc: Global) -> Result<Option<Expr>, AllocError>
+        ensures { IfOk result (λ found. found ≡ as_expr self) }
+    {
+        match self {
+            AnyPart::Expr(expr) => Ok(Some(expr)),
+            AnyPart::If(expr) => Ok(Some(expr)),
+            AnyPart::Block(block) => Ok(Some(Expr {
+                id: block.id,
+                range: block.range,
+                kind: ExprKind::BlockExpr(Boxed::new(alloc, block)?),
+            })),
+            other => {
+                drop(other);
+                Ok(None)
+            }
+        }
+    }
+
+    fn into_else(self, alloc: Global) -> Result<Option<ElseBranch>, AllocError>
+        ensures { IfOk result (λ found. found ≡ as_else self) }
+    {
+        match self {
+            AnyPart::Block(block) => Ok(Some(ElseBranch::ElseBlock(Boxed::new(alloc, block)?))),
+            AnyPart::If(expr) => Ok(Some(ElseBranch::ElseIf(Boxed::new(alloc, expr)?))),
+            other => {
+                drop(other);
+                Ok(None)
+            }
+        }
+    }
+
+    fn into_block(self) -> Option<BlockExpr>
+        ensures { result ≡ as_block self }
+    {
+        match self {
+            AnyPart::Block(block) => Some(block),
+            other => {
+                drop(other);
+                None
+            }
+        }
+    }
+
+    fn into_stmt(self) -> Option<Stmt>
+        ensures { result ≡ as_stmt self }
+    {
+        match self {
+            AnyPart::Stmt(stmt) => Some(stmt),
+            other => {
+                drop(other);
+                None
+            }
+        }
+    }
+
+    fn into_path(self) -> Option<Path>
+        ensures { result ≡ as_path self }
+    {
+        match self {
+            AnyPart::Path(path) => Some(path),
+            other => {
+                drop(other);
+                None
+            }
+        }
+    }
+
+    fn into_segment(self) -> Option<PathSegment>
+        ensures { result ≡ as_segment self }
+    {
+        match self {
+            AnyPart::Segment(segment) => Some(segment),
+            other => {
+                drop(other);
+                None
+            }
+        }
+    }
+
+    fn into_label(self) -> Option<Label>
+        ensures { result ≡ as_label self }
+    {
+        match self {
+            AnyPart::Label(label) => Some(label),
+            other => {
+                drop(other);
+                None
+            }
+        }
+    }
+
+    fn into_lifetime(self) -> Option<Lifetime>
+        ensures { result ≡ as_lifetime self }
+    {
+        match self {
+            AnyPart::Lifetime(lifetime) => Some(lifetime),
+            other => {
+                drop(other);
+                None
+            }
+        }
+    }
+
+    fn into_name(self) -> Option<Name>
+        ensures { result ≡ as_name self }
+    {
+        match self {
+            AnyPart::Name(name) => Some(name),
+            other => {
+                drop(other);
+                None
+            }
+        }
+    }
 }
 
 /// What a field for one group of parts may hold.
@@ -39,15 +173,7 @@ impl Part for Expr {
     ghost as_group = { as_expr };
 
     fn from_part(alloc: Global, part: AnyPart) -> Result<Option<Expr>, AllocError> {
-        match part {
-            AnyPart::Expr(expr) => Ok(Some(expr)),
-            AnyPart::Block(block) => Ok(Some(Expr {
-                id: block.id,
-                range: block.range,
-                kind: ExprKind::BlockExpr(Boxed::new(alloc, block)?),
-            })),
-            _ => Ok(None),
-        }
+        part.into_expr(alloc)
     }
 }
 
@@ -55,10 +181,7 @@ impl Part for BlockExpr {
     ghost as_group = { as_block };
 
     fn from_part(_alloc: Global, part: AnyPart) -> Result<Option<BlockExpr>, AllocError> {
-        match part {
-            AnyPart::Block(block) => Ok(Some(block)),
-            _ => Ok(None),
-        }
+        Ok(part.into_block())
     }
 }
 
@@ -66,14 +189,7 @@ impl Part for ElseBranch {
     ghost as_group = { as_else };
 
     fn from_part(alloc: Global, part: AnyPart) -> Result<Option<ElseBranch>, AllocError> {
-        match part {
-            AnyPart::Block(block) => Ok(Some(ElseBranch::ElseBlock(Boxed::new(alloc, block)?))),
-            AnyPart::Expr(expr) => match expr.kind {
-                ExprKind::IfExpr { .. } => Ok(Some(ElseBranch::ElseIf(Boxed::new(alloc, expr)?))),
-                _ => Ok(None),
-            },
-            _ => Ok(None),
-        }
+        part.into_else(alloc)
     }
 }
 
@@ -81,10 +197,7 @@ impl Part for Stmt {
     ghost as_group = { as_stmt };
 
     fn from_part(_alloc: Global, part: AnyPart) -> Result<Option<Stmt>, AllocError> {
-        match part {
-            AnyPart::Stmt(stmt) => Ok(Some(stmt)),
-            _ => Ok(None),
-        }
+        Ok(part.into_stmt())
     }
 }
 
@@ -92,10 +205,7 @@ impl Part for Path {
     ghost as_group = { as_path };
 
     fn from_part(_alloc: Global, part: AnyPart) -> Result<Option<Path>, AllocError> {
-        match part {
-            AnyPart::Path(path) => Ok(Some(path)),
-            _ => Ok(None),
-        }
+        Ok(part.into_path())
     }
 }
 
@@ -103,10 +213,7 @@ impl Part for PathSegment {
     ghost as_group = { as_segment };
 
     fn from_part(_alloc: Global, part: AnyPart) -> Result<Option<PathSegment>, AllocError> {
-        match part {
-            AnyPart::Segment(segment) => Ok(Some(segment)),
-            _ => Ok(None),
-        }
+        Ok(part.into_segment())
     }
 }
 
@@ -114,10 +221,7 @@ impl Part for Label {
     ghost as_group = { as_label };
 
     fn from_part(_alloc: Global, part: AnyPart) -> Result<Option<Label>, AllocError> {
-        match part {
-            AnyPart::Label(label) => Ok(Some(label)),
-            _ => Ok(None),
-        }
+        Ok(part.into_label())
     }
 }
 
@@ -125,10 +229,7 @@ impl Part for Lifetime {
     ghost as_group = { as_lifetime };
 
     fn from_part(_alloc: Global, part: AnyPart) -> Result<Option<Lifetime>, AllocError> {
-        match part {
-            AnyPart::Lifetime(lifetime) => Ok(Some(lifetime)),
-            _ => Ok(None),
-        }
+        Ok(part.into_lifetime())
     }
 }
 
@@ -136,20 +237,6 @@ impl Part for Name {
     ghost as_group = { as_name };
 
     fn from_part(_alloc: Global, part: AnyPart) -> Result<Option<Name>, AllocError> {
-        match part {
-            AnyPart::Name(name) => Ok(Some(name)),
-            _ => Ok(None),
-        }
-    }
-}
-
-impl Part for Fn {
-    ghost as_group = { as_function };
-
-    fn from_part(_alloc: Global, part: AnyPart) -> Result<Option<Fn>, AllocError> {
-        match part {
-            AnyPart::Fn(function) => Ok(Some(function)),
-            _ => Ok(None),
-        }
+        Ok(part.into_name())
     }
 }

@@ -1,19 +1,18 @@
 //! The tables of a document.
 
-ghost use Rattle.std.specs.Prelude.{◌≡◌, Some, None, OnOk, IfErr, codes};
+ghost use Rattle.std.specs.Prelude.{◌≡◌, Some, IfOk, OnOk, codes};
 ghost use Rattle.serde_json.specs.View.{view, items_view};
 ghost use Rattle.serde_json.specs.Find.{as_array, get};
-ghost use Rattle.lower_json.specs.Fields.{small_of};
-ghost use Rattle.lower_json.specs.Tables.{site_of, triple_of, quadruple_of, both, disabled_of, named_of, numbered_of, with_all, rows, tables_of};
-ghost use Rattle.lower_json.specs.Told.{Told, ToldAs};
+ghost use Rattle.json_faults.specs.Values.{small_of};
+ghost use Rattle.lower_json.specs.Tables.{site_of, triple_of, quadruple_of, both, disabled_of, named_of, numbered_of};
+ghost use Rattle.lower_json.specs.Tables.{with_all, rows, with_tables, tables_of};
 
-use crate::field::small;
-use crate::refusal::Refusal;
 use hir_env::table::TableEnv;
 use hir_store::ids::{BlockId, CfgId, HygieneId, ItemContainerId, ModuleId};
 use hir_syntax::node::{HirFileId, InFile, NodeId};
+use json_faults::value::small;
 use serde_json::Value;
-use std::alloc::Global;
+use std::alloc::{AllocError, Global};
 
 fn site(file: &Value, node: &Value) -> Option<InFile<NodeId>>
     ensures { result ≡ site_of (small_of (view file.now)) (small_of (view node.now)) }
@@ -71,91 +70,74 @@ fn numbered(entry: &Value) -> Option<(InFile<NodeId>, (BlockId, ModuleId))>
     Some((node, (BlockId(block), ModuleId(inside))))
 }
 
-fn disable_all(tables: &mut TableEnv, entries: &[Value]) -> Result<(), Refusal>
-    ensures entries { OnOk result (with_all disabled_of (items_view entries.now) tables.old.disabled ≡ Some tables.new.disabled) }
+fn disable_all(tables: &mut TableEnv, entries: &[Value]) -> Result<(), AllocError>
+    ensures entries { OnOk result (tables.new.disabled ≡ with_all disabled_of (items_view entries.now) tables.old.disabled) }
     ensures others { OnOk result (tables.new ≡ record tables.old { disabled = tables.new.disabled }) }
-    ensures fault { IfErr result (λ e. e ≡ Refusal.NotADocument → with_all disabled_of (items_view entries.now) tables.old.disabled ≡ None) }
 {
-    let mut rest = entries;
-    while let Some((entry, more)) = rest.split_first() {
-        let Some((node, by)) = disabled(entry) else {
-            return Err(Refusal::NotADocument);
-        };
-        tables.disable(node, by)?;
-        rest = more;
+    for entry in entries {
+        if let Some((node, by)) = disabled(entry) {
+            tables.disable(node, by)?;
+        }
     }
     Ok(())
 }
 
-fn name_all(tables: &mut TableEnv, entries: &[Value]) -> Result<(), Refusal>
-    ensures entries { OnOk result (with_all named_of (items_view entries.now) tables.old.hygiene ≡ Some tables.new.hygiene) }
+fn name_all(tables: &mut TableEnv, entries: &[Value]) -> Result<(), AllocError>
+    ensures entries { OnOk result (tables.new.hygiene ≡ with_all named_of (items_view entries.now) tables.old.hygiene) }
     ensures others { OnOk result (tables.new ≡ record tables.old { hygiene = tables.new.hygiene }) }
-    ensures fault { IfErr result (λ e. e ≡ Refusal.NotADocument → with_all named_of (items_view entries.now) tables.old.hygiene ≡ None) }
 {
-    let mut rest = entries;
-    while let Some((entry, more)) = rest.split_first() {
-        let Some((node, hygiene)) = named(entry) else {
-            return Err(Refusal::NotADocument);
-        };
-        tables.set_hygiene(node, hygiene)?;
-        rest = more;
+    for entry in entries {
+        if let Some((node, hygiene)) = named(entry) {
+            tables.set_hygiene(node, hygiene)?;
+        }
     }
     Ok(())
 }
 
-fn number_all(tables: &mut TableEnv, entries: &[Value]) -> Result<(), Refusal>
-    ensures entries { OnOk result (with_all numbered_of (items_view entries.now) tables.old.blocks ≡ Some tables.new.blocks) }
+fn number_all(tables: &mut TableEnv, entries: &[Value]) -> Result<(), AllocError>
+    ensures entries { OnOk result (tables.new.blocks ≡ with_all numbered_of (items_view entries.now) tables.old.blocks) }
     ensures others { OnOk result (tables.new ≡ record tables.old { blocks = tables.new.blocks }) }
-    ensures fault { IfErr result (λ e. e ≡ Refusal.NotADocument → with_all numbered_of (items_view entries.now) tables.old.blocks ≡ None) }
 {
-    let mut rest = entries;
-    while let Some((entry, more)) = rest.split_first() {
-        let Some((node, (block, inside))) = numbered(entry) else {
-            return Err(Refusal::NotADocument);
-        };
-        tables.number_block(node, block, inside)?;
-        rest = more;
+    for entry in entries {
+        if let Some((node, (block, inside))) = numbered(entry) {
+            tables.number_block(node, block, inside)?;
+        }
     }
     Ok(())
 }
 
 /// The entries of a table, none where it is absent.
-fn entries_of<'a>(env: &'a Value, name: &str) -> Result<&'a [Value], Refusal>
-    ensures { ToldAs (λ entries. items_view entries.now) (rows (get name.now (view env.entry.now))) result }
+fn entries_of<'a>(env: &'a Value, name: &str) -> &'a [Value]
+    ensures { items_view result.now ≡ rows name.now (view env.entry.now) }
 {
     let Some(table) = env.get(name) else {
-        return Ok(&[]);
+        return &[];
     };
     match table.as_array() {
-        Some(entries) => Ok(entries.as_slice()),
-        None => Err(Refusal::NotADocument),
+        Some(entries) => entries.as_slice(),
+        None => &[],
     }
 }
 
-fn tables_of(alloc: Global, env: &Value, container: ItemContainerId) -> Result<TableEnv, Refusal>
-    ensures { Told (tables_of container (Some (view env.now))) result }
+fn fill(tables: &mut TableEnv, env: &Value) -> Result<(), AllocError>
+    ensures { OnOk result (tables.new ≡ with_tables (view env.now) tables.old) }
 {
-    if !env.is_object() {
-        return Err(Refusal::NotADocument);
-    }
-    let mut tables = TableEnv::new(alloc, container);
-    disable_all(&mut tables, entries_of(env, "disabled")?)?;
-    name_all(&mut tables, entries_of(env, "hygiene")?)?;
-    number_all(&mut tables, entries_of(env, "blocks")?)?;
-    Ok(tables)
+    disable_all(tables, entries_of(env, "disabled"))?;
+    name_all(tables, entries_of(env, "hygiene"))?;
+    number_all(tables, entries_of(env, "blocks"))
 }
 
-/// The tables that a document writes for a body that is not skipped and stands in the container. `NotADocument` where
-/// the environment is no object, a table no list, or an entry no such entry; `Memory` where memory is refused.
+/// The tables that a document writes for a body that is not skipped and stands in the container.
 pub fn tables(
     alloc: Global,
     document: &Value,
     container: ItemContainerId,
-) -> Result<TableEnv, Refusal>
-    ensures { Told (tables_of container (get (codes "env") (view document.now))) result }
+) -> Result<TableEnv, AllocError>
+    ensures { IfOk result (λ tables. tables ≡ tables_of container (get (codes "env") (view document.now))) }
 {
-    match document.get("env") {
-        None => Ok(TableEnv::new(alloc, container)),
-        Some(env) => tables_of(alloc, env, container),
+    let mut tables = TableEnv::new(alloc, container);
+    if let Some(env) = document.get("env") {
+        fill(&mut tables, env)?;
     }
+    Ok(tables)
 }

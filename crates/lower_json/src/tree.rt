@@ -1,124 +1,191 @@
 //! The trees of a list of nodes.
 
+ghost use Rattle.std.specs.Prelude.{◌≡◌, IfOk, Some};
 ghost use Rattle.serde_json.specs.View.{view, items_view};
-ghost use Rattle.lower_json.specs.Told.{Told};
 ghost use Rattle.lower_json.specs.Nodes.{here};
+ghost use Rattle.lower_json.specs.Others.{function};
 ghost use Rattle.lower_json.specs.Reads.{Reads};
 ghost use Rattle.lower_json.specs.Reading as spec;
-ghost use Rattle.lower_json.specs.Reading.{of_kind, node_at, tree_at};
+ghost use Rattle.lower_json.specs.Reading.{of_kind, expr_kind, node_at, tree_at};
 
-use crate::field;
-use crate::kind::{Kind, kind_in};
+use crate::exprs::{flow, plain};
+use crate::field::{number_or, range};
 use crate::node::{Node, ReadParts};
-use crate::part::{AnyPart, Part};
-use crate::refusal::Refusal;
-use hir_syntax::ast::Fn as Function;
+use crate::others::{function, other, statement};
+use crate::part::AnyPart;
+use hir_syntax::ast::{Expr, ExprKind, Fn as Function, Stmt};
 use hir_syntax::node::NodeId;
+use json_faults::kinds::kind_at;
+use json_faults::value::item_at;
+use json_kinds::kind::Kind;
 use serde_json::Value;
-use std::alloc::Global;
+use std::alloc::{AllocError, Global};
 
-const MOST_LEVELS: u32 = 256;
+/// The levels below the root.
+const LEVELS_BELOW: u32 = 255;
 
-/// A list of nodes, read on so many levels at most by a function.
+/// A list of nodes with their kinds, read on so many levels at most by a function.
 #[derive_where(Clone, Copy; F)]
-pub struct Level<'a, F> {
-    nodes: &'a [Value],
+pub struct Level<'k, 'n, F> {
+    kinds: &'k [Option<Kind>],
+    nodes: &'n [Value],
     levels: u32,
     read: F,
 }
 
-impl<F: Fn(Global, &[Value], u32, u32) -> Result<AnyPart, Refusal>> ReadParts for Level<'_, F> {
-    ghost can = { λ it. Reads (F.pre it.read) (F.post it.read) it.nodes.now it.levels };
-
-    ghost parts = { λ it. spec.part_at it.levels (items_view it.nodes.now) };
-
-    fn part_at(&self, alloc: Global, at: u32) -> Result<AnyPart, Refusal> {
-        (self.read)(alloc, self.nodes, self.levels, at)
-    }
-}
-
-impl<P: ReadParts> Node<'_, P> {
-    #[tactic(auto, unfolding(crate::specs::Reading::of_kind))]
-    fn build(&self, kind: Kind) -> Result<AnyPart, Refusal>
-        requires { P.can self.now.parts.now }
-        ensures { Told (of_kind (here P.parts self.now) kind) result }
-    {
-        match kind {
-            Kind::Fn => self.function(),
-            Kind::IfExpr => self.if_expr(),
-            Kind::BlockExpr => self.block_expr(),
-            Kind::LoopExpr => self.loop_expr(),
-            Kind::CallExpr => self.call_expr(),
-            Kind::PathExpr => self.path_expr(),
-            Kind::ContinueExpr => self.continue_expr(),
-            Kind::BreakExpr => self.break_expr(),
-            Kind::ParenExpr => self.paren_expr(),
-            Kind::Literal => self.literal_expr(),
-            Kind::ExprStmt => self.expr_stmt(),
-            Kind::Item => Ok(self.item()),
-            Kind::Path => self.path(),
-            Kind::PathSegment => self.segment(),
-            Kind::Label => self.label(),
-            Kind::Lifetime => self.lifetime_node(),
-            Kind::Name => self.name_node(),
-        }
-    }
-}
-
-#[tactic(auto, unfolding(crate::specs::Reading::node_at))]
-pub fn read_node<P: ReadParts>(
-    alloc: Global,
-    parts: &P,
-    value: &Value,
-    at: u32,
-) -> Result<AnyPart, Refusal>
-    requires { P.can parts.now }
-    ensures { Told (node_at (P.parts parts.now) at (view value.now)) result }
+impl<F> ReadParts for Level<'_, '_, F>
+where
+    F: Fn(Global, &[Option<Kind>], &[Value], u32, u32) -> Result<Option<AnyPart>, AllocError>,
 {
-    let Some(id) = field::id(value, at) else {
-        return Err(Refusal::NotADocument);
+    ghost can = { λ it. Reads (F.pre it.read) (F.post it.read) it.kinds.now it.nodes.now it.levels };
+
+    ghost parts = { λ it. spec.part_at it.levels it.kinds.now (items_view it.nodes.now) };
+
+    fn part_at(&self, alloc: Global, at: u32) -> Result<Option<AnyPart>, AllocError> {
+        (self.read)(alloc, self.kinds, self.nodes, self.levels, at)
+    }
+}
+
+fn expr_kind<P: ReadParts>(node: &Node<'_, P>, kind: Kind) -> Result<Option<ExprKind>, AllocError>
+    requires { P.can node.now.parts.now }
+    ensures { IfOk result (λ expr. expr ≡ expr_kind (here P.parts node.now) kind) }
+{
+    match flow(node, kind)? {
+        Some(expr) => Ok(Some(expr)),
+        None => plain(node, kind),
+    }
+}
+
+/// The expression of a kind. An `if` is told from others, since it may follow `else`.
+fn of_expr<P: ReadParts>(node: &Node<'_, P>, kind: Kind, expr: ExprKind) -> AnyPart
+    ensures { result ≡ spec.of_expr (here P.parts node.now) kind expr }
+{
+    let expr = Expr {
+        id: node.id,
+        range: node.range,
+        kind: expr,
     };
-    let Some(range) = field::range(value, id) else {
-        return Err(Refusal::NotADocument);
-    };
-    let Some(kind) = kind_in(value) else {
-        return Err(Refusal::NotADocument);
-    };
+    match kind {
+        Kind::IfExpr => AnyPart::If(expr),
+        _ => AnyPart::Expr(expr),
+    }
+}
+
+fn other_than_expr<P: ReadParts>(
+    node: &Node<'_, P>,
+    kind: Kind,
+) -> Result<Option<AnyPart>, AllocError>
+    requires { P.can node.now.parts.now }
+    ensures { IfOk result (λ part. part ≡ spec.other_than_expr (here P.parts node.now) kind) }
+{
+    match statement(node, kind)? {
+        Some(kind) => Ok(Some(AnyPart::Stmt(Stmt {
+            id: node.id,
+            range: node.range,
+            kind,
+        }))),
+        None => other(node, kind),
+    }
+}
+
+/// What stands at a node of a kind.
+#[tactic(auto, unfolding(crate::specs::Reading::of_kind))]
+fn of_kind<P: ReadParts>(node: &Node<'_, P>, kind: Kind) -> Result<Option<AnyPart>, AllocError>
+    requires { P.can node.now.parts.now }
+    ensures { IfOk result (λ part. part ≡ of_kind (here P.parts node.now) kind) }
+{
+    match expr_kind(node, kind)? {
+        Some(expr) => Ok(Some(of_expr(node, kind, expr))),
+        None => other_than_expr(node, kind),
+    }
+}
+
+/// A node at an index, with what reads its parts.
+fn node_at<'a, P: ReadParts>(alloc: Global, parts: &'a P, value: &'a Value, at: u32) -> Node<'a, P>
+    ensures here { here P.parts result ≡ node_at (P.parts parts.entry.now) at (view value.entry.now) }
+    ensures parts { result.parts.now ≡ parts.entry.now }
+{
+    let id = number_or(value, "id", at);
     Node {
         alloc,
         parts,
         value,
         id: NodeId(id),
-        range,
+        range: range(value, id),
     }
-    .build(kind)
 }
 
-pub fn read_part(alloc: Global, nodes: &[Value], levels: u32, at: u32) -> Result<AnyPart, Refusal>
-    ensures { Told (spec.part_at levels (items_view nodes.now) at) result }
+/// What stands at a node of a kind, by its index and value.
+pub fn part_at<P: ReadParts>(
+    alloc: Global,
+    parts: &P,
+    value: &Value,
+    at: u32,
+    kind: Kind,
+) -> Result<Option<AnyPart>, AllocError>
+    requires { P.can parts.now }
+    ensures { IfOk result (λ part. part ≡ of_kind (node_at (P.parts parts.now) at (view value.now)) kind) }
+{
+    of_kind(&node_at(alloc, parts, value, at), kind)
+}
+
+fn read_part(
+    alloc: Global,
+    kinds: &[Option<Kind>],
+    nodes: &[Value],
+    levels: u32,
+    at: u32,
+) -> Result<Option<AnyPart>, AllocError>
+    ensures { IfOk result (λ part. part ≡ spec.part_at levels kinds.now (items_view nodes.now) at) }
 {
     if levels == 0 {
-        return Err(Refusal::NotADocument);
+        return Ok(None);
     }
-    let Some(value) = nodes.get(at as usize) else {
-        return Err(Refusal::NotADocument);
+    let Some(value) = item_at(nodes, at as usize) else {
+        return Ok(None);
+    };
+    let Some(kind) = kind_at(kinds, at as usize) else {
+        return Ok(None);
     };
     let inside = Level {
+        kinds,
         nodes,
         levels: levels - 1,
         read: read_part,
     };
-    read_node(alloc, &inside, value, at)
+    part_at(alloc, &inside, value, at, kind)
 }
 
-/// The function that stands at the root.
-#[tactic(auto, unfolding(crate::specs::Reading::tree_at))]
-pub fn read_tree_at(alloc: Global, nodes: &[Value], root: u32) -> Result<Function, Refusal>
-    ensures { Told (tree_at (items_view nodes.now) root) result }
+fn function_at<P: ReadParts>(
+    alloc: Global,
+    parts: &P,
+    value: &Value,
+    at: u32,
+) -> Result<Function, AllocError>
+    requires { P.can parts.now }
+    ensures { IfOk result (λ tree. tree ≡ function (node_at (P.parts parts.now) at (view value.now))) }
 {
-    let part = read_part(alloc, nodes, MOST_LEVELS, root)?;
-    match Function::from_part(alloc, part)? {
-        Some(function) => Ok(function),
-        None => Err(Refusal::NotADocument),
+    function(&node_at(alloc, parts, value, at))
+}
+
+/// The function that stands at the root. Past the end it is one that says nothing.
+#[tactic(auto, unfolding(crate::specs::Reading::tree_at))]
+pub fn read_tree_at(
+    alloc: Global,
+    kinds: &[Option<Kind>],
+    nodes: &[Value],
+    root: u32,
+) -> Result<Function, AllocError>
+    ensures { IfOk result (λ tree. tree ≡ tree_at kinds.now (items_view nodes.now) root) }
+{
+    let inside = Level {
+        kinds,
+        nodes,
+        levels: LEVELS_BELOW,
+        read: read_part,
+    };
+    match item_at(nodes, root as usize) {
+        Some(value) => function_at(alloc, &inside, value, root),
+        None => function_at(alloc, &inside, &Value::Null, root),
     }
 }

@@ -1,13 +1,10 @@
-use Rattle.std.proofs.Common.{◌≡◌, length}
+use Rattle.std.proofs.Common.{◌≡◌, drop}
 use Rattle.serde_json.specs.View.{items_view}
 use Rattle.lower_json.specs.Tables.{with_all, disabled_of}
 use Rattle.lower_json.proofs.tables.disable_all.Given as goal
 
 abbrev pub invariant-loop-entry : goal.invariant-loop-entry
 invariant-loop-entry l = record {
-  so_far : with_all disabled_of (items_view l.entries) l.initial.tables.disabled ≡ with_all disabled_of (items_view l.rest) l.tables.disabled;
+  so_far : with_all disabled_of (items_view l.entries) l.initial.tables.disabled ≡ with_all disabled_of (items_view (drop l.entry-index l.entries)) l.tables.disabled;
   others : l.tables ≡ record l.initial.tables { disabled = l.tables.disabled };
 }
-
-abbrev pub decreases-loop-entry : goal.decreases-loop-entry
-decreases-loop-entry l = length l.rest

@@ -1,13 +1,10 @@
-use Rattle.std.proofs.Common.{◌≡◌, length}
+use Rattle.std.proofs.Common.{◌≡◌, drop}
 use Rattle.serde_json.specs.View.{items_view}
 use Rattle.lower_json.specs.Tables.{with_all, named_of}
 use Rattle.lower_json.proofs.tables.name_all.Given as goal
 
 abbrev pub invariant-loop-entry : goal.invariant-loop-entry
 invariant-loop-entry l = record {
-  so_far : with_all named_of (items_view l.entries) l.initial.tables.hygiene ≡ with_all named_of (items_view l.rest) l.tables.hygiene;
+  so_far : with_all named_of (items_view l.entries) l.initial.tables.hygiene ≡ with_all named_of (items_view (drop l.entry-index l.entries)) l.tables.hygiene;
   others : l.tables ≡ record l.initial.tables { hygiene = l.tables.hygiene };
 }
-
-abbrev pub decreases-loop-entry : goal.decreases-loop-entry
-decreases-loop-entry l = length l.rest

@@ -1,18 +1,24 @@
 use Rattle.std.proofs.Common.{rules, arith, ◌-◌}
-use Rattle.lower_json.proofs.Levels.{no_level, past_end, one_level}
+use Rattle.serde_json.specs.View.{view, items_view}
+use Rattle.lower_json.proofs.Levels.{no_level, no_item, no_kind, one_level}
 use Rattle.lower_json.proofs.tree.+read_part.Goals as goal
 
 pub returns-then-levels-eq0 : goal.returns-then-levels-eq0
-returns-then-levels-eq0 t c = λ h. no_level _ _ _ (omega arith)
+returns-then-levels-eq0 t c = no_level _ _ _ _ (omega arith)
 
 pub returns-in_default : goal.returns-in_default
-returns-in_default t c = λ h. past_end _ _ _ (search rules)
+returns-in_default t c = no_item _ _ _ _ (search rules)
 
-pub read_node-requires : goal.read_node-requires
-read_node-requires t c = record {
-  callable = λ alloc v at same. let d = c.decreases in omega (arith, d);
-  told = λ alloc v at r same p. rw (← same) p.1;
+pub returns-in_default-kind_at : goal.returns-in_default-kind_at
+returns-in_default-kind_at t c = no_kind _ _ _ _ (search rules)
+
+pub part_at-requires : goal.part_at-requires
+part_at-requires t c = record {
+  callable = λ alloc ks vs at same_kinds same_nodes. let d = c.decreases in omega (arith, d);
+  told = λ alloc ks vs at r same_kinds same_nodes p. rw (← same_kinds) (rw (← same_nodes) p.1);
 }
 
 pub returns : goal.returns
-returns t c = rw (one_level c.args.levels (c.args.levels - 1) c.args.nodes.now c.args.at c.in-Some.value.now (omega arith) c.in-Some.ensures.lookup.3.0 c.in-Some.ensures.lookup.1) c.read_node.ensures
+returns t c =
+    rw (one_level c.args.levels (c.args.levels - 1) c.args.kinds.now (items_view c.args.nodes.now) c.args.at (view c.in-Some.value.now) c.in-Some-kind_at.kind (omega arith) (search rules) (search rules))
+    c.part_at.ensures

@@ -1,16 +1,14 @@
-use Rattle.std.proofs.Common.{◌≡◌, ◌++◌, length}
-use Rattle.std.specs.Prelude.{option_map}
+use Rattle.std.proofs.Common.{◌≡◌, ◌++◌, drop}
 use Rattle.serde_json.specs.View.{items_view}
 use Rattle.lower_json.specs.Parts as spec
-use Rattle.lower_json.specs.Parts.{each, or_null}
+use Rattle.lower_json.specs.Parts.{kept, or_null}
 use Rattle.lower_json.specs.Nodes.{here}
 use Rattle.lower_json.proofs.node.Node.children_or_nulls.Given as goal
 
 abbrev pub invariant-loop-value : goal.invariant-loop-value
-invariant-loop-value g l = record {
-  same : l.self ≡ l.fn.self;
-  so_far : each (or_null (spec.child (here g.P.ReadParts.parts l.self) g.T.Part.as_group)) (items_view l.items) ≡ option_map (λ ys. l.parts ++ ys) (each (or_null (spec.child (here g.P.ReadParts.parts l.self) g.T.Part.as_group)) (items_view l.rest));
-}
-
-abbrev pub decreases-loop-value : goal.decreases-loop-value
-decreases-loop-value g l = length l.rest
+invariant-loop-value g l =
+    let read = (or_null (spec.child (here g.P.ReadParts.parts l.self) g.T.Part.as_group)) in
+    record {
+      same : l.self ≡ l.fn.self;
+      so_far : kept read (items_view l.items) ≡ l.parts ++ kept read (items_view (drop l.value-index l.items));
+    }

@@ -1,0 +1,5 @@
+pub mod Digits
+pub mod Pairs
+pub mod Items
+pub mod Using
+pub mod Cells

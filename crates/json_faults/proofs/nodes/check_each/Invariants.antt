@@ -1,0 +1,12 @@
+use Rattle.std.proofs.Common.{◌≡◌, drop, length}
+use Rattle.serde_json.specs.View.{items_view}
+use Rattle.json_faults.specs.Nodes.{nodes_from}
+use Rattle.json_faults.proofs.nodes.check_each.Given as goal
+
+abbrev pub invariant-loop-node : goal.invariant-loop-node
+invariant-loop-node l = record {
+  same : l.kinds ≡ l.fn.kinds;
+  kept : length l.levels ≡ length l.initial.levels;
+  place : l.at ≡ l.node-index;
+  so_far : nodes_from l.kinds 0 (items_view l.nodes) l.initial.levels ≡ nodes_from l.kinds l.at (items_view (drop l.node-index l.nodes)) l.levels;
+}

@@ -1,0 +1,8 @@
+use Rattle.std.proofs.Common.{rules}
+use Rattle.json_faults.specs.Nodes.{here}
+use Rattle.serde_json.specs.View.{items_view}
+use Rattle.json_faults.proofs.Using.{parts_used}
+use Rattle.json_faults.proofs.place.Place.parts.Goals as goal
+
+pub returns-clause-walks : goal.returns-clause-walks
+returns-clause-walks c = parts_used (here c.args.self.now) c.args.name.now c.args.group c.args.nulls (items_view c.args.items.now) c.args.levels.now c.use_each.new.levels (search rules) (search rules) (search rules) (search rules)

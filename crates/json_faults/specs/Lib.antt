@@ -1,0 +1,9 @@
+pub mod Literals
+pub mod Values
+pub mod Kinds
+pub mod Faults
+pub mod Levels
+pub mod Nodes
+pub mod Tables
+pub mod Env
+pub mod Documents

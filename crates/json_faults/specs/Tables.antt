@@ -1,0 +1,24 @@
+-- The tables of an environment.
+use Rattle.std.specs.Prelude.{ℕ, List, [], ◌∷◌, codes}
+use Rattle.json_faults.specs.declared.table.Table as rust
+use Rattle.json_faults.specs.declared.table.Cell.{Cell}
+use Rattle.json_faults.specs.declared.table.Cell.TheVariants as cell
+
+-- a table: its name, and what each entry holds
+pub record Table : Type 0 where
+  pub name : List ℕ
+  pub cells : List Cell
+
+abbrev pub said : rust.Table → Table
+said t = record { name = t.name.now; cells = t.cells.now }
+
+infixr 6 ◌∶◌
+abbrev ◌∶◌ : List ℕ → List Cell → Table
+n ∶ cs = record { name = n; cells = cs }
+
+-- the tables, in order
+abbrev pub tables : List Table
+tables = (codes "disabled" ∶ (cell.Small ∷ cell.Small ∷ cell.Small ∷ []))
+    ∷ (codes "hygiene" ∶ (cell.Small ∷ cell.Small ∷ cell.Small ∷ []))
+    ∷ (codes "blocks" ∶ (cell.Small ∷ cell.Small ∷ cell.Small ∷ cell.Small ∷ []))
+    ∷ []

@@ -1,0 +1,79 @@
+-- What values are.
+use Rattle.std.specs.Prelude.{ℕ, suc, ◌^◌, List, Bool, true, false, not, ◌&&◌, Option, Some, None, is_some, nat_lt, bytes_eq, codes, option_and_then, if◌then◌else◌}
+use Rattle.std.specs.List.{list_any}
+use Rattle.serde_json.specs.Data.{Data, null, boolean, number, string, array, object, Items, no_items, item}
+use Rattle.serde_json.specs.Find.{as_number, as_str, as_array, as_u64}
+use Rattle.json_kinds.specs.declared.group.Group.{Group}
+use Rattle.json_kinds.specs.declared.group.Group.TheVariants as group
+
+abbrev pub all_items : (Data → Bool) → Items → Bool
+all_items p no_items = true
+all_items p (item d ds) = p d && all_items p ds
+
+-- how many there are
+abbrev pub count : Items → ℕ
+count no_items = 0
+count (item d ds) = suc (count ds)
+
+-- the index that a value is
+abbrev pub index_of : Data → Option ℕ
+index_of d = option_and_then as_u64 (as_number d)
+
+-- a number of 32 bits
+abbrev pub small : Option ℕ → Option ℕ
+small None = None
+small (Some n) = if nat_lt n (2 ^ 32) then Some n else None
+
+abbrev pub small_of : Data → Option ℕ
+small_of d = small (index_of d)
+
+abbrev pub is_pair : Option Items → Bool
+is_pair (Some (item a (item b no_items))) = is_some (small_of a) && is_some (small_of b)
+is_pair _ = false
+
+-- a list of two numbers of 32 bits
+abbrev pub is_range : Data → Bool
+is_range d = is_pair (as_array d)
+
+abbrev pub has_word : List (List ℕ) → List ℕ → Bool
+has_word words text = list_any (λ w. bytes_eq w text) words
+
+abbrev word_among : List (List ℕ) → Option (List ℕ) → Bool
+word_among words None = false
+word_among words (Some text) = has_word words text
+
+-- a text among some
+abbrev pub is_word : List (List ℕ) → Data → Bool
+is_word words d = word_among words (as_str d)
+
+-- `$crate` names a macro's crate, which is not read yet
+abbrev pub is_plain : List ℕ → Bool
+is_plain t = not (bytes_eq t (codes "$crate"))
+
+-- a text may stand in place of a name or a lifetime
+abbrev pub stands_for : Group → List ℕ → Bool
+stands_for group.Name t = is_plain t
+stands_for group.Lifetime t = true
+stands_for _ t = false
+
+-- what may stand for a part of a group: a number, and also a text or null where these may
+abbrev pub is_part : Group → Bool → Data → Bool
+is_part g nulls (number n) = true
+is_part g nulls (string s) = stands_for g s
+is_part g nulls null = nulls
+is_part g nulls (boolean b) = false
+is_part g nulls (array ds) = false
+is_part g nulls (object ms) = false
+
+abbrev between : ℕ → ℕ → Option ℕ → Bool
+between low high None = false
+between low high (Some k) = nat_lt low k && nat_lt k high
+
+-- a number is an index past one place, and in front of another
+abbrev pub is_between : ℕ → ℕ → Data → Bool
+is_between low high (number n) = between low high (as_u64 n)
+is_between low high (string s) = true
+is_between low high null = true
+is_between low high (boolean b) = true
+is_between low high (array ds) = true
+is_between low high (object ms) = true

@@ -1,0 +1,192 @@
+//! The first fault of a document.
+
+ghost use Rattle.std.specs.Prelude.{◌≡◌, ◌==◌, ◌<◌, length, nat_lt, IfOk, IfErr, OnOk, None, is_some, option_map};
+ghost use Rattle.serde_json.specs.View.{view, items_view};
+ghost use Rattle.json_faults.specs.Values.{count};
+ghost use Rattle.json_faults.specs.Documents as spec;
+ghost use Rattle.json_faults.specs.Documents.{IsRefusalFor};
+ghost use Rattle.json_faults.specs.Kinds.{kinds_of};
+ghost use Rattle.json_faults.specs.Levels.{Uses};
+ghost use Rattle.json_faults.specs.Nodes.{Walks};
+
+use crate::env::check_env;
+use crate::fault::Fault;
+use crate::floats::has_float;
+use crate::kinds::{is_of_group, kinds_of};
+use crate::levels::use_at;
+use crate::nodes::{check_each, check_levels};
+use crate::refusal::Refusal;
+use crate::value::{index, is_word};
+use json_kinds::group::Group;
+use json_kinds::kind::Kind;
+use json_kinds::words::Words;
+use serde_json::Value;
+use std::alloc::Global;
+
+fn word_if_there(set: Words, value: Option<&Value>) -> bool
+    ensures { result ≡ spec.word_if_there set (option_map (λ v. view v.now) value.entry) }
+{
+    match value {
+        Some(value) => is_word(set, value),
+        None => true,
+    }
+}
+
+fn flag_if_there(value: Option<&Value>) -> bool
+    ensures { result ≡ spec.flag_if_there (option_map (λ v. view v.now) value.entry) }
+{
+    match value {
+        Some(value) => value.as_bool().is_some(),
+        None => true,
+    }
+}
+
+fn object_if_there(value: Option<&Value>) -> bool
+    ensures { result ≡ spec.object_if_there (option_map (λ v. view v.now) value.entry) }
+{
+    match value {
+        Some(value) => value.is_object(),
+        None => true,
+    }
+}
+
+/// Whether the fields of the document itself hold what they may.
+fn has_heading(document: &Value) -> bool
+    ensures { result ≡ spec.has_heading (view document.now) }
+{
+    word_if_there(Words::Owners, document.get("owner"))
+        && word_if_there(Words::Containers, document.get("container"))
+        && flag_if_there(document.get("skip"))
+        && flag_if_there(document.get("sources"))
+        && flag_if_there(document.get("analysis"))
+        && object_if_there(document.get("env"))
+}
+
+fn has_nodes(document: &Value) -> bool
+    ensures { result ≡ is_some (spec.nodes_in (view document.now)) }
+{
+    match document.get("nodes") {
+        Some(nodes) => nodes.is_array(),
+        None => false,
+    }
+}
+
+fn is_document(document: &Value) -> bool
+    ensures { result ≡ spec.is_document (view document.now) }
+{
+    !has_float(document) && has_heading(document) && has_nodes(document)
+}
+
+/// The nodes of a document, none where it has no list of them.
+pub fn nodes(document: &Value) -> &[Value]
+    ensures { items_view result.now ≡ spec.nodes (view document.entry.now) }
+{
+    let Some(nodes) = document.get("nodes") else {
+        return &[];
+    };
+    match nodes.as_array() {
+        Some(nodes) => nodes.as_slice(),
+        None => &[],
+    }
+}
+
+/// The index of the root of a document, 0 where there is none.
+fn root_of(document: &Value) -> Option<u64>
+    ensures { result ≡ spec.root_of (view document.now) }
+{
+    match document.get("root") {
+        Some(value) => index(value),
+        None => Some(0),
+    }
+}
+
+#[tactic(auto, using(crate::proofs::Items::count_items))]
+fn is_missing(nodes: &[Value]) -> bool
+    ensures { result ≡ (count (items_view nodes.now) == 0) }
+{
+    nodes.len() == 0
+}
+
+/// Uses the root, where there is a node.
+fn use_root(
+    kinds: &[Option<Kind>],
+    nodes: &[Value],
+    wanted: Group,
+    root: u64,
+    levels: &mut [u16],
+) -> bool
+    ensures uses { Uses (spec.use_root kinds.now (items_view nodes.now) wanted root levels.old) result levels.new }
+    ensures kept { length levels.new ≡ length levels.old }
+{
+    if is_missing(nodes) {
+        return true;
+    }
+    if !is_of_group(kinds, wanted, root) {
+        return false;
+    }
+    use_at(levels, 1, root)
+}
+
+fn check_tree(
+    kinds: &[Option<Kind>],
+    nodes: &[Value],
+    wanted: Group,
+    document: &Value,
+    levels: &mut [u16],
+) -> Result<(), Fault>
+    requires { length levels.old ≡ length nodes.now }
+    ensures { Walks (spec.whole_tree kinds.now (items_view nodes.now) wanted (view document.now) levels.old) result levels.new }
+{
+    let Some(root) = root_of(document) else {
+        return Err(Fault::Root);
+    };
+    if !use_root(kinds, nodes, wanted, root, levels) {
+        return Err(Fault::Root);
+    }
+    check_each(kinds, nodes, levels)?;
+    check_env(document.get("env"))?;
+    check_levels(levels)?;
+    if is_missing(nodes) {
+        return Err(Fault::NoTree);
+    }
+    Ok(())
+}
+
+#[tactic(auto, using(crate::proofs::Items::count_items))]
+fn are_more(nodes: &[Value], most: usize) -> bool
+    ensures { result ≡ nat_lt most (count (items_view nodes.now)) }
+{
+    nodes.len() > most
+}
+
+/// The kinds of the nodes of a document that has no fault: it has at most so many nodes, and its root is of the group.
+/// Where it has one, the first; `Memory` where memory is refused.
+#[tactic(auto, using(crate::proofs::Items::count_items))]
+pub fn checked_kinds(
+    alloc: Global,
+    most: usize,
+    wanted: Group,
+    document: &Value,
+) -> Result<Vec<Option<Kind>>, Refusal>
+    ensures sound { OnOk result (spec.document_fault most wanted (view document.now) ≡ None) }
+    ensures kinds { IfOk result (λ kinds. kinds.items ≡ kinds_of (spec.nodes (view document.now))) }
+    ensures fault { IfErr result (λ e. IsRefusalFor (spec.document_fault most wanted (view document.now)) e) }
+{
+    if !is_document(document) {
+        return Err(Refusal::Fault(Fault::NotADocument));
+    }
+    let nodes = nodes(document);
+    if are_more(nodes, most) {
+        return Err(Refusal::Fault(Fault::TooManyNodes));
+    }
+    let kinds = kinds_of(alloc, nodes)?;
+    let mut levels = vec![in alloc; 0; nodes.len()]?;
+    check_tree(
+        kinds.as_slice(),
+        nodes,
+        wanted,
+        document,
+        levels.as_mut_slice(),
+    )?;
+    Ok(kinds)
+}

@@ -1,0 +1,121 @@
+//! The first fault of an environment.
+
+ghost use Rattle.std.specs.Prelude.{◌≡◌, ◌==◌, map, option_map};
+ghost use Rattle.serde_json.specs.View.{view, items_view};
+ghost use Rattle.serde_json.specs.Find.{as_array, get, get_item};
+ghost use Rattle.json_faults.specs.Values.{count};
+ghost use Rattle.json_faults.specs.Env as spec;
+ghost use Rattle.json_faults.specs.Env.{Finds};
+ghost use Rattle.json_faults.specs.Tables.{said};
+
+use crate::fault::Fault;
+use crate::table::{Cell, Table, tables};
+use crate::value::{item_at, small};
+use serde_json::Value;
+
+/// Whether a value suits a place.
+fn suits(cell: Cell, value: &Value) -> bool
+    ensures { result ≡ spec.suits cell (view value.now) }
+{
+    match cell {
+        Cell::Small => small(value).is_some(),
+    }
+}
+
+fn cell_in(cell: Cell, items: &[Value], at: usize) -> bool
+    ensures { result ≡ spec.cell_in cell (get_item at (items_view items.now)) }
+{
+    match item_at(items, at) {
+        Some(item) => suits(cell, item),
+        None => false,
+    }
+}
+
+#[tactic(auto, using(crate::proofs::Items::count_items))]
+fn has_count(items: &[Value], wanted: usize) -> bool
+    ensures { result ≡ (count (items_view items.now) == wanted) }
+{
+    items.len() == wanted
+}
+
+#[tactic(auto, using(crate::proofs::Cells::cells_stop))]
+fn cells(cells: &[Cell], items: &[Value]) -> bool
+    ensures { result ≡ spec.cells 0 cells.now (items_view items.now) }
+{
+    let mut at = 0;
+    for cell in cells {
+        if !cell_in(*cell, items, at) {
+            return false;
+        }
+        at += 1;
+    }
+    true
+}
+
+/// Whether a value is an entry with such cells.
+fn entry(wanted: &[Cell], value: &Value) -> bool
+    ensures { result ≡ spec.entry wanted.now (as_array (view value.now)) }
+{
+    match value.as_array() {
+        Some(items) => {
+            has_count(items.as_slice(), wanted.len()) && cells(wanted, items.as_slice())
+        }
+        None => false,
+    }
+}
+
+fn entries(table: &Table, items: &[Value]) -> Result<(), Fault>
+    ensures { Finds (spec.entries (said table.now) 0 (items_view items.now)) result }
+{
+    let mut at = 0;
+    for item in items {
+        if !entry(table.cells, item) {
+            return Err(Fault::Env {
+                table: table.name,
+                entry: at,
+            });
+        }
+        at += 1;
+    }
+    Ok(())
+}
+
+fn list(table: &Table, value: &Value) -> Result<(), Fault>
+    ensures { Finds (spec.list_of (said table.now) (as_array (view value.now))) result }
+{
+    match value.as_array() {
+        Some(items) => entries(table, items.as_slice()),
+        None => Err(Fault::Env {
+            table: table.name,
+            entry: 0,
+        }),
+    }
+}
+
+fn list_if_there(table: &Table, env: &Value) -> Result<(), Fault>
+    ensures { Finds (spec.list_if_there (said table.now) (get table.now.name.now (view env.now))) result }
+{
+    match env.get(table.name) {
+        None => Ok(()),
+        Some(value) => list(table, value),
+    }
+}
+
+fn lists(tables: &[Table], env: &Value) -> Result<(), Fault>
+    ensures { Finds (spec.lists (map said tables.now) (view env.now)) result }
+{
+    for table in tables {
+        list_if_there(table, env)?;
+    }
+    Ok(())
+}
+
+/// Sees that an environment has no fault.
+pub fn check_env(env: Option<&Value>) -> Result<(), Fault>
+    ensures { Finds (spec.env_if_there (option_map (λ e. view e.now) env.entry)) result }
+{
+    match env {
+        Some(env) => lists(tables(), env),
+        None => Ok(()),
+    }
+}

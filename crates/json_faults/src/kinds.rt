@@ -1,0 +1,52 @@
+//! The kinds of the nodes of a list.
+
+ghost use Rattle.std.specs.Prelude.{◌≡◌, IfOk};
+ghost use Rattle.serde_json.specs.View.{view, items_view};
+ghost use Rattle.json_faults.specs.Kinds as spec;
+
+use json_kinds::group::Group;
+use json_kinds::kind::Kind;
+use serde_json::Value;
+use std::alloc::{AllocError, Global};
+
+/// The kind of a node, by its field "k"; none where that is not the word of a kind.
+fn kind_in(node: &Value) -> Option<Kind>
+    ensures { result ≡ spec.kind_in (view node.now) }
+{
+    Kind::from_word(node.get("k")?.as_str()?)
+}
+
+/// The kinds of nodes, in order.
+pub fn kinds_of(alloc: Global, nodes: &[Value]) -> Result<Vec<Option<Kind>>, AllocError>
+    ensures { IfOk result (λ kinds. kinds.items ≡ spec.kinds_of (items_view nodes.now)) }
+{
+    let mut kinds = Vec::with_capacity(alloc, nodes.len())?;
+    for node in nodes {
+        kinds.push(kind_in(node))?;
+    }
+    Ok(kinds)
+}
+
+/// Whether a kind serves in a group.
+fn serves(kind: Kind, group: Group) -> bool
+    ensures { result ≡ spec.serves group kind }
+{
+    kind.groups().contains(&group)
+}
+
+/// The kind of the node at an index, none past the end.
+pub fn kind_at(kinds: &[Option<Kind>], at: usize) -> Option<Kind>
+    ensures { result ≡ spec.kind_at kinds.now at }
+{
+    if at < kinds.len() { kinds[at] } else { None }
+}
+
+/// Whether the node at an index is of the group.
+pub fn is_of_group(kinds: &[Option<Kind>], group: Group, k: u64) -> bool
+    ensures { result ≡ spec.is_of_group kinds.now group k }
+{
+    match kind_at(kinds, k as usize) {
+        Some(kind) => serves(kind, group),
+        None => false,
+    }
+}

@@ -1,0 +1,15 @@
+//! Documents in JSON: the first fault of one that is none.
+#![tactic(auto)]
+
+pub mod document;
+mod env;
+pub mod fault;
+mod floats;
+pub mod kinds;
+mod levels;
+mod literal;
+mod nodes;
+mod place;
+pub mod refusal;
+mod table;
+pub mod value;

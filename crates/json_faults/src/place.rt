@@ -1,0 +1,286 @@
+//! The fields of one node.
+
+ghost use Rattle.std.specs.Prelude.{◌≡◌, ◌<◌, length, map};
+ghost use Rattle.serde_json.specs.View.{view, items_view};
+ghost use Rattle.serde_json.specs.Find.{as_array, as_str};
+ghost use Rattle.json_kinds.specs.Table.{said};
+ghost use Rattle.json_faults.specs.Literals as text;
+ghost use Rattle.json_faults.specs.Values.{all_items, is_plain};
+ghost use Rattle.json_faults.specs.Nodes as spec;
+ghost use Rattle.json_faults.specs.Nodes.{here, Walks, text_is};
+
+use crate::fault::Fault;
+use crate::kinds::{is_of_group, kind_at};
+use crate::levels::{below, use_each};
+use crate::literal::{is_integer, is_truth};
+use crate::value::{are_between, are_parts, index, is_plain, is_range, is_word, small};
+use json_kinds::field::{Field, Sort};
+use json_kinds::group::Group;
+use json_kinds::kind::Kind;
+use serde_json::Value;
+use std::slice;
+
+/// The fields of every kind.
+fn heading() -> &'static [Field]
+    ensures { map said result.now ≡ spec.heading }
+{
+    &[
+        Field {
+            name: "id",
+            sort: Sort::Number,
+        },
+        Field {
+            name: "r",
+            sort: Sort::Range,
+        },
+    ]
+}
+
+/// Whether the field is the text.
+fn says(node: &Value, name: &str, text: &str) -> bool
+    ensures { result ≡ spec.says name.now text.now (view node.now) }
+{
+    match node.get(name) {
+        Some(Value::String(found)) => found.as_str() == text,
+        _ => false,
+    }
+}
+
+fn literal_sort(node: &Value) -> Sort
+    ensures { result ≡ spec.sort_at (view node.now) Sort.LiteralText }
+{
+    if says(node, "lit", "int") {
+        Sort::Integer
+    } else if says(node, "lit", "bool") {
+        Sort::Truth
+    } else {
+        Sort::Text
+    }
+}
+
+/// What a field holds, in the light of the others.
+fn sort_at(node: &Value, sort: Sort) -> Sort
+    ensures { result ≡ spec.sort_at (view node.now) sort }
+{
+    match sort {
+        Sort::LiteralText => literal_sort(node),
+        _ => sort,
+    }
+}
+
+/// Whether a field of the sort must be there.
+fn is_owed(sort: Sort) -> bool
+    ensures { result ≡ spec.is_owed sort }
+{
+    match sort {
+        Sort::Text | Sort::PlainText | Sort::Word(_) | Sort::Integer | Sort::Truth => true,
+        _ => false,
+    }
+}
+
+fn is_plain_text(value: &Value) -> bool
+    ensures { result ≡ text_is is_plain (as_str (view value.now)) }
+{
+    match value.as_str() {
+        Some(text) => is_plain(text),
+        None => false,
+    }
+}
+
+fn is_integer_text(value: &Value) -> bool
+    ensures { result ≡ text_is text.is_integer (as_str (view value.now)) }
+{
+    match value.as_str() {
+        Some(text) => is_integer(text.as_bytes()),
+        None => false,
+    }
+}
+
+fn is_truth_text(value: &Value) -> bool
+    ensures { result ≡ text_is text.is_truth (as_str (view value.now)) }
+{
+    match value.as_str() {
+        Some(text) => is_truth(text),
+        None => false,
+    }
+}
+
+/// Whether a value without parts fits the sort.
+fn fits(sort: Sort, value: &Value) -> bool
+    ensures { result ≡ spec.fits sort (view value.now) }
+{
+    match sort {
+        Sort::Text | Sort::TextIfThere => value.as_str().is_some(),
+        Sort::PlainText => is_plain_text(value),
+        Sort::Word(set) | Sort::WordIfThere(set) => is_word(set, value),
+        Sort::Flag => value.as_bool().is_some(),
+        Sort::Number => small(value).is_some(),
+        Sort::Range => is_range(value),
+        Sort::Integer => is_integer_text(value),
+        Sort::Truth => is_truth_text(value),
+        _ => false,
+    }
+}
+
+/// A node of a list, and the kinds of all.
+#[derive(Clone, Copy)]
+pub struct Place<'k, 'n> {
+    pub kinds: &'k [Option<Kind>],
+    pub at: usize,
+    pub node: &'n Value,
+}
+
+impl Place<'_, '_> {
+    /// Whether a number is the index of a node of the group.
+    fn has_part(&self, group: Group, value: &Value) -> bool
+        ensures { result ≡ spec.has_part self.now.kinds.now group (view value.now) }
+    {
+        match index(value) {
+            None => true,
+            Some(k) => is_of_group(self.kinds, group, k),
+        }
+    }
+
+    fn have_parts(&self, group: Group, items: &[Value]) -> bool
+        ensures { result ≡ all_items (spec.has_part self.now.kinds.now group) (items_view items.now) }
+    {
+        for item in items {
+            if !self.has_part(group, item) {
+                return false;
+            }
+        }
+        true
+    }
+
+    fn field_fault(&self, field: &'static str) -> Fault
+        ensures { result ≡ Fault.Field self.now.at field.entry }
+    {
+        Fault::Field {
+            node: self.at,
+            field,
+        }
+    }
+
+    /// Uses the parts in a field.
+    fn parts(
+        &self,
+        levels: &mut [u16],
+        name: &'static str,
+        group: Group,
+        nulls: bool,
+        items: &[Value],
+    ) -> Result<(), Fault>
+        requires { self.now.at < length levels.old }
+        ensures walks { Walks (spec.parts (here self.now) name.now group nulls (items_view items.now) levels.old) result levels.new }
+        ensures kept { length levels.new ≡ length levels.old }
+    {
+        if !are_parts(group, nulls, items) {
+            return Err(self.field_fault(name));
+        }
+        if !are_between(self.at, self.kinds.len(), items) {
+            return Err(Fault::Index {
+                node: self.at,
+                field: name,
+            });
+        }
+        let level = below(levels[self.at]);
+        if !use_each(levels, level, items) {
+            return Err(Fault::UsedTwice {
+                node: self.at,
+                field: name,
+            });
+        }
+        if !self.have_parts(group, items) {
+            return Err(self.field_fault(name));
+        }
+        Ok(())
+    }
+
+    fn list(
+        &self,
+        levels: &mut [u16],
+        name: &'static str,
+        group: Group,
+        nulls: bool,
+        value: &Value,
+    ) -> Result<(), Fault>
+        requires { self.now.at < length levels.old }
+        ensures walks { Walks (spec.list (here self.now) name.now group nulls (as_array (view value.now)) levels.old) result levels.new }
+        ensures kept { length levels.new ≡ length levels.old }
+    {
+        match value.as_array() {
+            Some(items) => self.parts(levels, name, group, nulls, items.as_slice()),
+            None => Err(self.field_fault(name)),
+        }
+    }
+
+    fn value(
+        &self,
+        levels: &mut [u16],
+        name: &'static str,
+        sort: Sort,
+        value: &Value,
+    ) -> Result<(), Fault>
+        requires { self.now.at < length levels.old }
+        ensures walks { Walks (spec.value (here self.now) name.now sort (view value.now) levels.old) result levels.new }
+        ensures kept { length levels.new ≡ length levels.old }
+    {
+        match sort {
+            Sort::Part(group) => self.parts(levels, name, group, false, slice::from_ref(value)),
+            Sort::List(group) => self.list(levels, name, group, false, value),
+            Sort::ListWithNulls(group) => self.list(levels, name, group, true, value),
+            _ => {
+                if fits(sort, value) {
+                    Ok(())
+                } else {
+                    Err(self.field_fault(name))
+                }
+            }
+        }
+    }
+
+    fn field(&self, levels: &mut [u16], field: &Field) -> Result<(), Fault>
+        requires { self.now.at < length levels.old }
+        ensures walks { Walks (spec.field (here self.now) (said field.now) levels.old) result levels.new }
+        ensures kept { length levels.new ≡ length levels.old }
+    {
+        let sort = sort_at(self.node, field.sort);
+        match self.node.get(field.name) {
+            Some(value) => self.value(levels, field.name, sort, value),
+            None => {
+                if is_owed(sort) {
+                    Err(self.field_fault(field.name))
+                } else {
+                    Ok(())
+                }
+            }
+        }
+    }
+
+    fn fields(&self, levels: &mut [u16], fields: &[Field]) -> Result<(), Fault>
+        requires { self.now.at < length levels.old }
+        ensures walks { Walks (spec.fields (here self.now) (map said fields.now) levels.old) result levels.new }
+        ensures kept { length levels.new ≡ length levels.old }
+    {
+        for field in fields {
+            self.field(levels, field)?;
+        }
+        Ok(())
+    }
+
+    /// Sees that the node has no fault, and uses its parts.
+    pub fn check(&self, levels: &mut [u16]) -> Result<(), Fault>
+        requires { self.now.at < length levels.old }
+        ensures walks { Walks (spec.node (here self.now) levels.old) result levels.new }
+        ensures kept { length levels.new ≡ length levels.old }
+    {
+        let Value::Object(_) = self.node else {
+            return Err(Fault::NotAnObject { node: self.at });
+        };
+        let Some(kind) = kind_at(self.kinds, self.at) else {
+            return Err(Fault::Kind { node: self.at });
+        };
+        self.fields(levels, heading())?;
+        self.fields(levels, kind.fields())
+    }
+}

@@ -1,0 +1,38 @@
+//! The tables of an environment.
+
+ghost use Rattle.std.specs.Prelude.{◌≡◌, map};
+ghost use Rattle.json_faults.specs.Tables.{said, tables};
+
+/// What stands at one place of an entry.
+#[derive(Clone, Copy)]
+pub enum Cell {
+    /// A number of 32 bits.
+    Small,
+}
+
+/// A table of an environment: its name, and what each entry holds.
+#[derive(Clone, Copy)]
+pub struct Table {
+    pub name: &'static str,
+    pub cells: &'static [Cell],
+}
+
+/// The tables, in order.
+pub fn tables() -> &'static [Table]
+    ensures { map said result.now ≡ tables }
+{
+    &[
+        Table {
+            name: "disabled",
+            cells: &[Cell::Small, Cell::Small, Cell::Small],
+        },
+        Table {
+            name: "hygiene",
+            cells: &[Cell::Small, Cell::Small, Cell::Small],
+        },
+        Table {
+            name: "blocks",
+            cells: &[Cell::Small, Cell::Small, Cell::Small, Cell::Small],
+        },
+    ]
+}

@@ -1,0 +1,147 @@
+//! What JSON values are.
+
+ghost use Rattle.std.specs.Prelude.{◌≡◌, map, option_map, Some};
+ghost use Rattle.json_kinds.specs.Words.{words};
+ghost use Rattle.serde_json.specs.Find.{get_item};
+ghost use Rattle.serde_json.specs.View.{view, items_view};
+ghost use Rattle.json_faults.specs.Values.{small_of, index_of, is_pair, has_word, is_word, is_plain, is_part, stands_for};
+ghost use Rattle.json_faults.specs.Values as spec;
+
+use json_kinds::group::Group;
+use json_kinds::words::Words;
+use serde_json::Value;
+
+/// The index that a value is.
+pub fn index(value: &Value) -> Option<u64>
+    ensures { result ≡ index_of (view value.now) }
+{
+    value.as_u64()
+}
+
+/// A number of 32 bits.
+pub fn small(value: &Value) -> Option<u32>
+    ensures { result ≡ small_of (view value.now) }
+{
+    match index(value) {
+        Some(n) if n <= 4_294_967_295 => Some(n as u32),
+        _ => None,
+    }
+}
+
+#[tactic(auto, using(crate::proofs::Pairs::too_short, crate::proofs::Pairs::too_long))]
+fn are_two(items: &[Value]) -> bool
+    ensures { result ≡ is_pair (Some (items_view items.now)) }
+{
+    match items {
+        [start, end] => small(start).is_some() && small(end).is_some(),
+        _ => false,
+    }
+}
+
+/// Whether the value is a list of two numbers of 32 bits.
+pub fn is_range(value: &Value) -> bool
+    ensures { result ≡ spec.is_range (view value.now) }
+{
+    match value.as_array() {
+        Some(items) => are_two(items.as_slice()),
+        None => false,
+    }
+}
+
+fn has_word(words: &[&str], text: &str) -> bool
+    ensures { result ≡ has_word (map (λ w. w.now) words.now) text.now }
+{
+    for word in words {
+        if *word == text {
+            return true;
+        }
+    }
+    false
+}
+
+/// Whether the value is a word of the set.
+pub fn is_word(set: Words, value: &Value) -> bool
+    ensures { result ≡ is_word (words set) (view value.now) }
+{
+    match value.as_str() {
+        Some(text) => has_word(set.all(), text),
+        None => false,
+    }
+}
+
+/// Whether a name is other than `$crate`.
+pub fn is_plain(text: &str) -> bool
+    ensures { result ≡ is_plain text.now }
+{
+    text != "$crate"
+}
+
+/// Whether a text may stand in place of a node of the group.
+fn stands_for(group: Group, text: &str) -> bool
+    ensures { result ≡ stands_for group text.now }
+{
+    match group {
+        Group::Name => is_plain(text),
+        Group::Lifetime => true,
+        _ => false,
+    }
+}
+
+fn is_part(group: Group, nulls: bool, value: &Value) -> bool
+    ensures { result ≡ is_part group nulls (view value.now) }
+{
+    match value {
+        Value::Number(_) => true,
+        Value::String(text) => stands_for(group, text.as_str()),
+        Value::Null => nulls,
+        _ => false,
+    }
+}
+
+/// Whether each value may stand for a part of the group: a number, and also a text or null where these may.
+pub fn are_parts(group: Group, nulls: bool, items: &[Value]) -> bool
+    ensures { result ≡ spec.all_items (is_part group nulls) (items_view items.now) }
+{
+    for item in items {
+        if !is_part(group, nulls, item) {
+            return false;
+        }
+    }
+    true
+}
+
+fn is_between(low: usize, high: usize, value: &Value) -> bool
+    ensures { result ≡ spec.is_between low high (view value.now) }
+{
+    match value {
+        Value::Number(number) => match number.as_u64() {
+            Some(k) => (low as u64) < k && k < (high as u64),
+            None => false,
+        },
+        _ => true,
+    }
+}
+
+/// Whether each number is an index past one place, and in front of another.
+pub fn are_between(low: usize, high: usize, items: &[Value]) -> bool
+    ensures { result ≡ spec.all_items (spec.is_between low high) (items_view items.now) }
+{
+    for item in items {
+        if !is_between(low, high, item) {
+            return false;
+        }
+    }
+    true
+}
+
+/// The item at a place, none past the end.
+#[tactic(auto, using(crate::proofs::Items::found_at, crate::proofs::Items::past_items))]
+pub fn item_at(items: &[Value], at: usize) -> Option<&Value>
+    ensures { option_map (λ v. view v.now) result ≡ get_item at (items_view items.entry.now) }
+{
+    if at < items.len() {
+        Some(&items[at])
+    } else {
+        None
+    }
+}

@@ -1,0 +1,160 @@
+-- The table of kinds.
+use Rattle.std.specs.Prelude.{ℕ, List, [], ◌∷◌, Option, Some, None, codes, bytes_eq, find}
+use Rattle.json_kinds.specs.declared.kind.Kind.{Kind}
+use Rattle.json_kinds.specs.declared.kind.Kind.TheVariants as kind
+use Rattle.json_kinds.specs.declared.group.Group.{Group}
+use Rattle.json_kinds.specs.declared.group.Group.TheVariants as group
+use Rattle.json_kinds.specs.declared.words.Words.TheVariants as words
+use Rattle.json_kinds.specs.declared.field.Field.{Field}
+use Rattle.json_kinds.specs.declared.field.Sort.{Sort}
+use Rattle.json_kinds.specs.declared.field.Sort.TheVariants as sort
+
+-- a field: its name, and what it holds
+pub record Named : Type 0 where
+  pub name : List ℕ
+  pub sort : Sort
+
+abbrev pub said : Field → Named
+said f = record { name = f.name.now; sort = f.sort }
+
+infixr 6 ◌∶◌
+abbrev ◌∶◌ : List ℕ → Sort → Named
+n ∶ s = record { name = n; sort = s }
+
+-- a kind: its word, the groups that it serves in, and its fields in order
+pub record Row : Type 0 where
+  pub word : List ℕ
+  pub groups : List Group
+  pub fields : List Named
+
+abbrev pub row : Kind → Row
+row kind.IfExpr = record {
+  word = codes "IfExpr";
+  groups = group.Expr ∷ group.Else ∷ [];
+  fields = (codes "condition" ∶ sort.Part group.Expr)
+      ∷ (codes "then" ∶ sort.Part group.Block)
+      ∷ (codes "else" ∶ sort.Part group.Else)
+      ∷ [];
+}
+row kind.BlockExpr = record {
+  word = codes "BlockExpr";
+  groups = group.Expr ∷ group.Block ∷ group.Else ∷ [];
+  fields = (codes "mod" ∶ sort.NotYet)
+      ∷ (codes "label" ∶ sort.Part group.Label)
+      ∷ (codes "move" ∶ sort.NotYet)
+      ∷ (codes "ty" ∶ sort.NotYet)
+      ∷ (codes "stmts" ∶ sort.List group.Stmt)
+      ∷ (codes "tail" ∶ sort.Part group.Expr)
+      ∷ [];
+}
+row kind.LoopExpr = record {
+  word = codes "LoopExpr";
+  groups = group.Expr ∷ [];
+  fields = (codes "label" ∶ sort.Part group.Label) ∷ (codes "body" ∶ sort.Part group.Block) ∷ [];
+}
+row kind.CallExpr = record {
+  word = codes "CallExpr";
+  groups = group.Expr ∷ [];
+  fields = (codes "expr" ∶ sort.Part group.Expr) ∷ (codes "args" ∶ sort.List group.Expr) ∷ [];
+}
+row kind.PathExpr = record {
+  word = codes "PathExpr";
+  groups = group.Expr ∷ [];
+  fields = (codes "path" ∶ sort.Part group.Path) ∷ [];
+}
+row kind.ContinueExpr = record {
+  word = codes "ContinueExpr";
+  groups = group.Expr ∷ [];
+  fields = (codes "lifetime" ∶ sort.Part group.Lifetime) ∷ [];
+}
+row kind.BreakExpr = record {
+  word = codes "BreakExpr";
+  groups = group.Expr ∷ [];
+  fields = (codes "lifetime" ∶ sort.Part group.Lifetime) ∷ (codes "expr" ∶ sort.Part group.Expr) ∷ [];
+}
+row kind.ParenExpr = record {
+  word = codes "ParenExpr";
+  groups = group.Expr ∷ [];
+  fields = (codes "expr" ∶ sort.Part group.Expr) ∷ [];
+}
+row kind.Literal = record {
+  word = codes "Literal";
+  groups = group.Expr ∷ [];
+  fields = (codes "lit" ∶ sort.Word words.Literals) ∷ (codes "t" ∶ sort.LiteralText) ∷ (codes "suffix" ∶ sort.TextIfThere) ∷ [];
+}
+row kind.ExprStmt = record {
+  word = codes "ExprStmt";
+  groups = group.Stmt ∷ [];
+  fields = (codes "expr" ∶ sort.Part group.Expr) ∷ (codes "semi" ∶ sort.Flag) ∷ [];
+}
+row kind.Item = record { word = codes "Item"; groups = group.Stmt ∷ []; fields = [] }
+row kind.Path = record {
+  word = codes "Path";
+  groups = group.Path ∷ [];
+  fields = (codes "leading" ∶ sort.NotYet)
+      ∷ (codes "in_macro" ∶ sort.NotYet)
+      ∷ (codes "use" ∶ sort.NotYet)
+      ∷ (codes "segs" ∶ sort.ListWithNulls group.Segment)
+      ∷ [];
+}
+row kind.PathSegment = record {
+  word = codes "PathSegment";
+  groups = group.Segment ∷ [];
+  fields = (codes "seg" ∶ sort.WordIfThere words.Segments)
+      ∷ (codes "name" ∶ sort.Part group.Name)
+      ∷ (codes "generics" ∶ sort.NotYet)
+      ∷ (codes "parens" ∶ sort.NotYet)
+      ∷ (codes "ret" ∶ sort.NotYet)
+      ∷ (codes "rtn" ∶ sort.NotYet)
+      ∷ (codes "ty" ∶ sort.NotYet)
+      ∷ (codes "trait" ∶ sort.NotYet)
+      ∷ [];
+}
+row kind.Label = record {
+  word = codes "Label";
+  groups = group.Label ∷ [];
+  fields = (codes "lifetime" ∶ sort.Part group.Lifetime) ∷ [];
+}
+row kind.Lifetime = record {
+  word = codes "Lifetime";
+  groups = group.Lifetime ∷ [];
+  fields = (codes "t" ∶ sort.Text) ∷ [];
+}
+row kind.Name = record {
+  word = codes "Name";
+  groups = group.Name ∷ [];
+  fields = (codes "t" ∶ sort.PlainText) ∷ [];
+}
+row kind.Fn = record {
+  word = codes "Fn";
+  groups = group.Fn ∷ [];
+  fields = (codes "generics" ∶ sort.NotYet)
+      ∷ (codes "where" ∶ sort.NotYet)
+      ∷ (codes "params" ∶ sort.NotYet)
+      ∷ (codes "ret" ∶ sort.NotYet)
+      ∷ (codes "body" ∶ sort.Part group.Expr)
+      ∷ (codes "async" ∶ sort.NotYet)
+      ∷ (codes "gen" ∶ sort.NotYet)
+      ∷ [];
+}
+
+-- the kinds that serve as expressions
+abbrev pub exprs : List Kind
+exprs = kind.IfExpr ∷ kind.BlockExpr ∷ kind.LoopExpr ∷ kind.CallExpr ∷ kind.PathExpr
+    ∷ kind.ContinueExpr ∷ kind.BreakExpr ∷ kind.ParenExpr ∷ kind.Literal ∷ []
+
+-- all other kinds
+abbrev pub others : List Kind
+others = kind.ExprStmt ∷ kind.Item ∷ kind.Path ∷ kind.PathSegment ∷ kind.Label ∷ kind.Lifetime ∷ kind.Name ∷ kind.Fn ∷ []
+
+-- the first of some kinds with a word
+abbrev pub named : List Kind → List ℕ → Option Kind
+named ks t = find (λ k. bytes_eq t (row k).word) ks
+
+abbrev pub or_else : Option Kind → Option Kind → Option Kind
+or_else (Some k) o = Some k
+or_else None o = o
+
+-- the kind with a word
+abbrev pub kind_of : List ℕ → Option Kind
+kind_of t = or_else (named exprs t) (named others t)

@@ -1,0 +1,40 @@
+//! What fields hold.
+
+use crate::group::Group;
+use crate::words::Words;
+
+/// What a field holds.
+#[derive(Clone, Copy)]
+pub enum Sort {
+    /// A text, which has to be there.
+    Text,
+    TextIfThere,
+    /// A text, which has to be there, other than `$crate`: paths from a macro's crate aren't read yet.
+    PlainText,
+    /// A word of the set, which has to be there.
+    Word(Words),
+    WordIfThere(Words),
+    Flag,
+    /// A number of 32 bits.
+    Number,
+    /// Two numbers of 32 bits.
+    Range,
+    Part(Group),
+    List(Group),
+    ListWithNulls(Group),
+    /// A text that fits the kind of the literal, and has to be there.
+    LiteralText,
+    /// A text of digits, of a number of 128 bits, which has to be there.
+    Integer,
+    /// `true` or `false`, as a text, which has to be there.
+    Truth,
+    /// No value: what the field says isn't read yet.
+    NotYet,
+}
+
+/// A field of a kind.
+#[derive(Clone, Copy)]
+pub struct Field {
+    pub name: &'static str,
+    pub sort: Sort,
+}

@@ -1,0 +1,16 @@
+//! The groups that kinds serve in.
+
+/// What a field for parts may want. A kind serves in one group or several.
+#[derive(Clone, Copy, PartialEq, Eq)]
+pub enum Group {
+    Expr,
+    Block,
+    Else,
+    Stmt,
+    Path,
+    Segment,
+    Label,
+    Lifetime,
+    Name,
+    Fn,
+}

@@ -1,0 +1,27 @@
+//! The words that fields hold.
+
+ghost use Rattle.std.specs.Prelude.{◌≡◌, map};
+ghost use Rattle.json_kinds.specs.Words.{words};
+
+/// A set of words.
+#[derive(Clone, Copy)]
+pub enum Words {
+    Literals,
+    Segments,
+    Owners,
+    Containers,
+}
+
+impl Words {
+    /// The words of the set.
+    pub fn all(self) -> &'static [&'static str]
+        ensures { map (λ w. w.now) result.now ≡ words self }
+    {
+        match self {
+            Words::Literals => &["str", "bytestr", "cstr", "char", "bool", "int", "float"],
+            Words::Segments => &["name"],
+            Words::Owners => &["fn", "static", "const", "variant"],
+            Words::Containers => &["module", "extern", "impl", "trait"],
+        }
+    }
+}

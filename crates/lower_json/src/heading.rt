@@ -1,0 +1,59 @@
+//! What a document says of itself.
+
+ghost use Rattle.std.specs.Prelude.{◌≡◌};
+ghost use Rattle.serde_json.specs.View.{view};
+ghost use Rattle.lower_json.specs.Documents.{owner_word, owners, owner_of, container_word, containers, container_of};
+ghost use Rattle.lower_json.specs.Words.{named};
+
+use crate::field::text;
+use hir_store::ids::{
+    ConstId, DefWithBodyId, ExternBlockId, FunctionId, ImplId, ItemContainerId, ModuleId, StaticId,
+    TraitId, VariantId,
+};
+use serde_json::Value;
+
+fn owner_with(word: &str) -> Option<DefWithBodyId>
+    ensures { result ≡ named owner_word owners word.now }
+{
+    match word {
+        "fn" => Some(DefWithBodyId::FunctionId(FunctionId(0))),
+        "static" => Some(DefWithBodyId::StaticId(StaticId(0))),
+        "const" => Some(DefWithBodyId::ConstId(ConstId(0))),
+        "variant" => Some(DefWithBodyId::VariantId(VariantId(0))),
+        _ => None,
+    }
+}
+
+fn container_with(word: &str) -> Option<ItemContainerId>
+    ensures { result ≡ named container_word containers word.now }
+{
+    match word {
+        "module" => Some(ItemContainerId::ModuleId(ModuleId(0))),
+        "extern" => Some(ItemContainerId::ExternBlockId(ExternBlockId(0))),
+        "impl" => Some(ItemContainerId::ImplId(ImplId(0))),
+        "trait" => Some(ItemContainerId::TraitId(TraitId(0))),
+        _ => None,
+    }
+}
+
+/// What the body belongs to, a function where the document doesn't say.
+pub fn owner(document: &Value) -> DefWithBodyId
+    ensures { result ≡ owner_of (view document.now) }
+{
+    let written = match text(document, "owner") {
+        Some(word) => owner_with(word),
+        None => None,
+    };
+    written.unwrap_or(DefWithBodyId::FunctionId(FunctionId(0)))
+}
+
+/// What the owner stands in, a module where the document doesn't say.
+pub fn container(document: &Value) -> ItemContainerId
+    ensures { result ≡ container_of (view document.now) }
+{
+    let written = match text(document, "container") {
+        Some(word) => container_with(word),
+        None => None,
+    };
+    written.unwrap_or(ItemContainerId::ModuleId(ModuleId(0)))
+}

@@ -1,0 +1,130 @@
+//! Blocks, statements, paths, labels, names and functions.
+
+ghost use Rattle.std.specs.Prelude.{◌≡◌, IfOk, codes, option_and_then};
+ghost use Rattle.serde_json.specs.View.{view};
+ghost use Rattle.lower_json.specs.Fields.{text_in};
+ghost use Rattle.lower_json.specs.Others as spec;
+ghost use Rattle.lower_json.specs.Nodes.{here};
+
+use crate::field::{flag, text};
+use crate::node::{Node, ReadParts};
+use crate::part::AnyPart;
+use hir_syntax::Text;
+use hir_syntax::ast::{
+    BlockExpr, Expr, Fn, Label, Lifetime, Name, Path, PathSegment, SegmentKind, Stmt, StmtKind,
+};
+use json_kinds::kind::Kind;
+use serde_json::Value;
+use std::alloc::{AllocError, Global};
+
+#[tactic(auto, unfolding(crate::specs::Others::statement))]
+pub fn statement<P: ReadParts>(
+    node: &Node<'_, P>,
+    kind: Kind,
+) -> Result<Option<StmtKind>, AllocError>
+    requires { P.can node.now.parts.now }
+    ensures { IfOk result (λ stmt. stmt ≡ spec.statement (here P.parts node.now) kind) }
+{
+    match kind {
+        Kind::ExprStmt => Ok(Some(StmtKind::ExprStmt {
+            expr: node.boxed::<Expr>("expr")?,
+            semi: flag(node.value, "semi"),
+        })),
+        Kind::Item => Ok(Some(StmtKind::Item)),
+        _ => Ok(None),
+    }
+}
+
+fn segment_kind(node: &Value) -> Option<SegmentKind>
+    ensures { result ≡ option_and_then spec.segment_kind (text_in (codes "seg") (view node.now)) }
+{
+    match text(node, "seg") {
+        Some("name") => Some(SegmentKind::Name),
+        _ => None,
+    }
+}
+
+/// A copy of the text that a name or a lifetime is.
+fn own_text(alloc: Global, node: &Value) -> Result<Option<Text>, AllocError>
+    ensures { IfOk result (λ t. t ≡ text_in (codes "t") (view node.now)) }
+{
+    match text(node, "t") {
+        Some(text) => Ok(Some(Text::new(alloc, text)?)),
+        None => Ok(None),
+    }
+}
+
+fn lifetime<P: ReadParts>(node: &Node<'_, P>) -> Result<Option<AnyPart>, AllocError>
+    ensures { IfOk result (λ part. part ≡ spec.lifetime (here P.parts node.now)) }
+{
+    match own_text(node.alloc, node.value)? {
+        Some(t) => Ok(Some(AnyPart::Lifetime(Lifetime {
+            id: node.id,
+            range: node.range,
+            t,
+        }))),
+        None => Ok(None),
+    }
+}
+
+fn name<P: ReadParts>(node: &Node<'_, P>) -> Result<Option<AnyPart>, AllocError>
+    ensures { IfOk result (λ part. part ≡ spec.name (here P.parts node.now)) }
+{
+    match own_text(node.alloc, node.value)? {
+        Some(t) => Ok(Some(AnyPart::Name(Name {
+            id: node.id,
+            range: node.range,
+            t,
+        }))),
+        None => Ok(None),
+    }
+}
+
+/// What is neither a statement nor an expression, and blocks.
+#[tactic(auto, unfolding(crate::specs::Others::other))]
+pub fn other<P: ReadParts>(node: &Node<'_, P>, kind: Kind) -> Result<Option<AnyPart>, AllocError>
+    requires { P.can node.now.parts.now }
+    ensures { IfOk result (λ part. part ≡ spec.other (here P.parts node.now) kind) }
+{
+    match kind {
+        Kind::BlockExpr => Ok(Some(AnyPart::Block(BlockExpr {
+            id: node.id,
+            range: node.range,
+            label: node.part::<Label>("label")?,
+            stmts: node.list::<Stmt>("stmts")?,
+            tail: node.boxed::<Expr>("tail")?,
+        }))),
+        Kind::Path => Ok(Some(AnyPart::Path(Path {
+            id: node.id,
+            range: node.range,
+            segs: node.list_with_nulls::<PathSegment>("segs")?,
+        }))),
+        Kind::PathSegment => Ok(Some(AnyPart::Segment(PathSegment {
+            id: node.id,
+            range: node.range,
+            seg: segment_kind(node.value),
+            name: node.name("name")?,
+        }))),
+        Kind::Label => Ok(Some(AnyPart::Label(Label {
+            id: node.id,
+            range: node.range,
+            lifetime: node.lifetime("lifetime")?,
+        }))),
+        Kind::Lifetime => lifetime(node),
+        Kind::Name => name(node),
+        _ => Ok(None),
+    }
+}
+
+/// A function, of which the body is read alone.
+#[tactic(auto, unfolding(crate::specs::Others::function))]
+pub fn function<P: ReadParts>(node: &Node<'_, P>) -> Result<Fn, AllocError>
+    requires { P.can node.now.parts.now }
+    ensures { IfOk result (λ tree. tree ≡ spec.function (here P.parts node.now)) }
+{
+    Ok(Fn {
+        id: node.id,
+        range: node.range,
+        body: node.part::<Expr>("body")?,
+    })
+}
