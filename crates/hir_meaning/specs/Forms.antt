@@ -15,8 +15,8 @@ use Rattle.hir_scope.specs.Scopes.{Scope}
 use Rattle.hir_meaning.specs.Run.{unit, answered, truth, Event, Answer, test, is_true, enter, operator, tuple, missing, returned}
 use Rattle.hir_meaning.specs.Syntax.{run_each}
 use Rattle.hir_meaning.specs.Same.{ended, left}
-use Rattle.hir_meaning.specs.Small.{at, root, one, literal_at, name_at, in_braces, loop_of, id, stored_one, stored_name, stored_block, stored_loop}
-use Rattle.hir_meaning.specs.Small.{event_of, literal_event, read_name, Example, BothDo}
+use Rattle.hir_meaning.specs.Small.{at, root, one, literal_at, name_at, in_braces, loop_of}
+use Rattle.hir_meaning.specs.Small.{id, stored_one, stored_name, stored_block, stored_loop, event_of, literal_event, read_name, Example, BothDo}
 use Rattle.hir_meaning.specs.Worked.{no}
 
 abbrev pub yes : ℕ → Answer
@@ -139,7 +139,9 @@ second_disabled = record {
 
 -- The tuple is one of one element.
 abbrev pub LeavesOutTheSecond : Type 0
-LeavesOutTheSecond = BothDo second_disabled 0 (no 11 ∷ no 12 ∷ []) (reads_a ∷ event_of tuple (answered 11 ∷ []) 0 ∷ []) (ended (answered 12))
+LeavesOutTheSecond = BothDo second_disabled 0 (no 11 ∷ no 12 ∷ [])
+    (reads_a ∷ event_of tuple (answered 11 ∷ []) 0 ∷ [])
+    (ended (answered 12))
 
 -- the elements of both
 abbrev pub followed : Exprs → Exprs → Exprs
@@ -163,4 +165,6 @@ unsafe_block = record {
 
 -- It is entered without a number, before what is in it happens.
 abbrev pub EntersTheUnsafe : Type 0
-EntersTheUnsafe = BothDo unsafe_block 0 (no 11 ∷ no 12 ∷ []) (event_of (enter None true) [] 0 ∷ literal_event one 1 ∷ []) (ended (answered 12))
+EntersTheUnsafe = BothDo unsafe_block 0 (no 11 ∷ no 12 ∷ [])
+    (event_of (enter None true) [] 0 ∷ literal_event one 1 ∷ [])
+    (ended (answered 12))
