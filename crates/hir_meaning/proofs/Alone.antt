@@ -1,16 +1,16 @@
 -- A body behind a barrier runs as if nothing were outside.
-use Rattle.std.proofs.Common.{◌≡◌, ℕ, Bool, if◌then◌else◌, List, ◌∷◌, ◌++◌, Option, Some, None, refl, ap}
+use Rattle.std.proofs.Common.{◌≡◌, ℕ, Bool, if◌then◌else◌, List, [], ◌∷◌, ◌++◌, Option, Some, None, refl, ap}
 use Rattle.hir_env.specs.Answering.{site_of}
 use Rattle.hir_env.specs.Answered as tree
 use Rattle.hir_env.specs.Answered.{Label, Expr, OptionExpr, Exprs, Block, OptionBlock, Stmts}
 use Rattle.hir_scope.specs.Scopes.{Scope, loop_scope, barrier, outward, in_block}
 use Rattle.hir_scope.proofs.Alone.{nothing_outside}
-use Rattle.hir_meaning.specs.Run.{Value, unit, is_true, call, break, continue}
+use Rattle.hir_meaning.specs.Run.{Value, unit, is_true, call, method_call, yielding, awaiting, break, continue, leave, became}
 use Rattle.hir_meaning.specs.Run.{ends, pure, ◌>>=◌, ◌>>◌, ask, tests, entering}
 use Rattle.hir_meaning.specs.Catching.{turn, loop}
 use Rattle.hir_meaning.specs.Left.{is_kept, is_left, is_last}
 use Rattle.hir_meaning.specs.Syntax.{SyntaxRun, catching, run_expr, run_part, run_block_part, run_or_unit, run_each}
-use Rattle.hir_meaning.specs.Syntax.{run_block, run_tail, run_stmts}
+use Rattle.hir_meaning.specs.Syntax.{run_block, run_tail, run_stmts, unary_operation, run_binary, run_lazy, run_list, leaves_with}
 use Rattle.hir_meaning.specs.Rows.{RunsAlone}
 
 module _ (turns : ℕ) (outer : List Scope) where
@@ -35,6 +35,21 @@ module _ (turns : ℕ) (outer : List Scope) where
         or_unit_alone e inner i >>= (λ v. ends (break ((nothing_outside inner outer jump).breaks i) v))
     expr_alone (tree.continue_expr at jump) inner = λ i. ends (continue ((nothing_outside inner outer jump).continues i))
     expr_alone (tree.block_expr b) inner = block_alone b inner
+    expr_alone (tree.leaf_expr at form) inner = refl
+    expr_alone (tree.unary_expr at form e) inner = λ i.
+        part_alone e inner i >>= (λ v. ask (unary_operation form) (v ∷ []) (Some (site_of at)))
+    expr_alone (tree.binary_expr at form a b) inner = λ i.
+        run_binary form (part_alone a inner i) (part_alone b inner i) (Some (site_of at))
+    expr_alone (tree.lazy_expr at op a b) inner = λ i. run_lazy op (part_alone a inner i) (part_alone b inner i) (Some (site_of at))
+    expr_alone (tree.list_expr at form es) inner = λ i. run_list form (each_alone es inner i) (Some (site_of at))
+    expr_alone (tree.method_call_expr at e name es) inner = λ i.
+        part_alone e inner i >>= (λ v. each_alone es inner i >>= (λ vs. ask (method_call name) (v ∷ vs) (Some (site_of at))))
+    expr_alone (tree.leaving_expr at form e) inner = λ i. or_unit_alone e inner i >>= (λ v. ends (leave (leaves_with form v)))
+    expr_alone (tree.become_expr at e) inner = λ i. part_alone e inner i >>= (λ v. ends (leave (became v)))
+    expr_alone (tree.yield_expr at e) inner = λ i. or_unit_alone e inner i >>= (λ v. ask yielding (v ∷ []) (Some (site_of at)))
+    expr_alone (tree.await_expr at location e) inner = λ i.
+        part_alone e inner i >>= (λ v. ask awaiting (v ∷ []) (Some (site_of at)))
+    expr_alone (tree.nameless_expr at e) inner = refl
 
     pub part_alone : (e : OptionExpr) (inner : List Scope) → run_part turns e (inner ++ barrier ∷ outer) ≡ run_part turns e inner
     part_alone tree.no_expr inner = refl
@@ -57,8 +72,8 @@ module _ (turns : ℕ) (outer : List Scope) where
         else each_alone es inner i
 
     block_alone : (b : Block) (inner : List Scope) → run_block turns b (inner ++ barrier ∷ outer) ≡ run_block turns b inner
-    block_alone (tree.block at label number ss e) inner = rw (in_block_alone label inner)
-        (ap (λ m. entering number (Some (site_of at)) (catching label m))
+    block_alone (tree.block at is_unsafe label number ss e) inner = rw (in_block_alone label inner)
+        (ap (λ m. entering is_unsafe number (Some (site_of at)) (catching label m))
         (stmts_alone ss (is_left e) (run_tail turns e) (tail_alone e) (in_block label inner)))
 
     tail_alone : (e : OptionExpr) (inner : List Scope) → run_tail turns e (inner ++ barrier ∷ outer) ≡ run_tail turns e inner

@@ -110,6 +110,6 @@ module _ (q : Pointer) (by : CfgId) (e : Expr) (semi : Bool) (after : Stmts) whe
       ∙ ap (λ m. before_others turns has_tail scopes x s (none_left (joined ss after)) m) (run_more turns has_tail tail scopes ss)
 
 pub disabled_is_nothing : DisabledIsNothing
-disabled_is_nothing turns p q label number before after by e semi tail ss =
-    ap (λ m. entering number (Some (site_of p)) (catching label m))
+disabled_is_nothing turns p q is_unsafe label number before after by e semi tail ss =
+    ap (λ m. entering is_unsafe number (Some (site_of p)) (catching label m))
     (run_more q by e semi after turns (is_left tail) (run_tail turns tail) (in_block label ss) before)

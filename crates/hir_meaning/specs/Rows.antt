@@ -22,11 +22,11 @@ abbrev pub break_out : Example
 break_out = record {
   written = tree.some_expr (tree.block_expr (in_braces 0 (Some label_a)
       (loop_of 2 None (in_braces 3 None (break_of 4 (Some jump_a) (literal_at 5 one))))));
-  nodes = (stored_one, 5)
-      ∷ (hir.Break (Some (number 0)) (Some (id 0)), 4)
-      ∷ (stored_block None [] 1, 3)
-      ∷ (stored_loop None 2, 2)
-      ∷ (stored_block (Some (number 0)) [] 3, 0)
+  nodes = (stored_one, Some 5)
+      ∷ (hir.Break (Some (number 0)) (Some (id 0)), Some 4)
+      ∷ (stored_block None [] 1, Some 3)
+      ∷ (stored_loop None 2, Some 2)
+      ∷ (stored_block (Some (number 0)) [] 3, Some 0)
       ∷ [];
   root = 4;
 }
@@ -45,12 +45,12 @@ break_past = record {
   written = tree.some_expr (tree.block_expr (block_of 0 (Some label_a)
       (first (loop_of 2 None (in_braces 3 None (break_of 4 (Some jump_a) (literal_at 5 one)))) tree.no_stmts)
       (literal_at 7 two)));
-  nodes = (stored_one, 5)
-      ∷ (hir.Break (Some (number 0)) (Some (id 0)), 4)
-      ∷ (stored_block None [] 1, 3)
-      ∷ (stored_loop None 2, 2)
-      ∷ (stored_two, 7)
-      ∷ (stored_block (Some (number 0)) (statement.Expr (id 3) true ∷ []) 4, 0)
+  nodes = (stored_one, Some 5)
+      ∷ (hir.Break (Some (number 0)) (Some (id 0)), Some 4)
+      ∷ (stored_block None [] 1, Some 3)
+      ∷ (stored_loop None 2, Some 2)
+      ∷ (stored_two, Some 7)
+      ∷ (stored_block (Some (number 0)) (statement.Expr (id 3) true ∷ []) 4, Some 0)
       ∷ [];
   root = 5;
 }
@@ -64,7 +64,7 @@ LeavesTheBlock = BothDo break_past 1 [] (literal_event one 5 ∷ []) (ended (ans
 abbrev pub continue_block : Example
 continue_block = record {
   written = tree.some_expr (tree.block_expr (in_braces 0 (Some label_a) (tree.continue_expr (at 2) (Some jump_a))));
-  nodes = (hir.Continue (Some (number 0)), 2) ∷ (stored_block (Some (number 0)) [] 0, 0) ∷ [];
+  nodes = (hir.Continue (Some (number 0)), Some 2) ∷ (stored_block (Some (number 0)) [] 0, Some 0) ∷ [];
   root = 1;
 }
 
@@ -78,10 +78,10 @@ abbrev pub two_calls : Example
 two_calls = record {
   written = tree.some_expr (tree.call_expr (at 0) (tree.some_expr (name_at 102 1))
       (tree.more_exprs (tree.call_expr (at 2) (tree.some_expr (name_at 103 3)) tree.no_exprs) tree.no_exprs));
-  nodes = (hir.Path (stored_name 102) root, 1)
-      ∷ (hir.Path (stored_name 103) root, 3)
-      ∷ (hir.Call (id 1) [], 2)
-      ∷ (hir.Call (id 0) (id 2 ∷ []), 0)
+  nodes = (hir.Path (stored_name 102) root, Some 1)
+      ∷ (hir.Path (stored_name 103) root, Some 3)
+      ∷ (hir.Call (id 1) [], Some 2)
+      ∷ (hir.Call (id 0) (id 2 ∷ []), Some 0)
       ∷ [];
   root = 3;
 }
@@ -101,15 +101,15 @@ HasTwoSites = BothDo two_calls 0 []
 abbrev pub numbered_block : Example
 numbered_block = record {
   written = tree.some_expr (tree.block_expr
-      (tree.block (at 0) None (Some (record { 0 = 7 })) tree.no_stmts (tree.some_expr (literal_at 1 one))));
-  nodes = (stored_one, 1) ∷ (hir.Block None (Some (record { 0 = 7 })) [] (Some (id 0)), 0) ∷ [];
+      (tree.block (at 0) false None (Some (record { 0 = 7 })) tree.no_stmts (tree.some_expr (literal_at 1 one))));
+  nodes = (stored_one, Some 1) ∷ (hir.Block false None (Some (record { 0 = 7 })) [] (Some (id 0)), Some 0) ∷ [];
   root = 1;
 }
 
 -- It is entered before what is in it happens, and its value is that of its tail.
 abbrev pub EntersItsNumber : Type 0
 EntersItsNumber = BothDo numbered_block 0 (record { yes = false; value = 11 } ∷ record { yes = false; value = 12 } ∷ [])
-    (event_of (enter (record { 0 = 7 })) [] 0 ∷ literal_event one 1 ∷ [])
+    (event_of (enter (Some (record { 0 = 7 })) false) [] 0 ∷ literal_event one 1 ∷ [])
     (ended (answered 12))
 
 -- ---- what isn't the same, and what is
@@ -117,7 +117,7 @@ EntersItsNumber = BothDo numbered_block 0 (record { yes = false; value = 11 } �
 -- A store of one missing expression does not run as a literal.
 abbrev pub MissingIsNoLiteral : Type 0
 MissingIsNoLiteral =
-    let ns = (hir.Missing, 0) ∷ [] in
+    let ns = (hir.Missing, Some 0) ∷ [] in
     SameRun (stored_body (only ns) (from ns) (id 0)) (written_body (tree.some_expr (literal_at 0 one))) → ⊥
 
 -- Parentheses are silent.
@@ -135,10 +135,10 @@ disabled q by e semi = tree.expr_stmt (tree.some_expr (tree.disabled_expr q by e
 -- A disabled statement of a block is nothing, wherever it stands.
 abbrev pub DisabledIsNothing : Type 0
 DisabledIsNothing =
-    (turns : ℕ) (p q : Pointer) (label : Option Label) (number : Option BlockId) (before after : Stmts)
+    (turns : ℕ) (p q : Pointer) (is_unsafe : Bool) (label : Option Label) (number : Option BlockId) (before after : Stmts)
     (by : CfgId) (e : Expr) (semi : Bool) (tail : OptionExpr) (ss : List Scope)
-    → run_block turns (tree.block p label number (joined before (tree.more_stmts (disabled q by e semi) after)) tail) ss
-    ≡ run_block turns (tree.block p label number (joined before after) tail) ss
+    → run_block turns (tree.block p is_unsafe label number (joined before (tree.more_stmts (disabled q by e semi) after)) tail) ss
+    ≡ run_block turns (tree.block p is_unsafe label number (joined before after) tail) ss
 
 -- A body behind a barrier runs as if nothing were outside.
 abbrev pub RunsAlone : Type 0

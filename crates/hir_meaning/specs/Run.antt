@@ -1,6 +1,6 @@
 -- Runs: what is done with the answers that are left and the events so far. Both readings of a body, of its syntax and of
 -- the store, are made of these steps.
-use Rattle.std.specs.Prelude.{ℕ, Bool, true, false, List, [], ◌∷◌, ◌++◌, Option, Some, None}
+use Rattle.std.specs.Prelude.{ℕ, Bool, true, false, List, [], ◌∷◌, ◌++◌, Option, None}
 use Rattle.hir_store.specs.declared.ids.BlockId.{BlockId}
 use Rattle.hir_syntax.specs.declared.ast.LogicOp.{LogicOp}
 use Rattle.hir_syntax.specs.declared.ast.LogicOp.TheVariants as logic

@@ -1,5 +1,5 @@
 -- What small bodies are made of, as they are written and as they are stored.
-use Rattle.std.specs.Prelude.{◌≡◌, ℕ, true, false, List, [], ◌∷◌, map, Option, Some, None}
+use Rattle.std.specs.Prelude.{◌≡◌, ℕ, true, false, List, [], ◌∷◌, map, Option, Some, None, option_map}
 use Rattle.hir_syntax.specs.declared.ast.Literal.{Literal as AstLiteral}
 use Rattle.hir_syntax.specs.declared.ast.LiteralKind.TheVariants.{Int}
 use Rattle.hir_store.specs.Pointers.{Pointer}
@@ -67,7 +67,7 @@ jump_a = jump_of root
 
 -- `{ e }`
 abbrev pub in_braces : ℕ → Option Label → Expr → Block
-in_braces n label e = tree.block (at n) label None tree.no_stmts (tree.some_expr e)
+in_braces n label e = tree.block (at n) false label None tree.no_stmts (tree.some_expr e)
 
 -- `e;`, before others
 abbrev pub first : Expr → Stmts → Stmts
@@ -75,7 +75,7 @@ first e ss = tree.more_stmts (tree.expr_stmt (tree.some_expr e) true) ss
 
 -- `{ ss e }`
 abbrev pub block_of : ℕ → Option Label → Stmts → Expr → Block
-block_of n label ss e = tree.block (at n) label None ss (tree.some_expr e)
+block_of n label ss e = tree.block (at n) false label None ss (tree.some_expr e)
 
 abbrev pub loop_of : ℕ → Option Label → Block → Expr
 loop_of n label b = tree.loop_expr (at n) label (tree.some_block b)
@@ -85,9 +85,9 @@ break_of n jump e = tree.break_expr (at n) jump (tree.some_expr e)
 
 -- ---- stored
 
--- expressions, each with the node that it came from
+-- expressions, each with the node that it came from, where it came from one
 abbrev pub Nodes : Type 0
-Nodes = List (Stored × ℕ)
+Nodes = List (Stored × Option ℕ)
 
 -- a store of these alone
 abbrev pub only : Nodes → Store
@@ -95,7 +95,7 @@ only ns = record { exprs = map (λ n. n.0) ns; labels = []; roots = [] }
 
 abbrev pub from : Nodes → SourceMap
 from ns = record {
-  expr_sources = map (λ n. Some (at n.1)) ns;
+  expr_sources = map (λ n. option_map at n.1) ns;
   label_sources = [];
   expr_map = [];
   label_map = [];
@@ -122,9 +122,9 @@ stored_one = hir.Literal (stored_digit 49)
 abbrev pub stored_two : Stored
 stored_two = hir.Literal (stored_digit 50)
 
--- a block without a number
+-- a safe block without a number
 abbrev pub stored_block : Option LabelId → List Statement → ℕ → Stored
-stored_block label ss tail = hir.Block label None ss (Some (id tail))
+stored_block label ss tail = hir.Block false label None ss (Some (id tail))
 
 abbrev pub stored_loop : Option LabelId → ℕ → Stored
 stored_loop label body = hir.Loop (id body) label source.Loop

@@ -1,5 +1,5 @@
--- How a stored body runs: over a store and the sources of its expressions. It knows literals, paths, calls, conditions,
--- loops, blocks and the numbers of labels, and nothing of the tree (rust-analyzer, `hir_def::hir::Expr`).
+-- How a stored body runs: over a store and the sources of its expressions. It knows the stored forms and the
+-- numbers of labels, and nothing of the tree (rust-analyzer, `hir_def::hir::Expr`).
 use Rattle.std.specs.Prelude.{ℕ, zero, suc, Bool, false, nat_eq, if◌then◌else◌, List, [], ◌∷◌, length, slice_get}
 use Rattle.std.specs.Prelude.{Option, Some, None, option_map}
 use Rattle.hir_store.specs.Pointers.{flattened}
@@ -80,7 +80,7 @@ module _ (turns : ℕ) (part : ExprId → StoreRun Value) where
 module _ (store : Store) (source_map : SourceMap) where
   -- one node, with what runs its parts
   module _ (turns : ℕ) (part : ExprId → StoreRun Value) where
-    -- what is done with the value of one operand, and of two
+    -- what is done with the value of one operand, and with those of two, from left to right
     abbrev pub operand : ExprId → Operation → Option Site → StoreRun Value
     operand e operation site = do
       v ← part e

@@ -2,6 +2,8 @@
 -- numbers and no stack of labels.
 use Rattle.std.specs.Prelude.{ℕ, Bool, true, false, List, [], ◌∷◌, Option, Some, None, if◌then◌else◌}
 use Rattle.hir_store.specs.declared.ids.HygieneId.{HygieneId}
+use Rattle.hir_syntax.specs.declared.ast.LogicOp.{LogicOp}
+use Rattle.hir_syntax.specs.declared.ast.BinaryOp.TheVariants as ast
 use Rattle.hir_env.specs.NodeMap.{Site}
 use Rattle.hir_env.specs.Answering.{site_of}
 use Rattle.hir_env.specs.Answered as tree
@@ -39,9 +41,24 @@ unary_operation (tree.field_of name) = field name
 unary_operation (tree.prefix_of op) = prefix op
 unary_operation (tree.reference_to rawness mutability) = reference rawness mutability
 
+-- `&&` and `||`: the left side, a test of it at the form, and the right side where that doesn't decide
+abbrev pub run_lazy : LogicOp → SyntaxRun Value → SyntaxRun Value → Option Site → SyntaxRun Value
+run_lazy op left right site = do
+  v ← left
+  holds ← tests is_true v site
+  lazily op holds right
+
 abbrev pub binary_operation : Binary → Operation
 binary_operation (tree.operator op) = operator op
 binary_operation tree.index_of = index
+
+-- Every operator but `&&` and `||` has the values of both sides.
+abbrev pub run_binary : Binary → SyntaxRun Value → SyntaxRun Value → Option Site → SyntaxRun Value
+run_binary (tree.operator (Some (ast.LogicOp op))) left right site = run_lazy op left right site
+run_binary form left right site = do
+  v ← left
+  w ← right
+  ask (binary_operation form) (v ∷ w ∷ []) site
 
 -- a leading comma stands for an element in front that is missing
 abbrev pub run_list : Listing → SyntaxRun (List Value) → Option Site → SyntaxRun Value
@@ -88,14 +105,8 @@ module _ (turns : ℕ) where
     run_expr (tree.unary_expr at form e) ss = do
       v ← run_part e ss
       ask (unary_operation form) (v ∷ []) (Some (site_of at))
-    run_expr (tree.binary_expr at form a b) ss = do
-      v ← run_part a ss
-      w ← run_part b ss
-      ask (binary_operation form) (v ∷ w ∷ []) (Some (site_of at))
-    run_expr (tree.lazy_expr at op a b) ss = do
-      v ← run_part a ss
-      holds ← tests is_true v (Some (site_of at))
-      lazily op holds (run_part b ss)
+    run_expr (tree.binary_expr at form a b) ss = run_binary form (run_part a ss) (run_part b ss) (Some (site_of at))
+    run_expr (tree.lazy_expr at op a b) ss = run_lazy op (run_part a ss) (run_part b ss) (Some (site_of at))
     run_expr (tree.list_expr at form es) ss = run_list form (run_each es ss) (Some (site_of at))
     run_expr (tree.method_call_expr at e name es) ss = do
       v ← run_part e ss
@@ -124,7 +135,7 @@ module _ (turns : ℕ) where
     run_block_part tree.no_block ss = ends (leave missing)
     run_block_part (tree.some_block b) ss = run_block b ss
 
-    -- an `else` or the value of a break that is absent is unit
+    -- an `else` or the value of a break, a return or a yield that is absent is unit
     pub run_or_unit : OptionExpr → List Scope → SyntaxRun Value
     run_or_unit tree.no_expr ss = pure unit
     run_or_unit (tree.some_expr e) ss = run_expr e ss

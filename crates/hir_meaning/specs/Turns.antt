@@ -20,11 +20,11 @@ continue_early = record {
   written = tree.some_expr (loop_of 0 None (block_of 1 None
       (first (literal_at 2 one) (first (tree.continue_expr (at 3) None) tree.no_stmts))
       (literal_at 4 two)));
-  nodes = (stored_one, 2)
-      ∷ (hir.Continue None, 3)
-      ∷ (stored_two, 4)
-      ∷ (stored_block None (statement.Expr (id 0) true ∷ statement.Expr (id 1) true ∷ []) 2, 1)
-      ∷ (stored_loop None 3, 0)
+  nodes = (stored_one, Some 2)
+      ∷ (hir.Continue None, Some 3)
+      ∷ (stored_two, Some 4)
+      ∷ (stored_block None (statement.Expr (id 0) true ∷ statement.Expr (id 1) true ∷ []) 2, Some 1)
+      ∷ (stored_loop None 3, Some 0)
       ∷ [];
   root = 4;
 }
@@ -41,13 +41,13 @@ loop_inside = loop_of 3 None (block_of 4 None (first (literal_at 5 one) tree.no_
 abbrev pub continue_outer : Example
 continue_outer = record {
   written = tree.some_expr (loop_of 0 (Some label_a) (block_of 2 None (first loop_inside tree.no_stmts) (literal_at 8 two)));
-  nodes = (stored_one, 5)
-      ∷ (hir.Continue (Some (number 0)), 6)
-      ∷ (stored_block None (statement.Expr (id 0) true ∷ []) 1, 4)
-      ∷ (stored_loop None 2, 3)
-      ∷ (stored_two, 8)
-      ∷ (stored_block None (statement.Expr (id 3) true ∷ []) 4, 2)
-      ∷ (stored_loop (Some (number 0)) 5, 0)
+  nodes = (stored_one, Some 5)
+      ∷ (hir.Continue (Some (number 0)), Some 6)
+      ∷ (stored_block None (statement.Expr (id 0) true ∷ []) 1, Some 4)
+      ∷ (stored_loop None 2, Some 3)
+      ∷ (stored_two, Some 8)
+      ∷ (stored_block None (statement.Expr (id 3) true ∷ []) 4, Some 2)
+      ∷ (stored_loop (Some (number 0)) 5, Some 0)
       ∷ [];
   root = 6;
 }
@@ -65,13 +65,13 @@ break_nested inner jump = loop_of 0 (Some label_a) (block_of 2 None
 
 -- the loops have the numbers 0 and 1, the latter where it has a label, and the break is for this number
 abbrev pub stored_nested : Option LabelId → LabelId → Nodes
-stored_nested inner target = (stored_one, 6)
-    ∷ (hir.Break (Some target) (Some (id 0)), 5)
-    ∷ (stored_block None [] 1, 4)
-    ∷ (stored_loop inner 2, 3)
-    ∷ (stored_two, 8)
-    ∷ (stored_block None (statement.Expr (id 3) true ∷ []) 4, 2)
-    ∷ (stored_loop (Some (number 0)) 5, 0)
+stored_nested inner target = (stored_one, Some 6)
+    ∷ (hir.Break (Some target) (Some (id 0)), Some 5)
+    ∷ (stored_block None [] 1, Some 4)
+    ∷ (stored_loop inner 2, Some 3)
+    ∷ (stored_two, Some 8)
+    ∷ (stored_block None (statement.Expr (id 3) true ∷ []) 4, Some 2)
+    ∷ (stored_loop (Some (number 0)) 5, Some 0)
     ∷ []
 
 abbrev pub nested : Option Label → Jump → Option LabelId → LabelId → Example
@@ -103,14 +103,14 @@ HygienesDiffer =
 abbrev pub break_undeclared : Example
 break_undeclared = record {
   written = tree.some_expr (loop_of 0 None (in_braces 1 None (break_of 2 (Some jump_a) (literal_at 3 one))));
-  nodes = (stored_one, 3) ∷ (hir.Break None (Some (id 0)), 2) ∷ (stored_block None [] 1, 1) ∷ (stored_loop None 2, 0) ∷ [];
+  nodes = (stored_one, Some 3) ∷ (hir.Break None (Some (id 0)), Some 2) ∷ (stored_block None [] 1, Some 1) ∷ (stored_loop None 2, Some 0) ∷ [];
   root = 3;
 }
 
 abbrev pub continue_undeclared : Example
 continue_undeclared = record {
   written = tree.some_expr (loop_of 0 None (in_braces 1 None (tree.continue_expr (at 2) (Some jump_a))));
-  nodes = (hir.Continue None, 2) ∷ (stored_block None [] 0, 1) ∷ (stored_loop None 1, 0) ∷ [];
+  nodes = (hir.Continue None, Some 2) ∷ (stored_block None [] 0, Some 1) ∷ (stored_loop None 1, Some 0) ∷ [];
   root = 2;
 }
 
@@ -131,14 +131,14 @@ break_if = tree.if_expr (at 4)
 abbrev pub break_second : Example
 break_second = record {
   written = tree.some_expr (loop_of 0 None (in_braces 1 None (loop_of 2 None (in_braces 3 None break_if))));
-  nodes = (hir.Break None None, 7)
-      ∷ (stored_block None [] 0, 6)
-      ∷ (stored_one, 5)
-      ∷ (hir.If (id 2) (id 1) None, 4)
-      ∷ (stored_block None [] 3, 3)
-      ∷ (stored_loop None 4, 2)
-      ∷ (stored_block None [] 5, 1)
-      ∷ (stored_loop None 6, 0)
+  nodes = (hir.Break None None, Some 7)
+      ∷ (stored_block None [] 0, Some 6)
+      ∷ (stored_one, Some 5)
+      ∷ (hir.If (id 2) (id 1) None, Some 4)
+      ∷ (stored_block None [] 3, Some 3)
+      ∷ (stored_loop None 4, Some 2)
+      ∷ (stored_block None [] 5, Some 1)
+      ∷ (stored_loop None 6, Some 0)
       ∷ [];
   root = 7;
 }

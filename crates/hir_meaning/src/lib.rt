@@ -6,6 +6,8 @@ ghost use Rattle.hir_meaning.specs.Worked.{RunsAsWorked};
 ghost use Rattle.hir_meaning.specs.Rows.{LeavesTheLoop, LeavesTheBlock, HasNoTurn, StraysFromBlock, HasTwoSites, EntersItsNumber};
 ghost use Rattle.hir_meaning.specs.Rows.{MissingIsNoLiteral, ParenthesesAreSilent, DisabledIsNothing, RunsAlone};
 ghost use Rattle.hir_meaning.specs.Turns.{EndsTheTurn, ContinuesTheOuter, BreaksTheOuter, HygienesDiffer, UndeclaredIsPlain, HasFreshTurns};
+ghost use Rattle.hir_meaning.specs.Forms.{OperatesInOrder, DecidesByLeft, DecidesByRight, ReturnsFromInside, EmptyTupleIsSilent};
+ghost use Rattle.hir_meaning.specs.Forms.{MissesItsFront, LeavesOutTheSecond, ElementIsNothing, EntersTheUnsafe};
 
 /// `'a: { loop { break 'a 1 } }` with one turn is the literal and its value.
 pub fn leaves_the_loop()
@@ -65,6 +67,51 @@ pub fn undeclared_is_plain()
 /// A loop inside a loop has all its turns at each entry.
 pub fn has_fresh_turns()
     ensures { HasFreshTurns }
+{}
+
+/// `a + b` reads a, reads b, and then adds them.
+pub fn operates_in_order()
+    ensures { OperatesInOrder }
+{}
+
+/// Where the left side of `a && b` or `a || b` decides, b is not read.
+pub fn decides_by_left()
+    ensures { DecidesByLeft }
+{}
+
+/// Where it does not, the value is that of b.
+pub fn decides_by_right()
+    ensures { DecidesByRight }
+{}
+
+/// `f(loop { return 1 })` ends as returned, and f is not called.
+pub fn returns_from_inside()
+    ensures { ReturnsFromInside }
+{}
+
+/// `()` is unit, and nothing happens.
+pub fn empty_tuple_is_silent()
+    ensures { EmptyTupleIsSilent }
+{}
+
+/// `(, a)` ends as missing before a is read.
+pub fn misses_its_front()
+    ensures { MissesItsFront }
+{}
+
+/// `(a, b)` with a disabled b is a tuple of one element.
+pub fn leaves_out_the_second()
+    ensures { LeavesOutTheSecond }
+{}
+
+/// A disabled element of a list changes nothing, wherever it stands.
+pub fn element_is_nothing()
+    ensures { ElementIsNothing }
+{}
+
+/// An unsafe block without a number is entered before what is in it happens.
+pub fn enters_the_unsafe()
+    ensures { EntersTheUnsafe }
 {}
 
 /// The body that docs/MEANING.md works out.

@@ -1,5 +1,7 @@
 -- What each node of the store stands for, given what its parts stand for.
-use Rattle.std.proofs.Common.{◌≡◌, ℕ, if◌then◌else◌, List, [], ◌∷◌, Option, Some, None, refl, ap}
+use Rattle.std.proofs.Common.{◌≡◌, ℕ, Bool, if◌then◌else◌, List, [], ◌∷◌, Option, Some, None, refl, ap}
+use Rattle.hir_syntax.specs.declared.ast.LogicOp.{LogicOp}
+use Rattle.hir_syntax.specs.declared.ast.BinaryOp.TheVariants as ast
 use Rattle.hir_store.specs.Pointers.{Pointer}
 use Rattle.hir_store.specs.Stored.{Stored}
 use Rattle.hir_store.specs.declared.hir.Expr.TheVariants as hir
@@ -11,15 +13,16 @@ use Rattle.hir_store.specs.declared.ids.BlockId.{BlockId}
 use Rattle.hir_env.specs.Answered.{Label, Jump}
 use Rattle.hir_env.specs.Answering.{site_of}
 use Rattle.hir_meaning.specs.Run.{Value, unit, is_true, break, continue, leave, missing}
-use Rattle.hir_meaning.specs.Run.{ends, pure, ◌>>=◌, tests, entering}
+use Rattle.hir_meaning.specs.Run.{ends, pure, ◌>>=◌, tests, entering, lazily}
 use Rattle.hir_meaning.specs.Catching.{turn, loop, block}
 use Rattle.hir_scope.specs.Scopes.{block_scope, break_target, continue_target, outward, past_block as past_block_scope}
+use Rattle.hir_meaning.specs.Syntax.{run_lazy}
 use Rattle.hir_meaning.specs.Jumps.{NamesAmong}
 use Rattle.hir_steps.proofs.Frames.{Frame, block_at, inside, scopes, Falls}
 use Rattle.hir_steps.proofs.Steps.{Mark, Allocated}
 use Rattle.hir_same_meaning.proofs.Views.{Numbered, number, numbers, loop_frame, loop_numbers, count_break, count_continue}
 use Rattle.hir_same_meaning.proofs.Relation.{same_ends, same_pure, same_bind, same_tests, same_if, same_turns, same_loop}
-use Rattle.hir_same_meaning.proofs.Relation.{same_block, same_plain_block, same_entering}
+use Rattle.hir_same_meaning.proofs.Relation.{same_lazily, same_stop, same_block, same_plain_block, same_entering}
 use Rattle.hir_same_meaning.proofs.Senses.{Walk, one, optional, many, contents, Goes, goes_at}
 
 module _ {labels : ℕ} {m m' : Mark} {at : Option Pointer} {final : Stored} {ps qs : List Frame} {i : ExprId} where
@@ -37,6 +40,24 @@ module _ {labels : ℕ} {m m' : Mark} {at : Pointer} {final : Stored} {ps qs : L
       (λ v. same_bind (same_tests is_true v (Some (site_of at)))
       (λ b. same_if b (t.same turns d le f) (e.same turns d le f))))
       (λ d le. (c.jumps d le, t.jumps d le, e.jumps d le))
+
+  pub goes_lazy : {op : LogicOp} {a b : ExprId} {x y : Walk Value} → Goes labels m.nodes one x final ps a
+      → Goes labels m.nodes one y final ps b → Allocated (hir.BinaryOp (Some (ast.LogicOp op)) a b) (Some at) final qs m m' i
+      → Goes labels m'.nodes one (λ turns ss. run_lazy op (x turns ss) (y turns ss) (Some (site_of at))) final ps i
+  goes_lazy {op = op} a b here = goes_at here
+      (λ turns d le f. same_bind (a.same turns d le f)
+      (λ v. same_bind (same_tests is_true v (Some (site_of at)))
+      (λ holds. same_lazily op holds (b.same turns d le f))))
+      (λ d le. (a.jumps d le, b.jumps d le))
+
+  -- a tuple whose first element is missing
+  pub goes_front_missing : {first : ExprId} {es : List ExprId} {x : Walk (List Value)}
+      → Goes labels m.nodes one (λ turns ss. ends (leave missing)) final ps first → Goes labels m.nodes many x final ps es
+      → Allocated (hir.Tuple (first ∷ es)) (Some at) final qs m m' i
+      → Goes labels m'.nodes one (λ turns ss. ends (leave missing)) final ps i
+  goes_front_missing h hs here = goes_at here
+      (λ turns d le f. same_stop _ missing (same_stop _ missing (h.same turns d le f)))
+      (λ d le. (h.jumps d le, hs.jumps d le))
 
   pub goes_break : {n : Option LabelId} {e : Option ExprId} {x : Walk Value} (j : Option Jump)
       → (Falls labels ps → count_break ps n ≡ break_target (scopes ps) j) → NamesAmong (numbers ps) n
@@ -60,22 +81,22 @@ module _ {labels : ℕ} {m m' : Mark} {at : Pointer} {final : Stored} {ps qs : L
       (λ turns d le f. same_loop (same_turns n (same_bind (h.same turns d le (falls f)) (λ v. same_pure None))) turns)
       (λ d le. let r = h.jumps d le in rw (loop_numbers n ps) at r)
 
-  pub goes_plain_block : {r : List Statement × Option ExprId} {x : Walk Value} (number : Option BlockId)
+  pub goes_plain_block : {r : List Statement × Option ExprId} {x : Walk Value} (is_unsafe : Bool) (number : Option BlockId)
       → Goes labels m.nodes contents x final ps r
-      → Allocated (hir.Block None number r.0 r.1) (Some at) final qs m m' i
-      → Goes labels m'.nodes one (λ turns ss. entering number (Some (site_of at)) (x turns ss)) final ps i
-  goes_plain_block number h a = goes_at a
-      (λ turns d le f. same_entering number (Some (site_of at)) (same_plain_block (h.same turns d le f)))
+      → Allocated (hir.Block is_unsafe None number r.0 r.1) (Some at) final qs m m' i
+      → Goes labels m'.nodes one (λ turns ss. entering is_unsafe number (Some (site_of at)) (x turns ss)) final ps i
+  goes_plain_block is_unsafe number h a = goes_at a
+      (λ turns d le f. same_entering is_unsafe number (Some (site_of at)) (same_plain_block (h.same turns d le f)))
       (λ d le. h.jumps d le)
 
-  pub goes_block : {labels' : ℕ} {r : List Statement × Option ExprId} {x : Walk Value} (number : Option BlockId) (l : Label) (n : LabelId)
-      → (Falls labels ps → Falls labels' (block_at l n ∷ ps))
+  pub goes_block : {labels' : ℕ} {r : List Statement × Option ExprId} {x : Walk Value} (is_unsafe : Bool) (number : Option BlockId)
+      (l : Label) (n : LabelId) → (Falls labels ps → Falls labels' (block_at l n ∷ ps))
       → Goes labels' m.nodes contents x final (block_at l n ∷ ps) r
-      → Allocated (hir.Block (Some n) number r.0 r.1) (Some at) final qs m m' i
-      → Goes labels m'.nodes one (λ turns ss. entering number (Some (site_of at))
+      → Allocated (hir.Block is_unsafe (Some n) number r.0 r.1) (Some at) final qs m m' i
+      → Goes labels m'.nodes one (λ turns ss. entering is_unsafe number (Some (site_of at))
       (block outward past_block_scope (x turns (block_scope l ∷ ss)))) final ps i
-  goes_block number l n falls h a = goes_at a
-      (λ turns d le f. same_entering number (Some (site_of at))
+  goes_block is_unsafe number l n falls h a = goes_at a
+      (λ turns d le f. same_entering is_unsafe number (Some (site_of at))
       (same_block (record { label = l; number = n }) (h.same turns d le (falls f))))
       (λ d le. h.jumps d le)
 

@@ -14,18 +14,21 @@ use Rattle.hir_store.specs.declared.ids.LabelId.{LabelId}
 use Rattle.hir_store.specs.declared.ids.BlockId.{BlockId}
 use Rattle.hir_store.specs.declared.ids.HygieneId.{HygieneId}
 use Rattle.hir_store.specs.declared.ids.CfgId.{CfgId}
+use Rattle.hir_store.specs.declared.diagnostics.AwaitLocation.{AwaitLocation}
 use Rattle.hir_store.specs.declared.diagnostics.ExpressionStoreDiagnostics.TheVariants.{InactiveCode}
 use Rattle.hir_env.specs.Answered as tree
+use Rattle.hir_env.specs.Answered.{Leaf, Unary, Binary, Listing, Leaving}
 use Rattle.hir_env.specs.Answered.{Label, Jump, Segments, Expr, OptionExpr, Exprs, Block, OptionBlock, Stmts, Stmt}
 use Rattle.hir_lower_form.specs.Lowering.{Lowering, ◌>>=◌, pure, alloc_expr, report}
 use Rattle.hir_lower_form.specs.Lower.{Node, push_some, missing, some, if_form, loop_form, call_form, continue_form, break_form}
 use Rattle.hir_lower_form.specs.Lower.{paren_form, names_of, named_path, stored_path, settled, settled_block, Contents, block_form}
 use Rattle.hir_lower_form.specs.Lower.{labelled, kept, lower, lower_part, present, kept_part, lower_each, lower_block, lower_block_part}
-use Rattle.hir_lower_form.specs.Lower.{lower_stmts}
+use Rattle.hir_lower_form.specs.Lower.{lower_stmts, stored_leaf, stored_unary, stored_binary, stored_lazy, stored_leaving}
+use Rattle.hir_lower_form.specs.Lower.{operand_form, operands_form, value_form, list_form, method_call_form, await_form}
 use Rattle.hir_same_meaning.specs.Reached.{of_some, of_each, of_statement, of_statements, below, reached_to, Spread}
 use Rattle.hir_steps.proofs.Frames.{Frame, loop_at, block_at}
 use Rattle.hir_steps.proofs.Steps.{Mark, Grows, Rel, Correct, Allocated, correct_bind, correct_as, correct_pure}
-use Rattle.hir_steps.proofs.Steps.{correct_report, correct_point, correct_enter_block, correct_alloc, correct_opened, correct_target}
+use Rattle.hir_steps.proofs.Steps.{correct_report, correct_report_await, correct_point, correct_enter_block, correct_alloc, correct_opened, correct_target}
 use Rattle.hir_same_meaning.proofs.Spread.{spread_none, spread_wider, spread_append, spread_node}
 use Rattle.hir_same_meaning.proofs.Forms.{Pushed, pushed_none, pushed_one, correct_statement}
 
@@ -85,7 +88,79 @@ owns2 e from is hp hq = correct_as (correct_bind hp (λ a. correct_bind hq (λ c
     owns_at m r.second (omega arith) (λ d le. rw (is (reached_to final.exprs.entries d) row.one r.one)
     (spread_append m.nodes r.middle.nodes (inl (omega arith)) (omega arith) (row.first.spread d (omega arith)) (r.first.spread d le))))
 
+-- a node of one part, or of a list
+owns1 : {A : Type 0} {n : (ExprId → List ℕ) → A → List ℕ} {p : Lowering A} (e : A → HirExpr) (from : Option Pointer)
+    → ((f : ExprId → List ℕ) (a : A) → below f (e a) ≡ n f a)
+    → Correct p (OwnsAs n) → Correct (p >>= (λ a. alloc_expr (e a) from)) Owns
+owns1 e from is hp = correct_as (correct_bind hp (λ a. correct_alloc (e a) from))
+    (λ final ps m m' i g row.
+    owns_at m row.second (omega arith) (λ d le. rw (is (reached_to final.exprs.entries d) row.one) (row.first.spread d le)))
+
+leaf_below : (form : Leaf) (f : ExprId → List ℕ) → below f (stored_leaf form) ≡ []
+leaf_below tree.underscore f = refl
+leaf_below tree.include_bytes f = refl
+leaf_below tree.left_out f = refl
+
+unary_below : (form : Unary) (f : ExprId → List ℕ) (i : ExprId) → below f (stored_unary form i) ≡ f i
+unary_below (tree.field_of name) f i = refl
+unary_below (tree.prefix_of op) f i = refl
+unary_below (tree.reference_to rawness mutability) f i = refl
+
+binary_below : (form : Binary) (f : ExprId → List ℕ) (i j : ExprId) → below f (stored_binary form i j) ≡ f i ++ f j
+binary_below (tree.operator op) f i j = refl
+binary_below tree.index_of f i j = refl
+
+leaving_below : (form : Leaving) (f : ExprId → List ℕ) (o : Option ExprId) → below f (stored_leaving form o) ≡ of_some f o
+leaving_below tree.returning f o = refl
+leaving_below tree.yeeting f o = refl
+
 module _ (at : Pointer) where
+  operand_owns : (make : ExprId → HirExpr) {p : Node} → ((f : ExprId → List ℕ) (i : ExprId) → below f (make i) ≡ f i) → Correct p Owns
+      → Correct (operand_form at make p) Owns
+  unfolding operand_form
+  operand_owns make is h = owns1 make (Some at) is h
+
+  operands_owns : (make : ExprId → ExprId → HirExpr) {p q : Node}
+      → ((f : ExprId → List ℕ) (i j : ExprId) → below f (make i j) ≡ f i ++ f j) → Correct p Owns → Correct q Owns
+      → Correct (operands_form at make p q) Owns
+  unfolding operands_form
+  operands_owns make is hp hq = owns2 make (Some at) is hp hq
+
+  value_owns : (make : Option ExprId → HirExpr) {p : Lowering (Option ExprId)}
+      → ((f : ExprId → List ℕ) (o : Option ExprId) → below f (make o) ≡ of_some f o) → Correct p OwnsSome
+      → Correct (value_form at make p) Owns
+  unfolding value_form
+  value_owns make is h = owns1 make (Some at) is h
+
+  list_owns : (form : Listing) {p : Lowering (List ExprId)} → Correct p (OwnsAs of_each) → Correct (list_form at form p) Owns
+  unfolding list_form
+  list_owns (tree.tuple_of false) h = owns1 hir.Tuple (Some at) (λ f es. refl) h
+  list_owns (tree.tuple_of true) h = correct_as
+      (correct_bind h (λ es. correct_bind missing_owns (λ first. correct_alloc (hir.Tuple (first ∷ es)) (Some at))))
+      (λ final ps m m' i g row. let r = row.second in
+      owns_at m r.second (omega arith) (λ d le. spread_append m.nodes r.middle.nodes (inr (omega arith)) (omega arith)
+      (r.first.spread d le) (row.first.spread d (omega arith))))
+  list_owns tree.array_of h = owns1 hir.Array (Some at) (λ f es. refl) h
+
+  method_call_owns : (name : Name) {p : Node} {q : Lowering (List ExprId)} → Correct p Owns → Correct q (OwnsAs of_each)
+      → Correct (method_call_form at p name q) Owns
+  unfolding method_call_form
+  method_call_owns name hp hq = owns2 (λ e es. hir.MethodCall e name es) (Some at) (λ f e es. refl) hp hq
+
+  await_owns : (location : Option AwaitLocation) {p : Node} → Correct p Owns → Correct (await_form at location p) Owns
+  unfolding await_form
+  await_owns location h = correct_as
+      (correct_bind h (λ e. correct_bind (correct_report_await at location) (λ u. correct_alloc (hir.Await e) (Some at))))
+      (λ final ps m m' i g row. let r = row.second in
+      owns_at m r.second (omega arith) (λ d le. spread_wider m.nodes r.middle.nodes (omega arith) (omega arith)
+      (row.first.spread d (omega arith))))
+
+  -- a prefix without operator reaches nothing
+  nameless_owns : {p : Node} → Correct p Owns → Correct (operand_form at (λ i. hir.Missing) p) Owns
+  unfolding operand_form
+  nameless_owns h = correct_as (correct_bind h (λ e. correct_alloc hir.Missing (Some at)))
+      (λ final ps m m' i g row. owns_at m row.second (omega arith) (λ d le. spread_none m.nodes row.middle.nodes))
+
   if_owns : {c t : Node} {e : Lowering (Option ExprId)} → Correct c Owns → Correct t Owns → Correct e OwnsSome
       → Correct (if_form at c t e) Owns
   unfolding if_form
@@ -220,22 +295,22 @@ settled_below f (statement.Expr i false ∷ []) None = sym (append-nil (f i ++ [
 settled_below f (statement.Expr i false ∷ (s ∷ ss)) None =
     one_below f i (settled (s ∷ ss) None).0 (s ∷ ss) (settled (s ∷ ss) None).1 None (settled_below f (s ∷ ss) None)
 
-block_form_owns : (at : Pointer) (label : Option LabelId) (number : Option BlockId) {p : Lowering Contents} → Correct p (Filled [])
-    → Correct (block_form at label number p) Owns
+block_form_owns : (at : Pointer) (is_unsafe : Bool) (label : Option LabelId) (number : Option BlockId) {p : Lowering Contents}
+    → Correct p (Filled []) → Correct (block_form at is_unsafe label number p) Owns
 unfolding block_form
-block_form_owns at label number hp = correct_as
+block_form_owns at is_unsafe label number hp = correct_as
     (correct_bind (correct_enter_block number)
-    (λ u. correct_bind hp (λ r. correct_alloc (settled_block label number (settled r.0 r.1)) (Some at))))
+    (λ u. correct_bind hp (λ r. correct_alloc (settled_block is_unsafe label number (settled r.0 r.1)) (Some at))))
     (λ final ps m m' i g row. let r = row.second in
     owns_at m r.second (omega arith) (λ d le. rw (settled_below (reached_to final.exprs.entries d) r.one.0 r.one.1, r.first.is)
     (spread_wider m.nodes r.middle.nodes (omega arith) (omega arith) (r.first.rel.spread d (omega arith)))))
 
-block_owns : (at : Pointer) (label : Option Label) (number : Option BlockId) {p : Lowering Contents} → Correct p (Filled [])
-    → Correct (labelled label (λ n. block_form at n number p)) Owns
+block_owns : (at : Pointer) (is_unsafe : Bool) (label : Option Label) (number : Option BlockId) {p : Lowering Contents}
+    → Correct p (Filled []) → Correct (labelled label (λ n. block_form at is_unsafe n number p)) Owns
 unfolding labelled
-block_owns at None number hp = block_form_owns at None number hp
-block_owns at (Some l) number hp = correct_as
-    (correct_opened block_at l (λ n ps. refl) (λ n. block_form_owns at (Some n) number hp) (λ n i. correct_pure i))
+block_owns at is_unsafe None number hp = block_form_owns at is_unsafe None number hp
+block_owns at is_unsafe (Some l) number hp = correct_as
+    (correct_opened block_at l (λ n ps. refl) (λ n. block_form_owns at is_unsafe (Some n) number hp) (λ n i. correct_pure i))
     (λ final ps m m' i g row. let e = row.nodes in rw (row.second.is, row.second.still)
     (record { spread = λ d le. spread_wider m.nodes row.left.nodes (omega arith) (omega arith) (row.first.spread d le) }))
 
@@ -256,6 +331,17 @@ mutual
   expr_owns (tree.break_expr at jump e) = break_owns at jump (present_owns e)
   expr_owns (tree.continue_expr at jump) = continue_owns at jump
   expr_owns (tree.block_expr b) = block_is_owns b
+  expr_owns (tree.leaf_expr at form) = leaf_owns (stored_leaf form) (Some at) (leaf_below form)
+  expr_owns (tree.unary_expr at form e) = operand_owns at (stored_unary form) (unary_below form) (part_owns e)
+  expr_owns (tree.binary_expr at form a b) = operands_owns at (stored_binary form) (binary_below form) (part_owns a) (part_owns b)
+  expr_owns (tree.lazy_expr at op a b) = operands_owns at (stored_lazy op) (λ f i j. refl) (part_owns a) (part_owns b)
+  expr_owns (tree.list_expr at form es) = list_owns at form (each_owns_all (each_owns es []))
+  expr_owns (tree.method_call_expr at e name es) = method_call_owns at name (part_owns e) (each_owns_all (each_owns es []))
+  expr_owns (tree.leaving_expr at form e) = value_owns at (stored_leaving form) (leaving_below form) (present_owns e)
+  expr_owns (tree.become_expr at e) = operand_owns at hir.Become (λ f i. refl) (part_owns e)
+  expr_owns (tree.yield_expr at e) = value_owns at hir.Yield (λ f o. refl) (present_owns e)
+  expr_owns (tree.await_expr at location e) = await_owns at location (part_owns e)
+  expr_owns (tree.nameless_expr at e) = nameless_owns at (part_owns e)
 
   pub part_owns : (e : OptionExpr) → Correct (lower_part e) Owns
   part_owns tree.no_expr = missing_owns
@@ -280,7 +366,7 @@ mutual
       (λ final ps m m' r g row. each_more done row.one row.before row.after row.first row.second)
 
   block_is_owns : (b : Block) → Correct (lower_block b) Owns
-  block_is_owns (tree.block at label number ss e) = block_owns at label number (stmts_owns (kept_part_owns e) ss [])
+  block_is_owns (tree.block at is_unsafe label number ss e) = block_owns at is_unsafe label number (stmts_owns (kept_part_owns e) ss [])
 
   stmts_owns : {q : Lowering (Option ExprId)} → Correct q OwnsSome → (ss : Stmts) (done : List Statement)
       → Correct (lower_stmts done ss q) (Filled done)

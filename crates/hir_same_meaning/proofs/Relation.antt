@@ -1,10 +1,12 @@
 -- Runs of the store that go as runs of the syntax.
 use Rattle.std.proofs.Common.{◌≡◌, ℕ, zero, suc, Bool, true, false, if◌then◌else◌, List, [], ◌∷◌, Option, Some, None, refl, ap, ◌∙◌}
-use Rattle.std.proofs.Common.{subst}
+use Rattle.std.proofs.Common.{subst, sym}
+use Rattle.hir_syntax.specs.declared.ast.LogicOp.{LogicOp}
+use Rattle.hir_syntax.specs.declared.ast.LogicOp.TheVariants as logic
 use Rattle.hir_store.specs.declared.ids.BlockId.{BlockId}
 use Rattle.hir_env.specs.NodeMap.{Site}
-use Rattle.hir_meaning.specs.Run.{Value, answered, Operation, enter, Test, test, Outcome, value, break, continue, leave, cut, World, ends}
-use Rattle.hir_meaning.specs.Run.{pure, after, ◌>>=◌, event, ask, tests, entering}
+use Rattle.hir_meaning.specs.Run.{Value, answered, unit, truth, Operation, enter, tuple, Test, test, Outcome, value, break, continue}
+use Rattle.hir_meaning.specs.Run.{Leave, leave, cut, World, ends, pure, after, ◌>>=◌, event, ask, tests, entering, made_tuple, lazily}
 use Rattle.hir_meaning.specs.Catching.{Step, again, done, Outward, turn_end, goes_on, loop, block, block_end}
 use Rattle.hir_scope.specs.Scopes.{Count, outward, past_block as past_block_scope}
 use Rattle.hir_meaning.specs.Syntax.{SyntaxRun}
@@ -27,6 +29,14 @@ agrees_as : {A S : Type 0} {ps : List Frame} {o : Outcome Named A} {w : World (U
     → s ≡ s' → v ≡ v' → Agrees ps o w (k s v).0 (k s v).1 → Agrees ps o w (k s' v').0 (k s' v').1
 agrees_as {ps = ps} {o = o} {w = w} k {s = s} {s' = s'} {v = v} e e' h =
     subst (λ u. Agrees ps o w (k s' u).0 (k s' u).1) e' (subst (λ t. Agrees ps o w (k t v).0 (k t v).1) e h)
+
+abbrev is_leave : {J A : Type 0} → Outcome J A → Type 0
+is_leave (leave x) = Unit {0}
+is_leave _ = ⊥
+
+abbrev leave_of : {J A : Type 0} → Outcome J A → Leave
+leave_of (leave x) = x
+leave_of _ = cut
 
 -- ---- steps
 
@@ -70,10 +80,36 @@ module _ {ps : List Frame} where
   same_if true h h' = h
   same_if false h h' = h'
 
-  pub same_entering : {A : Type 0} (b : Option BlockId) (site : Option Site) {m : StoreRun A} {n : SyntaxRun A} → SameWhere ps m n
-      → SameWhere ps (entering b site m) (entering b site n)
-  same_entering None site h = h
-  same_entering (Some b) site h = same_bind (same_event (enter b) [] site) (λ a. h)
+  pub same_entering : {A : Type 0} (is_unsafe : Bool) (b : Option BlockId) (site : Option Site) {m : StoreRun A} {n : SyntaxRun A}
+      → SameWhere ps m n → SameWhere ps (entering is_unsafe b site m) (entering is_unsafe b site n)
+  same_entering false None site h = h
+  same_entering false (Some b) site h = same_bind (same_event (enter (Some b) false) [] site) (λ a. h)
+  same_entering true None site h = same_bind (same_event (enter None true) [] site) (λ a. h)
+  same_entering true (Some b) site h = same_bind (same_event (enter (Some b) true) [] site) (λ a. h)
+
+  pub same_made_tuple : (vs : List Value) (site : Option Site) → SameWhere ps (made_tuple vs site) (made_tuple vs site)
+  same_made_tuple [] site = same_pure unit
+  same_made_tuple (v ∷ vs) site = same_ask tuple (v ∷ vs) site
+
+  pub same_lazily : (op : LogicOp) (holds : Bool) {m : StoreRun Value} {n : SyntaxRun Value} → SameWhere ps m n
+      → SameWhere ps (lazily op holds m) (lazily op holds n)
+  same_lazily logic.And true h = h
+  same_lazily logic.And false h = same_pure (truth false)
+  same_lazily logic.Or true h = same_pure (truth true)
+  same_lazily logic.Or false h = h
+
+  stopped : {A B : Type 0} (f : A → StoreRun B) (x : Leave) (o : Outcome Named A) (w w' : World (Unit {0})) → view ps o ≡ leave x
+      → w ≡ w' → Agrees ps (after o w f).0 (after o w f).1 (leave x) w'
+  stopped f x (value a) w w' e e' = absurd (subst is_leave (sym e) tt)
+  stopped f x (break j v) w w' e e' = absurd (subst is_leave (sym e) tt)
+  stopped f x (continue j) w w' e e' = absurd (subst is_leave (sym e) tt)
+  stopped f x (leave y) w w' e e' = record { outcome = ap (λ o. leave (leave_of o)) e; world = e' }
+
+  -- what leaves the body leaves out what is behind it
+  pub same_stop : {A B : Type 0} (f : A → StoreRun B) (x : Leave) {m : StoreRun A} → SameWhere ps m (ends (leave x))
+      → SameWhere ps (m >>= f) (ends (leave x))
+  unfolding ends ◌>>=◌
+  same_stop f x {m = m} h = record { same = λ w. let a = h.same w in stopped f x (m w).0 (m w).1 w a.outcome a.world }
 
 -- ---- loops and blocks
 

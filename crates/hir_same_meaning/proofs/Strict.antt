@@ -1,20 +1,22 @@
--- Forms that run their operands from left to right and then make one event.
-use Rattle.std.proofs.Common.{◌≡◌, ℕ, List, [], Option, Some, arith}
+-- Forms that run their operands from left to right and then make an event or leave.
+use Rattle.std.proofs.Common.{◌≡◌, ℕ, List, [], Option, Some, refl, arith}
 use Rattle.hir_store.specs.Pointers.{Pointer}
-use Rattle.hir_store.specs.Stored.{Store, SourceMap, store_of, map_of}
+use Rattle.hir_store.specs.Stored.{Stored, Store, SourceMap, store_of, map_of}
 use Rattle.hir_store.specs.declared.hir.Expr.{Expr}
 use Rattle.hir_store.specs.declared.ids.ExprId.{ExprId}
 use Rattle.hir_store.specs.declared.ids.LabelId.{LabelId}
 use Rattle.hir_env.specs.NodeMap.{Site}
 use Rattle.hir_env.specs.Answering.{site_of}
 use Rattle.hir_lower_form.specs.Lowering.{Lowering, ◌>>=◌ as ◌then◌, alloc_expr}
-use Rattle.hir_steps.proofs.Steps.{Correct, correct_bind, correct_as, correct_alloc}
-use Rattle.hir_meaning.specs.Run.{Value, Operation, ◌>>=◌, ask}
+use Rattle.hir_steps.proofs.Frames.{Frame}
+use Rattle.hir_steps.proofs.Steps.{Mark, Allocated, Correct, correct_bind, correct_as, correct_alloc}
+use Rattle.hir_meaning.specs.Run.{Value, Operation, Leave, leave, ◌>>=◌, ends, ask, made_tuple}
+use Rattle.hir_meaning.specs.Syntax.{SyntaxRun}
 use Rattle.hir_meaning.specs.Store.{StoreRun, run_node}
 use Rattle.hir_meaning.specs.Jumps.{NodeEnclosed, EnclosedTo}
 use Rattle.hir_same_meaning.proofs.Views.{numbers}
-use Rattle.hir_same_meaning.proofs.Relation.{same_bind, same_ask}
-use Rattle.hir_same_meaning.proofs.Senses.{Walk, Reading, run_in, one, Runs, goes_within, goes_at}
+use Rattle.hir_same_meaning.proofs.Relation.{SameWhere, same_ends, same_bind, same_ask, same_made_tuple}
+use Rattle.hir_same_meaning.proofs.Senses.{Walk, Reading, run_in, one, Goes, Runs, goes_within, goes_at}
 
 -- what a stored expression is made of: what runs its parts, and what its parts' jumps are to name
 abbrev pub RunsParts : Type 0
@@ -37,6 +39,57 @@ event0_fine {e = e} {o = o} at is = correct_as (correct_alloc e (Some at)) (λ f
     (λ turns d le f. rw (is.runs (store_of final) (map_of final) turns (run_in final d turns) (Some (site_of at)))
     (same_ask o [] (Some (site_of at))))
     (λ d le. is.jumps (EnclosedTo final.exprs.entries d) (numbers ps)))
+
+-- ---- one operand, or one that may be absent, or a list of them
+
+-- how a form ends once its operands have their values
+pub record Finish (B : Type 0) : Type 1 where
+  pub stored : B → Option Site → StoreRun Value
+  pub written : B → Option Site → SyntaxRun Value
+  pub same : (ps : List Frame) (b : B) (site : Option Site) → SameWhere ps (stored b site) (written b site)
+
+abbrev pub asks : {B : Type 0} → Operation → (B → List Value) → Finish B
+asks o values = record {
+  stored = λ b site. ask o (values b) site;
+  written = λ b site. ask o (values b) site;
+  same = λ ps b site. same_ask o (values b) site;
+}
+
+abbrev pub leaves : (Value → Leave) → Finish Value
+leaves x = record {
+  stored = λ v site. ends (leave (x v));
+  written = λ v site. ends (leave (x v));
+  same = λ ps v site. same_ends (leave (x v)) refl;
+}
+
+abbrev pub makes_tuple : Finish (List Value)
+makes_tuple = record {
+  stored = λ vs site. made_tuple vs site;
+  written = λ vs site. made_tuple vs site;
+  same = λ ps vs site. same_made_tuple vs site;
+}
+
+pub record Form1 {A B : Type 0} (e : A → Expr) (r : Reading A B) (f : Finish B) : Type 1 where
+  pub runs : (store : Store) (source_map : SourceMap) (turns : ℕ) (part : RunsParts) (a : A) (site : Option Site)
+      → run_node store source_map turns part (e a) site ≡ r.run turns part a >>= (λ b. f.stored b site)
+  pub jumps : (P : JumpsOf) (ls : List LabelId) (a : A) → r.Jumps (P ls) a → NodeEnclosed P ls (e a)
+
+-- the walk of such a form
+abbrev pub finished : {B : Type 0} → Pointer → Walk B → Finish B → Walk Value
+finished at x f turns ss = x turns ss >>= (λ b. f.written b (Some (site_of at)))
+
+pub goes1 : {A B : Type 0} {e : A → Expr} {r : Reading A B} {f : Finish B} {x : Walk B} {at : Pointer} {labels : ℕ} {m m' : Mark}
+    {final : Stored} {ps qs : List Frame} {a : A} {i : ExprId} → Form1 e r f → Goes labels m.nodes r x final ps a
+    → Allocated (e a) (Some at) final qs m m' i → Goes labels m'.nodes one (finished at x f) final ps i
+goes1 {f = f} {at = at} {final = final} {ps = ps} {a = a} is h here = goes_at here
+    (λ turns d le falls. rw (is.runs (store_of final) (map_of final) turns (run_in final d turns) a (Some (site_of at)))
+    (same_bind (h.same turns d le falls) (λ b. f.same ps b (Some (site_of at)))))
+    (λ d le. is.jumps (EnclosedTo final.exprs.entries d) (numbers ps) a (h.jumps d le))
+
+pub form1_fine : {A B : Type 0} {e : A → Expr} {r : Reading A B} {f : Finish B} {p : Lowering A} {x : Walk B} (at : Pointer) → Form1 e r f
+    → Correct p (Runs r x) → Correct (◌then◌ p (λ a. alloc_expr (e a) (Some at))) (Runs one (finished at x f))
+form1_fine {e = e} at is hp = correct_as (correct_bind hp (λ a. correct_alloc (e a) (Some at)))
+    (λ final ps m m' i g row. goes1 is (goes_within (omega arith) row.first) row.second)
 
 -- ---- two operands, or lists of them
 

@@ -33,9 +33,24 @@ module _ (f : ExprId → List ℕ) where
   below (hir.Call g xs) = f g ++ of_each xs
   below (hir.If c t e) = f c ++ (f t ++ of_some e)
   below (hir.Loop b l source) = f b
-  below (hir.Block l number ss tail) = of_statements ss ++ of_some tail
+  below (hir.Block is_unsafe l number ss tail) = of_statements ss ++ of_some tail
   below (hir.Break l e) = of_some e
   below (hir.Continue l) = []
+  below hir.Underscore = []
+  below hir.IncludeBytes = []
+  below (hir.Field e name) = f e
+  below (hir.UnaryOp op e) = f e
+  below (hir.Ref rawness mutability e) = f e
+  below (hir.Await e) = f e
+  below (hir.Become e) = f e
+  below (hir.BinaryOp op a b) = f a ++ f b
+  below (hir.Index a b) = f a ++ f b
+  below (hir.Tuple es) = of_each es
+  below (hir.Array es) = of_each es
+  below (hir.MethodCall e name es) = f e ++ of_each es
+  below (hir.Return e) = of_some e
+  below (hir.Yeet e) = of_some e
+  below (hir.Yield e) = of_some e
 
   abbrev pub below_found : Option Expr → List ℕ
   below_found None = []

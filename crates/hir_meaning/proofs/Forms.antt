@@ -1,0 +1,55 @@
+-- What small bodies of operators, lists, `return` and unsafe blocks do, computed.
+use Rattle.std.proofs.Common.{if◌then◌else◌, ◌∷◌, refl, ap}
+use Rattle.hir_env.specs.Answered as tree
+use Rattle.hir_env.specs.Answered.{Expr, Exprs}
+use Rattle.hir_meaning.specs.Run.{ends, event, pure, ◌>>=◌}
+use Rattle.hir_meaning.specs.Catching.{loop, block}
+use Rattle.hir_meaning.specs.Left.{is_kept}
+use Rattle.hir_meaning.specs.Syntax.{run_expr}
+use Rattle.hir_meaning.specs.Store.{run_store, run_to}
+use Rattle.hir_meaning.specs.Forms.{OperatesInOrder, DecidesByLeft, DecidesByRight, ReturnsFromInside, EmptyTupleIsSilent}
+use Rattle.hir_meaning.specs.Forms.{MissesItsFront, LeavesOutTheSecond, ElementIsNothing, EntersTheUnsafe}
+
+pub operates_in_order : OperatesInOrder
+unfolding ends event ◌>>=◌ loop block run_store run_to
+operates_in_order = record { written = record { events = refl; ends = refl }; stored = record { events = refl; ends = refl } }
+
+pub decides_by_left : DecidesByLeft
+unfolding ends event ◌>>=◌ loop block run_store run_to
+decides_by_left = (
+  record { written = record { events = refl; ends = refl }; stored = record { events = refl; ends = refl } },
+  record { written = record { events = refl; ends = refl }; stored = record { events = refl; ends = refl } },
+)
+
+pub decides_by_right : DecidesByRight
+unfolding ends event ◌>>=◌ loop block run_store run_to
+decides_by_right = (
+  record { written = record { events = refl; ends = refl }; stored = record { events = refl; ends = refl } },
+  record { written = record { events = refl; ends = refl }; stored = record { events = refl; ends = refl } },
+)
+
+pub returns_from_inside : ReturnsFromInside
+unfolding ends event ◌>>=◌ loop block run_store run_to
+returns_from_inside = record { written = record { events = refl; ends = refl }; stored = record { events = refl; ends = refl } }
+
+pub empty_tuple_is_silent : EmptyTupleIsSilent
+unfolding ends event ◌>>=◌ loop block run_store run_to
+empty_tuple_is_silent = record { written = record { events = refl; ends = refl }; stored = record { events = refl; ends = refl } }
+
+pub misses_its_front : MissesItsFront
+unfolding ends event ◌>>=◌ loop block run_store run_to
+misses_its_front = record { written = record { events = refl; ends = refl }; stored = record { events = refl; ends = refl } }
+
+pub leaves_out_the_second : LeavesOutTheSecond
+unfolding ends event ◌>>=◌ loop block run_store run_to
+leaves_out_the_second = record { written = record { events = refl; ends = refl }; stored = record { events = refl; ends = refl } }
+
+pub element_is_nothing : ElementIsNothing
+element_is_nothing turns tree.no_exprs after q by e ss = refl
+element_is_nothing turns (tree.more_exprs x xs) after q by e ss = ap
+    (λ m. if is_kept x then (run_expr turns x ss >>= (λ v. m >>= (λ vs. pure (v ∷ vs)))) else m)
+    (element_is_nothing turns xs after q by e ss)
+
+pub enters_the_unsafe : EntersTheUnsafe
+unfolding ends event ◌>>=◌ loop block run_store run_to
+enters_the_unsafe = record { written = record { events = refl; ends = refl }; stored = record { events = refl; ends = refl } }

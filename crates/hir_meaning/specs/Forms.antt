@@ -1,0 +1,170 @@
+-- Small bodies of operators, lists, `return` and unsafe blocks, and what they do.
+use Rattle.std.specs.Prelude.{◌≡◌, ℕ, true, false, List, [], ◌∷◌, Option, Some, None}
+use Rattle.hir_syntax.specs.declared.ast.ArithOp.TheVariants as arith
+use Rattle.hir_syntax.specs.declared.ast.BinaryOp.{BinaryOp}
+use Rattle.hir_syntax.specs.declared.ast.BinaryOp.TheVariants as ast
+use Rattle.hir_syntax.specs.declared.ast.LogicOp.{LogicOp}
+use Rattle.hir_syntax.specs.declared.ast.LogicOp.TheVariants as logic
+use Rattle.hir_store.specs.Pointers.{Pointer}
+use Rattle.hir_store.specs.declared.hir.Expr.{Expr as Stored}
+use Rattle.hir_store.specs.declared.hir.Expr.TheVariants as hir
+use Rattle.hir_store.specs.declared.ids.CfgId.{CfgId}
+use Rattle.hir_env.specs.Answered as tree
+use Rattle.hir_env.specs.Answered.{Expr, OptionExpr, Exprs}
+use Rattle.hir_scope.specs.Scopes.{Scope}
+use Rattle.hir_meaning.specs.Run.{unit, answered, truth, Event, Answer, test, is_true, enter, operator, tuple, missing, returned}
+use Rattle.hir_meaning.specs.Syntax.{run_each}
+use Rattle.hir_meaning.specs.Same.{ended, left}
+use Rattle.hir_meaning.specs.Small.{at, root, one, literal_at, name_at, in_braces, loop_of}
+use Rattle.hir_meaning.specs.Small.{id, stored_one, stored_name, stored_block, stored_loop, event_of, literal_event, read_name, Example, BothDo}
+use Rattle.hir_meaning.specs.Worked.{no}
+
+abbrev pub yes : ℕ → Answer
+yes n = record { yes = true; value = n }
+
+-- the names a, at node 1, and b, at node 2
+abbrev pub name_a : Expr
+name_a = name_at 97 1
+
+abbrev pub name_b : Expr
+name_b = name_at 98 2
+
+abbrev pub stored_a : Stored
+stored_a = hir.Path (stored_name 97) root
+
+abbrev pub stored_b : Stored
+stored_b = hir.Path (stored_name 98) root
+
+abbrev pub reads_a : Event
+reads_a = event_of (read_name 97) [] 1
+
+abbrev pub reads_b : Event
+reads_b = event_of (read_name 98) [] 2
+
+-- ---- `a + b`
+
+abbrev pub plus : Option BinaryOp
+plus = Some (ast.ArithOp arith.Add)
+
+abbrev pub sum : Example
+sum = record {
+  written = tree.some_expr (tree.binary_expr (at 0) (tree.operator plus) (tree.some_expr name_a) (tree.some_expr name_b));
+  nodes = (stored_a, Some 1) ∷ (stored_b, Some 2) ∷ (hir.BinaryOp plus (id 0) (id 1), Some 0) ∷ [];
+  root = 2;
+}
+
+-- The left side is read, then the right one, and then the operator happens to both values, where the sum stands.
+abbrev pub OperatesInOrder : Type 0
+OperatesInOrder = BothDo sum 0 (no 11 ∷ no 12 ∷ no 13 ∷ [])
+    (reads_a ∷ reads_b ∷ event_of (operator plus) (answered 11 ∷ answered 12 ∷ []) 0 ∷ [])
+    (ended (answered 13))
+
+-- ---- `a && b` and `a || b`
+
+abbrev pub lazy_of : LogicOp → Example
+lazy_of op = record {
+  written = tree.some_expr (tree.lazy_expr (at 0) op (tree.some_expr name_a) (tree.some_expr name_b));
+  nodes = (stored_a, Some 1) ∷ (stored_b, Some 2) ∷ (hir.BinaryOp (Some (ast.LogicOp op)) (id 0) (id 1), Some 0) ∷ [];
+  root = 2;
+}
+
+-- the value 11 of the left side is tested
+abbrev pub tests_a : Event
+tests_a = event_of (test is_true) (answered 11 ∷ []) 0
+
+-- No decides an `and`, yes an `or`: the right side doesn't happen.
+abbrev pub DecidesByLeft : Type 0
+DecidesByLeft =
+    BothDo (lazy_of logic.And) 0 (no 11 ∷ no 12 ∷ []) (reads_a ∷ tests_a ∷ []) (ended (truth false))
+    × BothDo (lazy_of logic.Or) 0 (no 11 ∷ yes 12 ∷ []) (reads_a ∷ tests_a ∷ []) (ended (truth true))
+
+-- Else it happens, and its value is the whole's.
+abbrev pub DecidesByRight : Type 0
+DecidesByRight =
+    BothDo (lazy_of logic.And) 0 (no 11 ∷ yes 12 ∷ no 13 ∷ []) (reads_a ∷ tests_a ∷ reads_b ∷ []) (ended (answered 13))
+    × BothDo (lazy_of logic.Or) 0 (no 11 ∷ no 12 ∷ no 13 ∷ []) (reads_a ∷ tests_a ∷ reads_b ∷ []) (ended (answered 13))
+
+-- ---- `f(loop { return 1 })`
+
+abbrev pub return_inside : Example
+return_inside = record {
+  written = tree.some_expr (tree.call_expr (at 0) (tree.some_expr (name_at 102 1))
+      (tree.more_exprs
+      (loop_of 2 None (in_braces 3 None (tree.leaving_expr (at 4) tree.returning (tree.some_expr (literal_at 5 one)))))
+      tree.no_exprs));
+  nodes = (hir.Path (stored_name 102) root, Some 1)
+      ∷ (stored_one, Some 5)
+      ∷ (hir.Return (Some (id 1)), Some 4)
+      ∷ (stored_block None [] 2, Some 3)
+      ∷ (stored_loop None 3, Some 2)
+      ∷ (hir.Call (id 0) (id 4 ∷ []), Some 0)
+      ∷ [];
+  root = 5;
+}
+
+-- Neither the loop nor the call catches it: the call doesn't happen.
+abbrev pub ReturnsFromInside : Type 0
+ReturnsFromInside = BothDo return_inside 1 [] (event_of (read_name 102) [] 1 ∷ literal_event one 5 ∷ []) (left (returned (answered 0)))
+
+-- ---- `()`, `(, a)` and `(a, b)` with a disabled b
+
+abbrev pub nothing : Example
+nothing = record {
+  written = tree.some_expr (tree.list_expr (at 0) (tree.tuple_of false) tree.no_exprs);
+  nodes = (hir.Tuple [], Some 0) ∷ [];
+  root = 0;
+}
+
+abbrev pub EmptyTupleIsSilent : Type 0
+EmptyTupleIsSilent = BothDo nothing 0 [] [] (ended unit)
+
+abbrev pub front_missing : Example
+front_missing = record {
+  written = tree.some_expr (tree.list_expr (at 0) (tree.tuple_of true) (tree.more_exprs name_a tree.no_exprs));
+  nodes = (stored_a, Some 1) ∷ (hir.Missing, None) ∷ (hir.Tuple (id 1 ∷ id 0 ∷ []), Some 0) ∷ [];
+  root = 2;
+}
+
+-- What is missing stands in front: a is not read.
+abbrev pub MissesItsFront : Type 0
+MissesItsFront = BothDo front_missing 0 [] [] (left missing)
+
+abbrev pub second_disabled : Example
+second_disabled = record {
+  written = tree.some_expr (tree.list_expr (at 0) (tree.tuple_of false)
+      (tree.more_exprs name_a (tree.more_exprs (tree.disabled_expr (at 2) (record { 0 = 0 }) name_b) tree.no_exprs)));
+  nodes = (stored_a, Some 1) ∷ (hir.Tuple (id 0 ∷ []), Some 0) ∷ [];
+  root = 1;
+}
+
+-- The tuple is one of one element.
+abbrev pub LeavesOutTheSecond : Type 0
+LeavesOutTheSecond = BothDo second_disabled 0 (no 11 ∷ no 12 ∷ [])
+    (reads_a ∷ event_of tuple (answered 11 ∷ []) 0 ∷ [])
+    (ended (answered 12))
+
+-- the elements of both
+abbrev pub followed : Exprs → Exprs → Exprs
+followed tree.no_exprs after = after
+followed (tree.more_exprs e es) after = tree.more_exprs e (followed es after)
+
+-- So a disabled element of any list is nothing, wherever it stands.
+abbrev pub ElementIsNothing : Type 0
+ElementIsNothing =
+    (turns : ℕ) (before after : Exprs) (q : Pointer) (by : CfgId) (e : Expr) (ss : List Scope)
+    → run_each turns (followed before (tree.more_exprs (tree.disabled_expr q by e) after)) ss ≡ run_each turns (followed before after) ss
+
+-- ---- `unsafe { 1 }`
+
+abbrev pub unsafe_block : Example
+unsafe_block = record {
+  written = tree.some_expr (tree.block_expr (tree.block (at 0) true None None tree.no_stmts (tree.some_expr (literal_at 1 one))));
+  nodes = (stored_one, Some 1) ∷ (hir.Block true None None [] (Some (id 0)), Some 0) ∷ [];
+  root = 1;
+}
+
+-- It is entered without a number, before what is in it happens.
+abbrev pub EntersTheUnsafe : Type 0
+EntersTheUnsafe = BothDo unsafe_block 0 (no 11 ∷ no 12 ∷ [])
+    (event_of (enter None true) [] 0 ∷ literal_event one 1 ∷ [])
+    (ended (answered 12))
