@@ -1,5 +1,5 @@
 -- Steps whose answers stand for what is written, and the forms that are made of them.
-use Rattle.std.proofs.Common.{◌≡◌, ◌∙◌, refl, sym, ap, subst, List, [], ◌∷◌, length, length-append, slice_get, Option, Some, None}
+use Rattle.std.proofs.Common.{Bool, true, false, ◌≡◌, ◌∙◌, refl, sym, ap, subst, List, [], ◌∷◌, length, length-append, slice_get, Option, Some, None}
 use Rattle.indexmap.specs.IndexMap.{insert_entry}
 use Rattle.hir_syntax.specs.declared.ast.Literal.{Literal as AstLiteral}
 use Rattle.hir_store.specs.Pointers.{Pointer, same_pointer}
@@ -14,18 +14,24 @@ use Rattle.hir_store.specs.declared.ids.BlockId.{BlockId}
 use Rattle.hir_store.specs.declared.ids.HygieneId.{HygieneId}
 use Rattle.hir_store.specs.declared.diagnostics.ExpressionStoreDiagnostics.{ExpressionStoreDiagnostics}
 use Rattle.hir_scope.specs.Ribs.{Rib, Target, found, unreachable, undeclared, target, jump_number}
-use Rattle.hir_env.specs.Answered.{Label, Jump, Segments}
+use Rattle.hir_store.specs.declared.diagnostics.AwaitLocation.{AwaitLocation}
+use Rattle.hir_store.specs.declared.name.Name.{Name}
+use Rattle.hir_env.specs.Answered as tree
+use Rattle.hir_env.specs.Answered.{Leaf, Unary, Binary, Leaving, Listing, Label, Jump, Segments}
 use Rattle.hir_meaning.specs.Data.{PathData, data_if_written}
-use Rattle.hir_lower_form.specs.Lowering.{Lowering, pure, alloc_expr}
+use Rattle.hir_lower_form.specs.Lowering.{Lowering, ◌>>=◌, pure, alloc_expr}
 use Rattle.hir_lower_form.specs.Lower.{Node, Contents, missing, some, if_form, loop_form, call_form, continue_form, break_form}
+use Rattle.hir_lower_form.specs.Lower.{stored_leaf, stored_unary, stored_binary, stored_leaving}
+use Rattle.hir_lower_form.specs.Lower.{operand_form, operands_form, value_form, list_form, method_call_form, await_form}
 use Rattle.hir_lower_form.specs.Lower.{paren_form, block_form, labelled, settled, stored_path, stored_literal}
 use Rattle.hir_steps.proofs.Frames.{Frame, loop_at, block_at, ribs}
 use Rattle.hir_steps.proofs.Steps.{Mark, Rel, Correct, Allocated, Opened, correct_bind, correct_as, correct_pure, correct_point}
 use Rattle.hir_steps.proofs.Steps.{correct_enter_block, correct_alloc, correct_opened, correct_target, with_fault, with_target, with_jump}
-use Rattle.hir_steps.proofs.Steps.{with_block}
+use Rattle.hir_steps.proofs.Steps.{with_block, with_await, correct_report_await}
+use Rattle.hir_one_result.specs.Forms.{leaf_form, unary_form, binary_form, leaving_form}
 use Rattle.hir_one_result.specs.Leads.{Ways, From, FromLabel, ◌&◌}
 use Rattle.hir_one_result.specs.Stands.{Open, Absent, There, ExprAt, LabelAt, StandsMissing, StandsAlone, StandsPath, StandsLiteral}
-use Rattle.hir_one_result.specs.Stands.{InLabel}
+use Rattle.hir_one_result.specs.Stands.{StandsOver, StandsOverTwo, StandsList, InLabel}
 use Rattle.hir_one_result.proofs.Leading.{Shown, shown_as, shown_none, shown_own, shown_label, shown_both, shown_swap, shown_after}
 use Rattle.hir_one_result.proofs.Leading.{shown_before, Moved, moved_same, moved_none}
 use Rattle.hir_one_result.proofs.Data.{PathIs, path_is}
@@ -65,6 +71,11 @@ moved_jump j ps a is = let same = jump_leads j (ribs ps) a in moved_same a (with
 block_leads : (n : Option BlockId) (s : Stored) → ((with_block n s).exprs ≡ s.exprs) × ((with_block n s).labels ≡ s.labels)
 block_leads None s = (refl, refl)
 block_leads (Some n) s = (refl, refl)
+
+await_leads : (at : Pointer) (location : Option AwaitLocation) (s : Stored)
+    → ((with_await at location s).exprs ≡ s.exprs) × ((with_await at location s).labels ≡ s.labels)
+await_leads at None s = (refl, refl)
+await_leads at (Some location) s = (refl, refl)
 
 module _ {e : HirExpr} {final : Stored} {ps : List Frame} {m m' : Mark} {i : ExprId} where
   pub expr_at : {at : Option Pointer} → Allocated e at final ps m m' i → Placed final i e at
@@ -107,6 +118,30 @@ pub alone_stands : (e : HirExpr) (at : Pointer)
     → Correct (alloc_expr e (Some at)) (Shows (λ final rs i. StandsAlone (store_of final) (map_of final) e at i))
 alone_stands e at =
     correct_as (correct_alloc e (Some at)) (λ final ps m m' i g row. record { shown = shown_as (own row) (λ ws x. (expr_at row, x)) })
+
+-- what the description stores for a form of a family is its stored form
+leaf_is : (form : Leaf) → stored_leaf form ≡ leaf_form form
+leaf_is tree.underscore = refl
+leaf_is tree.include_bytes = refl
+leaf_is tree.left_out = refl
+
+pub unary_is : (form : Unary) (e : ExprId) → stored_unary form e ≡ unary_form form e
+unary_is (tree.field_of name) e = refl
+unary_is (tree.prefix_of op) e = refl
+unary_is (tree.reference_to rawness mutability) e = refl
+
+pub binary_is : (form : Binary) (a b : ExprId) → stored_binary form a b ≡ binary_form form a b
+binary_is (tree.operator op) a b = refl
+binary_is tree.index_of a b = refl
+
+pub leaving_is : (form : Leaving) (o : Option ExprId) → stored_leaving form o ≡ leaving_form form o
+leaving_is tree.returning o = refl
+leaving_is tree.yeeting o = refl
+
+pub leaf_stands : (at : Pointer) (form : Leaf)
+    → Correct (alloc_expr (stored_leaf form) (Some at)) (Shows (λ final rs i. StandsAlone (store_of final) (map_of final) (leaf_form form) at i))
+leaf_stands at form = correct_as (alone_stands (stored_leaf form) at) (λ final ps m m' i g row.
+    record { shown = shown_as row.shown (λ ws y. (subst (λ e. Placed final i e (Some at)) (leaf_is form) y.0, y.1)) })
 
 pub path_stands : (at : Pointer) (x : Option Segments) (h : HygieneId)
     → Correct (alloc_expr (stored_path x h) (Some at))
@@ -177,6 +212,70 @@ module _ (at : Pointer) where
       let parts = shown_both row.first.shown (shown_both r.first.shown (own r.second)) in
       record { shown = shown_as parts (λ ws x. (row.one, r.one, expr_at r.second, x)) })
 
+  -- a node over one part, or over two, whose form is this one
+  over : {A : Type 0} {made form : A → HirExpr} {p : Lowering A} {S : Of A} → ((a : A) → made a ≡ form a) → Correct p (Shows S)
+      → Correct (p >>= (λ a. alloc_expr (made a) (Some at)))
+      (Shows (λ final rs i. StandsOver (store_of final) (map_of final) form at (λ a. S final rs a) i))
+  over {made = made} is h = correct_as (correct_bind h (λ a. correct_alloc (made a) (Some at))) (λ final ps m m' i g row.
+      let node = subst (λ e. Placed final i e (Some at)) (is row.one) (expr_at row.second) in
+      record { shown = shown_as (shown_both row.first.shown (own row.second)) (λ ws x. (row.one, node, x)) })
+
+  over_two : {A B : Type 0} {made form : A → B → HirExpr} {p : Lowering A} {q : Lowering B} {S : Of A} {T : Of B}
+      → ((a : A) (b : B) → made a b ≡ form a b) → Correct p (Shows S) → Correct q (Shows T)
+      → Correct (p >>= (λ a. q >>= (λ b. alloc_expr (made a b) (Some at))))
+      (Shows (λ final rs i. StandsOverTwo (store_of final) (map_of final) form at (λ a. S final rs a) (λ b. T final rs b) i))
+  over_two {made = made} is hp hq =
+      correct_as (correct_bind hp (λ a. correct_bind hq (λ b. correct_alloc (made a b) (Some at)))) (λ final ps m m' i g row.
+      let r = row.second in
+      let node = subst (λ e. Placed final i e (Some at)) (is row.one r.one) (expr_at r.second) in
+      let parts = shown_both row.first.shown (shown_both r.first.shown (own r.second)) in
+      record { shown = shown_as parts (λ ws x. (row.one, r.one, node, x)) })
+
+  pub operand_stands : {made form : ExprId → HirExpr} {e : Node} {S : Of ExprId} → ((i : ExprId) → made i ≡ form i) → Correct e (Shows S)
+      → Correct (operand_form at made e) (Shows (λ final rs i. StandsOver (store_of final) (map_of final) form at (λ x. S final rs x) i))
+  unfolding operand_form
+  operand_stands is h = over is h
+
+  pub operands_stand : {made form : ExprId → ExprId → HirExpr} {a b : Node} {S T : Of ExprId}
+      → ((i j : ExprId) → made i j ≡ form i j) → Correct a (Shows S) → Correct b (Shows T)
+      → Correct (operands_form at made a b)
+      (Shows (λ final rs i. StandsOverTwo (store_of final) (map_of final) form at (λ x. S final rs x) (λ y. T final rs y) i))
+  unfolding operands_form
+  operands_stand is ha hb = over_two is ha hb
+
+  pub value_stands : {made form : Option ExprId → HirExpr} {e : Lowering (Option ExprId)} {S : Of (Option ExprId)}
+      → ((o : Option ExprId) → made o ≡ form o) → Correct e (Shows S)
+      → Correct (value_form at made e) (Shows (λ final rs i. StandsOver (store_of final) (map_of final) form at (λ o. S final rs o) i))
+  unfolding value_form
+  value_stands is h = over is h
+
+  pub list_stands : (form : Listing) {xs : Lowering (List ExprId)} {S : Of (List ExprId)} → Correct xs (Shows S)
+      → Correct (list_form at form xs) (Shows (λ final rs i. StandsList (store_of final) (map_of final) at form (λ is. S final rs is) i))
+  unfolding list_form
+  list_stands (tree.tuple_of false) h = over (λ is. refl) h
+  list_stands (tree.tuple_of true) h = over_two (λ is i. refl) h missing_stands
+  list_stands tree.array_of h = over (λ is. refl) h
+
+  pub method_call_stands : (name : Name) {e : Node} {xs : Lowering (List ExprId)} {S : Of ExprId} {X : Of (List ExprId)}
+      → Correct e (Shows S) → Correct xs (Shows X)
+      → Correct (method_call_form at e name xs) (Shows (λ final rs i. StandsOverTwo (store_of final) (map_of final)
+      (λ receiver arguments. hir.MethodCall receiver name arguments) at (λ x. S final rs x) (λ is. X final rs is) i))
+  unfolding method_call_form
+  method_call_stands name he hx = over_two (λ i is. refl) he hx
+
+  pub await_stands : (location : Option AwaitLocation) {e : Node} {S : Of ExprId} → Correct e (Shows S)
+      → Correct (await_form at location e)
+      (Shows (λ final rs i. StandsOver (store_of final) (map_of final) hir.Await at (λ x. S final rs x) i))
+  unfolding await_form
+  await_stands location h =
+      correct_as (correct_bind h (λ i. correct_bind (correct_report_await at location) (λ u. correct_alloc (hir.Await i) (Some at))))
+      (λ final ps m m' i g row.
+      let r = row.second in
+      let same = await_leads at location row.middle.stored in
+      let moved = moved_same row.middle.stored (with_await at location row.middle.stored) r.first.stored same.0 same.1 in
+      let parts = shown_both (shown_before row.first.shown moved) (own r.second) in
+      record { shown = shown_as parts (λ ws x. (row.one, expr_at r.second, x)) })
+
   pub continue_stands : (j : Option Jump)
       → Correct (continue_form at j)
       (Shows (λ final rs i. StandsAlone (store_of final) (map_of final) (hir.Continue (jump_number rs j)) at i))
@@ -209,11 +308,11 @@ module _ (at : Pointer) where
       record { shown = subst (λ k. Shown (S final (ribs ps) k & From at k) m.stored m'.stored) (sym r.second.is) x })
 
   -- what its statements and its tail became, as it is settled
-  pub block_form_stands : (label : Option LabelId) (number : Option BlockId) {c : Lowering Contents} {S : Of Contents} → Correct c (Shows S)
-      → Correct (block_form at label number c) (Shows (λ final rs i ws. (r : Contents)
-      × Placed final i (hir.Block label number (settled r.0 r.1).0 (settled r.0 r.1).1) (Some at) × (S final rs r & From at i) ws))
+  pub block_form_stands : (is_unsafe : Bool) (label : Option LabelId) (number : Option BlockId) {c : Lowering Contents} {S : Of Contents} → Correct c (Shows S)
+      → Correct (block_form at is_unsafe label number c) (Shows (λ final rs i ws. (r : Contents)
+      × Placed final i (hir.Block is_unsafe label number (settled r.0 r.1).0 (settled r.0 r.1).1) (Some at) × (S final rs r & From at i) ws))
   unfolding block_form
-  block_form_stands label number h =
+  block_form_stands is_unsafe label number h =
       correct_as (correct_bind (correct_enter_block number) (λ u. correct_bind h (λ r. correct_alloc _ (Some at))))
       (λ final ps m m' i g row.
       let same = block_leads number m.stored in

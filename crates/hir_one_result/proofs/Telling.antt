@@ -1,5 +1,5 @@
 -- Steps that add to one of the lists of what is stored: which they are, and what the forms add that are made of them.
-use Rattle.std.proofs.Common.{◌≡◌, ◌∙◌, refl, sym, ap, subst, List, [], ◌∷◌, ◌++◌, append_assoc, append-nil, Option, Some, None}
+use Rattle.std.proofs.Common.{Bool, true, false, ◌≡◌, ◌∙◌, refl, sym, ap, subst, List, [], ◌∷◌, ◌++◌, append_assoc, append-nil, Option, Some, None}
 use Rattle.hir_store.specs.Pointers.{Pointer}
 use Rattle.hir_store.specs.Stored.{Stored}
 use Rattle.hir_store.specs.declared.hir.Expr.{Expr as HirExpr}
@@ -7,20 +7,24 @@ use Rattle.hir_store.specs.declared.ids.ExprId.{ExprId}
 use Rattle.hir_store.specs.declared.ids.LabelId.{LabelId}
 use Rattle.hir_store.specs.declared.ids.BlockId.{BlockId}
 use Rattle.hir_store.specs.declared.diagnostics.ExpressionStoreDiagnostics.{ExpressionStoreDiagnostics}
-use Rattle.hir_store.specs.declared.diagnostics.ExpressionStoreDiagnostics.TheVariants.{UndeclaredLabel, UnreachableLabel}
+use Rattle.hir_store.specs.declared.diagnostics.ExpressionStoreDiagnostics.TheVariants.{AwaitOutsideOfAsync, UndeclaredLabel, UnreachableLabel}
+use Rattle.hir_store.specs.declared.diagnostics.AwaitLocation.{AwaitLocation}
+use Rattle.hir_store.specs.declared.name.Name.{Name}
+use Rattle.hir_env.specs.Answered as tree
 use Rattle.hir_env.specs.Answered.{Label, Jump}
 use Rattle.hir_scope.specs.Ribs.{Rib, label_rib, Target, found, unreachable, undeclared, target, map_ribs, map_target}
 use Rattle.hir_scope.specs.Scopes as scope
 use Rattle.hir_scope.specs.Scopes.{Scope, loop_scope, block_scope, in_block}
 use Rattle.hir_scope.proofs.Ribs.{target_map}
-use Rattle.hir_lower_form.specs.Lowering.{Lowering, ◌>>=◌, pure, alloc_expr, point, report, enter_block, open_label, close, jump_target}
+use Rattle.hir_lower_form.specs.Lowering.{Lowering, ◌>>=◌, pure, alloc_expr, point, report, report_await, enter_block, open_label, close, jump_target}
 use Rattle.hir_lower_form.specs.Lower.{Node, Contents, missing, some, if_form, loop_form, call_form, continue_form, break_form}
+use Rattle.hir_lower_form.specs.Lower.{operand_form, operands_form, value_form, list_form, method_call_form, await_form}
 use Rattle.hir_lower_form.specs.Lower.{paren_form, block_form, labelled}
 use Rattle.hir_steps.proofs.Frames.{Frame, loop_at, block_at, ribs}
-use Rattle.hir_steps.proofs.Steps.{Mark, Correct, correct_bind, correct_as, correct_pure, correct_report, correct_point}
+use Rattle.hir_steps.proofs.Steps.{Mark, Correct, correct_bind, correct_as, correct_pure, correct_report, correct_report_await, correct_point}
 use Rattle.hir_steps.proofs.Steps.{correct_enter_block, correct_alloc, correct_opened, correct_target, with_fault, with_block, with_expr}
-use Rattle.hir_steps.proofs.Steps.{with_label, pointing, with_target, with_jump}
-use Rattle.hir_one_result.specs.Diagnostics.{forget, Around, target_faults, jump_faults}
+use Rattle.hir_steps.proofs.Steps.{with_await, with_label, pointing, with_target, with_jump}
+use Rattle.hir_one_result.specs.Diagnostics.{forget, Around, target_faults, jump_faults, await_faults}
 use Rattle.hir_one_result.proofs.Around.{IsRib, in_loop, loop_is_rib, block_is_rib}
 
 -- A list of what is stored, which faults and entered blocks add to, and in which way a list may be another.
@@ -147,6 +151,20 @@ module _ {X : Type 0} (L : Listing X) where
   tells_target j = correct_as (correct_target j) (λ final ps m m' n g row.
       record { told = λ ss e. added_these (L.of_faults (jump_faults ss j)) (ap L.list row.stored ∙ jump_adds j ss (ribs ps) e m.stored) })
 
+  -- ---- awaits
+
+  await_adds : (at : Pointer) (location : Option AwaitLocation) (s : Stored)
+      → L.list (with_await at location s) ≡ L.list s ++ L.of_faults (await_faults at location)
+  await_adds at None s = none_more s
+  await_adds at (Some location) s = L.fault (AwaitOutsideOfAsync at location) s
+
+  pub tells_report_await : (at : Pointer) (location : Option AwaitLocation)
+      → Correct (report_await at location) (Tells (λ ss. L.of_faults (await_faults at location)))
+  tells_report_await at location =
+      correct_as (correct_report_await at location) (λ final ps m m' u g row. record {
+        told = λ ss e. added_these (L.of_faults (await_faults at location)) (ap L.list row.stored ∙ await_adds at location m.stored);
+      })
+
   -- ---- a label around steps
 
   last_none : {xs : List X} {a b : Stored} → Added (xs ++ []) a b → Added xs a b
@@ -206,11 +224,43 @@ module _ {X : Type 0} (L : Listing X) where
     unfolding paren_form
     paren_tells h = tells_end h (λ i. tells_end (tells_point at i) (λ u. tells_pure i))
 
-    pub block_form_tells : (label : Option LabelId) (number : Option BlockId) {D : List Scope → List X} {c : Lowering Contents}
+    pub operand_tells : (form : ExprId → HirExpr) {D : List Scope → List X} {e : Node} → Correct e (Tells D)
+        → Correct (operand_form at form e) (Tells D)
+    unfolding operand_form
+    operand_tells form h = tells_end h (λ i. tells_alloc _ _)
+
+    pub operands_tells : (form : ExprId → ExprId → HirExpr) {D E : List Scope → List X} {a b : Node} → Correct a (Tells D)
+        → Correct b (Tells E) → Correct (operands_form at form a b) (Tells (λ ss. D ss ++ E ss))
+    unfolding operands_form
+    operands_tells form ha hb = tells_bind ha (λ i. tells_end hb (λ j. tells_alloc _ _))
+
+    pub value_tells : (form : Option ExprId → HirExpr) {D : List Scope → List X} {e : Lowering (Option ExprId)} → Correct e (Tells D)
+        → Correct (value_form at form e) (Tells D)
+    unfolding value_form
+    value_tells form h = tells_end h (λ v. tells_alloc _ _)
+
+    pub list_tells : (form : tree.Listing) {D : List Scope → List X} {xs : Lowering (List ExprId)} → Correct xs (Tells D)
+        → Correct (list_form at form xs) (Tells D)
+    unfolding list_form
+    list_tells (tree.tuple_of false) h = tells_end h (λ is. tells_alloc _ _)
+    list_tells (tree.tuple_of true) h = tells_end h (λ is. tells_end missing_tells (λ i. tells_alloc _ _))
+    list_tells tree.array_of h = tells_end h (λ is. tells_alloc _ _)
+
+    pub method_call_tells : (name : Name) {D E : List Scope → List X} {e : Node} {xs : Lowering (List ExprId)} → Correct e (Tells D)
+        → Correct xs (Tells E) → Correct (method_call_form at e name xs) (Tells (λ ss. D ss ++ E ss))
+    unfolding method_call_form
+    method_call_tells name he hx = tells_bind he (λ i. tells_end hx (λ is. tells_alloc _ _))
+
+    pub await_tells : (location : Option AwaitLocation) {D : List Scope → List X} {e : Node} → Correct e (Tells D)
+        → Correct (await_form at location e) (Tells (λ ss. D ss ++ L.of_faults (await_faults at location)))
+    unfolding await_form
+    await_tells location h = tells_bind h (λ i. tells_end (tells_report_await at location) (λ u. tells_alloc _ _))
+
+    pub block_form_tells : (is_unsafe : Bool) (label : Option LabelId) (number : Option BlockId) {D : List Scope → List X} {c : Lowering Contents}
         → Correct c (Tells D)
-        → Correct (block_form at label number c) (Tells (λ ss. L.of_block number ++ D ss))
+        → Correct (block_form at is_unsafe label number c) (Tells (λ ss. L.of_block number ++ D ss))
     unfolding block_form
-    block_form_tells label number h = tells_bind (tells_enter_block number) (λ u. tells_end h (λ r. tells_alloc _ _))
+    block_form_tells is_unsafe label number h = tells_bind (tells_enter_block number) (λ u. tells_end h (λ r. tells_alloc _ _))
 
   pub labelled_tells : (label : Option Label) {D : List Scope → List X} {f : Option LabelId → Node}
       → ((n : Option LabelId) → Correct (f n) (Tells D))

@@ -20,6 +20,7 @@ use Rattle.hir_one_result.proofs.Around.{scopes_around}
 use Rattle.hir_one_result.proofs.Lowered.{lowered}
 use Rattle.hir_one_result.proofs.Telling.{Listing, Tells, tells_bind, tells_as, tells_end, tells_pure, tells_some, tells_report}
 use Rattle.hir_one_result.proofs.Telling.{missing_tells, if_tells, loop_tells, call_tells, continue_tells, break_tells, paren_tells}
+use Rattle.hir_one_result.proofs.Telling.{operand_tells, operands_tells, value_tells, list_tells, method_call_tells, await_tells}
 use Rattle.hir_one_result.proofs.Telling.{block_form_tells, labelled_tells, tells_alloc}
 
 entered_block : (n : Option BlockId) (s : Stored) → (with_block n s).block_scopes ≡ s.block_scopes ++ option_to_list n
@@ -64,6 +65,17 @@ mutual
   node_blocks (tree.break_expr at jump e) = break_tells entered at jump (present_blocks e)
   node_blocks (tree.paren_expr at e) = paren_tells entered at (part_blocks e)
   node_blocks (tree.literal_expr at l) = tells_alloc entered _ _
+  node_blocks (tree.leaf_expr at form) = tells_alloc entered _ _
+  node_blocks (tree.unary_expr at form e) = operand_tells entered at _ (part_blocks e)
+  node_blocks (tree.binary_expr at form a b) = operands_tells entered at _ (part_blocks a) (part_blocks b)
+  node_blocks (tree.lazy_expr at op a b) = operands_tells entered at _ (part_blocks a) (part_blocks b)
+  node_blocks (tree.list_expr at form es) = list_tells entered at form (each_blocks [] es)
+  node_blocks (tree.method_call_expr at e name es) = method_call_tells entered at name (part_blocks e) (each_blocks [] es)
+  node_blocks (tree.leaving_expr at form e) = value_tells entered at _ (present_blocks e)
+  node_blocks (tree.become_expr at e) = operand_tells entered at _ (part_blocks e)
+  node_blocks (tree.yield_expr at e) = value_tells entered at _ (present_blocks e)
+  node_blocks (tree.await_expr at location e) = tells_as entered (await_tells entered at location (part_blocks e)) (λ ss. sym (append-nil (blocks_of_part e)))
+  node_blocks (tree.nameless_expr at e) = operand_tells entered at _ (part_blocks e)
 
   part_blocks : (e : OptionExpr) → Enters (blocks_of_part e) (lower_part e)
   part_blocks tree.no_expr = missing_tells entered
@@ -82,8 +94,8 @@ mutual
   each_blocks done (tree.more_exprs e es) = tells_bind entered (kept_blocks e (node_blocks e)) (λ x. each_blocks _ es)
 
   block_blocks : (b : Block) → Enters (blocks_of_block b) (lower_block b)
-  block_blocks (tree.block at label number ss e) =
-      labelled_tells entered label (λ n. block_form_tells entered at n number (contents_blocks [] ss (kept_part_blocks e)))
+  block_blocks (tree.block at is_unsafe label number ss e) =
+      labelled_tells entered label (λ n. block_form_tells entered at is_unsafe n number (contents_blocks [] ss (kept_part_blocks e)))
 
   block_part_blocks : (b : OptionBlock) → Enters (blocks_of_block_part b) (lower_block_part b)
   block_part_blocks tree.no_block = missing_tells entered

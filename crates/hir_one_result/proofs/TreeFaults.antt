@@ -23,6 +23,7 @@ use Rattle.hir_one_result.specs.Laws.{DiagnosticsAre}
 use Rattle.hir_one_result.proofs.Lowered.{lowered}
 use Rattle.hir_one_result.proofs.Telling.{Listing, Tells, tells_bind, tells_as, tells_end, tells_pure, tells_some, tells_report}
 use Rattle.hir_one_result.proofs.Telling.{missing_tells, if_tells, loop_tells, call_tells, continue_tells, break_tells, paren_tells}
+use Rattle.hir_one_result.proofs.Telling.{operand_tells, operands_tells, value_tells, list_tells, method_call_tells, await_tells}
 use Rattle.hir_one_result.proofs.Telling.{block_form_tells, labelled_tells, tells_alloc}
 
 no_fault_in_block : (n : Option BlockId) (s : Stored) → (with_block n s).diagnostics ≡ s.diagnostics ++ []
@@ -70,6 +71,17 @@ mutual
   node_faults (tree.break_expr at jump e) = break_tells reported at jump (present_faults e)
   node_faults (tree.paren_expr at e) = paren_tells reported at (part_faults e)
   node_faults (tree.literal_expr at l) = tells_alloc reported _ _
+  node_faults (tree.leaf_expr at form) = tells_alloc reported _ _
+  node_faults (tree.unary_expr at form e) = operand_tells reported at _ (part_faults e)
+  node_faults (tree.binary_expr at form a b) = operands_tells reported at _ (part_faults a) (part_faults b)
+  node_faults (tree.lazy_expr at op a b) = operands_tells reported at _ (part_faults a) (part_faults b)
+  node_faults (tree.list_expr at form es) = list_tells reported at form (each_faults [] es)
+  node_faults (tree.method_call_expr at e name es) = method_call_tells reported at name (part_faults e) (each_faults [] es)
+  node_faults (tree.leaving_expr at form e) = value_tells reported at _ (present_faults e)
+  node_faults (tree.become_expr at e) = operand_tells reported at _ (part_faults e)
+  node_faults (tree.yield_expr at e) = value_tells reported at _ (present_faults e)
+  node_faults (tree.await_expr at location e) = await_tells reported at location (part_faults e)
+  node_faults (tree.nameless_expr at e) = operand_tells reported at _ (part_faults e)
 
   part_faults : (e : OptionExpr) → Reports (λ ss. part_diagnostics ss e) (lower_part e)
   part_faults tree.no_expr = missing_tells reported
@@ -88,8 +100,8 @@ mutual
   each_faults done (tree.more_exprs e es) = tells_bind reported (kept_faults e (node_faults e)) (λ x. each_faults _ es)
 
   block_faults : (b : Block) → Reports (λ ss. block_diagnostics ss b) (lower_block b)
-  block_faults (tree.block at label number ss e) =
-      labelled_tells reported label (λ n. block_form_tells reported at n number (contents_faults [] ss (kept_part_faults e)))
+  block_faults (tree.block at is_unsafe label number ss e) =
+      labelled_tells reported label (λ n. block_form_tells reported at is_unsafe n number (contents_faults [] ss (kept_part_faults e)))
 
   block_part_faults : (b : OptionBlock) → Reports (λ ss. block_part_diagnostics ss b) (lower_block_part b)
   block_part_faults tree.no_block = missing_tells reported

@@ -27,6 +27,8 @@ use Rattle.hir_one_result.proofs.Lowered.{lowered}
 use Rattle.hir_one_result.proofs.Leading.{Shown, shown_as, shown_none, shown_both, shown_after, shown_before, moved_then}
 use Rattle.hir_one_result.proofs.Standing.{Of, Placed, Shows, moved_pure, moved_fault, missing_stands, path_stands, literal_stands}
 use Rattle.hir_one_result.proofs.Standing.{present_none, present_some, if_stands, loop_stands, call_stands, continue_stands, break_stands}
+use Rattle.hir_one_result.proofs.Standing.{unary_is, binary_is, leaving_is, leaf_stands, operand_stands, operands_stand, value_stands}
+use Rattle.hir_one_result.proofs.Standing.{list_stands, method_call_stands, await_stands}
 use Rattle.hir_one_result.proofs.Standing.{paren_stands, block_form_stands, labelled_stands}
 use Rattle.hir_one_result.proofs.Contents.{has_contents}
 
@@ -61,6 +63,11 @@ module _ (final : Stored) where
   abbrev contents : Open → Stmts → OptionExpr → List Statement → Option ExprId → Ways
   contents rs ss e = StandsContents (store_of final) (map_of final) rs ss (λ around o. kept_or_none around e o)
 
+all_stand_for : (es : Exprs) {p : Lowering (List ExprId)} → Correct p (Shows (λ final rs is. Behind [] (each final rs es) is))
+    → Correct p (Shows (λ final rs is. each final rs es is))
+all_stand_for es h =
+    correct_as h (λ final ps m m' is g row. record { shown = behind_none (each final (ribs ps) es) row.shown })
+
 -- an expression statement, and what it became
 expr_stmt_stands : (semi : Bool) {p : Lowering (Option ExprId)} {S : Of (Option ExprId)} → Correct p (Shows S)
     → Correct (p >>= (λ x. pure (statement_of semi x)))
@@ -70,14 +77,14 @@ expr_stmt_stands semi h =
     record { shown = shown_as (shown_before row.first.shown (moved_pure row.second.still)) (λ ws y. (row.one, row.second.is, y)) })
 
 -- what is in a block
-inside_stands : (at : Pointer) (n : Option LabelId) (number : Option BlockId) (ss : Stmts) (e : OptionExpr)
+inside_stands : (at : Pointer) (is_unsafe : Bool) (n : Option LabelId) (number : Option BlockId) (ss : Stmts) (e : OptionExpr)
     → Correct (lower_stmts [] ss (kept_part e)) (Shows (λ final rs r. Behind [] (λ is. contents final rs ss e is r.1) r.0))
-    → Correct (block_form at n number (lower_stmts [] ss (kept_part e)))
+    → Correct (block_form at is_unsafe n number (lower_stmts [] ss (kept_part e)))
     (Shows (λ final rs i ws. (kept : List Statement) × (last : Option ExprId) × (r : Contents)
-    × HasContents (gives_value ss (is_left e)) kept last r × Placed final i (hir.Block n number r.0 r.1) (Some at)
+    × HasContents (gives_value ss (is_left e)) kept last r × Placed final i (hir.Block is_unsafe n number r.0 r.1) (Some at)
     × (contents final rs ss e kept last & From at i) ws))
-inside_stands at n number ss e h =
-    correct_as (block_form_stands at n number {S = λ final rs r. contents final rs ss e r.0 r.1} (correct_as h (λ final ps m m' r g row.
+inside_stands at is_unsafe n number ss e h =
+    correct_as (block_form_stands at is_unsafe n number {S = λ final rs r. contents final rs ss e r.0 r.1} (correct_as h (λ final ps m m' r g row.
     record { shown = behind_none (λ is. contents final (ribs ps) ss e is r.1) row.shown })))
     (λ final ps m m' i g row. record {
       shown = shown_as row.shown (λ ws y.
@@ -92,13 +99,23 @@ mutual
   node_stands (tree.if_expr at c t e) = if_stands at (part_stands c) (block_part_stands t) (present_stands e)
   node_stands (tree.block_expr b) = block_stands b
   node_stands (tree.loop_expr at label b) = loop_stands at label (block_part_stands b)
-  node_stands (tree.call_expr at f es) = call_stands at (part_stands f) (correct_as (each_stands [] es) (λ final ps m m' is g row.
-      record { shown = behind_none (each final (ribs ps) es) row.shown }))
+  node_stands (tree.call_expr at f es) = call_stands at (part_stands f) (all_stand_for es (each_stands [] es))
   node_stands (tree.path_expr at x h) = path_stands at x h
   node_stands (tree.continue_expr at jump) = continue_stands at jump
   node_stands (tree.break_expr at jump e) = break_stands at jump (present_stands e)
   node_stands (tree.paren_expr at e) = paren_stands at (part_stands e)
   node_stands (tree.literal_expr at l) = literal_stands at l
+  node_stands (tree.leaf_expr at form) = leaf_stands at form
+  node_stands (tree.unary_expr at form e) = operand_stands at (unary_is form) (part_stands e)
+  node_stands (tree.binary_expr at form a b) = operands_stand at (binary_is form) (part_stands a) (part_stands b)
+  node_stands (tree.lazy_expr at op a b) = operands_stand at (λ i j. refl) (part_stands a) (part_stands b)
+  node_stands (tree.list_expr at form es) = list_stands at form (all_stand_for es (each_stands [] es))
+  node_stands (tree.method_call_expr at e name es) = method_call_stands at name (part_stands e) (all_stand_for es (each_stands [] es))
+  node_stands (tree.leaving_expr at form e) = value_stands at (leaving_is form) (present_stands e)
+  node_stands (tree.become_expr at e) = operand_stands at (λ i. refl) (part_stands e)
+  node_stands (tree.yield_expr at e) = value_stands at (λ o. refl) (present_stands e)
+  node_stands (tree.await_expr at location e) = await_stands at location (part_stands e)
+  node_stands (tree.nameless_expr at e) = operand_stands at (λ i. refl) (part_stands e)
 
   part_stands : (e : OptionExpr) → Correct (lower_part e) (Shows (λ final rs i. part final rs e i))
   part_stands tree.no_expr = missing_stands
@@ -126,8 +143,8 @@ mutual
       })
 
   block_stands : (b : Block) → Correct (lower_block b) (Shows (λ final rs i. StandsBlock (store_of final) (map_of final) rs b i))
-  block_stands (tree.block at label number ss e) =
-      labelled_stands label (λ n. inside_stands at n number ss e (contents_stands [] ss e (kept_part_stands e)))
+  block_stands (tree.block at is_unsafe label number ss e) =
+      labelled_stands label (λ n. inside_stands at is_unsafe n number ss e (contents_stands [] ss e (kept_part_stands e)))
 
   block_part_stands : (b : OptionBlock)
       → Correct (lower_block_part b) (Shows (λ final rs i. StandsBlockPart (store_of final) (map_of final) rs b i))

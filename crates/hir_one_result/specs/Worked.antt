@@ -1,7 +1,12 @@
 -- Small trees: their faults, their blocks, and what whatever stands for them has stored.
-use Rattle.std.specs.Prelude.{◌≡◌, ℕ, Bool, true, false, List, [], ◌∷◌, Some, None, slice_get}
+use Rattle.std.specs.Prelude.{Option, ◌≡◌, ℕ, Bool, true, false, List, [], ◌∷◌, Some, None, slice_get}
 use Rattle.hir_store.specs.Stored.{Store, SourceMap}
-use Rattle.hir_store.specs.declared.diagnostics.ExpressionStoreDiagnostics.TheVariants.{InactiveCode, UndeclaredLabel, UnreachableLabel}
+use Rattle.hir_store.specs.declared.diagnostics.ExpressionStoreDiagnostics.TheVariants.{AwaitOutsideOfAsync, InactiveCode}
+use Rattle.hir_store.specs.declared.diagnostics.ExpressionStoreDiagnostics.TheVariants.{UndeclaredLabel, UnreachableLabel}
+use Rattle.hir_syntax.specs.declared.ast.ArithOp.TheVariants.{Add}
+use Rattle.hir_syntax.specs.declared.ast.BinaryOp.{BinaryOp}
+use Rattle.hir_syntax.specs.declared.ast.BinaryOp.TheVariants.{ArithOp}
+use Rattle.hir_store.specs.declared.diagnostics.AwaitLocation.{AwaitLocation}
 use Rattle.hir_store.specs.declared.hir.Expr.{Expr as HirExpr}
 use Rattle.hir_store.specs.declared.hir.Expr.TheVariants as hir
 use Rattle.hir_store.specs.declared.hir.Statement.TheVariants as statement
@@ -16,8 +21,9 @@ use Rattle.hir_store.specs.declared.ids.HygieneId.{HygieneId}
 use Rattle.hir_store.specs.declared.ids.LabelId.{LabelId}
 use Rattle.hir_scope.specs.Scopes.{loop_scope, barrier}
 use Rattle.hir_env.specs.Answered as tree
-use Rattle.hir_env.specs.Answered.{Expr, OptionExpr, Block, Stmts}
-use Rattle.hir_meaning.specs.Small.{at, root, one, literal_at, label_of, label_a, jump_a, first, in_braces, loop_of}
+use Rattle.hir_env.specs.Answered.{Expr, OptionExpr, Exprs, Block, Stmts}
+use Rattle.hir_meaning.specs.Small.{at, root, one, two, literal_at, label_of, label_a, jump_a, first, in_braces, loop_of}
+use Rattle.hir_meaning.specs.Small.{stored_one, stored_two}
 use Rattle.hir_one_result.specs.Leads.{Way, expr_way}
 use Rattle.hir_one_result.specs.Stands.{Open, opened, Stands}
 use Rattle.hir_one_result.specs.Diagnostics.{diagnostics}
@@ -64,20 +70,20 @@ pub record Jumps : Type 0 where
 -- a block with a number, in which is a fault, disabled
 abbrev pub disabled : CfgId → Expr
 disabled by =
-    tree.disabled_expr (at 2) by (tree.block_expr (tree.block (at 2) None (Some (record { 0 = 7 })) tree.no_stmts (tree.some_expr break_a)))
+    tree.disabled_expr (at 2) by (tree.block_expr (tree.block (at 2) false None (Some (record { 0 = 7 })) tree.no_stmts (tree.some_expr break_a)))
 
 -- a literal, with or without a semicolon, and then what is disabled
 abbrev pub literal_first : CfgId → Bool → Stmts
 literal_first by semi = tree.more_stmts (tree.expr_stmt (tree.some_expr (literal_at 1 one)) semi) (first (disabled by) tree.no_stmts)
 
 abbrev pub in_block : CfgId → Bool → OptionExpr → Expr
-in_block by semi tail = tree.block_expr (tree.block (at 0) None None (literal_first by semi) tail)
+in_block by semi tail = tree.block_expr (tree.block (at 0) false None None (literal_first by semi) tail)
 
 pub record Statements : Type 0 where
-  pub becomes_tail : (by : CfgId) → StoredOver (in_block by false tree.no_expr) (λ last. hir.Block None None [] (Some last))
-  pub has_semicolon : (by : CfgId) → StoredOver (in_block by true tree.no_expr) (λ v. hir.Block None None (statement.Expr v true ∷ []) None)
+  pub becomes_tail : (by : CfgId) → StoredOver (in_block by false tree.no_expr) (λ last. hir.Block false None None [] (Some last))
+  pub has_semicolon : (by : CfgId) → StoredOver (in_block by true tree.no_expr) (λ v. hir.Block false None None (statement.Expr v true ∷ []) None)
   pub disabled_tail : (by : CfgId)
-      → StoredOver (in_block by false (tree.some_expr (disabled by))) (λ last. hir.Block None None [] (Some last))
+      → StoredOver (in_block by false (tree.some_expr (disabled by))) (λ last. hir.Block false None None [] (Some last))
   pub faults : (by : CfgId) (semi : Bool) → diagnostics [] (in_block by semi tree.no_expr) ≡ InactiveCode (at 2) by ∷ []
   pub blocks : (by : CfgId) (semi : Bool) → blocks_of (in_block by semi tree.no_expr) ≡ []
 
@@ -85,7 +91,7 @@ pub record Statements : Type 0 where
 
 -- a block with this number, with this in it
 abbrev pub numbered : ℕ → Stmts → OptionExpr → Block
-numbered n ss tail = tree.block (at n) None (Some (record { 0 = n })) ss tail
+numbered n ss tail = tree.block (at n) false None (Some (record { 0 = n })) ss tail
 
 abbrev pub empty_block : ℕ → Block
 empty_block n = numbered n tree.no_stmts tree.no_expr
@@ -120,3 +126,65 @@ pub record Leaves : Type 0 where
   pub parentheses : (store : Store) (source_map : SourceMap) (i : ExprId) (ws : List Way)
       → Stands store source_map [] (tree.paren_expr (at 0) (tree.some_expr (literal_at 1 one))) i ws
       → ws ≡ expr_way (at 1) i ∷ expr_way (at 0) i ∷ []
+
+-- ---- plain forms
+
+abbrev pub value : ℕ → OptionExpr
+value n = tree.some_expr (literal_at n one)
+
+abbrev pub plus : Option BinaryOp
+plus = Some (ArithOp Add)
+
+-- `1 + 2`
+abbrev pub sum : Expr
+sum = tree.binary_expr (at 0) (tree.operator plus) (value 1) (tree.some_expr (literal_at 2 two))
+
+-- an expression that names these two
+pub record StoredWith (x : ExprId → ExprId → HirExpr) (left right : HirExpr) (store : Store) (i : ExprId) : Type 0 where
+  pub one : ExprId
+  pub other : ExprId
+  pub whole : slice_get store.exprs i.0 ≡ Some (x one other)
+  pub first : slice_get store.exprs one.0 ≡ Some left
+  pub second : slice_get store.exprs other.0 ≡ Some right
+
+abbrev pub IsStoredWith : Expr → (ExprId → ExprId → HirExpr) → HirExpr → HirExpr → Type 0
+IsStoredWith e x left right = (store : Store) (source_map : SourceMap) (i : ExprId) (ws : List Way)
+    → Stands store source_map [] e i ws → StoredWith x left right store i
+
+-- `1.m(2)`
+abbrev pub method_call : Expr
+method_call = tree.method_call_expr (at 0) (value 1) (letter 109) (tree.more_exprs (literal_at 2 two) tree.no_exprs)
+
+-- a literal, and then what is disabled
+abbrev pub elements : CfgId → Exprs
+elements by = tree.more_exprs (literal_at 1 one) (tree.more_exprs (disabled by) tree.no_exprs)
+
+abbrev pub tuple : CfgId → Bool → Expr
+tuple by leading_comma = tree.list_expr (at 0) (tree.tuple_of leading_comma) (elements by)
+
+-- `break 'a` and await that
+abbrev pub await_break : Option AwaitLocation → Expr
+await_break location = tree.await_expr (at 0) location (tree.some_expr break_a)
+
+-- `unsafe {}` with a number
+abbrev pub unsafe_block : Expr
+unsafe_block = tree.block_expr (tree.block (at 0) true None (Some (block_number 7)) tree.no_stmts tree.no_expr)
+
+-- the block and another one
+abbrev pub two_blocks : Expr
+two_blocks = tree.binary_expr (at 1) (tree.operator plus) (tree.some_expr unsafe_block) (just 3)
+
+pub record PlainForms : Type 0 where
+  pub adds : IsStoredWith sum (λ left right. hir.BinaryOp plus left right) stored_one stored_two
+  pub calls : IsStoredWith method_call (λ receiver argument. hir.MethodCall receiver (letter 109) (argument ∷ [])) stored_one stored_two
+  pub disabled_element : (by : CfgId) → StoredOver (tuple by false) (λ v. hir.Tuple (v ∷ []))
+  pub leading_comma : (by : CfgId) → IsStoredWith (tuple by true) (λ front v. hir.Tuple (front ∷ v ∷ [])) hir.Missing stored_one
+  pub awaits : (location : AwaitLocation) → diagnostics [] (await_break (Some location))
+      ≡ UndeclaredLabel jump_a.pointer jump_a.name ∷ AwaitOutsideOfAsync (at 0) location ∷ []
+  pub awaits_in_async : diagnostics [] (await_break None) ≡ UndeclaredLabel jump_a.pointer jump_a.name ∷ []
+  pub is_unsafe : StoredAs [] unsafe_block (hir.Block true None (Some (block_number 7)) [] None)
+  pub left_first : blocks_of two_blocks ≡ block_number 7 ∷ block_number 3 ∷ []
+  -- the operand of a prefix without operator has its way, and the form its own
+  pub nameless : (store : Store) (source_map : SourceMap) (i : ExprId) (ws : List Way)
+      → Stands store source_map [] (tree.nameless_expr (at 0) (value 1)) i ws
+      → (part : ExprId) × (slice_get store.exprs i.0 ≡ Some hir.Missing) × (ws ≡ expr_way (at 1) part ∷ expr_way (at 0) i ∷ [])
