@@ -12,7 +12,7 @@ use Rattle.hir_store.specs.declared.ids.ExprId.{ExprId}
 use Rattle.hir_syntax.specs.declared.ast.Literal.{Literal as AstLiteral}
 use Rattle.hir_store.specs.Pointers.{Pointer}
 use Rattle.hir_store.specs.declared.hir.Literal.{Literal}
-use Rattle.hir_meaning.specs.Data.{PathData, path_read, LiteralData, literal_data, literal_read}
+use Rattle.hir_meaning.specs.Data.{PathData, path_read, LiteralData, literal_data}
 use Rattle.hir_meaning.specs.Contents.{HasContents}
 use Rattle.hir_store.specs.declared.ids.CfgId.{CfgId}
 use Rattle.hir_meaning.specs.Small.{at, root, stored_one}

@@ -1,5 +1,6 @@
 -- Steps whose answers stand for what is written, and the forms that are made of them.
-use Rattle.std.proofs.Common.{Bool, true, false, ◌≡◌, ◌∙◌, refl, sym, ap, subst, List, [], ◌∷◌, length, length-append, slice_get, Option, Some, None}
+use Rattle.std.proofs.Common.{◌≡◌, ◌∙◌, refl, sym, ap, subst, List, [], ◌∷◌, length, length-append, slice_get, Option, Some, None}
+use Rattle.std.proofs.Common.{Bool, true, false}
 use Rattle.indexmap.specs.IndexMap.{insert_entry}
 use Rattle.hir_syntax.specs.declared.ast.Literal.{Literal as AstLiteral}
 use Rattle.hir_store.specs.Pointers.{Pointer, same_pointer}
@@ -139,7 +140,8 @@ leaving_is tree.returning o = refl
 leaving_is tree.yeeting o = refl
 
 pub leaf_stands : (at : Pointer) (form : Leaf)
-    → Correct (alloc_expr (stored_leaf form) (Some at)) (Shows (λ final rs i. StandsAlone (store_of final) (map_of final) (leaf_form form) at i))
+    → Correct (alloc_expr (stored_leaf form) (Some at))
+    (Shows (λ final rs i. StandsAlone (store_of final) (map_of final) (leaf_form form) at i))
 leaf_stands at form = correct_as (alone_stands (stored_leaf form) at) (λ final ps m m' i g row.
     record { shown = shown_as row.shown (λ ws y. (subst (λ e. Placed final i e (Some at)) (leaf_is form) y.0, y.1)) })
 
@@ -308,9 +310,11 @@ module _ (at : Pointer) where
       record { shown = subst (λ k. Shown (S final (ribs ps) k & From at k) m.stored m'.stored) (sym r.second.is) x })
 
   -- what its statements and its tail became, as it is settled
-  pub block_form_stands : (is_unsafe : Bool) (label : Option LabelId) (number : Option BlockId) {c : Lowering Contents} {S : Of Contents} → Correct c (Shows S)
+  pub block_form_stands : (is_unsafe : Bool) (label : Option LabelId) (number : Option BlockId) {c : Lowering Contents} {S : Of Contents}
+      → Correct c (Shows S)
       → Correct (block_form at is_unsafe label number c) (Shows (λ final rs i ws. (r : Contents)
-      × Placed final i (hir.Block is_unsafe label number (settled r.0 r.1).0 (settled r.0 r.1).1) (Some at) × (S final rs r & From at i) ws))
+      × Placed final i (hir.Block is_unsafe label number (settled r.0 r.1).0 (settled r.0 r.1).1) (Some at)
+      × (S final rs r & From at i) ws))
   unfolding block_form
   block_form_stands is_unsafe label number h =
       correct_as (correct_bind (correct_enter_block number) (λ u. correct_bind h (λ r. correct_alloc _ (Some at))))

@@ -1,5 +1,6 @@
 -- Steps that add to one of the lists of what is stored: which they are, and what the forms add that are made of them.
-use Rattle.std.proofs.Common.{Bool, true, false, ◌≡◌, ◌∙◌, refl, sym, ap, subst, List, [], ◌∷◌, ◌++◌, append_assoc, append-nil, Option, Some, None}
+use Rattle.std.proofs.Common.{◌≡◌, ◌∙◌, refl, sym, ap, subst, List, [], ◌∷◌, ◌++◌, append_assoc, append-nil, Option, Some, None}
+use Rattle.std.proofs.Common.{Bool, true, false}
 use Rattle.hir_store.specs.Pointers.{Pointer}
 use Rattle.hir_store.specs.Stored.{Stored}
 use Rattle.hir_store.specs.declared.hir.Expr.{Expr as HirExpr}
@@ -7,7 +8,8 @@ use Rattle.hir_store.specs.declared.ids.ExprId.{ExprId}
 use Rattle.hir_store.specs.declared.ids.LabelId.{LabelId}
 use Rattle.hir_store.specs.declared.ids.BlockId.{BlockId}
 use Rattle.hir_store.specs.declared.diagnostics.ExpressionStoreDiagnostics.{ExpressionStoreDiagnostics}
-use Rattle.hir_store.specs.declared.diagnostics.ExpressionStoreDiagnostics.TheVariants.{AwaitOutsideOfAsync, UndeclaredLabel, UnreachableLabel}
+use Rattle.hir_store.specs.declared.diagnostics.ExpressionStoreDiagnostics.TheVariants.{UndeclaredLabel, UnreachableLabel}
+use Rattle.hir_store.specs.declared.diagnostics.ExpressionStoreDiagnostics.TheVariants.{AwaitOutsideOfAsync}
 use Rattle.hir_store.specs.declared.diagnostics.AwaitLocation.{AwaitLocation}
 use Rattle.hir_store.specs.declared.name.Name.{Name}
 use Rattle.hir_env.specs.Answered as tree
@@ -16,12 +18,14 @@ use Rattle.hir_scope.specs.Ribs.{Rib, label_rib, Target, found, unreachable, und
 use Rattle.hir_scope.specs.Scopes as scope
 use Rattle.hir_scope.specs.Scopes.{Scope, loop_scope, block_scope, in_block}
 use Rattle.hir_scope.proofs.Ribs.{target_map}
-use Rattle.hir_lower_form.specs.Lowering.{Lowering, ◌>>=◌, pure, alloc_expr, point, report, report_await, enter_block, open_label, close, jump_target}
+use Rattle.hir_lower_form.specs.Lowering.{Lowering, ◌>>=◌, pure, alloc_expr, point, report, report_await, enter_block}
+use Rattle.hir_lower_form.specs.Lowering.{open_label, close, jump_target}
 use Rattle.hir_lower_form.specs.Lower.{Node, Contents, missing, some, if_form, loop_form, call_form, continue_form, break_form}
 use Rattle.hir_lower_form.specs.Lower.{operand_form, operands_form, value_form, list_form, method_call_form, await_form}
 use Rattle.hir_lower_form.specs.Lower.{paren_form, block_form, labelled}
 use Rattle.hir_steps.proofs.Frames.{Frame, loop_at, block_at, ribs}
-use Rattle.hir_steps.proofs.Steps.{Mark, Correct, correct_bind, correct_as, correct_pure, correct_report, correct_report_await, correct_point}
+use Rattle.hir_steps.proofs.Steps.{Mark, Correct, correct_bind, correct_as, correct_pure, correct_report, correct_report_await}
+use Rattle.hir_steps.proofs.Steps.{correct_point}
 use Rattle.hir_steps.proofs.Steps.{correct_enter_block, correct_alloc, correct_opened, correct_target, with_fault, with_block, with_expr}
 use Rattle.hir_steps.proofs.Steps.{with_await, with_label, pointing, with_target, with_jump}
 use Rattle.hir_one_result.specs.Diagnostics.{forget, Around, target_faults, jump_faults, await_faults}
@@ -256,8 +260,8 @@ module _ {X : Type 0} (L : Listing X) where
     unfolding await_form
     await_tells location h = tells_bind h (λ i. tells_end (tells_report_await at location) (λ u. tells_alloc _ _))
 
-    pub block_form_tells : (is_unsafe : Bool) (label : Option LabelId) (number : Option BlockId) {D : List Scope → List X} {c : Lowering Contents}
-        → Correct c (Tells D)
+    pub block_form_tells : (is_unsafe : Bool) (label : Option LabelId) (number : Option BlockId) {D : List Scope → List X}
+        {c : Lowering Contents} → Correct c (Tells D)
         → Correct (block_form at is_unsafe label number c) (Tells (λ ss. L.of_block number ++ D ss))
     unfolding block_form
     block_form_tells is_unsafe label number h = tells_bind (tells_enter_block number) (λ u. tells_end h (λ r. tells_alloc _ _))

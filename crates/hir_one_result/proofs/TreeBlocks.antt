@@ -74,7 +74,8 @@ mutual
   node_blocks (tree.leaving_expr at form e) = value_tells entered at _ (present_blocks e)
   node_blocks (tree.become_expr at e) = operand_tells entered at _ (part_blocks e)
   node_blocks (tree.yield_expr at e) = value_tells entered at _ (present_blocks e)
-  node_blocks (tree.await_expr at location e) = tells_as entered (await_tells entered at location (part_blocks e)) (λ ss. sym (append-nil (blocks_of_part e)))
+  node_blocks (tree.await_expr at location e) =
+      tells_as entered (await_tells entered at location (part_blocks e)) (λ ss. sym (append-nil (blocks_of_part e)))
   node_blocks (tree.nameless_expr at e) = operand_tells entered at _ (part_blocks e)
 
   part_blocks : (e : OptionExpr) → Enters (blocks_of_part e) (lower_part e)

@@ -84,8 +84,8 @@ inside_stands : (at : Pointer) (is_unsafe : Bool) (n : Option LabelId) (number :
     × HasContents (gives_value ss (is_left e)) kept last r × Placed final i (hir.Block is_unsafe n number r.0 r.1) (Some at)
     × (contents final rs ss e kept last & From at i) ws))
 inside_stands at is_unsafe n number ss e h =
-    correct_as (block_form_stands at is_unsafe n number {S = λ final rs r. contents final rs ss e r.0 r.1} (correct_as h (λ final ps m m' r g row.
-    record { shown = behind_none (λ is. contents final (ribs ps) ss e is r.1) row.shown })))
+    correct_as (block_form_stands at is_unsafe n number {S = λ final rs r. contents final rs ss e r.0 r.1}
+    (correct_as h (λ final ps m m' r g row. record { shown = behind_none (λ is. contents final (ribs ps) ss e is r.1) row.shown })))
     (λ final ps m m' i g row. record {
       shown = shown_as row.shown (λ ws y.
           let is = has_contents (store_of final) (map_of final) (ribs ps) ss e y.0.0 y.0.1 y.2.left y.2.first in

@@ -1,8 +1,10 @@
 -- The faults of what lowering reads of a tree, in written order: one for each disabled node that is asked about, and one
--- for each named jump that has no target, or none in reach, and for each await outside of async code. What is in a disabled node isn't read.
+-- for each named jump that has no target, or none in reach, and one for each await outside of async code. What is in a
+-- disabled node isn't read.
 use Rattle.std.specs.Prelude.{◌≡◌, List, [], ◌∷◌, ◌++◌, Option, Some, None}
 use Rattle.hir_store.specs.declared.diagnostics.ExpressionStoreDiagnostics.{ExpressionStoreDiagnostics}
-use Rattle.hir_store.specs.declared.diagnostics.ExpressionStoreDiagnostics.TheVariants.{AwaitOutsideOfAsync, InactiveCode, UndeclaredLabel, UnreachableLabel}
+use Rattle.hir_store.specs.declared.diagnostics.ExpressionStoreDiagnostics.TheVariants.{AwaitOutsideOfAsync, InactiveCode}
+use Rattle.hir_store.specs.declared.diagnostics.ExpressionStoreDiagnostics.TheVariants.{UndeclaredLabel, UnreachableLabel}
 use Rattle.hir_store.specs.declared.diagnostics.AwaitLocation.{AwaitLocation}
 use Rattle.hir_store.specs.Pointers.{Pointer}
 use Rattle.hir_env.specs.Answered as tree

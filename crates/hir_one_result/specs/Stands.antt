@@ -121,7 +121,8 @@ module _ (store : Store) (source_map : SourceMap) where
     Stands rs (tree.lazy_expr at op a b) i = StandsOverTwo (lazy_form op) at (λ x. StandsPart rs a x) (λ y. StandsPart rs b y) i
     Stands rs (tree.list_expr at form es) i = StandsList at form (λ is. StandsEach rs es is) i
     Stands rs (tree.method_call_expr at e name es) i =
-        StandsOverTwo (λ receiver arguments. hir.MethodCall receiver name arguments) at (λ x. StandsPart rs e x) (λ is. StandsEach rs es is) i
+        StandsOverTwo (λ receiver arguments. hir.MethodCall receiver name arguments) at
+        (λ x. StandsPart rs e x) (λ is. StandsEach rs es is) i
     Stands rs (tree.leaving_expr at form e) i = StandsOver (leaving_form form) at (λ o. StandsPresent rs e o) i
     Stands rs (tree.become_expr at e) i = StandsOver hir.Become at (λ x. StandsPart rs e x) i
     Stands rs (tree.yield_expr at e) i = StandsOver hir.Yield at (λ o. StandsPresent rs e o) i
@@ -151,7 +152,8 @@ module _ (store : Store) (source_map : SourceMap) where
     pub StandsBlock : Open → Block → ExprId → Ways
     StandsBlock rs (tree.block at is_unsafe label number ss e) i =
         InLabel rs label (λ inner n ws. (kept : List Statement) × (last : Option ExprId) × (contents : List Statement × Option ExprId)
-        × HasContents (gives_value ss (is_left e)) kept last contents × ExprAt i (hir.Block is_unsafe n number contents.0 contents.1) (Some at)
+        × HasContents (gives_value ss (is_left e)) kept last contents
+        × ExprAt i (hir.Block is_unsafe n number contents.0 contents.1) (Some at)
         × (StandsContents inner ss (λ around o. StandsKept around e o) kept last & From at i) ws)
 
     pub StandsBlockPart : Open → OptionBlock → ExprId → Ways

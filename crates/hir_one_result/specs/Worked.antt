@@ -70,7 +70,8 @@ pub record Jumps : Type 0 where
 -- a block with a number, in which is a fault, disabled
 abbrev pub disabled : CfgId → Expr
 disabled by =
-    tree.disabled_expr (at 2) by (tree.block_expr (tree.block (at 2) false None (Some (record { 0 = 7 })) tree.no_stmts (tree.some_expr break_a)))
+    let number : BlockId = record { 0 = 7 } in
+    tree.disabled_expr (at 2) by (tree.block_expr (tree.block (at 2) false None (Some number) tree.no_stmts (tree.some_expr break_a)))
 
 -- a literal, with or without a semicolon, and then what is disabled
 abbrev pub literal_first : CfgId → Bool → Stmts
@@ -81,7 +82,8 @@ in_block by semi tail = tree.block_expr (tree.block (at 0) false None None (lite
 
 pub record Statements : Type 0 where
   pub becomes_tail : (by : CfgId) → StoredOver (in_block by false tree.no_expr) (λ last. hir.Block false None None [] (Some last))
-  pub has_semicolon : (by : CfgId) → StoredOver (in_block by true tree.no_expr) (λ v. hir.Block false None None (statement.Expr v true ∷ []) None)
+  pub has_semicolon : (by : CfgId)
+      → StoredOver (in_block by true tree.no_expr) (λ v. hir.Block false None None (statement.Expr v true ∷ []) None)
   pub disabled_tail : (by : CfgId)
       → StoredOver (in_block by false (tree.some_expr (disabled by))) (λ last. hir.Block false None None [] (Some last))
   pub faults : (by : CfgId) (semi : Bool) → diagnostics [] (in_block by semi tree.no_expr) ≡ InactiveCode (at 2) by ∷ []
