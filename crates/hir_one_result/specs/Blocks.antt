@@ -1,4 +1,5 @@
--- The numbers of the blocks that lowering enters, in the order in which it reads the parts of a tree. What is in a disabled node isn't read.
+-- The numbers of the blocks that lowering enters, in the order in which it reads the parts of a tree. What is in a
+-- disabled node isn't read.
 use Rattle.std.specs.Prelude.{List, [], ◌++◌, option_to_list}
 use Rattle.hir_store.specs.declared.ids.BlockId.{BlockId}
 use Rattle.hir_env.specs.Answered as tree
@@ -17,6 +18,17 @@ abbrev mutual
   blocks_of (tree.break_expr at jump e) = blocks_of_part e
   blocks_of (tree.paren_expr at e) = blocks_of_part e
   blocks_of (tree.literal_expr at l) = []
+  blocks_of (tree.leaf_expr at form) = []
+  blocks_of (tree.unary_expr at form e) = blocks_of_part e
+  blocks_of (tree.binary_expr at form a b) = blocks_of_part a ++ blocks_of_part b
+  blocks_of (tree.lazy_expr at op a b) = blocks_of_part a ++ blocks_of_part b
+  blocks_of (tree.list_expr at form es) = blocks_of_each es
+  blocks_of (tree.method_call_expr at e name es) = blocks_of_part e ++ blocks_of_each es
+  blocks_of (tree.leaving_expr at form e) = blocks_of_part e
+  blocks_of (tree.become_expr at e) = blocks_of_part e
+  blocks_of (tree.yield_expr at e) = blocks_of_part e
+  blocks_of (tree.await_expr at location e) = blocks_of_part e
+  blocks_of (tree.nameless_expr at e) = blocks_of_part e
 
   pub blocks_of_part : OptionExpr → List BlockId
   blocks_of_part tree.no_expr = []
@@ -28,7 +40,7 @@ abbrev mutual
 
   -- its own number, then those in its statements and its tail
   pub blocks_of_block : Block → List BlockId
-  blocks_of_block (tree.block at label number ss e) = option_to_list number ++ (blocks_of_stmts ss ++ blocks_of_part e)
+  blocks_of_block (tree.block at is_unsafe label number ss e) = option_to_list number ++ (blocks_of_stmts ss ++ blocks_of_part e)
 
   pub blocks_of_block_part : OptionBlock → List BlockId
   blocks_of_block_part tree.no_block = []

@@ -1,8 +1,12 @@
--- The faults of what lowering reads of a tree, in written order: one for each disabled node that is asked about, and one for each named jump
--- that has no target, or none in reach. What is in a disabled node isn't read.
+-- The faults of what lowering reads of a tree, in written order: one for each disabled node that is asked about, and one
+-- for each named jump that has no target, or none in reach, and one for each await outside of async code. What is in a
+-- disabled node isn't read.
 use Rattle.std.specs.Prelude.{◌≡◌, List, [], ◌∷◌, ◌++◌, Option, Some, None}
 use Rattle.hir_store.specs.declared.diagnostics.ExpressionStoreDiagnostics.{ExpressionStoreDiagnostics}
-use Rattle.hir_store.specs.declared.diagnostics.ExpressionStoreDiagnostics.TheVariants.{InactiveCode, UndeclaredLabel, UnreachableLabel}
+use Rattle.hir_store.specs.declared.diagnostics.ExpressionStoreDiagnostics.TheVariants.{AwaitOutsideOfAsync, InactiveCode}
+use Rattle.hir_store.specs.declared.diagnostics.ExpressionStoreDiagnostics.TheVariants.{UndeclaredLabel, UnreachableLabel}
+use Rattle.hir_store.specs.declared.diagnostics.AwaitLocation.{AwaitLocation}
+use Rattle.hir_store.specs.Pointers.{Pointer}
 use Rattle.hir_env.specs.Answered as tree
 use Rattle.hir_env.specs.Answered.{Jump, Expr, OptionExpr, Exprs, Block, OptionBlock, Stmts}
 use Rattle.hir_scope.specs.Ribs.{Rib, Target, found, unreachable, undeclared, target, map_ribs}
@@ -20,6 +24,11 @@ abbrev pub jump_faults : List Scope → Option Jump → Faults
 jump_faults ss None = []
 jump_faults ss (Some j) = target_faults j (target j (ribs ss))
 
+-- what awaits stands in this, which isn't async
+abbrev pub await_faults : Pointer → Option AwaitLocation → Faults
+await_faults at None = []
+await_faults at (Some location) = AwaitOutsideOfAsync at location ∷ []
+
 abbrev mutual
   pub diagnostics : List Scope → Expr → Faults
   diagnostics ss (tree.disabled_expr at by e) = InactiveCode at by ∷ []
@@ -32,6 +41,17 @@ abbrev mutual
   diagnostics ss (tree.break_expr at jump e) = jump_faults ss jump ++ part_diagnostics ss e
   diagnostics ss (tree.paren_expr at e) = part_diagnostics ss e
   diagnostics ss (tree.literal_expr at l) = []
+  diagnostics ss (tree.leaf_expr at form) = []
+  diagnostics ss (tree.unary_expr at form e) = part_diagnostics ss e
+  diagnostics ss (tree.binary_expr at form a b) = part_diagnostics ss a ++ part_diagnostics ss b
+  diagnostics ss (tree.lazy_expr at op a b) = part_diagnostics ss a ++ part_diagnostics ss b
+  diagnostics ss (tree.list_expr at form es) = each_diagnostics ss es
+  diagnostics ss (tree.method_call_expr at e name es) = part_diagnostics ss e ++ each_diagnostics ss es
+  diagnostics ss (tree.leaving_expr at form e) = part_diagnostics ss e
+  diagnostics ss (tree.become_expr at e) = part_diagnostics ss e
+  diagnostics ss (tree.yield_expr at e) = part_diagnostics ss e
+  diagnostics ss (tree.await_expr at location e) = part_diagnostics ss e ++ await_faults at location
+  diagnostics ss (tree.nameless_expr at e) = part_diagnostics ss e
 
   pub part_diagnostics : List Scope → OptionExpr → Faults
   part_diagnostics ss tree.no_expr = []
@@ -42,7 +62,8 @@ abbrev mutual
   each_diagnostics ss (tree.more_exprs e es) = diagnostics ss e ++ each_diagnostics ss es
 
   pub block_diagnostics : List Scope → Block → Faults
-  block_diagnostics ss (tree.block at label number stmts tail) = contents_diagnostics (in_block label ss) stmts (λ inner. part_diagnostics inner tail)
+  block_diagnostics ss (tree.block at is_unsafe label number stmts tail) =
+      contents_diagnostics (in_block label ss) stmts (λ inner. part_diagnostics inner tail)
 
   pub block_part_diagnostics : List Scope → OptionBlock → Faults
   block_part_diagnostics ss tree.no_block = []

@@ -1,6 +1,7 @@
--- What stands in a store for a written tree: for each kept expression one stored expression of its form, which came from its own node
--- and whose parts stand for its parts. An absent or disabled part is a missing expression that came from no node, or none where the form knows none.
--- With it stand the ways of the tree: from the node of each written expression and label to what it became.
+-- What stands in a store for a written tree: for each kept expression one stored expression of its form, which came from
+-- its own node and whose parts stand for its parts. An absent or disabled part is a missing expression that came from no
+-- node, or none where the form knows none. With it stand the ways of the tree: from the node of each written expression
+-- and label to what it became.
 use Rattle.std.specs.Prelude.{◌≡◌, Bool, true, false, List, [], ◌∷◌, ◌++◌, Option, Some, None, option_map, option_to_list, slice_get}
 use Rattle.hir_syntax.specs.declared.ast.Literal.{Literal as AstLiteral}
 use Rattle.hir_store.specs.Pointers.{Pointer}
@@ -17,10 +18,11 @@ use Rattle.hir_store.specs.declared.ids.LabelId.{LabelId}
 use Rattle.hir_store.specs.declared.ids.HygieneId.{HygieneId}
 use Rattle.hir_scope.specs.Ribs.{Rib, label_rib, jump_number}
 use Rattle.hir_env.specs.Answered as tree
-use Rattle.hir_env.specs.Answered.{Label, Expr, OptionExpr, Exprs, Block, OptionBlock, Stmts}
+use Rattle.hir_env.specs.Answered.{Listing, Label, Expr, OptionExpr, Exprs, Block, OptionBlock, Stmts}
 use Rattle.hir_meaning.specs.Data.{PathData, literal_data, literal_read, data_if_written, path_read, lookup_hygiene}
 use Rattle.hir_meaning.specs.Left.{is_kept, is_left, gives_value}
 use Rattle.hir_meaning.specs.Contents.{HasContents}
+use Rattle.hir_one_result.specs.Forms.{leaf_form, unary_form, binary_form, lazy_form, leaving_form}
 use Rattle.hir_one_result.specs.Leads.{Ways, No, From, FromLabel, ◌&◌}
 
 -- the numbers of the labels that are open, innermost first
@@ -42,6 +44,9 @@ abbrev pub ThereIf : {A : Type 0} → Bool → (A → Ways) → Option A → Way
 ThereIf true S o = There S o
 ThereIf false S o = Absent o
 
+abbrev pub statement_of : Bool → Option ExprId → Option Statement
+statement_of semi o = option_map (λ id. statement.Expr id semi) o
+
 -- ---- in a store
 
 module _ (store : Store) (source_map : SourceMap) where
@@ -62,6 +67,20 @@ module _ (store : Store) (source_map : SourceMap) where
   abbrev pub StandsAlone : HirExpr → Pointer → ExprId → Ways
   StandsAlone e at i = λ ws. ExprAt i e (Some at) × From at i ws
 
+  -- a form that names one part, and one that names two
+  abbrev pub StandsOver : {A : Type 0} → (A → HirExpr) → Pointer → (A → Ways) → ExprId → Ways
+  StandsOver {A = A} form at S i = λ ws. (part : A) × ExprAt i (form part) (Some at) × (S part & From at i) ws
+
+  abbrev pub StandsOverTwo : {A B : Type 0} → (A → B → HirExpr) → Pointer → (A → Ways) → (B → Ways) → ExprId → Ways
+  StandsOverTwo {A = A} {B = B} form at S T i = λ ws.
+      (one : A) × (other : B) × ExprAt i (form one other) (Some at) × (S one & T other & From at i) ws
+
+  -- in front of a tuple with a leading comma stands a missing element
+  abbrev pub StandsList : Pointer → Listing → (List ExprId → Ways) → ExprId → Ways
+  StandsList at (tree.tuple_of false) S i = StandsOver hir.Tuple at S i
+  StandsList at (tree.tuple_of true) S i = StandsOverTwo (λ elements front. hir.Tuple (front ∷ elements)) at S StandsMissing i
+  StandsList at tree.array_of S i = StandsOver hir.Array at S i
+
   -- It is read as it was written. An absent or refused path is a missing expression.
   abbrev pub StandsPath : Pointer → Option PathData → HygieneId → ExprId → Ways
   StandsPath at None h i = StandsAlone hir.Missing at i
@@ -79,11 +98,13 @@ module _ (store : Store) (source_map : SourceMap) where
     pub Stands : Open → Expr → ExprId → Ways
     Stands rs (tree.disabled_expr at by e) i = StandsMissing i
     Stands rs (tree.if_expr at c t e) i = λ ws.
-        (condition : ExprId) × (then_branch : ExprId) × (else_branch : Option ExprId) × ExprAt i (hir.If condition then_branch else_branch) (Some at)
+        (condition : ExprId) × (then_branch : ExprId) × (else_branch : Option ExprId)
+        × ExprAt i (hir.If condition then_branch else_branch) (Some at)
         × (StandsPart rs c condition & StandsBlockPart rs t then_branch & StandsPresent rs e else_branch & From at i) ws
     Stands rs (tree.block_expr b) i = StandsBlock rs b i
     Stands rs (tree.loop_expr at label b) i =
-        InLabel rs label (λ inner n ws. (body : ExprId) × ExprAt i (hir.Loop body n source.Loop) (Some at) × (StandsBlockPart inner b body & From at i) ws)
+        InLabel rs label (λ inner n ws. (body : ExprId) × ExprAt i (hir.Loop body n source.Loop) (Some at)
+        × (StandsBlockPart inner b body & From at i) ws)
     Stands rs (tree.call_expr at f es) i = λ ws.
         (callee : ExprId) × (arguments : List ExprId) × ExprAt i (hir.Call callee arguments) (Some at)
         × (StandsPart rs f callee & StandsEach rs es arguments & From at i) ws
@@ -94,6 +115,20 @@ module _ (store : Store) (source_map : SourceMap) where
     -- the parentheses became what is in them
     Stands rs (tree.paren_expr at e) i = StandsPart rs e i & From at i
     Stands rs (tree.literal_expr at l) i = StandsLiteral at l i
+    Stands rs (tree.leaf_expr at form) i = StandsAlone (leaf_form form) at i
+    Stands rs (tree.unary_expr at form e) i = StandsOver (unary_form form) at (λ x. StandsPart rs e x) i
+    Stands rs (tree.binary_expr at form a b) i = StandsOverTwo (binary_form form) at (λ x. StandsPart rs a x) (λ y. StandsPart rs b y) i
+    Stands rs (tree.lazy_expr at op a b) i = StandsOverTwo (lazy_form op) at (λ x. StandsPart rs a x) (λ y. StandsPart rs b y) i
+    Stands rs (tree.list_expr at form es) i = StandsList at form (λ is. StandsEach rs es is) i
+    Stands rs (tree.method_call_expr at e name es) i =
+        StandsOverTwo (λ receiver arguments. hir.MethodCall receiver name arguments) at
+        (λ x. StandsPart rs e x) (λ is. StandsEach rs es is) i
+    Stands rs (tree.leaving_expr at form e) i = StandsOver (leaving_form form) at (λ o. StandsPresent rs e o) i
+    Stands rs (tree.become_expr at e) i = StandsOver hir.Become at (λ x. StandsPart rs e x) i
+    Stands rs (tree.yield_expr at e) i = StandsOver hir.Yield at (λ o. StandsPresent rs e o) i
+    Stands rs (tree.await_expr at location e) i = StandsOver hir.Await at (λ x. StandsPart rs e x) i
+    -- the operand stands in the store, and is part of nothing
+    Stands rs (tree.nameless_expr at e) i = StandsOver (λ x. hir.Missing) at (λ x. StandsPart rs e x) i
 
     pub StandsPart : Open → OptionExpr → ExprId → Ways
     StandsPart rs tree.no_expr i = StandsMissing i
@@ -110,13 +145,15 @@ module _ (store : Store) (source_map : SourceMap) where
     pub StandsEach : Open → Exprs → List ExprId → Ways
     StandsEach rs tree.no_exprs is = λ ws. (is ≡ []) × No ws
     StandsEach rs (tree.more_exprs e es) is = λ ws.
-        (o : Option ExprId) × (others : List ExprId) × (is ≡ option_to_list o ++ others) × (ThereIf (is_kept e) (λ i. Stands rs e i) o & StandsEach rs es others) ws
+        (o : Option ExprId) × (others : List ExprId) × (is ≡ option_to_list o ++ others)
+        × (ThereIf (is_kept e) (λ i. Stands rs e i) o & StandsEach rs es others) ws
 
     -- it has what its statements and its tail became, of which the last statement may be its tail
     pub StandsBlock : Open → Block → ExprId → Ways
-    StandsBlock rs (tree.block at label number ss e) i =
+    StandsBlock rs (tree.block at is_unsafe label number ss e) i =
         InLabel rs label (λ inner n ws. (kept : List Statement) × (last : Option ExprId) × (contents : List Statement × Option ExprId)
-        × HasContents (gives_value ss (is_left e)) kept last contents × ExprAt i (hir.Block n number contents.0 contents.1) (Some at)
+        × HasContents (gives_value ss (is_left e)) kept last contents
+        × ExprAt i (hir.Block is_unsafe n number contents.0 contents.1) (Some at)
         × (StandsContents inner ss (λ around o. StandsKept around e o) kept last & From at i) ws)
 
     pub StandsBlockPart : Open → OptionBlock → ExprId → Ways
@@ -127,7 +164,7 @@ module _ (store : Store) (source_map : SourceMap) where
     pub StandsContents : Open → Stmts → (Open → Option ExprId → Ways) → List Statement → Option ExprId → Ways
     StandsContents rs tree.no_stmts Tail is tail = λ ws. (is ≡ []) × Tail rs tail ws
     StandsContents rs (tree.more_stmts (tree.expr_stmt e semi) ss) Tail is tail = λ ws.
-        (o : Option ExprId) × (others : List Statement) × (is ≡ option_to_list (option_map (λ id. statement.Expr id semi) o) ++ others)
+        (o : Option ExprId) × (others : List Statement) × (is ≡ option_to_list (statement_of semi o) ++ others)
         × (StandsKept rs e o & StandsContents rs ss Tail others tail) ws
     StandsContents rs (tree.more_stmts tree.item_stmt ss) Tail is tail = λ ws.
         (others : List Statement) × (is ≡ statement.Item ∷ others) × StandsContents rs ss Tail others tail ws

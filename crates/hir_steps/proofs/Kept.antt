@@ -1,20 +1,22 @@
 -- Lowering a tree is made of steps, so that nothing is lost.
-use Rattle.std.proofs.Common.{List, [], Option, Some, None, Ok, Err, refl}
+use Rattle.std.proofs.Common.{Bool, true, false, List, [], Option, Some, None, Ok, Err, refl}
 use Rattle.hir_store.specs.Pointers.{Pointer}
 use Rattle.hir_store.specs.Stored.{Stored}
 use Rattle.hir_store.specs.declared.hir.Expr.{Expr as HirExpr}
 use Rattle.hir_store.specs.declared.hir.Statement.{Statement}
+use Rattle.hir_store.specs.declared.name.Name.{Name}
+use Rattle.hir_store.specs.declared.diagnostics.AwaitLocation.{AwaitLocation}
 use Rattle.hir_store.specs.declared.ids.ExprId.{ExprId}
 use Rattle.hir_store.specs.declared.ids.LabelId.{LabelId}
 use Rattle.hir_store.specs.declared.ids.BlockId.{BlockId}
 use Rattle.hir_env.specs.Answered as tree
-use Rattle.hir_env.specs.Answered.{Label, Jump, Expr, OptionExpr, Exprs, Block, OptionBlock, Stmts, Stmt}
+use Rattle.hir_env.specs.Answered.{Listing, Label, Jump, Expr, OptionExpr, Exprs, Block, OptionBlock, Stmts, Stmt}
 use Rattle.hir_lower_form.specs.Builder.{Builder}
 use Rattle.hir_lower_form.specs.Lowering.{Checked, Lowering, ◌>>=◌, alloc_expr}
-use Rattle.hir_lower_form.specs.Lower.{Node, Contents, missing, some, if_form, loop_form, call_form, continue_form, break_form, paren_form, block_form, labelled, kept, lower, lower_part, present, kept_part, lower_each, lower_block, lower_block_part, lower_stmts, lower_stmt}
+use Rattle.hir_lower_form.specs.Lower.{Node, Contents, missing, some, if_form, loop_form, call_form, continue_form, break_form, paren_form, operand_form, operands_form, value_form, list_form, method_call_form, await_form, block_form, labelled, kept, lower, lower_part, present, kept_part, lower_each, lower_block, lower_block_part, lower_stmts, lower_stmt}
 use Rattle.hir_steps.specs.Keeps.{Keeps, Keeping}
 use Rattle.hir_steps.proofs.Frames.{Frame, loop_at, block_at, frames, ribs_frames}
-use Rattle.hir_steps.proofs.Steps.{Mark, Rel, Holds, Correct, correct_bind, correct_as, correct_pure, correct_report, correct_point, correct_enter_block, correct_alloc, correct_opened, correct_target}
+use Rattle.hir_steps.proofs.Steps.{Mark, Rel, Holds, Correct, correct_bind, correct_as, correct_pure, correct_report, correct_report_await, correct_point, correct_enter_block, correct_alloc, correct_opened, correct_target}
 
 pub record Any {A : Type 0} (final : Stored) (ps : List Frame) (m m' : Mark) (a : A) : Type 0 where
   pub any : Unit {0}
@@ -61,9 +63,35 @@ module _ (at : Pointer) where
   unfolding paren_form
   paren_any h = then' h (λ i. then' (any (correct_point at i)) (λ u. any (correct_pure i)))
 
-  block_form_any : (label : Option LabelId) (number : Option BlockId) {c : Lowering Contents} → Correct c Any → Correct (block_form at label number c) Any
+  operand_any : (form : ExprId → HirExpr) {e : Node} → Correct e Any → Correct (operand_form at form e) Any
+  unfolding operand_form
+  operand_any form h = then' h (λ i. stored_any _ at)
+
+  operands_any : (form : ExprId → ExprId → HirExpr) {a b : Node} → Correct a Any → Correct b Any → Correct (operands_form at form a b) Any
+  unfolding operands_form
+  operands_any form ha hb = then' ha (λ i. then' hb (λ j. stored_any _ at))
+
+  value_any : (form : Option ExprId → HirExpr) {e : Lowering (Option ExprId)} → Correct e Any → Correct (value_form at form e) Any
+  unfolding value_form
+  value_any form h = then' h (λ v. stored_any _ at)
+
+  list_any : (form : Listing) {xs : Lowering (List ExprId)} → Correct xs Any → Correct (list_form at form xs) Any
+  unfolding list_form
+  list_any (tree.tuple_of false) h = then' h (λ is. stored_any _ at)
+  list_any (tree.tuple_of true) h = then' h (λ is. then' missing_any (λ i. stored_any _ at))
+  list_any tree.array_of h = then' h (λ is. stored_any _ at)
+
+  method_call_any : {e : Node} (name : Name) {xs : Lowering (List ExprId)} → Correct e Any → Correct xs Any → Correct (method_call_form at e name xs) Any
+  unfolding method_call_form
+  method_call_any name he hx = then' he (λ i. then' hx (λ is. stored_any _ at))
+
+  await_any : (location : Option AwaitLocation) {e : Node} → Correct e Any → Correct (await_form at location e) Any
+  unfolding await_form
+  await_any location h = then' h (λ i. then' (any (correct_report_await at location)) (λ u. stored_any _ at))
+
+  block_form_any : (is_unsafe : Bool) (label : Option LabelId) (number : Option BlockId) {c : Lowering Contents} → Correct c Any → Correct (block_form at is_unsafe label number c) Any
   unfolding block_form
-  block_form_any label number h = then' (any (correct_enter_block number)) (λ u. then' h (λ r. stored_any _ at))
+  block_form_any is_unsafe label number h = then' (any (correct_enter_block number)) (λ u. then' h (λ r. stored_any _ at))
 
 labelled_any : (label : Option Label) {f : Option LabelId → Node} → ((n : Option LabelId) → Correct (f n) Any) → Correct (labelled label f) Any
 unfolding labelled
@@ -86,6 +114,17 @@ mutual
   node_any (tree.break_expr at jump e) = break_any at jump (present_any e)
   node_any (tree.paren_expr at e) = paren_any at (part_any e)
   node_any (tree.literal_expr at l) = stored_any _ at
+  node_any (tree.leaf_expr at form) = stored_any _ at
+  node_any (tree.unary_expr at form e) = operand_any at _ (part_any e)
+  node_any (tree.binary_expr at form a b) = operands_any at _ (part_any a) (part_any b)
+  node_any (tree.lazy_expr at op a b) = operands_any at _ (part_any a) (part_any b)
+  node_any (tree.list_expr at form es) = list_any at form (each_any [] es)
+  node_any (tree.method_call_expr at e name es) = method_call_any at name (part_any e) (each_any [] es)
+  node_any (tree.leaving_expr at form e) = value_any at _ (present_any e)
+  node_any (tree.become_expr at e) = operand_any at _ (part_any e)
+  node_any (tree.yield_expr at e) = value_any at _ (present_any e)
+  node_any (tree.await_expr at location e) = await_any at location (part_any e)
+  node_any (tree.nameless_expr at e) = operand_any at _ (part_any e)
 
   part_any : (e : OptionExpr) → Correct (lower_part e) Any
   part_any tree.no_expr = missing_any
@@ -104,7 +143,7 @@ mutual
   each_any done (tree.more_exprs e es) = then' (kept_any e (node_any e)) (λ x. each_any _ es)
 
   block_any : (b : Block) → Correct (lower_block b) Any
-  block_any (tree.block at label number ss e) = labelled_any label (λ n. block_form_any at n number (stmts_any [] ss (kept_part_any e)))
+  block_any (tree.block at is_unsafe label number ss e) = labelled_any label (λ n. block_form_any at is_unsafe n number (stmts_any [] ss (kept_part_any e)))
 
   block_part_any : (b : OptionBlock) → Correct (lower_block_part b) Any
   block_part_any tree.no_block = missing_any

@@ -14,14 +14,15 @@ use Rattle.hir_store.specs.declared.ids.ExprId.{ExprId}
 use Rattle.hir_store.specs.declared.ids.LabelId.{LabelId}
 use Rattle.hir_store.specs.declared.ids.BlockId.{BlockId}
 use Rattle.hir_store.specs.declared.diagnostics.ExpressionStoreDiagnostics.{ExpressionStoreDiagnostics}
-use Rattle.hir_store.specs.declared.diagnostics.ExpressionStoreDiagnostics.TheVariants.{UndeclaredLabel, UnreachableLabel}
+use Rattle.hir_store.specs.declared.diagnostics.ExpressionStoreDiagnostics.TheVariants.{AwaitOutsideOfAsync, UndeclaredLabel, UnreachableLabel}
+use Rattle.hir_store.specs.declared.diagnostics.AwaitLocation.{AwaitLocation}
 use Rattle.hir_store.proofs.Arenas.{continues_refl, continues_entry, prefix_refl}
 use Rattle.hir_store.proofs.Range.{extends_refl, extends_trans, extends_point, extends_report, extends_block}
 use Rattle.hir_env.specs.Answered.{Label, Jump}
 use Rattle.hir_scope.specs.Ribs.{Rib, Target, found, unreachable, undeclared, target, number_found, jump_number}
 use Rattle.hir_lower_scope.specs.Labels.{rest}
 use Rattle.hir_lower_form.specs.Builder.{Builder}
-use Rattle.hir_lower_form.specs.Lowering.{Checked, go_on, Lowering, ◌>>=◌, pure, alloc_expr, point, report, enter_block, open_label, close, jump_target, found_or_fault}
+use Rattle.hir_lower_form.specs.Lowering.{Checked, go_on, Lowering, ◌>>=◌, pure, alloc_expr, point, report, report_await, enter_block, open_label, close, jump_target, found_or_fault}
 use Rattle.hir_steps.specs.Keeps.{Paired, Kept}
 use Rattle.hir_steps.proofs.Frames.{Frame, rib, ribs}
 
@@ -172,6 +173,11 @@ abbrev pub with_block : Option BlockId → Stored → Stored
 with_block None s = s
 with_block (Some n) s = record s { block_scopes = s.block_scopes ++ n ∷ [] }
 
+-- the fault of what awaits in this
+abbrev pub with_await : Pointer → Option AwaitLocation → Stored → Stored
+with_await node None s = s
+with_await node (Some location) s = with_fault (AwaitOutsideOfAsync node location) s
+
 pub correct_report : (fault : ExpressionStoreDiagnostics) → Correct (report fault) (Writes tt (with_fault fault))
 unfolding report storing.report
 correct_report fault = record {
@@ -181,6 +187,15 @@ correct_report fault = record {
     in_final = λ d pre. record { is = refl; nodes = refl; labels = refl; stored = refl };
   };
 }
+
+writes_nothing : Correct {A = Unit {0}} (pure tt) (Writes tt (λ s. s))
+writes_nothing = correct_as (correct_pure tt)
+    (λ final ps m m' a g row. record { is = row.is; nodes = ap (λ x. x.nodes) row.still; labels = ap (λ x. x.labels) row.still; stored = ap (λ x. x.stored) row.still })
+
+pub correct_report_await : (node : Pointer) (location : Option AwaitLocation) → Correct (report_await node location) (Writes tt (with_await node location))
+unfolding report_await
+correct_report_await node None = writes_nothing
+correct_report_await node (Some location) = correct_report (AwaitOutsideOfAsync node location)
 
 pub correct_point : (node : Pointer) (id : ExprId) → Correct (point node id) (Writes tt (pointing node id))
 unfolding point storing.point
@@ -194,8 +209,7 @@ correct_point node id = record {
 
 pub correct_enter_block : (n : Option BlockId) → Correct (enter_block n) (Writes tt (with_block n))
 unfolding enter_block storing.enter_block
-correct_enter_block None = correct_as (correct_pure tt)
-    (λ final ps m m' a g row. record { is = row.is; nodes = ap (λ x. x.nodes) row.still; labels = ap (λ x. x.labels) row.still; stored = ap (λ x. x.stored) row.still })
+correct_enter_block None = writes_nothing
 correct_enter_block (Some n) = record {
   holds = λ final ps b r. record {
     kept = record { scopes = refl; roots = refl; paired = λ d. record { exprs = d.exprs; labels = d.labels }; stays = extends_block b.stored n };

@@ -1,0 +1,165 @@
+-- Small trees, worked out.
+use Rattle.std.proofs.Common.{slice_get, ◌≡◌, ◌∙◌, refl, sym, ap, Bool, true, false, List, [], ◌∷◌, ◌++◌, option_to_list, Option, Some}
+use Rattle.std.proofs.Common.{None}
+use Rattle.hir_store.specs.Stored.{Store, SourceMap}
+use Rattle.hir_store.specs.declared.hir.Expr.{Expr as HirExpr}
+use Rattle.hir_store.specs.declared.hir.Expr.TheVariants as hir
+use Rattle.hir_store.specs.declared.hir.Statement.{Statement}
+use Rattle.hir_store.specs.declared.hir.Statement.TheVariants as statement
+use Rattle.hir_store.specs.declared.path.Path.{Path}
+use Rattle.hir_store.specs.declared.path.Path.TheVariants.{BarePath}
+use Rattle.hir_store.specs.declared.ids.ExprId.{ExprId}
+use Rattle.hir_syntax.specs.declared.ast.Literal.{Literal as AstLiteral}
+use Rattle.hir_store.specs.Pointers.{Pointer}
+use Rattle.hir_store.specs.declared.hir.Literal.{Literal}
+use Rattle.hir_meaning.specs.Data.{PathData, path_read, LiteralData, literal_data}
+use Rattle.hir_meaning.specs.Contents.{HasContents}
+use Rattle.hir_store.specs.declared.ids.CfgId.{CfgId}
+use Rattle.hir_meaning.specs.Small.{at, root, stored_one}
+use Rattle.hir_one_result.specs.Leads.{Way, expr_way}
+use Rattle.hir_one_result.specs.Stands.{Absent, statement_of, StandsLiteral, StandsEach, StandsContents}
+use Rattle.hir_one_result.specs.Worked.{Jumps, other, literal_first, Statements, EntersInOrder, Leaves, letter, block_number}
+use Rattle.hir_one_result.specs.Worked.{elements, PlainForms}
+
+-- a path is what is read of it
+is_read : (path : Path) (p : PathData) → path_read path ≡ p → path ≡ BarePath (record { kind = p.kind; segments = p.names })
+is_read (BarePath m) p e = ap (λ d. BarePath (record { kind = d.kind; segments = d.names })) e
+
+pub jumps : Jumps
+jumps = record {
+  no_fault = refl;
+  named = λ inner outer store source_map i ws h. h.1.stored ∙ ap (λ v. Some (hir.Break (Some outer) v)) h.2.first.0;
+  undeclared = refl;
+  nearer = refl;
+  unreachable = refl;
+}
+
+-- one statement without a semicolon, of which the block has none left
+alone : (v last : ExprId) (ss : List Statement) → statement.Expr v false ∷ [] ≡ ss ++ statement.Expr last false ∷ [] → ss ≡ []
+alone v last [] e = refl
+alone v last (s ∷ []) e = cc
+alone v last (s ∷ (t ∷ ss)) e = cc
+
+module _ (store : Store) (source_map : SourceMap) (by : CfgId) (semi : Bool) where
+  -- the literal's statement alone is kept
+  pub record Kept (is : List Statement) (tail : Option ExprId) : Type 0 where
+    pub value : ExprId
+    pub is_one : is ≡ statement.Expr value semi ∷ []
+    pub no_tail : tail ≡ None
+
+  kept : (is : List Statement) (tail : Option ExprId) (ws : List Way)
+      → StandsContents store source_map [] (literal_first by semi) (λ rs o. Absent o) is tail ws → Kept is tail
+  kept is tail ws c =
+      let d = c.3.second in
+      let none : c.1 ≡ [] = d.2 ∙ (ap (λ o. option_to_list (statement_of true o) ++ d.1) d.3.first.0 ∙ d.3.second.0) in
+      let v = c.3.first.0 in record {
+        value = v;
+        is_one =
+            c.2 ∙ (ap (λ o. option_to_list (statement_of semi o) ++ c.1) c.3.first.1 ∙ ap (λ xs. statement.Expr v semi ∷ xs) none);
+        no_tail = d.3.second.1.0;
+      }
+
+settles : (contents : List Statement × Option ExprId) (v : ExprId) (is : List Statement) → is ≡ statement.Expr v false ∷ []
+    → HasContents true is None contents
+    → (last : ExprId) × (hir.Block false None None contents.0 contents.1 ≡ hir.Block false None None [] (Some last))
+settles contents v is e h =
+    let none = alone v h.0 contents.0 (sym e ∙ h.1) in
+    (h.0, ap (λ ss. hir.Block false None None ss contents.1) none ∙ ap (λ t. hir.Block false None None [] t) h.2)
+
+pub statements : Statements
+statements = record {
+  becomes_tail = λ by store source_map i ws h.
+      let k = kept store source_map by false h.0 h.1 h.5.left h.5.first in
+      let s = settles h.2 k.value h.0 k.is_one h.3 in (s.0, h.4.stored ∙ ap Some s.1);
+  has_semicolon = λ by store source_map i ws h.
+      let k = kept store source_map by true h.0 h.1 h.5.left h.5.first in
+      let ss = ap (λ is. Some (hir.Block false None None is h.1)) k.is_one in
+      let tail = ap (λ t. Some (hir.Block false None None (statement.Expr k.value true ∷ []) t)) k.no_tail in
+      (k.value, h.4.stored ∙ (ap (λ r. Some (hir.Block false None None r.0 r.1)) h.3 ∙ (ss ∙ tail)));
+  disabled_tail = λ by store source_map i ws h.
+      let k = kept store source_map by false h.0 h.1 h.5.left h.5.first in
+      let s = settles h.2 k.value h.0 k.is_one h.3 in (s.0, h.4.stored ∙ ap Some s.1);
+  faults = λ by semi. refl;
+  blocks = λ by semi. refl;
+}
+
+pub enters_in_order : EntersInOrder
+enters_in_order = refl
+
+pub leaves : Leaves
+leaves = record {
+  one_name = λ store source_map i ws h. h.2.0.stored ∙ ap (λ q. Some (hir.Path q other)) (is_read h.0 _ h.1);
+  two_names = λ store source_map i ws h. h.2.0.stored ∙ ap (λ q. Some (hir.Path q root)) (is_read h.0 _ h.1);
+  refused = λ store source_map i ws h. h.0.stored;
+  parentheses = λ store source_map i ws h. h.is ∙ (ap (λ l. l ++ h.right) h.first.2.1 ∙ ap (λ r. expr_way (at 1) i ∷ r) h.second);
+}
+
+-- ---- plain forms
+
+abbrev literal_of : LiteralData → Literal
+literal_of d = record { negative = d.negative; kind = d.kind; text = d.text; suffix = d.suffix }
+
+module _ (store : Store) (source_map : SourceMap) where
+  literal_stored : (p : Pointer) (l : AstLiteral) (i : ExprId) (ws : List Way) → StandsLiteral store source_map p l i ws
+      → slice_get store.exprs i.0 ≡ Some (hir.Literal (literal_of (literal_data l)))
+  literal_stored p l i ws h = h.2.0.stored ∙ ap (λ d. Some (hir.Literal (literal_of d))) h.1
+
+  -- the literal alone is an element
+  pub record OneElement (is : List ExprId) : Type 0 where
+    pub value : ExprId
+    pub is_one : is ≡ value ∷ []
+    pub stored : slice_get store.exprs value.0 ≡ Some stored_one
+
+  one_element : (by : CfgId) (is : List ExprId) (ws : List Way) → StandsEach store source_map [] (elements by) is ws → OneElement is
+  one_element by is ws c =
+      let d = c.3.second in
+      let none : c.1 ≡ [] = d.2 ∙ (ap (λ o. option_to_list o ++ d.1) d.3.first.0 ∙ d.3.second.0) in
+      let v = c.3.first.0 in record {
+        value = v;
+        is_one = c.2 ∙ (ap (λ o. option_to_list o ++ c.1) c.3.first.1 ∙ ap (λ xs. v ∷ xs) none);
+        stored = literal_stored (at 1) _ v c.3.left c.3.first.2;
+      }
+
+abbrev numbered_block : List Statement → Option ExprId → Option HirExpr
+numbered_block ss tail = Some (hir.Block true None (Some (block_number 7)) ss tail)
+
+pub plain_forms : PlainForms
+plain_forms = record {
+  adds = λ store source_map i ws h. record {
+    one = h.0;
+    other = h.1;
+    whole = h.2.stored;
+    first = literal_stored store source_map (at 1) _ h.0 h.3.left h.3.first;
+    second = literal_stored store source_map (at 2) _ h.1 h.3.second.left h.3.second.first;
+  };
+  calls = λ store source_map i ws h.
+      let c = h.3.second.first in
+      let v = c.3.first.0 in
+      let is = c.2 ∙ (ap (λ o. option_to_list o ++ c.1) c.3.first.1 ∙ ap (λ xs. v ∷ xs) c.3.second.0) in record {
+        one = h.0;
+        other = v;
+        whole = h.2.stored ∙ ap (λ xs. Some (hir.MethodCall h.0 (letter 109) xs)) is;
+        first = literal_stored store source_map (at 1) _ h.0 h.3.left h.3.first;
+        second = literal_stored store source_map (at 2) _ v c.3.left c.3.first.2;
+      };
+  disabled_element = λ by store source_map i ws h.
+      let k = one_element store source_map by h.0 h.2.left h.2.first in (k.value, h.1.stored ∙ ap (λ is. Some (hir.Tuple is)) k.is_one);
+  leading_comma = λ by store source_map i ws h.
+      let k = one_element store source_map by h.0 h.3.left h.3.first in record {
+        one = h.1;
+        other = k.value;
+        whole = h.2.stored ∙ ap (λ is. Some (hir.Tuple (h.1 ∷ is))) k.is_one;
+        first = h.3.second.first.0.stored;
+        second = k.stored;
+      };
+  awaits = λ location. refl;
+  awaits_in_async = refl;
+  is_unsafe = λ store source_map i ws h.
+      let is = ap (λ ss. numbered_block ss h.1) h.5.first.0 ∙ ap (λ t. numbered_block [] t) h.5.first.1.0 in
+      h.4.stored ∙ (ap (λ r. numbered_block r.0 r.1) h.3 ∙ is);
+  left_first = refl;
+  nameless = λ store source_map i ws h.
+      let parts = h.2 in
+      let is = ap (λ l. l ++ parts.right) parts.first.2.1 ∙ ap (λ r. expr_way (at 1) h.0 ∷ r) parts.second in
+      (h.0, h.1.stored, parts.is ∙ is);
+}
