@@ -2,7 +2,7 @@
 use Rattle.std.proofs.Common.{arith, ◌≡◌, refl, subst, sym, suc, ◌-◌, true, false}
 use Rattle.std.proofs.Common.{List, [], ◌∷◌, ◌++◌, length, length-append, Option, Some, None}
 use Rattle.std.specs.Prelude.{slice_get, MatchOption}
-use Rattle.hir_syntax.specs.declared.ast.BlockExpr.{BlockExpr as AstBlockExpr, out-BlockExpr}
+use Rattle.hir_syntax.specs.declared.ast.BlockExpr.{BlockExpr as AstBlockExpr}
 use Rattle.hir_store.specs.Stored.{Stored}
 use Rattle.hir_store.specs.Range.{HasStatements, HasExprOption}
 use Rattle.hir_store.specs.declared.hir.Statement.{Statement}
@@ -11,13 +11,13 @@ use Rattle.hir_store.specs.declared.ids.ExprId.{ExprId}
 use Rattle.hir_env.specs.Spot.{Spot}
 use Rattle.hir_env.specs.Answered as tree
 use Rattle.hir_env.specs.Answered.{Block, Expr}
-use Rattle.hir_env.specs.Whole.{answered_block, answered_plain, block_level, label_part}
+use Rattle.hir_env.specs.Whole.{answered_block, answered_plain, block_head, block_level}
 use Rattle.hir_env.proofs.Levels.{block_is_level, plain_is_level}
 use Rattle.hir_lower_form.specs.Lower.{lower, lower_block, lower_inside, labelled, settled, value_of}
 
-pub plain_inside : (at : Spot) (b : AstBlockExpr) → lower_block (answered_plain at b) ≡ lower_inside None (answered_plain at b)
+pub plain_inside : (at : Spot) (b : AstBlockExpr) → lower_block (answered_plain at b) ≡ lower_inside false None (answered_plain at b)
 unfolding labelled
-plain_inside at b = let P : Block → Type 0 = λ x. lower_block x ≡ lower_inside None x in subst P (sym (plain_is_level at b)) refl
+plain_inside at b = let P : Block → Type 0 = λ x. lower_block x ≡ lower_inside false None x in subst P (sym (plain_is_level at b)) refl
 
 -- ---- the tail that a block has in the end
 
@@ -92,10 +92,9 @@ settled_in_range s ss new t u e h k = subst (Settled s) e (settled_range s ss t 
 -- ---- a block as an expression
 
 pub own_inside : (at : Spot) (b : AstBlockExpr)
-    → lower (answered_block at b) ≡ labelled (label_part at (out-BlockExpr b).label) (λ id. lower_inside id (answered_plain at b))
-unfolding labelled
+    → lower (answered_block at b) ≡ labelled (block_head at b).1 (λ id. lower_inside (block_head at b).0 id (answered_plain at b))
 own_inside at b =
-    let label = label_part at (out-BlockExpr b).label in
-    let P : Expr → Type 0 = λ x. lower x ≡ labelled label (λ id. lower_inside id (answered_plain at b)) in
-    let Q : Block → Type 0 = λ x. lower (tree.block_expr (block_level at label b)) ≡ labelled label (λ id. lower_inside id x) in
+    let head = block_head at b in
+    let P : Expr → Type 0 = λ x. lower x ≡ labelled head.1 (λ id. lower_inside head.0 id (answered_plain at b)) in
+    let Q : Block → Type 0 = λ x. lower (tree.block_expr (block_level at head b)) ≡ labelled head.1 (λ id. lower_inside head.0 id x) in
     subst P (sym (block_is_level at b)) (subst Q (sym (plain_is_level at b)) refl)

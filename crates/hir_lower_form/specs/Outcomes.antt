@@ -1,5 +1,5 @@
 -- What each kind of method does: the outcome of the steps of one part, as it is answered.
-use Rattle.std.specs.Prelude.{List, [], Option, Some, None}
+use Rattle.std.specs.Prelude.{Bool, List, [], Option, Some, None}
 use Rattle.hir_syntax.specs.declared.ast.BlockExpr.{BlockExpr as AstBlockExpr, out-BlockExpr}
 use Rattle.hir_store.specs.Stored.{Stored}
 use Rattle.hir_store.specs.Range.{HasExpr, HasExprOption, HasExprs, HasStatements, HasStatementOption}
@@ -38,9 +38,9 @@ MaybeLowersExprOpt e old result new = Lowers HasExprOption (spec.kept_part e) ol
 abbrev pub LowersEach : Exprs → Builder → Checked (List ExprId) → Builder → Type 0
 LowersEach es old result new = Lowers HasExprs (spec.lower_each [] es) old result new
 
--- inside the label of this number
-abbrev pub LowersInside : Option LabelId → Block → Builder → Checked ExprId → Builder → Type 0
-LowersInside label b old result new = Lowers HasExpr (spec.lower_inside label b) old result new
+-- as a block that is unsafe or isn't, inside the label of this number
+abbrev pub LowersInside : Bool → Option LabelId → Block → Builder → Checked ExprId → Builder → Type 0
+LowersInside is_unsafe label b old result new = Lowers HasExpr (spec.lower_inside is_unsafe label b) old result new
 
 abbrev pub LowersBlock : Block → Builder → Checked ExprId → Builder → Type 0
 LowersBlock b old result new = Lowers HasExpr (spec.lower_block b) old result new
@@ -84,6 +84,6 @@ abbrev pub contents_at : Spot → AstBlockExpr → Lowering Contents
 contents_at at b = let node = out-BlockExpr b in spec.lower_stmts [] (stmts_part at node.stmts) (spec.kept_part (expr_part at node.tail))
 
 -- the block with these contents
-abbrev pub block_at : Spot → Option LabelId → Option BlockId → AstBlockExpr → Node
-block_at at label number b =
-    let node = out-BlockExpr b in spec.block_form (pointer_at at node.id node.range) label number (contents_at at b)
+abbrev pub block_at : Spot → Bool → Option LabelId → Option BlockId → AstBlockExpr → Node
+block_at at is_unsafe label number b =
+    let node = out-BlockExpr b in spec.block_form (pointer_at at node.id node.range) is_unsafe label number (contents_at at b)

@@ -1,10 +1,10 @@
 //! Blocks and statements.
 
-ghost use Rattle.std.specs.Prelude.{◌≡◌, ◌-◌, [], length, slice_get};
+ghost use Rattle.std.specs.Prelude.{◌≡◌, ◌-◌, [], false, length, slice_get};
 ghost use Rattle.hir_syntax.specs.declared.ast.BlockExpr.{out-BlockExpr};
 ghost use Rattle.hir_syntax.specs.declared.ast.StmtKind.{out-StmtKind};
 ghost use Rattle.hir_store.specs.Range.{HasExpr, HasLabelOption};
-ghost use Rattle.hir_env.specs.Whole.{answered_block, answered_plain, expr_part, label_part, stmt_level, stmts_part};
+ghost use Rattle.hir_env.specs.Whole.{answered_block, answered_plain, block_head, expr_part, label_part, stmt_level, stmts_part};
 ghost use Rattle.hir_lower_form.specs.Lowering.{Lowers};
 ghost use Rattle.hir_lower_form.specs.Lower as spec;
 ghost use Rattle.hir_lower_form.specs.Nests.{Each, KidsBlock, KidsStmt};
@@ -121,23 +121,25 @@ impl<P: LowerParts> Lowerer<P> {
         self.flat_contents(state, node)
     }
 
-    /// A block that is read here, inside the label of this number.
+    /// A block that is read here, as one that is unsafe or isn't, inside the label of this number.
     #[tactic(auto, unfolding(crate::specs::Lower::block_form))]
     pub fn block_node(
         &self,
         state: &mut BodyBuilder,
+        is_unsafe: bool,
         label: Option<LabelId>,
         number: Option<BlockId>,
         node: &ast::BlockExpr,
     ) -> Result<ExprId, StoreFault>
         requires parts { KidsBlock (P.can self.now.parts) (out-BlockExpr node.now) }
         requires label { HasLabelOption state.old.stored label }
-        ensures { Lowers HasExpr (block_at (P.spot self.now.parts) label number node.now) state.old result state.new }
+        ensures { Lowers HasExpr (block_at (P.spot self.now.parts) is_unsafe label number node.now) state.old result state.new }
     {
         state.enter_block(number)?;
         let (mut statements, tail) = self.contents(state, node)?;
         let tail = settle(&mut statements, tail);
         let expr = Expr::Block {
+            is_unsafe,
             label,
             id: number,
             statements,
@@ -146,6 +148,7 @@ impl<P: LowerParts> Lowerer<P> {
         state.alloc_expr(expr, Some(self.pointer(node.id, node.range)))
     }
 
+    /// A block with a label, if it has one, and with no modifier.
     #[tactic(auto, unfolding(crate::specs::Lower::labelled))]
     fn labelled_block(
         &self,
@@ -156,18 +159,40 @@ impl<P: LowerParts> Lowerer<P> {
         requires { (P.can self.now.parts).block node.now }
         ensures { let block = answered_plain (P.spot self.now.parts) node.now in
             let label = label_part (P.spot self.now.parts) label.now in
-            Lowers HasExpr (spec.labelled label (λ id. spec.lower_inside id block)) state.old result state.new }
+            Lowers HasExpr (spec.labelled label (λ id. spec.lower_inside false id block)) state.old result state.new }
     {
         let Some(label) = label else {
-            return self.parts.collect_block_inside(state, None, node);
+            return self.parts.collect_block_inside(state, false, None, node);
         };
         let label = self.open_label(state, label)?;
-        let id = self.parts.collect_block_inside(state, Some(label), node)?;
+        let id = self
+            .parts
+            .collect_block_inside(state, false, Some(label), node)?;
         state.close();
         Ok(id)
     }
 
-    /// A block as an expression, where its own label counts.
+    /// A block with its modifier, beside which no label counts, or else with its label.
+    #[tactic(auto, unfolding(crate::specs::Lower::labelled))]
+    fn headed_block(
+        &self,
+        state: &mut BodyBuilder,
+        node: &ast::BlockExpr,
+    ) -> Result<ExprId, StoreFault>
+        requires { (P.can self.now.parts).block node.now }
+        ensures { let block = answered_plain (P.spot self.now.parts) node.now in
+            let head = block_head (P.spot self.now.parts) node.now in
+            Lowers HasExpr (spec.labelled head.1 (λ id. spec.lower_inside head.0 id block)) state.old result state.new }
+    {
+        match node.mod_ {
+            None => self.labelled_block(state, &node.label, node),
+            Some(ast::BlockModifier::Unsafe) => {
+                self.parts.collect_block_inside(state, true, None, node)
+            }
+        }
+    }
+
+    /// A block as an expression, where its own modifier and its own label count.
     pub(crate) fn block_form(
         &self,
         state: &mut BodyBuilder,
@@ -176,6 +201,6 @@ impl<P: LowerParts> Lowerer<P> {
         requires { (P.can self.now.parts).block node.now }
         ensures { LowersExpr (answered_block (P.spot self.now.parts) node.now) state.old result state.new }
     {
-        self.labelled_block(state, &node.label, node)
+        self.headed_block(state, node)
     }
 }

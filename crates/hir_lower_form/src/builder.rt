@@ -11,7 +11,7 @@ ghost use Rattle.hir_lower_form.specs.Lower.{missing};
 use crate::parts::LowerParts;
 use hir_lower_scope::labels::{LabelScopes, NoTarget};
 use hir_store::builder::ExpressionStoreBuilder;
-use hir_store::diagnostics::ExpressionStoreDiagnostics;
+use hir_store::diagnostics::{AwaitLocation, ExpressionStoreDiagnostics};
 use hir_store::fault::StoreFault;
 use hir_store::hir::{Expr, Label};
 use hir_store::ids::{BlockId, ExprId, HygieneId, LabelId};
@@ -94,6 +94,23 @@ impl BodyBuilder {
         ensures { Lowers HasNone (spec.report fault) self.old result self.new }
     {
         self.store.report(fault)
+    }
+
+    /// Reports that the node awaits in this, which isn't async.
+    #[tactic(auto, unfolding(crate::specs::Lowering::report_await))]
+    pub fn report_await(
+        &mut self,
+        node: InFile<AstPtr>,
+        location: Option<AwaitLocation>,
+    ) -> Result<(), StoreFault>
+        ensures { Lowers HasNone (spec.report_await node location) self.old result self.new }
+    {
+        match location {
+            None => Ok(()),
+            Some(location) => {
+                self.report(ExpressionStoreDiagnostics::AwaitOutsideOfAsync { node, location })
+            }
+        }
     }
 
     /// Notes the number of a block that lowering enters, where it has one.

@@ -1,11 +1,13 @@
 //! Calls, and what stands around an operand.
 
 ghost use Rattle.hir_env.specs.Answered as tree;
+ghost use Rattle.hir_env.specs.Answering.{name_or_missing};
 ghost use Rattle.hir_env.specs.Whole.{args_part, expr_part, exprs_part};
 ghost use Rattle.hir_lower_form.specs.Nests.{Each, IfPresent};
 ghost use Rattle.hir_lower_form.specs.Outcomes.{LowersEach, LowersExpr};
 
 use crate::builder::BodyBuilder;
+use crate::names::name_of;
 use crate::parts::{LowerParts, Lowerer};
 use hir_store::builder::push_id;
 use hir_store::fault::StoreFault;
@@ -15,7 +17,8 @@ use hir_syntax::node::{AstPtr, InFile};
 use hir_syntax::{Boxed, Seq, ast};
 
 impl<P: LowerParts> Lowerer<P> {
-    fn collect_each(
+    /// The expressions that no condition disables.
+    pub(crate) fn collect_each(
         &self,
         state: &mut BodyBuilder,
         mut all: &[ast::Expr],
@@ -65,6 +68,33 @@ impl<P: LowerParts> Lowerer<P> {
         let callee = self.collect_expr_opt(state, callee)?;
         let args = self.arguments(state, args)?;
         state.alloc_expr(Expr::Call { callee, args }, Some(at))
+    }
+
+    #[tactic(auto, unfolding(crate::specs::Lower::method_call_form))]
+    pub(crate) fn method_call_form(
+        &self,
+        state: &mut BodyBuilder,
+        at: InFile<AstPtr>,
+        receiver: &Option<Boxed<ast::Expr>>,
+        name: &Option<ast::Name>,
+        args: &Option<Seq<ast::Expr>>,
+    ) -> Result<ExprId, StoreFault>
+        requires receiver { IfPresent (P.can self.now.parts).expr receiver.now }
+        requires args { IfPresent (Each (P.can self.now.parts).expr) args.now }
+        ensures { LowersExpr (tree.method_call_expr at
+            (expr_part (P.spot self.now.parts) receiver.now)
+            (name_or_missing name.now)
+            (args_part (P.spot self.now.parts) args.now)) state.old result state.new }
+    {
+        let receiver = self.collect_expr_opt(state, receiver)?;
+        let args = self.arguments(state, args)?;
+        let method_name = name_of(name)?;
+        let expr = Expr::MethodCall {
+            receiver,
+            method_name,
+            args,
+        };
+        state.alloc_expr(expr, Some(at))
     }
 
     /// The parentheses lead to what is in them.

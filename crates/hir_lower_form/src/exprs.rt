@@ -35,6 +35,32 @@ impl<P: LowerParts> Lowerer<P> {
             ),
             ast::ExprKind::ParenExpr { expr } => self.paren_form(state, at, expr),
             ast::ExprKind::Literal(written) => self.literal_form(state, at, written),
+            ast::ExprKind::MethodCallExpr {
+                receiver,
+                name,
+                args,
+            } => self.method_call_form(state, at, receiver, name, args),
+            ast::ExprKind::FieldExpr { expr, name } => self.field_form(state, at, expr, name),
+            ast::ExprKind::PrefixExpr { op, expr } => self.prefix_form(state, at, *op, expr),
+            ast::ExprKind::BinExpr { op, lhs, rhs } => self.binary_form(state, at, *op, lhs, rhs),
+            ast::ExprKind::IndexExpr { base, index } => self.index_form(state, at, base, index),
+            ast::ExprKind::RefExpr { raw, mut_, expr } => self.reference_form(
+                state, at, *raw, *mut_, expr,
+            ),
+            ast::ExprKind::TupleExpr {
+                leading_comma,
+                fields,
+            } => self.tuple_form(state, at, *leading_comma, fields),
+            ast::ExprKind::ArrayExpr { elems } => self.array_form(state, at, elems),
+            ast::ExprKind::ReturnExpr { expr } => self.return_form(state, at, expr),
+            ast::ExprKind::BecomeExpr { expr } => self.become_form(state, at, expr),
+            ast::ExprKind::YieldExpr { expr } => self.yield_form(state, at, expr),
+            ast::ExprKind::YeetExpr { expr } => self.yeet_form(state, at, expr),
+            ast::ExprKind::AwaitExpr { expr } => self.await_form(state, at, expr),
+            ast::ExprKind::CfgPredExpr { pred } => self.predicate_form(state, at, *pred),
+            ast::ExprKind::UnderscoreExpr => self.underscore_form(state, at),
+            ast::ExprKind::IncludeBytesExpr => self.include_bytes_form(state, at),
+            ast::ExprKind::AsmExpr | ast::ExprKind::FormatArgsExpr => self.left_out_form(state, at),
         }
     }
 

@@ -2,17 +2,17 @@
 
 ghost use Rattle.std.specs.Prelude.{option_map};
 ghost use Rattle.hir_env.specs.Answered as tree;
-ghost use Rattle.hir_env.specs.Answering.{path_of, site_of};
+ghost use Rattle.hir_env.specs.Answering.{path_of, site_of, truth};
 ghost use Rattle.hir_lower_form.specs.Outcomes.{LowersExpr};
 
 use crate::builder::BodyBuilder;
-use crate::names::{literal, path_expr};
+use crate::names::{literal, path_expr, truth_literal};
 use crate::parts::{LowerParts, Lowerer, site};
 use hir_store::fault::StoreFault;
 use hir_store::hir::Expr;
 use hir_store::ids::ExprId;
 use hir_syntax::ast;
-use hir_syntax::node::{AstPtr, InFile};
+use hir_syntax::node::{AstPtr, InFile, PredId};
 
 impl<P: LowerParts> Lowerer<P> {
     pub(crate) fn path_form(
@@ -39,5 +39,50 @@ impl<P: LowerParts> Lowerer<P> {
     {
         let written = literal(written)?;
         state.alloc_expr(Expr::Literal(written), Some(at))
+    }
+
+    /// A condition predicate is read to what it comes to.
+    pub(crate) fn predicate_form(
+        &self,
+        state: &mut BodyBuilder,
+        at: InFile<AstPtr>,
+        pred: Option<PredId>,
+    ) -> Result<ExprId, StoreFault>
+        ensures { let holds = (P.spot self.now.parts).answers.cfg_pred pred in
+            LowersExpr (tree.literal_expr at (truth holds)) state.old result state.new }
+    {
+        let read = truth_literal(self.alloc, self.parts.cfg_pred(pred))?;
+        state.alloc_expr(Expr::Literal(read), Some(at))
+    }
+
+    pub(crate) fn underscore_form(
+        &self,
+        state: &mut BodyBuilder,
+        at: InFile<AstPtr>,
+    ) -> Result<ExprId, StoreFault>
+        ensures { LowersExpr (tree.leaf_expr at tree.underscore) state.old result state.new }
+    {
+        state.alloc_expr(Expr::Underscore, Some(at))
+    }
+
+    pub(crate) fn include_bytes_form(
+        &self,
+        state: &mut BodyBuilder,
+        at: InFile<AstPtr>,
+    ) -> Result<ExprId, StoreFault>
+        ensures { LowersExpr (tree.leaf_expr at tree.include_bytes) state.old result state.new }
+    {
+        state.alloc_expr(Expr::IncludeBytes, Some(at))
+    }
+
+    /// Inline assembly and format strings are left out, and missing.
+    pub(crate) fn left_out_form(
+        &self,
+        state: &mut BodyBuilder,
+        at: InFile<AstPtr>,
+    ) -> Result<ExprId, StoreFault>
+        ensures { LowersExpr (tree.leaf_expr at tree.left_out) state.old result state.new }
+    {
+        state.alloc_expr(Expr::Missing, Some(at))
     }
 }

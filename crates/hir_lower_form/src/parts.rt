@@ -18,7 +18,7 @@ use hir_lower_scope::labels::{LabelScopes, NoTarget};
 use hir_store::fault::StoreFault;
 use hir_store::ids::{CfgId, ExprId, HygieneId, LabelId};
 use hir_store::name::Name;
-use hir_syntax::node::{AstPtr, InFile, NodeId, TextRange};
+use hir_syntax::node::{AstPtr, InFile, NodeId, PredId, TextRange};
 use hir_syntax::{Boxed, ast};
 use std::alloc::Global;
 
@@ -35,6 +35,10 @@ pub trait LowerParts {
     /// Whether the node is enabled, or else the condition that disables it.
     fn cfg(&self, node: InFile<NodeId>) -> Result<(), CfgId>
         ensures { result ≡ (spot self.now).answers.cfg node };
+
+    /// Whether the predicate holds, where that is decided.
+    fn cfg_pred(&self, pred: Option<PredId>) -> Option<bool>
+        ensures { result ≡ (spot self.now).answers.cfg_pred pred };
 
     /// The hygiene of the name at the node.
     fn hygiene(&self, node: InFile<NodeId>) -> HygieneId
@@ -58,16 +62,17 @@ pub trait LowerParts {
         requires { (can self.now).expr node.now }
         ensures { MaybeLowersExpr (answered (spot self.now) node.now) state.old result state.new };
 
-    /// The block, inside the label of this number.
+    /// The block, as one that is unsafe or isn't, inside the label of this number.
     fn collect_block_inside(
         &self,
         state: &mut BodyBuilder,
+        is_unsafe: bool,
         label: Option<LabelId>,
         node: &ast::BlockExpr,
     ) -> Result<ExprId, StoreFault>
         requires part { (can self.now).block node.now }
         requires label { HasLabelOption state.old.stored label }
-        ensures { LowersInside label (answered_plain (spot self.now) node.now) state.old result state.new };
+        ensures { LowersInside is_unsafe label (answered_plain (spot self.now) node.now) state.old result state.new };
 }
 
 /// The node that a pointer leads to, as it is asked about.
@@ -158,7 +163,7 @@ impl<P: LowerParts> Lowerer<P> {
         }
     }
 
-    /// A block in a place where only a block may stand, so that no label of its own counts.
+    /// A block in a place where only a block may stand, so that neither a label nor a modifier of its own counts.
     pub(crate) fn collect_block(
         &self,
         state: &mut BodyBuilder,
@@ -167,7 +172,7 @@ impl<P: LowerParts> Lowerer<P> {
         requires { (P.can self.now.parts).block node.now }
         ensures { LowersBlock (answered_plain (P.spot self.now.parts) node.now) state.old result state.new }
     {
-        self.parts.collect_block_inside(state, None, node)
+        self.parts.collect_block_inside(state, false, None, node)
     }
 
     /// Such a block, missing where it is absent.
