@@ -1,7 +1,6 @@
 -- The scopes around what is open.
 use Rattle.std.proofs.Common.{◌≡◌, ◌∙◌, refl, ap, List, [], ◌∷◌, Some, None}
 use Rattle.hir_store.specs.Pointers.{Pointer}
-use Rattle.hir_store.specs.declared.ids.LabelId.{LabelId}
 use Rattle.hir_env.specs.Answered.{Label}
 use Rattle.hir_scope.specs.Ribs.{Rib, label_rib, macro_rib, barrier_rib, map_ribs}
 use Rattle.hir_scope.specs.Scopes.{Scope, loop_scope, block_scope, macro_scope, barrier, one_out, ribs}
@@ -9,7 +8,8 @@ use Rattle.hir_scope.proofs.Ribs.{map_ribs_twice}
 use Rattle.hir_one_result.specs.Diagnostics.{forget, Around}
 use Rattle.hir_one_result.specs.Laws.{ScopesAround}
 
-farther : {A : Type 0} (ss : List Scope) (rs : List (Rib A)) → Around ss rs → map_ribs forget (map_ribs one_out (ribs ss)) ≡ map_ribs forget rs
+farther : {A : Type 0} (ss : List Scope) (rs : List (Rib A)) → Around ss rs
+    → map_ribs forget (map_ribs one_out (ribs ss)) ≡ map_ribs forget rs
 farther ss rs e = map_ribs_twice one_out forget (ribs ss) ∙ e
 
 pub in_loop : {A : Type 0} (ss : List Scope) (rs : List (Rib A)) → Around ss rs → Around (loop_scope None ∷ ss) rs

@@ -1,5 +1,6 @@
 -- What is stored for a path is read as the path that was written, and so is a literal.
-use Rattle.std.proofs.Common.{arith, ◌≡◌, ◌∙◌, refl, sym, ap, subst, ℕ, suc, Bool, true, false, if◌then◌else◌, List, [], ◌∷◌, ◌++◌, length, append_assoc, append-nil, Option, Some, None, option_map}
+use Rattle.std.proofs.Common.{arith, ◌≡◌, ◌∙◌, refl, sym, ap, subst, ℕ, suc, false, if◌then◌else◌, List, [], ◌∷◌, ◌++◌, length}
+use Rattle.std.proofs.Common.{append_assoc, append-nil, Option, Some, None, option_map}
 use Rattle.std.specs.Prelude.{nat_le}
 use Rattle.hir_store.specs.declared.hir.Expr.{Expr as HirExpr}
 use Rattle.hir_store.specs.declared.hir.Expr.TheVariants as hir
@@ -12,7 +13,8 @@ use Rattle.hir_env.specs.Answered.{Segments}
 use Rattle.hir_meaning.specs.Data.{PathData, names_of, plain_path, data_if_written, hygiene_for, lookup_hygiene, path_read}
 use Rattle.hir_lower_form.specs.Lower.{names_from, path_hygiene, named_path, stored_path}
 
-behind : (done : List Name) (n : Name) (o : Option (List Name)) → option_map (λ ns. (done ++ n ∷ []) ++ ns) o ≡ option_map (λ ns. done ++ ns) (option_map (λ ns. n ∷ ns) o)
+behind : (done : List Name) (n : Name) (o : Option (List Name))
+    → option_map (λ ns. (done ++ n ∷ []) ++ ns) o ≡ option_map (λ ns. done ++ ns) (option_map (λ ns. n ∷ ns) o)
 behind done n None = refl
 behind done n (Some ns) = ap Some (append_assoc done (n ∷ []) ns)
 
@@ -36,8 +38,10 @@ PathIs (Some p) h e = (path : Path) × (path_read path ≡ p) × (e ≡ hir.Path
 
 named : (o : Option (List Name)) (h : HygieneId) → PathIs (option_map plain_path o) h (named_path (option_map (λ ns. [] ++ ns) o) h)
 named None h = refl
-named (Some ns) h = let path : Path = BarePath (record { kind = Plain; segments = ns }) in (path, refl, ap (λ x. hir.Path path x) (hygiene_is ns h))
+named (Some ns) h =
+    let path : Path = BarePath (record { kind = Plain; segments = ns }) in (path, refl, ap (λ x. hir.Path path x) (hygiene_is ns h))
 
 pub path_is : (x : Option Segments) (h : HygieneId) → PathIs (data_if_written x) h (stored_path x h)
 path_is None h = refl
-path_is (Some ss) h = subst (λ o. PathIs (option_map plain_path (names_of ss)) h (named_path o h)) (sym (from [] ss)) (named (names_of ss) h)
+path_is (Some ss) h =
+    subst (λ o. PathIs (option_map plain_path (names_of ss)) h (named_path o h)) (sym (from [] ss)) (named (names_of ss) h)

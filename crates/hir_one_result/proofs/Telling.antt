@@ -14,9 +14,12 @@ use Rattle.hir_scope.specs.Scopes as scope
 use Rattle.hir_scope.specs.Scopes.{Scope, loop_scope, block_scope, in_block}
 use Rattle.hir_scope.proofs.Ribs.{target_map}
 use Rattle.hir_lower_form.specs.Lowering.{Lowering, ◌>>=◌, pure, alloc_expr, point, report, enter_block, open_label, close, jump_target}
-use Rattle.hir_lower_form.specs.Lower.{Node, Contents, missing, some, if_form, loop_form, call_form, continue_form, break_form, paren_form, block_form, labelled}
+use Rattle.hir_lower_form.specs.Lower.{Node, Contents, missing, some, if_form, loop_form, call_form, continue_form, break_form}
+use Rattle.hir_lower_form.specs.Lower.{paren_form, block_form, labelled}
 use Rattle.hir_steps.proofs.Frames.{Frame, loop_at, block_at, ribs}
-use Rattle.hir_steps.proofs.Steps.{Mark, Rel, Correct, correct_bind, correct_as, correct_pure, correct_report, correct_point, correct_enter_block, correct_alloc, correct_opened, correct_target, with_fault, with_block, with_expr, with_label, pointing, with_target, with_jump}
+use Rattle.hir_steps.proofs.Steps.{Mark, Correct, correct_bind, correct_as, correct_pure, correct_report, correct_point}
+use Rattle.hir_steps.proofs.Steps.{correct_enter_block, correct_alloc, correct_opened, correct_target, with_fault, with_block, with_expr}
+use Rattle.hir_steps.proofs.Steps.{with_label, pointing, with_target, with_jump}
 use Rattle.hir_one_result.specs.Diagnostics.{forget, Around, target_faults, jump_faults}
 use Rattle.hir_one_result.proofs.Around.{IsRib, in_loop, loop_is_rib, block_is_rib}
 
@@ -67,37 +70,51 @@ module _ {X : Type 0} (L : Listing X) where
 
   -- ---- one after another
 
-  pub tells_bind : {A B : Type 0} {D E : List Scope → List X} {p : Lowering A} {f : A → Lowering B} → Correct p (Tells D) → ((a : A) → Correct (f a) (Tells E))
+  pub tells_bind : {A B : Type 0} {D E : List Scope → List X} {p : Lowering A} {f : A → Lowering B} → Correct p (Tells D)
+      → ((a : A) → Correct (f a) (Tells E))
       → Correct (p >>= f) (Tells (λ ss. D ss ++ E ss))
-  tells_bind h k = correct_as (correct_bind h k) (λ final ps m m' a g row. record { told = λ ss e. added_then (row.first.told ss e) (row.second.told ss e) })
+  tells_bind h k =
+      correct_as (correct_bind h k) (λ final ps m m' a g row.
+      record { told = λ ss e. added_then (row.first.told ss e) (row.second.told ss e) })
 
-  pub tells_as : {A : Type 0} {D E : List Scope → List X} {p : Lowering A} → Correct p (Tells D) → ((ss : List Scope) → L.Like (E ss) (D ss)) → Correct p (Tells E)
+  pub tells_as : {A : Type 0} {D E : List Scope → List X} {p : Lowering A} → Correct p (Tells D)
+      → ((ss : List Scope) → L.Like (E ss) (D ss)) → Correct p (Tells E)
   tells_as h like = correct_as h (λ final ps m m' a g row. record { told = λ ss e. added_as (like ss) (row.told ss e) })
 
   -- what comes after adds nothing
-  pub tells_end : {A B : Type 0} {D : List Scope → List X} {p : Lowering A} {f : A → Lowering B} → Correct p (Tells D) → ((a : A) → Correct (f a) (Tells nothing))
+  pub tells_end : {A B : Type 0} {D : List Scope → List X} {p : Lowering A} {f : A → Lowering B} → Correct p (Tells D)
+      → ((a : A) → Correct (f a) (Tells nothing))
       → Correct (p >>= f) (Tells D)
   tells_end {D = D} h k = tells_as (tells_bind h k) (λ ss. subst (L.Like (D ss)) (sym (append-nil (D ss))) (L.same (D ss)))
 
   -- ---- steps
 
   pub tells_pure : {A : Type 0} (a : A) → Correct (pure a) (Tells nothing)
-  tells_pure a = correct_as (correct_pure a) (λ final ps m m' b g row. record { told = λ ss e. added_none (ap (λ x. L.list x.stored) row.still) })
+  tells_pure a =
+      correct_as (correct_pure a) (λ final ps m m' b g row. record { told = λ ss e. added_none (ap (λ x. L.list x.stored) row.still) })
 
   pub tells_some : {A : Type 0} {D : List Scope → List X} {p : Lowering A} → Correct p (Tells D) → Correct (some p) (Tells D)
   tells_some h = tells_end h (λ a. tells_pure (Some a))
 
   pub tells_alloc : (e : HirExpr) (at : Option Pointer) → Correct (alloc_expr e at) (Tells nothing)
-  tells_alloc e at = correct_as (correct_alloc e at) (λ final ps m m' i g row. record { told = λ ss x. added_none (ap L.list row.stored ∙ L.expr e at m.stored) })
+  tells_alloc e at =
+      correct_as (correct_alloc e at) (λ final ps m m' i g row.
+      record { told = λ ss x. added_none (ap L.list row.stored ∙ L.expr e at m.stored) })
 
   pub tells_point : (at : Pointer) (i : ExprId) → Correct (point at i) (Tells nothing)
-  tells_point at i = correct_as (correct_point at i) (λ final ps m m' u g row. record { told = λ ss e. added_none (ap L.list row.stored ∙ L.way at i m.stored) })
+  tells_point at i =
+      correct_as (correct_point at i) (λ final ps m m' u g row.
+      record { told = λ ss e. added_none (ap L.list row.stored ∙ L.way at i m.stored) })
 
   pub tells_report : (d : ExpressionStoreDiagnostics) → Correct (report d) (Tells (λ ss. L.of_faults (d ∷ [])))
-  tells_report d = correct_as (correct_report d) (λ final ps m m' u g row. record { told = λ ss e. added_these (L.of_faults (d ∷ [])) (ap L.list row.stored ∙ L.fault d m.stored) })
+  tells_report d =
+      correct_as (correct_report d) (λ final ps m m' u g row.
+      record { told = λ ss e. added_these (L.of_faults (d ∷ [])) (ap L.list row.stored ∙ L.fault d m.stored) })
 
   pub tells_enter_block : (n : Option BlockId) → Correct (enter_block n) (Tells (λ ss. L.of_block n))
-  tells_enter_block n = correct_as (correct_enter_block n) (λ final ps m m' u g row. record { told = λ ss e. added_these (L.of_block n) (ap L.list row.stored ∙ L.block n m.stored) })
+  tells_enter_block n =
+      correct_as (correct_enter_block n) (λ final ps m m' u g row.
+      record { told = λ ss e. added_these (L.of_block n) (ap L.list row.stored ∙ L.block n m.stored) })
 
   -- ---- jumps
 
@@ -117,10 +134,12 @@ module _ {X : Type 0} (L : Listing X) where
   forgotten : {A : Type 0} (j : Jump) (rs : List (Rib A)) → target_faults j (target j (map_ribs forget rs)) ≡ target_faults j (target j rs)
   forgotten j rs = ap (λ t. target_faults j t) (target_map forget j rs) ∙ target_like forget j (target j rs)
 
-  as_around : (j : Jump) (ss : List Scope) (rs : List (Rib LabelId)) → Around ss rs → target_faults j (target j rs) ≡ target_faults j (target j (scope.ribs ss))
+  as_around : (j : Jump) (ss : List Scope) (rs : List (Rib LabelId)) → Around ss rs
+      → target_faults j (target j rs) ≡ target_faults j (target j (scope.ribs ss))
   as_around j ss rs e = sym (forgotten j rs) ∙ (ap (λ qs. target_faults j (target j qs)) (sym e) ∙ forgotten j (scope.ribs ss))
 
-  jump_adds : (j : Option Jump) (ss : List Scope) (rs : List (Rib LabelId)) → Around ss rs → (s : Stored) → L.list (with_jump j rs s) ≡ L.list s ++ L.of_faults (jump_faults ss j)
+  jump_adds : (j : Option Jump) (ss : List Scope) (rs : List (Rib LabelId)) → Around ss rs → (s : Stored)
+      → L.list (with_jump j rs s) ≡ L.list s ++ L.of_faults (jump_faults ss j)
   jump_adds None ss rs e s = none_more s
   jump_adds (Some j) ss rs e s = faults_of j (target j rs) s ∙ ap (λ ds. L.list s ++ L.of_faults ds) (as_around j ss rs e)
 
@@ -133,8 +152,10 @@ module _ {X : Type 0} (L : Listing X) where
   last_none : {xs : List X} {a b : Stored} → Added (xs ++ []) a b → Added xs a b
   last_none {xs = xs} {a = a} {b = b} g = subst (λ ys. Added ys a b) (append-nil xs) g
 
-  opened_tells : {A B : Type 0} {D : List Scope → List X} (at : Label → LabelId → Frame) (l : Label) (c : Scope) {p : LabelId → Lowering A} {f : LabelId → A → Lowering B}
-      → ((n : LabelId) (ps : List Frame) → ribs (at l n ∷ ps) ≡ label_rib l.name l.hygiene n ∷ ribs ps) → ((n : LabelId) → IsRib c (label_rib l.name l.hygiene n))
+  opened_tells : {A B : Type 0} {D : List Scope → List X} (at : Label → LabelId → Frame) (l : Label) (c : Scope)
+      {p : LabelId → Lowering A} {f : LabelId → A → Lowering B}
+      → ((n : LabelId) (ps : List Frame) → ribs (at l n ∷ ps) ≡ label_rib l.name l.hygiene n ∷ ribs ps)
+      → ((n : LabelId) → IsRib c (label_rib l.name l.hygiene n))
       → ((n : LabelId) → Correct (p n) (Tells D)) → ((n : LabelId) (a : A) → Correct (f n a) (Tells nothing))
       → Correct (open_label l >>= (λ n. p n >>= (λ a. close >>= (λ _. f n a)))) (Tells (λ ss. D (c ∷ ss)))
   opened_tells {D = D} at l c frame is hp hf = correct_as (correct_opened at l frame hp hf) (λ final ps m m' b g row. record {
@@ -152,19 +173,23 @@ module _ {X : Type 0} (L : Listing X) where
 
   module _ (at : Pointer) where
     -- the branches first
-    pub if_tells : {C T E : List Scope → List X} {c t : Node} {e : Lowering (Option ExprId)} → Correct c (Tells C) → Correct t (Tells T) → Correct e (Tells E)
+    pub if_tells : {C T E : List Scope → List X} {c t : Node} {e : Lowering (Option ExprId)} → Correct c (Tells C) → Correct t (Tells T)
+        → Correct e (Tells E)
         → Correct (if_form at c t e) (Tells (λ ss. T ss ++ (E ss ++ C ss)))
     unfolding if_form
     if_tells hc ht he = tells_bind ht (λ i. tells_bind he (λ j. tells_end hc (λ k. tells_alloc _ _)))
 
-    pub loop_tells : (label : Option Label) {D : List Scope → List X} {b : Node} → Correct b (Tells D) → Correct (loop_form at label b) (Tells (λ ss. D (loop_scope label ∷ ss)))
+    pub loop_tells : (label : Option Label) {D : List Scope → List X} {b : Node} → Correct b (Tells D)
+        → Correct (loop_form at label b) (Tells (λ ss. D (loop_scope label ∷ ss)))
     unfolding loop_form
     loop_tells None h = tells_end
         (correct_as h (λ final ps m m' a g row. record { told = λ ss e. row.told (loop_scope None ∷ ss) (in_loop ss (ribs ps) e) }))
         (λ i. tells_alloc _ _)
-    loop_tells (Some l) h = opened_tells loop_at l (loop_scope (Some l)) (λ n ps. refl) (λ n. loop_is_rib l n) (λ n. h) (λ n i. tells_alloc _ _)
+    loop_tells (Some l) h =
+        opened_tells loop_at l (loop_scope (Some l)) (λ n ps. refl) (λ n. loop_is_rib l n) (λ n. h) (λ n i. tells_alloc _ _)
 
-    pub call_tells : {D E : List Scope → List X} {f : Node} {xs : Lowering (List ExprId)} → Correct f (Tells D) → Correct xs (Tells E) → Correct (call_form at f xs) (Tells (λ ss. D ss ++ E ss))
+    pub call_tells : {D E : List Scope → List X} {f : Node} {xs : Lowering (List ExprId)} → Correct f (Tells D) → Correct xs (Tells E)
+        → Correct (call_form at f xs) (Tells (λ ss. D ss ++ E ss))
     unfolding call_form
     call_tells hf hx = tells_bind hf (λ i. tells_end hx (λ js. tells_alloc _ _))
 
@@ -172,7 +197,8 @@ module _ {X : Type 0} (L : Listing X) where
     unfolding continue_form
     continue_tells j = tells_end (tells_target j) (λ n. tells_alloc _ _)
 
-    pub break_tells : (j : Option Jump) {D : List Scope → List X} {e : Lowering (Option ExprId)} → Correct e (Tells D) → Correct (break_form at j e) (Tells (λ ss. L.of_faults (jump_faults ss j) ++ D ss))
+    pub break_tells : (j : Option Jump) {D : List Scope → List X} {e : Lowering (Option ExprId)} → Correct e (Tells D)
+        → Correct (break_form at j e) (Tells (λ ss. L.of_faults (jump_faults ss j) ++ D ss))
     unfolding break_form
     break_tells j h = tells_bind (tells_target j) (λ n. tells_end h (λ v. tells_alloc _ _))
 
@@ -180,13 +206,16 @@ module _ {X : Type 0} (L : Listing X) where
     unfolding paren_form
     paren_tells h = tells_end h (λ i. tells_end (tells_point at i) (λ u. tells_pure i))
 
-    pub block_form_tells : (label : Option LabelId) (number : Option BlockId) {D : List Scope → List X} {c : Lowering Contents} → Correct c (Tells D)
+    pub block_form_tells : (label : Option LabelId) (number : Option BlockId) {D : List Scope → List X} {c : Lowering Contents}
+        → Correct c (Tells D)
         → Correct (block_form at label number c) (Tells (λ ss. L.of_block number ++ D ss))
     unfolding block_form
     block_form_tells label number h = tells_bind (tells_enter_block number) (λ u. tells_end h (λ r. tells_alloc _ _))
 
-  pub labelled_tells : (label : Option Label) {D : List Scope → List X} {f : Option LabelId → Node} → ((n : Option LabelId) → Correct (f n) (Tells D))
+  pub labelled_tells : (label : Option Label) {D : List Scope → List X} {f : Option LabelId → Node}
+      → ((n : Option LabelId) → Correct (f n) (Tells D))
       → Correct (labelled label f) (Tells (λ ss. D (in_block label ss)))
   unfolding labelled
   labelled_tells None h = h None
-  labelled_tells (Some l) h = opened_tells block_at l (block_scope l) (λ n ps. refl) (λ n. block_is_rib l n) (λ n. h (Some n)) (λ n i. tells_pure i)
+  labelled_tells (Some l) h =
+      opened_tells block_at l (block_scope l) (λ n ps. refl) (λ n. block_is_rib l n) (λ n. h (Some n)) (λ n i. tells_pure i)

@@ -1,22 +1,26 @@
 -- Lowering a tree enters its blocks.
-use Rattle.std.proofs.Common.{◌≡◌, ◌∙◌, refl, subst, sym, ap, List, [], ◌∷◌, ◌++◌, append_assoc, append-nil, option_to_list, Option, Some, None, Ok}
+use Rattle.std.proofs.Common.{◌≡◌, ◌∙◌, refl, sym, ap, List, [], ◌++◌, append_assoc, append-nil, option_to_list, Option, Some, None}
 use Rattle.hir_store.specs.Stored.{Stored}
 use Rattle.hir_store.specs.declared.hir.Statement.{Statement}
 use Rattle.hir_store.specs.declared.ids.ExprId.{ExprId}
 use Rattle.hir_store.specs.declared.ids.BlockId.{BlockId}
 use Rattle.hir_store.proofs.Range.{extends_refl}
-use Rattle.hir_scope.specs.Scopes.{Scope}
 use Rattle.hir_env.specs.Answered as tree
 use Rattle.hir_env.specs.Answered.{Expr, OptionExpr, Exprs, Block, OptionBlock, Stmts, Stmt}
 use Rattle.hir_lower_form.specs.Lowering.{Lowering}
-use Rattle.hir_lower_form.specs.Lower.{Node, kept, lower, lower_part, present, kept_part, lower_each, lower_block, lower_block_part, lower_stmts, lower_stmt}
-use Rattle.hir_steps.proofs.Frames.{frames, ribs, ribs_frames}
-use Rattle.hir_steps.proofs.Steps.{Correct, Holds, Answers}
+use Rattle.hir_lower_form.specs.Lower.{Node, kept, lower, lower_part, present, kept_part, lower_each, lower_block, lower_block_part}
+use Rattle.hir_lower_form.specs.Lower.{lower_stmts, lower_stmt}
+use Rattle.hir_steps.proofs.Frames.{frames, ribs}
+use Rattle.hir_steps.proofs.Steps.{Correct}
 use Rattle.hir_steps.proofs.Steps.{with_block}
-use Rattle.hir_one_result.specs.Blocks.{blocks_of, blocks_of_part, blocks_of_each, blocks_of_block, blocks_of_block_part, blocks_of_stmts, blocks_of_stmt}
+use Rattle.hir_one_result.specs.Blocks.{blocks_of, blocks_of_part, blocks_of_each, blocks_of_block, blocks_of_block_part, blocks_of_stmts}
+use Rattle.hir_one_result.specs.Blocks.{blocks_of_stmt}
 use Rattle.hir_one_result.specs.Laws.{BlocksAre}
 use Rattle.hir_one_result.proofs.Around.{scopes_around}
-use Rattle.hir_one_result.proofs.Telling.{Listing, Tells, tells_bind, tells_as, tells_end, tells_pure, tells_some, tells_report, missing_tells, if_tells, loop_tells, call_tells, continue_tells, break_tells, paren_tells, block_form_tells, labelled_tells, tells_alloc}
+use Rattle.hir_one_result.proofs.Lowered.{lowered}
+use Rattle.hir_one_result.proofs.Telling.{Listing, Tells, tells_bind, tells_as, tells_end, tells_pure, tells_some, tells_report}
+use Rattle.hir_one_result.proofs.Telling.{missing_tells, if_tells, loop_tells, call_tells, continue_tells, break_tells, paren_tells}
+use Rattle.hir_one_result.proofs.Telling.{block_form_tells, labelled_tells, tells_alloc}
 
 entered_block : (n : Option BlockId) (s : Stored) → (with_block n s).block_scopes ≡ s.block_scopes ++ option_to_list n
 entered_block None s = sym (append-nil s.block_scopes)
@@ -89,7 +93,8 @@ mutual
       → Enters (blocks_of_stmts stmts ++ ns) (lower_stmts done stmts tail)
   contents_blocks done tree.no_stmts h = tells_end entered h (λ t. tells_pure entered _)
   contents_blocks done (tree.more_stmts s stmts) {ns = ns} h =
-      tells_as entered (tells_bind entered (stmt_blocks s) (λ x. contents_blocks _ stmts h)) (λ ss. append_assoc (blocks_of_stmt s) (blocks_of_stmts stmts) ns)
+      tells_as entered (tells_bind entered (stmt_blocks s) (λ x. contents_blocks _ stmts h))
+      (λ ss. append_assoc (blocks_of_stmt s) (blocks_of_stmts stmts) ns)
 
   stmt_blocks : (s : Stmt) → Enters (blocks_of_stmt s) (lower_stmt s)
   stmt_blocks (tree.expr_stmt e semi) = tells_end entered (kept_part_blocks e) (λ x. tells_pure entered _)
@@ -97,9 +102,7 @@ mutual
 
 pub blocks_are : BlocksAre
 blocks_are e old id new paired is =
-    let ps = frames old.scopes in
-    let h = (part_blocks e).holds new.stored ps old (ribs_frames old.scopes) in
-    let g : Answers (Tells entered (λ ss. blocks_of_part e)) new.stored ps old new id = subst (λ r. Holds (Tells entered (λ ss. blocks_of_part e)) new.stored ps old r.0 r.1) is h in
-    let somewhere = scopes_around (ribs ps) in
-    let x = (g.in_final paired (extends_refl new.stored)).told somewhere.0 somewhere.1 in
+    let row = lowered (part_blocks e) old id new paired is new.stored (extends_refl new.stored) in
+    let scopes = scopes_around (ribs (frames old.scopes)) in
+    let x = row.told scopes.0 scopes.1 in
     x.is ∙ ap (λ ns. old.stored.block_scopes ++ ns) (sym x.like)

@@ -1,5 +1,5 @@
 -- Lowering a tree reports the faults of what it reads.
-use Rattle.std.proofs.Common.{◌≡◌, refl, subst, sym, List, [], ◌∷◌, ◌++◌, append_assoc, append-nil, Option, Some, None, Ok, IsPermutation}
+use Rattle.std.proofs.Common.{◌≡◌, refl, subst, sym, List, [], ◌++◌, append_assoc, append-nil, Option, Some, None, IsPermutation}
 use Rattle.std.proofs.lemmas.List.Sorted.{IsPermutation-refl, IsPermutation-trans, IsPermutation-append, IsPermutation-append_comm}
 use Rattle.hir_store.specs.Stored.{Stored}
 use Rattle.hir_store.specs.declared.ids.BlockId.{BlockId}
@@ -12,13 +12,18 @@ use Rattle.hir_scope.specs.Scopes.{Scope}
 use Rattle.hir_env.specs.Answered as tree
 use Rattle.hir_env.specs.Answered.{Expr, OptionExpr, Exprs, Block, OptionBlock, Stmts, Stmt}
 use Rattle.hir_lower_form.specs.Lowering.{Lowering}
-use Rattle.hir_lower_form.specs.Lower.{Node, push_some, kept, lower, lower_part, present, kept_part, lower_each, lower_block, lower_block_part, lower_stmts}
-use Rattle.hir_steps.proofs.Frames.{frames, ribs, ribs_frames}
-use Rattle.hir_steps.proofs.Steps.{Correct, Holds, Answers}
+use Rattle.hir_lower_form.specs.Lower.{Node, push_some, kept, lower, lower_part, present, kept_part, lower_each, lower_block}
+use Rattle.hir_lower_form.specs.Lower.{lower_block_part, lower_stmts}
+use Rattle.hir_steps.proofs.Frames.{ribs_frames}
+use Rattle.hir_steps.proofs.Steps.{Correct}
 use Rattle.hir_steps.proofs.Steps.{with_block}
-use Rattle.hir_one_result.specs.Diagnostics.{Faults, Around, diagnostics, part_diagnostics, each_diagnostics, block_diagnostics, block_part_diagnostics, contents_diagnostics}
+use Rattle.hir_one_result.specs.Diagnostics.{Faults, Around, diagnostics, part_diagnostics, each_diagnostics, block_diagnostics}
+use Rattle.hir_one_result.specs.Diagnostics.{block_part_diagnostics, contents_diagnostics}
 use Rattle.hir_one_result.specs.Laws.{DiagnosticsAre}
-use Rattle.hir_one_result.proofs.Telling.{Listing, Tells, tells_bind, tells_as, tells_end, tells_pure, tells_some, tells_report, missing_tells, if_tells, loop_tells, call_tells, continue_tells, break_tells, paren_tells, block_form_tells, labelled_tells, tells_alloc}
+use Rattle.hir_one_result.proofs.Lowered.{lowered}
+use Rattle.hir_one_result.proofs.Telling.{Listing, Tells, tells_bind, tells_as, tells_end, tells_pure, tells_some, tells_report}
+use Rattle.hir_one_result.proofs.Telling.{missing_tells, if_tells, loop_tells, call_tells, continue_tells, break_tells, paren_tells}
+use Rattle.hir_one_result.proofs.Telling.{block_form_tells, labelled_tells, tells_alloc}
 
 no_fault_in_block : (n : Option BlockId) (s : Stored) → (with_block n s).diagnostics ≡ s.diagnostics ++ []
 no_fault_in_block None s = sym (append-nil s.diagnostics)
@@ -95,12 +100,11 @@ mutual
   contents_faults done tree.no_stmts h = tells_end reported h (λ t. tells_pure reported _)
   contents_faults done (tree.more_stmts (tree.expr_stmt e semi) stmts) h =
       tells_bind reported (tells_end reported (kept_part_faults e) (λ x. tells_pure reported _)) (λ x. contents_faults _ stmts h)
-  contents_faults done (tree.more_stmts tree.item_stmt stmts) h = tells_bind reported (tells_pure reported (Some statement.Item)) (λ x. contents_faults (push_some done x) stmts h)
+  contents_faults done (tree.more_stmts tree.item_stmt stmts) h =
+      tells_bind reported (tells_pure reported (Some statement.Item)) (λ x. contents_faults (push_some done x) stmts h)
 
 pub diagnostics_are : DiagnosticsAre
 diagnostics_are e old id new paired is ss around =
-    let ps = frames old.scopes in
-    let h = (part_faults e).holds new.stored ps old (ribs_frames old.scopes) in
-    let g : Answers (Tells reported (λ ss. part_diagnostics ss e)) new.stored ps old new id = subst (λ r. Holds (Tells reported (λ ss. part_diagnostics ss e)) new.stored ps old r.0 r.1) is h in
-    let x = (g.in_final paired (extends_refl new.stored)).told ss (subst (Around ss) (ribs_frames old.scopes) around) in
+    let row = lowered (part_faults e) old id new paired is new.stored (extends_refl new.stored) in
+    let x = row.told ss (subst (Around ss) (ribs_frames old.scopes) around) in
     record { more = x.more; is = x.is; permuted = x.like }

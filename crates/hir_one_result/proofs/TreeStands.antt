@@ -1,5 +1,6 @@
 -- What lowering a tree answers stands for the tree.
-use Rattle.std.proofs.Common.{◌≡◌, ◌∙◌, refl, sym, ap, subst, List, [], ◌∷◌, ◌++◌, append_assoc, append-nil, option_to_list, option_map, Bool, Option, Some, None, Ok}
+use Rattle.std.proofs.Common.{◌≡◌, ◌∙◌, refl, sym, ap, subst, List, [], ◌∷◌, ◌++◌, append_assoc, append-nil, option_to_list}
+use Rattle.std.proofs.Common.{Bool, Option, Some, None}
 use Rattle.hir_store.specs.Stored.{Stored, store_of, map_of}
 use Rattle.hir_store.specs.declared.hir.Expr.TheVariants as hir
 use Rattle.hir_store.specs.declared.hir.Statement.{Statement}
@@ -14,19 +15,26 @@ use Rattle.hir_env.specs.Answered.{Expr, OptionExpr, Exprs, Block, OptionBlock, 
 use Rattle.hir_meaning.specs.Left.{is_kept, is_left, gives_value}
 use Rattle.hir_meaning.specs.Contents.{HasContents}
 use Rattle.hir_lower_form.specs.Lowering.{Lowering, ◌>>=◌, pure}
-use Rattle.hir_lower_form.specs.Lower.{Node, Contents, push_some, block_form, kept, settled, lower, lower_part, present, kept_part, lower_each, lower_block, lower_block_part, lower_stmts, lower_stmt}
-use Rattle.hir_steps.proofs.Frames.{frames, ribs, ribs_frames}
-use Rattle.hir_steps.proofs.Steps.{with_fault, Correct, Answers, Holds, correct_bind, correct_as, correct_pure, correct_report}
-use Rattle.hir_one_result.specs.Leads.{Ways, No, From, ◌&◌}
-use Rattle.hir_one_result.specs.Stands.{Open, ThereIf, ExprAt, Stands, StandsPart, StandsPresent, StandsKept, StandsEach, StandsBlock, StandsBlockPart, StandsContents}
+use Rattle.hir_lower_form.specs.Lower.{Node, Contents, push_some, block_form, kept, settled, lower, lower_part, present, kept_part}
+use Rattle.hir_lower_form.specs.Lower.{lower_each, lower_block, lower_block_part, lower_stmts}
+use Rattle.hir_steps.proofs.Frames.{ribs, ribs_frames}
+use Rattle.hir_steps.proofs.Steps.{Correct, correct_bind, correct_as, correct_pure, correct_report}
+use Rattle.hir_one_result.specs.Leads.{Ways, From, ◌&◌}
+use Rattle.hir_one_result.specs.Stands.{Open, ThereIf, statement_of, Stands, StandsPart, StandsPresent, StandsKept, StandsEach, StandsBlock}
+use Rattle.hir_one_result.specs.Stands.{StandsBlockPart, StandsContents}
 use Rattle.hir_one_result.specs.Laws.{AllStand}
-use Rattle.hir_one_result.proofs.Leading.{Shown, shown_as, shown_none, shown_both, shown_after, shown_before, led_then}
-use Rattle.hir_one_result.proofs.Standing.{Of, Shows, led_same, led_pure, missing_stands, alone_stands, path_stands, literal_stands, present_none, present_some, if_stands, loop_stands, call_stands, continue_stands, break_stands, paren_stands, block_form_stands, labelled_stands}
+use Rattle.hir_one_result.proofs.Lowered.{lowered}
+use Rattle.hir_one_result.proofs.Leading.{Shown, shown_as, shown_none, shown_both, shown_after, shown_before, moved_then}
+use Rattle.hir_one_result.proofs.Standing.{Of, Placed, Shows, moved_pure, moved_fault, missing_stands, path_stands, literal_stands}
+use Rattle.hir_one_result.proofs.Standing.{present_none, present_some, if_stands, loop_stands, call_stands, continue_stands, break_stands}
+use Rattle.hir_one_result.proofs.Standing.{paren_stands, block_form_stands, labelled_stands}
 use Rattle.hir_one_result.proofs.Contents.{has_contents}
 
-kept_stands : (e : Expr) {p : Node} {S : Of ExprId} → Correct p (Shows S) → Correct (kept e p) (Shows (λ final rs o. ThereIf (is_kept e) (λ i. S final rs i) o))
+kept_stands : (e : Expr) {p : Node} {S : Of ExprId} → Correct p (Shows S)
+    → Correct (kept e p) (Shows (λ final rs o. ThereIf (is_kept e) (λ i. S final rs i) o))
 kept_stands (tree.disabled_expr at by e) h = correct_as (correct_bind (correct_report _) (λ u. correct_pure None)) (λ final ps m m' o g row.
-    record { shown = shown_none (led_then (led_same m.stored (with_fault (InactiveCode at by) m.stored) row.first.stored refl refl) (led_pure row.second.still)) (row.second.is, refl) })
+    let moved = moved_then (moved_fault (InactiveCode at by) row.first.stored) (moved_pure row.second.still) in
+    record { shown = shown_none moved (row.second.is, refl) })
 kept_stands e h = present_some h
 
 push_append : {A : Type 0} (done : List A) (x : Option A) (more : List A) → push_some done x ++ more ≡ done ++ (option_to_list x ++ more)
@@ -55,28 +63,32 @@ module _ (final : Stored) where
 
 -- an expression statement, and what it became
 expr_stmt_stands : (semi : Bool) {p : Lowering (Option ExprId)} {S : Of (Option ExprId)} → Correct p (Shows S)
-    → Correct (p >>= (λ x. pure (option_map (λ id. statement.Expr id semi) x))) (Shows (λ final rs o ws. (v : Option ExprId) × (o ≡ option_map (λ id. statement.Expr id semi) v) × S final rs v ws))
-expr_stmt_stands semi h = correct_as (correct_bind h (λ x. correct_pure (option_map (λ id. statement.Expr id semi) x))) (λ final ps m m' o g row.
-    record { shown = shown_as (shown_before row.first.shown (led_pure row.second.still)) (λ ws y. (row.one, row.second.is, y)) })
+    → Correct (p >>= (λ x. pure (statement_of semi x)))
+    (Shows (λ final rs o ws. (v : Option ExprId) × (o ≡ statement_of semi v) × S final rs v ws))
+expr_stmt_stands semi h =
+    correct_as (correct_bind h (λ x. correct_pure (statement_of semi x))) (λ final ps m m' o g row.
+    record { shown = shown_as (shown_before row.first.shown (moved_pure row.second.still)) (λ ws y. (row.one, row.second.is, y)) })
 
 -- what is in a block
 inside_stands : (at : Pointer) (n : Option LabelId) (number : Option BlockId) (ss : Stmts) (e : OptionExpr)
     → Correct (lower_stmts [] ss (kept_part e)) (Shows (λ final rs r. Behind [] (λ is. contents final rs ss e is r.1) r.0))
-    → Correct (block_form at n number (lower_stmts [] ss (kept_part e))) (Shows (λ final rs i ws. (kept : List Statement) × (last : Option ExprId) × (r : Contents)
-    × HasContents (gives_value ss (is_left e)) kept last r × ExprAt (store_of final) (map_of final) i (hir.Block n number r.0 r.1) (Some at)
+    → Correct (block_form at n number (lower_stmts [] ss (kept_part e)))
+    (Shows (λ final rs i ws. (kept : List Statement) × (last : Option ExprId) × (r : Contents)
+    × HasContents (gives_value ss (is_left e)) kept last r × Placed final i (hir.Block n number r.0 r.1) (Some at)
     × (contents final rs ss e kept last & From at i) ws))
 inside_stands at n number ss e h =
     correct_as (block_form_stands at n number {S = λ final rs r. contents final rs ss e r.0 r.1} (correct_as h (λ final ps m m' r g row.
     record { shown = behind_none (λ is. contents final (ribs ps) ss e is r.1) row.shown })))
     (λ final ps m m' i g row. record {
       shown = shown_as row.shown (λ ws y.
-          (y.0.0, y.0.1, settled y.0.0 y.0.1, has_contents (store_of final) (map_of final) (ribs ps) ss e y.0.0 y.0.1 y.2.left y.2.first, y.1, y.2));
+          let is = has_contents (store_of final) (map_of final) (ribs ps) ss e y.0.0 y.0.1 y.2.left y.2.first in
+          (y.0.0, y.0.1, settled y.0.0 y.0.1, is, y.1, y.2));
     })
 
 mutual
   node_stands : (e : Expr) → Correct (lower e) (Shows (λ final rs i. Stands (store_of final) (map_of final) rs e i))
   node_stands (tree.disabled_expr at by e) = correct_as (correct_bind (correct_report _) (λ u. missing_stands)) (λ final ps m m' i g row.
-      record { shown = shown_after (led_same m.stored (with_fault (InactiveCode at by) m.stored) row.first.stored refl refl) row.second.shown })
+      record { shown = shown_after (moved_fault (InactiveCode at by) row.first.stored) row.second.shown })
   node_stands (tree.if_expr at c t e) = if_stands at (part_stands c) (block_part_stands t) (present_stands e)
   node_stands (tree.block_expr b) = block_stands b
   node_stands (tree.loop_expr at label b) = loop_stands at label (block_part_stands b)
@@ -102,51 +114,64 @@ mutual
 
   each_stands : (done : List ExprId) (es : Exprs) → Correct (lower_each done es) (Shows (λ final rs is. Behind done (each final rs es) is))
   each_stands done tree.no_exprs = correct_as (correct_pure done) (λ final ps m m' is g row.
-      record { shown = shown_none (led_pure row.still) ([], row.is ∙ sym (append-nil done), (refl, refl)) })
-  each_stands done (tree.more_exprs e es) = correct_as (correct_bind (kept_stands e (node_stands e)) (λ x. each_stands (push_some done x) es)) (λ final ps m m' is g row.
+      record { shown = shown_none (moved_pure row.still) ([], row.is ∙ sym (append-nil done), (refl, refl)) })
+  each_stands done (tree.more_exprs e es) =
+      correct_as (correct_bind (kept_stands e (node_stands e)) (λ x. each_stands (push_some done x) es)) (λ final ps m m' is g row.
       let r = row.second.shown in
-      let others : Shown (each final (ribs ps) es r.shown.0) row.middle.stored m'.stored = record { ways = r.ways; shown = r.shown.2; led = r.led } in
+      let others : Shown (each final (ribs ps) es r.shown.0) row.middle.stored m'.stored =
+      record { ways = r.ways; shown = r.shown.2; moved = r.moved } in
       record {
         shown = shown_as (shown_both row.first.shown others)
             (λ ws y. (option_to_list row.one ++ r.shown.0, r.shown.1 ∙ push_append done row.one r.shown.0, (row.one, r.shown.0, refl, y)));
       })
 
   block_stands : (b : Block) → Correct (lower_block b) (Shows (λ final rs i. StandsBlock (store_of final) (map_of final) rs b i))
-  block_stands (tree.block at label number ss e) = labelled_stands label (λ n. inside_stands at n number ss e (contents_stands [] ss e (kept_part_stands e)))
+  block_stands (tree.block at label number ss e) =
+      labelled_stands label (λ n. inside_stands at n number ss e (contents_stands [] ss e (kept_part_stands e)))
 
-  block_part_stands : (b : OptionBlock) → Correct (lower_block_part b) (Shows (λ final rs i. StandsBlockPart (store_of final) (map_of final) rs b i))
+  block_part_stands : (b : OptionBlock)
+      → Correct (lower_block_part b) (Shows (λ final rs i. StandsBlockPart (store_of final) (map_of final) rs b i))
   block_part_stands tree.no_block = missing_stands
   block_part_stands (tree.some_block b) = block_stands b
 
-  contents_stands : (done : List Statement) (ss : Stmts) (e : OptionExpr) → Correct (kept_part e) (Shows (λ final rs o. kept_or_none final rs e o))
+  contents_stands : (done : List Statement) (ss : Stmts) (e : OptionExpr)
+      → Correct (kept_part e) (Shows (λ final rs o. kept_or_none final rs e o))
       → Correct (lower_stmts done ss (kept_part e)) (Shows (λ final rs r. Behind done (λ is. contents final rs ss e is r.1) r.0))
   contents_stands done tree.no_stmts e h = correct_as (correct_bind h (λ t. correct_pure (done, t))) (λ final ps m m' r g row.
       let is = row.second.is in
       record {
-        shown = shown_as (shown_before row.first.shown (led_pure row.second.still))
-            (λ ws y. ([], ap (λ x. x.0) is ∙ sym (append-nil done), (refl, subst (λ o. kept_or_none final (ribs ps) e o ws) (sym (ap (λ x. x.1) is)) y)));
+        shown = shown_as (shown_before row.first.shown (moved_pure row.second.still))
+            (λ ws y.
+            let tail = subst (λ o. kept_or_none final (ribs ps) e o ws) (sym (ap (λ x. x.1) is)) y in
+            ([], ap (λ x. x.0) is ∙ sym (append-nil done), (refl, tail)));
       })
-  contents_stands done (tree.more_stmts (tree.expr_stmt x semi) ss) e h = correct_as (correct_bind (expr_stmt_stands semi (kept_part_stands x)) (λ y. contents_stands (push_some done y) ss e h)) (λ final ps m m' r g row.
+  contents_stands done (tree.more_stmts (tree.expr_stmt x semi) ss) e h =
+      correct_as (correct_bind (expr_stmt_stands semi (kept_part_stands x)) (λ y. contents_stands (push_some done y) ss e h))
+      (λ final ps m m' r g row.
       let s = row.first.shown in
       let q = row.second.shown in
       let v = s.shown.0 in
-      let own : Shown (kept_or_none final (ribs ps) x v) m.stored row.middle.stored = record { ways = s.ways; shown = s.shown.2; led = s.led } in
-      let others : Shown (contents final (ribs ps) ss e q.shown.0 r.1) row.middle.stored m'.stored = record { ways = q.ways; shown = q.shown.2; led = q.led } in
+      let own : Shown (kept_or_none final (ribs ps) x v) m.stored row.middle.stored =
+      record { ways = s.ways; shown = s.shown.2; moved = s.moved } in
+      let others : Shown (contents final (ribs ps) ss e q.shown.0 r.1) row.middle.stored m'.stored =
+      record { ways = q.ways; shown = q.shown.2; moved = q.moved } in
       record {
         shown = shown_as (shown_both own others) (λ ws y.
-            (option_to_list row.one ++ q.shown.0, q.shown.1 ∙ push_append done row.one q.shown.0, (v, q.shown.0, ap (λ o. option_to_list o ++ q.shown.0) s.shown.1, y)));
+            let is = q.shown.1 ∙ push_append done row.one q.shown.0 in
+            (option_to_list row.one ++ q.shown.0, is, (v, q.shown.0, ap (λ o. option_to_list o ++ q.shown.0) s.shown.1, y)));
       })
-  contents_stands done (tree.more_stmts tree.item_stmt ss) e h = correct_as (correct_bind (correct_pure (Some statement.Item)) (λ y. contents_stands (push_some done y) ss e h)) (λ final ps m m' r g row.
+  contents_stands done (tree.more_stmts tree.item_stmt ss) e h =
+      correct_as (correct_bind (correct_pure (Some statement.Item)) (λ y. contents_stands (push_some done y) ss e h))
+      (λ final ps m m' r g row.
       let q = row.second.shown in
       let more = push_append done row.one q.shown.0 ∙ ap (λ o. done ++ (option_to_list o ++ q.shown.0)) row.first.is in
-      let others : Shown (contents final (ribs ps) ss e q.shown.0 r.1) row.middle.stored m'.stored = record { ways = q.ways; shown = q.shown.2; led = q.led } in
-      record { shown = shown_after (led_pure row.first.still) (shown_as others (λ ws y. (statement.Item ∷ q.shown.0, q.shown.1 ∙ more, (q.shown.0, refl, y)))) })
+      let others : Shown (contents final (ribs ps) ss e q.shown.0 r.1) row.middle.stored m'.stored =
+      record { ways = q.ways; shown = q.shown.2; moved = q.moved } in
+      let whole = shown_as others (λ ws y. (statement.Item ∷ q.shown.0, q.shown.1 ∙ more, (q.shown.0, refl, y))) in
+      record { shown = shown_after (moved_pure row.first.still) whole })
 
 pub all_stand : AllStand
 all_stand e old id new paired is final ext =
-    let ps = frames old.scopes in
-    let h = (part_stands e).holds final ps old (ribs_frames old.scopes) in
-    let g : Answers (Shows (λ final' rs i. part final' rs e i)) final ps old new id = subst (λ r. Holds (Shows (λ final' rs i. part final' rs e i)) final ps old r.0 r.1) is h in
-    let x = (g.in_final paired ext).shown in
+    let x = (lowered (part_stands e) old id new paired is final ext).shown in
     let y = subst (λ rs. Shown (part final rs e id) old.stored new.stored) (sym (ribs_frames old.scopes)) x in
-    record { ways = y.ways; stands = y.shown; led = y.led }
+    record { ways = y.ways; stands = y.shown; led = y.moved.led; labels = y.moved.labels }

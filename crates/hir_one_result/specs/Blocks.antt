@@ -1,4 +1,5 @@
--- The numbers of the blocks that lowering enters, in the order in which it reads the parts of a tree. What is in a disabled node isn't read.
+-- The numbers of the blocks that lowering enters, in the order in which it reads the parts of a tree. What is in a
+-- disabled node isn't read.
 use Rattle.std.specs.Prelude.{List, [], ◌++◌, option_to_list}
 use Rattle.hir_store.specs.declared.ids.BlockId.{BlockId}
 use Rattle.hir_env.specs.Answered as tree

@@ -1,5 +1,5 @@
--- The faults of what lowering reads of a tree, in written order: one for each disabled node that is asked about, and one for each named jump
--- that has no target, or none in reach. What is in a disabled node isn't read.
+-- The faults of what lowering reads of a tree, in written order: one for each disabled node that is asked about, and one
+-- for each named jump that has no target, or none in reach. What is in a disabled node isn't read.
 use Rattle.std.specs.Prelude.{◌≡◌, List, [], ◌∷◌, ◌++◌, Option, Some, None}
 use Rattle.hir_store.specs.declared.diagnostics.ExpressionStoreDiagnostics.{ExpressionStoreDiagnostics}
 use Rattle.hir_store.specs.declared.diagnostics.ExpressionStoreDiagnostics.TheVariants.{InactiveCode, UndeclaredLabel, UnreachableLabel}
@@ -42,7 +42,8 @@ abbrev mutual
   each_diagnostics ss (tree.more_exprs e es) = diagnostics ss e ++ each_diagnostics ss es
 
   pub block_diagnostics : List Scope → Block → Faults
-  block_diagnostics ss (tree.block at label number stmts tail) = contents_diagnostics (in_block label ss) stmts (λ inner. part_diagnostics inner tail)
+  block_diagnostics ss (tree.block at label number stmts tail) =
+      contents_diagnostics (in_block label ss) stmts (λ inner. part_diagnostics inner tail)
 
   pub block_part_diagnostics : List Scope → OptionBlock → Faults
   block_part_diagnostics ss tree.no_block = []

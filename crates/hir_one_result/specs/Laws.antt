@@ -1,5 +1,5 @@
 -- What lowering a tree does to what is stored.
-use Rattle.std.specs.Prelude.{◌≡◌, List, ◌++◌, Ok, IsPermutation}
+use Rattle.std.specs.Prelude.{◌≡◌, ◌+◌, List, ◌++◌, length, Ok, IsPermutation}
 use Rattle.hir_store.specs.Stored.{Stored, store_of, map_of}
 use Rattle.hir_store.specs.Storing.{Extends}
 use Rattle.hir_store.specs.declared.ids.ExprId.{ExprId}
@@ -10,22 +10,24 @@ use Rattle.hir_scope.specs.Scopes.{Scope}
 use Rattle.hir_lower_form.specs.Builder.{Builder}
 use Rattle.hir_lower_form.specs.Lower.{lower_part}
 use Rattle.hir_steps.specs.Keeps.{Paired}
-use Rattle.hir_one_result.specs.Leads.{Way, Led}
+use Rattle.hir_one_result.specs.Leads.{Way, label_ways, Led}
 use Rattle.hir_one_result.specs.Stands.{StandsPart}
 use Rattle.hir_one_result.specs.Diagnostics.{Faults, part_diagnostics, Around}
 use Rattle.hir_one_result.specs.Blocks.{blocks_of_part}
 
 -- what is claimed where the tree is lowered, and what was stored had its sources
 abbrev pub Lowered : (OptionExpr → Builder → ExprId → Builder → Type 0) → Type 0
-Lowered R = (e : OptionExpr) (old : Builder) (id : ExprId) (new : Builder) → Paired old.stored → lower_part e old ≡ (Ok id, new) → R e old id new
+Lowered R =
+    (e : OptionExpr) (old : Builder) (id : ExprId) (new : Builder) → Paired old.stored → lower_part e old ≡ (Ok id, new) → R e old id new
 
 -- ---- forms, parts and sources, and ways back
 
--- the expression stands for the tree, and what led somewhere before leads there or by the ways of the tree
+-- The expression stands for the tree, what led somewhere before leads there or by the ways of the tree, and each label more has its way.
 pub record Standing (final : Stored) (e : OptionExpr) (old new : Builder) (id : ExprId) : Type 0 where
   pub ways : List Way
   pub stands : StandsPart (store_of final) (map_of final) old.scopes e id ways
   pub led : Led (map_of old.stored) (map_of new.stored) ways
+  pub labels : length new.stored.labels.entries ≡ length old.stored.labels.entries + label_ways ways
 
 -- so it is in each final store that begins with what is stored by then
 abbrev pub AllStand : Type 0

@@ -2,19 +2,19 @@
 use Rattle.std.specs.Prelude.{◌≡◌, ℕ, List, [], ◌∷◌, ◌++◌, length, Ok, IsPermutation}
 use Rattle.hir_store.specs.Stored.{Stored, Store, SourceMap, store_of, map_of}
 use Rattle.hir_store.specs.Storing.{empty, root_at}
-use Rattle.hir_store.specs.declared.ids.BlockId.{BlockId}
 use Rattle.hir_store.specs.declared.ids.ExprId.{ExprId}
 use Rattle.hir_env.specs.Answered.{OptionExpr}
 use Rattle.hir_lower_form.specs.Builder.{Builder}
 use Rattle.hir_lower_form.specs.Lower.{lower_part}
-use Rattle.hir_one_result.specs.Leads.{Way, MapLeads}
+use Rattle.hir_one_result.specs.Leads.{Way, label_ways, MapLeads}
 use Rattle.hir_one_result.specs.Stands.{StandsPart}
 use Rattle.hir_one_result.specs.Diagnostics.{Faults, part_diagnostics}
 use Rattle.hir_one_result.specs.Blocks.{blocks_of_part}
 
--- What is stored where one body was lowered. To the one root belongs all that is stored, each with its source, and it stands for the tree. The
--- source map leads from each written expression and label to what it became, and from nowhere else. Behind the faults that the body owes as a
--- whole come those of what is read of the tree, in some order. The blocks with numbers are those of the tree, in the order of entering.
+-- What is stored where one body was lowered. To the one root belongs all that is stored, each with its source, and it
+-- stands for the tree. The source map leads from each written expression and label to what it became, and from nowhere
+-- else, and each label has its way. Behind the faults that the body owes as a whole come those of what is read of the
+-- tree, in some order. The blocks with numbers are those of the tree, in the order of entering.
 pub record OneResult (store : Store) (source_map : SourceMap) (owed : Faults) (e : OptionExpr) : Type 0 where
   pub root : ExprId
   pub only : store.roots ≡ root_at store.exprs root ∷ []
@@ -23,6 +23,7 @@ pub record OneResult (store : Store) (source_map : SourceMap) (owed : Faults) (e
   pub ways : List Way
   pub stands : StandsPart store source_map [] e root ways
   pub leads : MapLeads source_map ways
+  pub labels : length store.labels ≡ label_ways ways
   pub found : Faults
   pub faults : source_map.diagnostics ≡ owed ++ found
   pub permuted : IsPermutation (part_diagnostics [] e) found

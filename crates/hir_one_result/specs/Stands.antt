@@ -1,6 +1,7 @@
--- What stands in a store for a written tree: for each kept expression one stored expression of its form, which came from its own node
--- and whose parts stand for its parts. An absent or disabled part is a missing expression that came from no node, or none where the form knows none.
--- With it stand the ways of the tree: from the node of each written expression and label to what it became.
+-- What stands in a store for a written tree: for each kept expression one stored expression of its form, which came from
+-- its own node and whose parts stand for its parts. An absent or disabled part is a missing expression that came from no
+-- node, or none where the form knows none. With it stand the ways of the tree: from the node of each written expression
+-- and label to what it became.
 use Rattle.std.specs.Prelude.{◌≡◌, Bool, true, false, List, [], ◌∷◌, ◌++◌, Option, Some, None, option_map, option_to_list, slice_get}
 use Rattle.hir_syntax.specs.declared.ast.Literal.{Literal as AstLiteral}
 use Rattle.hir_store.specs.Pointers.{Pointer}
@@ -42,6 +43,9 @@ abbrev pub ThereIf : {A : Type 0} → Bool → (A → Ways) → Option A → Way
 ThereIf true S o = There S o
 ThereIf false S o = Absent o
 
+abbrev pub statement_of : Bool → Option ExprId → Option Statement
+statement_of semi o = option_map (λ id. statement.Expr id semi) o
+
 -- ---- in a store
 
 module _ (store : Store) (source_map : SourceMap) where
@@ -79,11 +83,13 @@ module _ (store : Store) (source_map : SourceMap) where
     pub Stands : Open → Expr → ExprId → Ways
     Stands rs (tree.disabled_expr at by e) i = StandsMissing i
     Stands rs (tree.if_expr at c t e) i = λ ws.
-        (condition : ExprId) × (then_branch : ExprId) × (else_branch : Option ExprId) × ExprAt i (hir.If condition then_branch else_branch) (Some at)
+        (condition : ExprId) × (then_branch : ExprId) × (else_branch : Option ExprId)
+        × ExprAt i (hir.If condition then_branch else_branch) (Some at)
         × (StandsPart rs c condition & StandsBlockPart rs t then_branch & StandsPresent rs e else_branch & From at i) ws
     Stands rs (tree.block_expr b) i = StandsBlock rs b i
     Stands rs (tree.loop_expr at label b) i =
-        InLabel rs label (λ inner n ws. (body : ExprId) × ExprAt i (hir.Loop body n source.Loop) (Some at) × (StandsBlockPart inner b body & From at i) ws)
+        InLabel rs label (λ inner n ws. (body : ExprId) × ExprAt i (hir.Loop body n source.Loop) (Some at)
+        × (StandsBlockPart inner b body & From at i) ws)
     Stands rs (tree.call_expr at f es) i = λ ws.
         (callee : ExprId) × (arguments : List ExprId) × ExprAt i (hir.Call callee arguments) (Some at)
         × (StandsPart rs f callee & StandsEach rs es arguments & From at i) ws
@@ -110,7 +116,8 @@ module _ (store : Store) (source_map : SourceMap) where
     pub StandsEach : Open → Exprs → List ExprId → Ways
     StandsEach rs tree.no_exprs is = λ ws. (is ≡ []) × No ws
     StandsEach rs (tree.more_exprs e es) is = λ ws.
-        (o : Option ExprId) × (others : List ExprId) × (is ≡ option_to_list o ++ others) × (ThereIf (is_kept e) (λ i. Stands rs e i) o & StandsEach rs es others) ws
+        (o : Option ExprId) × (others : List ExprId) × (is ≡ option_to_list o ++ others)
+        × (ThereIf (is_kept e) (λ i. Stands rs e i) o & StandsEach rs es others) ws
 
     -- it has what its statements and its tail became, of which the last statement may be its tail
     pub StandsBlock : Open → Block → ExprId → Ways
@@ -127,7 +134,7 @@ module _ (store : Store) (source_map : SourceMap) where
     pub StandsContents : Open → Stmts → (Open → Option ExprId → Ways) → List Statement → Option ExprId → Ways
     StandsContents rs tree.no_stmts Tail is tail = λ ws. (is ≡ []) × Tail rs tail ws
     StandsContents rs (tree.more_stmts (tree.expr_stmt e semi) ss) Tail is tail = λ ws.
-        (o : Option ExprId) × (others : List Statement) × (is ≡ option_to_list (option_map (λ id. statement.Expr id semi) o) ++ others)
+        (o : Option ExprId) × (others : List Statement) × (is ≡ option_to_list (statement_of semi o) ++ others)
         × (StandsKept rs e o & StandsContents rs ss Tail others tail) ws
     StandsContents rs (tree.more_stmts tree.item_stmt ss) Tail is tail = λ ws.
         (others : List Statement) × (is ≡ statement.Item ∷ others) × StandsContents rs ss Tail others tail ws

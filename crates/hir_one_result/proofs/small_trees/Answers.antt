@@ -1,0 +1,14 @@
+use Rattle.hir_one_result.proofs.Rows.{jumps, statements, enters_in_order, leaves}
+use Rattle.hir_one_result.proofs.small_trees.Goals as goal
+
+pub returns-clause-jumps : goal.returns-clause-jumps
+returns-clause-jumps c = jumps
+
+pub returns-clause-statements : goal.returns-clause-statements
+returns-clause-statements c = statements
+
+pub returns-clause-blocks : goal.returns-clause-blocks
+returns-clause-blocks c = enters_in_order
+
+pub returns-clause-leaves : goal.returns-clause-leaves
+returns-clause-leaves c = leaves

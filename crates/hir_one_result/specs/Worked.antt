@@ -1,0 +1,122 @@
+-- Small trees: their faults, their blocks, and what whatever stands for them has stored.
+use Rattle.std.specs.Prelude.{◌≡◌, ℕ, Bool, true, false, List, [], ◌∷◌, Some, None, slice_get}
+use Rattle.hir_store.specs.Stored.{Store, SourceMap}
+use Rattle.hir_store.specs.declared.diagnostics.ExpressionStoreDiagnostics.TheVariants.{InactiveCode, UndeclaredLabel, UnreachableLabel}
+use Rattle.hir_store.specs.declared.hir.Expr.{Expr as HirExpr}
+use Rattle.hir_store.specs.declared.hir.Expr.TheVariants as hir
+use Rattle.hir_store.specs.declared.hir.Statement.TheVariants as statement
+use Rattle.hir_store.specs.declared.name.Name.{Name}
+use Rattle.hir_store.specs.declared.name.Name.TheVariants as name
+use Rattle.hir_store.specs.declared.path.Path.TheVariants.{BarePath}
+use Rattle.hir_store.specs.declared.path.PathKind.TheVariants.{Plain}
+use Rattle.hir_store.specs.declared.ids.BlockId.{BlockId}
+use Rattle.hir_store.specs.declared.ids.CfgId.{CfgId}
+use Rattle.hir_store.specs.declared.ids.ExprId.{ExprId}
+use Rattle.hir_store.specs.declared.ids.HygieneId.{HygieneId}
+use Rattle.hir_store.specs.declared.ids.LabelId.{LabelId}
+use Rattle.hir_scope.specs.Scopes.{loop_scope, barrier}
+use Rattle.hir_env.specs.Answered as tree
+use Rattle.hir_env.specs.Answered.{Expr, OptionExpr, Block, Stmts}
+use Rattle.hir_meaning.specs.Small.{at, root, one, literal_at, label_of, label_a, jump_a, first, in_braces, loop_of}
+use Rattle.hir_one_result.specs.Leads.{Way, expr_way}
+use Rattle.hir_one_result.specs.Stands.{Open, opened, Stands}
+use Rattle.hir_one_result.specs.Diagnostics.{diagnostics}
+use Rattle.hir_one_result.specs.Blocks.{blocks_of}
+
+-- Whatever stands for the tree, where these labels are open, has this expression stored.
+abbrev pub StoredAs : Open → Expr → HirExpr → Type 0
+StoredAs rs e x =
+    (store : Store) (source_map : SourceMap) (i : ExprId) (ws : List Way) → Stands store source_map rs e i ws
+    → slice_get store.exprs i.0 ≡ Some x
+
+-- an expression that names one other
+abbrev pub StoredOver : Expr → (ExprId → HirExpr) → Type 0
+StoredOver e x = (store : Store) (source_map : SourceMap) (i : ExprId) (ws : List Way) → Stands store source_map [] e i ws
+    → (part : ExprId) × (slice_get store.exprs i.0 ≡ Some (x part))
+
+-- ---- jumps
+
+-- of a macro's names
+abbrev pub other : HygieneId
+other = record { 0 = 1 }
+
+abbrev pub break_a : Expr
+break_a = tree.break_expr (at 4) (Some jump_a) tree.no_expr
+
+-- `'a: loop { 'a: loop { break 'a } }`, where the inner label is a macro's
+abbrev pub two_labels : Expr
+two_labels = loop_of 0 (Some label_a) (in_braces 2 None (loop_of 3 (Some (label_of other)) (in_braces 5 None break_a)))
+
+-- the inner loop alone
+abbrev pub one_label : Expr
+one_label = loop_of 3 (Some (label_of other)) (in_braces 5 None break_a)
+
+pub record Jumps : Type 0 where
+  pub no_fault : diagnostics [] two_labels ≡ []
+  pub named : (inner outer : LabelId)
+      → StoredAs (opened (label_of other) inner (opened label_a outer [])) break_a (hir.Break (Some outer) None)
+  pub undeclared : diagnostics [] one_label ≡ UndeclaredLabel jump_a.pointer jump_a.name ∷ []
+  pub nearer : diagnostics (barrier ∷ loop_scope (Some label_a) ∷ []) two_labels ≡ []
+  pub unreachable : diagnostics (barrier ∷ loop_scope (Some label_a) ∷ []) break_a ≡ UnreachableLabel jump_a.pointer jump_a.name ∷ []
+
+-- ---- statements
+
+-- a block with a number, in which is a fault, disabled
+abbrev pub disabled : CfgId → Expr
+disabled by =
+    tree.disabled_expr (at 2) by (tree.block_expr (tree.block (at 2) None (Some (record { 0 = 7 })) tree.no_stmts (tree.some_expr break_a)))
+
+-- a literal, with or without a semicolon, and then what is disabled
+abbrev pub literal_first : CfgId → Bool → Stmts
+literal_first by semi = tree.more_stmts (tree.expr_stmt (tree.some_expr (literal_at 1 one)) semi) (first (disabled by) tree.no_stmts)
+
+abbrev pub in_block : CfgId → Bool → OptionExpr → Expr
+in_block by semi tail = tree.block_expr (tree.block (at 0) None None (literal_first by semi) tail)
+
+pub record Statements : Type 0 where
+  pub becomes_tail : (by : CfgId) → StoredOver (in_block by false tree.no_expr) (λ last. hir.Block None None [] (Some last))
+  pub has_semicolon : (by : CfgId) → StoredOver (in_block by true tree.no_expr) (λ v. hir.Block None None (statement.Expr v true ∷ []) None)
+  pub disabled_tail : (by : CfgId)
+      → StoredOver (in_block by false (tree.some_expr (disabled by))) (λ last. hir.Block None None [] (Some last))
+  pub faults : (by : CfgId) (semi : Bool) → diagnostics [] (in_block by semi tree.no_expr) ≡ InactiveCode (at 2) by ∷ []
+  pub blocks : (by : CfgId) (semi : Bool) → blocks_of (in_block by semi tree.no_expr) ≡ []
+
+-- ---- blocks
+
+-- a block with this number, with this in it
+abbrev pub numbered : ℕ → Stmts → OptionExpr → Block
+numbered n ss tail = tree.block (at n) None (Some (record { 0 = n })) ss tail
+
+abbrev pub empty_block : ℕ → Block
+empty_block n = numbered n tree.no_stmts tree.no_expr
+
+abbrev pub just : ℕ → OptionExpr
+just n = tree.some_expr (tree.block_expr (empty_block n))
+
+abbrev pub block_number : ℕ → BlockId
+block_number n = record { 0 = n }
+
+-- `{ if {} {} else {}; {} }`
+abbrev pub branches : Expr
+branches = tree.block_expr (numbered 1
+    (first (tree.if_expr (at 2) (just 3) (tree.some_block (empty_block 4)) (just 5)) tree.no_stmts) (just 6))
+
+-- the condition's block is entered after those of the branches
+abbrev pub EntersInOrder : Type 0
+EntersInOrder = blocks_of branches ≡ block_number 1 ∷ block_number 4 ∷ block_number 5 ∷ block_number 3 ∷ block_number 6 ∷ []
+
+-- ---- paths and parentheses
+
+abbrev pub letter : ℕ → Name
+letter c = name.Text (c ∷ [])
+
+pub record Leaves : Type 0 where
+  pub one_name : StoredAs [] (tree.path_expr (at 0) (Some (Some (letter 97) ∷ [])) other)
+      (hir.Path (BarePath (record { kind = Plain; segments = letter 97 ∷ [] })) other)
+  pub two_names : StoredAs [] (tree.path_expr (at 0) (Some (Some (letter 97) ∷ Some (letter 98) ∷ [])) other)
+      (hir.Path (BarePath (record { kind = Plain; segments = letter 97 ∷ letter 98 ∷ [] })) root)
+  pub refused : StoredAs [] (tree.path_expr (at 0) (Some (Some (letter 97) ∷ None ∷ [])) root) hir.Missing
+  -- both nodes lead to what is in the parentheses
+  pub parentheses : (store : Store) (source_map : SourceMap) (i : ExprId) (ws : List Way)
+      → Stands store source_map [] (tree.paren_expr (at 0) (tree.some_expr (literal_at 1 one))) i ws
+      → ws ≡ expr_way (at 1) i ∷ expr_way (at 0) i ∷ []
