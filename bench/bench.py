@@ -4,7 +4,12 @@
     bench/bench.py [--program PATH] [--most NODES] [--shape NAME]
 
 Prints seconds and peak memory of one run for each shape and size, and the cost
-of a node. Where the cost of a node grows with the size, something isn't linear.
+of a node, in two parts: parsing the text, and the rest of the run. Where the cost
+of a node grows with the size, something isn't linear.
+
+A text whose only list of nodes is another member, behind a fraction, is parsed
+whole and then is no document for its fraction, so a run on it costs the parsing
+alone. A peak below some 16 MB is that of this script, which starts the program.
 """
 
 import argparse
@@ -98,6 +103,9 @@ def labels(size):
 SHAPES = {"wide": wide, "calls": calls, "deep": deep, "labels": labels}
 
 
+HEADS = ("shape", "nodes", "MB", "seconds", "peak MB", "parse us", "rest us", "parse B", "rest B")
+
+
 def make(name, size, path):
     """Writes a document in a process of its own, and answers how many nodes it has.
 
@@ -108,20 +116,27 @@ def make(name, size, path):
 
 
 def write(name, size, path):
+    """Writes a document, and beside it the text that is only parsed."""
     nodes = SHAPES[name](size).all
-    with open(path, "w") as document:
-        json.dump({"nodes": nodes}, document)
+    text = json.dumps(nodes)
+    for begin, to in [('{"nodes": ', path), ('{"fraction": 0.5, "parsed": ', path + ".parsed")]:
+        with open(to, "w") as document:
+            document.write(begin)
+            document.write(text)
+            document.write("}")
     print(len(nodes))
 
 
 def measure(program, path):
-    """Runs the program on a file: its status, seconds and peak memory in bytes."""
-    with open(path, "rb") as document:
+    """Runs the program on a file: its status, what it said, seconds and peak memory in bytes."""
+    with open(path, "rb") as document, tempfile.TemporaryFile() as errors:
         began = time.monotonic()
-        child = subprocess.Popen([program, "body"], stdin=document, stdout=subprocess.DEVNULL)
+        child = subprocess.Popen([program, "body"], stdin=document, stdout=subprocess.DEVNULL, stderr=errors)
         _, status, used = os.wait4(child.pid, 0)
         seconds = time.monotonic() - began
-    return os.waitstatus_to_exitcode(status), seconds, used.ru_maxrss * 1024
+        errors.seek(0)
+        said = errors.read().decode().strip()
+    return os.waitstatus_to_exitcode(status), said, seconds, used.ru_maxrss * 1024
 
 
 def main():
@@ -135,7 +150,7 @@ def main():
         return write(given.make[0], int(given.make[1]), given.make[2])
     if not os.access(given.program, os.X_OK):
         sys.exit("bench: no program %s; `rt run` in crates/lower_tool builds it" % given.program)
-    print("%-7s %9s %9s %8s %9s %9s %9s" % ("shape", "nodes", "MB", "seconds", "peak MB", "us/node", "B/node"))
+    print("%-7s %9s %9s %8s %9s %9s %9s %9s %9s" % HEADS)
     failed = False
     for name in [given.shape] if given.shape else list(SHAPES):
         for size in [size for size in SIZES if size <= given.most]:
@@ -144,16 +159,22 @@ def main():
 
 
 def line(program, name, size):
-    """Prints one line, and answers whether the run failed."""
+    """Prints one line, with microseconds and bytes a node, and answers whether a run failed."""
     with tempfile.TemporaryDirectory() as folder:
         path = os.path.join(folder, "document.json")
         count = make(name, size, path)
         length = os.path.getsize(path)
-        status, seconds, peak = measure(program, path)
-    shown = (name, count, length / 1e6, seconds, peak / 1e6, seconds * 1e6 / count, peak / count)
-    print("%-7s %9d %9.1f %8.3f %9.1f %9.2f %9.0f" % shown, end="")
-    print("" if status == 0 else "  status %d" % status, flush=True)
-    return status != 0
+        status, said, seconds, peak = measure(program, path)
+        parse_status, parse_said, parse_seconds, parse_peak = measure(program, path + ".parsed")
+    wrong = []
+    if (status, said) != (0, ""):
+        wrong.append("status %d %s" % (status, said))
+    if (parse_status, parse_said) != (2, "fault: not a document"):
+        wrong.append("parsing: status %d %s" % (parse_status, parse_said))
+    parts = [1e6 * parse_seconds, 1e6 * (seconds - parse_seconds), parse_peak, peak - parse_peak]
+    shown = (name, count, length / 1e6, seconds, peak / 1e6, *[part / count for part in parts])
+    print("%-7s %9d %9.1f %8.3f %9.1f %9.2f %9.2f %9.0f %9.0f" % shown, *wrong, flush=True)
+    return bool(wrong)
 
 
 if __name__ == "__main__":

@@ -38,7 +38,13 @@ run_row() {
     [ -f "$1.status" ] && want_status=$(cat "$1.status")
     want_err=$1.err
     [ -f "$want_err" ] || want_err=$work/nothing
-    "$tool" "$(cat "$1.mode")" <"$1.json" >"$work/out" 2>"$work/err"
+    input=$1.json
+    [ -f "$1.in" ] && input=$(cat "$1.in")
+    : >"$work/out"
+    output=$work/out
+    [ -f "$1.to" ] && output=$(cat "$1.to")
+    # Each word is an argument of its own.
+    "$tool" $(cat "$1.mode") <"$input" >"$output" 2>"$work/err"
     status=$?
     wrong=
     [ "$status" -eq "$want_status" ] || wrong="$wrong status"

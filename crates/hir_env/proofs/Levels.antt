@@ -1,5 +1,5 @@
 -- An answered tree is one level of it around its answered parts.
-use Rattle.std.proofs.Common.{◌≡◌, ◌∙◌, refl, Option, Some, None, List, [], ◌∷◌}
+use Rattle.std.proofs.Common.{◌≡◌, ◌∙◌, refl, ap, Option, Some, None, List, [], ◌∷◌}
 use Rattle.std.specs.Prelude.{option_map}
 use Rattle.hir_syntax.specs.declared.node.AstPtr.{AstPtr}
 use Rattle.hir_syntax.specs.declared.ast.ElseBranch.{ElseBranch as AstElseBranch, out-ElseBranch}
@@ -16,11 +16,11 @@ use Rattle.hir_store.specs.Pointers.{Pointer}
 use Rattle.hir_env.specs.declared.place.Place.{Place}
 use Rattle.hir_env.specs.Answers.{Answers}
 use Rattle.hir_env.specs.Spot.{Spot}
-use Rattle.hir_env.specs.Layers.{BlockReading, Reader, ElseBranchLayer, ExprKindLayer, StmtKindLayer, BlockExprLayer, readings, itself}
+use Rattle.hir_env.specs.Layers.{BlockReading, StmtReading, Reader, ElseBranchLayer, ExprKindLayer, StmtKindLayer, BlockExprLayer, readings, itself}
 use Rattle.hir_env.specs.Answering as of
 use Rattle.hir_env.specs.Answered as tree
 use Rattle.hir_env.specs.Answered.{Label, Expr, OptionExpr, Exprs, Block, OptionBlock, Stmts, Stmt}
-use Rattle.hir_env.specs.Whole.{written, reader, read_else_branch, read_expr_kind, read_stmt_kind, read_block, read_expr, read_stmt, answered, answered_plain, answered_block, answered_stmt, answered_else, label_part, asked_expr, block_level, stmt_level, else_level}
+use Rattle.hir_env.specs.Whole.{written, reader, read_else_branch, read_expr_kind, read_stmt_kind, read_block, read_expr, read_stmt, answered, answered_plain, answered_block, answered_else, label_part, stmts_part, in_block, block_number, pointer_at, asked_expr, block_level, stmt_level, else_level}
 
 -- how a fold passes an option and a list on
 abbrev optional : {A B : Type 0} → (A → B) → Option A → Option B
@@ -42,9 +42,10 @@ exprs_is : {A : Type 0} (h : A → Place → Expr) (xs : List A) (p : Place) →
 exprs_is h [] p = refl
 exprs_is h (x ∷ xs) p = λ i. tree.more_exprs (h x p) (exprs_is h xs p i)
 
-stmts_is : {A : Type 0} (h : A → Place → Stmt) (xs : List A) (p : Place) → of.stmts_of (λ y. y) (listed h xs) p ≡ of.stmts_of h xs p
-stmts_is h [] p = refl
-stmts_is h (x ∷ xs) p = λ j. tree.more_stmts (h x p) (stmts_is h xs p j)
+contents_is : {A : Type 0} (h : A → Place → StmtReading) (xs : List A) (t t' : Place → OptionExpr) → ((p : Place) → t p ≡ t' p) → (p : Place)
+    → of.contents_of (λ y. y) (listed h xs) t p ≡ of.contents_of h xs t' p
+contents_is h [] t t' e p = λ j. (tree.no_stmts, e p j)
+contents_is h (x ∷ xs) t t' e p = λ j. let rest = contents_is h xs t t' e (h x p).place j in ((h x p).before rest.0, rest.1)
 
 module _ (env : Answers) where
   abbrev rd : Reader written
@@ -80,11 +81,11 @@ module _ (env : Answers) where
   block_at_is : (b : BlockExprLayer written) (label : Option Label) (p : Place) → of.block_at env itself (mapped_block b) label p ≡ of.block_at env rd b label p
   block_at_is b label p = λ j.
       let number = of.numbered env p b.id in
-      let q = of.inside number p in
-      tree.block (of.in_file p (of.ptr b.id b.range)) label (option_map (λ n. n.0) number) (stmts_is rd.stmt b.stmts q j) (expr_is rd.expr b.tail q j)
+      let c = contents_is rd.stmt b.stmts (of.expr_or_none (λ y. y) (optional rd.expr b.tail)) (of.expr_or_none rd.expr b.tail) (expr_is rd.expr b.tail) (of.inside number p) j in
+      tree.block (of.in_file p (of.ptr b.id b.range)) label (option_map (λ n. n.0) number) c.0 c.1
 
   stmt_kind_is : (k : StmtKindLayer written) (p : Place) → of.stmt_kind env itself (mapped_stmt_kind k) p ≡ of.stmt_kind env rd k p
-  stmt_kind_is (StmtKind-F.ExprStmt e semi) p = λ j. tree.expr_stmt (expr_is rd.expr e p j) semi
+  stmt_kind_is (StmtKind-F.ExprStmt e semi) p = λ j. record { before = tree.more_stmts (tree.expr_stmt (expr_is rd.expr e p j) semi); place = p }
   stmt_kind_is StmtKind-F.Item p = refl
 
   else_is : (k : ElseBranchLayer written) (p : Place) → of.else_branch env itself (mapped_else k) p ≡ of.else_branch env rd k p
@@ -126,17 +127,26 @@ module _ (env : Answers) where
   read_else_is e p = (λ j. folds.fold_out-ElseBranch readings.ElseBranch readings.ExprKind readings.StmtKind readings.BlockExpr readings.Expr readings.Stmt
       (of.else_branch env itself) (of.expr_kind env itself) (of.stmt_kind env itself) (of.block_step env itself) (of.expr_step env itself) (of.stmt_step env itself) e j p) ∙ else_is (out-ElseBranch e) p
 
+-- so far each statement stands for itself alone
+flat : (env : Answers) (ss : List AstStmt) (tail : Place → OptionExpr) (p : Place) → of.contents_of (read_stmt env) ss tail p ≡ (stmts_part (record { answers = env; place = p }) ss, tail p)
+flat env [] tail p = refl
+flat env (s ∷ ss) tail p = (λ j. let r = read_stmt_is env s p j in let rest = of.contents_of (read_stmt env) ss tail r.place in (r.before rest.0, rest.1))
+    ∙ (λ j. let rest = flat env ss tail p j in (tree.more_stmts (stmt_level (record { answers = env; place = p }) s) rest.0, rest.1))
+
+block_at_level : (at : Spot) (label : Option Label) (b : AstBlockExpr) → of.block_at at.answers (reader at.answers) (out-BlockExpr b) label at.place ≡ block_level at label b
+block_at_level at label b = λ j.
+    let level = out-BlockExpr b in
+    let c = flat at.answers level.stmts (of.expr_or_none (read_expr at.answers) level.tail) (in_block at level.id).place j in
+    tree.block (pointer_at at level.id level.range) label (block_number at level.id) c.0 c.1
+
 pub expr_is_level : (at : Spot) (e : AstExpr) → answered at e ≡ asked_expr at e
 expr_is_level at e = read_expr_is at.answers e at.place
 
 pub plain_is_level : (at : Spot) (b : AstBlockExpr) → answered_plain at b ≡ block_level at None b
-plain_is_level at b = read_plain_is at.answers b at.place
+plain_is_level at b = read_plain_is at.answers b at.place ∙ block_at_level at None b
 
 pub block_is_level : (at : Spot) (b : AstBlockExpr) → answered_block at b ≡ tree.block_expr (block_level at (label_part at (out-BlockExpr b).label) b)
-block_is_level at b = read_own_is at.answers b at.place
-
-pub stmt_is_level : (at : Spot) (s : AstStmt) → answered_stmt at s ≡ stmt_level at s
-stmt_is_level at s = read_stmt_is at.answers s at.place
+block_is_level at b = read_own_is at.answers b at.place ∙ ap tree.block_expr (block_at_level at (label_part at (out-BlockExpr b).label) b)
 
 pub else_is_level : (at : Spot) (e : AstElseBranch) → answered_else at e ≡ else_level at e
 else_is_level at e = read_else_is at.answers e at.place

@@ -23,7 +23,7 @@ use Rattle.hir_env.specs.declared.place.LoweringMode.{LoweringMode}
 use Rattle.hir_env.specs.declared.place.LoweringMode.TheVariants as mode
 use Rattle.hir_env.specs.NodeMap.{Site}
 use Rattle.hir_env.specs.Answers.{Answers}
-use Rattle.hir_env.specs.Layers.{BlockReading, Sorts, Reader, ElseBranchLayer, ExprKindLayer, StmtKindLayer, BlockExprLayer, ExprLayer, StmtLayer}
+use Rattle.hir_env.specs.Layers.{BlockReading, StmtReading, Sorts, Reader, ElseBranchLayer, ExprKindLayer, StmtKindLayer, BlockExprLayer, ExprLayer, StmtLayer}
 use Rattle.hir_env.specs.Answered as tree
 use Rattle.hir_env.specs.Answered.{Label, Jump, Segments, Expr, OptionExpr, Exprs, Block, OptionBlock, Stmts, Stmt}
 
@@ -103,9 +103,16 @@ abbrev pub exprs_or_none : {A : Type 0} → (A → Place → Expr) → Option (L
 exprs_or_none read None p = tree.no_exprs
 exprs_or_none read (Some es) p = exprs_of read es p
 
-abbrev pub stmts_of : {A : Type 0} → (A → Place → Stmt) → List A → Place → Stmts
-stmts_of read [] p = tree.no_stmts
-stmts_of read (s ∷ ss) p = tree.more_stmts (read s p) (stmts_of read ss p)
+-- what is in a block: its statements, and its written tail, which is read where the last of them leaves off
+abbrev pub Contents : Type 0
+Contents = Stmts × OptionExpr
+
+abbrev pub contents_of : {A : Type 0} → (A → Place → StmtReading) → List A → (Place → OptionExpr) → Place → Contents
+contents_of read [] tail p = (tree.no_stmts, tail p)
+contents_of read (s ∷ ss) tail p =
+    let r = read s p in
+    let rest = contents_of read ss tail r.place in
+    (r.before rest.0, rest.1)
 
 -- ---- one level
 
@@ -139,15 +146,19 @@ module _ (env : Answers) {S : Sorts} (part : Reader S) where
   abbrev pub block_at : BlockExprLayer S → Option Label → Place → Block
   block_at b label p =
       let number = numbered env p b.id in
-      let q = inside number p in
-      tree.block (in_file p (ptr b.id b.range)) label (option_map (λ n. n.0) number) (stmts_of part.stmt b.stmts q) (expr_or_none part.expr b.tail q)
+      let c = contents_of part.stmt b.stmts (expr_or_none part.expr b.tail) (inside number p) in
+      tree.block (in_file p (ptr b.id b.range)) label (option_map (λ n. n.0) number) c.0 c.1
 
   abbrev pub block_step : BlockExprLayer S → BlockReading
   block_step b = record { plain = λ p. block_at b None p; own = λ p. tree.block_expr (block_at b (option_map (label_of env p) b.label) p) }
 
-  abbrev pub stmt_kind : StmtKindLayer S → Place → Stmt
-  stmt_kind (StmtKind-F.ExprStmt e semi) p = tree.expr_stmt (expr_or_none part.expr e p) semi
-  stmt_kind StmtKind-F.Item p = tree.item_stmt
+  -- the one statement that it stands for
+  abbrev pub stmt_at : StmtKindLayer S → Place → Stmt
+  stmt_at (StmtKind-F.ExprStmt e semi) p = tree.expr_stmt (expr_or_none part.expr e p) semi
+  stmt_at StmtKind-F.Item p = tree.item_stmt
 
-  abbrev pub stmt_step : StmtLayer S → Place → Stmt
+  abbrev pub stmt_kind : StmtKindLayer S → Place → StmtReading
+  stmt_kind k p = record { before = tree.more_stmts (stmt_at k p); place = p }
+
+  abbrev pub stmt_step : StmtLayer S → Place → StmtReading
   stmt_step s = part.stmt_kind s.kind

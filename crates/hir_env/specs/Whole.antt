@@ -1,5 +1,5 @@
 -- A whole tree with the answers written into it, by one fold, and the equations of its levels.
-use Rattle.std.specs.Prelude.{List, Option, option_map}
+use Rattle.std.specs.Prelude.{List, [], ◌∷◌, Option, option_map}
 use Rattle.hir_syntax.specs.declared.ast.ElseBranch.{ElseBranch as AstElseBranch, out-ElseBranch}
 use Rattle.hir_syntax.specs.declared.ast.ExprKind.{ExprKind as AstExprKind, out-ExprKind}
 use Rattle.hir_syntax.specs.declared.ast.StmtKind.{StmtKind as AstStmtKind, out-StmtKind}
@@ -15,8 +15,10 @@ use Rattle.hir_store.specs.Pointers.{Pointer}
 use Rattle.hir_env.specs.declared.place.Place.{Place}
 use Rattle.hir_env.specs.Answers.{Answers}
 use Rattle.hir_env.specs.Spot.{Spot}
-use Rattle.hir_env.specs.Layers.{BlockReading, Sorts, Reader, readings, itself}
-use Rattle.hir_env.specs.Answering.{in_file, ptr, site_of, label_of, jump_of, expr_or_none, plain_or_none, exprs_of, exprs_or_none, stmts_of, asked, else_branch, expr_at, expr_kind, expr_step, block_at, block_step, stmt_kind, stmt_step}
+use Rattle.hir_store.specs.declared.ids.BlockId.{BlockId}
+use Rattle.hir_env.specs.Layers.{BlockReading, StmtReading, Sorts, Reader, readings, itself}
+use Rattle.hir_env.specs.Answering.{in_file, ptr, site_of, label_of, jump_of, expr_or_none, plain_or_none, exprs_of, exprs_or_none, numbered, inside, asked, else_branch, expr_at, expr_kind, expr_step, block_step, stmt_at, stmt_kind, stmt_step}
+use Rattle.hir_env.specs.Answered as tree
 use Rattle.hir_env.specs.Answered.{Label, Jump, Expr, OptionExpr, Exprs, Block, OptionBlock, Stmts, Stmt}
 
 abbrev pub written : Sorts
@@ -35,7 +37,7 @@ module _ (env : Answers) where
   read_expr = fold-Expr readings.ElseBranch readings.ExprKind readings.StmtKind readings.BlockExpr readings.Expr readings.Stmt
       (else_branch env itself) (expr_kind env itself) (stmt_kind env itself) (block_step env itself) (expr_step env itself) (stmt_step env itself)
 
-  unfoldable pub read_stmt : AstStmt → Place → Stmt
+  unfoldable pub read_stmt : AstStmt → Place → StmtReading
   read_stmt = fold-Stmt readings.ElseBranch readings.ExprKind readings.StmtKind readings.BlockExpr readings.Expr readings.Stmt
       (else_branch env itself) (expr_kind env itself) (stmt_kind env itself) (block_step env itself) (expr_step env itself) (stmt_step env itself)
 
@@ -43,7 +45,7 @@ module _ (env : Answers) where
   read_expr_kind = fold-ExprKind readings.ElseBranch readings.ExprKind readings.StmtKind readings.BlockExpr readings.Expr readings.Stmt
       (else_branch env itself) (expr_kind env itself) (stmt_kind env itself) (block_step env itself) (expr_step env itself) (stmt_step env itself)
 
-  unfoldable pub read_stmt_kind : AstStmtKind → Place → Stmt
+  unfoldable pub read_stmt_kind : AstStmtKind → Place → StmtReading
   read_stmt_kind = fold-StmtKind readings.ElseBranch readings.ExprKind readings.StmtKind readings.BlockExpr readings.Expr readings.Stmt
       (else_branch env itself) (expr_kind env itself) (stmt_kind env itself) (block_step env itself) (expr_step env itself) (stmt_step env itself)
 
@@ -68,9 +70,6 @@ answered_plain at b = (read_block at.answers b).plain at.place
 abbrev pub answered_block : Spot → AstBlockExpr → Expr
 answered_block at b = (read_block at.answers b).own at.place
 
-abbrev pub answered_stmt : Spot → AstStmt → Stmt
-answered_stmt at s = read_stmt at.answers s at.place
-
 abbrev pub answered_else : Spot → AstElseBranch → Expr
 answered_else at e = read_else_branch at.answers e at.place
 
@@ -90,9 +89,6 @@ exprs_part at es = exprs_of (read_expr at.answers) es at.place
 abbrev pub args_part : Spot → Option (List AstExpr) → Exprs
 args_part at es = exprs_or_none (read_expr at.answers) es at.place
 
-abbrev pub stmts_part : Spot → List AstStmt → Stmts
-stmts_part at ss = stmts_of (read_stmt at.answers) ss at.place
-
 abbrev pub label_part : Spot → Option AstLabel → Option Label
 label_part at l = option_map (label_of at.answers at.place) l
 
@@ -110,11 +106,26 @@ kept_expr at e = expr_at at.answers (reader at.answers) (out-ExprKind e.kind) at
 abbrev pub asked_expr : Spot → AstExpr → Expr
 asked_expr at e = let s = pointer_at at e.id e.range in asked s (at.answers.cfg (site_of s)) (kept_expr at e)
 
-abbrev pub block_level : Spot → Option Label → AstBlockExpr → Block
-block_level at label b = block_at at.answers (reader at.answers) (out-BlockExpr b) label at.place
-
 abbrev pub stmt_level : Spot → AstStmt → Stmt
-stmt_level at s = stmt_kind at.answers (reader at.answers) (out-StmtKind s.kind) at.place
+stmt_level at s = stmt_at at.answers (reader at.answers) (out-StmtKind s.kind) at.place
+
+-- so far each statement stands for itself alone, and those after it are read where it is
+abbrev pub stmts_part : Spot → List AstStmt → Stmts
+stmts_part at [] = tree.no_stmts
+stmts_part at (s ∷ ss) = tree.more_stmts (stmt_level at s) (stmts_part at ss)
+
+-- the spot inside of a block
+abbrev pub in_block : Spot → NodeId → Spot
+in_block at id = record at { place = inside (numbered at.answers at.place id) at.place }
+
+abbrev pub block_number : Spot → NodeId → Option BlockId
+block_number at id = option_map (λ n. n.0) (numbered at.answers at.place id)
+
+abbrev pub block_level : Spot → Option Label → AstBlockExpr → Block
+block_level at label b =
+    let level = out-BlockExpr b in
+    let within = in_block at level.id in
+    tree.block (pointer_at at level.id level.range) label (block_number at level.id) (stmts_part within level.stmts) (expr_part within level.tail)
 
 abbrev pub else_level : Spot → AstElseBranch → Expr
 else_level at e = else_branch at.answers (reader at.answers) (out-ElseBranch e) at.place

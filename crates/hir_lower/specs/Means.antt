@@ -1,45 +1,76 @@
--- What a lowered body means.
-use Rattle.std.specs.Prelude.{◌≡◌, ◌≤◌, ℕ, Bool, true, false, List, [], ◌∷◌, ◌++◌, Option}
-use Rattle.hir_syntax.specs.declared.node.HirFileId.{HirFileId}
+-- What a lowered constant and a lowered body are, in words of meaning.
+use Rattle.std.specs.Prelude.{◌≡◌, ◌≤◌, ℕ, Bool, true, false, List, [], ◌∷◌, ◌++◌, length, Option, Some, None, IsPermutation}
+use Rattle.hir_syntax.specs.declared.node.AstPtr.{AstPtr}
 use Rattle.hir_syntax.specs.declared.ast.Expr.{Expr as AstExpr}
-use Rattle.hir_store.specs.Stored.{Store, SourceMap, Stored}
-use Rattle.hir_store.specs.Storing.{root_at}
+use Rattle.hir_store.specs.Pointers.{Pointer}
+use Rattle.hir_store.specs.Stored.{Store, SourceMap, Stored, store_of, map_of}
+use Rattle.hir_store.specs.Storing.{Extends, root_at}
 use Rattle.hir_store.specs.declared.ids.ExprId.{ExprId}
 use Rattle.hir_store.specs.declared.roots.ExprRoot.{ExprRoot}
 use Rattle.hir_store.specs.declared.ids.DefWithBodyId.{DefWithBodyId}
-use Rattle.hir_store.specs.declared.ids.ModuleId.{ModuleId}
-use Rattle.hir_env.specs.declared.place.Place.{Place}
-use Rattle.hir_env.specs.declared.place.LoweringMode.TheVariants.{Analysis}
-use Rattle.hir_env.specs.Answers.{Answers}
+use Rattle.hir_store.specs.declared.diagnostics.MissingBodyItemKind.{MissingBodyItemKind}
+use Rattle.hir_store.specs.declared.diagnostics.ExpressionStoreDiagnostics.TheVariants.{MissingBody}
+use Rattle.hir_env.specs.Spot.{Spot}
+use Rattle.hir_env.specs.Answering.{in_file}
 use Rattle.hir_env.specs.Answered as tree
 use Rattle.hir_env.specs.Answered.{OptionExpr}
 use Rattle.hir_env.specs.Whole.{expr_part}
 use Rattle.hir_meaning.specs.Same.{SameMeaning}
-use Rattle.hir_same_meaning.specs.Extends.{Paired}
-use Rattle.hir_one_result.specs.Sizes.{exprs_of_part, labels_of_part}
+use Rattle.hir_same_meaning.specs.Reached.{Spread, reached_to}
+use Rattle.hir_steps.specs.Keeps.{Paired}
+use Rattle.hir_one_result.specs.Blocks.{blocks_of_part}
+use Rattle.hir_one_result.specs.Diagnostics.{Faults, part_diagnostics}
+use Rattle.hir_one_result.specs.Leads.{Way, Led}
+use Rattle.hir_one_result.specs.Stands.{StandsPart}
+use Rattle.hir_lower.specs.Roots.{body_fault, required_body}
 
--- What lowering a root leaves: its expression means the tree, it is the last of the recorded roots, to which all belongs
--- that was stored since the one before, and each expression has its source.
+-- What is so of a root in a later store. Its expression does what the tree does; what is stored stands for the tree, and where the source map
+-- led by then it leads still, or by the ways of the tree; each number that it reaches is reached in one way, and is one that lowering it gave out.
+pub record Lives (old new later : Stored) (i : ExprId) (e : OptionExpr) : Type 0 where
+  pub same : SameMeaning (store_of later) (map_of later) i e
+  pub ways : List Way
+  pub stands : StandsPart (store_of later) (map_of later) [] e i ways
+  pub led : Led (map_of old) (map_of new) ways
+  pub reached_once : (depth : ℕ) → length later.exprs.entries ≤ depth
+      → Spread (length old.exprs.entries) (length new.exprs.entries) (reached_to later.exprs.entries depth i)
+
+-- What lowering a root leaves. It is the last of the recorded roots, to which all belongs that was stored since the one before; behind the faults
+-- and the blocks that were noted before come those of the tree.
 pub record Rooted (old new : Stored) (i : ExprId) (e : OptionExpr) : Type 0 where
-  pub same : SameMeaning new.store new.source_map i e
-  pub roots : new.store.roots ≡ old.store.roots ++ root_at new.store i ∷ []
+  pub lives : (later : Stored) → Extends new later → Lives old new later i e
+  pub roots : new.roots ≡ old.roots ++ root_at new.exprs.entries i ∷ []
+  pub found : Faults
+  pub faults : new.diagnostics ≡ old.diagnostics ++ found
+  pub permuted : IsPermutation (part_diagnostics [] e) found
+  pub blocks : new.block_scopes ≡ old.block_scopes ++ blocks_of_part e
   pub paired : Paired new
 
--- the one recorded root does what the written body does
+-- the one recorded root does what the written body does, and reaches each expression in one way only
 pub record HasBody (store : Store) (source_map : SourceMap) (e : OptionExpr) : Type 0 where
   pub root : ExprRoot
   pub only : store.roots ≡ root ∷ []
   pub same : SameMeaning store source_map root.root e
+  pub reached_once : (depth : ℕ) → length store.exprs ≤ depth → Spread 0 (length store.exprs) (reached_to store.exprs depth root.root)
+
+-- ---- bodies of items
 
 abbrev pub unless_skipped : Bool → OptionExpr → OptionExpr
 unless_skipped true e = tree.no_expr
 unless_skipped false e = e
 
--- so many expressions and labels fit below the limit
-pub record FitsBelow (limit : ℕ) (e : OptionExpr) : Type 0 where
-  pub exprs : exprs_of_part e ≤ limit
-  pub labels : labels_of_part e ≤ limit
+-- the body that an item has: of a skipped item it is absent
+abbrev pub body_read : Spot → DefWithBodyId → Option AstExpr → OptionExpr
+body_read at owner body = unless_skipped (at.answers.skip owner) (expr_part at body)
 
--- the body that an item has, with the answers written into it: of a skipped item it is absent
-abbrev pub body_read : Answers → DefWithBodyId → HirFileId → ModuleId → Option AstExpr → OptionExpr
-body_read env owner file inside body = unless_skipped (env.skip owner) (expr_part env (record { file_id = file; module_id = inside; mode = Analysis }) body)
+-- a body that is missing where it must be there, and isn't skipped
+abbrev pub missing_fault : Pointer → Option MissingBodyItemKind → Faults
+missing_fault node None = []
+missing_fault node (Some k) = MissingBody node k ∷ []
+
+abbrev pub owed_faults : Bool → Pointer → Option MissingBodyItemKind → OptionExpr → Faults
+owed_faults true node k e = []
+owed_faults false node k e = missing_fault node (body_fault k e)
+
+abbrev pub body_owes : Spot → DefWithBodyId → AstPtr → Option AstExpr → Faults
+body_owes at owner node body =
+    owed_faults (at.answers.skip owner) (in_file at.place node) (required_body owner (at.answers.container owner)) (expr_part at body)

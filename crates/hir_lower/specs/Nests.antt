@@ -4,7 +4,7 @@ use Rattle.std.specs.declared.alloc.Global.{Global}
 use denote.Ref.{Bor, MutBor}
 use Rattle.hir_syntax.specs.declared.ast.Expr.{Expr as AstExpr}
 use Rattle.hir_syntax.specs.declared.ast.BlockExpr.{BlockExpr as AstBlockExpr}
-use Rattle.hir_store.specs.Stored.{Store}
+use Rattle.hir_store.specs.Stored.{Stored}
 use Rattle.hir_store.specs.Range.{HasExpr, HasExprOption, HasLabelOption}
 use Rattle.hir_store.specs.declared.ids.ExprId.{ExprId}
 use Rattle.hir_store.specs.declared.ids.LabelId.{LabelId}
@@ -13,27 +13,38 @@ use Rattle.hir_env.specs.Answers.{Answers}
 use Rattle.hir_env.specs.Whole.{answered, answered_plain}
 use Rattle.hir_lower_form.specs.Builder.{Builder}
 use Rattle.hir_lower_form.specs.Lowering.{Lowering, Checked, Lowers}
-use Rattle.hir_lower_form.specs.Lower.{lower, kept_expr, lower_inside}
+use Rattle.hir_lower_form.specs.Lower.{kept_expr, lower_inside}
+use Rattle.hir_lower.specs.Roots.{spot_at}
+
+-- what such a function requires and ensures, over an environment
+abbrev pub Pre : Type 0 → Type 1
+Pre E = Global → Bor E → Place → MutBor Builder → Bor AstExpr → Type 0
+
+abbrev pub Post : Type 0 → Type 0 → Type 1
+Post E A = Global → Bor E → Place → MutBor Builder → Bor AstExpr → Checked A → MutBor Builder → Type 0
+
+abbrev pub BlockPre : Type 0 → Type 1
+BlockPre E = Global → Bor E → Place → MutBor Builder → Option LabelId → Bor AstBlockExpr → Type 0
+
+abbrev pub BlockPost : Type 0 → Type 1
+BlockPost E = Global → Bor E → Place → MutBor Builder → Option LabelId → Bor AstBlockExpr → Checked ExprId → MutBor Builder → Type 0
 
 -- the function may be called on the expression, and then does what `node` says
-pub record Handles {E A : Type 0} (Has : Store → A → Type 0) (node : E → Place → AstExpr → Lowering A)
-    (pre : Global → Bor E → Place → MutBor Builder → Bor AstExpr → Type 0)
-    (post : Global → Bor E → Place → MutBor Builder → Bor AstExpr → Checked A → MutBor Builder → Type 0) (env : E) (p : Place) (e : AstExpr) : Type 0 where
-  pub callable : (alloc : Global) (v : Bor E) (old : MutBor Builder) (b : Bor AstExpr) → v.now ≡ env → b.now ≡ e → pre alloc v p old b
-  pub lowers : (alloc : Global) (v : Bor E) (old new : MutBor Builder) (b : Bor AstExpr) (r : Checked A) → v.now ≡ env → b.now ≡ e → post alloc v p old b r new
-      → Lowers Has (node env p e) old.now r new.now
+pub record Handles {E A : Type 0} (Has : Stored → A → Type 0) (node : Lowering A)
+    (pre : Pre E) (post : Post E A) (env : E) (p : Place) (e : AstExpr) : Type 0 where
+  pub callable : (alloc : Global) (v : Bor E) (old : MutBor Builder) (b : Bor AstExpr)
+      → v.now ≡ env → b.now ≡ e → pre alloc v p old b
+  pub lowers : (alloc : Global) (v : Bor E) (old new : MutBor Builder) (b : Bor AstExpr) (r : Checked A)
+      → v.now ≡ env → b.now ≡ e → post alloc v p old b r new → Lowers Has node old.now r new.now
 
 pub record HandlesBlock {E : Type 0} (answers : E → Answers)
-    (pre : Global → Bor E → Place → MutBor Builder → Option LabelId → Bor AstBlockExpr → Type 0)
-    (post : Global → Bor E → Place → MutBor Builder → Option LabelId → Bor AstBlockExpr → Checked ExprId → MutBor Builder → Type 0) (env : E) (p : Place) (b : AstBlockExpr) : Type 0 where
-  pub callable : (alloc : Global) (v : Bor E) (old : MutBor Builder) (label : Option LabelId) (n : Bor AstBlockExpr) → v.now ≡ env → n.now ≡ b
-      → HasLabelOption old.now.stored.store label → pre alloc v p old label n
-  pub lowers : (alloc : Global) (v : Bor E) (old new : MutBor Builder) (label : Option LabelId) (n : Bor AstBlockExpr) (r : Checked ExprId) → v.now ≡ env → n.now ≡ b
-      → post alloc v p old label n r new → Lowers HasExpr (lower_inside label (answered_plain (answers env) p b)) old.now r new.now
+    (pre : BlockPre E) (post : BlockPost E) (env : E) (p : Place) (b : AstBlockExpr) : Type 0 where
+  pub callable : (alloc : Global) (v : Bor E) (old : MutBor Builder) (label : Option LabelId) (n : Bor AstBlockExpr)
+      → v.now ≡ env → n.now ≡ b → HasLabelOption old.now.stored label → pre alloc v p old label n
+  pub lowers : (alloc : Global) (v : Bor E) (old new : MutBor Builder) (label : Option LabelId) (n : Bor AstBlockExpr) (r : Checked ExprId)
+      → v.now ≡ env → n.now ≡ b → post alloc v p old label n r new
+      → Lowers HasExpr (lower_inside label (answered_plain (spot_at (answers env) p) b)) old.now r new.now
 
 module _ {E : Type 0} (answers : E → Answers) where
-  abbrev pub HandlesExpr : (Global → Bor E → Place → MutBor Builder → Bor AstExpr → Type 0) → (Global → Bor E → Place → MutBor Builder → Bor AstExpr → Checked ExprId → MutBor Builder → Type 0) → E → Place → AstExpr → Type 0
-  HandlesExpr = Handles HasExpr (λ env p e. lower (answered (answers env) p e))
-
-  abbrev pub HandlesKept : (Global → Bor E → Place → MutBor Builder → Bor AstExpr → Type 0) → (Global → Bor E → Place → MutBor Builder → Bor AstExpr → Checked (Option ExprId) → MutBor Builder → Type 0) → E → Place → AstExpr → Type 0
-  HandlesKept = Handles HasExprOption (λ env p e. kept_expr (answered (answers env) p e))
+  abbrev pub HandlesExpr : Pre E → Post E (Option ExprId) → E → Place → AstExpr → Type 0
+  HandlesExpr pre post env p e = Handles HasExprOption (kept_expr (answered (spot_at (answers env) p) e)) pre post env p e

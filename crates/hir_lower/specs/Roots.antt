@@ -1,11 +1,11 @@
 -- What the entry functions make of a tree.
-use Rattle.std.specs.Prelude.{◌≡◌, ℕ, Bool, true, false, [], Option, Some, None, Ok}
-use Rattle.hir_store.specs.Stored.{Store, SourceMap}
-use Rattle.hir_store.specs.Storing.{empty}
+use Rattle.std.specs.Prelude.{◌≡◌, ℕ, Bool, true, false, [], Option, Some, None, Ok, Err}
+use Rattle.hir_store.specs.Stored.{Store, SourceMap, store_of, map_of}
+use Rattle.hir_store.specs.Storing.{SomeAtLimit, empty}
+use Rattle.hir_store.specs.declared.fault.StoreFault.TheVariants.{Full}
 use Rattle.hir_lower.specs.declared.collector.ConstRef.{ConstRef}
 use Rattle.hir_lower_form.specs.Builder.{Builder}
 use Rattle.hir_store.specs.Pointers.{Pointer}
-use Rattle.hir_store.specs.declared.ids.ExprId.{ExprId}
 use Rattle.hir_store.specs.declared.ids.DefWithBodyId.{DefWithBodyId}
 use Rattle.hir_store.specs.declared.ids.DefWithBodyId.TheVariants as owner
 use Rattle.hir_store.specs.declared.ids.ItemContainerId.{ItemContainerId}
@@ -20,12 +20,13 @@ use Rattle.hir_store.specs.declared.ids.ModuleId.{ModuleId}
 use Rattle.hir_env.specs.declared.place.Place.{Place}
 use Rattle.hir_env.specs.declared.place.LoweringMode.TheVariants.{Analysis}
 use Rattle.hir_env.specs.Answers.{Answers}
+use Rattle.hir_env.specs.Spot.{Spot}
 use Rattle.hir_env.specs.Answering.{in_file}
 use Rattle.hir_env.specs.Whole.{expr_part}
 use Rattle.hir_env.specs.Answered as tree
 use Rattle.hir_env.specs.Answered.{OptionExpr}
 use Rattle.hir_lower_form.specs.Lowering.{Lowering, ◌>>=◌, ◌>>◌, pure, close_labels, report, record_root}
-use Rattle.hir_lower_form.specs.Lower.{Node, missing, lower_part}
+use Rattle.hir_lower_form.specs.Lower.{Node, lower_part}
 
 -- the expression as a root, in which no label around it is open
 unfoldable pub root_of : OptionExpr → Node
@@ -70,12 +71,27 @@ fresh limit = record { stored = empty limit; scopes = [] }
 pub record Stores {A : Type 0} (p : Lowering A) (limit : ℕ) (store : Store) (source_map : SourceMap) : Type 0 where
   pub answer : A
   pub builder : Builder
-  pub done : p (fresh limit) ≡ Ok (answer, builder)
-  pub store_is : store ≡ builder.stored.store
-  pub source_map_is : source_map ≡ builder.stored.source_map
+  pub done : p (fresh limit) ≡ (Ok answer, builder)
+  pub store_is : store ≡ store_of builder.stored
+  pub source_map_is : source_map ≡ map_of builder.stored
 
--- the body of an item, read in a file and a module
-abbrev pub lowered_body : Answers → DefWithBodyId → AstPtr → HirFileId → ModuleId → Option AstExpr → Node
-lowered_body env owner node file inside body =
-    let p : Place = record { file_id = file; module_id = inside; mode = Analysis } in
-    body_of (env.skip owner) (in_file p node) (required_body owner (env.container owner)) (expr_part env p body)
+-- the steps find no room in an arena of this limit, which they have filled by then
+pub record RefusedAtLimit {A : Type 0} (p : Lowering A) (limit : ℕ) : Type 0 where
+  pub builder : Builder
+  pub refused : p (fresh limit) ≡ (Err Full, builder)
+  pub at_limit : SomeAtLimit builder.stored
+
+-- ---- read at a place
+
+abbrev pub spot_at : Answers → Place → Spot
+spot_at env p = record { answers = env; place = p }
+
+-- the body of an item
+abbrev pub item_of : Spot → DefWithBodyId → AstPtr → Option AstExpr → Node
+item_of at owner node body =
+    let required = required_body owner (at.answers.container owner) in
+    body_of (at.answers.skip owner) (in_file at.place node) required (expr_part at body)
+
+-- where the body of an item is read
+abbrev pub body_spot : Answers → HirFileId → ModuleId → Spot
+body_spot env file inside = spot_at env (record { file_id = file; module_id = inside; mode = Analysis })

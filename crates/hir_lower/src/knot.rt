@@ -1,39 +1,39 @@
 //! The functions that lower a node call each other through the forms: each hands the others to the forms by name.
 
 ghost use Rattle.std.specs.Prelude.{◌≡◌, option_map};
-ghost use Rattle.hir_store.specs.Range.{HasExpr, HasExprOption, HasLabelOption};
+ghost use Rattle.hir_store.specs.Range.{HasLabelOption};
 ghost use Rattle.hir_env.specs.Answering.{inside as place_inside, numbered as number_at};
 ghost use Rattle.hir_env.specs.Whole.{answered, answered_plain};
-ghost use Rattle.hir_lower_form.specs.Lowering.{Lowers};
-ghost use Rattle.hir_lower_form.specs.Lower as spec;
-ghost use Rattle.hir_lower.specs.Nests.{HandlesExpr, HandlesKept, HandlesBlock};
+ghost use Rattle.hir_lower_form.specs.Outcomes.{LowersExpr, LowersInside, MaybeLowersExpr};
+ghost use Rattle.hir_lower.specs.Nests.{HandlesBlock, HandlesExpr};
+ghost use Rattle.hir_lower.specs.Roots.{spot_at};
 
 use hir_env::env::LowerEnv;
 use hir_env::place::{LoweringMode, Place};
 use hir_lower_form::builder::BodyBuilder;
 use hir_lower_form::parts::{LowerParts, Lowerer};
+use hir_lower_scope::labels::{LabelScopes, NoTarget};
 use hir_store::fault::StoreFault;
 use hir_store::ids::{BlockId, CfgId, ExprId, HygieneId, LabelId, ModuleId};
+use hir_store::name::Name;
 use hir_syntax::ast;
 use hir_syntax::node::{InFile, NodeId};
 use std::alloc::Global;
 
 /// The functions that lower the parts of a form, at one place.
-#[derive_where(Clone, Copy; F, K, B)]
-pub struct Handlers<'e, E, F, K, B> {
+#[derive_where(Clone, Copy; F, B)]
+pub struct Handlers<'e, E, F, B> {
     alloc: Global,
     env: &'e E,
     place: Place,
     expr: F,
-    kept: K,
     block: B,
 }
 
 impl<
     'e,
     E: LowerEnv,
-    F: Fn(Global, &E, Place, &mut BodyBuilder, &ast::Expr) -> Result<ExprId, StoreFault>,
-    K: Fn(Global, &E, Place, &mut BodyBuilder, &ast::Expr) -> Result<Option<ExprId>, StoreFault>,
+    F: Fn(Global, &E, Place, &mut BodyBuilder, &ast::Expr) -> Result<Option<ExprId>, StoreFault>,
     B: Fn(
         Global,
         &E,
@@ -42,15 +42,13 @@ impl<
         Option<LabelId>,
         &ast::BlockExpr,
     ) -> Result<ExprId, StoreFault>,
-> LowerParts for Handlers<'e, E, F, K, B> {
+> LowerParts for Handlers<'e, E, F, B> {
     ghost can = { λ it. record {
-      expr = λ e. HandlesExpr E.answers (F.pre it.expr) (F.post it.expr) it.env.now it.place e × HandlesKept E.answers (K.pre it.kept) (K.post it.kept) it.env.now it.place e;
+      expr = HandlesExpr E.answers (F.pre it.expr) (F.post it.expr) it.env.now it.place;
       block = HandlesBlock E.answers (B.pre it.block) (B.post it.block) it.env.now it.place;
     } };
 
-    ghost answers = { λ it. E.answers it.env.now };
-
-    ghost place = { λ it. it.place };
+    ghost spot = { λ it. spot_at (E.answers it.env.now) it.place };
 
     fn place(&self) -> Place {
         self.place
@@ -64,19 +62,24 @@ impl<
         self.env.hygiene(node)
     }
 
-    fn expr(&self, state: &mut BodyBuilder, node: &ast::Expr) -> Result<ExprId, StoreFault> {
-        (self.expr)(self.alloc, self.env, self.place, state, node)
+    fn find_label(
+        &self,
+        scopes: &LabelScopes,
+        name: &Name,
+        hygiene: HygieneId,
+    ) -> Result<LabelId, NoTarget> {
+        scopes.find(self.env, name, hygiene)
     }
 
-    fn kept(
+    fn maybe_collect_expr(
         &self,
         state: &mut BodyBuilder,
         node: &ast::Expr,
     ) -> Result<Option<ExprId>, StoreFault> {
-        (self.kept)(self.alloc, self.env, self.place, state, node)
+        (self.expr)(self.alloc, self.env, self.place, state, node)
     }
 
-    fn block(
+    fn collect_block_inside(
         &self,
         state: &mut BodyBuilder,
         label: Option<LabelId>,
@@ -121,41 +124,16 @@ pub fn block_number(number: Option<(BlockId, ModuleId)>) -> Option<BlockId>
     }
 }
 
-/// The expression, missing where a condition disables it.
-#[cycle(lower)]
-pub fn lower_expr<E: LowerEnv>(
-    alloc: Global,
-    env: &E,
-    place: Place,
-    state: &mut BodyBuilder,
-    node: &ast::Expr,
-) -> Result<ExprId, StoreFault>
-    ensures { Lowers HasExpr (spec.lower (answered (E.answers env.now) place node.now)) state.old result state.new }
-{
-    Lowerer {
-        alloc,
-        parts: Handlers {
-            alloc,
-            env,
-            place,
-            expr: lower_expr::<E>,
-            kept: lower_kept::<E>,
-            block: lower_block::<E>,
-        },
-    }
-    .expr_node(state, node)
-}
-
 /// The expression, none where a condition disables it.
 #[cycle(lower)]
-pub fn lower_kept<E: LowerEnv>(
+pub fn maybe_collect_expr<E: LowerEnv>(
     alloc: Global,
     env: &E,
     place: Place,
     state: &mut BodyBuilder,
     node: &ast::Expr,
 ) -> Result<Option<ExprId>, StoreFault>
-    ensures { Lowers HasExprOption (spec.kept_expr (answered (E.answers env.now) place node.now)) state.old result state.new }
+    ensures { MaybeLowersExpr (answered (spot_at (E.answers env.now) place) node.now) state.old result state.new }
 {
     Lowerer {
         alloc,
@@ -163,17 +141,16 @@ pub fn lower_kept<E: LowerEnv>(
             alloc,
             env,
             place,
-            expr: lower_expr::<E>,
-            kept: lower_kept::<E>,
-            block: lower_block::<E>,
+            expr: maybe_collect_expr::<E>,
+            block: collect_block_inside::<E>,
         },
     }
-    .kept_node(state, node)
+    .expr_node(state, node)
 }
 
 /// The block, inside the label of this number.
 #[cycle(lower)]
-pub fn lower_block<E: LowerEnv>(
+pub fn collect_block_inside<E: LowerEnv>(
     alloc: Global,
     env: &E,
     place: Place,
@@ -181,8 +158,8 @@ pub fn lower_block<E: LowerEnv>(
     label: Option<LabelId>,
     node: &ast::BlockExpr,
 ) -> Result<ExprId, StoreFault>
-    requires { HasLabelOption state.old.stored.store label }
-    ensures { Lowers HasExpr (spec.lower_inside label (answered_plain (E.answers env.now) place node.now)) state.old result state.new }
+    requires { HasLabelOption state.old.stored label }
+    ensures { LowersInside label (answered_plain (spot_at (E.answers env.now) place) node.now) state.old result state.new }
 {
     let found = number(env, place, node.id);
     let inner = inside(place, found);
@@ -193,10 +170,26 @@ pub fn lower_block<E: LowerEnv>(
             alloc,
             env,
             place: inner,
-            expr: lower_expr::<E>,
-            kept: lower_kept::<E>,
-            block: lower_block::<E>,
+            expr: maybe_collect_expr::<E>,
+            block: collect_block_inside::<E>,
         },
     }
     .block_node(state, label, block, node)
+}
+
+/// The expression, missing where a condition disables it.
+#[tactic(auto, using(hir_lower_form::proofs::Kept::lower_on))]
+pub fn collect_expr<E: LowerEnv>(
+    alloc: Global,
+    env: &E,
+    place: Place,
+    state: &mut BodyBuilder,
+    node: &ast::Expr,
+) -> Result<ExprId, StoreFault>
+    ensures { LowersExpr (answered (spot_at (E.answers env.now) place) node.now) state.old result state.new }
+{
+    match maybe_collect_expr(alloc, env, place, state, node)? {
+        Some(id) => Ok(id),
+        None => state.missing_expr(),
+    }
 }

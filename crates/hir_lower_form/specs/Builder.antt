@@ -1,18 +1,21 @@
 -- What lowering works on.
 use Rattle.std.specs.Prelude.{ℕ, suc, ◌≤◌, max, List, [], ◌∷◌, length}
 use Rattle.hir_store.specs.Stored.{Stored}
-use Rattle.hir_lower_scope.specs.declared.labels.LabelRib.{LabelRib}
+use Rattle.hir_store.specs.declared.ids.LabelId.{LabelId}
+use Rattle.hir_scope.specs.Ribs.{Rib, label_rib, macro_rib, barrier_rib}
 
--- what is stored, and the labels that are open, innermost first
+-- what is stored, and what is open, innermost first
 pub record Builder : Type 0 where
   pub stored : Stored
-  pub scopes : List LabelRib
+  pub scopes : List (Rib LabelId)
 
 -- the least number above those of the labels
-abbrev pub past_ribs : List LabelRib → ℕ
+abbrev pub past_ribs : List (Rib LabelId) → ℕ
 past_ribs [] = 0
-past_ribs (r ∷ rs) = max (suc r.label.0) (past_ribs rs)
+past_ribs (label_rib name hygiene label ∷ rs) = max (suc label.0) (past_ribs rs)
+past_ribs (macro_rib d ∷ rs) = past_ribs rs
+past_ribs (barrier_rib ∷ rs) = past_ribs rs
 
 -- each open label exists
 abbrev pub RibsExist : Builder → Type 0
-RibsExist b = past_ribs b.scopes ≤ length b.stored.store.labels
+RibsExist b = past_ribs b.scopes ≤ length b.stored.labels.entries

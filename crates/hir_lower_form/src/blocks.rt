@@ -3,12 +3,12 @@
 ghost use Rattle.std.specs.Prelude.{◌≡◌, ◌-◌, [], length, slice_get};
 ghost use Rattle.hir_syntax.specs.declared.ast.BlockExpr.{out-BlockExpr};
 ghost use Rattle.hir_syntax.specs.declared.ast.StmtKind.{out-StmtKind};
-ghost use Rattle.hir_store.specs.Range.{HasExpr, HasLabelOption, HasStatementOption, HasStatements};
-ghost use Rattle.hir_env.specs.Answering.{in_file, ptr};
-ghost use Rattle.hir_env.specs.Whole.{answered_block, answered_plain, answered_stmt, expr_part, label_part, stmt_level, stmts_part};
+ghost use Rattle.hir_store.specs.Range.{HasExpr, HasLabelOption};
+ghost use Rattle.hir_env.specs.Whole.{answered_block, answered_plain, expr_part, label_part, stmt_level, stmts_part};
 ghost use Rattle.hir_lower_form.specs.Lowering.{Lowers};
 ghost use Rattle.hir_lower_form.specs.Lower as spec;
 ghost use Rattle.hir_lower_form.specs.Nests.{Each, KidsBlock, KidsStmt};
+ghost use Rattle.hir_lower_form.specs.Outcomes.{HasContents, LowersExpr, LowersStmt, LowersStmts, block_at, contents_at, flat};
 
 use crate::builder::BodyBuilder;
 use crate::parts::{LowerParts, Lowerer};
@@ -23,7 +23,12 @@ fn value_at_end(statements: &[Statement]) -> Option<ExprId>
     ensures { result ≡ spec.value_of (slice_get statements.now (length statements.now - 1)) }
 {
     match statements.last() {
-        Some(Statement::Expr(id, false)) => Some(*id),
+        Some(
+            Statement::Expr {
+                expr,
+                has_semi: false,
+            },
+        ) => Some(*expr),
         _ => None,
     }
 }
@@ -46,45 +51,40 @@ fn settle(statements: &mut Seq<Statement>, tail: Option<ExprId>) -> Option<ExprI
 }
 
 impl<P: LowerParts> Lowerer<P> {
-    fn stmt_node(
+    /// What a statement leaves, where it leaves something.
+    fn collect_stmt(
         &self,
         state: &mut BodyBuilder,
         node: &ast::Stmt,
     ) -> Result<Option<Statement>, StoreFault>
         requires { KidsStmt (P.can self.now.parts) (out-StmtKind node.now.kind) }
-        ensures { Lowers HasStatementOption (spec.lower_stmt (stmt_level (P.answers self.now.parts) (P.place self.now.parts) node.now)) state.old result state.new }
+        ensures { LowersStmt (stmt_level (P.spot self.now.parts) node.now) state.old result state.new }
     {
         match &node.kind {
-            ast::StmtKind::ExprStmt { expr, semi } => match self.expr_if_kept(state, expr)? {
-                None => Ok(None),
-                Some(id) => Ok(Some(Statement::Expr(id, *semi))),
-            },
+            ast::StmtKind::ExprStmt { expr, semi } => {
+                match self.maybe_collect_expr_opt(state, expr)? {
+                    None => Ok(None),
+                    Some(expr) => Ok(Some(Statement::Expr {
+                        expr,
+                        has_semi: *semi,
+                    })),
+                }
+            }
             ast::StmtKind::Item => Ok(Some(Statement::Item)),
         }
     }
 
-    fn statement(
-        &self,
-        state: &mut BodyBuilder,
-        node: &ast::Stmt,
-    ) -> Result<Option<Statement>, StoreFault>
-        requires { KidsStmt (P.can self.now.parts) (out-StmtKind node.now.kind) }
-        ensures { Lowers HasStatementOption (spec.lower_stmt (answered_stmt (P.answers self.now.parts) (P.place self.now.parts) node.now)) state.old result state.new }
-    {
-        self.stmt_node(state, node)
-    }
-
-    fn statements(
+    fn collect_stmts(
         &self,
         state: &mut BodyBuilder,
         mut all: &[ast::Stmt],
     ) -> Result<Seq<Statement>, StoreFault>
         requires { Each (λ s. KidsStmt (P.can self.now.parts) (out-StmtKind s.kind)) all.now }
-        ensures { Lowers HasStatements (spec.lower_stmts [] (stmts_part (P.answers self.now.parts) (P.place self.now.parts) all.entry.now)) state.old result state.new }
+        ensures { LowersStmts (stmts_part (P.spot self.now.parts) all.entry.now) state.old result state.new }
     {
         let mut done = Seq::new(self.alloc);
         while let [one, rest @ ..] = all {
-            if let Some(statement) = self.statement(state, one)? {
+            if let Some(statement) = self.collect_stmt(state, one)? {
                 push_statement(&mut done, statement)?;
             }
             all = rest;
@@ -92,7 +92,36 @@ impl<P: LowerParts> Lowerer<P> {
         Ok(done)
     }
 
-    /// The statements and the tail of a block that is read here, inside the label of this number.
+    /// The statements, and then the tail.
+    fn flat_contents(
+        &self,
+        state: &mut BodyBuilder,
+        node: &ast::BlockExpr,
+    ) -> Result<(Seq<Statement>, Option<ExprId>), StoreFault>
+        requires { KidsBlock (P.can self.now.parts) (out-BlockExpr node.now) }
+        ensures { let block = out-BlockExpr node.now in
+            let spot = P.spot self.now.parts in
+            let tail = spec.kept_part (expr_part spot block.tail) in
+            Lowers HasContents (flat [] (stmts_part spot block.stmts) tail) state.old result state.new }
+    {
+        let statements = self.collect_stmts(state, node.stmts.as_slice())?;
+        let tail = self.maybe_collect_expr_opt(state, &node.tail)?;
+        Ok((statements, tail))
+    }
+
+    /// What is in a block that is read here.
+    fn contents(
+        &self,
+        state: &mut BodyBuilder,
+        node: &ast::BlockExpr,
+    ) -> Result<(Seq<Statement>, Option<ExprId>), StoreFault>
+        requires { KidsBlock (P.can self.now.parts) (out-BlockExpr node.now) }
+        ensures { Lowers HasContents (contents_at (P.spot self.now.parts) node.now) state.old result state.new }
+    {
+        self.flat_contents(state, node)
+    }
+
+    /// A block that is read here, inside the label of this number.
     #[tactic(auto, unfolding(crate::specs::Lower::block_form))]
     pub fn block_node(
         &self,
@@ -102,15 +131,19 @@ impl<P: LowerParts> Lowerer<P> {
         node: &ast::BlockExpr,
     ) -> Result<ExprId, StoreFault>
         requires parts { KidsBlock (P.can self.now.parts) (out-BlockExpr node.now) }
-        requires label { HasLabelOption state.old.stored.store label }
-        ensures { Lowers HasExpr (spec.block_form (in_file (P.place self.now.parts) (ptr (out-BlockExpr node.now).id (out-BlockExpr node.now).range)) label number (spec.lower_stmts [] (stmts_part (P.answers self.now.parts) (P.place self.now.parts) (out-BlockExpr node.now).stmts)) (spec.kept_part (expr_part (P.answers self.now.parts) (P.place self.now.parts) (out-BlockExpr node.now).tail))) state.old result state.new }
+        requires label { HasLabelOption state.old.stored label }
+        ensures { Lowers HasExpr (block_at (P.spot self.now.parts) label number node.now) state.old result state.new }
     {
         state.enter_block(number)?;
-        let mut statements = self.statements(state, node.stmts.as_slice())?;
-        let tail = self.expr_if_kept(state, &node.tail)?;
+        let (mut statements, tail) = self.contents(state, node)?;
         let tail = settle(&mut statements, tail);
-        let at = self.pointer(node.id, node.range);
-        state.alloc_expr(Expr::Block(label, number, statements, tail), Some(at))
+        let expr = Expr::Block {
+            label,
+            id: number,
+            statements,
+            tail,
+        };
+        state.alloc_expr(expr, Some(self.pointer(node.id, node.range)))
     }
 
     #[tactic(auto, unfolding(crate::specs::Lower::labelled))]
@@ -121,14 +154,16 @@ impl<P: LowerParts> Lowerer<P> {
         node: &ast::BlockExpr,
     ) -> Result<ExprId, StoreFault>
         requires { (P.can self.now.parts).block node.now }
-        ensures { Lowers HasExpr (spec.labelled (label_part (P.answers self.now.parts) (P.place self.now.parts) label.now) (λ id. spec.lower_inside id (answered_plain (P.answers self.now.parts) (P.place self.now.parts) node.now))) state.old result state.new }
+        ensures { let block = answered_plain (P.spot self.now.parts) node.now in
+            let label = label_part (P.spot self.now.parts) label.now in
+            Lowers HasExpr (spec.labelled label (λ id. spec.lower_inside id block)) state.old result state.new }
     {
         let Some(label) = label else {
-            return self.parts.block(state, None, node);
+            return self.parts.collect_block_inside(state, None, node);
         };
         let label = self.open_label(state, label)?;
-        let id = self.parts.block(state, Some(label), node)?;
-        state.close_label();
+        let id = self.parts.collect_block_inside(state, Some(label), node)?;
+        state.close();
         Ok(id)
     }
 
@@ -139,7 +174,7 @@ impl<P: LowerParts> Lowerer<P> {
         node: &ast::BlockExpr,
     ) -> Result<ExprId, StoreFault>
         requires { (P.can self.now.parts).block node.now }
-        ensures { Lowers HasExpr (spec.lower_block (answered_block (P.answers self.now.parts) (P.place self.now.parts) node.now)) state.old result state.new }
+        ensures { LowersExpr (answered_block (P.spot self.now.parts) node.now) state.old result state.new }
     {
         self.labelled_block(state, &node.label, node)
     }

@@ -3,10 +3,13 @@
 ghost use Rattle.std.specs.Prelude.{◌≡◌, [], Ok, Some};
 ghost use Rattle.hir_store.specs.Range.{HasExpr, HasLabel, HasLabelOption, HasNone, HasParts};
 ghost use Rattle.hir_store.specs.Storing.{empty};
+ghost use Rattle.hir_env.specs.Answering.{jump};
 ghost use Rattle.hir_lower_form.specs.Lowering as spec;
 ghost use Rattle.hir_lower_form.specs.Lowering.{Lowers};
+ghost use Rattle.hir_lower_form.specs.Lower.{missing};
 
-use hir_lower_scope::labels::{LabelRib, LabelScopes};
+use crate::parts::LowerParts;
+use hir_lower_scope::labels::{LabelScopes, NoTarget};
 use hir_store::builder::ExpressionStoreBuilder;
 use hir_store::diagnostics::ExpressionStoreDiagnostics;
 use hir_store::fault::StoreFault;
@@ -21,10 +24,18 @@ use std::marker::Model;
 ///
 /// Each call answers `Full` exactly where the arena that it adds to has reached its limit, and `Memory` where a growth
 /// was refused.
-#[derive(Drop)]
 pub struct BodyBuilder {
     store: ExpressionStoreBuilder,
     scopes: LabelScopes,
+}
+
+impl Drop for BodyBuilder {
+    fn drop(self) {
+        let BodyBuilder {
+            store: _,
+            scopes: _,
+        } = self;
+    }
 }
 
 impl Model for BodyBuilder {
@@ -55,16 +66,24 @@ impl BodyBuilder {
         expr: Expr,
         source: Option<InFile<AstPtr>>,
     ) -> Result<ExprId, StoreFault>
-        requires { HasParts self.old.stored.store expr }
+        requires { HasParts self.old.stored expr }
         ensures { Lowers HasExpr (spec.alloc_expr expr source) self.old result self.new }
     {
         self.store.alloc_expr(expr, source)
     }
 
+    /// Stores an expression that is not there, which comes from no node.
+    #[tactic(auto, unfolding(crate::specs::Lower::missing))]
+    pub fn missing_expr(&mut self) -> Result<ExprId, StoreFault>
+        ensures { Lowers HasExpr missing self.old result self.new }
+    {
+        self.alloc_expr(Expr::Missing, None)
+    }
+
     /// Lets a further node lead to an expression.
     #[tactic(auto, unfolding(crate::specs::Lowering::point))]
     pub fn point(&mut self, node: InFile<AstPtr>, id: ExprId) -> Result<(), StoreFault>
-        requires { HasExpr self.old.stored.store id }
+        requires { HasExpr self.old.stored id }
         ensures { Lowers HasNone (spec.point node id) self.old result self.new }
     {
         self.store.point(node, id)
@@ -91,7 +110,7 @@ impl BodyBuilder {
     /// Records a root, to which all belongs that no root before it has.
     #[tactic(auto, unfolding(crate::specs::Lowering::record_root))]
     pub fn record_root(&mut self, root: ExprId) -> Result<(), StoreFault>
-        requires { HasExpr self.old.stored.store root }
+        requires { HasExpr self.old.stored root }
         ensures { Lowers HasNone (spec.record_root root) self.old result self.new }
     {
         self.store.record_root(root)
@@ -105,22 +124,19 @@ impl BodyBuilder {
         hygiene: HygieneId,
         source: InFile<AstPtr>,
     ) -> Result<LabelId, StoreFault>
-        ensures { Lowers HasLabel (spec.open_label (record { pointer = source; name = name; hygiene = hygiene })) self.old result self.new }
+        ensures { Lowers HasLabel (spec.open_label
+            (record { pointer = source; name = name; hygiene = hygiene })) self.old result self.new }
     {
         let copy = name.clone()?;
-        let label = self.store.alloc_label(Label { name }, source)?;
-        self.scopes.enter(LabelRib {
-            name: copy,
-            hygiene,
-            label,
-        })?;
+        let label = self.store.alloc_label(Label { name }, Some(source))?;
+        self.scopes.enter_label(copy, hygiene, label)?;
         Ok(label)
     }
 
-    /// Closes the innermost label.
-    #[tactic(auto, unfolding(crate::specs::Lowering::close_label))]
-    pub fn close_label(&mut self)
-        ensures { Lowers HasNone spec.close_label self.old (Ok tt) self.new }
+    /// Closes what was opened last.
+    #[tactic(auto, unfolding(crate::specs::Lowering::close))]
+    pub fn close(&mut self)
+        ensures { Lowers HasNone spec.close self.old (Ok tt) self.new }
     {
         self.scopes.leave();
     }
@@ -133,20 +149,26 @@ impl BodyBuilder {
         self.scopes = LabelScopes::new(alloc);
     }
 
-    /// The innermost open label that has this name and this hygiene, or none and a fault at the node.
-    #[tactic(auto, using(crate::proofs::Ribs::target_exists), unfolding(crate::specs::Lowering::jump_target))]
-    pub fn jump_target(
+    /// The label that a jump of this name and this hygiene is for, or none and a fault at the node.
+    #[tactic(auto, using(crate::proofs::Ribs::found_lowers), unfolding(crate::specs::Lowering::jump_target))]
+    pub fn jump_target<P: LowerParts>(
         &mut self,
+        parts: &P,
         name: Name,
         hygiene: HygieneId,
         source: InFile<AstPtr>,
     ) -> Result<Option<LabelId>, StoreFault>
-        ensures { Lowers HasLabelOption (spec.jump_target (Some (record { pointer = source; name = name; hygiene = hygiene }))) self.old result self.new }
+        ensures { Lowers HasLabelOption (spec.jump_target
+            (Some (jump (P.spot parts.now).answers source name hygiene))) self.old result self.new }
     {
-        match self.scopes.find(&name, hygiene) {
-            Some(label) => Ok(Some(label)),
-            None => {
-                self.report(ExpressionStoreDiagnostics::UndeclaredLabel(source, name))?;
+        match parts.find_label(&self.scopes, &name, hygiene) {
+            Ok(label) => Ok(Some(label)),
+            Err(NoTarget::Unreachable) => {
+                self.report(ExpressionStoreDiagnostics::UnreachableLabel { node: source, name })?;
+                Ok(None)
+            }
+            Err(NoTarget::Undeclared) => {
+                self.report(ExpressionStoreDiagnostics::UndeclaredLabel { node: source, name })?;
                 Ok(None)
             }
         }

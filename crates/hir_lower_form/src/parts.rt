@@ -1,66 +1,83 @@
 //! What a form needs: the questions, and what lowers its parts. Both are parameters, so that each form is proved by
 //! itself.
 
-ghost use Rattle.std.specs.Prelude.{◌≡◌, []};
-ghost use Rattle.hir_store.specs.Range.{HasExpr, HasExprOption, HasExprs, HasLabelOption};
-ghost use Rattle.hir_env.specs.Answers.{Answers};
-ghost use Rattle.hir_env.specs.Answering.{in_file, ptr};
-ghost use Rattle.hir_env.specs.declared.place.Place.{Place};
-ghost use Rattle.hir_env.specs.Whole.{answered, answered_plain, expr_part, block_part, exprs_part, args_part};
-ghost use Rattle.hir_lower_form.specs.Lowering.{Lowers};
-ghost use Rattle.hir_lower_form.specs.Lower as spec;
-ghost use Rattle.hir_lower_form.specs.Nests.{Claims, Each, IfPresent};
+ghost use Rattle.std.specs.Prelude.{◌≡◌};
+ghost use Rattle.hir_store.specs.Range.{HasLabelOption};
+ghost use Rattle.hir_env.specs.Answering.{site_of};
+ghost use Rattle.hir_env.specs.Spot.{Spot};
+ghost use Rattle.hir_env.specs.Whole.{answered, answered_plain, block_part, expr_part, pointer_at};
+ghost use Rattle.hir_scope.specs.Ribs.{search, sought_first};
+ghost use Rattle.hir_lower_scope.specs.Labels.{answer};
+ghost use Rattle.hir_lower_form.specs.Nests.{Claims, IfPresent};
+ghost use Rattle.hir_lower_form.specs.Outcomes.{LowersBlock, LowersBlockOpt, LowersExpr, LowersExprOpt, LowersIfPresent, LowersInside};
+ghost use Rattle.hir_lower_form.specs.Outcomes.{MaybeLowersExpr, MaybeLowersExprOpt};
 
 use crate::builder::BodyBuilder;
 use hir_env::place::Place;
-use hir_store::builder::push_id;
+use hir_lower_scope::labels::{LabelScopes, NoTarget};
 use hir_store::fault::StoreFault;
-use hir_store::hir::Expr;
 use hir_store::ids::{CfgId, ExprId, HygieneId, LabelId};
+use hir_store::name::Name;
 use hir_syntax::node::{AstPtr, InFile, NodeId, TextRange};
-use hir_syntax::{Boxed, Seq, ast};
+use hir_syntax::{Boxed, ast};
 use std::alloc::Global;
 
 /// What lowers the parts of a form at one place, and answers its questions there.
 pub trait LowerParts {
     /// The nodes that may be handed in.
     ghost can: { Self → Claims };
-    /// What the environment answers.
-    ghost answers: { Self → Answers };
     /// Where the parts are read.
-    ghost place: { Self → Place };
+    ghost spot: { Self → Spot };
 
     fn place(&self) -> Place
-        ensures { result ≡ place self.now };
+        ensures { result ≡ (spot self.now).place };
 
     /// Whether the node is enabled, or else the condition that disables it.
     fn cfg(&self, node: InFile<NodeId>) -> Result<(), CfgId>
-        ensures { result ≡ (answers self.now).cfg node };
+        ensures { result ≡ (spot self.now).answers.cfg node };
 
     /// The hygiene of the name at the node.
     fn hygiene(&self, node: InFile<NodeId>) -> HygieneId
-        ensures { result ≡ (answers self.now).hygiene node };
+        ensures { result ≡ (spot self.now).answers.hygiene node };
 
-    /// The expression, missing where a condition disables it.
-    fn expr(&self, state: &mut BodyBuilder, node: &ast::Expr) -> Result<ExprId, StoreFault>
-        requires { (can self.now).expr node.now }
-        ensures { Lowers HasExpr (spec.lower (answered (answers self.now) (place self.now) node.now)) state.old result state.new };
+    /// The label that a jump of this name and this hygiene is for. It asks about contexts.
+    fn find_label(
+        &self,
+        scopes: &LabelScopes,
+        name: &Name,
+        hygiene: HygieneId,
+    ) -> Result<LabelId, NoTarget>
+        ensures { result ≡ answer (search (spot self.now).answers.contexts name.now (sought_first hygiene) scopes.now) };
 
     /// The expression, none where a condition disables it.
-    fn kept(&self, state: &mut BodyBuilder, node: &ast::Expr) -> Result<Option<ExprId>, StoreFault>
+    fn maybe_collect_expr(
+        &self,
+        state: &mut BodyBuilder,
+        node: &ast::Expr,
+    ) -> Result<Option<ExprId>, StoreFault>
         requires { (can self.now).expr node.now }
-        ensures { Lowers HasExprOption (spec.kept_expr (answered (answers self.now) (place self.now) node.now)) state.old result state.new };
+        ensures { MaybeLowersExpr (answered (spot self.now) node.now) state.old result state.new };
 
     /// The block, inside the label of this number.
-    fn block(
+    fn collect_block_inside(
         &self,
         state: &mut BodyBuilder,
         label: Option<LabelId>,
         node: &ast::BlockExpr,
     ) -> Result<ExprId, StoreFault>
         requires part { (can self.now).block node.now }
-        requires label { HasLabelOption state.old.stored.store label }
-        ensures { Lowers HasExpr (spec.lower_inside label (answered_plain (answers self.now) (place self.now) node.now)) state.old result state.new };
+        requires label { HasLabelOption state.old.stored label }
+        ensures { LowersInside label (answered_plain (spot self.now) node.now) state.old result state.new };
+}
+
+/// The node that a pointer leads to, as it is asked about.
+pub(crate) fn site(pointer: InFile<AstPtr>) -> InFile<NodeId>
+    ensures { result ≡ site_of pointer }
+{
+    InFile {
+        file_id: pointer.file_id,
+        value: pointer.value.node,
+    }
 }
 
 /// The forms, over what lowers their parts.
@@ -72,7 +89,7 @@ pub struct Lowerer<P> {
 
 impl<P: LowerParts> Lowerer<P> {
     pub(crate) fn pointer(&self, node: NodeId, range: TextRange) -> InFile<AstPtr>
-        ensures { result ≡ in_file (P.place self.now.parts) (ptr node range) }
+        ensures { result ≡ pointer_at (P.spot self.now.parts) node range }
     {
         InFile {
             file_id: self.parts.place().file_id,
@@ -80,105 +97,91 @@ impl<P: LowerParts> Lowerer<P> {
         }
     }
 
-    #[tactic(auto, unfolding(crate::specs::Lower::missing))]
-    pub fn expr_or_missing(
+    /// The expression, missing where a condition disables it.
+    #[tactic(auto, using(crate::proofs::Kept::lower_on))]
+    pub(crate) fn collect_expr(
+        &self,
+        state: &mut BodyBuilder,
+        node: &ast::Expr,
+    ) -> Result<ExprId, StoreFault>
+        requires { (P.can self.now.parts).expr node.now }
+        ensures { LowersExpr (answered (P.spot self.now.parts) node.now) state.old result state.new }
+    {
+        match self.parts.maybe_collect_expr(state, node)? {
+            Some(id) => Ok(id),
+            None => state.missing_expr(),
+        }
+    }
+
+    /// The expression, missing where it is absent or a condition disables it.
+    pub(crate) fn collect_expr_opt(
         &self,
         state: &mut BodyBuilder,
         part: &Option<Boxed<ast::Expr>>,
     ) -> Result<ExprId, StoreFault>
         requires { IfPresent (P.can self.now.parts).expr part.now }
-        ensures { Lowers HasExpr (spec.lower_part (expr_part (P.answers self.now.parts) (P.place self.now.parts) part.now)) state.old result state.new }
+        ensures { LowersExprOpt (expr_part (P.spot self.now.parts) part.now) state.old result state.new }
     {
         match part {
-            None => state.alloc_expr(Expr::Missing, None),
-            Some(part) => self.parts.expr(state, part.get()),
+            None => state.missing_expr(),
+            Some(part) => self.collect_expr(state, part.get()),
         }
     }
 
-    pub fn expr_if_present(
+    /// The expression, none where it is absent, and missing where a condition disables it.
+    pub(crate) fn collect_expr_if_present(
         &self,
         state: &mut BodyBuilder,
         part: &Option<Boxed<ast::Expr>>,
     ) -> Result<Option<ExprId>, StoreFault>
         requires { IfPresent (P.can self.now.parts).expr part.now }
-        ensures { Lowers HasExprOption (spec.present (expr_part (P.answers self.now.parts) (P.place self.now.parts) part.now)) state.old result state.new }
+        ensures { LowersIfPresent (expr_part (P.spot self.now.parts) part.now) state.old result state.new }
     {
         match part {
             None => Ok(None),
-            Some(part) => Ok(Some(self.parts.expr(state, part.get())?)),
+            Some(part) => Ok(Some(self.collect_expr(state, part.get())?)),
         }
     }
 
-    pub fn expr_if_kept(
+    /// The expression, none where it is absent or a condition disables it.
+    pub(crate) fn maybe_collect_expr_opt(
         &self,
         state: &mut BodyBuilder,
         part: &Option<Boxed<ast::Expr>>,
     ) -> Result<Option<ExprId>, StoreFault>
         requires { IfPresent (P.can self.now.parts).expr part.now }
-        ensures { Lowers HasExprOption (spec.kept_part (expr_part (P.answers self.now.parts) (P.place self.now.parts) part.now)) state.old result state.new }
+        ensures { MaybeLowersExprOpt (expr_part (P.spot self.now.parts) part.now) state.old result state.new }
     {
         match part {
             None => Ok(None),
-            Some(part) => self.parts.kept(state, part.get()),
+            Some(part) => self.parts.maybe_collect_expr(state, part.get()),
         }
     }
 
     /// A block in a place where only a block may stand, so that no label of its own counts.
-    pub fn plain_block(
+    pub(crate) fn collect_block(
         &self,
         state: &mut BodyBuilder,
         node: &ast::BlockExpr,
     ) -> Result<ExprId, StoreFault>
         requires { (P.can self.now.parts).block node.now }
-        ensures { Lowers HasExpr (spec.lower_block (answered_plain (P.answers self.now.parts) (P.place self.now.parts) node.now)) state.old result state.new }
+        ensures { LowersBlock (answered_plain (P.spot self.now.parts) node.now) state.old result state.new }
     {
-        self.parts.block(state, None, node)
+        self.parts.collect_block_inside(state, None, node)
     }
 
-    #[tactic(auto, unfolding(crate::specs::Lower::missing))]
-    pub fn block_or_missing(
+    /// Such a block, missing where it is absent.
+    pub(crate) fn collect_block_opt(
         &self,
         state: &mut BodyBuilder,
         part: &Option<Boxed<ast::BlockExpr>>,
     ) -> Result<ExprId, StoreFault>
         requires { IfPresent (P.can self.now.parts).block part.now }
-        ensures { Lowers HasExpr (spec.lower_block_part (block_part (P.answers self.now.parts) (P.place self.now.parts) part.now)) state.old result state.new }
+        ensures { LowersBlockOpt (block_part (P.spot self.now.parts) part.now) state.old result state.new }
     {
         match part {
-            None => state.alloc_expr(Expr::Missing, None),
-            Some(part) => self.plain_block(state, part.get()),
-        }
-    }
-
-    fn each_kept(
-        &self,
-        state: &mut BodyBuilder,
-        mut all: &[ast::Expr],
-    ) -> Result<Seq<ExprId>, StoreFault>
-        requires { Each (P.can self.now.parts).expr all.now }
-        ensures { Lowers HasExprs (spec.lower_each [] (exprs_part (P.answers self.now.parts) (P.place self.now.parts) all.entry.now)) state.old result state.new }
-    {
-        let mut done = Seq::new(self.alloc);
-        while let [one, rest @ ..] = all {
-            if let Some(id) = self.parts.kept(state, one)? {
-                push_id(&mut done, id)?;
-            }
-            all = rest;
-        }
-        Ok(done)
-    }
-
-    pub fn arguments(
-        &self,
-        state: &mut BodyBuilder,
-        all: &Option<Seq<ast::Expr>>,
-    ) -> Result<Seq<ExprId>, StoreFault>
-        requires { IfPresent (Each (P.can self.now.parts).expr) all.now }
-        ensures { Lowers HasExprs (spec.lower_each [] (args_part (P.answers self.now.parts) (P.place self.now.parts) all.now)) state.old result state.new }
-    {
-        match all {
-            None => Ok(Seq::new(self.alloc)),
-            Some(all) => self.each_kept(state, all.as_slice()),
+            None => state.missing_expr(),
+            Some(part) => self.collect_block(state, part.get()),
         }
     }
 }

@@ -4,35 +4,71 @@ use Rattle.hir_store.specs.Pointers.{Pointer}
 use Rattle.hir_store.specs.declared.ids.CfgId.{CfgId}
 use Rattle.hir_env.specs.Answering.{site_of}
 use Rattle.hir_env.specs.Answered as tree
-use Rattle.hir_env.specs.Answered.{Expr, Stmts, Stmt}
+use Rattle.hir_env.specs.Answered.{Expr, OptionExpr, Stmts, Stmt}
 use Rattle.hir_meaning.specs.Run.{Value, Event, entering, ends, event, ◌>>=◌, ◌>>◌}
 use Rattle.hir_meaning.specs.Catching.{loop, block}
-use Rattle.hir_meaning.specs.Scopes.{Scope, in_block}
+use Rattle.hir_scope.specs.Scopes.{Scope, in_block}
 use Rattle.hir_meaning.specs.Left.{is_left, stmt_is_left, none_left}
 use Rattle.hir_meaning.specs.Syntax.{SyntaxRun, run_part, run_stmts, run_tail, catching}
 use Rattle.hir_meaning.specs.Store.{run_store, run_to}
 use Rattle.hir_meaning.specs.Worked.{RunsAsWorked}
-use Rattle.hir_meaning.specs.Rows.{LeavesTheLoop, LeavesTheBlock, HasNoTurn, StraysFromBlock, HasTwoSites, MissingIsNoLiteral, ParenthesesAreSilent, DisabledIsNothing, joined}
+use Rattle.hir_meaning.specs.Rows.{LeavesTheLoop, LeavesTheBlock, HasNoTurn, StraysFromBlock, HasTwoSites, EntersItsNumber}
+use Rattle.hir_meaning.specs.Rows.{MissingIsNoLiteral, ParenthesesAreSilent, DisabledIsNothing, joined, disabled}
+use Rattle.hir_meaning.specs.Turns.{EndsTheTurn, ContinuesTheOuter, BreaksTheOuter, HygienesDiffer, UndeclaredIsPlain, HasFreshTurns}
 
 pub leaves_the_loop : LeavesTheLoop
-unfolding ends event ◌>>=◌ loop block
-leaves_the_loop = refl
+unfolding ends event ◌>>=◌ loop block run_store run_to
+leaves_the_loop = record { written = record { events = refl; ends = refl }; stored = record { events = refl; ends = refl } }
 
 pub leaves_the_block : LeavesTheBlock
-unfolding ends event ◌>>=◌ loop block
-leaves_the_block = refl
+unfolding ends event ◌>>=◌ loop block run_store run_to
+leaves_the_block = record { written = record { events = refl; ends = refl }; stored = record { events = refl; ends = refl } }
 
 pub has_no_turn : HasNoTurn
-unfolding ends event ◌>>=◌ loop block
-has_no_turn = refl
+unfolding ends event ◌>>=◌ loop block run_store run_to
+has_no_turn = record { written = record { events = refl; ends = refl }; stored = record { events = refl; ends = refl } }
 
 pub strays_from_block : StraysFromBlock
 unfolding ends event ◌>>=◌ loop block run_store run_to
-strays_from_block = (refl, refl)
+strays_from_block = record { written = record { events = refl; ends = refl }; stored = record { events = refl; ends = refl } }
 
 pub has_two_sites : HasTwoSites
-unfolding ends event ◌>>=◌ loop block
-has_two_sites = refl
+unfolding ends event ◌>>=◌ loop block run_store run_to
+has_two_sites = record { written = record { events = refl; ends = refl }; stored = record { events = refl; ends = refl } }
+
+pub enters_its_number : EntersItsNumber
+unfolding ends event ◌>>=◌ loop block run_store run_to
+enters_its_number = record { written = record { events = refl; ends = refl }; stored = record { events = refl; ends = refl } }
+
+pub ends_the_turn : EndsTheTurn
+unfolding ends event ◌>>=◌ loop block run_store run_to
+ends_the_turn = record { written = record { events = refl; ends = refl }; stored = record { events = refl; ends = refl } }
+
+pub continues_the_outer : ContinuesTheOuter
+unfolding ends event ◌>>=◌ loop block run_store run_to
+continues_the_outer = record { written = record { events = refl; ends = refl }; stored = record { events = refl; ends = refl } }
+
+pub breaks_the_outer : BreaksTheOuter
+unfolding ends event ◌>>=◌ loop block run_store run_to
+breaks_the_outer = record { written = record { events = refl; ends = refl }; stored = record { events = refl; ends = refl } }
+
+pub has_fresh_turns : HasFreshTurns
+unfolding ends event ◌>>=◌ loop block run_store run_to
+has_fresh_turns = record { written = record { events = refl; ends = refl }; stored = record { events = refl; ends = refl } }
+
+pub hygienes_differ : HygienesDiffer
+unfolding ends event ◌>>=◌ loop block run_store run_to
+hygienes_differ = (
+  record { written = record { events = refl; ends = refl }; stored = record { events = refl; ends = refl } },
+  record { written = record { events = refl; ends = refl }; stored = record { events = refl; ends = refl } },
+)
+
+pub undeclared_is_plain : UndeclaredIsPlain
+unfolding ends event ◌>>=◌ loop block run_store run_to
+undeclared_is_plain = (
+  record { written = record { events = refl; ends = refl }; stored = record { events = refl; ends = refl } },
+  record { written = record { events = refl; ends = refl }; stored = record { events = refl; ends = refl } },
+)
 
 pub runs_as_worked : RunsAsWorked
 unfolding ends event ◌>>=◌ loop block run_store run_to
@@ -49,23 +85,31 @@ missing_is_no_literal h = let e = h.events 0 [] in subst nothing_happened e tt
 pub parentheses_are_silent : ParenthesesAreSilent
 parentheses_are_silent p e = refl
 
-abbrev disabled : Pointer → CfgId → Expr → Bool → Stmt
-disabled q by e semi = tree.expr_stmt (tree.some_expr (tree.disabled_expr q by e)) semi
-
 module _ (q : Pointer) (by : CfgId) (e : Expr) (semi : Bool) (after : Stmts) where
-  none_more : (before : Stmts) → none_left (joined before (tree.more_stmts (disabled q by e semi) after)) ≡ none_left (joined before after)
+  -- with the disabled statement before what follows, and without
+  abbrev more : Stmts → Stmts
+  more before = joined before (tree.more_stmts (disabled q by e semi) after)
+
+  none_more : (before : Stmts) → none_left (more before) ≡ none_left (joined before after)
   none_more tree.no_stmts = refl
   none_more (tree.more_stmts s ss) = ap (λ t. not (stmt_is_left s) && t) (none_more ss)
 
-  run_more : (turns : ℕ) (has_tail : Bool) (tail : SyntaxRun Value) (scopes : List Scope) (before : Stmts)
-      → run_stmts turns (joined before (tree.more_stmts (disabled q by e semi) after)) has_tail tail scopes ≡ run_stmts turns (joined before after) has_tail tail scopes
+  -- a statement before others, of which `none` says whether none is left and whose run this is
+  abbrev before_others : ℕ → Bool → List Scope → OptionExpr → Bool → Bool → SyntaxRun Value → SyntaxRun Value
+  before_others turns has_tail scopes x s none others =
+      if is_left x
+      then (if not s && (none && not has_tail) then run_part turns x scopes else (run_part turns x scopes >> others))
+      else others
+
+  run_more : (turns : ℕ) (has_tail : Bool) (tail : List Scope → SyntaxRun Value) (scopes : List Scope) (before : Stmts)
+      → run_stmts turns (more before) has_tail tail scopes ≡ run_stmts turns (joined before after) has_tail tail scopes
   run_more turns has_tail tail scopes tree.no_stmts = refl
   run_more turns has_tail tail scopes (tree.more_stmts tree.item_stmt ss) = run_more turns has_tail tail scopes ss
   run_more turns has_tail tail scopes (tree.more_stmts (tree.expr_stmt x s) ss) =
-      ap (λ t. if is_left x then (if not s && (t && not has_tail) then run_part turns x scopes else (run_part turns x scopes >> run_stmts turns (joined ss (tree.more_stmts (disabled q by e semi) after)) has_tail tail scopes))
-      else run_stmts turns (joined ss (tree.more_stmts (disabled q by e semi) after)) has_tail tail scopes) (none_more ss)
-      ∙ ap (λ m. if is_left x then (if not s && (none_left (joined ss after) && not has_tail) then run_part turns x scopes else (run_part turns x scopes >> m)) else m) (run_more turns has_tail tail scopes ss)
+      ap (λ t. before_others turns has_tail scopes x s t (run_stmts turns (more ss) has_tail tail scopes)) (none_more ss)
+      ∙ ap (λ m. before_others turns has_tail scopes x s (none_left (joined ss after)) m) (run_more turns has_tail tail scopes ss)
 
 pub disabled_is_nothing : DisabledIsNothing
 disabled_is_nothing turns p q label number before after by e semi tail ss =
-    ap (λ m. entering number (Some (site_of p)) (catching label m)) (run_more q by e semi after turns (is_left tail) (run_tail turns tail (in_block label ss)) (in_block label ss) before)
+    ap (λ m. entering number (Some (site_of p)) (catching label m))
+    (run_more q by e semi after turns (is_left tail) (run_tail turns tail) (in_block label ss) before)

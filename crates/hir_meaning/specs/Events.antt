@@ -1,10 +1,9 @@
 -- What a run reports and what it is told.
 use Rattle.std.specs.Prelude.{ℕ, Bool, List, Option}
-use Rattle.hir_store.specs.declared.hir.Literal.{Literal}
-use Rattle.hir_store.specs.declared.path.Path.{Path}
 use Rattle.hir_store.specs.declared.ids.HygieneId.{HygieneId}
 use Rattle.hir_store.specs.declared.ids.BlockId.{BlockId}
 use Rattle.hir_env.specs.NodeMap.{Site}
+use Rattle.hir_meaning.specs.Data.{LiteralData, PathData}
 
 -- a value: what an event was answered, `()`, or `true` or `false`
 pub data Value : Type 0 where
@@ -19,8 +18,8 @@ pub data Test : Type 0 where
 -- what happens: a literal with its data, the read of a path with the hygiene that it is looked up with, a call, the
 -- entering of a numbered block, a test (Rust Reference, literal, path, call and block expressions)
 pub data Operation : Type 0 where
-  literal : Literal → Operation
-  read : Path → HygieneId → Operation
+  literal : LiteralData → Operation
+  read : PathData → HygieneId → Operation
   call : Operation
   enter : BlockId → Operation
   test : Test → Operation
@@ -40,13 +39,22 @@ pub record Answer : Type 0 where
 abbrev pub Answerer : Type 0
 Answerer = List Answer
 
--- How a run ends: with a value, by a jump, where something is missing, or cut short. J is what is known of a jump.
+-- What ends a whole body, since neither a loop nor a block catches it: it answers a value early, nothing fits, something
+-- is missing, or it is cut short.
+pub data Leave : Type 0 where
+  returned : Value → Leave
+  became : Value → Leave
+  yeeted : Value → Leave
+  unmatched : Leave
+  missing : Leave
+  cut : Leave
+
+-- How a run ends: with a value, by a jump, or by what ends the whole body. J is what is known of a jump.
 pub data Outcome (J A : Type 0) : Type 0 where
   value : A → Outcome J A
   break : J → Value → Outcome J A
   continue : J → Outcome J A
-  missing : Outcome J A
-  cut : Outcome J A
+  leave : Leave → Outcome J A
 
 -- T is what a run keeps besides, such as the values of generated names.
 pub record World (T : Type 0) : Type 0 where

@@ -1,6 +1,6 @@
 -- What conditions leave of lists, statements and tails (Rust Reference, conditional compilation; rust-analyzer, `check_cfg`
 -- and `collect_block_`). Anywhere else a disabled expression is a missing one.
-use Rattle.std.specs.Prelude.{Bool, true, false, not, ◌&&◌}
+use Rattle.std.specs.Prelude.{Bool, true, false, not, ◌&&◌, ◌||◌}
 use Rattle.hir_env.specs.Answered as tree
 use Rattle.hir_env.specs.Answered.{Expr, OptionExpr, Stmts, Stmt}
 
@@ -24,3 +24,9 @@ none_left (tree.more_stmts s ss) = not (stmt_is_left s) && none_left ss
 -- after it (Rust Reference, block expressions).
 abbrev pub is_last : Bool → Stmts → Bool → Bool
 is_last semi after has_tail = not semi && (none_left after && not has_tail)
+
+-- whether a statement that is left gives the block its value
+abbrev pub gives_value : Stmts → Bool → Bool
+gives_value tree.no_stmts has_tail = false
+gives_value (tree.more_stmts tree.item_stmt ss) has_tail = gives_value ss has_tail
+gives_value (tree.more_stmts (tree.expr_stmt e semi) ss) has_tail = (is_left e && is_last semi ss has_tail) || gives_value ss has_tail

@@ -1,12 +1,14 @@
+pub mod Data
 pub mod Events
 pub mod Run
 pub mod Catching
-pub mod Scopes
-pub mod Paths
 pub mod Left
+pub mod Contents
 pub mod Syntax
 pub mod Store
 pub mod Jumps
 pub mod Same
+pub mod Small
 pub mod Rows
+pub mod Turns
 pub mod Worked

@@ -1,12 +1,19 @@
 -- Runs: what is done with the answers that are left and the events so far. Both readings of a body, of its syntax and of
 -- the store, are made of these steps.
-use Rattle.std.specs.Prelude.{Bool, false, List, [], ◌∷◌, ◌++◌, Option, Some, None}
+use Rattle.std.specs.Prelude.{ℕ, Bool, false, List, [], ◌∷◌, ◌++◌, Option, Some, None}
 use Rattle.hir_store.specs.declared.ids.BlockId.{BlockId}
 use Rattle.hir_env.specs.NodeMap.{Site}
-pub use Rattle.hir_meaning.specs.Events.{Value, answered, unit, truth, Test, is_true, Operation, literal, read, call, enter, test, Event, Answer, Answerer, Outcome, value, break, continue, missing, cut, World}
+pub use Rattle.hir_meaning.specs.Events.{Value, answered, unit, truth, Test, is_true, Operation, literal, read, call, enter, test, Event}
+pub use Rattle.hir_meaning.specs.Events.{Answer, Answerer, Leave, returned, became, yeeted, unmatched, missing, cut}
+pub use Rattle.hir_meaning.specs.Events.{Outcome, value, break, continue, leave, World}
 
 abbrev pub Run : Type 0 → Type 0 → Type 0 → Type 0
 Run T J A = World T → Outcome J A × World T
+
+-- A body that runs by itself: what its run begins with, and its run, with so many turns at each entry of a loop.
+pub record Body (T J : Type 0) : Type 0 where
+  pub table : T
+  pub run : ℕ → Run T J Value
 
 -- ---- steps
 
@@ -21,8 +28,7 @@ abbrev pub after : {T J A B : Type 0} → Outcome J A → World T → (A → Run
 after (value a) w f = f a w
 after (break j v) w f = (break j v, w)
 after (continue j) w f = (continue j, w)
-after missing w f = (missing, w)
-after cut w f = (cut, w)
+after (leave x) w f = (leave x, w)
 
 infixl 10 ◌>>=◌
 unfoldable pub ◌>>=◌ : {T J A B : Type 0} → Run T J A → (A → Run T J B) → Run T J B

@@ -1,7 +1,9 @@
--- How a stored body runs: over the lists of a store and the sources of its expressions. It knows literals, paths, calls,
--- conditions, loops, blocks and the numbers of labels, and nothing of the tree (rust-analyzer, `hir_def::hir::Expr`).
-use Rattle.std.specs.Prelude.{ℕ, zero, suc, Bool, false, nat_eq, List, [], ◌∷◌, Option, Some, None, option_map, length, slice_get, if◌then◌else◌}
-use Rattle.hir_store.specs.Pointers.{Pointer, flattened}
+-- How a stored body runs: over a store and the sources of its expressions. It knows literals, paths, calls, conditions,
+-- loops, blocks and the numbers of labels, and nothing of the tree (rust-analyzer, `hir_def::hir::Expr`).
+use Rattle.std.specs.Prelude.{ℕ, zero, suc, Bool, false, nat_eq, if◌then◌else◌, List, [], ◌∷◌, length, slice_get}
+use Rattle.std.specs.Prelude.{Option, Some, None, option_map}
+use Rattle.hir_store.specs.Pointers.{flattened}
+use Rattle.hir_store.specs.Stored.{Store, SourceMap}
 use Rattle.hir_store.specs.declared.hir.Expr.{Expr}
 use Rattle.hir_store.specs.declared.hir.Expr.TheVariants as hir
 use Rattle.hir_store.specs.declared.hir.Statement.{Statement}
@@ -10,16 +12,27 @@ use Rattle.hir_store.specs.declared.ids.ExprId.{ExprId}
 use Rattle.hir_store.specs.declared.ids.LabelId.{LabelId}
 use Rattle.hir_env.specs.NodeMap.{Site}
 use Rattle.hir_env.specs.Answering.{site_of}
-use Rattle.hir_meaning.specs.Run.{Value, unit, is_true, literal, read, call, break, continue, missing, Run, ends, pure, ◌>>=◌, ◌>>◌, ask, tests, entering}
+use Rattle.hir_meaning.specs.Data.{literal_read, path_read}
+use Rattle.hir_meaning.specs.Run.{Value, unit, is_true, literal, read, call, break, continue, leave, missing, Body, Run}
+use Rattle.hir_meaning.specs.Run.{ends, pure, ◌>>=◌, ◌>>◌, ask, tests, entering}
 use Rattle.hir_meaning.specs.Catching.{turn, loop, block}
 
 -- the label that a jump names; None: a plain jump
 abbrev pub Named : Type 0
 Named = Option LabelId
 
--- it keeps nothing besides
+-- what it keeps besides: so far nothing
+abbrev pub Table : Type 0
+Table = Unit {0}
+
+abbrev pub new_table : Table
+new_table = tt
+
 abbrev pub StoreRun : Type 0 → Type 0
-StoreRun A = Run (Unit {0}) Named A
+StoreRun A = Run Table Named A
+
+abbrev pub StoreBody : Type 0
+StoreBody = Body Table Named
 
 -- ---- jumps
 
@@ -37,7 +50,7 @@ abbrev pub past_block : Option LabelId → Named → Option Named
 past_block l None = Some None
 past_block l (Some k) = if is_named l k then None else Some (Some k)
 
--- ---- one node, with what runs its parts
+-- ---- parts of a node, with what runs them
 
 module _ (turns : ℕ) (part : ExprId → StoreRun Value) where
   abbrev pub run_or_unit : Option ExprId → StoreRun Value
@@ -59,42 +72,49 @@ module _ (turns : ℕ) (part : ExprId → StoreRun Value) where
     part i
     run_statements ss tail
 
-  abbrev pub run_node : Expr → Option Site → StoreRun Value
-  run_node hir.Missing site = ends missing
-  run_node (hir.Literal l) site = ask (literal l) [] site
-  run_node (hir.Path p h) site = ask (read p h) [] site
-  run_node (hir.Call f xs) site = do
-    v ← part f
-    vs ← run_each xs
-    ask call (v ∷ vs) site
-  run_node (hir.If c t e) site = do
-    v ← part c
-    holds ← tests is_true v site
-    if holds then part t else run_or_unit e
-  run_node (hir.Loop b l source) site = loop (past_loop l) turns (turn (part b))
-  run_node (hir.Block l number statements tail) site = entering number site (block (past_block l) (λ j. j) (run_statements statements tail))
-  run_node (hir.Break l e) site = do
-    v ← run_or_unit e
-    ends (break l v)
-  run_node (hir.Continue l) site = ends (continue l)
-
 -- ---- the store
 
-module _ (exprs : List Expr) (sources : List (Option Pointer)) where
+module _ (store : Store) (source_map : SourceMap) where
+  -- one node, with what runs its parts
+  module _ (turns : ℕ) (part : ExprId → StoreRun Value) where
+    abbrev pub run_node : Expr → Option Site → StoreRun Value
+    run_node hir.Missing site = ends (leave missing)
+    run_node (hir.Literal l) site = ask (literal (literal_read l)) [] site
+    run_node (hir.Path p h) site = ask (read (path_read p) h) [] site
+    run_node (hir.Call f xs) site = do
+      v ← part f
+      vs ← run_each turns part xs
+      ask call (v ∷ vs) site
+    run_node (hir.If c t e) site = do
+      v ← part c
+      holds ← tests is_true v site
+      if holds then part t else run_or_unit turns part e
+    run_node (hir.Loop b l source) site = loop (past_loop l) turns (turn (part b))
+    run_node (hir.Block l number statements tail) site =
+        entering number site (block (past_block l) (λ j. j) (run_statements turns part statements tail))
+    run_node (hir.Break l e) site = do
+      v ← run_or_unit turns part e
+      ends (break l v)
+    run_node (hir.Continue l) site = ends (continue l)
+
   -- the node that an expression came from, where it came from one
   abbrev pub site_at : ExprId → Option Site
-  site_at i = option_map site_of (flattened (slice_get sources i.0))
+  site_at i = option_map site_of (flattened (slice_get source_map.expr_sources i.0))
 
   -- a number without an expression is missing
   abbrev pub run_found : (Expr → StoreRun Value) → Option Expr → StoreRun Value
-  run_found run None = ends missing
+  run_found run None = ends (leave missing)
   run_found run (Some e) = run e
 
   -- with at most so many expressions inside one another
   unfoldable pub run_to : ℕ → ℕ → ExprId → StoreRun Value
-  run_to zero turns i = ends missing
-  run_to (suc depth) turns i = run_found (λ e. run_node turns (run_to depth turns) e (site_at i)) (slice_get exprs i.0)
+  run_to zero turns i = ends (leave missing)
+  run_to (suc depth) turns i = run_found (λ e. run_node turns (run_to depth turns) e (site_at i)) (slice_get store.exprs i.0)
 
   -- no more than there are can be inside one another
   unfoldable pub run_store : ExprId → ℕ → StoreRun Value
-  run_store i turns = run_to (length exprs) turns i
+  run_store i turns = run_to (length store.exprs) turns i
+
+  -- an expression as a body by itself
+  abbrev pub stored_body : ExprId → StoreBody
+  stored_body i = record { table = new_table; run = run_store i }

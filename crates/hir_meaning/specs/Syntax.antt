@@ -1,28 +1,29 @@
 -- How a written body runs: over the answered tree, by the rules of the Rust Reference for each form. It knows no store, no
 -- numbers and no stack of labels.
 use Rattle.std.specs.Prelude.{ℕ, Bool, List, [], ◌∷◌, Option, Some, None, if◌then◌else◌}
-use Rattle.hir_store.specs.declared.path.Path.TheVariants.{BarePath}
-use Rattle.hir_store.specs.declared.path.PathKind.TheVariants.{Plain}
-use Rattle.hir_store.specs.declared.name.Name.{Name}
 use Rattle.hir_store.specs.declared.ids.HygieneId.{HygieneId}
 use Rattle.hir_env.specs.NodeMap.{Site}
 use Rattle.hir_env.specs.Answering.{site_of}
 use Rattle.hir_env.specs.Answered as tree
 use Rattle.hir_env.specs.Answered.{Label, Expr, OptionExpr, Exprs, Block, OptionBlock, Stmts}
-use Rattle.hir_meaning.specs.Run.{Value, unit, is_true, literal, read, call, break, continue, missing, Run, ends, pure, ◌>>=◌, ◌>>◌, ask, tests, entering}
+use Rattle.hir_meaning.specs.Run.{Value, unit, is_true, literal, read, call, break, continue, leave, missing, Body, Run}
+use Rattle.hir_meaning.specs.Run.{ends, pure, ◌>>=◌, ◌>>◌, ask, tests, entering}
 use Rattle.hir_meaning.specs.Catching.{turn, loop, block}
-use Rattle.hir_meaning.specs.Scopes.{Scope, loop_scope, Count, break_target, continue_target, outward, past_block, in_block}
-use Rattle.hir_meaning.specs.Paths.{literal_of, names_if_written, read_hygiene}
+use Rattle.hir_scope.specs.Scopes.{Scope, loop_scope, Count, break_target, continue_target, outward, past_block, in_block}
+use Rattle.hir_meaning.specs.Data.{PathData, literal_data, data_if_written, lookup_hygiene}
 use Rattle.hir_meaning.specs.Left.{is_kept, is_left, is_last}
 
 -- it keeps nothing besides
 abbrev pub SyntaxRun : Type 0 → Type 0
 SyntaxRun A = Run (Unit {0}) Count A
 
+abbrev pub SyntaxBody : Type 0
+SyntaxBody = Body (Unit {0}) Count
+
 -- a path that is absent or refused is missing
-abbrev pub run_path : Option (List Name) → HygieneId → Option Site → SyntaxRun Value
-run_path None h site = ends missing
-run_path (Some ns) h site = ask (read (BarePath (record { kind = Plain; segments = ns })) (read_hygiene ns h)) [] site
+abbrev pub run_path : Option PathData → HygieneId → Option Site → SyntaxRun Value
+run_path None h site = ends (leave missing)
+run_path (Some p) h site = ask (read p (lookup_hygiene p h)) [] site
 
 -- a block with a label catches the breaks that are for it
 abbrev pub catching : Option Label → SyntaxRun Value → SyntaxRun Value
@@ -33,9 +34,9 @@ catching (Some l) m = block outward past_block m
 module _ (turns : ℕ) where
   abbrev mutual
     pub run_expr : Expr → List Scope → SyntaxRun Value
-    run_expr (tree.disabled_expr at by e) ss = ends missing
-    run_expr (tree.literal_expr at l) ss = ask (literal (literal_of l)) [] (Some (site_of at))
-    run_expr (tree.path_expr at x h) ss = run_path (names_if_written x) h (Some (site_of at))
+    run_expr (tree.disabled_expr at by e) ss = ends (leave missing)
+    run_expr (tree.literal_expr at l) ss = ask (literal (literal_data l)) [] (Some (site_of at))
+    run_expr (tree.path_expr at x h) ss = run_path (data_if_written x) h (Some (site_of at))
     run_expr (tree.paren_expr at e) ss = run_part e ss
     run_expr (tree.call_expr at f es) ss = do
       v ← run_part f ss
@@ -54,11 +55,11 @@ module _ (turns : ℕ) where
 
     -- a part that is absent is missing
     pub run_part : OptionExpr → List Scope → SyntaxRun Value
-    run_part tree.no_expr ss = ends missing
+    run_part tree.no_expr ss = ends (leave missing)
     run_part (tree.some_expr e) ss = run_expr e ss
 
     pub run_block_part : OptionBlock → List Scope → SyntaxRun Value
-    run_block_part tree.no_block ss = ends missing
+    run_block_part tree.no_block ss = ends (leave missing)
     run_block_part (tree.some_block b) ss = run_block b ss
 
     -- an `else` or the value of a break that is absent is unit
@@ -76,16 +77,16 @@ module _ (turns : ℕ) where
 
     pub run_block : Block → List Scope → SyntaxRun Value
     run_block (tree.block at label number stmts tail) ss =
-        entering number (Some (site_of at)) (catching label (run_stmts stmts (is_left tail) (run_tail tail (in_block label ss)) (in_block label ss)))
+        entering number (Some (site_of at)) (catching label (run_stmts stmts (is_left tail) (run_tail tail) (in_block label ss)))
 
     -- the tail that is written, where it is left
     pub run_tail : OptionExpr → List Scope → SyntaxRun Value
     run_tail tree.no_expr ss = pure unit
     run_tail (tree.some_expr e) ss = if is_kept e then run_expr e ss else pure unit
 
-    -- the statements that are left, in order, and then the tail; the last of them may give the block its value
-    pub run_stmts : Stmts → Bool → SyntaxRun Value → List Scope → SyntaxRun Value
-    run_stmts tree.no_stmts has_tail tail ss = tail
+    -- The statements that are left, in order, and then the tail; the last of them may give the block its value.
+    pub run_stmts : Stmts → Bool → (List Scope → SyntaxRun Value) → List Scope → SyntaxRun Value
+    run_stmts tree.no_stmts has_tail tail ss = tail ss
     run_stmts (tree.more_stmts tree.item_stmt stmts) has_tail tail ss = run_stmts stmts has_tail tail ss
     run_stmts (tree.more_stmts (tree.expr_stmt e semi) stmts) has_tail tail ss =
         if is_left e
@@ -97,3 +98,6 @@ module _ (turns : ℕ) where
 -- the run of a body that stands by itself, with so many turns
 abbrev pub run_syntax : OptionExpr → ℕ → SyntaxRun Value
 run_syntax e turns = run_part turns e []
+
+abbrev pub written_body : OptionExpr → SyntaxBody
+written_body e = record { table = tt; run = run_syntax e }

@@ -1,9 +1,11 @@
 //! What a body does when it runs, as written and as stored: definitions, and laws that show what they say. A law is a
-//! function whose contract is the law.
+//! function whose contract is the law. Those of small bodies are computed, as they are written and as they are stored.
 #![tactic(auto)]
 
 ghost use Rattle.hir_meaning.specs.Worked.{RunsAsWorked};
-ghost use Rattle.hir_meaning.specs.Rows.{LeavesTheLoop, LeavesTheBlock, HasNoTurn, StraysFromBlock, HasTwoSites, MissingIsNoLiteral, ParenthesesAreSilent, DisabledIsNothing};
+ghost use Rattle.hir_meaning.specs.Rows.{LeavesTheLoop, LeavesTheBlock, HasNoTurn, StraysFromBlock, HasTwoSites, EntersItsNumber};
+ghost use Rattle.hir_meaning.specs.Rows.{MissingIsNoLiteral, ParenthesesAreSilent, DisabledIsNothing, RunsAlone};
+ghost use Rattle.hir_meaning.specs.Turns.{EndsTheTurn, ContinuesTheOuter, BreaksTheOuter, HygienesDiffer, UndeclaredIsPlain, HasFreshTurns};
 
 /// `'a: { loop { break 'a 1 } }` with one turn is the literal and its value.
 pub fn leaves_the_loop()
@@ -20,7 +22,7 @@ pub fn has_no_turn()
     ensures { HasNoTurn }
 {}
 
-/// `'a: { continue 'a }` is a stray continue, as it is written and as it is stored.
+/// `'a: { continue 'a }` is a stray continue.
 pub fn strays_from_block()
     ensures { StraysFromBlock }
 {}
@@ -30,7 +32,42 @@ pub fn has_two_sites()
     ensures { HasTwoSites }
 {}
 
-/// The body that docs/MEANING.md works out, on both sides.
+/// A block with a number is entered before what is in it happens.
+pub fn enters_its_number()
+    ensures { EntersItsNumber }
+{}
+
+/// `loop { 1; continue; 2 }` is the first literal, turn after turn.
+pub fn ends_the_turn()
+    ensures { EndsTheTurn }
+{}
+
+/// `'a: loop { loop { 1; continue 'a }; 2 }` is the first literal, turn after turn of the outer loop.
+pub fn continues_the_outer()
+    ensures { ContinuesTheOuter }
+{}
+
+/// `'a: loop { loop { break 'a 1 }; 2 }` is the first literal and its value.
+pub fn breaks_the_outer()
+    ensures { BreaksTheOuter }
+{}
+
+/// Two labels of one name and two hygienes are two labels.
+pub fn hygienes_differ()
+    ensures { HygienesDiffer }
+{}
+
+/// A jump to a label that is nowhere is one without a label.
+pub fn undeclared_is_plain()
+    ensures { UndeclaredIsPlain }
+{}
+
+/// A loop inside a loop has all its turns at each entry.
+pub fn has_fresh_turns()
+    ensures { HasFreshTurns }
+{}
+
+/// The body that docs/MEANING.md works out.
 pub fn runs_as_worked()
     ensures { RunsAsWorked }
 {}
@@ -48,4 +85,9 @@ pub fn parentheses_are_silent()
 /// A disabled statement of a block changes nothing, wherever it stands.
 pub fn disabled_is_nothing()
     ensures { DisabledIsNothing }
+{}
+
+/// A body behind a barrier runs as if nothing were outside.
+pub fn runs_alone()
+    ensures { RunsAlone }
 {}

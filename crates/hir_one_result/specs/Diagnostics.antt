@@ -1,71 +1,64 @@
 -- The faults of what lowering reads of a tree, in written order: one for each disabled node that is asked about, and one for each named jump
--- in no label of its name and hygiene. What is in a disabled node isn't read.
-use Rattle.std.specs.Prelude.{Bool, ◌&&◌, ◌||◌, false, if◌then◌else◌, nat_eq, List, [], ◌∷◌, ◌++◌, Option, Some, None}
-use Rattle.hir_store.specs.Names.{same_name}
-use Rattle.hir_store.specs.declared.name.Name.{Name}
-use Rattle.hir_store.specs.declared.ids.HygieneId.{HygieneId}
+-- that has no target, or none in reach. What is in a disabled node isn't read.
+use Rattle.std.specs.Prelude.{◌≡◌, List, [], ◌∷◌, ◌++◌, Option, Some, None}
 use Rattle.hir_store.specs.declared.diagnostics.ExpressionStoreDiagnostics.{ExpressionStoreDiagnostics}
-use Rattle.hir_store.specs.declared.diagnostics.ExpressionStoreDiagnostics.TheVariants.{InactiveCode, UndeclaredLabel}
-use Rattle.hir_lower_scope.specs.declared.labels.LabelRib.{LabelRib}
+use Rattle.hir_store.specs.declared.diagnostics.ExpressionStoreDiagnostics.TheVariants.{InactiveCode, UndeclaredLabel, UnreachableLabel}
 use Rattle.hir_env.specs.Answered as tree
-use Rattle.hir_env.specs.Answered.{Label, Jump, Expr, OptionExpr, Exprs, Block, OptionBlock, Stmts, Stmt}
+use Rattle.hir_env.specs.Answered.{Jump, Expr, OptionExpr, Exprs, Block, OptionBlock, Stmts}
+use Rattle.hir_scope.specs.Ribs.{Rib, Target, found, unreachable, undeclared, target, map_ribs}
+use Rattle.hir_scope.specs.Scopes.{Scope, loop_scope, ribs, in_block}
 
 abbrev pub Faults : Type 0
 Faults = List ExpressionStoreDiagnostics
 
--- the name and the hygiene of a label around
-pub record Around : Type 0 where
-  pub name : Name
-  pub hygiene : HygieneId
+abbrev pub target_faults : {A : Type 0} → Jump → Target A → Faults
+target_faults j (found a) = []
+target_faults j unreachable = UnreachableLabel j.pointer j.name ∷ []
+target_faults j undeclared = UndeclaredLabel j.pointer j.name ∷ []
 
-abbrev pub inside_label : Option Label → List Around → List Around
-inside_label None ls = ls
-inside_label (Some l) ls = record { name = l.name; hygiene = l.hygiene } ∷ ls
-
-abbrev pub is_declared : List Around → Jump → Bool
-is_declared [] j = false
-is_declared (l ∷ ls) j = (same_name l.name j.name && nat_eq l.hygiene.0 j.hygiene.0) || is_declared ls j
-
-abbrev pub jump_faults : List Around → Option Jump → Faults
-jump_faults ls None = []
-jump_faults ls (Some j) = if is_declared ls j then [] else UndeclaredLabel j.pointer j.name ∷ []
+abbrev pub jump_faults : List Scope → Option Jump → Faults
+jump_faults ss None = []
+jump_faults ss (Some j) = target_faults j (target j (ribs ss))
 
 abbrev mutual
-  pub diagnostics : List Around → Expr → Faults
-  diagnostics ls (tree.disabled_expr at by e) = InactiveCode at by ∷ []
-  diagnostics ls (tree.if_expr at c t e) = part_diagnostics ls c ++ (block_part_diagnostics ls t ++ part_diagnostics ls e)
-  diagnostics ls (tree.block_expr b) = block_diagnostics ls b
-  diagnostics ls (tree.loop_expr at label b) = block_part_diagnostics (inside_label label ls) b
-  diagnostics ls (tree.call_expr at f es) = part_diagnostics ls f ++ each_diagnostics ls es
-  diagnostics ls (tree.path_expr at x h) = []
-  diagnostics ls (tree.continue_expr at jump) = jump_faults ls jump
-  diagnostics ls (tree.break_expr at jump e) = jump_faults ls jump ++ part_diagnostics ls e
-  diagnostics ls (tree.paren_expr at e) = part_diagnostics ls e
-  diagnostics ls (tree.literal_expr at l) = []
+  pub diagnostics : List Scope → Expr → Faults
+  diagnostics ss (tree.disabled_expr at by e) = InactiveCode at by ∷ []
+  diagnostics ss (tree.if_expr at c t e) = part_diagnostics ss c ++ (block_part_diagnostics ss t ++ part_diagnostics ss e)
+  diagnostics ss (tree.block_expr b) = block_diagnostics ss b
+  diagnostics ss (tree.loop_expr at label b) = block_part_diagnostics (loop_scope label ∷ ss) b
+  diagnostics ss (tree.call_expr at f es) = part_diagnostics ss f ++ each_diagnostics ss es
+  diagnostics ss (tree.path_expr at x h) = []
+  diagnostics ss (tree.continue_expr at jump) = jump_faults ss jump
+  diagnostics ss (tree.break_expr at jump e) = jump_faults ss jump ++ part_diagnostics ss e
+  diagnostics ss (tree.paren_expr at e) = part_diagnostics ss e
+  diagnostics ss (tree.literal_expr at l) = []
 
-  pub part_diagnostics : List Around → OptionExpr → Faults
-  part_diagnostics ls tree.no_expr = []
-  part_diagnostics ls (tree.some_expr e) = diagnostics ls e
+  pub part_diagnostics : List Scope → OptionExpr → Faults
+  part_diagnostics ss tree.no_expr = []
+  part_diagnostics ss (tree.some_expr e) = diagnostics ss e
 
-  pub each_diagnostics : List Around → Exprs → Faults
-  each_diagnostics ls tree.no_exprs = []
-  each_diagnostics ls (tree.more_exprs e es) = diagnostics ls e ++ each_diagnostics ls es
+  pub each_diagnostics : List Scope → Exprs → Faults
+  each_diagnostics ss tree.no_exprs = []
+  each_diagnostics ss (tree.more_exprs e es) = diagnostics ss e ++ each_diagnostics ss es
 
-  pub block_diagnostics : List Around → Block → Faults
-  block_diagnostics ls (tree.block at label number ss e) = stmts_diagnostics (inside_label label ls) ss ++ part_diagnostics (inside_label label ls) e
+  pub block_diagnostics : List Scope → Block → Faults
+  block_diagnostics ss (tree.block at label number stmts tail) = contents_diagnostics (in_block label ss) stmts (λ inner. part_diagnostics inner tail)
 
-  pub block_part_diagnostics : List Around → OptionBlock → Faults
-  block_part_diagnostics ls tree.no_block = []
-  block_part_diagnostics ls (tree.some_block b) = block_diagnostics ls b
+  pub block_part_diagnostics : List Scope → OptionBlock → Faults
+  block_part_diagnostics ss tree.no_block = []
+  block_part_diagnostics ss (tree.some_block b) = block_diagnostics ss b
 
-  pub stmts_diagnostics : List Around → Stmts → Faults
-  stmts_diagnostics ls tree.no_stmts = []
-  stmts_diagnostics ls (tree.more_stmts s ss) = stmt_diagnostics ls s ++ stmts_diagnostics ls ss
+  -- the statements, and then the tail, in the scopes that the statements leave
+  pub contents_diagnostics : List Scope → Stmts → (List Scope → Faults) → Faults
+  contents_diagnostics ss tree.no_stmts tail = tail ss
+  contents_diagnostics ss (tree.more_stmts (tree.expr_stmt e semi) stmts) tail = part_diagnostics ss e ++ contents_diagnostics ss stmts tail
+  contents_diagnostics ss (tree.more_stmts tree.item_stmt stmts) tail = contents_diagnostics ss stmts tail
 
-  pub stmt_diagnostics : List Around → Stmt → Faults
-  stmt_diagnostics ls (tree.expr_stmt e semi) = part_diagnostics ls e
-  stmt_diagnostics ls tree.item_stmt = []
+-- ---- the scopes in which something is lowered
 
-abbrev pub around : List LabelRib → List Around
-around [] = []
-around (r ∷ rs) = record { name = r.name; hygiene = r.hygiene } ∷ around rs
+-- They have the ribs that are open, whatever is known of the labels.
+abbrev pub forget : {A : Type 0} → A → Unit {0}
+forget a = tt
+
+abbrev pub Around : {A : Type 0} → List Scope → List (Rib A) → Type 0
+Around ss rs = map_ribs forget (ribs ss) ≡ map_ribs forget rs

@@ -1,5 +1,6 @@
 -- The statements and the tail of a block, as lowering settles them and as the block is run.
-use Rattle.std.proofs.Common.{◌≡◌, ℕ, ◌≤◌, Bool, true, false, not, ◌&&◌, if◌then◌else◌, List, [], ◌∷◌, Option, Some, None, refl, sym, true≢false}
+use Rattle.std.proofs.Common.{◌≡◌, ℕ, ◌≤◌, Bool, true, false, not, ◌&&◌, if◌then◌else◌, List, [], ◌∷◌, Option, Some, None, refl, sym}
+use Rattle.std.proofs.Common.{true≢false}
 use Rattle.hir_store.specs.Stored.{Stored}
 use Rattle.hir_store.specs.declared.hir.Statement.{Statement}
 use Rattle.hir_store.specs.declared.hir.Statement.TheVariants as statement
@@ -8,45 +9,37 @@ use Rattle.hir_env.specs.Answered as tree
 use Rattle.hir_env.specs.Answered.{Expr, OptionExpr, Stmts, Stmt}
 use Rattle.hir_lower_form.specs.Lower.{settled}
 use Rattle.hir_meaning.specs.Run.{Value, unit, pure, ◌>>◌}
-use Rattle.hir_meaning.specs.Scopes.{Scope}
-use Rattle.hir_meaning.specs.Syntax.{SyntaxRun, run_part, run_stmts, run_tail}
-use Rattle.hir_meaning.specs.Left.{is_left, none_left}
-use Rattle.hir_meaning.specs.Store.{run_statements, run_to}
+use Rattle.hir_scope.specs.Scopes.{Scope}
+use Rattle.hir_meaning.specs.Syntax.{SyntaxRun, run_expr, run_part, run_stmts, run_tail}
+use Rattle.hir_meaning.specs.Left.{is_kept, is_left, none_left}
+use Rattle.hir_meaning.specs.Store.{StoreRun, run_statements}
 use Rattle.hir_meaning.specs.Jumps.{IfSome, EachStatement, EnclosedTo}
-use Rattle.hir_same_meaning.proofs.Places.{Place, scopes, numbers, Falls}
+use Rattle.hir_steps.proofs.Frames.{Frame, scopes, Falls}
+use Rattle.hir_same_meaning.proofs.Views.{numbers}
 use Rattle.hir_same_meaning.proofs.Relation.{SameWhere, same_pure, same_bind}
-use Rattle.hir_same_meaning.proofs.Senses.{Walk, one, contents, Goes}
+use Rattle.hir_same_meaning.proofs.Senses.{Walk, run_in, one, contents, Goes}
+
+-- the walk of a part
+abbrev pub part_walk : OptionExpr → Walk Value
+part_walk e turns = run_part turns e
 
 -- ---- what is kept of an expression
 
 -- an expression where one is kept
-abbrev pub KeptIs : ℕ → ℕ → Stored → List Place → Bool → Walk Value → Option ExprId → Type 0
+abbrev pub KeptIs : ℕ → ℕ → Stored → List Frame → Bool → Walk Value → Option ExprId → Type 0
 KeptIs labels nodes final ps true x None = ⊥
 KeptIs labels nodes final ps true x (Some i) = Goes labels nodes one x final ps i
 KeptIs labels nodes final ps false x None = Unit {0}
 KeptIs labels nodes final ps false x (Some i) = ⊥
 
--- an expression statement where it is kept
-abbrev pub ExprStmtIs : ℕ → ℕ → Stored → List Place → Bool → Walk Value → Bool → Option Statement → Type 0
-ExprStmtIs labels nodes final ps true x semi None = ⊥
-ExprStmtIs labels nodes final ps true x semi (Some statement.Item) = ⊥
-ExprStmtIs labels nodes final ps true x semi (Some (statement.Expr i semi')) = (semi' ≡ semi) × Goes labels nodes one x final ps i
-ExprStmtIs labels nodes final ps false x semi None = Unit {0}
-ExprStmtIs labels nodes final ps false x semi (Some s) = ⊥
-
-abbrev pub StmtIs : ℕ → ℕ → Stored → List Place → Stmt → Option Statement → Type 0
-StmtIs labels nodes final ps tree.item_stmt (Some statement.Item) = Unit {0}
-StmtIs labels nodes final ps tree.item_stmt (Some (statement.Expr i semi)) = ⊥
-StmtIs labels nodes final ps tree.item_stmt None = ⊥
-StmtIs labels nodes final ps (tree.expr_stmt e semi) o = ExprStmtIs labels nodes final ps (is_left e) (λ turns. run_part turns e) semi o
-
 -- ---- the statements that are stored, against those that are written
 
-abbrev pub Stored1 : ℕ → ℕ → Stored → List Place → Bool → Walk Value → Bool → (List Statement → Type 0) → List Statement → Type 0
+abbrev pub Stored1 : ℕ → ℕ → Stored → List Frame → Bool → Walk Value → Bool → (List Statement → Type 0) → List Statement → Type 0
 Stored1 labels nodes final ps false x semi Rest new = Rest new
 Stored1 labels nodes final ps true x semi Rest [] = ⊥
 Stored1 labels nodes final ps true x semi Rest (statement.Item ∷ new) = ⊥
-Stored1 labels nodes final ps true x semi Rest (statement.Expr i semi' ∷ new) = (semi' ≡ semi) × Goes labels nodes one x final ps i × Rest new
+Stored1 labels nodes final ps true x semi Rest (statement.Expr i semi' ∷ new) =
+    (semi' ≡ semi) × Goes labels nodes one x final ps i × Rest new
 
 abbrev pub Item1 : (List Statement → Type 0) → List Statement → Type 0
 Item1 Rest [] = ⊥
@@ -57,10 +50,13 @@ abbrev pub None1 : List Statement → Type 0
 None1 [] = Unit {0}
 None1 (s ∷ new) = ⊥
 
-abbrev pub StmtsAre : ℕ → ℕ → Stored → List Place → Stmts → List Statement → Type 0
-StmtsAre labels nodes final ps tree.no_stmts new = None1 new
-StmtsAre labels nodes final ps (tree.more_stmts tree.item_stmt ss) new = Item1 (StmtsAre labels nodes final ps ss) new
-StmtsAre labels nodes final ps (tree.more_stmts (tree.expr_stmt e semi) ss) new = Stored1 labels nodes final ps (is_left e) (λ turns. run_part turns e) semi (StmtsAre labels nodes final ps ss) new
+-- The statements, and then the tail x, which is kept or not.
+module _ (labels nodes : ℕ) (final : Stored) (kept : Bool) (x : Walk Value) where
+  abbrev pub ContentsAre : List Frame → Stmts → List Statement → Option ExprId → Type 0
+  ContentsAre ps tree.no_stmts new o = None1 new × KeptIs labels nodes final ps kept x o
+  ContentsAre ps (tree.more_stmts tree.item_stmt ss) new o = Item1 (λ more. ContentsAre ps ss more o) new
+  ContentsAre ps (tree.more_stmts (tree.expr_stmt e semi) ss) new o =
+      Stored1 labels nodes final ps (is_left e) (part_walk e) semi (λ more. ContentsAre ps ss more o) new
 
 -- ---- which statement is the last
 
@@ -68,23 +64,25 @@ abbrev empty : List Statement → Bool
 empty [] = true
 empty (s ∷ ss) = false
 
-abbrev both : Bool → Bool → Bool
-both s t = not s && t
-
-none_left_is : (labels nodes : ℕ) (final : Stored) (ps : List Place) (ss : Stmts) (new : List Statement) → StmtsAre labels nodes final ps ss new → none_left ss ≡ empty new
-none_left_is labels nodes final ps tree.no_stmts [] h = refl
-none_left_is labels nodes final ps tree.no_stmts (s ∷ new) h = absurd h
-none_left_is labels nodes final ps (tree.more_stmts tree.item_stmt ss) [] h = absurd h
-none_left_is labels nodes final ps (tree.more_stmts tree.item_stmt ss) (statement.Item ∷ new) h = refl
-none_left_is labels nodes final ps (tree.more_stmts tree.item_stmt ss) (statement.Expr i semi ∷ new) h = absurd h
-none_left_is labels nodes final ps (tree.more_stmts (tree.expr_stmt e semi) ss) new h = go (is_left e) (λ turns. run_part turns e) new (none_left_is labels nodes final ps ss new) h
-  where
-    go : (t : Bool) (x : Walk Value) (new : List Statement) → (StmtsAre labels nodes final ps ss new → none_left ss ≡ empty new)
-        → Stored1 labels nodes final ps t x semi (StmtsAre labels nodes final ps ss) new → not t && none_left ss ≡ empty new
-    go false x new more h = more h
-    go true x [] more h = absurd h
-    go true x (statement.Item ∷ new) more h = absurd h
-    go true x (statement.Expr i semi' ∷ new) more h = refl
+module _ (labels nodes : ℕ) (final : Stored) (kept : Bool) (x : Walk Value) where
+  none_left_is : (ps : List Frame) (ss : Stmts) (new : List Statement) (o : Option ExprId)
+      → ContentsAre labels nodes final kept x ps ss new o → none_left ss ≡ empty new
+  none_left_is ps tree.no_stmts [] o h = refl
+  none_left_is ps tree.no_stmts (s ∷ new) o h = absurd h.0
+  none_left_is ps (tree.more_stmts tree.item_stmt ss) [] o h = absurd h
+  none_left_is ps (tree.more_stmts tree.item_stmt ss) (statement.Item ∷ new) o h = refl
+  none_left_is ps (tree.more_stmts tree.item_stmt ss) (statement.Expr i semi ∷ new) o h = absurd h
+  none_left_is ps (tree.more_stmts (tree.expr_stmt e semi) ss) new o h =
+      go (is_left e) (part_walk e) new (λ more. none_left_is ps ss more o) h
+    where
+      go : (t : Bool) (y : Walk Value) (new : List Statement)
+          → ((more : List Statement) → ContentsAre labels nodes final kept x ps ss more o → none_left ss ≡ empty more)
+          → Stored1 labels nodes final ps t y semi (λ more. ContentsAre labels nodes final kept x ps ss more o) new
+          → not t && none_left ss ≡ empty new
+      go false y new more h = more new h
+      go true y [] more h = absurd h
+      go true y (statement.Item ∷ new) more h = absurd h
+      go true y (statement.Expr i semi' ∷ new) more h = refl
 
 and_false : (a b : Bool) → a && (b && false) ≡ false
 and_false true true = refl
@@ -97,106 +95,176 @@ and_true false = refl
 
 -- ---- the same run
 
-module _ (labels nodes : ℕ) (final : Stored) (ps : List Place) (turns d : ℕ) (deep : nodes ≤ d) (falls : Falls labels ps) where
+-- the run of a stored block's contents
+abbrev stored_run : Stored → ℕ → ℕ → List Statement × Option ExprId → StoreRun Value
+stored_run final turns d r = run_statements turns (run_in final d turns) r.0 r.1
+
+-- an expression statement that is left or not, and others behind it
+abbrev before : Bool → Bool → SyntaxRun Value → SyntaxRun Value → SyntaxRun Value
+before left last y others = if left then (if last then y else (y >> others)) else others
+
+module _ (labels nodes : ℕ) (final : Stored) (turns d : ℕ) (deep : nodes ≤ d) (x : Walk Value) where
   -- with a tail, the statements as they are
-  with_tail : (ss : Stmts) (new : List Statement) (i : ExprId) (tail : SyntaxRun Value) → StmtsAre labels nodes final ps ss new
-      → SameWhere ps (run_to final.store.exprs final.source_map.expr_sources d turns i) tail
-      → SameWhere ps (run_statements turns (run_to final.store.exprs final.source_map.expr_sources d turns) new (Some i)) (run_stmts turns ss true tail (scopes ps))
-  with_tail tree.no_stmts [] i tail h k = k
-  with_tail tree.no_stmts (s ∷ new) i tail h k = absurd h
-  with_tail (tree.more_stmts tree.item_stmt ss) [] i tail h k = absurd h
-  with_tail (tree.more_stmts tree.item_stmt ss) (statement.Item ∷ new) i tail h k = with_tail ss new i tail h k
-  with_tail (tree.more_stmts tree.item_stmt ss) (statement.Expr j semi ∷ new) i tail h k = absurd h
-  with_tail (tree.more_stmts (tree.expr_stmt e semi) ss) new i tail h k = go (is_left e) (λ turns. run_part turns e) new (λ new' h'. with_tail ss new' i tail h' k) h
+  with_tail : (ps : List Frame) → Falls labels ps → (ss : Stmts) (new : List Statement) (i : ExprId)
+      → ContentsAre labels nodes final true x ps ss new (Some i)
+      → SameWhere ps (stored_run final turns d (new, Some i)) (run_stmts turns ss true (x turns) (scopes ps))
+  with_tail ps f tree.no_stmts [] i h = h.1.same turns d deep f
+  with_tail ps f tree.no_stmts (s ∷ new) i h = absurd h.0
+  with_tail ps f (tree.more_stmts tree.item_stmt ss) [] i h = absurd h
+  with_tail ps f (tree.more_stmts tree.item_stmt ss) (statement.Item ∷ new) i h = with_tail ps f ss new i h
+  with_tail ps f (tree.more_stmts tree.item_stmt ss) (statement.Expr j semi ∷ new) i h = absurd h
+  with_tail ps f (tree.more_stmts (tree.expr_stmt e semi) ss) new i h =
+      go (is_left e) (part_walk e) new (λ more h'. with_tail ps f ss more i h') h
     where
-      go : (t : Bool) (x : Walk Value) (new : List Statement)
-          → ((new' : List Statement) → StmtsAre labels nodes final ps ss new'
-          → SameWhere ps (run_statements turns (run_to final.store.exprs final.source_map.expr_sources d turns) new' (Some i)) (run_stmts turns ss true tail (scopes ps)))
-          → Stored1 labels nodes final ps t x semi (StmtsAre labels nodes final ps ss) new
-          → SameWhere ps (run_statements turns (run_to final.store.exprs final.source_map.expr_sources d turns) new (Some i))
-          (if t then (if not semi && (none_left ss && false) then x turns (scopes ps) else (x turns (scopes ps) >> run_stmts turns ss true tail (scopes ps))) else run_stmts turns ss true tail (scopes ps))
-      go false x new more h = more new h
-      go true x [] more h = absurd h
-      go true x (statement.Item ∷ new) more h = absurd h
-      go true x (statement.Expr j semi' ∷ new) more h = rw (and_false (not semi) (none_left ss)) (same_bind (h.1.same turns d deep falls) (λ v. more new h.2))
+      go : (t : Bool) (y : Walk Value) (new : List Statement)
+          → ((more : List Statement) → ContentsAre labels nodes final true x ps ss more (Some i)
+          → SameWhere ps (stored_run final turns d (more, Some i)) (run_stmts turns ss true (x turns) (scopes ps)))
+          → Stored1 labels nodes final ps t y semi (λ more. ContentsAre labels nodes final true x ps ss more (Some i)) new
+          → SameWhere ps (stored_run final turns d (new, Some i))
+          (before t (not semi && (none_left ss && false)) (y turns (scopes ps)) (run_stmts turns ss true (x turns) (scopes ps)))
+      go false y new more h = more new h
+      go true y [] more h = absurd h
+      go true y (statement.Item ∷ new) more h = absurd h
+      go true y (statement.Expr j semi' ∷ new) more h =
+          rw (and_false (not semi) (none_left ss)) (same_bind (h.1.same turns d deep f) (λ v. more new h.2))
 
   -- without one, the last statement may become it
-  without_tail : (ss : Stmts) (new : List Statement) → StmtsAre labels nodes final ps ss new
-      → SameWhere ps (run_statements turns (run_to final.store.exprs final.source_map.expr_sources d turns) (settled new None).0 (settled new None).1) (run_stmts turns ss false (pure unit) (scopes ps))
-  without_tail tree.no_stmts [] h = same_pure unit
-  without_tail tree.no_stmts (s ∷ new) h = absurd h
-  without_tail (tree.more_stmts tree.item_stmt ss) [] h = absurd h
-  without_tail (tree.more_stmts tree.item_stmt ss) (statement.Item ∷ new) h = without_tail ss new h
-  without_tail (tree.more_stmts tree.item_stmt ss) (statement.Expr j semi ∷ new) h = absurd h
-  without_tail (tree.more_stmts (tree.expr_stmt e semi) ss) new h = go (is_left e) (λ turns. run_part turns e) semi new (without_tail ss) (none_left_is labels nodes final ps ss) h
+  without_tail : (ps : List Frame) → Falls labels ps → (ss : Stmts) (new : List Statement)
+      → ContentsAre labels nodes final false x ps ss new None
+      → SameWhere ps (stored_run final turns d (settled new None)) (run_stmts turns ss false (λ qs. pure unit) (scopes ps))
+  without_tail ps f tree.no_stmts [] h = same_pure unit
+  without_tail ps f tree.no_stmts (s ∷ new) h = absurd h.0
+  without_tail ps f (tree.more_stmts tree.item_stmt ss) [] h = absurd h
+  without_tail ps f (tree.more_stmts tree.item_stmt ss) (statement.Item ∷ new) h = without_tail ps f ss new h
+  without_tail ps f (tree.more_stmts tree.item_stmt ss) (statement.Expr j semi ∷ new) h = absurd h
+  without_tail ps f (tree.more_stmts (tree.expr_stmt e semi) ss) new h =
+      go (is_left e) (part_walk e) semi new (without_tail ps f ss) (λ more. none_left_is labels nodes final false x ps ss more None) h
     where
-      go : (t : Bool) (x : Walk Value) (semi : Bool) (new : List Statement)
-          → ((new' : List Statement) → StmtsAre labels nodes final ps ss new'
-          → SameWhere ps (run_statements turns (run_to final.store.exprs final.source_map.expr_sources d turns) (settled new' None).0 (settled new' None).1) (run_stmts turns ss false (pure unit) (scopes ps)))
-          → ((new' : List Statement) → StmtsAre labels nodes final ps ss new' → none_left ss ≡ empty new')
-          → Stored1 labels nodes final ps t x semi (StmtsAre labels nodes final ps ss) new
-          → SameWhere ps (run_statements turns (run_to final.store.exprs final.source_map.expr_sources d turns) (settled new None).0 (settled new None).1)
-          (if t then (if not semi && (none_left ss && true) then x turns (scopes ps) else (x turns (scopes ps) >> run_stmts turns ss false (pure unit) (scopes ps))) else run_stmts turns ss false (pure unit) (scopes ps))
-      go false x semi new more left h = more new h
-      go true x semi [] more left h = absurd h
-      go true x semi (statement.Item ∷ new) more left h = absurd h
-      go true x true (statement.Expr j true ∷ new) more left h = same_bind (h.1.same turns d deep falls) (λ v. more new h.2)
-      go true x true (statement.Expr j false ∷ new) more left h = absurd (true≢false (sym h.0))
-      go true x false (statement.Expr j true ∷ new) more left h = absurd (true≢false h.0)
-      go true x false (statement.Expr j false ∷ []) more left h = rw (left [] h.2) (h.1.same turns d deep falls)
-      go true x false (statement.Expr j false ∷ (s ∷ new)) more left h = rw (left (s ∷ new) h.2) (same_bind (h.1.same turns d deep falls) (λ v. more (s ∷ new) h.2))
+      go : (t : Bool) (y : Walk Value) (semi : Bool) (new : List Statement)
+          → ((more : List Statement) → ContentsAre labels nodes final false x ps ss more None
+          → SameWhere ps (stored_run final turns d (settled more None)) (run_stmts turns ss false (λ qs. pure unit) (scopes ps)))
+          → ((more : List Statement) → ContentsAre labels nodes final false x ps ss more None → none_left ss ≡ empty more)
+          → Stored1 labels nodes final ps t y semi (λ more. ContentsAre labels nodes final false x ps ss more None) new
+          → SameWhere ps (stored_run final turns d (settled new None))
+          (before t (not semi && (none_left ss && true)) (y turns (scopes ps)) (run_stmts turns ss false (λ qs. pure unit) (scopes ps)))
+      go false y semi new more left h = more new h
+      go true y semi [] more left h = absurd h
+      go true y semi (statement.Item ∷ new) more left h = absurd h
+      go true y true (statement.Expr j true ∷ new) more left h = same_bind (h.1.same turns d deep f) (λ v. more new h.2)
+      go true y true (statement.Expr j false ∷ new) more left h = absurd (true≢false (sym h.0))
+      go true y false (statement.Expr j true ∷ new) more left h = absurd (true≢false h.0)
+      go true y false (statement.Expr j false ∷ []) more left h = rw (left [] h.2) (h.1.same turns d deep f)
+      go true y false (statement.Expr j false ∷ (s ∷ new)) more left h =
+          rw (left (s ∷ new) h.2) (same_bind (h.1.same turns d deep f) (λ v. more (s ∷ new) h.2))
 
 -- ---- jumps
 
-all_jumps : (labels nodes : ℕ) (final : Stored) (ps : List Place) (d : ℕ) → nodes ≤ d → (ss : Stmts) (new : List Statement) → StmtsAre labels nodes final ps ss new
-    → EachStatement (EnclosedTo final.store.exprs d (numbers ps)) new
-all_jumps labels nodes final ps d le tree.no_stmts [] h = tt
-all_jumps labels nodes final ps d le tree.no_stmts (s ∷ new) h = absurd h
-all_jumps labels nodes final ps d le (tree.more_stmts tree.item_stmt ss) [] h = absurd h
-all_jumps labels nodes final ps d le (tree.more_stmts tree.item_stmt ss) (statement.Item ∷ new) h = all_jumps labels nodes final ps d le ss new h
-all_jumps labels nodes final ps d le (tree.more_stmts tree.item_stmt ss) (statement.Expr j semi ∷ new) h = absurd h
-all_jumps labels nodes final ps d le (tree.more_stmts (tree.expr_stmt e semi) ss) new h = go (is_left e) (λ turns. run_part turns e) new (all_jumps labels nodes final ps d le ss) h
-  where
-    go : (t : Bool) (x : Walk Value) (new : List Statement) → ((new' : List Statement) → StmtsAre labels nodes final ps ss new' → EachStatement (EnclosedTo final.store.exprs d (numbers ps)) new')
-        → Stored1 labels nodes final ps t x semi (StmtsAre labels nodes final ps ss) new → EachStatement (EnclosedTo final.store.exprs d (numbers ps)) new
-    go false x new more h = more new h
-    go true x [] more h = absurd h
-    go true x (statement.Item ∷ new) more h = absurd h
-    go true x (statement.Expr j semi' ∷ new) more h = (h.1.jumps d le, more new h.2)
+-- each jump of the contents of a block names what encloses it
+abbrev AllEnclosed : (ExprId → Type 0) → List Statement → Option ExprId → Type 0
+AllEnclosed P ss o = EachStatement P ss × IfSome P o
 
-settled_jumps : (P : ExprId → Type 0) (new : List Statement) (o : Option ExprId) → EachStatement P new → IfSome P o → EachStatement P (settled new o).0 × IfSome P (settled new o).1
-settled_jumps P new (Some i) h k = (h, k)
-settled_jumps P [] None h k = (tt, tt)
-settled_jumps P (statement.Item ∷ new) None h k = settled_jumps P new None h k
-settled_jumps P (statement.Expr i true ∷ new) None h k = let r = settled_jumps P new None h.1 tt in ((h.0, r.0), r.1)
-settled_jumps P (statement.Expr i false ∷ []) None h k = (tt, h.0)
-settled_jumps P (statement.Expr i false ∷ (s ∷ new)) None h k = let r = settled_jumps P (s ∷ new) None h.1 tt in ((h.0, r.0), r.1)
+module _ (labels nodes : ℕ) (final : Stored) (d : ℕ) (deep : nodes ≤ d) (kept : Bool) (x : Walk Value) where
+  kept_jumps : (ps : List Frame) (t : Bool) (y : Walk Value) (o : Option ExprId) → KeptIs labels nodes final ps t y o
+      → IfSome (EnclosedTo final.exprs.entries d (numbers ps)) o
+  kept_jumps ps true y None k = absurd k
+  kept_jumps ps true y (Some i) k = k.jumps d deep
+  kept_jumps ps false y None k = tt
+  kept_jumps ps false y (Some i) k = absurd k
+
+  all_jumps : (ps : List Frame) (ss : Stmts) (new : List Statement) (o : Option ExprId) → ContentsAre labels nodes final kept x ps ss new o
+      → AllEnclosed (EnclosedTo final.exprs.entries d (numbers ps)) new o
+  all_jumps ps tree.no_stmts [] o h = (tt, kept_jumps ps kept x o h.1)
+  all_jumps ps tree.no_stmts (s ∷ new) o h = absurd h.0
+  all_jumps ps (tree.more_stmts tree.item_stmt ss) [] o h = absurd h
+  all_jumps ps (tree.more_stmts tree.item_stmt ss) (statement.Item ∷ new) o h = all_jumps ps ss new o h
+  all_jumps ps (tree.more_stmts tree.item_stmt ss) (statement.Expr j semi ∷ new) o h = absurd h
+  all_jumps ps (tree.more_stmts (tree.expr_stmt e semi) ss) new o h =
+      go (is_left e) (part_walk e) new (λ more. all_jumps ps ss more o) h
+    where
+      go : (t : Bool) (y : Walk Value) (new : List Statement)
+          → ((more : List Statement) → ContentsAre labels nodes final kept x ps ss more o
+          → AllEnclosed (EnclosedTo final.exprs.entries d (numbers ps)) more o)
+          → Stored1 labels nodes final ps t y semi (λ more. ContentsAre labels nodes final kept x ps ss more o) new
+          → AllEnclosed (EnclosedTo final.exprs.entries d (numbers ps)) new o
+      go false y new more h = more new h
+      go true y [] more h = absurd h
+      go true y (statement.Item ∷ new) more h = absurd h
+      go true y (statement.Expr j semi' ∷ new) more h = let r = more new h.2 in ((h.1.jumps d deep, r.0), r.1)
+
+settled_jumps : (P : ExprId → Type 0) (new : List Statement) (o : Option ExprId) → AllEnclosed P new o
+    → AllEnclosed P (settled new o).0 (settled new o).1
+settled_jumps P new (Some i) h = h
+settled_jumps P [] None h = (tt, tt)
+settled_jumps P (statement.Item ∷ new) None h = settled_jumps P new None h
+settled_jumps P (statement.Expr i true ∷ new) None h = let r = settled_jumps P new None (h.0.1, tt) in ((h.0.0, r.0), r.1)
+settled_jumps P (statement.Expr i false ∷ []) None h = (tt, h.0.0)
+settled_jumps P (statement.Expr i false ∷ (s ∷ new)) None h = let r = settled_jumps P (s ∷ new) None (h.0.1, tt) in ((h.0.0, r.0), r.1)
+
+-- ---- the tail is stored where it is kept
+
+module _ (labels nodes : ℕ) (final : Stored) (x : Walk Value) where
+  no_tail : (ps : List Frame) (ss : Stmts) (new : List Statement) → ContentsAre labels nodes final true x ps ss new None → ⊥
+  no_tail ps tree.no_stmts new h = h.1
+  no_tail ps (tree.more_stmts tree.item_stmt ss) [] h = h
+  no_tail ps (tree.more_stmts tree.item_stmt ss) (statement.Item ∷ new) h = no_tail ps ss new h
+  no_tail ps (tree.more_stmts tree.item_stmt ss) (statement.Expr j semi ∷ new) h = h
+  no_tail ps (tree.more_stmts (tree.expr_stmt e semi) ss) new h = go (is_left e) (part_walk e) new (no_tail ps ss) h
+    where
+      go : (t : Bool) (y : Walk Value) (new : List Statement)
+          → ((more : List Statement) → ContentsAre labels nodes final true x ps ss more None → ⊥)
+          → Stored1 labels nodes final ps t y semi (λ more. ContentsAre labels nodes final true x ps ss more None) new → ⊥
+      go false y new more h = more new h
+      go true y [] more h = h
+      go true y (statement.Item ∷ new) more h = h
+      go true y (statement.Expr i semi' ∷ new) more h = more new h.2
+
+module _ (labels nodes : ℕ) (final : Stored) (x : Walk Value) (i : ExprId) where
+  a_tail : (ps : List Frame) (ss : Stmts) (new : List Statement) → ContentsAre labels nodes final false x ps ss new (Some i) → ⊥
+  a_tail ps tree.no_stmts new h = h.1
+  a_tail ps (tree.more_stmts tree.item_stmt ss) [] h = h
+  a_tail ps (tree.more_stmts tree.item_stmt ss) (statement.Item ∷ new) h = a_tail ps ss new h
+  a_tail ps (tree.more_stmts tree.item_stmt ss) (statement.Expr j semi ∷ new) h = h
+  a_tail ps (tree.more_stmts (tree.expr_stmt e semi) ss) new h = go (is_left e) (part_walk e) new (a_tail ps ss) h
+    where
+      go : (t : Bool) (y : Walk Value) (new : List Statement)
+          → ((more : List Statement) → ContentsAre labels nodes final false x ps ss more (Some i) → ⊥)
+          → Stored1 labels nodes final ps t y semi (λ more. ContentsAre labels nodes final false x ps ss more (Some i)) new → ⊥
+      go false y new more h = more new h
+      go true y [] more h = h
+      go true y (statement.Item ∷ new) more h = h
+      go true y (statement.Expr i semi' ∷ new) more h = more new h.2
 
 -- ---- both
 
 -- the run of a tail that is written, by whether it is left
-tail_is : (e : OptionExpr) (turns : ℕ) (qs : List Scope) → run_tail turns e qs ≡ (if is_left e then run_part turns e qs else pure unit)
-tail_is tree.no_expr turns qs = refl
-tail_is (tree.some_expr e) turns qs = refl
+abbrev tail_of : Bool → (List Scope → SyntaxRun Value) → List Scope → SyntaxRun Value
+tail_of true y = y
+tail_of false y = λ qs. pure unit
+
+kept_tail : (t : Bool) (y : List Scope → SyntaxRun Value) → (λ qs. if t then y qs else pure unit) ≡ tail_of t y
+kept_tail true y = refl
+kept_tail false y = refl
+
+tail_is : (e : OptionExpr) (turns : ℕ) → run_tail turns e ≡ tail_of (is_left e) (run_part turns e)
+tail_is tree.no_expr turns = refl
+tail_is (tree.some_expr e) turns = kept_tail (is_kept e) (run_expr turns e)
 
 -- the contents of a block, where `e` is its written tail
-pub contents_go : {labels nodes : ℕ} {final : Stored} {ps : List Place} (ss : Stmts) (e : OptionExpr) (new : List Statement) (o : Option ExprId) → StmtsAre labels nodes final ps ss new
-    → KeptIs labels nodes final ps (is_left e) (λ turns. run_part turns e) o
-    → Goes labels nodes contents (λ turns qs. run_stmts turns ss (is_left e) (run_tail turns e qs) qs) final ps (settled new o)
-contents_go {labels = labels} {nodes = nodes} {final = final} {ps = ps} ss e new o h k = record {
-  same = λ turns d le f. rw (tail_is e turns (scopes ps)) (runs (is_left e) (λ turns. run_part turns e) o k turns d le f);
-  jumps = λ d le. settled_jumps (EnclosedTo final.store.exprs d (numbers ps)) new o (all_jumps labels nodes final ps d le ss new h) (jumps (is_left e) (λ turns. run_part turns e) o k d le);
+pub contents_go : {labels nodes : ℕ} {final : Stored} {ps : List Frame} (ss : Stmts) (e : OptionExpr)
+    (new : List Statement) (o : Option ExprId)
+    → ContentsAre labels nodes final (is_left e) (part_walk e) ps ss new o
+    → Goes labels nodes contents (λ turns qs. run_stmts turns ss (is_left e) (run_tail turns e) qs) final ps (settled new o)
+contents_go {labels = labels} {nodes = nodes} {final = final} {ps = ps} ss e new o h = record {
+  same = λ turns d le f. rw (tail_is e turns) (runs (is_left e) (part_walk e) o h turns d le f);
+  jumps = λ d le.
+      settled_jumps (EnclosedTo final.exprs.entries d (numbers ps)) new o
+      (all_jumps labels nodes final d le (is_left e) (part_walk e) ps ss new o h);
 }
   where
-    runs : (t : Bool) (x : Walk Value) (o : Option ExprId) → KeptIs labels nodes final ps t x o → (turns d : ℕ) → nodes ≤ d → Falls labels ps
-        → SameWhere ps (run_statements turns (run_to final.store.exprs final.source_map.expr_sources d turns) (settled new o).0 (settled new o).1) (run_stmts turns ss t (if t then x turns (scopes ps) else pure unit) (scopes ps))
-    runs true x None k turns d le f = absurd k
-    runs true x (Some i) k turns d le f = with_tail labels nodes final ps turns d le f ss new i (x turns (scopes ps)) h (k.same turns d le f)
-    runs false x None k turns d le f = without_tail labels nodes final ps turns d le f ss new h
-    runs false x (Some i) k turns d le f = absurd k
-
-    jumps : (t : Bool) (x : Walk Value) (o : Option ExprId) → KeptIs labels nodes final ps t x o → (d : ℕ) → nodes ≤ d → IfSome (EnclosedTo final.store.exprs d (numbers ps)) o
-    jumps true x None k d le = absurd k
-    jumps true x (Some i) k d le = k.jumps d le
-    jumps false x None k d le = tt
-    jumps false x (Some i) k d le = absurd k
+    runs : (t : Bool) (x : Walk Value) (o : Option ExprId) → ContentsAre labels nodes final t x ps ss new o → (turns d : ℕ) → nodes ≤ d
+        → Falls labels ps
+        → SameWhere ps (stored_run final turns d (settled new o)) (run_stmts turns ss t (tail_of t (x turns)) (scopes ps))
+    runs true x None h turns d le f = absurd (no_tail labels nodes final x ps ss new h)
+    runs true x (Some i) h turns d le f = with_tail labels nodes final turns d le x ps f ss new i h
+    runs false x None h turns d le f = without_tail labels nodes final turns d le x ps f ss new h
+    runs false x (Some i) h turns d le f = absurd (a_tail labels nodes final x i ps ss new h)

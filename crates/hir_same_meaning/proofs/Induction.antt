@@ -1,15 +1,19 @@
 -- Each tree becomes what runs as it is written.
-use Rattle.std.proofs.Common.{List, []}
+use Rattle.std.proofs.Common.{Bool, List, [], ◌∷◌, ◌++◌, Option}
 use Rattle.hir_store.specs.declared.hir.Statement.{Statement}
+use Rattle.hir_store.specs.declared.hir.Statement.TheVariants as statement
 use Rattle.hir_store.specs.declared.ids.ExprId.{ExprId}
 use Rattle.hir_env.specs.Answered as tree
 use Rattle.hir_env.specs.Answered.{Expr, OptionExpr, Exprs, Block, OptionBlock, Stmts, Stmt}
-use Rattle.hir_lower_form.specs.Lower.{push_some, lower, lower_part, present, kept_part, lower_each, lower_block, lower_block_part, lower_stmts, lower_stmt}
+use Rattle.hir_lower_form.specs.Lower.{push_some, lower, lower_part, present, kept_part, lower_each, lower_block, lower_block_part}
+use Rattle.hir_lower_form.specs.Lower.{lower_stmts}
+use Rattle.hir_lower_form.specs.Lowering.{Lowering}
+use Rattle.hir_meaning.specs.Run.{Value}
 use Rattle.hir_meaning.specs.Left.{is_kept, is_left}
-use Rattle.hir_meaning.specs.Syntax.{run_expr, run_part, run_block_part, run_or_unit, run_each, run_block}
-use Rattle.hir_same_meaning.proofs.Steps.{Correct, correct_bind, correct_as, correct_pure}
-use Rattle.hir_same_meaning.proofs.Senses.{one, optional, many, Runs}
-use Rattle.hir_same_meaning.proofs.Blocks.{KeptIs, StmtIs}
+use Rattle.hir_meaning.specs.Syntax.{run_expr, run_block_part, run_or_unit, run_each, run_block}
+use Rattle.hir_steps.proofs.Steps.{Correct, correct_bind, correct_as, correct_pure}
+use Rattle.hir_same_meaning.proofs.Senses.{Walk, one, optional, many, Runs}
+use Rattle.hir_same_meaning.proofs.Blocks.{part_walk, KeptIs}
 use Rattle.hir_same_meaning.proofs.Nodes
 use Rattle.hir_same_meaning.proofs.Forms
 
@@ -26,7 +30,7 @@ mutual
   expr_fine (tree.continue_expr at jump) = Forms.continue_fine at jump
   expr_fine (tree.block_expr b) = block_is_fine b
 
-  pub part_fine : (e : OptionExpr) → Correct (lower_part e) (Runs one (λ turns. run_part turns e))
+  pub part_fine : (e : OptionExpr) → Correct (lower_part e) (Runs one (part_walk e))
   part_fine tree.no_expr = Forms.missing_fine
   part_fine (tree.some_expr e) = expr_fine e
 
@@ -38,23 +42,32 @@ mutual
   present_fine tree.no_expr = Forms.none_fine
   present_fine (tree.some_expr e) = Forms.some_fine (expr_fine e)
 
-  kept_part_fine : (e : OptionExpr) → Correct (kept_part e) (λ final ps m m' o. KeptIs m.labels m'.nodes final ps (is_left e) (λ turns. run_part turns e) o)
-  kept_part_fine tree.no_expr = Forms.nothing_fine (λ turns. run_part turns tree.no_expr)
+  kept_part_fine : (e : OptionExpr)
+      → Correct (kept_part e) (λ final ps m m' o. KeptIs m.labels m'.nodes final ps (is_left e) (part_walk e) o)
+  kept_part_fine tree.no_expr = Forms.nothing_fine (part_walk tree.no_expr)
   kept_part_fine (tree.some_expr e) = Forms.kept_fine e (expr_fine e)
 
   each_fine : (es : Exprs) (done : List ExprId) → Correct (lower_each done es) (Forms.Pushed done (Runs many (λ turns. run_each turns es)))
   each_fine tree.no_exprs done = correct_as (correct_pure done) (λ final ps m m' r g row. Forms.pushed_none done row.is Nodes.goes_nil)
   each_fine (tree.more_exprs e es) done = correct_as (correct_bind (Forms.kept_fine e (expr_fine e)) (λ o. each_fine es (push_some done o)))
-      (λ final ps m m' r g row. Forms.each_more (is_kept e) (λ turns. run_expr turns e) (λ turns. run_each turns es) done row.one row.before row.after row.first row.second)
+      (λ final ps m m' r g row. Forms.each_more (is_kept e) (λ turns. run_expr turns e) (λ turns. run_each turns es)
+      done row.one row.before row.after row.first row.second)
 
-  block_is_fine : (b : Block) → Correct (lower_block b) (Runs one (λ turns. run_block turns b))
-  block_is_fine (tree.block at label number ss e) = Forms.block_fine at label number ss e (stmts_fine ss []) (kept_part_fine e)
+  pub block_is_fine : (b : Block) → Correct (lower_block b) (Runs one (λ turns. run_block turns b))
+  block_is_fine (tree.block at label number ss e) =
+      Forms.block_fine at label number ss e
+      (stmts_fine (is_left e) (part_walk e) (kept_part_fine e) ss [])
 
-  stmts_fine : (ss : Stmts) (done : List Statement) → Correct (lower_stmts done ss) (Forms.Pushed done (Forms.StmtsRel ss))
-  stmts_fine tree.no_stmts done = correct_as (correct_pure done) (λ final ps m m' r g row. Forms.pushed_none done row.is (λ labels nodes le le'. tt))
-  stmts_fine (tree.more_stmts s ss) done = correct_as (correct_bind (stmt_fine s) (λ o. stmts_fine ss (push_some done o)))
-      (λ final ps m m' r g row. Forms.stmts_more s ss done row.one row.before row.after row.first row.second)
-
-  stmt_fine : (s : Stmt) → Correct (lower_stmt s) (λ final ps m m' o. StmtIs m.labels m'.nodes final ps s o)
-  stmt_fine (tree.expr_stmt e semi) = Forms.expr_stmt_fine e semi (kept_part_fine e)
-  stmt_fine tree.item_stmt = Forms.item_stmt_fine
+  stmts_fine : (t : Bool) (x : Walk Value) {q : Lowering (Option ExprId)}
+      → Correct q (λ final ps m m' o. KeptIs m.labels m'.nodes final ps t x o)
+      → (ss : Stmts) (done : List Statement) → Correct (lower_stmts done ss q) (Forms.Filled done (Forms.ContentsRel t x ss))
+  stmts_fine t x hq tree.no_stmts done = correct_as (correct_bind hq (λ o. correct_pure (done, o)))
+      (λ final ps m m' r g row. rw row.second.still (Forms.filled_end t x done row.one row.second.is row.first))
+  stmts_fine t x hq (tree.more_stmts (tree.expr_stmt e semi) ss) done =
+      correct_as (correct_bind (Forms.correct_statement semi (kept_part_fine e))
+      (λ o. stmts_fine t x hq ss (push_some done o)))
+      (λ final ps m m' r g row. let s = row.first in let others = row.second in
+      Forms.filled_expr t x e semi ss done s.value row.before row.after s.rel (rw s.is at others))
+  stmts_fine t x hq (tree.more_stmts tree.item_stmt ss) done =
+      correct_as (stmts_fine t x hq ss (done ++ statement.Item ∷ []))
+      (λ final ps m m' r g p. Forms.filled_item t x ss done p)

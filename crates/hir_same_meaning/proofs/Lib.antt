@@ -1,11 +1,14 @@
-pub mod Places
+pub mod Views
+pub mod Targets
 pub mod Relation
-pub mod Steps
 pub mod Senses
 pub mod Nodes
 pub mod Blocks
+pub mod Strict
 pub mod Forms
 pub mod Induction
+pub mod Spread
 pub mod Owned
+pub mod Body
 pub mod Tree
 pub mod Computed

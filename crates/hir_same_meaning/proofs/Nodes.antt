@@ -3,85 +3,85 @@ use Rattle.std.proofs.Common.{◌≡◌, ℕ, if◌then◌else◌, List, [], ◌
 use Rattle.hir_store.specs.Pointers.{Pointer}
 use Rattle.hir_store.specs.Stored.{Stored}
 use Rattle.hir_store.specs.declared.hir.Expr.TheVariants as hir
-use Rattle.hir_store.specs.declared.hir.Literal.{Literal}
 use Rattle.hir_store.specs.declared.hir.LoopSource.TheVariants as source
 use Rattle.hir_store.specs.declared.hir.Statement.{Statement}
-use Rattle.hir_store.specs.declared.path.Path.{Path}
 use Rattle.hir_store.specs.declared.ids.ExprId.{ExprId}
 use Rattle.hir_store.specs.declared.ids.LabelId.{LabelId}
 use Rattle.hir_store.specs.declared.ids.BlockId.{BlockId}
-use Rattle.hir_store.specs.declared.ids.HygieneId.{HygieneId}
 use Rattle.hir_env.specs.Answered.{Label, Jump}
 use Rattle.hir_env.specs.Answering.{site_of}
-use Rattle.hir_meaning.specs.Run.{Value, unit, is_true, literal, read, call, break, continue, missing, ends, pure, ◌>>=◌, ask, tests, entering}
+use Rattle.hir_meaning.specs.Run.{Value, unit, is_true, break, continue, leave, missing}
+use Rattle.hir_meaning.specs.Run.{ends, pure, ◌>>=◌, tests, entering}
 use Rattle.hir_meaning.specs.Catching.{turn, loop, block}
-use Rattle.hir_meaning.specs.Scopes.{block_scope, break_target, continue_target, outward, past_block as past_block_scope}
+use Rattle.hir_scope.specs.Scopes.{block_scope, break_target, continue_target, outward, past_block as past_block_scope}
 use Rattle.hir_meaning.specs.Jumps.{NamesAmong}
-use Rattle.hir_same_meaning.proofs.Places.{Place, Numbered, number, block_at, scope, scopes, numbers, Falls, loop_place, loop_numbers, count_break, count_continue}
-use Rattle.hir_same_meaning.proofs.Relation.{same_ends, same_pure, same_bind, same_ask, same_tests, same_if, same_turns, same_loop, same_block, same_plain_block, same_entering}
-use Rattle.hir_same_meaning.proofs.Steps.{Mark, Allocated}
+use Rattle.hir_steps.proofs.Frames.{Frame, block_at, inside, scopes, Falls}
+use Rattle.hir_steps.proofs.Steps.{Mark, Allocated}
+use Rattle.hir_same_meaning.proofs.Views.{Numbered, number, numbers, loop_frame, loop_numbers, count_break, count_continue}
+use Rattle.hir_same_meaning.proofs.Relation.{same_ends, same_pure, same_bind, same_tests, same_if, same_turns, same_loop}
+use Rattle.hir_same_meaning.proofs.Relation.{same_block, same_plain_block, same_entering}
 use Rattle.hir_same_meaning.proofs.Senses.{Walk, one, optional, many, contents, Goes, goes_at}
 
-module _ {labels : ℕ} {m m' : Mark} {at : Option Pointer} {final : Stored} {ps qs : List Place} {i : ExprId} where
-  pub goes_missing : Allocated hir.Missing at final qs m m' i → Goes labels m'.nodes one (λ turns ss. ends missing) final ps i
-  goes_missing h = goes_at h (λ turns d le f. same_ends missing refl) (λ d le. tt)
+module _ {labels : ℕ} {m m' : Mark} {at : Option Pointer} {final : Stored} {ps qs : List Frame} {i : ExprId} where
+  pub goes_missing : Allocated hir.Missing at final qs m m' i → Goes labels m'.nodes one (λ turns ss. ends (leave missing)) final ps i
+  goes_missing h = goes_at h (λ turns d le f. same_ends (leave missing) refl) (λ d le. tt)
 
-module _ {labels : ℕ} {m m' : Mark} {at : Pointer} {final : Stored} {ps qs : List Place} {i : ExprId} where
-  pub goes_literal : (l : Literal) → Allocated (hir.Literal l) (Some at) final qs m m' i → Goes labels m'.nodes one (λ turns ss. ask (literal l) [] (Some (site_of at))) final ps i
-  goes_literal l h = goes_at h (λ turns d le f. same_ask (literal l) [] (Some (site_of at))) (λ d le. tt)
-
-  pub goes_read : (p : Path) (y : HygieneId) → Allocated (hir.Path p y) (Some at) final qs m m' i → Goes labels m'.nodes one (λ turns ss. ask (read p y) [] (Some (site_of at))) final ps i
-  goes_read p y h = goes_at h (λ turns d le f. same_ask (read p y) [] (Some (site_of at))) (λ d le. tt)
-
-  pub goes_call : {f : ExprId} {xs : List ExprId} {x : Walk Value} {y : Walk (List Value)} → Goes labels m.nodes one x final ps f → Goes labels m.nodes many y final ps xs
-      → Allocated (hir.Call f xs) (Some at) final qs m m' i
-      → Goes labels m'.nodes one (λ turns ss. x turns ss >>= (λ v. y turns ss >>= (λ vs. ask call (v ∷ vs) (Some (site_of at))))) final ps i
-  goes_call h hs a = goes_at a
-      (λ turns d le f. same_bind (h.same turns d le f) (λ v. same_bind (hs.same turns d le f) (λ vs. same_ask call (v ∷ vs) (Some (site_of at)))))
-      (λ d le. (h.jumps d le, hs.jumps d le))
-
-  pub goes_if : {c t : ExprId} {e : Option ExprId} {x y z : Walk Value} → Goes labels m.nodes one x final ps c → Goes labels m.nodes one y final ps t → Goes labels m.nodes optional z final ps e
+module _ {labels : ℕ} {m m' : Mark} {at : Pointer} {final : Stored} {ps qs : List Frame} {i : ExprId} where
+  pub goes_if : {c t : ExprId} {e : Option ExprId} {x y z : Walk Value} → Goes labels m.nodes one x final ps c
+      → Goes labels m.nodes one y final ps t → Goes labels m.nodes optional z final ps e
       → Allocated (hir.If c t e) (Some at) final qs m m' i
-      → Goes labels m'.nodes one (λ turns ss. x turns ss >>= (λ v. tests is_true v (Some (site_of at)) >>= (λ holds. if holds then y turns ss else z turns ss))) final ps i
+      → Goes labels m'.nodes one (λ turns ss. x turns ss >>=
+      (λ v. tests is_true v (Some (site_of at)) >>= (λ holds. if holds then y turns ss else z turns ss))) final ps i
   goes_if c t e a = goes_at a
-      (λ turns d le f. same_bind (c.same turns d le f) (λ v. same_bind (same_tests is_true v (Some (site_of at))) (λ b. same_if b (t.same turns d le f) (e.same turns d le f))))
+      (λ turns d le f. same_bind (c.same turns d le f)
+      (λ v. same_bind (same_tests is_true v (Some (site_of at)))
+      (λ b. same_if b (t.same turns d le f) (e.same turns d le f))))
       (λ d le. (c.jumps d le, t.jumps d le, e.jumps d le))
 
-  pub goes_break : {n : Option LabelId} {e : Option ExprId} {x : Walk Value} (j : Option Jump) → (Falls labels ps → count_break ps n ≡ break_target (scopes ps) j) → NamesAmong (numbers ps) n
+  pub goes_break : {n : Option LabelId} {e : Option ExprId} {x : Walk Value} (j : Option Jump)
+      → (Falls labels ps → count_break ps n ≡ break_target (scopes ps) j) → NamesAmong (numbers ps) n
       → Goes labels m.nodes optional x final ps e → Allocated (hir.Break n e) (Some at) final qs m m' i
       → Goes labels m'.nodes one (λ turns ss. x turns ss >>= (λ v. ends (break (break_target ss j) v))) final ps i
   goes_break {n = n} j meets named e a = goes_at a
       (λ turns d le f. same_bind (e.same turns d le f) (λ v. same_ends (break n v) (ap (λ c. break c v) (meets f))))
       (λ d le. (named, e.jumps d le))
 
-  pub goes_continue : {n : Option LabelId} (j : Option Jump) → (Falls labels ps → count_continue ps n ≡ continue_target (scopes ps) j) → NamesAmong (numbers ps) n
-      → Allocated (hir.Continue n) (Some at) final qs m m' i → Goes labels m'.nodes one (λ turns ss. ends (continue (continue_target ss j))) final ps i
+  pub goes_continue : {n : Option LabelId} (j : Option Jump) → (Falls labels ps → count_continue ps n ≡ continue_target (scopes ps) j)
+      → NamesAmong (numbers ps) n
+      → Allocated (hir.Continue n) (Some at) final qs m m' i
+      → Goes labels m'.nodes one (λ turns ss. ends (continue (continue_target ss j))) final ps i
   goes_continue {n = n} j meets named a = goes_at a (λ turns d le f. same_ends (continue n) (ap continue (meets f))) (λ d le. named)
 
-  pub goes_loop : {labels' : ℕ} {b : ExprId} {x : Walk Value} (n : Option Numbered) → (Falls labels ps → Falls labels' (loop_place n ∷ ps)) → Goes labels' m.nodes one x final (loop_place n ∷ ps) b
+  pub goes_loop : {labels' : ℕ} {b : ExprId} {x : Walk Value} (n : Option Numbered)
+      → (Falls labels ps → Falls labels' (loop_frame n ∷ ps)) → Goes labels' m.nodes one x final (loop_frame n ∷ ps) b
       → Allocated (hir.Loop b (number n) source.Loop) (Some at) final qs m m' i
-      → Goes labels m'.nodes one (λ turns ss. loop outward turns (turn (x turns (scope (loop_place n) ∷ ss)))) final ps i
+      → Goes labels m'.nodes one (λ turns ss. loop outward turns (turn (x turns (inside (loop_frame n) ss)))) final ps i
   goes_loop n falls h a = goes_at a
       (λ turns d le f. same_loop (same_turns n (same_bind (h.same turns d le (falls f)) (λ v. same_pure None))) turns)
       (λ d le. let r = h.jumps d le in rw (loop_numbers n ps) at r)
 
-  pub goes_plain_block : {r : List Statement × Option ExprId} {x : Walk Value} (number : Option BlockId) → Goes labels m.nodes contents x final ps r
+  pub goes_plain_block : {r : List Statement × Option ExprId} {x : Walk Value} (number : Option BlockId)
+      → Goes labels m.nodes contents x final ps r
       → Allocated (hir.Block None number r.0 r.1) (Some at) final qs m m' i
       → Goes labels m'.nodes one (λ turns ss. entering number (Some (site_of at)) (x turns ss)) final ps i
   goes_plain_block number h a = goes_at a
       (λ turns d le f. same_entering number (Some (site_of at)) (same_plain_block (h.same turns d le f)))
       (λ d le. h.jumps d le)
 
-  pub goes_block : {labels' : ℕ} {r : List Statement × Option ExprId} {x : Walk Value} (number : Option BlockId) (l : Label) (n : LabelId) → (Falls labels ps → Falls labels' (block_at l n ∷ ps))
-      → Goes labels' m.nodes contents x final (block_at l n ∷ ps) r → Allocated (hir.Block (Some n) number r.0 r.1) (Some at) final qs m m' i
-      → Goes labels m'.nodes one (λ turns ss. entering number (Some (site_of at)) (block outward past_block_scope (x turns (block_scope l ∷ ss)))) final ps i
+  pub goes_block : {labels' : ℕ} {r : List Statement × Option ExprId} {x : Walk Value} (number : Option BlockId) (l : Label) (n : LabelId)
+      → (Falls labels ps → Falls labels' (block_at l n ∷ ps))
+      → Goes labels' m.nodes contents x final (block_at l n ∷ ps) r
+      → Allocated (hir.Block (Some n) number r.0 r.1) (Some at) final qs m m' i
+      → Goes labels m'.nodes one (λ turns ss. entering number (Some (site_of at))
+      (block outward past_block_scope (x turns (block_scope l ∷ ss)))) final ps i
   goes_block number l n falls h a = goes_at a
-      (λ turns d le f. same_entering number (Some (site_of at)) (same_block (record { label = l; number = n }) (h.same turns d le (falls f))))
+      (λ turns d le f. same_entering number (Some (site_of at))
+      (same_block (record { label = l; number = n }) (h.same turns d le (falls f))))
       (λ d le. h.jumps d le)
 
 -- ---- parts
 
-module _ {labels nodes : ℕ} {final : Stored} {ps : List Place} where
+module _ {labels nodes : ℕ} {final : Stored} {ps : List Frame} where
   pub goes_none : Goes labels nodes optional (λ turns ss. pure unit) final ps None
   goes_none = record { same = λ turns d le f. same_pure unit; jumps = λ d le. tt }
 
@@ -91,7 +91,8 @@ module _ {labels nodes : ℕ} {final : Stored} {ps : List Place} where
   pub goes_nil : Goes labels nodes many (λ turns ss. pure []) final ps []
   goes_nil = record { same = λ turns d le f. same_pure []; jumps = λ d le. tt }
 
-  pub goes_cons : {x : Walk Value} {y : Walk (List Value)} {i : ExprId} {is : List ExprId} → Goes labels nodes one x final ps i → Goes labels nodes many y final ps is
+  pub goes_cons : {x : Walk Value} {y : Walk (List Value)} {i : ExprId} {is : List ExprId} → Goes labels nodes one x final ps i
+      → Goes labels nodes many y final ps is
       → Goes labels nodes many (λ turns ss. x turns ss >>= (λ v. y turns ss >>= (λ vs. pure (v ∷ vs)))) final ps (i ∷ is)
   goes_cons h hs = record {
     same = λ turns d le f. same_bind (h.same turns d le f) (λ v. same_bind (hs.same turns d le f) (λ vs. same_pure (v ∷ vs)));

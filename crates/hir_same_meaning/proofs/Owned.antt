@@ -1,5 +1,6 @@
 -- Each number is reached in one way, and the numbers of a part are those that its lowering gave out.
-use Rattle.std.proofs.Common.{◌≡◌, ◌≢◌, ℕ, zero, suc, ◌<◌, ◌≤◌, ◌⊎◌, inl, inr, Bool, true, false, List, [], ◌∷◌, ◌++◌, append-nil, append_assoc, Option, Some, None, option_map, refl, sym, ap, ◌∙◌, arith}
+use Rattle.std.proofs.Common.{◌≡◌, ℕ, zero, suc, ◌≤◌, inl, inr, Bool, true, false, List, [], ◌∷◌, ◌++◌, append-nil}
+use Rattle.std.proofs.Common.{append_assoc, Option, Some, None, option_map, refl, sym, ap, ◌∙◌, arith}
 use Rattle.hir_store.specs.Pointers.{Pointer}
 use Rattle.hir_store.specs.Stored.{Stored}
 use Rattle.hir_store.specs.declared.hir.Expr.{Expr as HirExpr}
@@ -17,50 +18,22 @@ use Rattle.hir_store.specs.declared.diagnostics.ExpressionStoreDiagnostics.TheVa
 use Rattle.hir_env.specs.Answered as tree
 use Rattle.hir_env.specs.Answered.{Label, Jump, Segments, Expr, OptionExpr, Exprs, Block, OptionBlock, Stmts, Stmt}
 use Rattle.hir_lower_form.specs.Lowering.{Lowering, ◌>>=◌, pure, alloc_expr, report}
-use Rattle.hir_lower_form.specs.Lower.{Node, push_some, missing, some, if_form, loop_form, call_form, continue_form, break_form, paren_form, names_of, named_path, stored_path, settled, settled_block, block_form, labelled, kept, lower, lower_part, present, kept_part, lower_each, lower_block, lower_block_part, lower_stmts, lower_stmt}
-use Rattle.hir_same_meaning.specs.Reached.{of_some, of_each, of_statement, of_statements, below, reached_to, AllOf, Distinct, From, Spread}
-use Rattle.hir_same_meaning.proofs.Places.{Place, loop_at, block_at}
-use Rattle.hir_same_meaning.proofs.Steps.{Mark, Grows, Rel, Correct, Allocated, correct_bind, correct_as, correct_pure, correct_report, correct_point, correct_enter_block, correct_alloc, correct_opened, correct_target}
-use Rattle.hir_same_meaning.proofs.Forms.{Pushed, pushed_none, pushed_one}
-
--- ---- numbers of their own
-
-all_less : {P Q : ℕ → Type 0} (ks : List ℕ) → ((k : ℕ) → P k → Q k) → AllOf P ks → AllOf Q ks
-all_less [] f h = tt
-all_less (k ∷ ks) f h = (f k h.0, all_less ks f h.1)
-
-all_append : (P : ℕ → Type 0) (ks js : List ℕ) → AllOf P ks → AllOf P js → AllOf P (ks ++ js)
-all_append P [] js h h' = h'
-all_append P (k ∷ ks) js h h' = (h.0, all_append P ks js h.1 h')
-
-apart : (lo hi lo' hi' k : ℕ) (js : List ℕ) → (hi ≤ lo') ⊎ (hi' ≤ lo) → From lo hi k → AllOf (From lo' hi') js → AllOf (λ j. k ≢ j) js
-apart lo hi lo' hi' k js (inl le) h h' = let a : k < hi = h.1 in all_less js (λ j f. let b : lo' ≤ j = f.0 in omega arith) h'
-apart lo hi lo' hi' k js (inr le) h h' = let a : lo ≤ k = h.0 in all_less js (λ j f. let b : j < hi' = f.1 in omega arith) h'
-
-distinct_append : (lo hi lo' hi' : ℕ) (ks js : List ℕ) → (hi ≤ lo') ⊎ (hi' ≤ lo) → Spread lo hi ks → Spread lo' hi' js → Distinct (ks ++ js)
-distinct_append lo hi lo' hi' [] js e h h' = h'.distinct
-distinct_append lo hi lo' hi' (k ∷ ks) js e h h' =
-    (all_append _ ks js h.distinct.0 (apart lo hi lo' hi' k js e h.within.0 h'.within), distinct_append lo hi lo' hi' ks js e (record { within = h.within.1; distinct = h.distinct.1 }) h')
-
-spread_none : (lo hi : ℕ) → Spread lo hi []
-spread_none lo hi = record { within = tt; distinct = tt }
-
-spread_wider : {lo hi : ℕ} {ks : List ℕ} (lo' hi' : ℕ) → lo' ≤ lo → hi ≤ hi' → Spread lo hi ks → Spread lo' hi' ks
-spread_wider {lo = lo} {hi = hi} {ks = ks} lo' hi' le le' h = record { within = all_less ks (λ k f. let a : lo ≤ k = f.0 in let b : k < hi = f.1 in omega arith) h.within; distinct = h.distinct }
-
-spread_append : {lo hi lo' hi' : ℕ} {ks js : List ℕ} (from to : ℕ) → (hi ≤ lo') ⊎ (hi' ≤ lo) → (from ≤ lo) × (from ≤ lo') × (hi ≤ to) × (hi' ≤ to) → Spread lo hi ks → Spread lo' hi' js → Spread from to (ks ++ js)
-spread_append {lo = lo} {hi = hi} {lo' = lo'} {hi' = hi'} {ks = ks} {js = js} from to e in_range h h' =
-    let a = spread_wider from to in_range.0 in_range.2 h in let b = spread_wider from to in_range.1 in_range.3 h' in
-    record { within = all_append (From from to) ks js a.within b.within; distinct = distinct_append lo hi lo' hi' ks js e h h' }
-
-spread_node : (lo n : ℕ) (ks : List ℕ) → lo ≤ n → Spread lo n ks → Spread lo (suc n) (n ∷ ks)
-spread_node lo n ks le h = let w = spread_wider lo (suc n) (omega arith) (omega arith) h in
-    record { within = ((le, omega arith), w.within); distinct = (all_less ks (λ k f. let b : k < n = f.1 in omega arith) h.within, h.distinct) }
+use Rattle.hir_lower_form.specs.Lower.{Node, push_some, missing, some, if_form, loop_form, call_form, continue_form, break_form}
+use Rattle.hir_lower_form.specs.Lower.{paren_form, names_of, named_path, stored_path, settled, settled_block, Contents, block_form}
+use Rattle.hir_lower_form.specs.Lower.{labelled, kept, lower, lower_part, present, kept_part, lower_each, lower_block, lower_block_part}
+use Rattle.hir_lower_form.specs.Lower.{lower_stmts}
+use Rattle.hir_same_meaning.specs.Reached.{of_some, of_each, of_statement, of_statements, below, reached_to, Spread}
+use Rattle.hir_steps.proofs.Frames.{Frame, loop_at, block_at}
+use Rattle.hir_steps.proofs.Steps.{Mark, Grows, Rel, Correct, Allocated, correct_bind, correct_as, correct_pure}
+use Rattle.hir_steps.proofs.Steps.{correct_report, correct_point, correct_enter_block, correct_alloc, correct_opened, correct_target}
+use Rattle.hir_same_meaning.proofs.Spread.{spread_none, spread_wider, spread_append, spread_node}
+use Rattle.hir_same_meaning.proofs.Forms.{Pushed, pushed_none, pushed_one, correct_statement}
 
 -- ---- what was answered has its numbers
 
-pub record OwnsAs {A : Type 0} (numbers : (ExprId → List ℕ) → A → List ℕ) (final : Stored) (ps : List Place) (m m' : Mark) (a : A) : Type 0 where
-  pub spread : (d : ℕ) → m'.nodes ≤ d → Spread m.nodes m'.nodes (numbers (reached_to final.store.exprs d) a)
+pub record OwnsAs {A : Type 0} (numbers : (ExprId → List ℕ) → A → List ℕ)
+    (final : Stored) (ps : List Frame) (m m' : Mark) (a : A) : Type 0 where
+  pub spread : (d : ℕ) → m'.nodes ≤ d → Spread m.nodes m'.nodes (numbers (reached_to final.exprs.entries d) a)
 
 abbrev pub Owns : Rel ExprId
 Owns = OwnsAs (λ f i. f i)
@@ -68,26 +41,28 @@ Owns = OwnsAs (λ f i. f i)
 abbrev OwnsSome : Rel (Option ExprId)
 OwnsSome = OwnsAs of_some
 
-abbrev of_some_statement : (ExprId → List ℕ) → Option Statement → List ℕ
-of_some_statement f None = []
-of_some_statement f (Some s) = of_statement f s
+abbrev of_contents : (ExprId → List ℕ) → Contents → List ℕ
+of_contents f r = of_statements f r.0 ++ of_some f r.1
 
-owns_none : {A : Type 0} {numbers : (ExprId → List ℕ) → A → List ℕ} {final : Stored} {ps : List Place} {m m' : Mark} (a : A) → ((f : ExprId → List ℕ) → numbers f a ≡ []) → OwnsAs numbers final ps m m' a
+owns_none : {A : Type 0} {numbers : (ExprId → List ℕ) → A → List ℕ} {final : Stored} {ps : List Frame} {m m' : Mark} (a : A)
+    → ((f : ExprId → List ℕ) → numbers f a ≡ []) → OwnsAs numbers final ps m m' a
 owns_none {m = m} {m' = m'} a e = record { spread = λ d le. rw (e _) (spread_none m.nodes m'.nodes) }
 
-owns_at : {e : HirExpr} {from : Option Pointer} {final : Stored} {ps qs : List Place} (m : Mark) {m1 m' : Mark} {i : ExprId} → Allocated e from final qs m1 m' i → m.nodes ≤ m1.nodes
-    → ((d : ℕ) → m1.nodes ≤ d → Spread m.nodes m1.nodes (below (reached_to final.store.exprs d) e)) → Owns final ps m m' i
+owns_at : {e : HirExpr} {from : Option Pointer} {final : Stored} {ps qs : List Frame} (m : Mark) {m1 m' : Mark} {i : ExprId}
+    → Allocated e from final qs m1 m' i → m.nodes ≤ m1.nodes
+    → ((d : ℕ) → m1.nodes ≤ d → Spread m.nodes m1.nodes (below (reached_to final.exprs.entries d) e)) → Owns final ps m m' i
 unfolding reached_to
 owns_at {final = final} m {m1 = m1} {m' = m'} {i = i} at le h = record { spread = go }
   where
-    go : (d : ℕ) → m'.nodes ≤ d → Spread m.nodes m'.nodes (reached_to final.store.exprs d i)
+    go : (d : ℕ) → m'.nodes ≤ d → Spread m.nodes m'.nodes (reached_to final.exprs.entries d i)
     go zero le' = absurd (omega (arith, at.next))
     go (suc d) le' = rw (at.number, at.here, at.next) (spread_node m.nodes m1.nodes _ le (h d (omega (arith, at.next))))
 
 -- ---- forms
 
 leaf_owns : (e : HirExpr) (from : Option Pointer) → ((f : ExprId → List ℕ) → below f e ≡ []) → Correct (alloc_expr e from) Owns
-leaf_owns e from n = correct_as (correct_alloc e from) (λ final ps m m' i g a. owns_at m a (omega arith) (λ d le. rw (n (reached_to final.store.exprs d)) (spread_none m.nodes m.nodes)))
+leaf_owns e from n = correct_as (correct_alloc e from)
+    (λ final ps m m' i g a. owns_at m a (omega arith) (λ d le. rw (n (reached_to final.exprs.entries d)) (spread_none m.nodes m.nodes)))
 
 missing_owns : Correct missing Owns
 unfolding missing
@@ -97,33 +72,48 @@ none_owns : Correct (pure None) OwnsSome
 none_owns = correct_as (correct_pure None) (λ final ps m m' o g row. rw row.is (owns_none None (λ f. refl)))
 
 some_owns : {p : Node} → Correct p Owns → Correct (some p) OwnsSome
-some_owns h = correct_as (correct_bind h (λ i. correct_pure (Some i))) (λ final ps m m' o g row. rw (row.second.is, row.second.still) (record { spread = row.first.spread }))
+some_owns h = correct_as (correct_bind h (λ i. correct_pure (Some i)))
+    (λ final ps m m' o g row. rw (row.second.is, row.second.still) (record { spread = row.first.spread }))
+
+-- a node of two parts, or lists of them
+owns2 : {A C : Type 0} {n : (ExprId → List ℕ) → A → List ℕ} {k : (ExprId → List ℕ) → C → List ℕ}
+    {p : Lowering A} {q : Lowering C} (e : A → C → HirExpr) (from : Option Pointer)
+    → ((f : ExprId → List ℕ) (a : A) (c : C) → below f (e a c) ≡ n f a ++ k f c)
+    → Correct p (OwnsAs n) → Correct q (OwnsAs k) → Correct (p >>= (λ a. q >>= (λ c. alloc_expr (e a c) from))) Owns
+owns2 e from is hp hq = correct_as (correct_bind hp (λ a. correct_bind hq (λ c. correct_alloc (e a c) from)))
+    (λ final ps m m' i g row. let r = row.second in
+    owns_at m r.second (omega arith) (λ d le. rw (is (reached_to final.exprs.entries d) row.one r.one)
+    (spread_append m.nodes r.middle.nodes (inl (omega arith)) (omega arith) (row.first.spread d (omega arith)) (r.first.spread d le))))
 
 module _ (at : Pointer) where
-  if_owns : {c t : Node} {e : Lowering (Option ExprId)} → Correct c Owns → Correct t Owns → Correct e OwnsSome → Correct (if_form at c t e) Owns
+  if_owns : {c t : Node} {e : Lowering (Option ExprId)} → Correct c Owns → Correct t Owns → Correct e OwnsSome
+      → Correct (if_form at c t e) Owns
   unfolding if_form
-  if_owns hc ht he = correct_as (correct_bind ht (λ i. correct_bind he (λ j. correct_bind hc (λ k. correct_alloc (hir.If k i j) (Some at)))))
+  if_owns hc ht he = correct_as
+      (correct_bind ht (λ i. correct_bind he (λ j. correct_bind hc (λ k. correct_alloc (hir.If k i j) (Some at)))))
       (λ final ps m m' i g row. let r = row.second in let q = r.second in
       owns_at m q.second (omega arith) (λ d le. spread_append m.nodes q.middle.nodes (inr (omega arith)) (omega arith) (q.first.spread d le)
-      (spread_append m.nodes r.middle.nodes (inl (omega arith)) (omega arith) (row.first.spread d (omega arith)) (r.first.spread d (omega arith)))))
+      (spread_append m.nodes r.middle.nodes (inl (omega arith)) (omega arith)
+      (row.first.spread d (omega arith)) (r.first.spread d (omega arith)))))
 
   call_owns : {p : Node} {q : Lowering (List ExprId)} → Correct p Owns → Correct q (OwnsAs of_each) → Correct (call_form at p q) Owns
   unfolding call_form
-  call_owns hf hs = correct_as (correct_bind hf (λ i. correct_bind hs (λ is. correct_alloc (hir.Call i is) (Some at))))
-      (λ final ps m m' i g row. let r = row.second in
-      owns_at m r.second (omega arith) (λ d le. spread_append m.nodes r.middle.nodes (inl (omega arith)) (omega arith) (row.first.spread d (omega arith)) (r.first.spread d le)))
+  call_owns hf hs = owns2 hir.Call (Some at) (λ f g xs. refl) hf hs
 
   loop_owns : (l : Option Label) {p : Node} → Correct p Owns → Correct (loop_form at l p) Owns
   unfolding loop_form
   loop_owns None h = correct_as (correct_bind h (λ i. correct_alloc (hir.Loop i None source.Loop) (Some at)))
       (λ final ps m m' i g row. owns_at m row.second (omega arith) (λ d le. row.first.spread d le))
-  loop_owns (Some l) h = correct_as (correct_opened loop_at l (λ n ps. refl) (λ n. h) (λ n i. correct_alloc (hir.Loop i (Some n) source.Loop) (Some at)))
-      (λ final ps m m' i g row. let e = row.nodes in let b = row.before in owns_at m row.second (omega arith) (λ d le. spread_wider m.nodes row.left.nodes (omega arith) (omega arith) (row.first.spread d le)))
+  loop_owns (Some l) h = correct_as
+      (correct_opened loop_at l (λ n ps. refl) (λ n. h) (λ n i. correct_alloc (hir.Loop i (Some n) source.Loop) (Some at)))
+      (λ final ps m m' i g row. let e = row.nodes in let b = row.before in
+      owns_at m row.second (omega arith) (λ d le. spread_wider m.nodes row.left.nodes (omega arith) (omega arith) (row.first.spread d le)))
 
   break_owns : (j : Option Jump) {p : Lowering (Option ExprId)} → Correct p OwnsSome → Correct (break_form at j p) Owns
   unfolding break_form
   break_owns j h = correct_as (correct_bind (correct_target j) (λ n. correct_bind h (λ e. correct_alloc (hir.Break n e) (Some at))))
-      (λ final ps m m' i g row. let r = row.second in owns_at m r.second (omega arith) (λ d le. spread_wider m.nodes r.middle.nodes (omega arith) (omega arith) (r.first.spread d le)))
+      (λ final ps m m' i g row. let r = row.second in
+      owns_at m r.second (omega arith) (λ d le. spread_wider m.nodes r.middle.nodes (omega arith) (omega arith) (r.first.spread d le)))
 
   continue_owns : (j : Option Jump) → Correct (continue_form at j) Owns
   unfolding continue_form
@@ -133,7 +123,8 @@ module _ (at : Pointer) where
   paren_owns : {p : Node} → Correct p Owns → Correct (paren_form at p) Owns
   unfolding paren_form
   paren_owns h = correct_as (correct_bind h (λ i. correct_bind (correct_point at i) (λ _. correct_pure i)))
-      (λ final ps m m' i g row. let r = row.second in rw (r.second.is, r.second.still, r.first.still) row.first)
+      (λ final ps m m' i g row. rw row.second.second.is
+      (record { spread = λ d le. spread_wider m.nodes m'.nodes (omega arith) (omega arith) (row.first.spread d (omega arith)) }))
 
 path_below : (x : Option Segments) (h : HygieneId) (f : ExprId → List ℕ) → below f (stored_path x h) ≡ []
 path_below None h f = refl
@@ -146,66 +137,105 @@ path_below (Some ss) h f = go (names_of ss)
 -- ---- what is kept, lists, statements
 
 kept_owns : (e : Expr) {p : Node} → Correct p Owns → Correct (kept e p) OwnsSome
-kept_owns (tree.disabled_expr at by e) h = correct_as (correct_bind (correct_report (InactiveCode at by)) (λ u. correct_pure None)) (λ final ps m m' o g row. rw row.second.is (owns_none None (λ f. refl)))
-kept_owns e h = correct_as (correct_bind h (λ i. correct_pure (Some i))) (λ final ps m m' o g row. rw (row.second.is, row.second.still) (record { spread = row.first.spread }))
+kept_owns (tree.disabled_expr at by e) h = correct_as (correct_bind (correct_report (InactiveCode at by)) (λ u. correct_pure None))
+    (λ final ps m m' o g row. rw row.second.is (owns_none None (λ f. refl)))
+kept_owns e h = correct_as (correct_bind h (λ i. correct_pure (Some i)))
+    (λ final ps m m' o g row. rw (row.second.is, row.second.still) (record { spread = row.first.spread }))
 
 disabled_owns : (at : Pointer) (by : CfgId) → Correct (report (InactiveCode at by) >>= (λ u. missing)) Owns
 disabled_owns at by = correct_as (correct_bind (correct_report (InactiveCode at by)) (λ u. missing_owns))
-    (λ final ps m m' i g row. record { spread = λ d le. spread_wider m.nodes m'.nodes (omega arith) (omega arith) (row.second.spread d le) })
+    (λ final ps m m' i g row.
+    record { spread = λ d le. spread_wider m.nodes m'.nodes (omega arith) (omega arith) (row.second.spread d le) })
 
-each_more : {final : Stored} {ps : List Place} {m m1 m' : Mark} {r : List ExprId} (done : List ExprId) (o : Option ExprId) → Grows m m1 → Grows m1 m'
+each_more : {final : Stored} {ps : List Frame} {m m1 m' : Mark} {r : List ExprId} (done : List ExprId) (o : Option ExprId) → Grows m m1
+    → Grows m1 m'
     → OwnsSome final ps m m1 o → Pushed (push_some done o) (OwnsAs of_each) final ps m1 m' r → Pushed done (OwnsAs of_each) final ps m m' r
-each_more {m = m} {m' = m'} done None g g' h p = record { new = p.new; is = p.is; rel = record { spread = λ d le. spread_wider m.nodes m'.nodes (omega arith) (omega arith) (p.rel.spread d le) } }
+each_more {m = m} {m' = m'} done None g g' h p = record {
+  new = p.new;
+  is = p.is;
+  rel = record { spread = λ d le. spread_wider m.nodes m'.nodes (omega arith) (omega arith) (p.rel.spread d le) };
+}
 each_more {m = m} {m' = m'} done (Some i) g g' h p = record {
   new = i ∷ p.new;
   is = pushed_one done i p.new p.is;
-  rel = record { spread = λ d le. spread_append m.nodes m'.nodes (inl (omega arith)) (omega arith) (h.spread d (omega arith)) (p.rel.spread d le) };
+  rel = record {
+    spread = λ d le. spread_append m.nodes m'.nodes (inl (omega arith)) (omega arith) (h.spread d (omega arith)) (p.rel.spread d le);
+  };
 }
 
-stmts_more : {final : Stored} {ps : List Place} {m m1 m' : Mark} {r : List Statement} (done : List Statement) (o : Option Statement) → Grows m m1 → Grows m1 m'
-    → OwnsAs of_some_statement final ps m m1 o → Pushed (push_some done o) (OwnsAs of_statements) final ps m1 m' r → Pushed done (OwnsAs of_statements) final ps m m' r
-stmts_more {m = m} {m' = m'} done None g g' h p = record { new = p.new; is = p.is; rel = record { spread = λ d le. spread_wider m.nodes m'.nodes (omega arith) (omega arith) (p.rel.spread d le) } }
-stmts_more {m = m} {m' = m'} done (Some s) g g' h p = record {
+-- the statements are pushed on those that stand
+record Filled (done : List Statement) (final : Stored) (ps : List Frame) (m m' : Mark) (r : Contents) : Type 0 where
+  new : List Statement
+  is : r.0 ≡ done ++ new
+  rel : OwnsAs of_contents final ps m m' (new, r.1)
+
+filled_end : {final : Stored} {ps : List Frame} {m m' : Mark} {r : Contents} (done : List Statement) (o : Option ExprId) → r ≡ (done, o)
+    → OwnsSome final ps m m' o → Filled done final ps m m' r
+filled_end done o e h = rw e (record { new = []; is = sym (append-nil done); rel = record { spread = h.spread } })
+
+filled_silent : {final : Stored} {ps qs : List Frame} {m m' : Mark} {r : Contents} (s : Statement) (done : List Statement)
+    → ((f : ExprId → List ℕ) → of_statement f s ≡ [])
+    → Filled (done ++ s ∷ []) final qs m m' r → Filled done final ps m m' r
+filled_silent {final = final} s done n p = record {
   new = s ∷ p.new;
   is = pushed_one done s p.new p.is;
-  rel = record { spread = λ d le. spread_append m.nodes m'.nodes (inl (omega arith)) (omega arith) (h.spread d (omega arith)) (p.rel.spread d le) };
+  rel = record { spread = λ d le. rw (n (reached_to final.exprs.entries d)) (p.rel.spread d le) };
 }
 
-as_statement : {final : Stored} {ps : List Place} {m m' : Mark} (semi : Bool) (o : Option ExprId) → OwnsSome final ps m m' o → OwnsAs of_some_statement final ps m m' (option_map (λ i. statement.Expr i semi) o)
-as_statement semi None h = owns_none None (λ f. refl)
-as_statement semi (Some i) h = record { spread = h.spread }
-
-expr_stmt_owns : (semi : Bool) {p : Lowering (Option ExprId)} → Correct p OwnsSome → Correct (p >>= (λ x. pure (option_map (λ i. statement.Expr i semi) x))) (OwnsAs of_some_statement)
-expr_stmt_owns semi h = correct_as (correct_bind h (λ x. correct_pure (option_map (λ i. statement.Expr i semi) x)))
-    (λ final ps m m' o g row. rw (row.second.is, row.second.still) (as_statement semi row.one row.first))
-
-item_stmt_owns : Correct (pure (Some statement.Item)) (OwnsAs of_some_statement)
-item_stmt_owns = correct_as (correct_pure (Some statement.Item)) (λ final ps m m' o g row. rw row.is (owns_none (Some statement.Item) (λ f. refl)))
+filled_expr : {final : Stored} {ps : List Frame} {m m1 m' : Mark} {r : Contents} (semi : Bool) (done : List Statement) (o : Option ExprId)
+    → Grows m m1 → Grows m1 m'
+    → OwnsSome final ps m m1 o → Filled (push_some done (option_map (λ i. statement.Expr i semi) o)) final ps m1 m' r
+    → Filled done final ps m m' r
+filled_expr {m = m} {m' = m'} semi done None g g' h p = record {
+  new = p.new;
+  is = p.is;
+  rel = record { spread = λ d le. spread_wider m.nodes m'.nodes (omega arith) (omega arith) (p.rel.spread d le) };
+}
+filled_expr {final = final} {m = m} {m1 = m1} {m' = m'} {r = r} semi done (Some i) g g' h p = record {
+  new = statement.Expr i semi ∷ p.new;
+  is = pushed_one done (statement.Expr i semi) p.new p.is;
+  rel = record {
+    spread = λ d le. let f = reached_to final.exprs.entries d in
+        rw (append_assoc (f i) (of_statements f p.new) (of_some f r.1))
+        (spread_append m.nodes m'.nodes (inl (omega arith)) (omega arith) (h.spread d (omega arith)) (p.rel.spread d le));
+  };
+}
 
 -- ---- blocks
 
-settled_below : (f : ExprId → List ℕ) (ss : List Statement) (o : Option ExprId) → of_statements f (settled ss o).0 ++ of_some f (settled ss o).1 ≡ of_statements f ss ++ of_some f o
+one_below : (f : ExprId → List ℕ) (i : ExprId) (ss ss' : List Statement) (o o' : Option ExprId)
+    → of_statements f ss ++ of_some f o ≡ of_statements f ss' ++ of_some f o'
+    → (f i ++ of_statements f ss) ++ of_some f o ≡ (f i ++ of_statements f ss') ++ of_some f o'
+one_below f i ss ss' o o' e = append_assoc (f i) (of_statements f ss) (of_some f o)
+    ∙ ap (λ ks. f i ++ ks) e
+    ∙ sym (append_assoc (f i) (of_statements f ss') (of_some f o'))
+
+settled_below : (f : ExprId → List ℕ) (ss : List Statement) (o : Option ExprId)
+    → of_statements f (settled ss o).0 ++ of_some f (settled ss o).1 ≡ of_statements f ss ++ of_some f o
 settled_below f ss (Some i) = refl
 settled_below f [] None = refl
 settled_below f (statement.Item ∷ ss) None = settled_below f ss None
-settled_below f (statement.Expr i true ∷ ss) None = append_assoc (f i) (of_statements f (settled ss None).0) (of_some f (settled ss None).1) ∙ ap (λ ks. f i ++ ks) (settled_below f ss None) ∙ sym (append_assoc (f i) (of_statements f ss) [])
+settled_below f (statement.Expr i true ∷ ss) None = one_below f i (settled ss None).0 ss (settled ss None).1 None (settled_below f ss None)
 settled_below f (statement.Expr i false ∷ []) None = sym (append-nil (f i ++ []) ∙ append-nil (f i))
-settled_below f (statement.Expr i false ∷ (s ∷ ss)) None = append_assoc (f i) (of_statements f (settled (s ∷ ss) None).0) (of_some f (settled (s ∷ ss) None).1) ∙ ap (λ ks. f i ++ ks) (settled_below f (s ∷ ss) None) ∙ sym (append_assoc (f i) (of_statements f (s ∷ ss)) [])
+settled_below f (statement.Expr i false ∷ (s ∷ ss)) None =
+    one_below f i (settled (s ∷ ss) None).0 (s ∷ ss) (settled (s ∷ ss) None).1 None (settled_below f (s ∷ ss) None)
 
-block_form_owns : (at : Pointer) (label : Option LabelId) (number : Option BlockId) {p : Lowering (List Statement)} {q : Lowering (Option ExprId)}
-    → Correct p (Pushed [] (OwnsAs of_statements)) → Correct q OwnsSome → Correct (block_form at label number p q) Owns
+block_form_owns : (at : Pointer) (label : Option LabelId) (number : Option BlockId) {p : Lowering Contents} → Correct p (Filled [])
+    → Correct (block_form at label number p) Owns
 unfolding block_form
-block_form_owns at label number hp hq = correct_as
-    (correct_bind (correct_enter_block number) (λ u. correct_bind hp (λ xs. correct_bind hq (λ t. correct_alloc (settled_block label number (settled xs t)) (Some at)))))
-    (λ final ps m m' i g row. let r = row.second in let q = r.second in
-    owns_at m q.second (omega arith) (λ d le. rw (settled_below (reached_to final.store.exprs d) r.one q.one, r.first.is)
-    (spread_append m.nodes q.middle.nodes (inl (omega arith)) (omega arith) (r.first.rel.spread d (omega arith)) (q.first.spread d le))))
+block_form_owns at label number hp = correct_as
+    (correct_bind (correct_enter_block number)
+    (λ u. correct_bind hp (λ r. correct_alloc (settled_block label number (settled r.0 r.1)) (Some at))))
+    (λ final ps m m' i g row. let r = row.second in
+    owns_at m r.second (omega arith) (λ d le. rw (settled_below (reached_to final.exprs.entries d) r.one.0 r.one.1, r.first.is)
+    (spread_wider m.nodes r.middle.nodes (omega arith) (omega arith) (r.first.rel.spread d (omega arith)))))
 
-block_owns : (at : Pointer) (label : Option Label) (number : Option BlockId) {p : Lowering (List Statement)} {q : Lowering (Option ExprId)}
-    → Correct p (Pushed [] (OwnsAs of_statements)) → Correct q OwnsSome → Correct (labelled label (λ n. block_form at n number p q)) Owns
+block_owns : (at : Pointer) (label : Option Label) (number : Option BlockId) {p : Lowering Contents} → Correct p (Filled [])
+    → Correct (labelled label (λ n. block_form at n number p)) Owns
 unfolding labelled
-block_owns at None number hp hq = block_form_owns at None number hp hq
-block_owns at (Some l) number hp hq = correct_as (correct_opened block_at l (λ n ps. refl) (λ n. block_form_owns at (Some n) number hp hq) (λ n i. correct_pure i))
+block_owns at None number hp = block_form_owns at None number hp
+block_owns at (Some l) number hp = correct_as
+    (correct_opened block_at l (λ n ps. refl) (λ n. block_form_owns at (Some n) number hp) (λ n i. correct_pure i))
     (λ final ps m m' i g row. let e = row.nodes in rw (row.second.is, row.second.still)
     (record { spread = λ d le. spread_wider m.nodes row.left.nodes (omega arith) (omega arith) (row.first.spread d le) }))
 
@@ -244,18 +274,21 @@ mutual
   kept_part_owns (tree.some_expr e) = kept_owns e (expr_owns e)
 
   each_owns : (es : Exprs) (done : List ExprId) → Correct (lower_each done es) (Pushed done (OwnsAs of_each))
-  each_owns tree.no_exprs done = correct_as (correct_pure done) (λ final ps m m' r g row. pushed_none done row.is (owns_none [] (λ f. refl)))
+  each_owns tree.no_exprs done = correct_as (correct_pure done)
+      (λ final ps m m' r g row. pushed_none done row.is (owns_none [] (λ f. refl)))
   each_owns (tree.more_exprs e es) done = correct_as (correct_bind (kept_owns e (expr_owns e)) (λ o. each_owns es (push_some done o)))
       (λ final ps m m' r g row. each_more done row.one row.before row.after row.first row.second)
 
   block_is_owns : (b : Block) → Correct (lower_block b) Owns
-  block_is_owns (tree.block at label number ss e) = block_owns at label number (stmts_owns ss []) (kept_part_owns e)
+  block_is_owns (tree.block at label number ss e) = block_owns at label number (stmts_owns (kept_part_owns e) ss [])
 
-  stmts_owns : (ss : Stmts) (done : List Statement) → Correct (lower_stmts done ss) (Pushed done (OwnsAs of_statements))
-  stmts_owns tree.no_stmts done = correct_as (correct_pure done) (λ final ps m m' r g row. pushed_none done row.is (owns_none [] (λ f. refl)))
-  stmts_owns (tree.more_stmts s ss) done = correct_as (correct_bind (stmt_owns s) (λ o. stmts_owns ss (push_some done o)))
-      (λ final ps m m' r g row. stmts_more done row.one row.before row.after row.first row.second)
-
-  stmt_owns : (s : Stmt) → Correct (lower_stmt s) (OwnsAs of_some_statement)
-  stmt_owns (tree.expr_stmt e semi) = expr_stmt_owns semi (kept_part_owns e)
-  stmt_owns tree.item_stmt = item_stmt_owns
+  stmts_owns : {q : Lowering (Option ExprId)} → Correct q OwnsSome → (ss : Stmts) (done : List Statement)
+      → Correct (lower_stmts done ss q) (Filled done)
+  stmts_owns hq tree.no_stmts done = correct_as (correct_bind hq (λ o. correct_pure (done, o)))
+      (λ final ps m m' r g row. rw row.second.still (filled_end done row.one row.second.is row.first))
+  stmts_owns hq (tree.more_stmts (tree.expr_stmt e semi) ss) done = correct_as
+      (correct_bind (correct_statement semi (kept_part_owns e)) (λ o. stmts_owns hq ss (push_some done o)))
+      (λ final ps m m' r g row. let s = row.first in let others = row.second in
+      filled_expr semi done s.value row.before row.after s.rel (rw s.is at others))
+  stmts_owns hq (tree.more_stmts tree.item_stmt ss) done = correct_as (stmts_owns hq ss (done ++ statement.Item ∷ []))
+      (λ final ps m m' r g p. filled_silent {qs = ps} statement.Item done (λ f. refl) p)

@@ -1,30 +1,36 @@
 -- Runs of the store that go as runs of the syntax.
-use Rattle.std.proofs.Common.{◌≡◌, ℕ, zero, suc, Bool, true, false, if◌then◌else◌, List, [], ◌∷◌, Option, Some, None, refl, ap, ◌∙◌, subst}
+use Rattle.std.proofs.Common.{◌≡◌, ℕ, zero, suc, Bool, true, false, if◌then◌else◌, List, [], ◌∷◌, Option, Some, None, refl, ap, ◌∙◌}
+use Rattle.std.proofs.Common.{subst}
 use Rattle.hir_store.specs.declared.ids.BlockId.{BlockId}
 use Rattle.hir_env.specs.NodeMap.{Site}
-use Rattle.hir_meaning.specs.Run.{Value, answered, Operation, enter, Test, test, Outcome, value, break, continue, missing, cut, World, ends, pure, after, ◌>>=◌, event, ask, tests, entering}
+use Rattle.hir_meaning.specs.Run.{Value, answered, Operation, enter, Test, test, Outcome, value, break, continue, leave, cut, World, ends}
+use Rattle.hir_meaning.specs.Run.{pure, after, ◌>>=◌, event, ask, tests, entering}
 use Rattle.hir_meaning.specs.Catching.{Step, again, done, Outward, turn_end, goes_on, loop, block, block_end}
-use Rattle.hir_meaning.specs.Scopes.{Count, outward, past_block as past_block_scope}
+use Rattle.hir_scope.specs.Scopes.{Count, outward, past_block as past_block_scope}
 use Rattle.hir_meaning.specs.Syntax.{SyntaxRun}
 use Rattle.hir_meaning.specs.Store.{Named, StoreRun, past_loop, past_block}
-use Rattle.hir_same_meaning.proofs.Places.{Place, Numbered, number, view, view_step, turn_ends, block_ends, plain_block_ends, loop_place, block_at}
+use Rattle.hir_steps.proofs.Frames.{Frame, block_at}
+use Rattle.hir_same_meaning.proofs.Views.{Numbered, number, view, view_step, turn_ends, block_ends, plain_block_ends, loop_frame}
 
-pub record Agrees {A : Type 0} (ps : List Place) (o : Outcome Named A) (w : World (Unit {0})) (o' : Outcome Count A) (w' : World (Unit {0})) : Type 0 where
+pub record Agrees {A : Type 0} (ps : List Frame) (o : Outcome Named A) (w : World (Unit {0}))
+    (o' : Outcome Count A) (w' : World (Unit {0})) : Type 0 where
   pub outcome : view ps o ≡ o'
   pub world : w ≡ w'
 
 -- from each world the same, with jumps by number read as jumps by scope
-pub record SameWhere {A : Type 0} (ps : List Place) (m : StoreRun A) (n : SyntaxRun A) : Type 0 where
+pub record SameWhere {A : Type 0} (ps : List Frame) (m : StoreRun A) (n : SyntaxRun A) : Type 0 where
   pub same : (w : World (Unit {0})) → Agrees ps (m w).0 (m w).1 (n w).0 (n w).1
 
-agrees_as : {A S : Type 0} {ps : List Place} {o : Outcome Named A} {w : World (Unit {0})} (k : S → World (Unit {0}) → Outcome Count A × World (Unit {0})) {s s' : S} {v v' : World (Unit {0})}
+agrees_as : {A S : Type 0} {ps : List Frame} {o : Outcome Named A} {w : World (Unit {0})}
+    (k : S → World (Unit {0}) → Outcome Count A × World (Unit {0}))
+    {s s' : S} {v v' : World (Unit {0})}
     → s ≡ s' → v ≡ v' → Agrees ps o w (k s v).0 (k s v).1 → Agrees ps o w (k s' v').0 (k s' v').1
 agrees_as {ps = ps} {o = o} {w = w} k {s = s} {s' = s'} {v = v} e e' h =
     subst (λ u. Agrees ps o w (k s' u).0 (k s' u).1) e' (subst (λ t. Agrees ps o w (k t v).0 (k t v).1) e h)
 
 -- ---- steps
 
-module _ {ps : List Place} where
+module _ {ps : List Frame} where
   pub same_ends : {A : Type 0} (o : Outcome Named A) {o' : Outcome Count A} → view ps o ≡ o' → SameWhere ps (ends o) (ends o')
   unfolding ends
   same_ends o e = record { same = λ w. record { outcome = e; world = refl } }
@@ -36,13 +42,13 @@ module _ {ps : List Place} where
   unfolding event
   same_event o vs site = record { same = λ w. record { outcome = refl; world = refl } }
 
-  after_same : {A B : Type 0} {f : A → StoreRun B} {g : A → SyntaxRun B} → ((a : A) → SameWhere ps (f a) (g a)) → (o : Outcome Named A) (w : World (Unit {0}))
+  after_same : {A B : Type 0} {f : A → StoreRun B} {g : A → SyntaxRun B} → ((a : A) → SameWhere ps (f a) (g a))
+      → (o : Outcome Named A) (w : World (Unit {0}))
       → Agrees ps (after o w f).0 (after o w f).1 (after (view ps o) w g).0 (after (view ps o) w g).1
   after_same h (value a) w = (h a).same w
   after_same h (break j v) w = record { outcome = refl; world = refl }
   after_same h (continue j) w = record { outcome = refl; world = refl }
-  after_same h missing w = record { outcome = refl; world = refl }
-  after_same h cut w = record { outcome = refl; world = refl }
+  after_same h (leave x) w = record { outcome = refl; world = refl }
 
   pub same_bind : {A B : Type 0} {m : StoreRun A} {n : SyntaxRun A} {f : A → StoreRun B} {g : A → SyntaxRun B}
       → SameWhere ps m n → ((a : A) → SameWhere ps (f a) (g a)) → SameWhere ps (m >>= f) (n >>= g)
@@ -64,22 +70,24 @@ module _ {ps : List Place} where
   same_if true h h' = h
   same_if false h h' = h'
 
-  pub same_entering : {A : Type 0} (b : Option BlockId) (site : Option Site) {m : StoreRun A} {n : SyntaxRun A} → SameWhere ps m n → SameWhere ps (entering b site m) (entering b site n)
+  pub same_entering : {A : Type 0} (b : Option BlockId) (site : Option Site) {m : StoreRun A} {n : SyntaxRun A} → SameWhere ps m n
+      → SameWhere ps (entering b site m) (entering b site n)
   same_entering None site h = h
   same_entering (Some b) site h = same_bind (same_event (enter b) [] site) (λ a. h)
 
 -- ---- loops and blocks
 
-pub record TurnsAgree (ps : List Place) (s : Step Named) (w : World (Unit {0})) (s' : Step Count) (w' : World (Unit {0})) : Type 0 where
+pub record TurnsAgree (ps : List Frame) (s : Step Named) (w : World (Unit {0})) (s' : Step Count) (w' : World (Unit {0})) : Type 0 where
   pub step : view_step ps s ≡ s'
   pub world : w ≡ w'
 
 -- the turns of a loop that catches what it is to catch
-pub record SameTurns (ps : List Place) (leaves : Outward Named) (m : StoreRun (Option Value)) (n : SyntaxRun (Option Value)) : Type 0 where
+pub record SameTurns (ps : List Frame) (leaves : Outward Named) (m : StoreRun (Option Value)) (n : SyntaxRun (Option Value)) : Type 0 where
   pub same : (w : World (Unit {0})) → TurnsAgree ps (turn_end leaves (m w).0) (m w).1 (turn_end outward (n w).0) (n w).1
 
-module _ {ps : List Place} where
-  pub same_turns : (x : Option Numbered) {m : StoreRun (Option Value)} {n : SyntaxRun (Option Value)} → SameWhere (loop_place x ∷ ps) m n → SameTurns ps (past_loop (number x)) m n
+module _ {ps : List Frame} where
+  pub same_turns : (x : Option Numbered) {m : StoreRun (Option Value)} {n : SyntaxRun (Option Value)} → SameWhere (loop_frame x ∷ ps) m n
+      → SameTurns ps (past_loop (number x)) m n
   same_turns x {m = m} h = record {
     same = λ w. let a = h.same w in record {
       step = turn_ends x ps (m w).0 ∙ ap (turn_end outward) a.outcome;
@@ -95,7 +103,7 @@ module _ {ps : List Place} where
   pub same_loop : {leaves : Outward Named} {m : StoreRun (Option Value)} {n : SyntaxRun (Option Value)} → SameTurns ps leaves m n
       → (turns : ℕ) → SameWhere ps (loop leaves turns m) (loop outward turns n)
   unfolding loop
-  same_loop h zero = same_ends cut refl
+  same_loop h zero = same_ends (leave cut) refl
   same_loop {leaves = leaves} {m = m} {n = n} h (suc k) = record {
     same = λ w.
         let a = h.same w in
@@ -113,7 +121,8 @@ module _ {ps : List Place} where
   }
 
   -- a block without a label catches nothing
-  pub same_plain_block : {m : StoreRun Value} {m' : SyntaxRun Value} → SameWhere ps m m' → SameWhere ps (block (past_block None) (λ j. j) m) m'
+  pub same_plain_block : {m : StoreRun Value} {m' : SyntaxRun Value} → SameWhere ps m m'
+      → SameWhere ps (block (past_block None) (λ j. j) m) m'
   unfolding block
   same_plain_block {m = m} h = record {
     same = λ w. let a = h.same w in record {

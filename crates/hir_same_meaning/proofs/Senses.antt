@@ -1,23 +1,33 @@
 -- What a number of the store stands for.
 use Rattle.std.proofs.Common.{ℕ, zero, suc, ◌≤◌, List, Option, option_map, arith}
 use Rattle.hir_store.specs.Pointers.{Pointer}
-use Rattle.hir_store.specs.Stored.{Stored}
+use Rattle.hir_store.specs.Stored.{Stored, store_of, map_of}
 use Rattle.hir_store.specs.declared.hir.Expr.{Expr}
 use Rattle.hir_store.specs.declared.hir.Statement.{Statement}
 use Rattle.hir_store.specs.declared.ids.ExprId.{ExprId}
+use Rattle.hir_env.specs.NodeMap.{Site}
 use Rattle.hir_env.specs.Answering.{site_of}
 use Rattle.hir_meaning.specs.Run.{Value}
-use Rattle.hir_meaning.specs.Scopes.{Scope}
+use Rattle.hir_scope.specs.Scopes.{Scope}
 use Rattle.hir_meaning.specs.Syntax.{SyntaxRun}
 use Rattle.hir_meaning.specs.Store.{StoreRun, run_or_unit, run_each, run_statements, run_node, run_to}
 use Rattle.hir_meaning.specs.Jumps.{IfSome, Each, EachStatement, NodeEnclosed, EnclosedTo}
-use Rattle.hir_same_meaning.proofs.Places.{Place, numbers, scopes, Falls, falls_more}
+use Rattle.hir_steps.proofs.Frames.{Frame, scopes, Falls, falls_more}
+use Rattle.hir_steps.proofs.Steps.{Mark, Rel, Allocated}
+use Rattle.hir_same_meaning.proofs.Views.{numbers}
 use Rattle.hir_same_meaning.proofs.Relation.{SameWhere}
-use Rattle.hir_same_meaning.proofs.Steps.{Mark, Rel, Allocated}
 
 -- a run of the syntax, with so many turns and under these scopes
 abbrev pub Walk : Type 0 → Type 0
 Walk B = ℕ → List Scope → SyntaxRun B
+
+-- the run of an expression of a final store, where it is looked into so deep
+abbrev pub run_in : Stored → ℕ → ℕ → ExprId → StoreRun Value
+run_in final d turns = run_to (store_of final) (map_of final) d turns
+
+-- the run of a node whose parts are looked into so deep
+abbrev pub node_in : Stored → ℕ → ℕ → Expr → Option Site → StoreRun Value
+node_in final d turns e site = run_node (store_of final) (map_of final) turns (run_in final d turns) e site
 
 -- how numbers are read: one, an optional one, a list, the contents of a block
 pub record Reading (A B : Type 0) : Type 1 where
@@ -36,10 +46,10 @@ many = record { run = run_each; Jumps = Each }
 abbrev pub contents : Reading (List Statement × Option ExprId) Value
 contents = record { run = λ turns part r. run_statements turns part r.0 r.1; Jumps = λ P r. EachStatement P r.0 × IfSome P r.1 }
 
--- What stands at a is x, in a place whose labels are below `labels`, where the store is looked into past `nodes`.
-pub record Goes {A B : Type 0} (labels nodes : ℕ) (r : Reading A B) (x : Walk B) (final : Stored) (ps : List Place) (a : A) : Type 0 where
-  pub same : (turns d : ℕ) → nodes ≤ d → Falls labels ps → SameWhere ps (r.run turns (run_to final.store.exprs final.source_map.expr_sources d turns) a) (x turns (scopes ps))
-  pub jumps : (d : ℕ) → nodes ≤ d → r.Jumps (EnclosedTo final.store.exprs d (numbers ps)) a
+-- What stands at a is x, inside frames whose labels are below `labels`, where the store is looked into past `nodes`.
+pub record Goes {A B : Type 0} (labels nodes : ℕ) (r : Reading A B) (x : Walk B) (final : Stored) (ps : List Frame) (a : A) : Type 0 where
+  pub same : (turns d : ℕ) → nodes ≤ d → Falls labels ps → SameWhere ps (r.run turns (run_in final d turns) a) (x turns (scopes ps))
+  pub jumps : (d : ℕ) → nodes ≤ d → r.Jumps (EnclosedTo final.exprs.entries d (numbers ps)) a
 
 abbrev pub Runs : {A B : Type 0} → Reading A B → Walk B → Rel A
 Runs r x final ps m m' a = Goes m.labels m'.nodes r x final ps a
@@ -48,7 +58,7 @@ pub record Wider (labels nodes labels' nodes' : ℕ) : Type 0 where
   pub labels_from : labels' ≤ labels
   pub nodes_to : nodes ≤ nodes'
 
-pub goes_within : {A B : Type 0} {labels nodes labels' nodes' : ℕ} {r : Reading A B} {x : Walk B} {final : Stored} {ps : List Place} {a : A}
+pub goes_within : {A B : Type 0} {labels nodes labels' nodes' : ℕ} {r : Reading A B} {x : Walk B} {final : Stored} {ps : List Frame} {a : A}
     → Wider labels nodes labels' nodes' → Goes labels nodes r x final ps a → Goes labels' nodes' r x final ps a
 goes_within {labels = labels} {labels' = labels'} {ps = ps} wide h = record {
   same = λ turns d le f. h.same turns d (omega arith) (falls_more ps labels' labels wide.labels_from f);
@@ -56,17 +66,20 @@ goes_within {labels = labels} {labels' = labels'} {ps = ps} wide h = record {
 }
 
 -- an expression that was stored under the number from
-pub goes_at : {labels : ℕ} {m m' : Mark} {e : Expr} {source : Option Pointer} {x : Walk Value} {final : Stored} {ps qs : List Place} {i : ExprId} → Allocated e source final qs m m' i
-    → ((turns d : ℕ) → m.nodes ≤ d → Falls labels ps → SameWhere ps (run_node turns (run_to final.store.exprs final.source_map.expr_sources d turns) e (option_map site_of source)) (x turns (scopes ps)))
-    → ((d : ℕ) → m.nodes ≤ d → NodeEnclosed (EnclosedTo final.store.exprs d) (numbers ps) e)
+pub goes_at : {labels : ℕ} {m m' : Mark} {e : Expr} {source : Option Pointer} {x : Walk Value} {final : Stored} {ps qs : List Frame}
+    {i : ExprId} → Allocated e source final qs m m' i
+    → ((turns d : ℕ) → m.nodes ≤ d → Falls labels ps
+    → SameWhere ps (node_in final d turns e (option_map site_of source)) (x turns (scopes ps)))
+    → ((d : ℕ) → m.nodes ≤ d → NodeEnclosed (EnclosedTo final.exprs.entries d) (numbers ps) e)
     → Goes labels m'.nodes one x final ps i
 unfolding run_to EnclosedTo
-goes_at {labels = labels} {m = m} {m' = m'} {x = x} {final = final} {ps = ps} {i = i} at same jumps = record { same = λ turns d le f. at_depth turns d le f; jumps = jumps_at }
+goes_at {labels = labels} {m = m} {m' = m'} {x = x} {final = final} {ps = ps} {i = i} at same jumps =
+    record { same = λ turns d le f. at_depth turns d le f; jumps = jumps_at }
   where
-    at_depth : (turns d : ℕ) → m'.nodes ≤ d → Falls labels ps → SameWhere ps (run_to final.store.exprs final.source_map.expr_sources d turns i) (x turns (scopes ps))
+    at_depth : (turns d : ℕ) → m'.nodes ≤ d → Falls labels ps → SameWhere ps (run_in final d turns i) (x turns (scopes ps))
     at_depth turns zero le f = absurd (omega (arith, at.next))
     at_depth turns (suc d) le f = rw (at.number, at.here, at.from) (same turns d (omega (arith, at.next)) f)
 
-    jumps_at : (d : ℕ) → m'.nodes ≤ d → EnclosedTo final.store.exprs d (numbers ps) i
+    jumps_at : (d : ℕ) → m'.nodes ≤ d → EnclosedTo final.exprs.entries d (numbers ps) i
     jumps_at zero le = tt
     jumps_at (suc d) le = rw (at.number, at.here) (jumps d (omega (arith, at.next)))

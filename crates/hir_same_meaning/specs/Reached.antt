@@ -1,15 +1,11 @@
 -- Which numbers a stored body reaches, and that it reaches each in one way only.
 use Rattle.std.specs.Prelude.{◌≢◌, ℕ, zero, suc, ◌<◌, ◌≤◌, length, List, [], ◌∷◌, ◌++◌, Option, Some, None, slice_get}
-use Rattle.hir_store.specs.Stored.{Stored}
 use Rattle.hir_store.specs.declared.hir.Expr.{Expr}
 use Rattle.hir_store.specs.declared.hir.Expr.TheVariants as hir
 use Rattle.hir_store.specs.declared.hir.Statement.{Statement}
 use Rattle.hir_store.specs.declared.hir.Statement.TheVariants as statement
 use Rattle.hir_store.specs.declared.ids.ExprId.{ExprId}
-use Rattle.hir_env.specs.Answered.{OptionExpr}
-use Rattle.hir_lower_form.specs.Builder.{Builder}
-use Rattle.hir_same_meaning.specs.Extends.{Extends}
-use Rattle.hir_same_meaning.specs.Headline.{Lowered}
+use Rattle.hir_same_meaning.specs.Headline.{InLaterStores}
 
 -- ---- the numbers that are reached, one for each way
 
@@ -70,5 +66,6 @@ pub record Spread (lo hi : ℕ) (ks : List ℕ) : Type 0 where
 -- However deep one looks, each number that the body reaches is reached in one way, so none reaches itself, and is one of
 -- those that its lowering gave out.
 abbrev pub ReachedOnce : Type 0
-ReachedOnce = (e : OptionExpr) (b b' : Builder) (i : ExprId) → Lowered e b i b' → (final : Stored) → Extends b'.stored final
-    → (depth : ℕ) → length final.store.exprs ≤ depth → Spread (length b.stored.store.exprs) (length b'.stored.store.exprs) (reached_to final.store.exprs depth i)
+ReachedOnce = InLaterStores (λ e b i b' final.
+    (depth : ℕ) → length final.exprs.entries ≤ depth
+    → Spread (length b.stored.exprs.entries) (length b'.stored.exprs.entries) (reached_to final.exprs.entries depth i))

@@ -1,15 +1,8 @@
 //! Reads a document from standard input and prints what its body is lowered to.
 #![tactic(auto)]
 
-mod failure;
-mod input;
-mod listing;
-mod run;
-#[cfg(test)]
-mod tests;
-
-use failure::Failure;
-use run::run;
+use lower_run::failure::Failure;
+use lower_run::run::run;
 use std::env;
 use std::process::ExitCode;
 use std::rt::Env;

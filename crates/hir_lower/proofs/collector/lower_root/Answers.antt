@@ -1,5 +1,8 @@
-use Rattle.hir_lower.proofs.Meanings.{rooted_if}
+use Rattle.hir_lower.proofs.Meanings.{rooted_if, stays_unless}
 use Rattle.hir_lower.proofs.collector.lower_root.Goals as goal
 
 pub returns-clause-rooted : goal.returns-clause-rooted
 returns-clause-rooted g c = λ d. rooted_if _ _ _ c.root_steps.result c.root_steps.ensures d
+
+pub returns-clause-stays : goal.returns-clause-stays
+returns-clause-stays g c = λ n. stays_unless _ _ _ c.root_steps.result c.root_steps.ensures n

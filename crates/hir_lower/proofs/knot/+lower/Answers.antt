@@ -1,59 +1,61 @@
-use Rattle.std.proofs.Common.{arith, ap, ◌≡◌, ◌<◌}
+use Rattle.std.proofs.Common.{arith, ap, ℕ, suc, sym, ◌∙◌, ◌≡◌, ◌+◌}
 use Rattle.hir_syntax.specs.declared.ast.ExprKind.{out-ExprKind}
 use Rattle.hir_syntax.specs.declared.ast.BlockExpr.{out-BlockExpr}
-use Rattle.hir_env.specs.Answering.{in_file, ptr, numbered, inside}
-use Rattle.hir_env.specs.Count.{count_block}
-use Rattle.hir_env.specs.Whole.{answered_plain}
+use Rattle.hir_env.specs.Answering.{ptr, numbered}
+use Rattle.hir_env.specs.declared.place.Place.{Place}
+use Rattle.hir_env.specs.Count.{count_block, count_stmts, count_option_expr}
+use Rattle.hir_env.specs.Whole.{answered_plain, expr_part, pointer_at, stmts_part}
 use Rattle.hir_env.proofs.Levels.{expr_is_level, plain_is_level}
-use Rattle.hir_lower.specs.Nests.{HandlesExpr, HandlesKept, HandlesBlock}
+use Rattle.hir_lower.specs.Nests.{HandlesExpr, HandlesBlock}
+use Rattle.hir_lower.specs.Roots.{spot_at}
 use Rattle.hir_lower.proofs.Kids.{kids_expr, kids_block, expr_below, in_inside}
 use Rattle.hir_lower.proofs.knot.+lower.Goals as goal
 
-pub lower_expr-returns : goal.lower_expr-returns
-lower_expr-returns g t c = rw (expr_is_level (g.E.LowerEnv.answers c.args.env.now) c.args.place c.args.node.now) c.expr_node.ensures
+pub maybe_collect_expr-returns : goal.maybe_collect_expr-returns
+maybe_collect_expr-returns g t c =
+    rw (expr_is_level (spot_at (g.E.LowerEnv.answers c.args.env.now) c.args.place) c.args.node.now) c.expr_node.ensures
 
-pub lower_kept-returns : goal.lower_kept-returns
-lower_kept-returns g t c = rw (expr_is_level (g.E.LowerEnv.answers c.args.env.now) c.args.place c.args.node.now) c.kept_node.ensures
-
-pub lower_expr-expr_node-requires : goal.lower_expr-expr_node-requires
-lower_expr-expr_node-requires g t c =
+pub maybe_collect_expr-expr_node-requires : goal.maybe_collect_expr-expr_node-requires
+maybe_collect_expr-expr_node-requires g t c =
     let d = c.decreases in
-    let size = expr_below (g.E.LowerEnv.answers c.args.env.now) c.args.place c.args.node.now in
-    kids_expr (g.E.LowerEnv.answers c.args.env.now) (HandlesExpr g.E.LowerEnv.answers _ _ c.args.env.now) (HandlesKept g.E.LowerEnv.answers _ _ c.args.env.now) (HandlesBlock g.E.LowerEnv.answers _ _ c.args.env.now) t
-    (λ p e h. (
-      record { callable = λ alloc v old b same is. (rw same (rw is h), λ a m. m); lowers = λ alloc v old new b r same is q. rw (← is) (rw (← same) q.2) },
-      record { callable = λ alloc v old b same is. (rw same (rw is h), λ a m. m); lowers = λ alloc v old new b r same is q. rw (← is) (rw (← same) q.2) },
-    ))
-    (λ p b h. record { callable = λ alloc v old label n same is has. (rw same (rw is h), ((λ a m. m), has)); lowers = λ alloc v old new label n r same is q. rw (← is) (rw (← same) q.3) })
-    c.args.place (in_file c.args.place (ptr c.args.node.now.id c.args.node.now.range)) (out-ExprKind c.args.node.now.kind) (omega (arith, d, size))
+    let env = g.E.LowerEnv.answers c.args.env.now in
+    let at = spot_at env c.args.place in
+    let size = expr_below at c.args.node.now in
+    kids_expr env (HandlesExpr g.E.LowerEnv.answers _ _ c.args.env.now) (HandlesBlock g.E.LowerEnv.answers _ _ c.args.env.now) t
+    (λ p e h. record {
+      callable = λ alloc v old b same is. (rw same (rw is h), λ a m. m);
+      lowers = λ alloc v old new b r same is q. rw (← is) (rw (← same) q.2);
+    })
+    (λ p b h. record {
+      callable = λ alloc v old label n same is has. (rw same (rw is h), ((λ a m. m), has));
+      lowers = λ alloc v old new label n r same is q. rw (← is) (rw (← same) q.3);
+    })
+    c.args.place (pointer_at at c.args.node.now.id c.args.node.now.range) (out-ExprKind c.args.node.now.kind) (omega (arith, d, size))
 
-pub lower_kept-kept_node-requires : goal.lower_kept-kept_node-requires
-lower_kept-kept_node-requires g t c =
+pub collect_block_inside-returns : goal.collect_block_inside-returns
+collect_block_inside-returns g t c =
+    let env = g.E.LowerEnv.answers c.args.env.now in
+    let node = out-BlockExpr c.args.node.now in
+    let found = rw (c.block_number-block.ensures, c.inside-inner.ensures, c.number-found.ensures) at c.block_node.ensures in
+    rw (plain_is_level (spot_at env c.args.place) c.args.node.now)
+    (rw (in_inside (numbered env c.args.place node.id) c.args.place (ptr node.id node.range)) at found)
+
+pub collect_block_inside-block_node-requires-clause-parts : goal.collect_block_inside-block_node-requires-clause-parts
+collect_block_inside-block_node-requires-clause-parts g t c =
     let d = c.decreases in
-    let size = expr_below (g.E.LowerEnv.answers c.args.env.now) c.args.place c.args.node.now in
-    kids_expr (g.E.LowerEnv.answers c.args.env.now) (HandlesExpr g.E.LowerEnv.answers _ _ c.args.env.now) (HandlesKept g.E.LowerEnv.answers _ _ c.args.env.now) (HandlesBlock g.E.LowerEnv.answers _ _ c.args.env.now) t
-    (λ p e h. (
-      record { callable = λ alloc v old b same is. (rw same (rw is h), λ a m. m); lowers = λ alloc v old new b r same is q. rw (← is) (rw (← same) q.2) },
-      record { callable = λ alloc v old b same is. (rw same (rw is h), λ a m. m); lowers = λ alloc v old new b r same is q. rw (← is) (rw (← same) q.2) },
-    ))
-    (λ p b h. record { callable = λ alloc v old label n same is has. (rw same (rw is h), ((λ a m. m), has)); lowers = λ alloc v old new label n r same is q. rw (← is) (rw (← same) q.3) })
-    c.args.place (in_file c.args.place (ptr c.args.node.now.id c.args.node.now.range)) (out-ExprKind c.args.node.now.kind) (omega (arith, d, size))
-
-pub lower_block-returns : goal.lower_block-returns
-lower_block-returns g t c =
-    rw (plain_is_level (g.E.LowerEnv.answers c.args.env.now) c.args.place c.args.node.now)
-    (rw (in_inside (numbered (g.E.LowerEnv.answers c.args.env.now) c.args.place (out-BlockExpr c.args.node.now).id) c.args.place (ptr (out-BlockExpr c.args.node.now).id (out-BlockExpr c.args.node.now).range))
-    at (rw (c.block_number-block.ensures, c.inside-inner.ensures, c.number-found.ensures) at c.block_node.ensures))
-
-pub lower_block-block_node-requires-clause-parts : goal.lower_block-block_node-requires-clause-parts
-lower_block-block_node-requires-clause-parts g t c =
-    let d = c.decreases in
+    let env = g.E.LowerEnv.answers c.args.env.now in
     let inner = rw c.number-found.ensures at c.inside-inner.ensures in
-    let size = rw (← inner) at (ap count_block (plain_is_level (g.E.LowerEnv.answers c.args.env.now) c.args.place c.args.node.now)) in
-    kids_block (g.E.LowerEnv.answers c.args.env.now) (HandlesExpr g.E.LowerEnv.answers _ _ c.args.env.now) (HandlesKept g.E.LowerEnv.answers _ _ c.args.env.now) (HandlesBlock g.E.LowerEnv.answers _ _ c.args.env.now) t
-    (λ p e h. (
-      record { callable = λ alloc v old b same is. (rw same (rw is h), λ a m. m); lowers = λ alloc v old new b r same is q. rw (← is) (rw (← same) q.2) },
-      record { callable = λ alloc v old b same is. (rw same (rw is h), λ a m. m); lowers = λ alloc v old new b r same is q. rw (← is) (rw (← same) q.2) },
-    ))
-    (λ p b h. record { callable = λ alloc v old label n same is has. (rw same (rw is h), ((λ a m. m), has)); lowers = λ alloc v old new label n r same is q. rw (← is) (rw (← same) q.3) })
+    let node = out-BlockExpr c.args.node.now in
+    let level : Place → ℕ = λ q. suc (count_stmts (stmts_part (spot_at env q) node.stmts) + count_option_expr (expr_part (spot_at env q) node.tail)) in
+    let size : count_block (answered_plain (spot_at env c.args.place) c.args.node.now) ≡ level c.inside-inner.result =
+    ap count_block (plain_is_level (spot_at env c.args.place) c.args.node.now) ∙ ap level (sym inner) in
+    kids_block env (HandlesExpr g.E.LowerEnv.answers _ _ c.args.env.now) (HandlesBlock g.E.LowerEnv.answers _ _ c.args.env.now) t
+    (λ p e h. record {
+      callable = λ alloc v old b same is. (rw same (rw is h), λ a m. m);
+      lowers = λ alloc v old new b r same is q. rw (← is) (rw (← same) q.2);
+    })
+    (λ p b h. record {
+      callable = λ alloc v old label n same is has. (rw same (rw is h), ((λ a m. m), has));
+      lowers = λ alloc v old new label n r same is q. rw (← is) (rw (← same) q.3);
+    })
     c.inside-inner.result c.args.node.now (omega (arith, d, size))

@@ -2,4 +2,4 @@ use Rattle.hir_lower_form.proofs.BlockLemmas.{own_inside}
 use Rattle.hir_lower_form.proofs.parts.Lowerer.block_form.Goals as goal
 
 pub returns : goal.returns
-returns g c = rw (own_inside (g.P.LowerParts.answers c.args.self.now.parts) (g.P.LowerParts.place c.args.self.now.parts) c.args.node.now) c.labelled_block.ensures
+returns g c = rw (own_inside (g.P.LowerParts.spot c.args.self.now.parts) c.args.node.now) c.labelled_block.ensures

@@ -1,0 +1,89 @@
+-- What each kind of method does: the outcome of the steps of one part, as it is answered.
+use Rattle.std.specs.Prelude.{List, [], Option, Some, None}
+use Rattle.hir_syntax.specs.declared.ast.BlockExpr.{BlockExpr as AstBlockExpr, out-BlockExpr}
+use Rattle.hir_store.specs.Stored.{Stored}
+use Rattle.hir_store.specs.Range.{HasExpr, HasExprOption, HasExprs, HasStatements, HasStatementOption}
+use Rattle.hir_store.specs.declared.hir.Statement.{Statement}
+use Rattle.hir_store.specs.declared.ids.ExprId.{ExprId}
+use Rattle.hir_store.specs.declared.ids.LabelId.{LabelId}
+use Rattle.hir_store.specs.declared.ids.BlockId.{BlockId}
+use Rattle.hir_env.specs.Spot.{Spot}
+use Rattle.hir_env.specs.Answered as tree
+use Rattle.hir_env.specs.Answered.{Expr, OptionExpr, Exprs, Block, OptionBlock, Stmts, Stmt}
+use Rattle.hir_env.specs.Whole.{expr_part, stmts_part, pointer_at}
+use Rattle.hir_lower_form.specs.Builder.{Builder}
+use Rattle.hir_lower_form.specs.Lowering.{Lowering, Checked, Lowers, ◌>>=◌, pure}
+use Rattle.hir_lower_form.specs.Lower as spec
+use Rattle.hir_lower_form.specs.Lower.{Node, Contents}
+
+abbrev pub LowersExpr : Expr → Builder → Checked ExprId → Builder → Type 0
+LowersExpr e old result new = Lowers HasExpr (spec.lower e) old result new
+
+-- none where a condition disables it
+abbrev pub MaybeLowersExpr : Expr → Builder → Checked (Option ExprId) → Builder → Type 0
+MaybeLowersExpr e old result new = Lowers HasExprOption (spec.kept_expr e) old result new
+
+-- missing where it is absent
+abbrev pub LowersExprOpt : OptionExpr → Builder → Checked ExprId → Builder → Type 0
+LowersExprOpt e old result new = Lowers HasExpr (spec.lower_part e) old result new
+
+-- none where it is absent
+abbrev pub LowersIfPresent : OptionExpr → Builder → Checked (Option ExprId) → Builder → Type 0
+LowersIfPresent e old result new = Lowers HasExprOption (spec.present e) old result new
+
+-- none where it is absent or a condition disables it
+abbrev pub MaybeLowersExprOpt : OptionExpr → Builder → Checked (Option ExprId) → Builder → Type 0
+MaybeLowersExprOpt e old result new = Lowers HasExprOption (spec.kept_part e) old result new
+
+abbrev pub LowersEach : Exprs → Builder → Checked (List ExprId) → Builder → Type 0
+LowersEach es old result new = Lowers HasExprs (spec.lower_each [] es) old result new
+
+-- inside the label of this number
+abbrev pub LowersInside : Option LabelId → Block → Builder → Checked ExprId → Builder → Type 0
+LowersInside label b old result new = Lowers HasExpr (spec.lower_inside label b) old result new
+
+abbrev pub LowersBlock : Block → Builder → Checked ExprId → Builder → Type 0
+LowersBlock b old result new = Lowers HasExpr (spec.lower_block b) old result new
+
+-- missing where it is absent
+abbrev pub LowersBlockOpt : OptionBlock → Builder → Checked ExprId → Builder → Type 0
+LowersBlockOpt b old result new = Lowers HasExpr (spec.lower_block_part b) old result new
+
+abbrev pub LowersStmt : Stmt → Builder → Checked (Option Statement) → Builder → Type 0
+LowersStmt s old result new = Lowers HasStatementOption (spec.lower_stmt s) old result new
+
+-- what upstream does to make an expression of one that may be disabled
+abbrev pub or_missing : Option ExprId → Node
+or_missing None = spec.missing
+or_missing (Some id) = pure id
+
+-- ---- the contents of a block
+
+-- the statements, without what stands behind them
+abbrev pub stmts_alone : List Statement → Stmts → Lowering (List Statement)
+stmts_alone done tree.no_stmts = pure done
+stmts_alone done (tree.more_stmts s ss) = do
+  x ← spec.lower_stmt s
+  stmts_alone (spec.push_some done x) ss
+
+-- the statements one after another, and then the tail
+abbrev pub flat : List Statement → Stmts → Lowering (Option ExprId) → Lowering Contents
+flat done ss tail = do
+  xs ← stmts_alone done ss
+  t ← tail
+  pure (xs, t)
+
+abbrev pub LowersStmts : Stmts → Builder → Checked (List Statement) → Builder → Type 0
+LowersStmts ss old result new = Lowers HasStatements (stmts_alone [] ss) old result new
+
+abbrev pub HasContents : Stored → Contents → Type 0
+HasContents s c = HasStatements s c.0 × HasExprOption s c.1
+
+-- what is in a block that is read at this spot
+abbrev pub contents_at : Spot → AstBlockExpr → Lowering Contents
+contents_at at b = let node = out-BlockExpr b in spec.lower_stmts [] (stmts_part at node.stmts) (spec.kept_part (expr_part at node.tail))
+
+-- the block with these contents
+abbrev pub block_at : Spot → Option LabelId → Option BlockId → AstBlockExpr → Node
+block_at at label number b =
+    let node = out-BlockExpr b in spec.block_form (pointer_at at node.id node.range) label number (contents_at at b)

@@ -1,0 +1,79 @@
+-- A body behind a barrier runs as if nothing were outside.
+use Rattle.std.proofs.Common.{◌≡◌, ℕ, Bool, if◌then◌else◌, List, ◌∷◌, ◌++◌, Option, Some, None, refl, ap}
+use Rattle.hir_env.specs.Answering.{site_of}
+use Rattle.hir_env.specs.Answered as tree
+use Rattle.hir_env.specs.Answered.{Label, Expr, OptionExpr, Exprs, Block, OptionBlock, Stmts}
+use Rattle.hir_scope.specs.Scopes.{Scope, loop_scope, barrier, outward, in_block}
+use Rattle.hir_scope.proofs.Alone.{nothing_outside}
+use Rattle.hir_meaning.specs.Run.{Value, unit, is_true, call, break, continue}
+use Rattle.hir_meaning.specs.Run.{ends, pure, ◌>>=◌, ◌>>◌, ask, tests, entering}
+use Rattle.hir_meaning.specs.Catching.{turn, loop}
+use Rattle.hir_meaning.specs.Left.{is_kept, is_left, is_last}
+use Rattle.hir_meaning.specs.Syntax.{SyntaxRun, catching, run_expr, run_part, run_block_part, run_or_unit, run_each}
+use Rattle.hir_meaning.specs.Syntax.{run_block, run_tail, run_stmts}
+use Rattle.hir_meaning.specs.Rows.{RunsAlone}
+
+module _ (turns : ℕ) (outer : List Scope) where
+  in_block_alone : (label : Option Label) (inner : List Scope)
+      → in_block label (inner ++ barrier ∷ outer) ≡ in_block label inner ++ barrier ∷ outer
+  in_block_alone None inner = refl
+  in_block_alone (Some l) inner = refl
+
+  mutual
+    expr_alone : (e : Expr) (inner : List Scope) → run_expr turns e (inner ++ barrier ∷ outer) ≡ run_expr turns e inner
+    expr_alone (tree.disabled_expr at by e) inner = refl
+    expr_alone (tree.literal_expr at l) inner = refl
+    expr_alone (tree.path_expr at x h) inner = refl
+    expr_alone (tree.paren_expr at e) inner = part_alone e inner
+    expr_alone (tree.call_expr at f es) inner = λ i.
+        part_alone f inner i >>= (λ v. each_alone es inner i >>= (λ vs. ask call (v ∷ vs) (Some (site_of at))))
+    expr_alone (tree.if_expr at c t e) inner = λ i.
+        part_alone c inner i >>= (λ v. tests is_true v (Some (site_of at))
+        >>= (λ holds. if holds then block_part_alone t inner i else or_unit_alone e inner i))
+    expr_alone (tree.loop_expr at label b) inner = λ i. loop outward turns (turn (block_part_alone b (loop_scope label ∷ inner) i))
+    expr_alone (tree.break_expr at jump e) inner = λ i.
+        or_unit_alone e inner i >>= (λ v. ends (break ((nothing_outside inner outer jump).breaks i) v))
+    expr_alone (tree.continue_expr at jump) inner = λ i. ends (continue ((nothing_outside inner outer jump).continues i))
+    expr_alone (tree.block_expr b) inner = block_alone b inner
+
+    pub part_alone : (e : OptionExpr) (inner : List Scope) → run_part turns e (inner ++ barrier ∷ outer) ≡ run_part turns e inner
+    part_alone tree.no_expr inner = refl
+    part_alone (tree.some_expr e) inner = expr_alone e inner
+
+    block_part_alone : (b : OptionBlock) (inner : List Scope)
+        → run_block_part turns b (inner ++ barrier ∷ outer) ≡ run_block_part turns b inner
+    block_part_alone tree.no_block inner = refl
+    block_part_alone (tree.some_block b) inner = block_alone b inner
+
+    or_unit_alone : (e : OptionExpr) (inner : List Scope) → run_or_unit turns e (inner ++ barrier ∷ outer) ≡ run_or_unit turns e inner
+    or_unit_alone tree.no_expr inner = refl
+    or_unit_alone (tree.some_expr e) inner = expr_alone e inner
+
+    each_alone : (es : Exprs) (inner : List Scope) → run_each turns es (inner ++ barrier ∷ outer) ≡ run_each turns es inner
+    each_alone tree.no_exprs inner = refl
+    each_alone (tree.more_exprs e es) inner = λ i.
+        if is_kept e
+        then (expr_alone e inner i >>= (λ v. each_alone es inner i >>= (λ vs. pure (v ∷ vs))))
+        else each_alone es inner i
+
+    block_alone : (b : Block) (inner : List Scope) → run_block turns b (inner ++ barrier ∷ outer) ≡ run_block turns b inner
+    block_alone (tree.block at label number ss e) inner = rw (in_block_alone label inner)
+        (ap (λ m. entering number (Some (site_of at)) (catching label m))
+        (stmts_alone ss (is_left e) (run_tail turns e) (tail_alone e) (in_block label inner)))
+
+    tail_alone : (e : OptionExpr) (inner : List Scope) → run_tail turns e (inner ++ barrier ∷ outer) ≡ run_tail turns e inner
+    tail_alone tree.no_expr inner = refl
+    tail_alone (tree.some_expr e) inner = λ i. if is_kept e then expr_alone e inner i else pure unit
+
+    stmts_alone : (ss : Stmts) (has_tail : Bool) (tail : List Scope → SyntaxRun Value)
+        → ((inner : List Scope) → tail (inner ++ barrier ∷ outer) ≡ tail inner) → (inner : List Scope)
+        → run_stmts turns ss has_tail tail (inner ++ barrier ∷ outer) ≡ run_stmts turns ss has_tail tail inner
+    stmts_alone tree.no_stmts has_tail tail h inner = h inner
+    stmts_alone (tree.more_stmts tree.item_stmt ss) has_tail tail h inner = stmts_alone ss has_tail tail h inner
+    stmts_alone (tree.more_stmts (tree.expr_stmt e semi) ss) has_tail tail h inner = λ i.
+        if is_left e
+        then (if is_last semi ss has_tail then part_alone e inner i else (part_alone e inner i >> stmts_alone ss has_tail tail h inner i))
+        else stmts_alone ss has_tail tail h inner i
+
+pub runs_alone : RunsAlone
+runs_alone turns e inner outer = part_alone turns outer e inner

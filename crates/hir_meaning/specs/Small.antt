@@ -1,0 +1,157 @@
+-- What small bodies are made of, as they are written and as they are stored.
+use Rattle.std.specs.Prelude.{◌≡◌, ℕ, true, false, List, [], ◌∷◌, map, Option, Some, None}
+use Rattle.hir_syntax.specs.declared.ast.Literal.{Literal as AstLiteral}
+use Rattle.hir_syntax.specs.declared.ast.LiteralKind.TheVariants.{Int}
+use Rattle.hir_store.specs.Pointers.{Pointer}
+use Rattle.hir_store.specs.Stored.{Store, SourceMap}
+use Rattle.hir_store.specs.declared.hir.Expr.{Expr as Stored}
+use Rattle.hir_store.specs.declared.hir.Expr.TheVariants as hir
+use Rattle.hir_store.specs.declared.hir.Literal.{Literal}
+use Rattle.hir_store.specs.declared.hir.LoopSource.TheVariants as source
+use Rattle.hir_store.specs.declared.hir.Statement.{Statement}
+use Rattle.hir_store.specs.declared.name.Name.TheVariants as name
+use Rattle.hir_store.specs.declared.path.Path.{Path}
+use Rattle.hir_store.specs.declared.path.Path.TheVariants.{BarePath}
+use Rattle.hir_store.specs.declared.path.PathKind.TheVariants.{Plain}
+use Rattle.hir_store.specs.declared.ids.ExprId.{ExprId}
+use Rattle.hir_store.specs.declared.ids.LabelId.{LabelId}
+use Rattle.hir_store.specs.declared.ids.HygieneId.{HygieneId}
+use Rattle.hir_env.specs.Answering.{site_of}
+use Rattle.hir_env.specs.Tables.{no_contexts}
+use Rattle.hir_env.specs.Answered as tree
+use Rattle.hir_env.specs.Answered.{Label, Jump, Expr, OptionExpr, Block, Stmts}
+use Rattle.hir_meaning.specs.Data.{literal_data, plain_path}
+use Rattle.hir_meaning.specs.Run.{Value, Operation, literal, read, Event, event_at, Answerer, Body}
+use Rattle.hir_meaning.specs.Syntax.{written_body}
+use Rattle.hir_meaning.specs.Store.{stored_body}
+use Rattle.hir_meaning.specs.Same.{Ending, ending, does}
+
+-- node n of the file 0
+abbrev pub at : ℕ → Pointer
+at n = record { file_id = record { 0 = 0 }; value = record { node = record { 0 = n }; range = record { start = 0; end = 0 } } }
+
+abbrev pub root : HygieneId
+root = record { 0 = 0 }
+
+-- ---- written
+
+-- the literal of one byte
+abbrev pub digit : ℕ → AstLiteral
+digit c = record { lit = Int; t = c ∷ []; suffix = None }
+
+abbrev pub one : AstLiteral
+one = digit 49
+
+abbrev pub two : AstLiteral
+two = digit 50
+
+abbrev pub literal_at : ℕ → AstLiteral → Expr
+literal_at n l = tree.literal_expr (at n) l
+
+-- the path of a name of one byte
+abbrev pub name_at : ℕ → ℕ → Expr
+name_at c n = tree.path_expr (at n) (Some (Some (name.Text (c ∷ [])) ∷ [])) root
+
+-- `'a`, with this hygiene
+abbrev pub label_of : HygieneId → Label
+label_of h = record { pointer = at 1; name = name.Text (97 ∷ []); hygiene = h }
+
+abbrev pub jump_of : HygieneId → Jump
+jump_of h = record { pointer = at 9; name = name.Text (97 ∷ []); hygiene = h; contexts = no_contexts }
+
+abbrev pub label_a : Label
+label_a = label_of root
+
+abbrev pub jump_a : Jump
+jump_a = jump_of root
+
+-- `{ e }`
+abbrev pub in_braces : ℕ → Option Label → Expr → Block
+in_braces n label e = tree.block (at n) label None tree.no_stmts (tree.some_expr e)
+
+-- `e;`, before others
+abbrev pub first : Expr → Stmts → Stmts
+first e ss = tree.more_stmts (tree.expr_stmt (tree.some_expr e) true) ss
+
+-- `{ ss e }`
+abbrev pub block_of : ℕ → Option Label → Stmts → Expr → Block
+block_of n label ss e = tree.block (at n) label None ss (tree.some_expr e)
+
+abbrev pub loop_of : ℕ → Option Label → Block → Expr
+loop_of n label b = tree.loop_expr (at n) label (tree.some_block b)
+
+abbrev pub break_of : ℕ → Option Jump → Expr → Expr
+break_of n jump e = tree.break_expr (at n) jump (tree.some_expr e)
+
+-- ---- stored
+
+-- expressions, each with the node that it came from
+abbrev pub Nodes : Type 0
+Nodes = List (Stored × ℕ)
+
+-- a store of these alone
+abbrev pub only : Nodes → Store
+only ns = record { exprs = map (λ n. n.0) ns; labels = []; roots = [] }
+
+abbrev pub from : Nodes → SourceMap
+from ns = record {
+  expr_sources = map (λ n. Some (at n.1)) ns;
+  label_sources = [];
+  expr_map = [];
+  label_map = [];
+  block_scopes = [];
+  diagnostics = [];
+}
+
+abbrev pub id : ℕ → ExprId
+id n = record { 0 = n }
+
+abbrev pub number : ℕ → LabelId
+number n = record { 0 = n }
+
+abbrev pub stored_digit : ℕ → Literal
+stored_digit c = record { negative = false; kind = Int; text = c ∷ []; suffix = None }
+
+-- the path of a name of one byte
+abbrev pub stored_name : ℕ → Path
+stored_name c = BarePath (record { kind = Plain; segments = name.Text (c ∷ []) ∷ [] })
+
+abbrev pub stored_one : Stored
+stored_one = hir.Literal (stored_digit 49)
+
+abbrev pub stored_two : Stored
+stored_two = hir.Literal (stored_digit 50)
+
+-- a block without a number
+abbrev pub stored_block : Option LabelId → List Statement → ℕ → Stored
+stored_block label ss tail = hir.Block label None ss (Some (id tail))
+
+abbrev pub stored_loop : Option LabelId → ℕ → Stored
+stored_loop label body = hir.Loop (id body) label source.Loop
+
+-- ---- what both do
+
+abbrev pub event_of : Operation → List Value → ℕ → Event
+event_of o vs n = event_at o vs (Some (site_of (at n)))
+
+abbrev pub literal_event : AstLiteral → ℕ → Event
+literal_event l n = event_of (literal (literal_data l)) [] n
+
+abbrev pub read_name : ℕ → Operation
+read_name c = read (plain_path (name.Text (c ∷ []) ∷ [])) root
+
+-- a body as it is written, and expressions, of which this one is the body as it is stored
+pub record Example : Type 0 where
+  pub written : OptionExpr
+  pub nodes : Nodes
+  pub root : ℕ
+
+-- the body, told these answers, makes these events and ends so
+pub record Does {T J : Type 0} (b : Body T J) (turns : ℕ) (answers : Answerer) (es : List Event) (end : Ending) : Type 0 where
+  pub events : (does b turns answers).1.events ≡ es
+  pub ends : ending (does b turns answers).0 ≡ end
+
+-- as it is written and as it is stored
+pub record BothDo (x : Example) (turns : ℕ) (answers : Answerer) (es : List Event) (end : Ending) : Type 0 where
+  pub written : Does (written_body x.written) turns answers es end
+  pub stored : Does (stored_body (only x.nodes) (from x.nodes) (id x.root)) turns answers es end

@@ -1,0 +1,178 @@
+-- Steps whose answers stand for what is written, and the forms that are made of them.
+use Rattle.std.proofs.Common.{◌≡◌, ◌∙◌, refl, sym, ap, subst, List, [], ◌∷◌, ◌++◌, append_assoc, append-nil, slice_get, option_to_list, option_map, Bool, true, false, Option, Some, None}
+use Rattle.indexmap.specs.IndexMap.{insert_entry}
+use Rattle.hir_syntax.specs.declared.ast.Literal.{Literal as AstLiteral}
+use Rattle.hir_store.specs.Pointers.{Pointer, same_pointer}
+use Rattle.hir_store.specs.Stored.{Stored, store_of, map_of}
+use Rattle.hir_store.specs.Storing.{expr_id, label_id}
+use Rattle.hir_store.specs.declared.hir.Expr.{Expr as HirExpr}
+use Rattle.hir_store.specs.declared.hir.Expr.TheVariants as hir
+use Rattle.hir_store.specs.declared.hir.LoopSource.TheVariants as source
+use Rattle.hir_store.specs.declared.hir.Statement.{Statement}
+use Rattle.hir_store.specs.declared.ids.ExprId.{ExprId}
+use Rattle.hir_store.specs.declared.ids.LabelId.{LabelId}
+use Rattle.hir_store.specs.declared.ids.BlockId.{BlockId}
+use Rattle.hir_store.specs.declared.ids.HygieneId.{HygieneId}
+use Rattle.hir_scope.specs.Ribs.{Rib, Target, found, unreachable, undeclared, target, jump_number}
+use Rattle.hir_env.specs.Answered.{Label, Jump, Segments}
+use Rattle.hir_meaning.specs.Data.{PathData, data_if_written}
+use Rattle.hir_lower_form.specs.Lowering.{Lowering, ◌>>=◌, pure, alloc_expr}
+use Rattle.hir_lower_form.specs.Lower.{Node, Contents, missing, some, if_form, loop_form, call_form, continue_form, break_form, paren_form, block_form, labelled, settled, stored_path, stored_literal}
+use Rattle.hir_steps.proofs.Frames.{Frame, loop_at, block_at, ribs}
+use Rattle.hir_steps.proofs.Steps.{Mark, Rel, Correct, Allocated, Opened, IsPure, correct_bind, correct_as, correct_pure, correct_report, correct_point, correct_enter_block, correct_alloc, correct_opened, correct_target, with_target, with_jump, with_block}
+use Rattle.hir_one_result.specs.Leads.{Way, expr_way, label_way, Led, Ways, No, From, FromLabel, ◌&◌}
+use Rattle.hir_one_result.specs.Stands.{Open, Absent, There, ExprAt, LabelAt, StandsMissing, StandsAlone, StandsPath, StandsLiteral, InLabel}
+use Rattle.hir_one_result.proofs.Leading.{Shown, shown_as, shown_none, shown_own, shown_label, shown_both, shown_swap, shown_after, shown_before, led_still, led_expr, led_label}
+use Rattle.hir_one_result.proofs.Data.{PathIs, path_is}
+
+abbrev pub Of : Type 0 → Type 1
+Of A = Stored → Open → A → Ways
+
+-- what is so of the final store, with the ways from what was written
+pub record Shows {A : Type 0} (S : Of A) (final : Stored) (ps : List Frame) (m m' : Mark) (a : A) : Type 0 where
+  pub shown : Shown (S final (ribs ps) a) m.stored m'.stored
+
+-- ---- what steps store, and where they lead
+
+pub led_same : (a c : Stored) {b : Stored} → b ≡ c → c.exprs ≡ a.exprs → c.labels ≡ a.labels → Led (map_of a) (map_of b) []
+led_same a c is exprs labels = led_still (ap (λ s. s.exprs.map) is ∙ ap (λ x. x.map) exprs) (ap (λ s. s.labels.map) is ∙ ap (λ x. x.map) labels)
+
+pub led_pure : {a b : Mark} → b ≡ a → Led (map_of a.stored) (map_of b.stored) []
+led_pure {a = a} e = led_same a.stored a.stored (ap (λ m. m.stored) e) refl refl
+
+target_leads : {A : Type 0} (j : Jump) (t : Target A) (s : Stored) → ((with_target j t s).exprs ≡ s.exprs) × ((with_target j t s).labels ≡ s.labels)
+target_leads j (found n) s = (refl, refl)
+target_leads j unreachable s = (refl, refl)
+target_leads j undeclared s = (refl, refl)
+
+jump_leads : {A : Type 0} (j : Option Jump) (rs : List (Rib A)) (s : Stored) → ((with_jump j rs s).exprs ≡ s.exprs) × ((with_jump j rs s).labels ≡ s.labels)
+jump_leads None rs s = (refl, refl)
+jump_leads (Some j) rs s = target_leads j (target j rs) s
+
+led_jump : (j : Option Jump) (ps : List Frame) (a : Stored) {b : Stored} → b ≡ with_jump j (ribs ps) a → Led (map_of a) (map_of b) []
+led_jump j ps a is = let same = jump_leads j (ribs ps) a in led_same a (with_jump j (ribs ps) a) is same.0 same.1
+
+block_leads : (n : Option BlockId) (s : Stored) → ((with_block n s).exprs ≡ s.exprs) × ((with_block n s).labels ≡ s.labels)
+block_leads None s = (refl, refl)
+block_leads (Some n) s = (refl, refl)
+
+module _ {e : HirExpr} {final : Stored} {ps : List Frame} {m m' : Mark} {i : ExprId} where
+  pub expr_at : {at : Option Pointer} → Allocated e at final ps m m' i → ExprAt (store_of final) (map_of final) i e at
+  expr_at row = record { stored = ap (λ n. slice_get final.exprs.entries n) row.number ∙ row.here; source = ap (λ n. slice_get final.exprs.sources n) row.number ∙ row.from }
+
+  own : {at : Pointer} → Allocated e (Some at) final ps m m' i → Shown (From at i) m.stored m'.stored
+  own {at = at} row = shown_own at i (led_expr at i
+      (ap (λ s. s.exprs.map) row.stored ∙ ap (λ n. insert_entry same_pointer m.stored.exprs.map at (expr_id n)) (sym (row.number ∙ row.last)))
+      (ap (λ s. s.labels.map) row.stored))
+
+module _ {A B : Type 0} {at : Label → LabelId → Frame} {l : Label} {R : LabelId → Rel A} {Q : LabelId → A → Rel B} {final : Stored} {ps : List Frame} {m m' : Mark} {b : B} where
+  label_at : (row : Opened at l R Q final ps m m' b) → LabelAt (store_of final) (map_of final) row.number l
+  label_at row = record { stored = ap (λ n. slice_get final.labels.entries n) row.new ∙ row.here; source = ap (λ n. slice_get final.labels.sources n) row.new ∙ row.from }
+
+  own_label : (row : Opened at l R Q final ps m m' b) → Shown (FromLabel l.pointer row.number) m.stored row.entered.stored
+  own_label row = shown_label l.pointer row.number (led_label l.pointer row.number
+      (ap (λ s. s.exprs.map) row.stored)
+      (ap (λ s. s.labels.map) row.stored ∙ ap (λ n. insert_entry same_pointer m.stored.labels.map l.pointer (label_id n)) (sym (row.new ∙ row.last))))
+
+-- ---- leaves
+
+pub missing_stands : Correct missing (Shows (λ final rs i. StandsMissing (store_of final) (map_of final) i))
+unfolding missing
+missing_stands = correct_as (correct_alloc hir.Missing None) (λ final ps m m' i g row.
+    record { shown = shown_none (led_still (ap (λ s. s.exprs.map) row.stored) (ap (λ s. s.labels.map) row.stored)) (expr_at row, refl) })
+
+pub alone_stands : (e : HirExpr) (at : Pointer) → Correct (alloc_expr e (Some at)) (Shows (λ final rs i. StandsAlone (store_of final) (map_of final) e at i))
+alone_stands e at = correct_as (correct_alloc e (Some at)) (λ final ps m m' i g row. record { shown = shown_as (own row) (λ ws x. (expr_at row, x)) })
+
+pub path_stands : (at : Pointer) (x : Option Segments) (h : HygieneId)
+    → Correct (alloc_expr (stored_path x h) (Some at)) (Shows (λ final rs i. StandsPath (store_of final) (map_of final) at (data_if_written x) h i))
+path_stands at x h = by (data_if_written x) (stored_path x h) (path_is x h)
+  where
+    by : (o : Option PathData) (e : HirExpr) → PathIs o h e → Correct (alloc_expr e (Some at)) (Shows (λ final rs i. StandsPath (store_of final) (map_of final) at o h i))
+    by None e is = subst (λ y. Correct (alloc_expr y (Some at)) (Shows (λ final rs i. StandsAlone (store_of final) (map_of final) hir.Missing at i))) (sym is) (alone_stands hir.Missing at)
+    by (Some p) e is = correct_as (correct_alloc e (Some at)) (λ final ps m m' i g row.
+        record { shown = shown_as (own row) (λ ws y. (is.0, is.1, (subst (λ z. ExprAt (store_of final) (map_of final) i z (Some at)) is.2 (expr_at row), y))) })
+
+pub literal_stands : (at : Pointer) (l : AstLiteral)
+    → Correct (alloc_expr (hir.Literal (stored_literal l)) (Some at)) (Shows (λ final rs i. StandsLiteral (store_of final) (map_of final) at l i))
+literal_stands at l = correct_as (alone_stands (hir.Literal (stored_literal l)) at) (λ final ps m m' i g row. record { shown = shown_as row.shown (λ ws y. (stored_literal l, refl, y)) })
+
+-- ---- forms
+
+pub present_none : {A : Type 0} → Correct {A = Option A} (pure None) (Shows (λ final rs o. Absent o))
+present_none = correct_as (correct_pure None) (λ final ps m m' o g row. record { shown = shown_none (led_pure row.still) (row.is, refl) })
+
+pub present_some : {A : Type 0} {p : Lowering A} {S : Of A} → Correct p (Shows S) → Correct (some p) (Shows (λ final rs o. There (λ a. S final rs a) o))
+present_some h = correct_as (correct_bind h (λ a. correct_pure (Some a))) (λ final ps m m' o g row.
+    record { shown = shown_as (shown_before row.first.shown (led_pure row.second.still)) (λ ws y. (row.one, row.second.is, y)) })
+
+module _ (at : Pointer) where
+  pub if_stands : {c t : Node} {e : Lowering (Option ExprId)} {C T : Of ExprId} {E : Of (Option ExprId)} → Correct c (Shows C) → Correct t (Shows T) → Correct e (Shows E)
+      → Correct (if_form at c t e) (Shows (λ final rs i ws. (condition : ExprId) × (then_branch : ExprId) × (else_branch : Option ExprId)
+      × ExprAt (store_of final) (map_of final) i (hir.If condition then_branch else_branch) (Some at)
+      × (C final rs condition & T final rs then_branch & E final rs else_branch & From at i) ws))
+  unfolding if_form
+  if_stands hc ht he = correct_as (correct_bind ht (λ i. correct_bind he (λ j. correct_bind hc (λ k. correct_alloc (hir.If k i j) (Some at))))) (λ final ps m m' i g row.
+      let r = row.second in let q = r.second in
+      let parts = shown_swap (shown_both row.first.shown (shown_swap (shown_both r.first.shown (shown_both q.first.shown (own q.second))))) in
+      record { shown = shown_as parts (λ ws x. (q.one, row.one, r.one, expr_at q.second, x)) })
+
+  pub loop_stands : (label : Option Label) {b : Node} {B : Of ExprId} → Correct b (Shows B)
+      → Correct (loop_form at label b) (Shows (λ final rs i. InLabel (store_of final) (map_of final) rs label (λ inner n ws. (body : ExprId)
+      × ExprAt (store_of final) (map_of final) i (hir.Loop body n source.Loop) (Some at) × (B final inner body & From at i) ws)))
+  unfolding loop_form
+  loop_stands None h = correct_as (correct_bind h (λ i. correct_alloc (hir.Loop i None source.Loop) (Some at))) (λ final ps m m' i g row.
+      record { shown = shown_as (shown_both row.first.shown (own row.second)) (λ ws x. (row.one, expr_at row.second, x)) })
+  loop_stands (Some l) h = correct_as (correct_opened loop_at l (λ n ps. refl) (λ n. h) (λ n i. correct_alloc (hir.Loop i (Some n) source.Loop) (Some at))) (λ final ps m m' i g row.
+      let body = shown_as (shown_both row.first.shown (own row.second)) (λ ws y. (row.one, expr_at row.second, y)) in
+      record { shown = shown_as (shown_both (own_label row) body) (λ ws y. (row.number, label_at row, y)) })
+
+  pub call_stands : {f : Node} {xs : Lowering (List ExprId)} {F : Of ExprId} {X : Of (List ExprId)} → Correct f (Shows F) → Correct xs (Shows X)
+      → Correct (call_form at f xs) (Shows (λ final rs i ws. (callee : ExprId) × (arguments : List ExprId)
+      × ExprAt (store_of final) (map_of final) i (hir.Call callee arguments) (Some at) × (F final rs callee & X final rs arguments & From at i) ws))
+  unfolding call_form
+  call_stands hf hx = correct_as (correct_bind hf (λ i. correct_bind hx (λ js. correct_alloc (hir.Call i js) (Some at)))) (λ final ps m m' i g row.
+      let r = row.second in record { shown = shown_as (shown_both row.first.shown (shown_both r.first.shown (own r.second))) (λ ws x. (row.one, r.one, expr_at r.second, x)) })
+
+  pub continue_stands : (j : Option Jump) → Correct (continue_form at j) (Shows (λ final rs i. StandsAlone (store_of final) (map_of final) (hir.Continue (jump_number rs j)) at i))
+  unfolding continue_form
+  continue_stands j = correct_as (correct_bind (correct_target j) (λ n. correct_alloc (hir.Continue n) (Some at))) (λ final ps m m' i g row.
+      let node = subst (λ n. ExprAt (store_of final) (map_of final) i (hir.Continue n) (Some at)) row.first.is (expr_at row.second) in
+      record { shown = shown_after (led_jump j ps m.stored row.first.stored) (shown_as (own row.second) (λ ws x. (node, x))) })
+
+  pub break_stands : (j : Option Jump) {e : Lowering (Option ExprId)} {E : Of (Option ExprId)} → Correct e (Shows E)
+      → Correct (break_form at j e) (Shows (λ final rs i ws. (value : Option ExprId)
+      × ExprAt (store_of final) (map_of final) i (hir.Break (jump_number rs j) value) (Some at) × (E final rs value & From at i) ws))
+  unfolding break_form
+  break_stands j he = correct_as (correct_bind (correct_target j) (λ n. correct_bind he (λ v. correct_alloc (hir.Break n v) (Some at)))) (λ final ps m m' i g row.
+      let r = row.second in
+      let node = subst (λ n. ExprAt (store_of final) (map_of final) i (hir.Break n r.one) (Some at)) row.first.is (expr_at r.second) in
+      record { shown = shown_after (led_jump j ps m.stored row.first.stored) (shown_as (shown_both r.first.shown (own r.second)) (λ ws x. (r.one, node, x))) })
+
+  pub paren_stands : {e : Node} {S : Of ExprId} → Correct e (Shows S) → Correct (paren_form at e) (Shows (λ final rs i. S final rs i & From at i))
+  unfolding paren_form
+  paren_stands {S = S} h = correct_as (correct_bind h (λ i. correct_bind (correct_point at i) (λ u. correct_pure i))) (λ final ps m m' i g row.
+      let r = row.second in
+      let led = led_expr at row.one (ap (λ s. s.exprs.map) r.first.stored) (ap (λ s. s.labels.map) r.first.stored) in
+      let x = shown_before (shown_both row.first.shown (shown_own {b = r.middle.stored} at row.one led)) (led_pure r.second.still) in
+      record { shown = subst (λ k. Shown (S final (ribs ps) k & From at k) m.stored m'.stored) (sym r.second.is) x })
+
+  -- what its statements and its tail became, as it is settled
+  pub block_form_stands : (label : Option LabelId) (number : Option BlockId) {c : Lowering Contents} {S : Of Contents} → Correct c (Shows S)
+      → Correct (block_form at label number c) (Shows (λ final rs i ws. (r : Contents)
+      × ExprAt (store_of final) (map_of final) i (hir.Block label number (settled r.0 r.1).0 (settled r.0 r.1).1) (Some at) × (S final rs r & From at i) ws))
+  unfolding block_form
+  block_form_stands label number h = correct_as (correct_bind (correct_enter_block number) (λ u. correct_bind h (λ r. correct_alloc _ (Some at)))) (λ final ps m m' i g row.
+      let same = block_leads number m.stored in
+      let r = row.second in
+      let led = led_same m.stored (with_block number m.stored) row.first.stored same.0 same.1 in
+      record { shown = shown_after led (shown_as (shown_both r.first.shown (own r.second)) (λ ws x. (r.one, expr_at r.second, x))) })
+
+pub labelled_stands : (label : Option Label) {f : Option LabelId → Node} {S : Stored → Open → Option LabelId → ExprId → Ways} → ((n : Option LabelId) → Correct (f n) (Shows (λ final rs i. S final rs n i)))
+    → Correct (labelled label f) (Shows (λ final rs i. InLabel (store_of final) (map_of final) rs label (λ inner n. S final inner n i)))
+unfolding labelled
+labelled_stands None h = h None
+labelled_stands (Some l) {S = S} h = correct_as (correct_opened block_at l (λ n ps. refl) (λ n. h (Some n)) (λ n i. correct_pure i)) (λ final ps m m' i g row.
+    let part = shown_before row.first.shown (led_pure row.second.still) in
+    let body = subst (λ k. Shown (S final (ribs (block_at l row.number ∷ ps)) (Some row.number) k) row.entered.stored m'.stored) (sym row.second.is) part in
+    record { shown = shown_as (shown_both (own_label row) body) (λ ws y. (row.number, label_at row, y)) })

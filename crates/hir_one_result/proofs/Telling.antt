@@ -1,0 +1,192 @@
+-- Steps that add to one of the lists of what is stored: which they are, and what the forms add that are made of them.
+use Rattle.std.proofs.Common.{◌≡◌, ◌∙◌, refl, sym, ap, subst, List, [], ◌∷◌, ◌++◌, append_assoc, append-nil, Option, Some, None}
+use Rattle.hir_store.specs.Pointers.{Pointer}
+use Rattle.hir_store.specs.Stored.{Stored}
+use Rattle.hir_store.specs.declared.hir.Expr.{Expr as HirExpr}
+use Rattle.hir_store.specs.declared.ids.ExprId.{ExprId}
+use Rattle.hir_store.specs.declared.ids.LabelId.{LabelId}
+use Rattle.hir_store.specs.declared.ids.BlockId.{BlockId}
+use Rattle.hir_store.specs.declared.diagnostics.ExpressionStoreDiagnostics.{ExpressionStoreDiagnostics}
+use Rattle.hir_store.specs.declared.diagnostics.ExpressionStoreDiagnostics.TheVariants.{UndeclaredLabel, UnreachableLabel}
+use Rattle.hir_env.specs.Answered.{Label, Jump}
+use Rattle.hir_scope.specs.Ribs.{Rib, label_rib, Target, found, unreachable, undeclared, target, map_ribs, map_target}
+use Rattle.hir_scope.specs.Scopes as scope
+use Rattle.hir_scope.specs.Scopes.{Scope, loop_scope, block_scope, in_block}
+use Rattle.hir_scope.proofs.Ribs.{target_map}
+use Rattle.hir_lower_form.specs.Lowering.{Lowering, ◌>>=◌, pure, alloc_expr, point, report, enter_block, open_label, close, jump_target}
+use Rattle.hir_lower_form.specs.Lower.{Node, Contents, missing, some, if_form, loop_form, call_form, continue_form, break_form, paren_form, block_form, labelled}
+use Rattle.hir_steps.proofs.Frames.{Frame, loop_at, block_at, ribs}
+use Rattle.hir_steps.proofs.Steps.{Mark, Rel, Correct, correct_bind, correct_as, correct_pure, correct_report, correct_point, correct_enter_block, correct_alloc, correct_opened, correct_target, with_fault, with_block, with_expr, with_label, pointing, with_target, with_jump}
+use Rattle.hir_one_result.specs.Diagnostics.{forget, Around, target_faults, jump_faults}
+use Rattle.hir_one_result.proofs.Around.{IsRib, in_loop, loop_is_rib, block_is_rib}
+
+-- A list of what is stored, which faults and entered blocks add to, and in which way a list may be another.
+pub record Listing (X : Type 0) : Type 1 where
+  pub list : Stored → List X
+  pub of_faults : List ExpressionStoreDiagnostics → List X
+  pub of_block : Option BlockId → List X
+  pub fault : (d : ExpressionStoreDiagnostics) (s : Stored) → list (with_fault d s) ≡ list s ++ of_faults (d ∷ [])
+  pub no_fault : of_faults [] ≡ []
+  pub block : (n : Option BlockId) (s : Stored) → list (with_block n s) ≡ list s ++ of_block n
+  pub expr : (e : HirExpr) (at : Option Pointer) (s : Stored) → list (with_expr e at s) ≡ list s
+  pub label : (l : Label) (s : Stored) → list (with_label l s) ≡ list s
+  pub way : (p : Pointer) (i : ExprId) (s : Stored) → list (pointing p i s) ≡ list s
+  pub Like : List X → List X → Type 0
+  pub same : (xs : List X) → Like xs xs
+  pub trans : (xs ys zs : List X) → Like xs ys → Like ys zs → Like xs zs
+  pub both : (as' bs cs ds : List X) → Like as' bs → Like cs ds → Like (as' ++ cs) (bs ++ ds)
+
+module _ {X : Type 0} (L : Listing X) where
+  pub record Added (xs : List X) (a b : Stored) : Type 0 where
+    pub more : List X
+    pub is : L.list b ≡ L.list a ++ more
+    pub like : L.Like xs more
+
+  added_none : {a b : Stored} → L.list b ≡ L.list a → Added [] a b
+  added_none e = record { more = []; is = e ∙ sym (append-nil _); like = L.same [] }
+
+  added_these : (xs : List X) {a b : Stored} → L.list b ≡ L.list a ++ xs → Added xs a b
+  added_these xs e = record { more = xs; is = e; like = L.same xs }
+
+  added_then : {xs ys : List X} {a b c : Stored} → Added xs a b → Added ys b c → Added (xs ++ ys) a c
+  added_then {xs = xs} {ys = ys} {a = a} g h = record {
+    more = g.more ++ h.more;
+    is = h.is ∙ (ap (λ zs. zs ++ h.more) g.is ∙ append_assoc (L.list a) g.more h.more);
+    like = L.both xs g.more ys h.more g.like h.like;
+  }
+
+  added_as : {xs ys : List X} {a b : Stored} → L.Like ys xs → Added xs a b → Added ys a b
+  added_as {xs = xs} {ys = ys} e g = record { more = g.more; is = g.is; like = L.trans ys xs g.more e g.like }
+
+  -- in whatever scopes
+  pub record Tells {A : Type 0} (D : List Scope → List X) (final : Stored) (ps : List Frame) (m m' : Mark) (a : A) : Type 0 where
+    pub told : (ss : List Scope) → Around ss (ribs ps) → Added (D ss) m.stored m'.stored
+
+  abbrev pub nothing : List Scope → List X
+  nothing ss = []
+
+  -- ---- one after another
+
+  pub tells_bind : {A B : Type 0} {D E : List Scope → List X} {p : Lowering A} {f : A → Lowering B} → Correct p (Tells D) → ((a : A) → Correct (f a) (Tells E))
+      → Correct (p >>= f) (Tells (λ ss. D ss ++ E ss))
+  tells_bind h k = correct_as (correct_bind h k) (λ final ps m m' a g row. record { told = λ ss e. added_then (row.first.told ss e) (row.second.told ss e) })
+
+  pub tells_as : {A : Type 0} {D E : List Scope → List X} {p : Lowering A} → Correct p (Tells D) → ((ss : List Scope) → L.Like (E ss) (D ss)) → Correct p (Tells E)
+  tells_as h like = correct_as h (λ final ps m m' a g row. record { told = λ ss e. added_as (like ss) (row.told ss e) })
+
+  -- what comes after adds nothing
+  pub tells_end : {A B : Type 0} {D : List Scope → List X} {p : Lowering A} {f : A → Lowering B} → Correct p (Tells D) → ((a : A) → Correct (f a) (Tells nothing))
+      → Correct (p >>= f) (Tells D)
+  tells_end {D = D} h k = tells_as (tells_bind h k) (λ ss. subst (L.Like (D ss)) (sym (append-nil (D ss))) (L.same (D ss)))
+
+  -- ---- steps
+
+  pub tells_pure : {A : Type 0} (a : A) → Correct (pure a) (Tells nothing)
+  tells_pure a = correct_as (correct_pure a) (λ final ps m m' b g row. record { told = λ ss e. added_none (ap (λ x. L.list x.stored) row.still) })
+
+  pub tells_some : {A : Type 0} {D : List Scope → List X} {p : Lowering A} → Correct p (Tells D) → Correct (some p) (Tells D)
+  tells_some h = tells_end h (λ a. tells_pure (Some a))
+
+  pub tells_alloc : (e : HirExpr) (at : Option Pointer) → Correct (alloc_expr e at) (Tells nothing)
+  tells_alloc e at = correct_as (correct_alloc e at) (λ final ps m m' i g row. record { told = λ ss x. added_none (ap L.list row.stored ∙ L.expr e at m.stored) })
+
+  pub tells_point : (at : Pointer) (i : ExprId) → Correct (point at i) (Tells nothing)
+  tells_point at i = correct_as (correct_point at i) (λ final ps m m' u g row. record { told = λ ss e. added_none (ap L.list row.stored ∙ L.way at i m.stored) })
+
+  pub tells_report : (d : ExpressionStoreDiagnostics) → Correct (report d) (Tells (λ ss. L.of_faults (d ∷ [])))
+  tells_report d = correct_as (correct_report d) (λ final ps m m' u g row. record { told = λ ss e. added_these (L.of_faults (d ∷ [])) (ap L.list row.stored ∙ L.fault d m.stored) })
+
+  pub tells_enter_block : (n : Option BlockId) → Correct (enter_block n) (Tells (λ ss. L.of_block n))
+  tells_enter_block n = correct_as (correct_enter_block n) (λ final ps m m' u g row. record { told = λ ss e. added_these (L.of_block n) (ap L.list row.stored ∙ L.block n m.stored) })
+
+  -- ---- jumps
+
+  none_more : (s : Stored) → L.list s ≡ L.list s ++ L.of_faults []
+  none_more s = sym (ap (λ xs. L.list s ++ xs) L.no_fault ∙ append-nil (L.list s))
+
+  faults_of : {A : Type 0} (j : Jump) (t : Target A) (s : Stored) → L.list (with_target j t s) ≡ L.list s ++ L.of_faults (target_faults j t)
+  faults_of j (found n) s = none_more s
+  faults_of j unreachable s = L.fault (UnreachableLabel j.pointer j.name) s
+  faults_of j undeclared s = L.fault (UndeclaredLabel j.pointer j.name) s
+
+  target_like : {A B : Type 0} (f : A → B) (j : Jump) (t : Target A) → target_faults j (map_target f t) ≡ target_faults j t
+  target_like f j (found a) = refl
+  target_like f j unreachable = refl
+  target_like f j undeclared = refl
+
+  forgotten : {A : Type 0} (j : Jump) (rs : List (Rib A)) → target_faults j (target j (map_ribs forget rs)) ≡ target_faults j (target j rs)
+  forgotten j rs = ap (λ t. target_faults j t) (target_map forget j rs) ∙ target_like forget j (target j rs)
+
+  as_around : (j : Jump) (ss : List Scope) (rs : List (Rib LabelId)) → Around ss rs → target_faults j (target j rs) ≡ target_faults j (target j (scope.ribs ss))
+  as_around j ss rs e = sym (forgotten j rs) ∙ (ap (λ qs. target_faults j (target j qs)) (sym e) ∙ forgotten j (scope.ribs ss))
+
+  jump_adds : (j : Option Jump) (ss : List Scope) (rs : List (Rib LabelId)) → Around ss rs → (s : Stored) → L.list (with_jump j rs s) ≡ L.list s ++ L.of_faults (jump_faults ss j)
+  jump_adds None ss rs e s = none_more s
+  jump_adds (Some j) ss rs e s = faults_of j (target j rs) s ∙ ap (λ ds. L.list s ++ L.of_faults ds) (as_around j ss rs e)
+
+  pub tells_target : (j : Option Jump) → Correct (jump_target j) (Tells (λ ss. L.of_faults (jump_faults ss j)))
+  tells_target j = correct_as (correct_target j) (λ final ps m m' n g row.
+      record { told = λ ss e. added_these (L.of_faults (jump_faults ss j)) (ap L.list row.stored ∙ jump_adds j ss (ribs ps) e m.stored) })
+
+  -- ---- a label around steps
+
+  last_none : {xs : List X} {a b : Stored} → Added (xs ++ []) a b → Added xs a b
+  last_none {xs = xs} {a = a} {b = b} g = subst (λ ys. Added ys a b) (append-nil xs) g
+
+  opened_tells : {A B : Type 0} {D : List Scope → List X} (at : Label → LabelId → Frame) (l : Label) (c : Scope) {p : LabelId → Lowering A} {f : LabelId → A → Lowering B}
+      → ((n : LabelId) (ps : List Frame) → ribs (at l n ∷ ps) ≡ label_rib l.name l.hygiene n ∷ ribs ps) → ((n : LabelId) → IsRib c (label_rib l.name l.hygiene n))
+      → ((n : LabelId) → Correct (p n) (Tells D)) → ((n : LabelId) (a : A) → Correct (f n a) (Tells nothing))
+      → Correct (open_label l >>= (λ n. p n >>= (λ a. close >>= (λ _. f n a)))) (Tells (λ ss. D (c ∷ ss)))
+  opened_tells {D = D} at l c frame is hp hf = correct_as (correct_opened at l frame hp hf) (λ final ps m m' b g row. record {
+    told = λ ss e.
+        let inner = subst (Around (c ∷ ss)) (sym (frame row.number ps)) ((is row.number).around ss (ribs ps) e) in
+        let entered : Added [] m.stored row.entered.stored = added_none (ap L.list row.stored ∙ L.label l m.stored) in
+        last_none (added_then (added_then entered (row.first.told (c ∷ ss) inner)) (row.second.told ss e));
+  })
+
+  -- ---- forms
+
+  pub missing_tells : Correct missing (Tells nothing)
+  unfolding missing
+  missing_tells = tells_alloc _ _
+
+  module _ (at : Pointer) where
+    -- the branches first
+    pub if_tells : {C T E : List Scope → List X} {c t : Node} {e : Lowering (Option ExprId)} → Correct c (Tells C) → Correct t (Tells T) → Correct e (Tells E)
+        → Correct (if_form at c t e) (Tells (λ ss. T ss ++ (E ss ++ C ss)))
+    unfolding if_form
+    if_tells hc ht he = tells_bind ht (λ i. tells_bind he (λ j. tells_end hc (λ k. tells_alloc _ _)))
+
+    pub loop_tells : (label : Option Label) {D : List Scope → List X} {b : Node} → Correct b (Tells D) → Correct (loop_form at label b) (Tells (λ ss. D (loop_scope label ∷ ss)))
+    unfolding loop_form
+    loop_tells None h = tells_end
+        (correct_as h (λ final ps m m' a g row. record { told = λ ss e. row.told (loop_scope None ∷ ss) (in_loop ss (ribs ps) e) }))
+        (λ i. tells_alloc _ _)
+    loop_tells (Some l) h = opened_tells loop_at l (loop_scope (Some l)) (λ n ps. refl) (λ n. loop_is_rib l n) (λ n. h) (λ n i. tells_alloc _ _)
+
+    pub call_tells : {D E : List Scope → List X} {f : Node} {xs : Lowering (List ExprId)} → Correct f (Tells D) → Correct xs (Tells E) → Correct (call_form at f xs) (Tells (λ ss. D ss ++ E ss))
+    unfolding call_form
+    call_tells hf hx = tells_bind hf (λ i. tells_end hx (λ js. tells_alloc _ _))
+
+    pub continue_tells : (j : Option Jump) → Correct (continue_form at j) (Tells (λ ss. L.of_faults (jump_faults ss j)))
+    unfolding continue_form
+    continue_tells j = tells_end (tells_target j) (λ n. tells_alloc _ _)
+
+    pub break_tells : (j : Option Jump) {D : List Scope → List X} {e : Lowering (Option ExprId)} → Correct e (Tells D) → Correct (break_form at j e) (Tells (λ ss. L.of_faults (jump_faults ss j) ++ D ss))
+    unfolding break_form
+    break_tells j h = tells_bind (tells_target j) (λ n. tells_end h (λ v. tells_alloc _ _))
+
+    pub paren_tells : {D : List Scope → List X} {e : Node} → Correct e (Tells D) → Correct (paren_form at e) (Tells D)
+    unfolding paren_form
+    paren_tells h = tells_end h (λ i. tells_end (tells_point at i) (λ u. tells_pure i))
+
+    pub block_form_tells : (label : Option LabelId) (number : Option BlockId) {D : List Scope → List X} {c : Lowering Contents} → Correct c (Tells D)
+        → Correct (block_form at label number c) (Tells (λ ss. L.of_block number ++ D ss))
+    unfolding block_form
+    block_form_tells label number h = tells_bind (tells_enter_block number) (λ u. tells_end h (λ r. tells_alloc _ _))
+
+  pub labelled_tells : (label : Option Label) {D : List Scope → List X} {f : Option LabelId → Node} → ((n : Option LabelId) → Correct (f n) (Tells D))
+      → Correct (labelled label f) (Tells (λ ss. D (in_block label ss)))
+  unfolding labelled
+  labelled_tells None h = h None
+  labelled_tells (Some l) h = opened_tells block_at l (block_scope l) (λ n ps. refl) (λ n. block_is_rib l n) (λ n. h (Some n)) (λ n i. tells_pure i)

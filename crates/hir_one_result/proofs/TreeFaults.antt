@@ -1,0 +1,106 @@
+-- Lowering a tree reports the faults of what it reads.
+use Rattle.std.proofs.Common.{◌≡◌, refl, subst, sym, List, [], ◌∷◌, ◌++◌, append_assoc, append-nil, Option, Some, None, Ok, IsPermutation}
+use Rattle.std.proofs.lemmas.List.Sorted.{IsPermutation-refl, IsPermutation-trans, IsPermutation-append, IsPermutation-append_comm}
+use Rattle.hir_store.specs.Stored.{Stored}
+use Rattle.hir_store.specs.declared.ids.BlockId.{BlockId}
+use Rattle.hir_store.specs.declared.hir.Statement.{Statement}
+use Rattle.hir_store.specs.declared.hir.Statement.TheVariants as statement
+use Rattle.hir_store.specs.declared.ids.ExprId.{ExprId}
+use Rattle.hir_store.specs.declared.diagnostics.ExpressionStoreDiagnostics.{ExpressionStoreDiagnostics}
+use Rattle.hir_store.proofs.Range.{extends_refl}
+use Rattle.hir_scope.specs.Scopes.{Scope}
+use Rattle.hir_env.specs.Answered as tree
+use Rattle.hir_env.specs.Answered.{Expr, OptionExpr, Exprs, Block, OptionBlock, Stmts, Stmt}
+use Rattle.hir_lower_form.specs.Lowering.{Lowering}
+use Rattle.hir_lower_form.specs.Lower.{Node, push_some, kept, lower, lower_part, present, kept_part, lower_each, lower_block, lower_block_part, lower_stmts}
+use Rattle.hir_steps.proofs.Frames.{frames, ribs, ribs_frames}
+use Rattle.hir_steps.proofs.Steps.{Correct, Holds, Answers}
+use Rattle.hir_steps.proofs.Steps.{with_block}
+use Rattle.hir_one_result.specs.Diagnostics.{Faults, Around, diagnostics, part_diagnostics, each_diagnostics, block_diagnostics, block_part_diagnostics, contents_diagnostics}
+use Rattle.hir_one_result.specs.Laws.{DiagnosticsAre}
+use Rattle.hir_one_result.proofs.Telling.{Listing, Tells, tells_bind, tells_as, tells_end, tells_pure, tells_some, tells_report, missing_tells, if_tells, loop_tells, call_tells, continue_tells, break_tells, paren_tells, block_form_tells, labelled_tells, tells_alloc}
+
+no_fault_in_block : (n : Option BlockId) (s : Stored) → (with_block n s).diagnostics ≡ s.diagnostics ++ []
+no_fault_in_block None s = sym (append-nil s.diagnostics)
+no_fault_in_block (Some n) s = sym (append-nil s.diagnostics)
+
+-- in some order
+abbrev reported : Listing ExpressionStoreDiagnostics
+reported = record {
+  list = λ s. s.diagnostics;
+  of_faults = λ ds. ds;
+  of_block = λ n. [];
+  fault = λ d s. refl;
+  no_fault = refl;
+  block = no_fault_in_block;
+  expr = λ e at s. refl;
+  label = λ l s. refl;
+  way = λ p i s. refl;
+  Like = IsPermutation;
+  same = IsPermutation-refl;
+  trans = IsPermutation-trans;
+  both = IsPermutation-append;
+}
+
+abbrev Reports : {A : Type 0} → (List Scope → Faults) → Lowering A → Type 0
+Reports D p = Correct p (Tells reported D)
+
+turned : (c t e : Faults) → IsPermutation (c ++ (t ++ e)) (t ++ (e ++ c))
+turned c t e = subst (IsPermutation (c ++ (t ++ e))) (append_assoc t e c) (IsPermutation-append_comm c (t ++ e))
+
+kept_faults : (e : Expr) {p : Node} → Reports (λ ss. diagnostics ss e) p → Reports (λ ss. diagnostics ss e) (kept e p)
+kept_faults (tree.disabled_expr at by e) h = tells_end reported (tells_report reported _) (λ u. tells_pure reported None)
+kept_faults e h = tells_some reported h
+
+mutual
+  node_faults : (e : Expr) → Reports (λ ss. diagnostics ss e) (lower e)
+  node_faults (tree.disabled_expr at by e) = tells_end reported (tells_report reported _) (λ u. missing_tells reported)
+  node_faults (tree.if_expr at c t e) = tells_as reported (if_tells reported at (part_faults c) (block_part_faults t) (present_faults e))
+      (λ ss. turned (part_diagnostics ss c) (block_part_diagnostics ss t) (part_diagnostics ss e))
+  node_faults (tree.block_expr b) = block_faults b
+  node_faults (tree.loop_expr at label b) = loop_tells reported at label (block_part_faults b)
+  node_faults (tree.call_expr at f es) = call_tells reported at (part_faults f) (each_faults [] es)
+  node_faults (tree.path_expr at x h) = tells_alloc reported _ _
+  node_faults (tree.continue_expr at jump) = continue_tells reported at jump
+  node_faults (tree.break_expr at jump e) = break_tells reported at jump (present_faults e)
+  node_faults (tree.paren_expr at e) = paren_tells reported at (part_faults e)
+  node_faults (tree.literal_expr at l) = tells_alloc reported _ _
+
+  part_faults : (e : OptionExpr) → Reports (λ ss. part_diagnostics ss e) (lower_part e)
+  part_faults tree.no_expr = missing_tells reported
+  part_faults (tree.some_expr e) = node_faults e
+
+  present_faults : (e : OptionExpr) → Reports (λ ss. part_diagnostics ss e) (present e)
+  present_faults tree.no_expr = tells_pure reported None
+  present_faults (tree.some_expr e) = tells_some reported (node_faults e)
+
+  kept_part_faults : (e : OptionExpr) → Reports (λ ss. part_diagnostics ss e) (kept_part e)
+  kept_part_faults tree.no_expr = tells_pure reported None
+  kept_part_faults (tree.some_expr e) = kept_faults e (node_faults e)
+
+  each_faults : (done : List ExprId) (es : Exprs) → Reports (λ ss. each_diagnostics ss es) (lower_each done es)
+  each_faults done tree.no_exprs = tells_pure reported done
+  each_faults done (tree.more_exprs e es) = tells_bind reported (kept_faults e (node_faults e)) (λ x. each_faults _ es)
+
+  block_faults : (b : Block) → Reports (λ ss. block_diagnostics ss b) (lower_block b)
+  block_faults (tree.block at label number ss e) =
+      labelled_tells reported label (λ n. block_form_tells reported at n number (contents_faults [] ss (kept_part_faults e)))
+
+  block_part_faults : (b : OptionBlock) → Reports (λ ss. block_part_diagnostics ss b) (lower_block_part b)
+  block_part_faults tree.no_block = missing_tells reported
+  block_part_faults (tree.some_block b) = block_faults b
+
+  contents_faults : (done : List Statement) (stmts : Stmts) {tail : Lowering (Option ExprId)} {D : List Scope → Faults} → Reports D tail
+      → Reports (λ ss. contents_diagnostics ss stmts D) (lower_stmts done stmts tail)
+  contents_faults done tree.no_stmts h = tells_end reported h (λ t. tells_pure reported _)
+  contents_faults done (tree.more_stmts (tree.expr_stmt e semi) stmts) h =
+      tells_bind reported (tells_end reported (kept_part_faults e) (λ x. tells_pure reported _)) (λ x. contents_faults _ stmts h)
+  contents_faults done (tree.more_stmts tree.item_stmt stmts) h = tells_bind reported (tells_pure reported (Some statement.Item)) (λ x. contents_faults (push_some done x) stmts h)
+
+pub diagnostics_are : DiagnosticsAre
+diagnostics_are e old id new paired is ss around =
+    let ps = frames old.scopes in
+    let h = (part_faults e).holds new.stored ps old (ribs_frames old.scopes) in
+    let g : Answers (Tells reported (λ ss. part_diagnostics ss e)) new.stored ps old new id = subst (λ r. Holds (Tells reported (λ ss. part_diagnostics ss e)) new.stored ps old r.0 r.1) is h in
+    let x = (g.in_final paired (extends_refl new.stored)).told ss (subst (Around ss) (ribs_frames old.scopes) around) in
+    record { more = x.more; is = x.is; permuted = x.like }

@@ -1,0 +1,5 @@
+use Rattle.hir_one_result.proofs.TreeBlocks.{blocks_are}
+use Rattle.hir_one_result.proofs.blocks.Goals as goal
+
+pub returns : goal.returns
+returns c = blocks_are

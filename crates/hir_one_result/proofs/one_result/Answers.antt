@@ -1,0 +1,5 @@
+use Rattle.hir_one_result.proofs.Whole.{one_results}
+use Rattle.hir_one_result.proofs.one_result.Goals as goal
+
+pub returns : goal.returns
+returns c = one_results

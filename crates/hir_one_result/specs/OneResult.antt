@@ -1,0 +1,41 @@
+-- Store, source map and faults of a lowered body are one result of its tree.
+use Rattle.std.specs.Prelude.{◌≡◌, ℕ, List, [], ◌∷◌, ◌++◌, length, Ok, IsPermutation}
+use Rattle.hir_store.specs.Stored.{Stored, Store, SourceMap, store_of, map_of}
+use Rattle.hir_store.specs.Storing.{empty, root_at}
+use Rattle.hir_store.specs.declared.ids.BlockId.{BlockId}
+use Rattle.hir_store.specs.declared.ids.ExprId.{ExprId}
+use Rattle.hir_env.specs.Answered.{OptionExpr}
+use Rattle.hir_lower_form.specs.Builder.{Builder}
+use Rattle.hir_lower_form.specs.Lower.{lower_part}
+use Rattle.hir_one_result.specs.Leads.{Way, MapLeads}
+use Rattle.hir_one_result.specs.Stands.{StandsPart}
+use Rattle.hir_one_result.specs.Diagnostics.{Faults, part_diagnostics}
+use Rattle.hir_one_result.specs.Blocks.{blocks_of_part}
+
+-- What is stored where one body was lowered. To the one root belongs all that is stored, each with its source, and it stands for the tree. The
+-- source map leads from each written expression and label to what it became, and from nowhere else. Behind the faults that the body owes as a
+-- whole come those of what is read of the tree, in some order. The blocks with numbers are those of the tree, in the order of entering.
+pub record OneResult (store : Store) (source_map : SourceMap) (owed : Faults) (e : OptionExpr) : Type 0 where
+  pub root : ExprId
+  pub only : store.roots ≡ root_at store.exprs root ∷ []
+  pub expr_sources : length source_map.expr_sources ≡ length store.exprs
+  pub label_sources : length source_map.label_sources ≡ length store.labels
+  pub ways : List Way
+  pub stands : StandsPart store source_map [] e root ways
+  pub leads : MapLeads source_map ways
+  pub found : Faults
+  pub faults : source_map.diagnostics ≡ owed ++ found
+  pub permuted : IsPermutation (part_diagnostics [] e) found
+  pub blocks : source_map.block_scopes ≡ blocks_of_part e
+
+-- nothing is stored but these faults, and nothing is open
+abbrev pub begun : ℕ → Faults → Builder
+begun limit owed = record { stored = record (empty limit) { diagnostics = owed }; scopes = [] }
+
+abbrev pub with_root : ExprId → Stored → Stored
+with_root root s = record s { roots = s.roots ++ root_at s.exprs.entries root ∷ [] }
+
+-- so it is where a tree is lowered first, and is the root
+abbrev pub OneResults : Type 0
+OneResults = (limit : ℕ) (owed : Faults) (e : OptionExpr) (id : ExprId) (new : Builder) → lower_part e (begun limit owed) ≡ (Ok id, new)
+    → OneResult (store_of (with_root id new.stored)) (map_of (with_root id new.stored)) owed e

@@ -1,0 +1,41 @@
+-- A number that stands for a walk, as a body by itself.
+use Rattle.std.proofs.Common.{◌≡◌, ℕ, ◌≤◌, List, [], length, refl, ap, ◌∙◌}
+use Rattle.hir_store.specs.Stored.{Stored, store_of, map_of}
+use Rattle.hir_store.specs.declared.ids.ExprId.{ExprId}
+use Rattle.hir_steps.proofs.Frames.{Frame, scopes, Falls}
+use Rattle.hir_meaning.specs.Run.{Value, Outcome, value, break, continue, leave}
+use Rattle.hir_meaning.specs.Syntax.{SyntaxBody}
+use Rattle.hir_meaning.specs.Store.{Named, run_store, stored_body}
+use Rattle.hir_meaning.specs.Jumps.{Enclosed}
+use Rattle.hir_meaning.specs.Same.{SameRun, SameBody, ending, begin}
+use Rattle.hir_same_meaning.specs.Headline.{body_to}
+use Rattle.hir_same_meaning.proofs.Views.{numbers, view}
+use Rattle.hir_same_meaning.proofs.Senses.{Walk, run_in, one, Goes}
+
+ending_view : (ps : List Frame) (o : Outcome Named Value) → ending o ≡ ending (view ps o)
+ending_view ps (value v) = refl
+ending_view ps (break j v) = refl
+ending_view ps (continue j) = refl
+ending_view ps (leave x) = refl
+
+-- a walk inside these frames, as a body
+abbrev pub walked : Walk Value → List Frame → SyntaxBody
+walked x ps = record { table = tt; run = λ turns. x turns (scopes ps) }
+
+pub runs_at : {labels nodes : ℕ} {x : Walk Value} {final : Stored} {i : ExprId} (ps : List Frame) (d : ℕ)
+    → Goes labels nodes one x final ps i → nodes ≤ d → Falls labels ps → SameRun (body_to final d i) (walked x ps)
+runs_at {final = final} {i = i} ps d h le f = record {
+  events = λ turns answers. let a = (h.same turns d le f).same (begin answers) in ap (λ w. w.events) a.world;
+  endings = λ turns answers. let a = (h.same turns d le f).same (begin answers) in
+      ending_view ps (run_in final d turns i (begin answers)).0 ∙ ap ending a.outcome;
+}
+
+-- inside frames that have no label, as a body and the inside of a barrier have none around them
+pub body_is : {labels nodes : ℕ} {x : Walk Value} {final : Stored} {i : ExprId} (ps : List Frame)
+    → Goes labels nodes one x final ps i → nodes ≤ length final.exprs.entries → Falls labels ps → numbers ps ≡ []
+    → SameBody (store_of final) (stored_body (store_of final) (map_of final) i) i (walked x ps)
+unfolding run_store Enclosed
+body_is {final = final} ps h le f none = record {
+  runs = runs_at ps (length final.exprs.entries) h le f;
+  jumps = rw (← none) (h.jumps (length final.exprs.entries) le);
+}

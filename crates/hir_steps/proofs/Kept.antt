@@ -1,0 +1,126 @@
+-- Lowering a tree is made of steps, so that nothing is lost.
+use Rattle.std.proofs.Common.{List, [], Option, Some, None, Ok, Err, refl}
+use Rattle.hir_store.specs.Pointers.{Pointer}
+use Rattle.hir_store.specs.Stored.{Stored}
+use Rattle.hir_store.specs.declared.hir.Expr.{Expr as HirExpr}
+use Rattle.hir_store.specs.declared.hir.Statement.{Statement}
+use Rattle.hir_store.specs.declared.ids.ExprId.{ExprId}
+use Rattle.hir_store.specs.declared.ids.LabelId.{LabelId}
+use Rattle.hir_store.specs.declared.ids.BlockId.{BlockId}
+use Rattle.hir_env.specs.Answered as tree
+use Rattle.hir_env.specs.Answered.{Label, Jump, Expr, OptionExpr, Exprs, Block, OptionBlock, Stmts, Stmt}
+use Rattle.hir_lower_form.specs.Builder.{Builder}
+use Rattle.hir_lower_form.specs.Lowering.{Checked, Lowering, ◌>>=◌, alloc_expr}
+use Rattle.hir_lower_form.specs.Lower.{Node, Contents, missing, some, if_form, loop_form, call_form, continue_form, break_form, paren_form, block_form, labelled, kept, lower, lower_part, present, kept_part, lower_each, lower_block, lower_block_part, lower_stmts, lower_stmt}
+use Rattle.hir_steps.specs.Keeps.{Keeps, Keeping}
+use Rattle.hir_steps.proofs.Frames.{Frame, loop_at, block_at, frames, ribs_frames}
+use Rattle.hir_steps.proofs.Steps.{Mark, Rel, Holds, Correct, correct_bind, correct_as, correct_pure, correct_report, correct_point, correct_enter_block, correct_alloc, correct_opened, correct_target}
+
+pub record Any {A : Type 0} (final : Stored) (ps : List Frame) (m m' : Mark) (a : A) : Type 0 where
+  pub any : Unit {0}
+
+any : {A : Type 0} {p : Lowering A} {R : Rel A} → Correct p R → Correct p Any
+any h = correct_as h (λ final ps m m' a g row. record { any = tt })
+
+then' : {A B : Type 0} {p : Lowering A} {f : A → Lowering B} → Correct p Any → ((a : A) → Correct (f a) Any) → Correct (p >>= f) Any
+then' h k = any (correct_bind h k)
+
+missing_any : Correct missing Any
+unfolding missing
+missing_any = any (correct_alloc _ None)
+
+stored_any : (e : HirExpr) (at : Pointer) → Correct (alloc_expr e (Some at)) Any
+stored_any e at = any (correct_alloc e (Some at))
+
+some_any : {A : Type 0} {p : Lowering A} → Correct p Any → Correct (some p) Any
+some_any h = then' h (λ a. any (correct_pure (Some a)))
+
+module _ (at : Pointer) where
+  if_any : {c t : Node} {e : Lowering (Option ExprId)} → Correct c Any → Correct t Any → Correct e Any → Correct (if_form at c t e) Any
+  unfolding if_form
+  if_any hc ht he = then' ht (λ i. then' he (λ j. then' hc (λ k. stored_any _ at)))
+
+  loop_any : (label : Option Label) {b : Node} → Correct b Any → Correct (loop_form at label b) Any
+  unfolding loop_form
+  loop_any None h = then' h (λ i. stored_any _ at)
+  loop_any (Some l) h = any (correct_opened loop_at l (λ n ps. refl) (λ n. h) (λ n i. stored_any _ at))
+
+  call_any : {f : Node} {xs : Lowering (List ExprId)} → Correct f Any → Correct xs Any → Correct (call_form at f xs) Any
+  unfolding call_form
+  call_any hf hx = then' hf (λ i. then' hx (λ is. stored_any _ at))
+
+  continue_any : (j : Option Jump) → Correct (continue_form at j) Any
+  unfolding continue_form
+  continue_any j = then' (any (correct_target j)) (λ n. stored_any _ at)
+
+  break_any : (j : Option Jump) {e : Lowering (Option ExprId)} → Correct e Any → Correct (break_form at j e) Any
+  unfolding break_form
+  break_any j h = then' (any (correct_target j)) (λ n. then' h (λ v. stored_any _ at))
+
+  paren_any : {e : Node} → Correct e Any → Correct (paren_form at e) Any
+  unfolding paren_form
+  paren_any h = then' h (λ i. then' (any (correct_point at i)) (λ u. any (correct_pure i)))
+
+  block_form_any : (label : Option LabelId) (number : Option BlockId) {c : Lowering Contents} → Correct c Any → Correct (block_form at label number c) Any
+  unfolding block_form
+  block_form_any label number h = then' (any (correct_enter_block number)) (λ u. then' h (λ r. stored_any _ at))
+
+labelled_any : (label : Option Label) {f : Option LabelId → Node} → ((n : Option LabelId) → Correct (f n) Any) → Correct (labelled label f) Any
+unfolding labelled
+labelled_any None h = h None
+labelled_any (Some l) h = any (correct_opened block_at l (λ n ps. refl) (λ n. h (Some n)) (λ n i. correct_pure i))
+
+kept_any : (e : Expr) {p : Node} → Correct p Any → Correct (kept e p) Any
+kept_any (tree.disabled_expr at by e) h = then' (any (correct_report _)) (λ u. any (correct_pure None))
+kept_any e h = some_any h
+
+mutual
+  node_any : (e : Expr) → Correct (lower e) Any
+  node_any (tree.disabled_expr at by e) = then' (any (correct_report _)) (λ u. missing_any)
+  node_any (tree.if_expr at c t e) = if_any at (part_any c) (block_part_any t) (present_any e)
+  node_any (tree.block_expr b) = block_any b
+  node_any (tree.loop_expr at label b) = loop_any at label (block_part_any b)
+  node_any (tree.call_expr at f es) = call_any at (part_any f) (each_any [] es)
+  node_any (tree.path_expr at x h) = stored_any _ at
+  node_any (tree.continue_expr at jump) = continue_any at jump
+  node_any (tree.break_expr at jump e) = break_any at jump (present_any e)
+  node_any (tree.paren_expr at e) = paren_any at (part_any e)
+  node_any (tree.literal_expr at l) = stored_any _ at
+
+  part_any : (e : OptionExpr) → Correct (lower_part e) Any
+  part_any tree.no_expr = missing_any
+  part_any (tree.some_expr e) = node_any e
+
+  present_any : (e : OptionExpr) → Correct (present e) Any
+  present_any tree.no_expr = any (correct_pure None)
+  present_any (tree.some_expr e) = some_any (node_any e)
+
+  kept_part_any : (e : OptionExpr) → Correct (kept_part e) Any
+  kept_part_any tree.no_expr = any (correct_pure None)
+  kept_part_any (tree.some_expr e) = kept_any e (node_any e)
+
+  each_any : (done : List ExprId) (es : Exprs) → Correct (lower_each done es) Any
+  each_any done tree.no_exprs = any (correct_pure done)
+  each_any done (tree.more_exprs e es) = then' (kept_any e (node_any e)) (λ x. each_any _ es)
+
+  block_any : (b : Block) → Correct (lower_block b) Any
+  block_any (tree.block at label number ss e) = labelled_any label (λ n. block_form_any at n number (stmts_any [] ss (kept_part_any e)))
+
+  block_part_any : (b : OptionBlock) → Correct (lower_block_part b) Any
+  block_part_any tree.no_block = missing_any
+  block_part_any (tree.some_block b) = block_any b
+
+  stmts_any : (done : List Statement) (ss : Stmts) {tail : Lowering (Option ExprId)} → Correct tail Any → Correct (lower_stmts done ss tail) Any
+  stmts_any done tree.no_stmts h = then' h (λ t. any (correct_pure (done, t)))
+  stmts_any done (tree.more_stmts s ss) h = then' (stmt_any s) (λ x. stmts_any _ ss h)
+
+  stmt_any : (s : Stmt) → Correct (lower_stmt s) Any
+  stmt_any (tree.expr_stmt e semi) = then' (kept_part_any e) (λ x. any (correct_pure _))
+  stmt_any tree.item_stmt = any (correct_pure _)
+
+kept_of : (final : Stored) (ps : List Frame) (b : Builder) (o : Checked ExprId) (c : Builder) → Holds Any final ps b o c → Keeps b o c
+kept_of final ps b (Ok i) c h = h.kept
+kept_of final ps b (Err e) c h = h
+
+pub keeping : Keeping
+keeping e b = kept_of b.stored (frames b.scopes) b (lower_part e b).0 (lower_part e b).1 ((part_any e).holds b.stored (frames b.scopes) b (ribs_frames b.scopes))

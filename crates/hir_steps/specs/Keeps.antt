@@ -1,0 +1,26 @@
+-- What lowering leaves as it was.
+use Rattle.std.specs.Prelude.{◌≡◌, length, Ok, Err}
+use Rattle.hir_store.specs.Stored.{Stored}
+use Rattle.hir_store.specs.Storing.{Checked, Extends}
+use Rattle.hir_env.specs.Answered.{OptionExpr}
+use Rattle.hir_lower_form.specs.Builder.{Builder}
+use Rattle.hir_lower_form.specs.Lower.{lower_part}
+
+-- each entry has its source: an empty store is so, and stays so
+pub record Paired (s : Stored) : Type 0 where
+  pub exprs : length s.exprs.sources ≡ length s.exprs.entries
+  pub labels : length s.labels.sources ≡ length s.labels.entries
+
+pub record Kept (b b' : Builder) : Type 0 where
+  pub scopes : b'.scopes ≡ b.scopes
+  pub roots : b'.stored.roots ≡ b.stored.roots
+  pub paired : Paired b.stored → Paired b'.stored
+  pub stays : Extends b.stored b'.stored
+
+-- after a refusal something may be open, but nothing is lost
+abbrev pub Keeps : {A : Type 0} → Builder → Checked A → Builder → Type 0
+Keeps b (Ok a) b' = Kept b b'
+Keeps b (Err e) b' = Extends b.stored b'.stored
+
+abbrev pub Keeping : Type 0
+Keeping = (e : OptionExpr) (b : Builder) → Keeps b (lower_part e b).0 (lower_part e b).1

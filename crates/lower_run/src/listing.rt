@@ -1,0 +1,29 @@
+//! From a lowered body to its listing.
+
+mod lines;
+mod numbering;
+mod printer;
+mod waiting;
+mod writer;
+
+use hir_store::source_map::ExpressionStoreSourceMap;
+use hir_store::store::ExpressionStore;
+use printer::Printer;
+use std::alloc::{AllocError, Global};
+
+/// The listing of a body: a line with the body, one for each label in it, one for each diagnostic.
+///
+/// `sources` says whether expressions, labels and diagnostics are followed by the node that they came from. Only
+/// memory can fail.
+pub fn body_listing(
+    alloc: Global,
+    store: &ExpressionStore,
+    source_map: &ExpressionStoreSourceMap,
+    sources: bool,
+) -> Result<String, AllocError> {
+    let mut printer = Printer::new(alloc, store, source_map, sources);
+    let printed = printer.listing();
+    let text = printer.finish();
+    printed?;
+    Ok(text)
+}

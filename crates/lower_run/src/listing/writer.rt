@@ -1,0 +1,161 @@
+//! The text of what has no parts.
+
+use super::numbering::Numbering;
+use hir_store::hir::Literal;
+use hir_store::ids::HygieneId;
+use hir_store::name::Name;
+use hir_store::path::{ModPath, Path};
+use hir_syntax::ast::LiteralKind;
+use hir_syntax::node::{AstPtr, InFile};
+use std::alloc::{AllocError, Global};
+use std::fmt::Display;
+
+/// A listing as far as it is written.
+pub struct Writer {
+    out: String,
+    sources: bool,
+    generated: Numbering<u32>,
+}
+
+impl Drop for Writer {
+    fn drop(self) {
+        let Writer {
+            out: _,
+            sources: _,
+            generated: _,
+        } = self;
+    }
+}
+
+impl Writer {
+    /// An empty listing, which shows sources or doesn't. It takes no memory.
+    pub fn new(alloc: Global, sources: bool) -> Writer {
+        Writer {
+            out: String::new(alloc),
+            sources,
+            generated: Numbering::new(alloc),
+        }
+    }
+
+    /// The text written so far.
+    pub fn finish(self) -> String {
+        let Writer {
+            out,
+            sources: _,
+            generated: _,
+        } = self;
+        out
+    }
+
+    /// Adds a text as it stands.
+    pub fn word(&mut self, text: &str) -> Result<(), AllocError> {
+        self.out.push_str(text)
+    }
+
+    /// Adds a text and a number.
+    pub fn numbered<N: Display + Drop>(&mut self, text: &str, number: N) -> Result<(), AllocError> {
+        write!(self.out, "{}{}", text, number)
+    }
+
+    /// Adds a text and a name.
+    pub fn named(&mut self, text: &str, name: &Name) -> Result<(), AllocError> {
+        self.word(text)?;
+        self.name(name)
+    }
+
+    /// Adds the bracket and the kind that a form begins with, and the node that it came from.
+    pub fn open(&mut self, kind: &str, node: Option<InFile<AstPtr>>) -> Result<(), AllocError> {
+        write!(self.out, "({}", kind)?;
+        self.source("", node)
+    }
+
+    /// Ends a line by the node that it is about.
+    pub fn end_line(&mut self, node: Option<InFile<AstPtr>>) -> Result<(), AllocError> {
+        self.source(" ", node)?;
+        self.word("\n")
+    }
+
+    /// Adds a name: its text, `?` for the missing one, `$k` for the k-th generated one by first printing.
+    fn name(&mut self, name: &Name) -> Result<(), AllocError> {
+        match name {
+            Name::Text(text) => self.word(text.as_str()),
+            Name::Missing => self.word("?"),
+            Name::Generated(generated) => {
+                let number = self.generated.number(*generated)?;
+                self.numbered("$", number)
+            }
+        }
+    }
+
+    /// Adds a path of an expression: its names joined by `::`, then `!h` where its hygiene h isn't the root's.
+    pub fn path(&mut self, path: &Path, hygiene: HygieneId) -> Result<(), AllocError> {
+        match path {
+            Path::BarePath(path) => self.mod_path(path)?,
+        }
+        if hygiene == HygieneId::ROOT {
+            return Ok(());
+        }
+        self.numbered("!", hygiene.0)
+    }
+
+    fn mod_path(&mut self, path: &ModPath) -> Result<(), AllocError> {
+        let mut before = "";
+        for name in path.segments.as_slice() {
+            self.word(before)?;
+            self.name(name)?;
+            before = "::";
+        }
+        Ok(())
+    }
+
+    /// Adds a literal: a minus where it has one, the value, the suffix.
+    ///
+    /// Texts and characters stand between double quotes; an integer has no zeros in front; a truth value and a number
+    /// with a fraction stand as they were written.
+    pub fn literal(&mut self, literal: &Literal) -> Result<(), AllocError> {
+        if literal.negative {
+            self.word("-")?;
+        }
+        let text = literal.text.as_str();
+        match literal.kind {
+            LiteralKind::Str | LiteralKind::ByteStr | LiteralKind::CStr | LiteralKind::Char => {
+                self.quoted(text)?;
+            }
+            LiteralKind::Int => self.word(without_leading_zeros(text))?,
+            LiteralKind::Bool | LiteralKind::Float => self.word(text)?,
+        }
+        match &literal.suffix {
+            Some(suffix) => self.word(suffix.as_str()),
+            None => Ok(()),
+        }
+    }
+
+    /// Adds a text between double quotes, with a backslash before each double quote and each backslash in it.
+    fn quoted(&mut self, text: &str) -> Result<(), AllocError> {
+        self.out.push('"')?;
+        for c in text.chars() {
+            if c == '"' || c == '\\' {
+                self.out.push('\\')?;
+            }
+            self.out.push(c)?;
+        }
+        self.out.push('"')
+    }
+
+    /// Adds a node, `@n`, or `@f.n` where its file f isn't 0. Nothing, where sources aren't shown.
+    fn source(&mut self, before: &str, node: Option<InFile<AstPtr>>) -> Result<(), AllocError> {
+        match node {
+            Some(InFile { file_id, value }) if self.sources => match file_id.0 {
+                0 => write!(self.out, "{}@{}", before, value.node.0),
+                file => write!(self.out, "{}@{}.{}", before, file, value.node.0),
+            },
+            _ => Ok(()),
+        }
+    }
+}
+
+/// The digits without zeros in front; one zero where there is nothing else.
+fn without_leading_zeros(digits: &str) -> &str {
+    let rest = digits.trim_start_matches('0');
+    if rest.is_empty() { "0" } else { rest }
+}

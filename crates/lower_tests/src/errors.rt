@@ -1,0 +1,19 @@
+//! The texts of errors that the program doesn't print.
+
+use hir_lower::LowerError;
+use hir_store::fault::StoreFault;
+use std::test::Fail;
+
+#[test]
+fn errors_say_why(rt: HostRuntime) -> Result<(), Fail> {
+    let texts = format!(in rt.alloc();
+        "{} {} {} {} {}",
+        LowerError::Memory,
+        LowerError::Full,
+        LowerError::Failed,
+        StoreFault::Memory,
+        StoreFault::Full
+    )?;
+    assert_eq!(rt; texts.as_str(), "memory full failed memory full");
+    Ok(())
+}

@@ -1,0 +1,13 @@
+//! Tests of what no document shows and no contract says. What a document shows is a row.
+#![tactic(auto)]
+
+#[cfg(test)]
+mod blocks;
+#[cfg(test)]
+mod errors;
+#[cfg(test)]
+mod limits;
+#[cfg(test)]
+mod listings;
+#[cfg(test)]
+mod streams;

@@ -1,0 +1,190 @@
+//! Constants that a collector with a limit lowers.
+
+use hir_env::place::LoweringMode;
+use hir_env::table::TableEnv;
+use hir_lower::{ExprCollector, LowerError};
+use hir_store::ids::{ExprId, ItemContainerId, ModuleId};
+use hir_store::store::ExpressionStore;
+use hir_syntax::ast::{
+    ConstArg, Expr, ExprKind, Literal, LiteralKind, Name, Path, PathSegment, SegmentKind,
+};
+use hir_syntax::node::{HirFileId, NodeId, TextRange};
+use hir_syntax::{Boxed, Seq, Text};
+use std::alloc::{AllocError, Global};
+
+fn range(node: u32) -> TextRange {
+    TextRange {
+        start: node,
+        end: node.saturating_add(1),
+    }
+}
+
+fn expr(node: u32, kind: ExprKind) -> Expr {
+    Expr {
+        id: NodeId(node),
+        range: range(node),
+        kind,
+    }
+}
+
+fn constant(value: Expr) -> ConstArg {
+    ConstArg {
+        id: NodeId(0),
+        range: range(0),
+        expr: Some(value),
+    }
+}
+
+fn one(alloc: Global, node: u32) -> Result<Expr, AllocError> {
+    let literal = Literal {
+        lit: LiteralKind::Int,
+        t: Text::new(alloc, "1")?,
+        suffix: None,
+    };
+    Ok(expr(node, ExprKind::Literal(literal)))
+}
+
+/// The path `f`, whose nodes are 2, 3 and 4.
+fn path_of_f(alloc: Global) -> Result<Expr, AllocError> {
+    let name = Name {
+        id: NodeId(4),
+        range: range(4),
+        t: Text::new(alloc, "f")?,
+    };
+    let mut segs = Seq::new(alloc);
+    segs.push(Some(PathSegment {
+        id: NodeId(4),
+        range: range(4),
+        seg: Some(SegmentKind::Name),
+        name: Some(name),
+    }))?;
+    let path = Path {
+        id: NodeId(3),
+        range: range(3),
+        segs,
+    };
+    Ok(expr(2, ExprKind::PathExpr { path: Some(path) }))
+}
+
+/// The constant `f(1)`.
+fn call_of_one(alloc: Global) -> Result<ConstArg, AllocError> {
+    let callee = Boxed::new(alloc, path_of_f(alloc)?)?;
+    let mut args = Seq::new(alloc);
+    args.push(one(alloc, 5)?)?;
+    let call = ExprKind::CallExpr {
+        expr: Some(callee),
+        args: Some(args),
+    };
+    Ok(constant(expr(1, call)))
+}
+
+fn table(alloc: Global) -> TableEnv {
+    TableEnv::new(alloc, ItemContainerId::ModuleId(ModuleId(0)))
+}
+
+fn collector(alloc: Global, env: &TableEnv, limit: u32) -> ExprCollector<'_, TableEnv> {
+    ExprCollector::with_limit(
+        alloc,
+        env,
+        ModuleId(0),
+        HirFileId(0),
+        LoweringMode::Analysis,
+        limit,
+    )
+}
+
+/// Where the only recorded root ends.
+fn only_root_end(store: &ExpressionStore) -> Option<ExprId> {
+    match store.expr_roots() {
+        [root] => Some(root.exprs_end),
+        _ => None,
+    }
+}
+
+/// Where the only root of a store ends, or why no store is handed out.
+type Stored = Result<Option<ExprId>, LowerError>;
+
+fn stored(collector: ExprCollector<'_, TableEnv>) -> Stored {
+    match collector.into_store() {
+        Ok((store, source_map)) => {
+            let end = only_root_end(&store);
+            drop(store);
+            drop(source_map);
+            Ok(end)
+        }
+        Err(error) => Err(error),
+    }
+}
+
+/// What a collector answers, call by call.
+#[derive(Clone, Copy, Debug, PartialEq)]
+struct Answers {
+    first: Option<LowerError>,
+    exprs: u32,
+    again: Option<LowerError>,
+    stored: Stored,
+}
+
+fn lowered_twice(alloc: Global, constant: &ConstArg, limit: u32) -> Answers {
+    let env = table(alloc);
+    let mut collector = collector(alloc, &env, limit);
+    let first = collector.lower_const_arg(constant).err();
+    let exprs = collector.store().exprs_len();
+    let again = collector.lower_const_arg(constant).err();
+    let stored = stored(collector);
+    drop(env);
+    Answers {
+        first,
+        exprs,
+        again,
+        stored,
+    }
+}
+
+fn lowered_once(alloc: Global, constant: &ConstArg, limit: u32) -> Stored {
+    let env = table(alloc);
+    let mut collector = collector(alloc, &env, limit);
+    let _lowered = collector.lower_const_arg(constant);
+    let stored = stored(collector);
+    drop(env);
+    stored
+}
+
+/// The call in a collector for two expressions, and in one for three.
+fn call_in_two_and_three(alloc: Global) -> Result<(Answers, Stored), AllocError> {
+    let call = call_of_one(alloc)?;
+    let in_two = lowered_twice(alloc, &call, 2);
+    let in_three = lowered_once(alloc, &call, 3);
+    drop(call);
+    Ok((in_two, in_three))
+}
+
+#[test]
+fn a_call_of_one_takes_three_expressions(rt: HostRuntime) {
+    let in_two = Answers {
+        first: Some(LowerError::Full),
+        exprs: 2,
+        again: Some(LowerError::Failed),
+        stored: Err(LowerError::Failed),
+    };
+    let in_three = Ok(Some(ExprId(3)));
+    assert_eq!(rt; call_in_two_and_three(rt.alloc()), Ok((in_two, in_three)));
+}
+
+fn literal_in_none(alloc: Global) -> Result<Answers, AllocError> {
+    let literal = constant(one(alloc, 1)?);
+    let answers = lowered_twice(alloc, &literal, 0);
+    drop(literal);
+    Ok(answers)
+}
+
+#[test]
+fn a_literal_does_not_fit_where_nothing_may_be_stored(rt: HostRuntime) {
+    let answers = Answers {
+        first: Some(LowerError::Full),
+        exprs: 0,
+        again: Some(LowerError::Failed),
+        stored: Err(LowerError::Failed),
+    };
+    assert_eq!(rt; literal_in_none(rt.alloc()), Ok(answers));
+}
