@@ -9,5 +9,5 @@ invariant-loop-node l = record {
   kept : length l.levels ≡ length l.initial.levels;
   place : l.at ≡ l.node-index;
   so_far : nodes_from l.kinds 0 (items_view l.nodes) l.initial.levels
-    ≡ nodes_from l.kinds l.at (items_view (drop l.node-index l.nodes)) l.levels;
+      ≡ nodes_from l.kinds l.at (items_view (drop l.node-index l.nodes)) l.levels;
 }
