@@ -31,7 +31,9 @@ no_digit true e h = cc
 no_digit false e h = refl
 
 -- a byte that is no digit, or that makes the number too large
-pub is_integer-refused : (t rest : List ℕ) (n b : ℕ) (bs : List ℕ) → rest ≡ b ∷ bs → all_ascii_digits t ≡ all_ascii_digits rest → written_after 0 t ≡ written_after n rest → ¬ (IsTrue (is_ascii_digit b) × (n * 10 + (b - 48) < 2 ^ 128)) → false ≡ is_integer t
+pub is_integer-refused : (t rest : List ℕ) (n b : ℕ) (bs : List ℕ)
+    → rest ≡ b ∷ bs → all_ascii_digits t ≡ all_ascii_digits rest → written_after 0 t ≡ written_after n rest
+    → ¬ (IsTrue (is_ascii_digit b) × (n * 10 + (b - 48) < 2 ^ 128)) → false ≡ is_integer t
 is_integer-refused t rest n b bs is digits same refused =
     elim (digit_or_not (is_ascii_digit b)) [
       | inl other ↦
@@ -42,5 +44,6 @@ is_integer-refused t rest n b bs is digits same refused =
           let large : ¬ (next < 2 ^ 128) = λ small. refused (digit, small) in
           let more : next ≤ written_after next bs = at_least next bs in
           let all : written_after n rest ≡ written_after next bs = rw is refl in
-          sym (last_fails (not (length t == 0)) (all_ascii_digits t) (nat_lt (written_after 0 t) (2 ^ 128)) (too_large (written_after 0 t) (omega arith)))
+          let over : nat_lt (written_after 0 t) (2 ^ 128) ≡ false = too_large (written_after 0 t) (omega arith) in
+          sym (last_fails (not (length t == 0)) (all_ascii_digits t) (nat_lt (written_after 0 t) (2 ^ 128)) over)
     ]

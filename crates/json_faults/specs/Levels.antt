@@ -1,5 +1,5 @@
 -- The levels of nodes: 0 for a node that is not used yet, 1 for a root, and one more for a part.
-use Rattle.std.specs.Prelude.{◌≡◌, ℕ, suc, ◌+◌, ◌==◌, Bool, true, false, List, [], ◌∷◌, Option, Some, None, nat_lt, length, option_and_then, slice_index_or, slice_set, if◌then◌else◌}
+use Rattle.std.specs.Prelude.{◌≡◌, ℕ, ◌+◌, ◌==◌, Bool, true, false, List, [], ◌∷◌, Option, Some, None, nat_lt, length, option_and_then, slice_index_or, slice_set, if◌then◌else◌}
 use Rattle.serde_json.specs.Data.{Data, Items, no_items, item}
 use Rattle.json_faults.specs.Values.{index_of}
 
@@ -9,7 +9,9 @@ below level = if level == 0 then 2 else if nat_lt level 257 then level + 1 else 
 
 -- the levels with one more node used, which was not used yet
 abbrev pub use_at : ℕ → List ℕ → ℕ → Option (List ℕ)
-use_at level levels k = if nat_lt k (length levels) then (if slice_index_or levels k 0 == 0 then Some (slice_set levels k level) else None) else Some levels
+use_at level levels k = if nat_lt k (length levels)
+    then (if slice_index_or levels k 0 == 0 then Some (slice_set levels k level) else None)
+    else Some levels
 
 abbrev use_index : ℕ → List ℕ → Option ℕ → Option (List ℕ)
 use_index level levels None = Some levels

@@ -18,7 +18,8 @@ unfolding part_at
 no_item zero kinds ns at h = refl
 no_item (suc n) kinds ns at h = rw h refl
 
-without_kind : (f : Data → Kind → Option AnyPart) (k : Option Kind) (o : Option Data) → k ≡ None → None ≡ option_and_then (λ d. option_and_then (f d) k) o
+without_kind : (f : Data → Kind → Option AnyPart) (k : Option Kind) (o : Option Data)
+    → k ≡ None → None ≡ option_and_then (λ d. option_and_then (f d) k) o
 without_kind f k None h = refl
 without_kind f k (Some d) h = rw h refl
 

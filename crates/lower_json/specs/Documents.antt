@@ -34,9 +34,12 @@ owners = owner.FunctionId (record { 0 = 0 })
     ∷ owner.VariantId (record { 0 = 0 })
     ∷ []
 
+abbrev owner_in : Data → Option DefWithBodyId
+owner_in d = option_and_then (named owner_word owners) (text_in (codes "owner") d)
+
 -- the owner that a document names, a function where it names none
 abbrev pub owner_of : Data → DefWithBodyId
-owner_of d = unwrap_or (option_and_then (named owner_word owners) (text_in (codes "owner") d)) (owner.FunctionId (record { 0 = 0 }))
+owner_of d = unwrap_or (owner_in d) (owner.FunctionId (record { 0 = 0 }))
 
 -- the word of a container
 abbrev pub container_word : ItemContainerId → List ℕ
@@ -53,9 +56,12 @@ containers = holder.ModuleId (record { 0 = 0 })
     ∷ holder.TraitId (record { 0 = 0 })
     ∷ []
 
+abbrev container_in : Data → Option ItemContainerId
+container_in d = option_and_then (named container_word containers) (text_in (codes "container") d)
+
 -- the container that a document names, a module where it names none
 abbrev pub container_of : Data → ItemContainerId
-container_of d = unwrap_or (option_and_then (named container_word containers) (text_in (codes "container") d)) (holder.ModuleId (record { 0 = 0 }))
+container_of d = unwrap_or (container_in d) (holder.ModuleId (record { 0 = 0 }))
 
 abbrev pub tree_of : Data → Fn
 tree_of d = tree_at (kinds_of (nodes d)) (nodes d) (number_or 0 (get (codes "root") d))

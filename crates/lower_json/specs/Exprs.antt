@@ -10,7 +10,10 @@ use Rattle.lower_json.specs.Parts.{Here, part_in, list_if_there, lifetime_in}
 
 -- what steers the order of running
 unfoldable pub flow : Here → Kind → Option ExprKind
-flow h kind.IfExpr = Some (expr.IfExpr (part_in h as_expr (codes "condition")) (part_in h as_block (codes "then")) (part_in h as_else (codes "else")))
+flow h kind.IfExpr = Some (expr.IfExpr
+    (part_in h as_expr (codes "condition"))
+    (part_in h as_block (codes "then"))
+    (part_in h as_else (codes "else")))
 flow h kind.LoopExpr = Some (expr.LoopExpr (part_in h as_label (codes "label")) (part_in h as_block (codes "body")))
 flow h kind.ContinueExpr = Some (expr.ContinueExpr (lifetime_in h (codes "lifetime")))
 flow h kind.BreakExpr = Some (expr.BreakExpr (lifetime_in h (codes "lifetime")) (part_in h as_expr (codes "expr")))

@@ -48,7 +48,9 @@ node_at parts at d = node_with parts at d (number_or at (get (codes "id") d))
 -- what stands at a node, by the kinds of all, on so many levels at most
 unfoldable pub part_at : ℕ → List (Option Kind) → Items → ℕ → Option AnyPart
 part_at zero kinds ns at = None
-part_at (suc n) kinds ns at = option_and_then (λ d. option_and_then (of_kind (node_at (part_at n kinds ns) at d)) (kind_at kinds at)) (get_item at ns)
+part_at (suc n) kinds ns at = option_and_then
+    (λ d. option_and_then (of_kind (node_at (part_at n kinds ns) at d)) (kind_at kinds at))
+    (get_item at ns)
 
 -- the function at a node, on at most 256 levels; past the end it is one that says nothing
 unfoldable pub tree_at : List (Option Kind) → Items → ℕ → Fn

@@ -4,4 +4,6 @@ use Rattle.json_faults.proofs.literal.is_integer.Goals as goal
 pub returns-in-None : goal.returns-in-None
 returns-in-None c =
     let i = c.loop-byte.invariant in
-    is_integer-refused c.args.text.now c.loop-byte.rest.now c.loop-byte.number c.in-Some.byte.now c.in-Some.more.now c.in-Some.ensures.cases.0 i.digits i.same c.in-None.ensures
+    let byte = c.in-Some.byte.now in
+    is_integer-refused c.args.text.now c.loop-byte.rest.now c.loop-byte.number byte c.in-Some.more.now c.in-Some.ensures.cases.0
+    i.digits i.same c.in-None.ensures

@@ -8,5 +8,6 @@ invariant-loop-node l = record {
   same : l.kinds ≡ l.fn.kinds;
   kept : length l.levels ≡ length l.initial.levels;
   place : l.at ≡ l.node-index;
-  so_far : nodes_from l.kinds 0 (items_view l.nodes) l.initial.levels ≡ nodes_from l.kinds l.at (items_view (drop l.node-index l.nodes)) l.levels;
+  so_far : nodes_from l.kinds 0 (items_view l.nodes) l.initial.levels
+      ≡ nodes_from l.kinds l.at (items_view (drop l.node-index l.nodes)) l.levels;
 }

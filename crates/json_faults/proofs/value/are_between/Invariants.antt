@@ -4,4 +4,5 @@ use Rattle.json_faults.specs.Values.{all_items, is_between}
 use Rattle.json_faults.proofs.value.are_between.Given as goal
 
 abbrev pub invariant-loop-item : goal.invariant-loop-item
-invariant-loop-item l = all_items (is_between l.low l.high) (items_view l.items) ≡ all_items (is_between l.low l.high) (items_view (drop l.item-index l.items))
+invariant-loop-item l = all_items (is_between l.low l.high) (items_view l.items)
+    ≡ all_items (is_between l.low l.high) (items_view (drop l.item-index l.items))

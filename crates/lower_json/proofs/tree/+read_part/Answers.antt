@@ -20,5 +20,8 @@ part_at-requires t c = record {
 
 pub returns : goal.returns
 returns t c =
-    rw (one_level c.args.levels (c.args.levels - 1) c.args.kinds.now (items_view c.args.nodes.now) c.args.at (view c.in-Some.value.now) c.in-Some-kind_at.kind (omega arith) (search rules) (search rules))
+    let a = c.args in
+    let value = view c.in-Some.value.now in
+    let kind = c.in-Some-kind_at.kind in
+    rw (one_level a.levels (a.levels - 1) a.kinds.now (items_view a.nodes.now) a.at value kind (omega arith) (search rules) (search rules))
     c.part_at.ensures

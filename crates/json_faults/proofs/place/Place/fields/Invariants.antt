@@ -8,5 +8,6 @@ abbrev pub invariant-loop-field : goal.invariant-loop-field
 invariant-loop-field l = record {
   same : l.self ≡ l.fn.self;
   kept : length l.levels ≡ length l.initial.levels;
-  so_far : spec.fields (here l.self) (map said l.fields) l.initial.levels ≡ spec.fields (here l.self) (map said (drop l.field-index l.fields)) l.levels;
+  so_far : spec.fields (here l.self) (map said l.fields) l.initial.levels
+      ≡ spec.fields (here l.self) (map said (drop l.field-index l.fields)) l.levels;
 }

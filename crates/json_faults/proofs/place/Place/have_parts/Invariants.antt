@@ -7,5 +7,6 @@ use Rattle.json_faults.proofs.place.Place.have_parts.Given as goal
 abbrev pub invariant-loop-item : goal.invariant-loop-item
 invariant-loop-item l = record {
   same : l.self ≡ l.fn.self;
-  so_far : all_items (has_part l.self.kinds.now l.group) (items_view l.items) ≡ all_items (has_part l.self.kinds.now l.group) (items_view (drop l.item-index l.items));
+  so_far : all_items (has_part l.self.kinds.now l.group) (items_view l.items)
+      ≡ all_items (has_part l.self.kinds.now l.group) (items_view (drop l.item-index l.items));
 }

@@ -5,4 +5,7 @@ use Rattle.json_faults.proofs.Using.{parts_used}
 use Rattle.json_faults.proofs.place.Place.parts.Goals as goal
 
 pub returns-clause-walks : goal.returns-clause-walks
-returns-clause-walks c = parts_used (here c.args.self.now) c.args.name.now c.args.group c.args.nulls (items_view c.args.items.now) c.args.levels.now c.use_each.new.levels (search rules) (search rules) (search rules) (search rules)
+returns-clause-walks c =
+    let items = items_view c.args.items.now in
+    parts_used (here c.args.self.now) c.args.name.now c.args.group c.args.nulls items c.args.levels.now c.use_each.new.levels
+    (search rules) (search rules) (search rules) (search rules)
