@@ -1,5 +1,5 @@
 -- A function value that lowers a given part.
-use Rattle.std.specs.Prelude.{◌≡◌, Option}
+use Rattle.std.specs.Prelude.{◌≡◌, Bool, Option}
 use Rattle.std.specs.declared.alloc.Global.{Global}
 use denote.Ref.{Bor, MutBor}
 use Rattle.hir_syntax.specs.declared.ast.Expr.{Expr as AstExpr}
@@ -24,10 +24,10 @@ abbrev pub Post : Type 0 → Type 0 → Type 1
 Post E A = Global → Bor E → Place → MutBor Builder → Bor AstExpr → Checked A → MutBor Builder → Type 0
 
 abbrev pub BlockPre : Type 0 → Type 1
-BlockPre E = Global → Bor E → Place → MutBor Builder → Option LabelId → Bor AstBlockExpr → Type 0
+BlockPre E = Global → Bor E → Place → MutBor Builder → Bool → Option LabelId → Bor AstBlockExpr → Type 0
 
 abbrev pub BlockPost : Type 0 → Type 1
-BlockPost E = Global → Bor E → Place → MutBor Builder → Option LabelId → Bor AstBlockExpr → Checked ExprId → MutBor Builder → Type 0
+BlockPost E = Global → Bor E → Place → MutBor Builder → Bool → Option LabelId → Bor AstBlockExpr → Checked ExprId → MutBor Builder → Type 0
 
 -- the function may be called on the expression, and then does what `node` says
 pub record Handles {E A : Type 0} (Has : Stored → A → Type 0) (node : Lowering A)
@@ -39,11 +39,11 @@ pub record Handles {E A : Type 0} (Has : Stored → A → Type 0) (node : Loweri
 
 pub record HandlesBlock {E : Type 0} (answers : E → Answers)
     (pre : BlockPre E) (post : BlockPost E) (env : E) (p : Place) (b : AstBlockExpr) : Type 0 where
-  pub callable : (alloc : Global) (v : Bor E) (old : MutBor Builder) (label : Option LabelId) (n : Bor AstBlockExpr)
-      → v.now ≡ env → n.now ≡ b → HasLabelOption old.now.stored label → pre alloc v p old label n
-  pub lowers : (alloc : Global) (v : Bor E) (old new : MutBor Builder) (label : Option LabelId) (n : Bor AstBlockExpr) (r : Checked ExprId)
-      → v.now ≡ env → n.now ≡ b → post alloc v p old label n r new
-      → Lowers HasExpr (lower_inside label (answered_plain (spot_at (answers env) p) b)) old.now r new.now
+  pub callable : (alloc : Global) (v : Bor E) (old : MutBor Builder) (is_unsafe : Bool) (label : Option LabelId) (n : Bor AstBlockExpr)
+      → v.now ≡ env → n.now ≡ b → HasLabelOption old.now.stored label → pre alloc v p old is_unsafe label n
+  pub lowers : (alloc : Global) (v : Bor E) (old new : MutBor Builder) (is_unsafe : Bool) (label : Option LabelId) (n : Bor AstBlockExpr) (r : Checked ExprId)
+      → v.now ≡ env → n.now ≡ b → post alloc v p old is_unsafe label n r new
+      → Lowers HasExpr (lower_inside is_unsafe label (answered_plain (spot_at (answers env) p) b)) old.now r new.now
 
 module _ {E : Type 0} (answers : E → Answers) where
   abbrev pub HandlesExpr : Pre E → Post E (Option ExprId) → E → Place → AstExpr → Type 0

@@ -13,11 +13,14 @@ use Rattle.hir_store.specs.declared.ids.ItemContainerId.TheVariants as container
 use Rattle.hir_store.specs.declared.diagnostics.MissingBodyItemKind.{MissingBodyItemKind}
 use Rattle.hir_store.specs.declared.diagnostics.MissingBodyItemKind.TheVariants as kind
 use Rattle.hir_store.specs.declared.diagnostics.ExpressionStoreDiagnostics.TheVariants.{MissingBody}
+use Rattle.hir_store.specs.declared.diagnostics.AwaitLocation.{AwaitLocation}
+use Rattle.hir_store.specs.declared.diagnostics.AwaitLocation.TheVariants as location
 use Rattle.hir_syntax.specs.declared.node.AstPtr.{AstPtr}
 use Rattle.hir_syntax.specs.declared.node.HirFileId.{HirFileId}
 use Rattle.hir_syntax.specs.declared.ast.Expr.{Expr as AstExpr}
 use Rattle.hir_store.specs.declared.ids.ModuleId.{ModuleId}
 use Rattle.hir_env.specs.declared.place.Place.{Place}
+use Rattle.hir_env.specs.declared.place.LoweringMode.{LoweringMode}
 use Rattle.hir_env.specs.declared.place.LoweringMode.TheVariants.{Analysis}
 use Rattle.hir_env.specs.Answers.{Answers}
 use Rattle.hir_env.specs.Spot.{Spot}
@@ -92,6 +95,19 @@ item_of at owner node body =
     let required = required_body owner (at.answers.container owner) in
     body_of (at.answers.skip owner) (in_file at.place node) required (expr_part at body)
 
+-- what an `await` in the body of an item stands in: so far no body is async
+abbrev pub await_location : DefWithBodyId → AwaitLocation
+await_location (owner.FunctionId _) = location.NonAsyncFunction
+await_location (owner.StaticId _) = location.Static
+await_location (owner.ConstId _) = location.Constant
+await_location (owner.VariantId _) = location.EnumVariant
+
 -- where the body of an item is read
-abbrev pub body_spot : Answers → HirFileId → ModuleId → Spot
-body_spot env file inside = spot_at env (record { file_id = file; module_id = inside; mode = Analysis })
+abbrev pub body_spot : Answers → DefWithBodyId → HirFileId → ModuleId → Spot
+body_spot env item file inside =
+    let awaits_in = Some (await_location item) in
+    spot_at env (record { file_id = file; module_id = inside; mode = Analysis; await_location = awaits_in })
+
+-- where a collector reads, outside of a body
+abbrev pub outside_body : HirFileId → ModuleId → LoweringMode → Place
+outside_body file inside mode = record { file_id = file; module_id = inside; mode = mode; await_location = Some location.Unknown }

@@ -5,14 +5,14 @@ ghost use Rattle.hir_store.specs.Range.{HasExpr, InRange};
 ghost use Rattle.hir_lower_form.specs.Lowering.{Lowers};
 ghost use Rattle.hir_one_result.specs.OneResult.{OneResult};
 ghost use Rattle.hir_lower.specs.Means.{HasBody, body_owes, body_read};
-ghost use Rattle.hir_lower.specs.Roots.{RefusedAtLimit, Stores, body_spot, item_of, required_body, spot_at};
+ghost use Rattle.hir_lower.specs.Roots.{RefusedAtLimit, Stores, await_location, body_spot, item_of, required_body, spot_at};
 
 use crate::collector::lower_root;
 use crate::error::LowerError;
 use hir_env::env::LowerEnv;
 use hir_env::place::{LoweringMode, Place};
 use hir_lower_form::builder::BodyBuilder;
-use hir_store::diagnostics::{ExpressionStoreDiagnostics, MissingBodyItemKind};
+use hir_store::diagnostics::{AwaitLocation, ExpressionStoreDiagnostics, MissingBodyItemKind};
 use hir_store::fault::StoreFault;
 use hir_store::ids::{DefWithBodyId, ExprId, ItemContainerId, ModuleId};
 use hir_store::source_map::ExpressionStoreSourceMap;
@@ -64,6 +64,18 @@ fn required_body_kind(
     }
 }
 
+/// What an `await` in the body of the item stands in: so far no body is async.
+fn await_location_of(owner: DefWithBodyId) -> AwaitLocation
+    ensures { result ≡ await_location owner }
+{
+    match owner {
+        DefWithBodyId::FunctionId(_) => AwaitLocation::NonAsyncFunction,
+        DefWithBodyId::StaticId(_) => AwaitLocation::Static,
+        DefWithBodyId::ConstId(_) => AwaitLocation::Constant,
+        DefWithBodyId::VariantId(_) => AwaitLocation::EnumVariant,
+    }
+}
+
 /// Lowers the body of an item, which is absent where the item is skipped.
 #[tactic(auto, unfolding(crate::specs::Roots::body_of, crate::specs::Roots::report_missing))]
 fn lower_item<E: LowerEnv>(
@@ -104,10 +116,10 @@ fn body_steps<E: LowerEnv>(
     inside: ModuleId,
     body: Option<&ast::Expr>,
 ) -> Result<(Body, BodySourceMap), LowerError>
-    ensures stores { let at = body_spot (E.answers db.now) current_file_id inside in
+    ensures stores { let at = body_spot (E.answers db.now) owner current_file_id inside in
         IfOk result (λ r. Stores (item_of at owner syntax_node (option_copied body.entry)) 4294967295 r.0.store r.1.store) }
     ensures in_range { IfOk result (λ r. InRange r.0.store r.1.store) }
-    ensures full { let at = body_spot (E.answers db.now) current_file_id inside in
+    ensures full { let at = body_spot (E.answers db.now) owner current_file_id inside in
         IsErrOf result LowerError.Full → RefusedAtLimit (item_of at owner syntax_node (option_copied body.entry)) 4294967295 }
     ensures own { result ≢ Err LowerError.Failed }
 {
@@ -115,6 +127,7 @@ fn body_steps<E: LowerEnv>(
         file_id: current_file_id,
         module_id: inside,
         mode: LoweringMode::Analysis,
+        await_location: Some(await_location_of(owner)),
     };
     let mut state = BodyBuilder::new(alloc, u32::MAX);
     match lower_item(alloc, db, place, &mut state, owner, syntax_node, body) {
@@ -154,13 +167,13 @@ pub fn lower_body<E: LowerEnv>(
     requires no_params { option_copied params ≡ None }
     requires no_async { is_async_fn ≡ false }
     requires no_gen { is_gen_fn ≡ false }
-    ensures same_meaning { let at = body_spot (E.answers db.now) current_file_id inside in
+    ensures same_meaning { let at = body_spot (E.answers db.now) owner current_file_id inside in
         IfOk result (λ r. HasBody r.0.store r.1.store (body_read at owner (option_copied body.entry))) }
-    ensures one_result { let at = body_spot (E.answers db.now) current_file_id inside in
+    ensures one_result { let at = body_spot (E.answers db.now) owner current_file_id inside in
         let owed = body_owes at owner syntax_node (option_copied body.entry) in
         IfOk result (λ r. OneResult r.0.store r.1.store owed (body_read at owner (option_copied body.entry))) }
     ensures in_range { IfOk result (λ r. InRange r.0.store r.1.store) }
-    ensures full { let at = body_spot (E.answers db.now) current_file_id inside in
+    ensures full { let at = body_spot (E.answers db.now) owner current_file_id inside in
         IsErrOf result LowerError.Full → RefusedAtLimit (item_of at owner syntax_node (option_copied body.entry)) 4294967295 }
     ensures own { result ≢ Err LowerError.Failed }
 {

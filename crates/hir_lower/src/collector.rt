@@ -10,7 +10,7 @@ ghost use Rattle.hir_lower_form.specs.Outcomes.{LowersExprOpt};
 ghost use Rattle.hir_steps.specs.Keeps.{Paired};
 ghost use Rattle.hir_lower.specs.Calls.{Calls};
 ghost use Rattle.hir_lower.specs.Means.{Rooted};
-ghost use Rattle.hir_lower.specs.Roots.{const_of, fresh, root_of, spot_at};
+ghost use Rattle.hir_lower.specs.Roots.{const_of, fresh, outside_body, root_of, spot_at};
 
 use crate::error::LowerError;
 use crate::knot::collect_expr;
@@ -18,6 +18,7 @@ use hir_env::env::LowerEnv;
 use hir_env::place::{LoweringMode, Place};
 use hir_lower_form::builder::BodyBuilder;
 use hir_store::builder::ExpressionStoreBuilder;
+use hir_store::diagnostics::AwaitLocation;
 use hir_store::fault::StoreFault;
 use hir_store::ids::{ExprId, ModuleId};
 use hir_store::source_map::ExpressionStoreSourceMap;
@@ -118,7 +119,7 @@ impl<'db, E: LowerEnv> ExprCollector<'db, E> {
         lowering_mode: LoweringMode,
     ) -> ExprCollector<'db, E>
         ensures env { result.db.now ≡ db.now }
-        ensures place { result.place ≡ record { file_id = current_file_id; module_id = inside; mode = lowering_mode } }
+        ensures place { result.place ≡ outside_body current_file_id inside lowering_mode }
         ensures empty { result.state ≡ fresh 4294967295 }
         ensures works { result.failed ≡ false }
     {
@@ -135,7 +136,7 @@ impl<'db, E: LowerEnv> ExprCollector<'db, E> {
         limit: u32,
     ) -> ExprCollector<'db, E>
         ensures env { result.db.now ≡ db.now }
-        ensures place { result.place ≡ record { file_id = current_file_id; module_id = inside; mode = lowering_mode } }
+        ensures place { result.place ≡ outside_body current_file_id inside lowering_mode }
         ensures empty { result.state ≡ fresh limit }
         ensures works { result.failed ≡ false }
     {
@@ -146,6 +147,7 @@ impl<'db, E: LowerEnv> ExprCollector<'db, E> {
                 file_id: current_file_id,
                 module_id: inside,
                 mode: lowering_mode,
+                await_location: Some(AwaitLocation::Unknown),
             },
             state: BodyBuilder::new(alloc, limit),
             failed: false,

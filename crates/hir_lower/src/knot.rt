@@ -17,7 +17,7 @@ use hir_store::fault::StoreFault;
 use hir_store::ids::{BlockId, CfgId, ExprId, HygieneId, LabelId, ModuleId};
 use hir_store::name::Name;
 use hir_syntax::ast;
-use hir_syntax::node::{InFile, NodeId};
+use hir_syntax::node::{InFile, NodeId, PredId};
 use std::alloc::Global;
 
 /// The functions that lower the parts of a form, at one place.
@@ -39,6 +39,7 @@ impl<
         &E,
         Place,
         &mut BodyBuilder,
+        bool,
         Option<LabelId>,
         &ast::BlockExpr,
     ) -> Result<ExprId, StoreFault>,
@@ -56,6 +57,10 @@ impl<
 
     fn cfg(&self, node: InFile<NodeId>) -> Result<(), CfgId> {
         self.env.cfg(node)
+    }
+
+    fn cfg_pred(&self, pred: Option<PredId>) -> Option<bool> {
+        self.env.cfg_pred(pred)
     }
 
     fn hygiene(&self, node: InFile<NodeId>) -> HygieneId {
@@ -82,10 +87,11 @@ impl<
     fn collect_block_inside(
         &self,
         state: &mut BodyBuilder,
+        is_unsafe: bool,
         label: Option<LabelId>,
         node: &ast::BlockExpr,
     ) -> Result<ExprId, StoreFault> {
-        (self.block)(self.alloc, self.env, self.place, state, label, node)
+        (self.block)(self.alloc, self.env, self.place, state, is_unsafe, label, node)
     }
 }
 
@@ -148,18 +154,19 @@ pub fn maybe_collect_expr<E: LowerEnv>(
     .expr_node(state, node)
 }
 
-/// The block, inside the label of this number.
+/// The block, as one that is unsafe or isn't, inside the label of this number.
 #[cycle(lower)]
 pub fn collect_block_inside<E: LowerEnv>(
     alloc: Global,
     env: &E,
     place: Place,
     state: &mut BodyBuilder,
+    is_unsafe: bool,
     label: Option<LabelId>,
     node: &ast::BlockExpr,
 ) -> Result<ExprId, StoreFault>
     requires { HasLabelOption state.old.stored label }
-    ensures { LowersInside label (answered_plain (spot_at (E.answers env.now) place) node.now) state.old result state.new }
+    ensures { LowersInside is_unsafe label (answered_plain (spot_at (E.answers env.now) place) node.now) state.old result state.new }
 {
     let found = number(env, place, node.id);
     let inner = inside(place, found);
@@ -174,7 +181,7 @@ pub fn collect_block_inside<E: LowerEnv>(
             block: collect_block_inside::<E>,
         },
     }
-    .block_node(state, label, block, node)
+    .block_node(state, is_unsafe, label, block, node)
 }
 
 /// The expression, missing where a condition disables it.

@@ -27,8 +27,8 @@ maybe_collect_expr-expr_node-requires g t c =
       lowers = λ alloc v old new b r same is q. rw (← is) (rw (← same) q.2);
     })
     (λ p b h. record {
-      callable = λ alloc v old label n same is has. (rw same (rw is h), ((λ a m. m), has));
-      lowers = λ alloc v old new label n r same is q. rw (← is) (rw (← same) q.3);
+      callable = λ alloc v old is_unsafe label n same is has. (rw same (rw is h), ((λ a m. m), has));
+      lowers = λ alloc v old new is_unsafe label n r same is q. rw (← is) (rw (← same) q.3);
     })
     c.args.place (pointer_at at c.args.node.now.id c.args.node.now.range) (out-ExprKind c.args.node.now.kind) (omega (arith, d, size))
 
@@ -55,7 +55,7 @@ collect_block_inside-block_node-requires-clause-parts g t c =
       lowers = λ alloc v old new b r same is q. rw (← is) (rw (← same) q.2);
     })
     (λ p b h. record {
-      callable = λ alloc v old label n same is has. (rw same (rw is h), ((λ a m. m), has));
-      lowers = λ alloc v old new label n r same is q. rw (← is) (rw (← same) q.3);
+      callable = λ alloc v old is_unsafe label n same is has. (rw same (rw is h), ((λ a m. m), has));
+      lowers = λ alloc v old new is_unsafe label n r same is q. rw (← is) (rw (← same) q.3);
     })
     c.inside-inner.result c.args.node.now (omega (arith, d, size))
