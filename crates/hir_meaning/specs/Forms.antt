@@ -16,7 +16,8 @@ use Rattle.hir_meaning.specs.Run.{unit, answered, truth, Event, Answer, test, is
 use Rattle.hir_meaning.specs.Syntax.{run_each}
 use Rattle.hir_meaning.specs.Same.{ended, left}
 use Rattle.hir_meaning.specs.Small.{at, root, one, literal_at, name_at, in_braces, loop_of}
-use Rattle.hir_meaning.specs.Small.{id, stored_one, stored_name, stored_block, stored_loop, event_of, literal_event, read_name, Example, BothDo}
+use Rattle.hir_meaning.specs.Small.{id, stored_one, stored_name, stored_block, stored_loop}
+use Rattle.hir_meaning.specs.Small.{event_of, literal_event, read_name, Example, BothDo}
 use Rattle.hir_meaning.specs.Worked.{no}
 
 abbrev pub yes : ℕ → Answer

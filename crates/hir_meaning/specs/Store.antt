@@ -14,7 +14,8 @@ use Rattle.hir_env.specs.NodeMap.{Site}
 use Rattle.hir_env.specs.Answering.{site_of}
 use Rattle.hir_meaning.specs.Data.{literal_read, path_read}
 use Rattle.hir_meaning.specs.Run.{Value, unit, is_true, Operation, literal, read, call, break, continue, leave, missing, Body, Run}
-use Rattle.hir_meaning.specs.Run.{underscore, include_bytes, field, prefix, reference, operator, index, array, method_call, yielding, awaiting}
+use Rattle.hir_meaning.specs.Run.{underscore, include_bytes, field, prefix, reference, operator, index, array, method_call}
+use Rattle.hir_meaning.specs.Run.{yielding, awaiting}
 use Rattle.hir_meaning.specs.Run.{returned, became, yeeted, made_tuple, lazily}
 use Rattle.hir_syntax.specs.declared.ast.BinaryOp.TheVariants as ast
 use Rattle.hir_meaning.specs.Run.{ends, pure, ◌>>=◌, ◌>>◌, ask, tests, entering}

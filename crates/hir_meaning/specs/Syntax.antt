@@ -10,7 +10,8 @@ use Rattle.hir_env.specs.Answered as tree
 use Rattle.hir_env.specs.Answered.{Leaf, Unary, Binary, Listing, Leaving}
 use Rattle.hir_env.specs.Answered.{Label, Expr, OptionExpr, Exprs, Block, OptionBlock, Stmts}
 use Rattle.hir_meaning.specs.Run.{Value, unit, is_true, Operation, literal, read, call, break, continue, leave, missing, Body, Run}
-use Rattle.hir_meaning.specs.Run.{underscore, include_bytes, field, prefix, reference, operator, index, array, method_call, yielding, awaiting}
+use Rattle.hir_meaning.specs.Run.{underscore, include_bytes, field, prefix, reference, operator, index, array, method_call}
+use Rattle.hir_meaning.specs.Run.{yielding, awaiting}
 use Rattle.hir_meaning.specs.Run.{Leave, returned, became, yeeted, made_tuple, lazily}
 use Rattle.hir_meaning.specs.Run.{ends, pure, ◌>>=◌, ◌>>◌, ask, tests, entering}
 use Rattle.hir_meaning.specs.Catching.{turn, loop, block}

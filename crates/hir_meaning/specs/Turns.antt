@@ -103,7 +103,11 @@ HygienesDiffer =
 abbrev pub break_undeclared : Example
 break_undeclared = record {
   written = tree.some_expr (loop_of 0 None (in_braces 1 None (break_of 2 (Some jump_a) (literal_at 3 one))));
-  nodes = (stored_one, Some 3) ∷ (hir.Break None (Some (id 0)), Some 2) ∷ (stored_block None [] 1, Some 1) ∷ (stored_loop None 2, Some 0) ∷ [];
+  nodes = (stored_one, Some 3)
+      ∷ (hir.Break None (Some (id 0)), Some 2)
+      ∷ (stored_block None [] 1, Some 1)
+      ∷ (stored_loop None 2, Some 0)
+      ∷ [];
   root = 3;
 }
 

@@ -3,11 +3,8 @@ use Rattle.std.proofs.Common.{◌≡◌, ℕ, suc, ◌≤◌, Bool, true, false,
 use Rattle.std.proofs.Common.{append_assoc, Option, Some, None, Ok, Err, option_map, refl, sym, ap, ◌∙◌, arith}
 use Rattle.std.proofs.lemmas.Bool.Decides.{nat_tests}
 use Rattle.hir_syntax.specs.declared.ast.Literal.{Literal as AstLiteral}
-use Rattle.hir_syntax.specs.declared.ast.LogicOp.{LogicOp}
-use Rattle.hir_syntax.specs.declared.ast.BinaryOp.TheVariants as ast
 use Rattle.hir_store.specs.Pointers.{Pointer}
 use Rattle.hir_store.specs.Stored.{Stored}
-use Rattle.hir_store.specs.declared.hir.Expr.{Expr as HirExpr}
 use Rattle.hir_store.specs.declared.hir.Expr.TheVariants as hir
 use Rattle.hir_store.specs.declared.hir.LoopSource.TheVariants as source
 use Rattle.hir_store.specs.declared.hir.Statement.{Statement}
@@ -21,10 +18,8 @@ use Rattle.hir_store.specs.declared.ids.LabelId.{LabelId}
 use Rattle.hir_store.specs.declared.ids.BlockId.{BlockId}
 use Rattle.hir_store.specs.declared.ids.CfgId.{CfgId}
 use Rattle.hir_store.specs.declared.ids.HygieneId.{HygieneId}
-use Rattle.hir_store.specs.declared.diagnostics.AwaitLocation.{AwaitLocation}
 use Rattle.hir_store.specs.declared.diagnostics.ExpressionStoreDiagnostics.TheVariants.{InactiveCode}
 use Rattle.hir_env.specs.Answered as tree
-use Rattle.hir_env.specs.Answered.{Leaf, Unary, Binary, Listing, Leaving}
 use Rattle.hir_env.specs.Answered.{Label, Jump, Segments, Expr, OptionExpr, Exprs, Stmts, Stmt}
 use Rattle.hir_env.specs.NodeMap.{Site}
 use Rattle.hir_env.specs.Answering.{site_of}
@@ -33,24 +28,19 @@ use Rattle.hir_lower_form.specs.Lowering.{Checked, Lowering, ◌>>=◌, pure, al
 use Rattle.hir_lower_form.specs.Lower.{Node, Contents, push_some, missing, some, if_form, loop_form, call_form, continue_form, break_form}
 use Rattle.hir_lower_form.specs.Lower.{paren_form, stored_literal, names_from, names_of, path_hygiene, named_path, stored_path, settled}
 use Rattle.hir_lower_form.specs.Lower.{settled_block, block_form, labelled, kept}
-use Rattle.hir_lower_form.specs.Lower.{stored_leaf, stored_unary, stored_binary, stored_lazy, stored_leaving}
-use Rattle.hir_lower_form.specs.Lower.{operand_form, operands_form, value_form, list_form, method_call_form, await_form}
 use Rattle.hir_meaning.specs.Data.{literal_data, names_of as segment_names, plain_path, data_if_written, hygiene_for}
-use Rattle.hir_meaning.specs.Run.{Value, unit, is_true, Operation, literal, call, array, method_call, yielding, awaiting, break, continue, leave}
-use Rattle.hir_meaning.specs.Run.{became, missing as is_missing}
+use Rattle.hir_meaning.specs.Run.{Value, unit, is_true, literal, call, break, continue, leave, missing as is_missing}
 use Rattle.hir_meaning.specs.Run.{ends, pure as gives, ◌>>=◌ as ◌then◌, ask, tests, entering}
 use Rattle.hir_meaning.specs.Catching.{turn, loop}
 use Rattle.hir_scope.specs.Scopes.{loop_scope, break_target, continue_target, outward, in_block}
 use Rattle.hir_meaning.specs.Left.{is_kept, is_left}
 use Rattle.hir_meaning.specs.Syntax.{SyntaxRun, run_path, run_stmts, run_tail, catching}
-use Rattle.hir_meaning.specs.Syntax.{run_leaf, unary_operation, run_binary, run_lazy, run_list, leaves_with}
 use Rattle.hir_steps.proofs.Frames.{Frame, plain_loop, loop_at, block_at, Falls}
 use Rattle.hir_steps.proofs.Steps.{Mark, Grows, Rel, Holds, Correct, Allocated, correct_bind, correct_as, correct_pure}
-use Rattle.hir_steps.proofs.Steps.{correct_report, correct_report_await, correct_point, correct_enter_block, correct_alloc, correct_opened, correct_target}
+use Rattle.hir_steps.proofs.Steps.{correct_report, correct_point, correct_enter_block, correct_alloc, correct_opened, correct_target}
 use Rattle.hir_same_meaning.proofs.Targets.{break_meets, continue_meets, among}
 use Rattle.hir_same_meaning.proofs.Senses.{Walk, one, optional, many, contents, Goes, Runs, Wider, goes_within}
 use Rattle.hir_same_meaning.proofs.Nodes
-use Rattle.hir_same_meaning.proofs.Strict.{Finish, asks, leaves, makes_tuple, Form1, finished, goes1, form1_fine, Event2}
 use Rattle.hir_same_meaning.proofs.Strict.{event0_fine, event2_fine}
 use Rattle.hir_same_meaning.proofs.Blocks.{part_walk, KeptIs, Stored1, ContentsAre, contents_go}
 
@@ -85,32 +75,6 @@ correct_in_loop {A = A} {p = p} {R = R} h =
     go final ps b (Ok a) c y = record { kept = y.kept; grows = y.grows; in_final = λ d pre. record { rel = y.in_final d pre } }
     go final ps b (Err e) c y = y
 
--- ---- families of forms
-
-pub unary_is : (form : Unary) → Form1 (stored_unary form) one (asks (unary_operation form) (λ v. v ∷ []))
-unary_is (tree.field_of name) = record { runs = λ store source_map turns part a site. refl; jumps = λ P ls a h. h }
-unary_is (tree.prefix_of op) = record { runs = λ store source_map turns part a site. refl; jumps = λ P ls a h. h }
-unary_is (tree.reference_to rawness mutability) = record { runs = λ store source_map turns part a site. refl; jumps = λ P ls a h. h }
-
-pub leaving_is : (form : Leaving) → Form1 (stored_leaving form) optional (leaves (leaves_with form))
-leaving_is tree.returning = record { runs = λ store source_map turns part a site. refl; jumps = λ P ls a h. h }
-leaving_is tree.yeeting = record { runs = λ store source_map turns part a site. refl; jumps = λ P ls a h. h }
-
-pub become_is : Form1 hir.Become one (leaves became)
-become_is = record { runs = λ store source_map turns part a site. refl; jumps = λ P ls a h. h }
-
-pub yield_is : Form1 hir.Yield optional (asks yielding (λ v. v ∷ []))
-yield_is = record { runs = λ store source_map turns part a site. refl; jumps = λ P ls a h. h }
-
-await_is : Form1 hir.Await one (asks awaiting (λ v. v ∷ []))
-await_is = record { runs = λ store source_map turns part a site. refl; jumps = λ P ls a h. h }
-
-tuple_is : Form1 hir.Tuple many makes_tuple
-tuple_is = record { runs = λ store source_map turns part a site. refl; jumps = λ P ls a h. h }
-
-array_is : Form1 hir.Array many (asks array (λ vs. vs))
-array_is = record { runs = λ store source_map turns part a site. refl; jumps = λ P ls a h. h }
-
 -- ---- forms
 
 module _ (at : Pointer) where
@@ -119,82 +83,13 @@ module _ (at : Pointer) where
 
   pub literal_fine : (l : AstLiteral)
       → Correct (alloc_expr (hir.Literal (stored_literal l)) (Some at)) (Runs one (λ turns ss. ask (literal (literal_data l)) [] here))
-  literal_fine l = event0_fine at (record { runs = λ store source_map turns part site. refl; jumps = λ P ls. tt })
+  literal_fine l = event0_fine at (record { runs = λ w. refl; jumps = λ P ls. tt })
 
   pub call_fine : {p : Node} {q : Lowering (List ExprId)} {x : Walk Value} {y : Walk (List Value)} → Correct p (Runs one x)
       → Correct q (Runs many y)
       → Correct (call_form at p q) (Runs one (λ turns ss. ◌then◌ (x turns ss) (λ v. ◌then◌ (y turns ss) (λ vs. ask call (v ∷ vs) here))))
   unfolding call_form
-  call_fine hf hs = event2_fine at (record { runs = λ store source_map turns part f xs site. refl; jumps = λ P ls f xs h. h }) hf hs
-
-  pub leaf_fine : (form : Leaf) → Correct (alloc_expr (stored_leaf form) (Some at)) (Runs one (λ turns ss. run_leaf form here))
-  leaf_fine tree.underscore = event0_fine at (record { runs = λ store source_map turns part site. refl; jumps = λ P ls. tt })
-  leaf_fine tree.include_bytes = event0_fine at (record { runs = λ store source_map turns part site. refl; jumps = λ P ls. tt })
-  leaf_fine tree.left_out = correct_as (correct_alloc hir.Missing (Some at)) (λ final ps m m' i g a. Nodes.goes_missing a)
-
-  pub operand_fine : {make : ExprId → HirExpr} {f : Finish Value} {p : Node} {x : Walk Value} → Form1 make one f → Correct p (Runs one x)
-      → Correct (operand_form at make p) (Runs one (finished at x f))
-  unfolding operand_form
-  operand_fine is h = form1_fine at is h
-
-  pub value_fine : {make : Option ExprId → HirExpr} {f : Finish Value} {p : Lowering (Option ExprId)} {x : Walk Value} → Form1 make optional f
-      → Correct p (Runs optional x) → Correct (value_form at make p) (Runs one (finished at x f))
-  unfolding value_form
-  value_fine is h = form1_fine at is h
-
-  pub operands_fine : {make : ExprId → ExprId → HirExpr} {o : Operation} {p q : Node} {x y : Walk Value}
-      → Event2 make one one o (λ v w. v ∷ w ∷ []) → Correct p (Runs one x) → Correct q (Runs one y)
-      → Correct (operands_form at make p q)
-      (Runs one (λ turns ss. ◌then◌ (x turns ss) (λ v. ◌then◌ (y turns ss) (λ w. ask o (v ∷ w ∷ []) here))))
-  unfolding operands_form
-  operands_fine is hp hq = event2_fine at is hp hq
-
-  pub lazy_fine : (op : LogicOp) {p q : Node} {x y : Walk Value} → Correct p (Runs one x) → Correct q (Runs one y)
-      → Correct (operands_form at (stored_lazy op) p q) (Runs one (λ turns ss. run_lazy op (x turns ss) (y turns ss) here))
-  unfolding operands_form
-  lazy_fine op hp hq = correct_as (correct_bind hp (λ a. correct_bind hq (λ b. correct_alloc (stored_lazy op a b) (Some at))))
-      (λ final ps m m' i g row. let r = row.second in
-      Nodes.goes_lazy (goes_within (omega arith) row.first) (goes_within (omega arith) r.first) r.second)
-
-  pub binary_fine : (form : Binary) {p q : Node} {x y : Walk Value} → Correct p (Runs one x) → Correct q (Runs one y)
-      → Correct (operands_form at (stored_binary form) p q) (Runs one (λ turns ss. run_binary form (x turns ss) (y turns ss) here))
-  binary_fine (tree.operator None) hp hq = operands_fine (record { runs = λ store source_map turns part a c site. refl; jumps = λ P ls a c h. h }) hp hq
-  binary_fine (tree.operator (Some (ast.LogicOp op))) hp hq = lazy_fine op hp hq
-  binary_fine (tree.operator (Some (ast.ArithOp op))) hp hq = operands_fine (record { runs = λ store source_map turns part a c site. refl; jumps = λ P ls a c h. h }) hp hq
-  binary_fine (tree.operator (Some (ast.CmpOp op))) hp hq = operands_fine (record { runs = λ store source_map turns part a c site. refl; jumps = λ P ls a c h. h }) hp hq
-  binary_fine (tree.operator (Some (ast.Assignment op))) hp hq = operands_fine (record { runs = λ store source_map turns part a c site. refl; jumps = λ P ls a c h. h }) hp hq
-  binary_fine tree.index_of hp hq = operands_fine (record { runs = λ store source_map turns part a c site. refl; jumps = λ P ls a c h. h }) hp hq
-
-  pub list_fine : (form : Listing) {p : Lowering (List ExprId)} {x : Walk (List Value)} → Correct p (Runs many x)
-      → Correct (list_form at form p) (Runs one (λ turns ss. run_list form (x turns ss) here))
-  unfolding list_form
-  list_fine (tree.tuple_of false) h = form1_fine at tuple_is h
-  list_fine (tree.tuple_of true) h = correct_as
-      (correct_bind h (λ es. correct_bind missing_fine (λ first. correct_alloc (hir.Tuple (first ∷ es)) (Some at))))
-      (λ final ps m m' i g row. let r = row.second in
-      Nodes.goes_front_missing (goes_within (omega arith) r.first) (goes_within (omega arith) row.first) r.second)
-  list_fine tree.array_of h = form1_fine at array_is h
-
-  pub method_call_fine : (name : Name) {p : Node} {q : Lowering (List ExprId)} {x : Walk Value} {y : Walk (List Value)}
-      → Correct p (Runs one x) → Correct q (Runs many y)
-      → Correct (method_call_form at p name q)
-      (Runs one (λ turns ss. ◌then◌ (x turns ss) (λ v. ◌then◌ (y turns ss) (λ vs. ask (method_call name) (v ∷ vs) here))))
-  unfolding method_call_form
-  method_call_fine name hp hq = event2_fine at (record { runs = λ store source_map turns part a c site. refl; jumps = λ P ls a c h. h }) hp hq
-
-  pub await_fine : (location : Option AwaitLocation) {p : Node} {x : Walk Value} → Correct p (Runs one x)
-      → Correct (await_form at location p) (Runs one (finished at x (asks awaiting (λ v. v ∷ []))))
-  unfolding await_form
-  await_fine location h = correct_as
-      (correct_bind h (λ e. correct_bind (correct_report_await at location) (λ u. correct_alloc (hir.Await e) (Some at))))
-      (λ final ps m m' i g row. let r = row.second in goes1 await_is (goes_within (omega arith) row.first) r.second)
-
-  -- a prefix without operator: its operand is lowered, and reached by nothing
-  pub nameless_fine : {p : Node} {R : Rel ExprId} → Correct p R
-      → Correct (operand_form at (λ i. hir.Missing) p) (Runs one (λ turns ss. ends (leave is_missing)))
-  unfolding operand_form
-  nameless_fine h = correct_as (correct_bind h (λ e. correct_alloc hir.Missing (Some at)))
-      (λ final ps m m' i g row. Nodes.goes_missing row.second)
+  call_fine hf hs = event2_fine at (record { runs = λ w f xs. refl; jumps = λ P ls f xs h. h }) hf hs
 
   pub if_fine : {c t : Node} {e : Lowering (Option ExprId)} {x y z : Walk Value} → Correct c (Runs one x) → Correct t (Runs one y)
       → Correct e (Runs optional z)
@@ -266,7 +161,7 @@ named_fine : (at : Pointer) (o : Option (List Name)) (h : HygieneId)
 named_fine at None h = correct_as (correct_alloc hir.Missing (Some at)) (λ final ps m m' i g a. Nodes.goes_missing a)
 named_fine at (Some ns) h = rw (hygiene_is ns h)
     (event0_fine {e = hir.Path (bare ns) (hygiene_for ns h)} at
-    (record { runs = λ store source_map turns part site. refl; jumps = λ P ls. tt }))
+    (record { runs = λ w. refl; jumps = λ P ls. tt }))
 
 pub path_fine : (at : Pointer) (x : Option Segments) (h : HygieneId)
     → Correct (alloc_expr (stored_path x h) (Some at)) (Runs one (λ turns ss. run_path (data_if_written x) h (Some (site_of at))))

@@ -16,6 +16,7 @@ use Rattle.hir_same_meaning.proofs.Senses.{Walk, one, optional, many, Runs}
 use Rattle.hir_same_meaning.proofs.Blocks.{part_walk, KeptIs}
 use Rattle.hir_same_meaning.proofs.Nodes
 use Rattle.hir_same_meaning.proofs.Forms
+use Rattle.hir_same_meaning.proofs.Families
 
 mutual
   pub expr_fine : (e : Expr) → Correct (lower e) (Runs one (λ turns. run_expr turns e))
@@ -29,17 +30,17 @@ mutual
   expr_fine (tree.break_expr at jump e) = Forms.break_fine at jump (present_fine e)
   expr_fine (tree.continue_expr at jump) = Forms.continue_fine at jump
   expr_fine (tree.block_expr b) = block_is_fine b
-  expr_fine (tree.leaf_expr at form) = Forms.leaf_fine at form
-  expr_fine (tree.unary_expr at form e) = Forms.operand_fine at (Forms.unary_is form) (part_fine e)
-  expr_fine (tree.binary_expr at form a b) = Forms.binary_fine at form (part_fine a) (part_fine b)
-  expr_fine (tree.lazy_expr at op a b) = Forms.lazy_fine at op (part_fine a) (part_fine b)
-  expr_fine (tree.list_expr at form es) = Forms.list_fine at form (Forms.pushed_all (each_fine es []))
-  expr_fine (tree.method_call_expr at e name es) = Forms.method_call_fine at name (part_fine e) (Forms.pushed_all (each_fine es []))
-  expr_fine (tree.leaving_expr at form e) = Forms.value_fine at (Forms.leaving_is form) (present_fine e)
-  expr_fine (tree.become_expr at e) = Forms.operand_fine at Forms.become_is (part_fine e)
-  expr_fine (tree.yield_expr at e) = Forms.value_fine at Forms.yield_is (present_fine e)
-  expr_fine (tree.await_expr at location e) = Forms.await_fine at location (part_fine e)
-  expr_fine (tree.nameless_expr at e) = Forms.nameless_fine at (part_fine e)
+  expr_fine (tree.leaf_expr at form) = Families.leaf_fine at form
+  expr_fine (tree.unary_expr at form e) = Families.operand_fine at (Families.unary_is form) (part_fine e)
+  expr_fine (tree.binary_expr at form a b) = Families.binary_fine at form (part_fine a) (part_fine b)
+  expr_fine (tree.lazy_expr at op a b) = Families.lazy_fine at op (part_fine a) (part_fine b)
+  expr_fine (tree.list_expr at form es) = Families.list_fine at form (Forms.pushed_all (each_fine es []))
+  expr_fine (tree.method_call_expr at e name es) = Families.method_call_fine at name (part_fine e) (Forms.pushed_all (each_fine es []))
+  expr_fine (tree.leaving_expr at form e) = Families.value_fine at (Families.leaving_is form) (present_fine e)
+  expr_fine (tree.become_expr at e) = Families.operand_fine at Families.become_is (part_fine e)
+  expr_fine (tree.yield_expr at e) = Families.value_fine at Families.yield_is (present_fine e)
+  expr_fine (tree.await_expr at location e) = Families.await_fine at location (part_fine e)
+  expr_fine (tree.nameless_expr at e) = Families.nameless_fine at (part_fine e)
 
   pub part_fine : (e : OptionExpr) → Correct (lower_part e) (Runs one (part_walk e))
   part_fine tree.no_expr = Forms.missing_fine

@@ -6,6 +6,7 @@ pub mod Nodes
 pub mod Blocks
 pub mod Strict
 pub mod Forms
+pub mod Families
 pub mod Induction
 pub mod Spread
 pub mod Owned

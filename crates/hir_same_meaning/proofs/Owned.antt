@@ -28,7 +28,8 @@ use Rattle.hir_lower_form.specs.Lower.{operand_form, operands_form, value_form, 
 use Rattle.hir_same_meaning.specs.Reached.{of_some, of_each, of_statement, of_statements, below, reached_to, Spread}
 use Rattle.hir_steps.proofs.Frames.{Frame, loop_at, block_at}
 use Rattle.hir_steps.proofs.Steps.{Mark, Grows, Rel, Correct, Allocated, correct_bind, correct_as, correct_pure}
-use Rattle.hir_steps.proofs.Steps.{correct_report, correct_report_await, correct_point, correct_enter_block, correct_alloc, correct_opened, correct_target}
+use Rattle.hir_steps.proofs.Steps.{correct_report, correct_report_await, correct_point, correct_enter_block, correct_alloc}
+use Rattle.hir_steps.proofs.Steps.{correct_opened, correct_target}
 use Rattle.hir_same_meaning.proofs.Spread.{spread_none, spread_wider, spread_append, spread_node}
 use Rattle.hir_same_meaning.proofs.Forms.{Pushed, pushed_none, pushed_one, correct_statement}
 

@@ -18,25 +18,42 @@ use Rattle.hir_same_meaning.proofs.Views.{numbers}
 use Rattle.hir_same_meaning.proofs.Relation.{SameWhere, same_ends, same_bind, same_ask, same_made_tuple}
 use Rattle.hir_same_meaning.proofs.Senses.{Walk, Reading, run_in, one, Goes, Runs, goes_within, goes_at}
 
--- what a stored expression is made of: what runs its parts, and what its parts' jumps are to name
-abbrev pub RunsParts : Type 0
-RunsParts = ExprId → StoreRun Value
+-- where a stored expression is run: what runs its parts, and its site
+pub record Where : Type 0 where
+  pub store : Store
+  pub source_map : SourceMap
+  pub turns : ℕ
+  pub part : ExprId → StoreRun Value
+  pub site : Option Site
 
+abbrev pub node_run : Where → Expr → StoreRun Value
+node_run w e = run_node w.store w.source_map w.turns w.part e w.site
+
+-- in a final store, looked into so deep, from this node
+abbrev looked_into : Stored → ℕ → ℕ → Pointer → Where
+looked_into final d turns at = record {
+  store = store_of final;
+  source_map = map_of final;
+  turns = turns;
+  part = run_in final d turns;
+  site = Some (site_of at);
+}
+
+-- what the jumps of its parts are to name
 abbrev pub JumpsOf : Type 1
 JumpsOf = List LabelId → ExprId → Type 0
 
 -- ---- no operand
 
 pub record Event0 (e : Expr) (o : Operation) : Type 1 where
-  pub runs : (store : Store) (source_map : SourceMap) (turns : ℕ) (part : RunsParts) (site : Option Site)
-      → run_node store source_map turns part e site ≡ ask o [] site
+  pub runs : (w : Where) → node_run w e ≡ ask o [] w.site
   pub jumps : (P : JumpsOf) (ls : List LabelId) → NodeEnclosed P ls e
 
 pub event0_fine : {e : Expr} {o : Operation} (at : Pointer) → Event0 e o
     → Correct (alloc_expr e (Some at)) (Runs one (λ turns ss. ask o [] (Some (site_of at))))
 event0_fine {e = e} {o = o} at is = correct_as (correct_alloc e (Some at)) (λ final ps m m' i g a.
     goes_at a
-    (λ turns d le f. rw (is.runs (store_of final) (map_of final) turns (run_in final d turns) (Some (site_of at)))
+    (λ turns d le f. rw (is.runs (looked_into final d turns at))
     (same_ask o [] (Some (site_of at))))
     (λ d le. is.jumps (EnclosedTo final.exprs.entries d) (numbers ps)))
 
@@ -70,8 +87,7 @@ makes_tuple = record {
 }
 
 pub record Form1 {A B : Type 0} (e : A → Expr) (r : Reading A B) (f : Finish B) : Type 1 where
-  pub runs : (store : Store) (source_map : SourceMap) (turns : ℕ) (part : RunsParts) (a : A) (site : Option Site)
-      → run_node store source_map turns part (e a) site ≡ r.run turns part a >>= (λ b. f.stored b site)
+  pub runs : (w : Where) (a : A) → node_run w (e a) ≡ r.run w.turns w.part a >>= (λ b. f.stored b w.site)
   pub jumps : (P : JumpsOf) (ls : List LabelId) (a : A) → r.Jumps (P ls) a → NodeEnclosed P ls (e a)
 
 -- the walk of such a form
@@ -82,7 +98,7 @@ pub goes1 : {A B : Type 0} {e : A → Expr} {r : Reading A B} {f : Finish B} {x 
     {final : Stored} {ps qs : List Frame} {a : A} {i : ExprId} → Form1 e r f → Goes labels m.nodes r x final ps a
     → Allocated (e a) (Some at) final qs m m' i → Goes labels m'.nodes one (finished at x f) final ps i
 goes1 {f = f} {at = at} {final = final} {ps = ps} {a = a} is h here = goes_at here
-    (λ turns d le falls. rw (is.runs (store_of final) (map_of final) turns (run_in final d turns) a (Some (site_of at)))
+    (λ turns d le falls. rw (is.runs (looked_into final d turns at) a)
     (same_bind (h.same turns d le falls) (λ b. f.same ps b (Some (site_of at)))))
     (λ d le. is.jumps (EnclosedTo final.exprs.entries d) (numbers ps) a (h.jumps d le))
 
@@ -95,9 +111,8 @@ form1_fine {e = e} at is hp = correct_as (correct_bind hp (λ a. correct_alloc (
 
 pub record Event2 {A B C D : Type 0} (e : A → C → Expr) (r : Reading A B) (q : Reading C D) (o : Operation)
     (values : B → D → List Value) : Type 1 where
-  pub runs : (store : Store) (source_map : SourceMap) (turns : ℕ) (part : RunsParts) (a : A) (c : C) (site : Option Site)
-      → run_node store source_map turns part (e a c) site
-      ≡ r.run turns part a >>= (λ b. q.run turns part c >>= (λ d. ask o (values b d) site))
+  pub runs : (w : Where) (a : A) (c : C)
+      → node_run w (e a c) ≡ r.run w.turns w.part a >>= (λ b. q.run w.turns w.part c >>= (λ d. ask o (values b d) w.site))
   pub jumps : (P : JumpsOf) (ls : List LabelId) (a : A) (c : C) → r.Jumps (P ls) a × q.Jumps (P ls) c → NodeEnclosed P ls (e a c)
 
 pub event2_fine : {A B C D : Type 0} {e : A → C → Expr} {r : Reading A B} {q : Reading C D} {o : Operation} {values : B → D → List Value}
@@ -112,6 +127,6 @@ event2_fine {e = e} {r = r} {q = q} {o = o} {values = values} at is hp hs = corr
     let h = goes_within (omega arith) row.first in
     let k = goes_within (omega arith) rest.first in
     goes_at rest.second
-    (λ turns d le f. rw (is.runs (store_of final) (map_of final) turns (run_in final d turns) row.one rest.one (Some (site_of at)))
+    (λ turns d le f. rw (is.runs (looked_into final d turns at) row.one rest.one)
     (same_bind (h.same turns d le f) (λ b. same_bind (k.same turns d le f) (λ v. same_ask o (values b v) (Some (site_of at))))))
     (λ d le. is.jumps (EnclosedTo final.exprs.entries d) (numbers ps) row.one rest.one (h.jumps d le, k.jumps d le)))

@@ -1,0 +1,126 @@
+-- Families of forms by their operands: what each becomes runs as it is written.
+use Rattle.std.proofs.Common.{true, false, List, [], ◌∷◌, Option, Some, None, refl, arith}
+use Rattle.hir_syntax.specs.declared.ast.LogicOp.{LogicOp}
+use Rattle.hir_syntax.specs.declared.ast.BinaryOp.TheVariants as ast
+use Rattle.hir_store.specs.Pointers.{Pointer}
+use Rattle.hir_store.specs.declared.hir.Expr.{Expr as HirExpr}
+use Rattle.hir_store.specs.declared.hir.Expr.TheVariants as hir
+use Rattle.hir_store.specs.declared.name.Name.{Name}
+use Rattle.hir_store.specs.declared.ids.ExprId.{ExprId}
+use Rattle.hir_store.specs.declared.diagnostics.AwaitLocation.{AwaitLocation}
+use Rattle.hir_env.specs.Answered as tree
+use Rattle.hir_env.specs.Answered.{Leaf, Unary, Binary, Listing, Leaving}
+use Rattle.hir_env.specs.NodeMap.{Site}
+use Rattle.hir_env.specs.Answering.{site_of}
+use Rattle.hir_lower_form.specs.Lowering.{Lowering, alloc_expr}
+use Rattle.hir_lower_form.specs.Lower.{Node, stored_leaf, stored_unary, stored_binary, stored_lazy, stored_leaving}
+use Rattle.hir_lower_form.specs.Lower.{operand_form, operands_form, value_form, list_form, method_call_form, await_form}
+use Rattle.hir_meaning.specs.Run.{Value, Operation, array, method_call, yielding, awaiting, leave, became, missing, ends, ◌>>=◌, ask}
+use Rattle.hir_meaning.specs.Syntax.{run_leaf, unary_operation, run_binary, run_lazy, run_list, leaves_with}
+use Rattle.hir_steps.proofs.Steps.{Rel, Correct, correct_bind, correct_as, correct_alloc, correct_report_await}
+use Rattle.hir_same_meaning.proofs.Senses.{Walk, one, optional, many, Runs, goes_within}
+use Rattle.hir_same_meaning.proofs.Nodes
+use Rattle.hir_same_meaning.proofs.Forms.{missing_fine}
+use Rattle.hir_same_meaning.proofs.Strict.{Finish, asks, leaves, makes_tuple, Form1, finished, goes1, form1_fine, Event2}
+use Rattle.hir_same_meaning.proofs.Strict.{event0_fine, event2_fine}
+
+-- ---- the kinds of each
+
+pub unary_is : (form : Unary) → Form1 (stored_unary form) one (asks (unary_operation form) (λ v. v ∷ []))
+unary_is (tree.field_of name) = record { runs = λ w a. refl; jumps = λ P ls a h. h }
+unary_is (tree.prefix_of op) = record { runs = λ w a. refl; jumps = λ P ls a h. h }
+unary_is (tree.reference_to rawness mutability) = record { runs = λ w a. refl; jumps = λ P ls a h. h }
+
+pub leaving_is : (form : Leaving) → Form1 (stored_leaving form) optional (leaves (leaves_with form))
+leaving_is tree.returning = record { runs = λ w a. refl; jumps = λ P ls a h. h }
+leaving_is tree.yeeting = record { runs = λ w a. refl; jumps = λ P ls a h. h }
+
+pub become_is : Form1 hir.Become one (leaves became)
+become_is = record { runs = λ w a. refl; jumps = λ P ls a h. h }
+
+pub yield_is : Form1 hir.Yield optional (asks yielding (λ v. v ∷ []))
+yield_is = record { runs = λ w a. refl; jumps = λ P ls a h. h }
+
+await_is : Form1 hir.Await one (asks awaiting (λ v. v ∷ []))
+await_is = record { runs = λ w a. refl; jumps = λ P ls a h. h }
+
+tuple_is : Form1 hir.Tuple many makes_tuple
+tuple_is = record { runs = λ w a. refl; jumps = λ P ls a h. h }
+
+array_is : Form1 hir.Array many (asks array (λ vs. vs))
+array_is = record { runs = λ w a. refl; jumps = λ P ls a h. h }
+
+-- ---- forms
+
+module _ (at : Pointer) where
+  abbrev here : Option Site
+  here = Some (site_of at)
+
+  pub leaf_fine : (form : Leaf) → Correct (alloc_expr (stored_leaf form) (Some at)) (Runs one (λ turns ss. run_leaf form here))
+  leaf_fine tree.underscore = event0_fine at (record { runs = λ w. refl; jumps = λ P ls. tt })
+  leaf_fine tree.include_bytes = event0_fine at (record { runs = λ w. refl; jumps = λ P ls. tt })
+  leaf_fine tree.left_out = correct_as (correct_alloc hir.Missing (Some at)) (λ final ps m m' i g a. Nodes.goes_missing a)
+
+  pub operand_fine : {make : ExprId → HirExpr} {f : Finish Value} {p : Node} {x : Walk Value} → Form1 make one f → Correct p (Runs one x)
+      → Correct (operand_form at make p) (Runs one (finished at x f))
+  unfolding operand_form
+  operand_fine is h = form1_fine at is h
+
+  pub value_fine : {make : Option ExprId → HirExpr} {f : Finish Value} {p : Lowering (Option ExprId)} {x : Walk Value}
+      → Form1 make optional f → Correct p (Runs optional x) → Correct (value_form at make p) (Runs one (finished at x f))
+  unfolding value_form
+  value_fine is h = form1_fine at is h
+
+  pub operands_fine : {make : ExprId → ExprId → HirExpr} {o : Operation} {p q : Node} {x y : Walk Value}
+      → Event2 make one one o (λ v w. v ∷ w ∷ []) → Correct p (Runs one x) → Correct q (Runs one y)
+      → Correct (operands_form at make p q)
+      (Runs one (λ turns ss. x turns ss >>= (λ v. y turns ss >>= (λ w. ask o (v ∷ w ∷ []) here))))
+  unfolding operands_form
+  operands_fine is hp hq = event2_fine at is hp hq
+
+  pub lazy_fine : (op : LogicOp) {p q : Node} {x y : Walk Value} → Correct p (Runs one x) → Correct q (Runs one y)
+      → Correct (operands_form at (stored_lazy op) p q) (Runs one (λ turns ss. run_lazy op (x turns ss) (y turns ss) here))
+  unfolding operands_form
+  lazy_fine op hp hq = correct_as (correct_bind hp (λ a. correct_bind hq (λ b. correct_alloc (stored_lazy op a b) (Some at))))
+      (λ final ps m m' i g row. let r = row.second in
+      Nodes.goes_lazy (goes_within (omega arith) row.first) (goes_within (omega arith) r.first) r.second)
+
+  pub binary_fine : (form : Binary) {p q : Node} {x y : Walk Value} → Correct p (Runs one x) → Correct q (Runs one y)
+      → Correct (operands_form at (stored_binary form) p q) (Runs one (λ turns ss. run_binary form (x turns ss) (y turns ss) here))
+  binary_fine (tree.operator None) hp hq = operands_fine (record { runs = λ w a b. refl; jumps = λ P ls a b h. h }) hp hq
+  binary_fine (tree.operator (Some (ast.LogicOp op))) hp hq = lazy_fine op hp hq
+  binary_fine (tree.operator (Some (ast.ArithOp op))) hp hq = operands_fine (record { runs = λ w a b. refl; jumps = λ P ls a b h. h }) hp hq
+  binary_fine (tree.operator (Some (ast.CmpOp op))) hp hq = operands_fine (record { runs = λ w a b. refl; jumps = λ P ls a b h. h }) hp hq
+  binary_fine (tree.operator (Some (ast.Assignment op))) hp hq = operands_fine (record { runs = λ w a b. refl; jumps = λ P ls a b h. h }) hp hq
+  binary_fine tree.index_of hp hq = operands_fine (record { runs = λ w a b. refl; jumps = λ P ls a b h. h }) hp hq
+
+  pub list_fine : (form : Listing) {p : Lowering (List ExprId)} {x : Walk (List Value)} → Correct p (Runs many x)
+      → Correct (list_form at form p) (Runs one (λ turns ss. run_list form (x turns ss) here))
+  unfolding list_form
+  list_fine (tree.tuple_of false) h = form1_fine at tuple_is h
+  list_fine (tree.tuple_of true) h = correct_as
+      (correct_bind h (λ es. correct_bind missing_fine (λ first. correct_alloc (hir.Tuple (first ∷ es)) (Some at))))
+      (λ final ps m m' i g row. let r = row.second in
+      Nodes.goes_front_missing (goes_within (omega arith) r.first) (goes_within (omega arith) row.first) r.second)
+  list_fine tree.array_of h = form1_fine at array_is h
+
+  pub method_call_fine : (name : Name) {p : Node} {q : Lowering (List ExprId)} {x : Walk Value} {y : Walk (List Value)}
+      → Correct p (Runs one x) → Correct q (Runs many y)
+      → Correct (method_call_form at p name q)
+      (Runs one (λ turns ss. x turns ss >>= (λ v. y turns ss >>= (λ vs. ask (method_call name) (v ∷ vs) here))))
+  unfolding method_call_form
+  method_call_fine name hp hq = event2_fine at (record { runs = λ w a b. refl; jumps = λ P ls a b h. h }) hp hq
+
+  pub await_fine : (location : Option AwaitLocation) {p : Node} {x : Walk Value} → Correct p (Runs one x)
+      → Correct (await_form at location p) (Runs one (finished at x (asks awaiting (λ v. v ∷ []))))
+  unfolding await_form
+  await_fine location h = correct_as
+      (correct_bind h (λ e. correct_bind (correct_report_await at location) (λ u. correct_alloc (hir.Await e) (Some at))))
+      (λ final ps m m' i g row. let r = row.second in goes1 await_is (goes_within (omega arith) row.first) r.second)
+
+  -- a prefix without operator: its operand is lowered, and reached by nothing
+  pub nameless_fine : {p : Node} {R : Rel ExprId} → Correct p R
+      → Correct (operand_form at (λ i. hir.Missing) p) (Runs one (λ turns ss. ends (leave missing)))
+  unfolding operand_form
+  nameless_fine h = correct_as (correct_bind h (λ e. correct_alloc hir.Missing (Some at)))
+      (λ final ps m m' i g row. Nodes.goes_missing row.second)
