@@ -1,5 +1,6 @@
 -- What encloses an expression, innermost first, with the numbers of its labels.
 use Rattle.std.proofs.Common.{◌≡◌, ℕ, ◌<◌, ◌≤◌, List, [], ◌∷◌, Some, None, refl, ap, arith}
+use Rattle.hir_store.specs.Pointers.{Pointer}
 use Rattle.hir_store.specs.declared.ids.LabelId.{LabelId}
 use Rattle.hir_store.specs.declared.ids.MacroDefId.{MacroDefId}
 use Rattle.hir_env.specs.Answered.{Label}
@@ -74,10 +75,13 @@ falls_more (barrier_at ∷ ps) b c le f = tt
 
 -- ---- whatever is open, there are frames for it
 
+abbrev somewhere : Pointer
+somewhere = record { file_id = record { 0 = 0 }; value = record { node = record { 0 = 0 }; range = record { start = 0; end = 0 } } }
+
 abbrev pub frames : List (Rib LabelId) → List Frame
 frames [] = []
 frames (label_rib name hygiene label ∷ rs) =
-    loop_at (record { pointer = record { file_id = record { 0 = 0 }; value = record { node = record { 0 = 0 }; range = record { start = 0; end = 0 } } }; name = name; hygiene = hygiene }) label ∷ frames rs
+    loop_at (record { pointer = somewhere; name = name; hygiene = hygiene }) label ∷ frames rs
 frames (macro_rib d ∷ rs) = macro_at d ∷ frames rs
 frames (barrier_rib ∷ rs) = barrier_at ∷ frames rs
 

@@ -13,10 +13,16 @@ use Rattle.hir_env.specs.Answered as tree
 use Rattle.hir_env.specs.Answered.{Listing, Label, Jump, Expr, OptionExpr, Exprs, Block, OptionBlock, Stmts, Stmt}
 use Rattle.hir_lower_form.specs.Builder.{Builder}
 use Rattle.hir_lower_form.specs.Lowering.{Checked, Lowering, ◌>>=◌, alloc_expr}
-use Rattle.hir_lower_form.specs.Lower.{Node, Contents, missing, some, if_form, loop_form, call_form, continue_form, break_form, paren_form, operand_form, operands_form, value_form, list_form, method_call_form, await_form, block_form, labelled, kept, lower, lower_part, present, kept_part, lower_each, lower_block, lower_block_part, lower_stmts, lower_stmt}
+use Rattle.hir_lower_form.specs.Lower.{Node, Contents, missing, some, if_form, loop_form, call_form, continue_form}
+use Rattle.hir_lower_form.specs.Lower.{break_form, paren_form, operand_form, operands_form, value_form, list_form}
+use Rattle.hir_lower_form.specs.Lower.{method_call_form, await_form, block_form, labelled, kept, lower, lower_part}
+use Rattle.hir_lower_form.specs.Lower.{present, kept_part, lower_each, lower_block, lower_block_part, lower_stmts}
+use Rattle.hir_lower_form.specs.Lower.{lower_stmt}
 use Rattle.hir_steps.specs.Keeps.{Keeps, Keeping}
 use Rattle.hir_steps.proofs.Frames.{Frame, loop_at, block_at, frames, ribs_frames}
-use Rattle.hir_steps.proofs.Steps.{Mark, Rel, Holds, Correct, correct_bind, correct_as, correct_pure, correct_report, correct_report_await, correct_point, correct_enter_block, correct_alloc, correct_opened, correct_target}
+use Rattle.hir_steps.proofs.Steps.{Mark, Rel, Holds, Correct, correct_bind, correct_as, correct_pure, correct_report}
+use Rattle.hir_steps.proofs.Steps.{correct_report_await, correct_point, correct_enter_block, correct_alloc}
+use Rattle.hir_steps.proofs.Steps.{correct_opened, correct_target}
 
 pub record Any {A : Type 0} (final : Stored) (ps : List Frame) (m m' : Mark) (a : A) : Type 0 where
   pub any : Unit {0}
@@ -81,7 +87,8 @@ module _ (at : Pointer) where
   list_any (tree.tuple_of true) h = then' h (λ is. then' missing_any (λ i. stored_any _ at))
   list_any tree.array_of h = then' h (λ is. stored_any _ at)
 
-  method_call_any : {e : Node} (name : Name) {xs : Lowering (List ExprId)} → Correct e Any → Correct xs Any → Correct (method_call_form at e name xs) Any
+  method_call_any : {e : Node} (name : Name) {xs : Lowering (List ExprId)} → Correct e Any → Correct xs Any
+      → Correct (method_call_form at e name xs) Any
   unfolding method_call_form
   method_call_any name he hx = then' he (λ i. then' hx (λ is. stored_any _ at))
 
@@ -89,11 +96,13 @@ module _ (at : Pointer) where
   unfolding await_form
   await_any location h = then' h (λ i. then' (any (correct_report_await at location)) (λ u. stored_any _ at))
 
-  block_form_any : (is_unsafe : Bool) (label : Option LabelId) (number : Option BlockId) {c : Lowering Contents} → Correct c Any → Correct (block_form at is_unsafe label number c) Any
+  block_form_any : (is_unsafe : Bool) (label : Option LabelId) (number : Option BlockId) {c : Lowering Contents} → Correct c Any
+      → Correct (block_form at is_unsafe label number c) Any
   unfolding block_form
   block_form_any is_unsafe label number h = then' (any (correct_enter_block number)) (λ u. then' h (λ r. stored_any _ at))
 
-labelled_any : (label : Option Label) {f : Option LabelId → Node} → ((n : Option LabelId) → Correct (f n) Any) → Correct (labelled label f) Any
+labelled_any : (label : Option Label) {f : Option LabelId → Node} → ((n : Option LabelId) → Correct (f n) Any)
+    → Correct (labelled label f) Any
 unfolding labelled
 labelled_any None h = h None
 labelled_any (Some l) h = any (correct_opened block_at l (λ n ps. refl) (λ n. h (Some n)) (λ n i. correct_pure i))
@@ -143,13 +152,15 @@ mutual
   each_any done (tree.more_exprs e es) = then' (kept_any e (node_any e)) (λ x. each_any _ es)
 
   block_any : (b : Block) → Correct (lower_block b) Any
-  block_any (tree.block at is_unsafe label number ss e) = labelled_any label (λ n. block_form_any at is_unsafe n number (stmts_any [] ss (kept_part_any e)))
+  block_any (tree.block at is_unsafe label number ss e) =
+      labelled_any label (λ n. block_form_any at is_unsafe n number (stmts_any [] ss (kept_part_any e)))
 
   block_part_any : (b : OptionBlock) → Correct (lower_block_part b) Any
   block_part_any tree.no_block = missing_any
   block_part_any (tree.some_block b) = block_any b
 
-  stmts_any : (done : List Statement) (ss : Stmts) {tail : Lowering (Option ExprId)} → Correct tail Any → Correct (lower_stmts done ss tail) Any
+  stmts_any : (done : List Statement) (ss : Stmts) {tail : Lowering (Option ExprId)} → Correct tail Any
+      → Correct (lower_stmts done ss tail) Any
   stmts_any done tree.no_stmts h = then' h (λ t. any (correct_pure (done, t)))
   stmts_any done (tree.more_stmts s ss) h = then' (stmt_any s) (λ x. stmts_any _ ss h)
 
@@ -162,4 +173,6 @@ kept_of final ps b (Ok i) c h = h.kept
 kept_of final ps b (Err e) c h = h
 
 pub keeping : Keeping
-keeping e b = kept_of b.stored (frames b.scopes) b (lower_part e b).0 (lower_part e b).1 ((part_any e).holds b.stored (frames b.scopes) b (ribs_frames b.scopes))
+keeping e b =
+    let ps = frames b.scopes in
+    kept_of b.stored ps b (lower_part e b).0 (lower_part e b).1 ((part_any e).holds b.stored ps b (ribs_frames b.scopes))

@@ -1,5 +1,7 @@
 -- What the steps of lowering bring about in a final store.
-use Rattle.std.proofs.Common.{◌≡◌, ℕ, suc, ◌+◌, ◌<◌, ◌≤◌, Bool, true, false, if◌then◌else◌, nat_lt, slice_get, List, [], ◌∷◌, ◌++◌, length, Option, Some, None, Ok, Err, refl, sym, ap, ◌∙◌, arith, length-append, append_assoc}
+use Rattle.std.proofs.Common.{◌≡◌, ℕ, suc, ◌+◌, ◌<◌, ◌≤◌, Bool, true, false, if◌then◌else◌, nat_lt, slice_get, List, []}
+use Rattle.std.proofs.Common.{◌∷◌, ◌++◌, length, Option, Some, None, Ok, Err, refl, sym, ap, ◌∙◌, arith, length-append}
+use Rattle.std.proofs.Common.{append_assoc}
 use Rattle.std.proofs.lemmas.Option.{slice_get-get_or}
 use Rattle.std.proofs.Math.Seq.{get_or-append_seam}
 use Rattle.hir_store.specs.Pointers.{Pointer}
@@ -14,7 +16,9 @@ use Rattle.hir_store.specs.declared.ids.ExprId.{ExprId}
 use Rattle.hir_store.specs.declared.ids.LabelId.{LabelId}
 use Rattle.hir_store.specs.declared.ids.BlockId.{BlockId}
 use Rattle.hir_store.specs.declared.diagnostics.ExpressionStoreDiagnostics.{ExpressionStoreDiagnostics}
-use Rattle.hir_store.specs.declared.diagnostics.ExpressionStoreDiagnostics.TheVariants.{AwaitOutsideOfAsync, UndeclaredLabel, UnreachableLabel}
+use Rattle.hir_store.specs.declared.diagnostics.ExpressionStoreDiagnostics.TheVariants.{AwaitOutsideOfAsync}
+use Rattle.hir_store.specs.declared.diagnostics.ExpressionStoreDiagnostics.TheVariants.{UndeclaredLabel}
+use Rattle.hir_store.specs.declared.diagnostics.ExpressionStoreDiagnostics.TheVariants.{UnreachableLabel}
 use Rattle.hir_store.specs.declared.diagnostics.AwaitLocation.{AwaitLocation}
 use Rattle.hir_store.proofs.Arenas.{continues_refl, continues_entry, prefix_refl}
 use Rattle.hir_store.proofs.Range.{extends_refl, extends_trans, extends_point, extends_report, extends_block}
@@ -22,7 +26,8 @@ use Rattle.hir_env.specs.Answered.{Label, Jump}
 use Rattle.hir_scope.specs.Ribs.{Rib, Target, found, unreachable, undeclared, target, number_found, jump_number}
 use Rattle.hir_lower_scope.specs.Labels.{rest}
 use Rattle.hir_lower_form.specs.Builder.{Builder}
-use Rattle.hir_lower_form.specs.Lowering.{Checked, go_on, Lowering, ◌>>=◌, pure, alloc_expr, point, report, report_await, enter_block, open_label, close, jump_target, found_or_fault}
+use Rattle.hir_lower_form.specs.Lowering.{Checked, go_on, Lowering, ◌>>=◌, pure, alloc_expr, point, report}
+use Rattle.hir_lower_form.specs.Lowering.{report_await, enter_block, open_label, close, jump_target, found_or_fault}
 use Rattle.hir_steps.specs.Keeps.{Paired, Kept}
 use Rattle.hir_steps.proofs.Frames.{Frame, rib, ribs}
 
@@ -72,12 +77,20 @@ grows_refl : (m : Mark) → Grows m m
 grows_refl m = record { nodes = omega arith; labels = omega arith }
 
 kept_trans : {a b c : Builder} → Kept a b → Kept b c → Kept a c
-kept_trans g h = record { scopes = h.scopes ∙ g.scopes; roots = h.roots ∙ g.roots; paired = λ d. h.paired (g.paired d); stays = extends_trans g.stays h.stays }
+kept_trans g h = record {
+  scopes = h.scopes ∙ g.scopes;
+  roots = h.roots ∙ g.roots;
+  paired = λ d. h.paired (g.paired d);
+  stays = extends_trans g.stays h.stays;
+}
 
-pub correct_bind : {A B : Type 0} {p : Lowering A} {R : Rel A} {f : A → Lowering B} {Q : A → Rel B} → Correct p R → ((a : A) → Correct (f a) (Q a)) → Correct (p >>= f) (Seq R Q)
-correct_bind {A = A} {B = B} {p = p} {R = R} {f = f} {Q = Q} h k = record { holds = λ final ps b r. first final ps b r (p b).0 (p b).1 (h.holds final ps b r) }
+pub correct_bind : {A B : Type 0} {p : Lowering A} {R : Rel A} {f : A → Lowering B} {Q : A → Rel B} → Correct p R
+    → ((a : A) → Correct (f a) (Q a)) → Correct (p >>= f) (Seq R Q)
+correct_bind {A = A} {B = B} {p = p} {R = R} {f = f} {Q = Q} h k =
+    record { holds = λ final ps b r. first final ps b r (p b).0 (p b).1 (h.holds final ps b r) }
   where
-    second : (final : Stored) (ps : List Frame) (b b' : Builder) (a : A) → Answers R final ps b b' a → (o : Checked B) (c : Builder) → Holds (Q a) final ps b' o c → Holds (Seq R Q) final ps b o c
+    second : (final : Stored) (ps : List Frame) (b b' : Builder) (a : A) → Answers R final ps b b' a → (o : Checked B) (c : Builder)
+        → Holds (Q a) final ps b' o c → Holds (Seq R Q) final ps b o c
     second final ps b b' a x (Ok e) c y = record {
       kept = kept_trans x.kept y.kept;
       grows = grows_trans x.grows y.grows;
@@ -92,7 +105,8 @@ correct_bind {A = A} {B = B} {p = p} {R = R} {f = f} {Q = Q} h k = record { hold
     }
     second final ps b b' a x (Err e) c y = extends_trans x.kept.stays y
 
-    first : (final : Stored) (ps : List Frame) (b : Builder) → b.scopes ≡ ribs ps → (o : Checked A) (c : Builder) → Holds R final ps b o c → Holds (Seq R Q) final ps b (go_on o c f).0 (go_on o c f).1
+    first : (final : Stored) (ps : List Frame) (b : Builder) → b.scopes ≡ ribs ps → (o : Checked A) (c : Builder)
+        → Holds R final ps b o c → Holds (Seq R Q) final ps b (go_on o c f).0 (go_on o c f).1
     first final ps b r (Ok a) c x = second final ps b c a x (f a c).0 (f a c).1 ((k a).holds final ps c (x.kept.scopes ∙ r))
     first final ps b r (Err e) c x = x
 
@@ -115,10 +129,16 @@ pub record Both {A : Type 0} (R Q : Rel A) (final : Stored) (ps : List Frame) (m
   pub other : Q final ps m m' a
 
 pub correct_both : {A : Type 0} {p : Lowering A} {R Q : Rel A} → Correct p R → Correct p Q → Correct p (Both R Q)
-correct_both {A = A} {p = p} {R = R} {Q = Q} h k = record { holds = λ final ps b r. go final ps b (p b).0 (p b).1 (h.holds final ps b r) (k.holds final ps b r) }
+correct_both {A = A} {p = p} {R = R} {Q = Q} h k =
+    record { holds = λ final ps b r. go final ps b (p b).0 (p b).1 (h.holds final ps b r) (k.holds final ps b r) }
   where
-    go : (final : Stored) (ps : List Frame) (b : Builder) (o : Checked A) (c : Builder) → Holds R final ps b o c → Holds Q final ps b o c → Holds (Both R Q) final ps b o c
-    go final ps b (Ok a) c y z = record { kept = y.kept; grows = y.grows; in_final = λ d pre. record { one = y.in_final d pre; other = z.in_final d pre } }
+    go : (final : Stored) (ps : List Frame) (b : Builder) (o : Checked A) (c : Builder) → Holds R final ps b o c
+        → Holds Q final ps b o c → Holds (Both R Q) final ps b o c
+    go final ps b (Ok a) c y z = record {
+      kept = y.kept;
+      grows = y.grows;
+      in_final = λ d pre. record { one = y.in_final d pre; other = z.in_final d pre };
+    }
     go final ps b (Err e) c y z = y
 
 longer : {A : Type 0} {xs ys : List A} → Prefix xs ys → length xs ≤ length ys
@@ -133,7 +153,8 @@ pub record InStore {A : Type 0} (R : Rel A) (final : Stored) (ps : List Frame) (
 pub correct_in_store : {A : Type 0} {p : Lowering A} {R : Rel A} → Correct p R → Correct p (InStore R)
 correct_in_store {A = A} {p = p} {R = R} h = record { holds = λ final ps b r. go final ps b (p b).0 (p b).1 (h.holds final ps b r) }
   where
-    go : (final : Stored) (ps : List Frame) (b : Builder) (o : Checked A) (c : Builder) → Holds R final ps b o c → Holds (InStore R) final ps b o c
+    go : (final : Stored) (ps : List Frame) (b : Builder) (o : Checked A) (c : Builder) → Holds R final ps b o c
+        → Holds (InStore R) final ps b o c
     go final ps b (Ok a) c y = record {
       kept = y.kept;
       grows = y.grows;
@@ -182,7 +203,12 @@ pub correct_report : (fault : ExpressionStoreDiagnostics) → Correct (report fa
 unfolding report storing.report
 correct_report fault = record {
   holds = λ final ps b r. record {
-    kept = record { scopes = refl; roots = refl; paired = λ d. record { exprs = d.exprs; labels = d.labels }; stays = extends_report b.stored fault };
+    kept = record {
+      scopes = refl;
+      roots = refl;
+      paired = λ d. record { exprs = d.exprs; labels = d.labels };
+      stays = extends_report b.stored fault;
+    };
     grows = record { nodes = omega arith; labels = omega arith };
     in_final = λ d pre. record { is = refl; nodes = refl; labels = refl; stored = refl };
   };
@@ -190,9 +216,15 @@ correct_report fault = record {
 
 writes_nothing : Correct {A = Unit {0}} (pure tt) (Writes tt (λ s. s))
 writes_nothing = correct_as (correct_pure tt)
-    (λ final ps m m' a g row. record { is = row.is; nodes = ap (λ x. x.nodes) row.still; labels = ap (λ x. x.labels) row.still; stored = ap (λ x. x.stored) row.still })
+    (λ final ps m m' a g row. record {
+      is = row.is;
+      nodes = ap (λ x. x.nodes) row.still;
+      labels = ap (λ x. x.labels) row.still;
+      stored = ap (λ x. x.stored) row.still;
+    })
 
-pub correct_report_await : (node : Pointer) (location : Option AwaitLocation) → Correct (report_await node location) (Writes tt (with_await node location))
+pub correct_report_await : (node : Pointer) (location : Option AwaitLocation)
+    → Correct (report_await node location) (Writes tt (with_await node location))
 unfolding report_await
 correct_report_await node None = writes_nothing
 correct_report_await node (Some location) = correct_report (AwaitOutsideOfAsync node location)
@@ -201,7 +233,12 @@ pub correct_point : (node : Pointer) (id : ExprId) → Correct (point node id) (
 unfolding point storing.point
 correct_point node id = record {
   holds = λ final ps b r. record {
-    kept = record { scopes = refl; roots = refl; paired = λ d. record { exprs = d.exprs; labels = d.labels }; stays = extends_point b.stored node id };
+    kept = record {
+      scopes = refl;
+      roots = refl;
+      paired = λ d. record { exprs = d.exprs; labels = d.labels };
+      stays = extends_point b.stored node id;
+    };
     grows = record { nodes = omega arith; labels = omega arith };
     in_final = λ d pre. record { is = refl; nodes = refl; labels = refl; stored = refl };
   };
@@ -212,7 +249,12 @@ unfolding enter_block storing.enter_block
 correct_enter_block None = writes_nothing
 correct_enter_block (Some n) = record {
   holds = λ final ps b r. record {
-    kept = record { scopes = refl; roots = refl; paired = λ d. record { exprs = d.exprs; labels = d.labels }; stays = extends_block b.stored n };
+    kept = record {
+      scopes = refl;
+      roots = refl;
+      paired = λ d. record { exprs = d.exprs; labels = d.labels };
+      stays = extends_block b.stored n;
+    };
     grows = record { nodes = omega arith; labels = omega arith };
     in_final = λ d pre. record { is = refl; nodes = refl; labels = refl; stored = refl };
   };
@@ -239,10 +281,13 @@ at_end xs x more =
     let lt : length xs < length (xs ++ x ∷ more) = omega arith in
     rw e (slice_get-get_or (xs ++ x ∷ more) (length xs) x lt ∙ ap Some (get_or-append_seam xs x more x))
 
-in_prefix : {A : Type 0} (xs : List A) (x : A) {final : List A} (n : ℕ) → n ≡ length xs → Prefix (xs ++ x ∷ []) final → slice_get final n ≡ Some x
-in_prefix xs x {final = final} n e p = ap (λ f. slice_get f n) p.is ∙ (ap (λ k. slice_get ((xs ++ x ∷ []) ++ p.more) k) e ∙ at_end xs x p.more)
+in_prefix : {A : Type 0} (xs : List A) (x : A) {final : List A} (n : ℕ) → n ≡ length xs → Prefix (xs ++ x ∷ []) final
+    → slice_get final n ≡ Some x
+in_prefix xs x {final = final} n e p =
+    ap (λ f. slice_get f n) p.is ∙ (ap (λ k. slice_get ((xs ++ x ∷ []) ++ p.more) k) e ∙ at_end xs x p.more)
 
-one_more : {A B : Type 0} (xs : List A) (x : A) (ys : List B) (y : B) → length ys ≡ length xs → length (ys ++ y ∷ []) ≡ length (xs ++ x ∷ [])
+one_more : {A B : Type 0} (xs : List A) (x : A) (ys : List B) (y : B) → length ys ≡ length xs
+    → length (ys ++ y ∷ []) ≡ length (xs ++ x ∷ [])
 one_more xs x ys y e = length-append ys (y ∷ []) ∙ ap (λ n. n + 1) e ∙ sym (length-append xs (x ∷ []))
 
 -- an entry more, where the limit allows one
@@ -254,7 +299,8 @@ unfolding alloc_expr storing.alloc_expr
 correct_alloc e source = record { holds = λ final ps b r. go final ps b (nat_lt (length b.stored.exprs.entries) b.stored.exprs.limit) }
   where
     go : (final : Stored) (ps : List Frame) (b : Builder) (t : Bool)
-        → Holds (Allocated e source) final ps b (made_expr t e source b.stored.exprs).0 (record b { stored = record b.stored { exprs = (made_expr t e source b.stored.exprs).1 } })
+        → Holds (Allocated e source) final ps b (made_expr t e source b.stored.exprs).0
+        (record b { stored = record b.stored { exprs = (made_expr t e source b.stored.exprs).1 } })
     go final ps b true =
         let s = b.stored in
         let xs = s.exprs.entries in
@@ -291,7 +337,8 @@ abbrev pub with_label : Label → Stored → Stored
 with_label l s = record s { labels = with_entry label_id s.labels (record { name = l.name }) (Some l.pointer) }
 
 -- Around the label, in the frame that it makes, and after it is closed.
-pub record Opened {A B : Type 0} (at : Label → LabelId → Frame) (l : Label) (R : LabelId → Rel A) (Q : LabelId → A → Rel B) (final : Stored) (ps : List Frame) (m m' : Mark) (b : B) : Type 0 where
+pub record Opened {A B : Type 0} (at : Label → LabelId → Frame) (l : Label) (R : LabelId → Rel A) (Q : LabelId → A → Rel B)
+    (final : Stored) (ps : List Frame) (m m' : Mark) (b : B) : Type 0 where
   pub number : LabelId
   pub entered : Mark
   pub left : Mark
@@ -318,8 +365,10 @@ record Opening (l : Label) (b : Builder) (n : LabelId) (b' : Builder) : Type 0 w
   labels : length b'.stored.labels.entries ≡ suc (length b.stored.labels.entries)
   nodes : length b'.stored.exprs.entries ≡ length b.stored.exprs.entries
   stored : b'.stored ≡ with_label l b.stored
-  here : (final : Stored) → Extends b'.stored final → slice_get final.labels.entries (length b.stored.labels.entries) ≡ Some (record { name = l.name })
-  from : Paired b.stored → (final : Stored) → Extends b'.stored final → slice_get final.labels.sources (length b.stored.labels.entries) ≡ Some (Some l.pointer)
+  here : (final : Stored) → Extends b'.stored final
+      → slice_get final.labels.entries (length b.stored.labels.entries) ≡ Some (record { name = l.name })
+  from : Paired b.stored → (final : Stored) → Extends b'.stored final
+      → slice_get final.labels.sources (length b.stored.labels.entries) ≡ Some (Some l.pointer)
 
 abbrev Opens : Label → Builder → Checked LabelId → Builder → Type 0
 Opens l b (Ok n) b' = Opening l b n b'
@@ -364,17 +413,23 @@ opens l b = go (nat_lt (length b.stored.labels.entries) b.stored.labels.limit)
         }
     go false = extends_refl b.stored
 
-pub correct_opened : {A B : Type 0} (at : Label → LabelId → Frame) (l : Label) {p : LabelId → Lowering A} {R : LabelId → Rel A} {f : LabelId → A → Lowering B} {Q : LabelId → A → Rel B}
+pub correct_opened : {A B : Type 0} (at : Label → LabelId → Frame) (l : Label)
+    {p : LabelId → Lowering A} {R : LabelId → Rel A} {f : LabelId → A → Lowering B} {Q : LabelId → A → Rel B}
     → ((n : LabelId) (ps : List Frame) → ribs (at l n ∷ ps) ≡ rib l n ∷ ribs ps)
     → ((n : LabelId) → Correct (p n) (R n)) → ((n : LabelId) (a : A) → Correct (f n a) (Q n a))
     → Correct (open_label l >>= (λ n. p n >>= (λ a. close >>= (λ _. f n a)))) (Opened at l R Q)
 unfolding close
-correct_opened {A = A} {B = B} at l {p = p} {R = R} {f = f} {Q = Q} frame hp hf = record { holds = λ final ps b r. first final ps b r (open_label l b).0 (open_label l b).1 (opens l b) }
+correct_opened {A = A} {B = B} at l {p = p} {R = R} {f = f} {Q = Q} frame hp hf =
+    record { holds = λ final ps b r. first final ps b r (open_label l b).0 (open_label l b).1 (opens l b) }
   where
     closed : Builder → Builder
     closed b = record b { scopes = rest b.scopes }
 
-    third : (final : Stored) (ps : List Frame) (b b1 b2 : Builder) (n : LabelId) (a : A) → Opening l b n b1 → Answers (R n) final (at l n ∷ ps) b1 b2 a
+    inside : LabelId → Lowering B
+    inside n = p n >>= (λ a t. f n a (closed t))
+
+    third : (final : Stored) (ps : List Frame) (b b1 b2 : Builder) (n : LabelId) (a : A) → Opening l b n b1
+        → Answers (R n) final (at l n ∷ ps) b1 b2 a
         → (o : Checked B) (c : Builder) → Holds (Q n a) final ps (closed b2) o c → Holds (Opened at l R Q) final ps b o c
     third final ps b b1 b2 n a h x (Ok e) c y = record {
       kept = record {
@@ -383,7 +438,12 @@ correct_opened {A = A} {B = B} at l {p = p} {R = R} {f = f} {Q = Q} frame hp hf 
         paired = λ d. y.kept.paired (x.kept.paired (h.paired d));
         stays = extends_trans h.stays (extends_trans x.kept.stays y.kept.stays);
       };
-      grows = let g = x.grows in let g' = y.grows in let e' = h.labels in let e'' = h.nodes in record { nodes = omega arith; labels = omega arith };
+      grows =
+          let g = x.grows in
+          let g' = y.grows in
+          let e' = h.labels in
+          let e'' = h.nodes in
+          record { nodes = omega arith; labels = omega arith };
       in_final = λ d pre.
           let past : Extends b2.stored final = extends_trans y.kept.stays pre in
           let open' : Extends b1.stored final = extends_trans x.kept.stays past in
@@ -407,15 +467,19 @@ correct_opened {A = A} {B = B} at l {p = p} {R = R} {f = f} {Q = Q} frame hp hf 
     }
     third final ps b b1 b2 n a h x (Err e) c y = extends_trans h.stays (extends_trans x.kept.stays y)
 
-    second : (final : Stored) (ps : List Frame) (b b1 : Builder) (n : LabelId) → b.scopes ≡ ribs ps → Opening l b n b1 → (o : Checked A) (c : Builder) → Holds (R n) final (at l n ∷ ps) b1 o c
+    second : (final : Stored) (ps : List Frame) (b b1 : Builder) (n : LabelId) → b.scopes ≡ ribs ps → Opening l b n b1
+        → (o : Checked A) (c : Builder) → Holds (R n) final (at l n ∷ ps) b1 o c
         → Holds (Opened at l R Q) final ps b (go_on o c (λ a t. f n a (closed t))).0 (go_on o c (λ a t. f n a (closed t))).1
     second final ps b b1 n r h (Ok a) c x =
-        third final ps b b1 c n a h x (f n a (closed c)).0 (f n a (closed c)).1 ((hf n a).holds final ps (closed c) (ap rest (x.kept.scopes ∙ h.scopes) ∙ r))
+        let out : (closed c).scopes ≡ ribs ps = ap rest (x.kept.scopes ∙ h.scopes) ∙ r in
+        third final ps b b1 c n a h x (f n a (closed c)).0 (f n a (closed c)).1 ((hf n a).holds final ps (closed c) out)
     second final ps b b1 n r h (Err e) c x = extends_trans h.stays x
 
     first : (final : Stored) (ps : List Frame) (b : Builder) → b.scopes ≡ ribs ps → (o : Checked LabelId) (c : Builder) → Opens l b o c
-        → Holds (Opened at l R Q) final ps b (go_on o c (λ n. p n >>= (λ a t. f n a (closed t)))).0 (go_on o c (λ n. p n >>= (λ a t. f n a (closed t)))).1
-    first final ps b r (Ok n) c h = second final ps b c n r h (p n c).0 (p n c).1 ((hp n).holds final (at l n ∷ ps) c (h.scopes ∙ (ap (λ rs. rib l n ∷ rs) r ∙ sym (frame n ps))))
+        → Holds (Opened at l R Q) final ps b (go_on o c inside).0 (go_on o c inside).1
+    first final ps b r (Ok n) c h =
+        let in' : c.scopes ≡ ribs (at l n ∷ ps) = h.scopes ∙ (ap (λ rs. rib l n ∷ rs) r ∙ sym (frame n ps)) in
+        second final ps b c n r h (p n c).0 (p n c).1 ((hp n).holds final (at l n ∷ ps) c in')
     first final ps b r (Err e) c h = h
 
 -- ---- jumps
@@ -447,19 +511,30 @@ correct_target None = record {
 }
 correct_target (Some j) = record { holds = λ final ps b r. go final ps b (target j b.scopes) (ap (λ rs. target j rs) r) }
   where
-    go : (final : Stored) (ps : List Frame) (b : Builder) (o : Target LabelId) → o ≡ target j (ribs ps) → Holds (Targeted (Some j)) final ps b (found_or_fault j o b).0 (found_or_fault j o b).1
+    go : (final : Stored) (ps : List Frame) (b : Builder) (o : Target LabelId) → o ≡ target j (ribs ps)
+        → Holds (Targeted (Some j)) final ps b (found_or_fault j o b).0 (found_or_fault j o b).1
     go final ps b (found n) e = record {
       kept = record { scopes = refl; roots = refl; paired = λ d. d; stays = extends_refl b.stored };
       grows = grows_refl (mark b);
       in_final = λ d pre. record { is = ap number_found e; nodes = refl; labels = refl; stored = ap (λ t. with_target j t b.stored) e };
     }
     go final ps b unreachable e = record {
-      kept = record { scopes = refl; roots = refl; paired = λ d. record { exprs = d.exprs; labels = d.labels }; stays = extends_report b.stored (UnreachableLabel j.pointer j.name) };
+      kept = record {
+        scopes = refl;
+        roots = refl;
+        paired = λ d. record { exprs = d.exprs; labels = d.labels };
+        stays = extends_report b.stored (UnreachableLabel j.pointer j.name);
+      };
       grows = record { nodes = omega arith; labels = omega arith };
       in_final = λ d pre. record { is = ap number_found e; nodes = refl; labels = refl; stored = ap (λ t. with_target j t b.stored) e };
     }
     go final ps b undeclared e = record {
-      kept = record { scopes = refl; roots = refl; paired = λ d. record { exprs = d.exprs; labels = d.labels }; stays = extends_report b.stored (UndeclaredLabel j.pointer j.name) };
+      kept = record {
+        scopes = refl;
+        roots = refl;
+        paired = λ d. record { exprs = d.exprs; labels = d.labels };
+        stays = extends_report b.stored (UndeclaredLabel j.pointer j.name);
+      };
       grows = record { nodes = omega arith; labels = omega arith };
       in_final = λ d pre. record { is = ap number_found e; nodes = refl; labels = refl; stored = ap (λ t. with_target j t b.stored) e };
     }
