@@ -2,7 +2,7 @@
 use Rattle.std.specs.Prelude.{◌≡◌, ℕ, suc, ◌==◌, ◌+◌, Bool, true, false, ◌&&◌, List, [], ◌∷◌, Option, Some, None, is_some, length, Result, Ok, Err}
 use Rattle.serde_json.specs.Data.{Data, Items, no_items, item}
 use Rattle.serde_json.specs.Find.{get, get_item, as_array}
-use Rattle.json_faults.specs.Values.{count, small_of}
+use Rattle.json_faults.specs.Values.{count, small_of, is_decision}
 use Rattle.json_faults.specs.Nodes.{◌>>=◌, wanted}
 use Rattle.json_faults.specs.Faults.{Fault, fault_of}
 use Rattle.json_faults.specs.Faults as fault
@@ -14,6 +14,7 @@ use Rattle.json_faults.specs.declared.table.Cell.TheVariants as cell
 -- a value suits a place
 abbrev pub suits : Cell → Data → Bool
 suits cell.Small d = is_some (small_of d)
+suits cell.Decision d = is_decision d
 
 abbrev pub cell_in : Cell → Option Data → Bool
 cell_in c None = false

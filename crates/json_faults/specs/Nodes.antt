@@ -16,6 +16,7 @@ use Rattle.json_kinds.specs.declared.field.Sort.{Sort}
 use Rattle.json_kinds.specs.declared.field.Sort.TheVariants as sort
 use Rattle.json_kinds.specs.declared.kind.Kind.{Kind}
 use Rattle.json_kinds.specs.declared.group.Group.{Group}
+use Rattle.json_kinds.specs.declared.group.Group.TheVariants as group
 use Rattle.json_faults.specs.declared.place.Place.{Place}
 
 -- one after the other, up to the first fault
@@ -56,9 +57,15 @@ literal_sort true b = sort.Integer
 literal_sort false true = sort.Truth
 literal_sort false false = sort.Text
 
+-- a modifier excludes a label
+abbrev label_sort : Option Data → Sort
+label_sort None = sort.Part group.Label
+label_sort (Some d) = sort.Excluded
+
 -- what a field holds, in the light of the others
 abbrev pub sort_at : Data → Sort → Sort
 sort_at d sort.LiteralText = literal_sort (says (codes "lit") (codes "int") d) (says (codes "lit") (codes "bool") d)
+sort_at d sort.PlainLabel = label_sort (get (codes "mod") d)
 sort_at d s = s
 
 -- a field of the sort must be there

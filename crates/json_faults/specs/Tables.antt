@@ -19,6 +19,7 @@ n ∶ cs = record { name = n; cells = cs }
 -- the tables, in order
 abbrev pub tables : List Table
 tables = (codes "disabled" ∶ (cell.Small ∷ cell.Small ∷ cell.Small ∷ []))
+    ∷ (codes "preds" ∶ (cell.Small ∷ cell.Decision ∷ []))
     ∷ (codes "hygiene" ∶ (cell.Small ∷ cell.Small ∷ cell.Small ∷ []))
     ∷ (codes "blocks" ∶ (cell.Small ∷ cell.Small ∷ cell.Small ∷ cell.Small ∷ []))
     ∷ []

@@ -27,6 +27,12 @@ small (Some n) = if nat_lt n (2 ^ 32) then Some n else None
 abbrev pub small_of : Data → Option ℕ
 small_of d = small (index_of d)
 
+-- decided one way or the other, or undecided
+abbrev pub is_decision : Data → Bool
+is_decision (boolean b) = true
+is_decision null = true
+is_decision _ = false
+
 abbrev pub is_pair : Option Items → Bool
 is_pair (Some (item a (item b no_items))) = is_some (small_of a) && is_some (small_of b)
 is_pair _ = false

@@ -10,7 +10,7 @@ ghost use Rattle.json_faults.specs.Tables.{said};
 
 use crate::fault::Fault;
 use crate::table::{Cell, Table, tables};
-use crate::value::{item_at, small};
+use crate::value::{is_decision, item_at, small};
 use serde_json::Value;
 
 /// Whether a value suits a place.
@@ -19,6 +19,7 @@ fn suits(cell: Cell, value: &Value) -> bool
 {
     match cell {
         Cell::Small => small(value).is_some(),
+        Cell::Decision => is_decision(value),
     }
 }
 

@@ -58,12 +58,23 @@ fn literal_sort(node: &Value) -> Sort
     }
 }
 
+/// What the label of a block is, in the light of its modifier.
+fn label_sort(node: &Value) -> Sort
+    ensures { result ≡ spec.sort_at (view node.now) Sort.PlainLabel }
+{
+    match node.get("mod") {
+        Some(_) => Sort::Excluded,
+        None => Sort::Part(Group::Label),
+    }
+}
+
 /// What a field holds, in the light of the others.
 fn sort_at(node: &Value, sort: Sort) -> Sort
     ensures { result ≡ spec.sort_at (view node.now) sort }
 {
     match sort {
         Sort::LiteralText => literal_sort(node),
+        Sort::PlainLabel => label_sort(node),
         _ => sort,
     }
 }

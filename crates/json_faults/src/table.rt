@@ -8,6 +8,8 @@ ghost use Rattle.json_faults.specs.Tables.{said, tables};
 pub enum Cell {
     /// A number of 32 bits.
     Small,
+    /// `true` or `false`, or null.
+    Decision,
 }
 
 /// A table of an environment: its name, and what each entry holds.
@@ -25,6 +27,10 @@ pub fn tables() -> &'static [Table]
         Table {
             name: "disabled",
             cells: &[Cell::Small, Cell::Small, Cell::Small],
+        },
+        Table {
+            name: "preds",
+            cells: &[Cell::Small, Cell::Decision],
         },
         Table {
             name: "hygiene",

@@ -28,6 +28,13 @@ pub fn small(value: &Value) -> Option<u32>
     }
 }
 
+/// Whether the value is `true`, `false` or null.
+pub fn is_decision(value: &Value) -> bool
+    ensures { result ≡ spec.is_decision (view value.now) }
+{
+    matches!(value, Value::Bool(_) | Value::Null)
+}
+
 #[tactic(auto, using(crate::proofs::Pairs::too_short, crate::proofs::Pairs::too_long))]
 fn are_two(items: &[Value]) -> bool
     ensures { result ≡ is_pair (Some (items_view items.now)) }

@@ -39,8 +39,8 @@ row kind.IfExpr = record {
 row kind.BlockExpr = record {
   word = codes "BlockExpr";
   groups = group.Expr ∷ group.Block ∷ group.Else ∷ [];
-  fields = (codes "mod" ∶ sort.NotYet)
-      ∷ (codes "label" ∶ sort.Part group.Label)
+  fields = (codes "mod" ∶ sort.WordIfThere words.Modifiers)
+      ∷ (codes "label" ∶ sort.PlainLabel)
       ∷ (codes "move" ∶ sort.NotYet)
       ∷ (codes "ty" ∶ sort.NotYet)
       ∷ (codes "stmts" ∶ sort.List group.Stmt)
@@ -82,6 +82,87 @@ row kind.Literal = record {
   groups = group.Expr ∷ [];
   fields = (codes "lit" ∶ sort.Word words.Literals) ∷ (codes "t" ∶ sort.LiteralText) ∷ (codes "suffix" ∶ sort.TextIfThere) ∷ [];
 }
+row kind.MethodCallExpr = record {
+  word = codes "MethodCallExpr";
+  groups = group.Expr ∷ [];
+  fields = (codes "receiver" ∶ sort.Part group.Expr)
+      ∷ (codes "name" ∶ sort.Part group.Name)
+      ∷ (codes "generics" ∶ sort.NotYet)
+      ∷ (codes "args" ∶ sort.List group.Expr)
+      ∷ [];
+}
+row kind.FieldExpr = record {
+  word = codes "FieldExpr";
+  groups = group.Expr ∷ [];
+  fields = (codes "expr" ∶ sort.Part group.Expr) ∷ (codes "name" ∶ sort.Part group.Name) ∷ [];
+}
+row kind.PrefixExpr = record {
+  word = codes "PrefixExpr";
+  groups = group.Expr ∷ [];
+  fields = (codes "op" ∶ sort.WordIfThere words.UnaryOps) ∷ (codes "expr" ∶ sort.Part group.Expr) ∷ [];
+}
+row kind.BinExpr = record {
+  word = codes "BinExpr";
+  groups = group.Expr ∷ [];
+  fields = (codes "op" ∶ sort.WordIfThere words.BinaryOps)
+      ∷ (codes "lhs" ∶ sort.Part group.Expr)
+      ∷ (codes "rhs" ∶ sort.Part group.Expr)
+      ∷ [];
+}
+row kind.IndexExpr = record {
+  word = codes "IndexExpr";
+  groups = group.Expr ∷ [];
+  fields = (codes "base" ∶ sort.Part group.Expr) ∷ (codes "index" ∶ sort.Part group.Expr) ∷ [];
+}
+row kind.RefExpr = record {
+  word = codes "RefExpr";
+  groups = group.Expr ∷ [];
+  fields = (codes "raw" ∶ sort.Flag) ∷ (codes "mut" ∶ sort.Flag) ∷ (codes "expr" ∶ sort.Part group.Expr) ∷ [];
+}
+row kind.TupleExpr = record {
+  word = codes "TupleExpr";
+  groups = group.Expr ∷ [];
+  fields = (codes "leading_comma" ∶ sort.Flag) ∷ (codes "fields" ∶ sort.List group.Expr) ∷ [];
+}
+row kind.ArrayExpr = record {
+  word = codes "ArrayExpr";
+  groups = group.Expr ∷ [];
+  fields = (codes "semi" ∶ sort.NotYet) ∷ (codes "elems" ∶ sort.List group.Expr) ∷ [];
+}
+row kind.ReturnExpr = record {
+  word = codes "ReturnExpr";
+  groups = group.Expr ∷ [];
+  fields = (codes "expr" ∶ sort.Part group.Expr) ∷ [];
+}
+row kind.BecomeExpr = record {
+  word = codes "BecomeExpr";
+  groups = group.Expr ∷ [];
+  fields = (codes "expr" ∶ sort.Part group.Expr) ∷ [];
+}
+row kind.YieldExpr = record {
+  word = codes "YieldExpr";
+  groups = group.Expr ∷ [];
+  fields = (codes "expr" ∶ sort.Part group.Expr) ∷ [];
+}
+row kind.YeetExpr = record {
+  word = codes "YeetExpr";
+  groups = group.Expr ∷ [];
+  fields = (codes "expr" ∶ sort.Part group.Expr) ∷ [];
+}
+row kind.AwaitExpr = record {
+  word = codes "AwaitExpr";
+  groups = group.Expr ∷ [];
+  fields = (codes "expr" ∶ sort.Part group.Expr) ∷ [];
+}
+row kind.CfgPredExpr = record {
+  word = codes "CfgPredExpr";
+  groups = group.Expr ∷ [];
+  fields = (codes "pred" ∶ sort.Number) ∷ [];
+}
+row kind.UnderscoreExpr = record { word = codes "UnderscoreExpr"; groups = group.Expr ∷ []; fields = [] }
+row kind.IncludeBytesExpr = record { word = codes "IncludeBytesExpr"; groups = group.Expr ∷ []; fields = [] }
+row kind.AsmExpr = record { word = codes "AsmExpr"; groups = group.Expr ∷ []; fields = [] }
+row kind.FormatArgsExpr = record { word = codes "FormatArgsExpr"; groups = group.Expr ∷ []; fields = [] }
 row kind.ExprStmt = record {
   word = codes "ExprStmt";
   groups = group.Stmt ∷ [];
@@ -138,10 +219,20 @@ row kind.Fn = record {
       ∷ [];
 }
 
--- the kinds that serve as expressions
+-- the kinds that serve as expressions: those of the core
 abbrev pub exprs : List Kind
 exprs = kind.IfExpr ∷ kind.BlockExpr ∷ kind.LoopExpr ∷ kind.CallExpr ∷ kind.PathExpr
     ∷ kind.ContinueExpr ∷ kind.BreakExpr ∷ kind.ParenExpr ∷ kind.Literal ∷ []
+
+-- those that are made of operands
+abbrev pub operations : List Kind
+operations = kind.MethodCallExpr ∷ kind.FieldExpr ∷ kind.PrefixExpr ∷ kind.BinExpr ∷ kind.IndexExpr
+    ∷ kind.RefExpr ∷ kind.TupleExpr ∷ kind.ArrayExpr ∷ []
+
+-- those that a word of their own writes
+abbrev pub keywords : List Kind
+keywords = kind.ReturnExpr ∷ kind.BecomeExpr ∷ kind.YieldExpr ∷ kind.YeetExpr ∷ kind.AwaitExpr
+    ∷ kind.CfgPredExpr ∷ kind.UnderscoreExpr ∷ kind.IncludeBytesExpr ∷ kind.AsmExpr ∷ kind.FormatArgsExpr ∷ []
 
 -- all other kinds
 abbrev pub others : List Kind
@@ -157,4 +248,4 @@ or_else None o = o
 
 -- the kind with a word
 abbrev pub kind_of : List ℕ → Option Kind
-kind_of t = or_else (named exprs t) (named others t)
+kind_of t = or_else (named exprs t) (or_else (named operations t) (or_else (named keywords t) (named others t)))

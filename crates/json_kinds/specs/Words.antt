@@ -1,14 +1,27 @@
 -- The words that fields hold.
-use Rattle.std.specs.Prelude.{ℕ, List, [], ◌∷◌, codes}
+use Rattle.std.specs.Prelude.{ℕ, List, [], ◌∷◌, ◌++◌, map, codes}
 use Rattle.json_kinds.specs.declared.words.Words.{Words}
 use Rattle.json_kinds.specs.declared.words.Words.TheVariants as set
 
 abbrev literals : List (List ℕ)
 literals = codes "str" ∷ codes "bytestr" ∷ codes "cstr" ∷ codes "char" ∷ codes "bool" ∷ codes "int" ∷ codes "float" ∷ []
 
+abbrev comparisons : List (List ℕ)
+comparisons = codes "==" ∷ codes "!=" ∷ codes "<=" ∷ codes "<" ∷ codes ">=" ∷ codes ">" ∷ []
+
+abbrev ariths : List (List ℕ)
+ariths = codes "+" ∷ codes "*" ∷ codes "-" ∷ codes "/" ∷ codes "%" ∷ codes "<<" ∷ codes ">>" ∷ codes "^" ∷ codes "|" ∷ codes "&" ∷ []
+
+-- all but plain assignment, which isn't read yet
+abbrev binary_ops : List (List ℕ)
+binary_ops = codes "||" ∷ codes "&&" ∷ (comparisons ++ (ariths ++ map (λ w. w ++ codes "=") ariths))
+
 -- the words of a set
 abbrev pub words : Words → List (List ℕ)
 words set.Literals = literals
 words set.Segments = codes "name" ∷ []
+words set.Modifiers = codes "unsafe" ∷ []
+words set.UnaryOps = codes "*" ∷ codes "!" ∷ codes "-" ∷ []
+words set.BinaryOps = binary_ops
 words set.Owners = codes "fn" ∷ codes "static" ∷ codes "const" ∷ codes "variant" ∷ []
 words set.Containers = codes "module" ∷ codes "extern" ∷ codes "impl" ∷ codes "trait" ∷ []

@@ -22,6 +22,10 @@ pub enum Sort {
     Part(Group),
     List(Group),
     ListWithNulls(Group),
+    /// A label, which no modifier may stand beside.
+    PlainLabel,
+    /// No value: another field excludes this one.
+    Excluded,
     /// A text that fits the kind of the literal, and has to be there.
     LiteralText,
     /// A text of digits, of a number of 128 bits, which has to be there.

@@ -6,8 +6,8 @@ ghost use Rattle.json_kinds.specs.Table as spec;
 
 use crate::field::Field;
 use crate::field::Sort::{
-    Flag, List, ListWithNulls, LiteralText, NotYet, Part, PlainText, Text, TextIfThere, Word,
-    WordIfThere,
+    Flag, List, ListWithNulls, LiteralText, NotYet, Number, Part, PlainLabel, PlainText, Text,
+    TextIfThere, Word, WordIfThere,
 };
 use crate::group::Group;
 use crate::group::Group::{Block, Else, Expr, Fn, Label, Lifetime, Name, Path, Segment, Stmt};
@@ -19,7 +19,8 @@ macro_rules! kinds {
         $use! { $at;
             IfExpr [Expr Else] { "condition": Part(Expr), "then": Part(Block), "else": Part(Else) }
             BlockExpr [Expr Block Else] {
-                "mod": NotYet, "label": Part(Label), "move": NotYet, "ty": NotYet, "stmts": List(Stmt), "tail": Part(Expr)
+                "mod": WordIfThere(Words::Modifiers), "label": PlainLabel, "move": NotYet, "ty": NotYet,
+                "stmts": List(Stmt), "tail": Part(Expr)
             }
             LoopExpr [Expr] { "label": Part(Label), "body": Part(Block) }
             CallExpr [Expr] { "expr": Part(Expr), "args": List(Expr) }
@@ -28,6 +29,24 @@ macro_rules! kinds {
             BreakExpr [Expr] { "lifetime": Part(Lifetime), "expr": Part(Expr) }
             ParenExpr [Expr] { "expr": Part(Expr) }
             Literal [Expr] { "lit": Word(Words::Literals), "t": LiteralText, "suffix": TextIfThere }
+            MethodCallExpr [Expr] { "receiver": Part(Expr), "name": Part(Name), "generics": NotYet, "args": List(Expr) }
+            FieldExpr [Expr] { "expr": Part(Expr), "name": Part(Name) }
+            PrefixExpr [Expr] { "op": WordIfThere(Words::UnaryOps), "expr": Part(Expr) }
+            BinExpr [Expr] { "op": WordIfThere(Words::BinaryOps), "lhs": Part(Expr), "rhs": Part(Expr) }
+            IndexExpr [Expr] { "base": Part(Expr), "index": Part(Expr) }
+            RefExpr [Expr] { "raw": Flag, "mut": Flag, "expr": Part(Expr) }
+            TupleExpr [Expr] { "leading_comma": Flag, "fields": List(Expr) }
+            ArrayExpr [Expr] { "semi": NotYet, "elems": List(Expr) }
+            ReturnExpr [Expr] { "expr": Part(Expr) }
+            BecomeExpr [Expr] { "expr": Part(Expr) }
+            YieldExpr [Expr] { "expr": Part(Expr) }
+            YeetExpr [Expr] { "expr": Part(Expr) }
+            AwaitExpr [Expr] { "expr": Part(Expr) }
+            CfgPredExpr [Expr] { "pred": Number }
+            UnderscoreExpr [Expr] {  }
+            IncludeBytesExpr [Expr] {  }
+            AsmExpr [Expr] {  }
+            FormatArgsExpr [Expr] {  }
             ExprStmt [Stmt] { "expr": Part(Expr), "semi": Flag }
             Item [Stmt] {  }
             Path [Path] { "leading": NotYet, "in_macro": NotYet, "use": NotYet, "segs": ListWithNulls(Segment) }
@@ -74,6 +93,40 @@ fn exprs(word: &str) -> Option<Kind>
     }
 }
 
+fn operations(word: &str) -> Option<Kind>
+    ensures { result ≡ named spec.operations word.now }
+{
+    match word {
+        "MethodCallExpr" => Some(Kind::MethodCallExpr),
+        "FieldExpr" => Some(Kind::FieldExpr),
+        "PrefixExpr" => Some(Kind::PrefixExpr),
+        "BinExpr" => Some(Kind::BinExpr),
+        "IndexExpr" => Some(Kind::IndexExpr),
+        "RefExpr" => Some(Kind::RefExpr),
+        "TupleExpr" => Some(Kind::TupleExpr),
+        "ArrayExpr" => Some(Kind::ArrayExpr),
+        _ => None,
+    }
+}
+
+fn keywords(word: &str) -> Option<Kind>
+    ensures { result ≡ named spec.keywords word.now }
+{
+    match word {
+        "ReturnExpr" => Some(Kind::ReturnExpr),
+        "BecomeExpr" => Some(Kind::BecomeExpr),
+        "YieldExpr" => Some(Kind::YieldExpr),
+        "YeetExpr" => Some(Kind::YeetExpr),
+        "AwaitExpr" => Some(Kind::AwaitExpr),
+        "CfgPredExpr" => Some(Kind::CfgPredExpr),
+        "UnderscoreExpr" => Some(Kind::UnderscoreExpr),
+        "IncludeBytesExpr" => Some(Kind::IncludeBytesExpr),
+        "AsmExpr" => Some(Kind::AsmExpr),
+        "FormatArgsExpr" => Some(Kind::FormatArgsExpr),
+        _ => None,
+    }
+}
+
 fn others(word: &str) -> Option<Kind>
     ensures { result ≡ named spec.others word.now }
 {
@@ -96,6 +149,12 @@ impl Kind {
         ensures { result ≡ kind_of word.now }
     {
         if let Some(kind) = exprs(word) {
+            return Some(kind);
+        }
+        if let Some(kind) = operations(word) {
+            return Some(kind);
+        }
+        if let Some(kind) = keywords(word) {
             return Some(kind);
         }
         others(word)

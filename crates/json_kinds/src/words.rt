@@ -8,6 +8,9 @@ ghost use Rattle.json_kinds.specs.Words.{words};
 pub enum Words {
     Literals,
     Segments,
+    Modifiers,
+    UnaryOps,
+    BinaryOps,
     Owners,
     Containers,
 }
@@ -20,6 +23,12 @@ impl Words {
         match self {
             Words::Literals => &["str", "bytestr", "cstr", "char", "bool", "int", "float"],
             Words::Segments => &["name"],
+            Words::Modifiers => &["unsafe"],
+            Words::UnaryOps => &["*", "!", "-"],
+            Words::BinaryOps => &[
+                "||", "&&", "==", "!=", "<=", "<", ">=", ">", "+", "*", "-", "/", "%", "<<", ">>",
+                "^", "|", "&", "+=", "*=", "-=", "/=", "%=", "<<=", ">>=", "^=", "|=", "&=",
+            ],
             Words::Owners => &["fn", "static", "const", "variant"],
             Words::Containers => &["module", "extern", "impl", "trait"],
         }

@@ -2,7 +2,18 @@
 use Rattle.std.proofs.Common.{◌≡◌, ◌<◌, ◌≤◌, List, [], ◌∷◌, length, refl, arith, Some, None}
 use Rattle.serde_json.specs.View.{items_view}
 use Rattle.serde_json.specs.declared.value.Value.{Value}
-use Rattle.lower_json.specs.Tables.{triple_of, quadruple_of}
+use Rattle.lower_json.specs.Tables.{decided_of, triple_of, quadruple_of}
+
+pub under_two : (vs : List Value) → length vs < 2 → None ≡ decided_of (Some (items_view vs))
+under_two [] h = refl
+under_two (v ∷ []) h = refl
+under_two (v ∷ w ∷ vs) h = absurd (omega arith)
+
+pub over_two : (vs : List Value) → 3 ≤ length vs → None ≡ decided_of (Some (items_view vs))
+over_two [] h = absurd (omega arith)
+over_two (v ∷ []) h = absurd (omega arith)
+over_two (v ∷ w ∷ []) h = absurd (omega arith)
+over_two (v ∷ w ∷ x ∷ vs) h = refl
 
 pub under_three : (vs : List Value) → length vs < 3 → None ≡ triple_of (Some (items_view vs))
 under_three [] h = refl

@@ -1,12 +1,18 @@
 -- Expressions, by their kind.
-use Rattle.std.specs.Prelude.{codes, Option, Some, None, option_map}
+use Rattle.std.specs.Prelude.{codes, Option, Some, None, option_map, option_and_then}
+use Rattle.serde_json.specs.Data.{Data}
+use Rattle.serde_json.specs.Find.{get}
 use Rattle.hir_syntax.specs.declared.ast.ExprKind.{ExprKind}
 use Rattle.hir_syntax.specs.declared.ast.ExprKind.TheVariants as expr
+use Rattle.hir_syntax.specs.declared.node.PredId.{PredId}
+use Rattle.json_faults.specs.Values.{small_of}
 use Rattle.json_kinds.specs.declared.kind.Kind.{Kind}
 use Rattle.json_kinds.specs.declared.kind.Kind.TheVariants as kind
 use Rattle.lower_json.specs.Groups.{as_expr, as_block, as_else, as_path, as_label}
+use Rattle.lower_json.specs.Fields.{flag_of}
 use Rattle.lower_json.specs.Literals.{literal_of}
-use Rattle.lower_json.specs.Parts.{Here, part_in, list_if_there, lifetime_in}
+use Rattle.lower_json.specs.Operators.{unary_op_in, binary_op_in}
+use Rattle.lower_json.specs.Parts.{Here, part_in, list_in, list_if_there, lifetime_in, name_in}
 
 -- what steers the order of running
 unfoldable pub flow : Here → Kind → Option ExprKind
@@ -19,10 +25,50 @@ flow h kind.ContinueExpr = Some (expr.ContinueExpr (lifetime_in h (codes "lifeti
 flow h kind.BreakExpr = Some (expr.BreakExpr (lifetime_in h (codes "lifetime")) (part_in h as_expr (codes "expr")))
 flow h _ = None
 
--- all other expressions but blocks
+-- calls, paths, parentheses and literals
 unfoldable pub plain : Here → Kind → Option ExprKind
 plain h kind.CallExpr = Some (expr.CallExpr (part_in h as_expr (codes "expr")) (list_if_there h as_expr (codes "args")))
 plain h kind.PathExpr = Some (expr.PathExpr (part_in h as_path (codes "path")))
 plain h kind.ParenExpr = Some (expr.ParenExpr (part_in h as_expr (codes "expr")))
 plain h kind.Literal = option_map expr.Literal (literal_of h.value)
 plain h _ = None
+
+-- what is made of operands
+unfoldable pub operation : Here → Kind → Option ExprKind
+operation h kind.PrefixExpr = Some (expr.PrefixExpr (unary_op_in h.value) (part_in h as_expr (codes "expr")))
+operation h kind.BinExpr = Some (expr.BinExpr (binary_op_in h.value) (part_in h as_expr (codes "lhs")) (part_in h as_expr (codes "rhs")))
+operation h kind.IndexExpr = Some (expr.IndexExpr (part_in h as_expr (codes "base")) (part_in h as_expr (codes "index")))
+operation h kind.RefExpr =
+    Some (expr.RefExpr (flag_of (get (codes "raw") h.value)) (flag_of (get (codes "mut") h.value)) (part_in h as_expr (codes "expr")))
+operation h _ = None
+
+-- what names a member, or lists its elements
+unfoldable pub member : Here → Kind → Option ExprKind
+member h kind.MethodCallExpr =
+    Some (expr.MethodCallExpr (part_in h as_expr (codes "receiver")) (name_in h (codes "name")) (list_if_there h as_expr (codes "args")))
+member h kind.FieldExpr = Some (expr.FieldExpr (part_in h as_expr (codes "expr")) (name_in h (codes "name")))
+member h kind.TupleExpr = Some (expr.TupleExpr (flag_of (get (codes "leading_comma") h.value)) (list_in h as_expr (codes "fields")))
+member h kind.ArrayExpr = Some (expr.ArrayExpr (list_in h as_expr (codes "elems")))
+member h _ = None
+
+-- what leaves a body, or waits in it
+unfoldable pub leaving : Here → Kind → Option ExprKind
+leaving h kind.ReturnExpr = Some (expr.ReturnExpr (part_in h as_expr (codes "expr")))
+leaving h kind.BecomeExpr = Some (expr.BecomeExpr (part_in h as_expr (codes "expr")))
+leaving h kind.YieldExpr = Some (expr.YieldExpr (part_in h as_expr (codes "expr")))
+leaving h kind.YeetExpr = Some (expr.YeetExpr (part_in h as_expr (codes "expr")))
+leaving h kind.AwaitExpr = Some (expr.AwaitExpr (part_in h as_expr (codes "expr")))
+leaving h _ = None
+
+-- a predicate, by its number
+abbrev pub pred_in : Option Data → Option PredId
+pred_in d = option_map (λ n. record { 0 = n }) (option_and_then small_of d)
+
+-- what has no parts
+unfoldable pub partless : Data → Kind → Option ExprKind
+partless d kind.CfgPredExpr = Some (expr.CfgPredExpr (pred_in (get (codes "pred") d)))
+partless d kind.UnderscoreExpr = Some expr.UnderscoreExpr
+partless d kind.IncludeBytesExpr = Some expr.IncludeBytesExpr
+partless d kind.AsmExpr = Some expr.AsmExpr
+partless d kind.FormatArgsExpr = Some expr.FormatArgsExpr
+partless d _ = None

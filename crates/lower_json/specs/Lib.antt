@@ -1,6 +1,7 @@
 pub mod Words
 pub mod Fields
 pub mod Literals
+pub mod Operators
 pub mod Groups
 pub mod Parts
 pub mod Exprs

@@ -4,6 +4,8 @@ use Rattle.serde_json.specs.Find.{get}
 use Rattle.hir_syntax.specs.declared.ast.StmtKind.{StmtKind}
 use Rattle.hir_syntax.specs.declared.ast.StmtKind.TheVariants as stmt
 use Rattle.hir_syntax.specs.declared.ast.BlockExpr.{roll-BlockExpr}
+use Rattle.hir_syntax.specs.declared.ast.BlockModifier.{BlockModifier}
+use Rattle.hir_syntax.specs.declared.ast.BlockModifier.TheVariants as modifiers
 use Rattle.hir_syntax.specs.declared.ast.SegmentKind.{SegmentKind}
 use Rattle.hir_syntax.specs.declared.ast.SegmentKind.TheVariants as segment
 use Rattle.hir_syntax.specs.declared.ast.Fn.{Fn}
@@ -24,6 +26,10 @@ statement h _ = None
 abbrev pub segment_kind : List ℕ → Option SegmentKind
 segment_kind word = if bytes_eq word (codes "name") then Some segment.Name else None
 
+-- the modifier whose word it is, the only one that is read yet
+abbrev pub modifier : List ℕ → Option BlockModifier
+modifier word = if bytes_eq word (codes "unsafe") then Some modifiers.Unsafe else None
+
 abbrev pub lifetime : Here → Option AnyPart
 lifetime h = option_map (λ t. part.Lifetime (record { id = h.id; range = h.range; t = t })) (text_in (codes "t") h.value)
 
@@ -35,6 +41,7 @@ unfoldable pub other : Here → Kind → Option AnyPart
 other h kind.BlockExpr = Some (part.Block (roll-BlockExpr (record {
   id = h.id;
   range = h.range;
+  mod_ = option_and_then modifier (text_in (codes "mod") h.value);
   label = part_in h as_label (codes "label");
   stmts = list_in h as_stmt (codes "stmts");
   tail = part_in h as_expr (codes "tail");

@@ -8,17 +8,13 @@ use Rattle.hir_syntax.specs.declared.ast.Fn.{Fn}
 use Rattle.json_faults.specs.Kinds.{kind_at}
 use Rattle.json_kinds.specs.declared.kind.Kind.{Kind}
 use Rattle.json_kinds.specs.declared.kind.Kind.TheVariants as kind
-use Rattle.lower_json.specs.Exprs.{flow, plain}
+use Rattle.lower_json.specs.Exprs.{flow, plain, operation, member, leaving, partless}
 use Rattle.lower_json.specs.Fields.{number_or, range_of}
 use Rattle.lower_json.specs.Others.{statement, other, function}
 use Rattle.lower_json.specs.Parts.{Here}
+use Rattle.lower_json.specs.Words.{or_else}
 use Rattle.lower_json.specs.declared.part.AnyPart.{AnyPart}
 use Rattle.lower_json.specs.declared.part.AnyPart.TheVariants as part
-
--- the first of two, or else the second
-abbrev pub or_else : {T : Type 0} → Option T → Option T → Option T
-or_else (Some x) o = Some x
-or_else None o = o
 
 -- an `if` is told from other expressions, since it may follow `else`
 abbrev pub of_expr : Here → Kind → ExprKind → AnyPart
@@ -26,7 +22,8 @@ of_expr h kind.IfExpr x = part.If (record { id = h.id; range = h.range; kind = x
 of_expr h _ x = part.Expr (record { id = h.id; range = h.range; kind = x })
 
 abbrev pub expr_kind : Here → Kind → Option ExprKind
-expr_kind h k = or_else (flow h k) (plain h k)
+expr_kind h k =
+    or_else (flow h k) (or_else (plain h k) (or_else (operation h k) (or_else (member h k) (or_else (leaving h k) (partless h.value k)))))
 
 abbrev pub of_stmt : Here → StmtKind → AnyPart
 of_stmt h x = part.Stmt (record { id = h.id; range = h.range; kind = x })

@@ -1,4 +1,4 @@
-//! Expressions, by their kind.
+//! Expressions of the core, by their kind.
 
 ghost use Rattle.std.specs.Prelude.{◌≡◌, IfOk};
 ghost use Rattle.lower_json.specs.Exprs as spec;
@@ -37,7 +37,7 @@ pub fn flow<P: ReadParts>(node: &Node<'_, P>, kind: Kind) -> Result<Option<ExprK
     }
 }
 
-/// All other expressions but blocks.
+/// Calls, paths, parentheses and literals.
 #[tactic(auto, unfolding(crate::specs::Exprs::plain))]
 pub fn plain<P: ReadParts>(node: &Node<'_, P>, kind: Kind) -> Result<Option<ExprKind>, AllocError>
     requires { P.can node.now.parts.now }

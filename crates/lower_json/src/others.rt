@@ -11,7 +11,7 @@ use crate::node::{Node, ReadParts};
 use crate::part::AnyPart;
 use hir_syntax::Text;
 use hir_syntax::ast::{
-    BlockExpr, Expr, Fn, Label, Lifetime, Name, Path, PathSegment, SegmentKind, Stmt, StmtKind,
+    BlockExpr, BlockModifier, Expr, Fn, Label, Lifetime, Name, Path, PathSegment, SegmentKind, Stmt, StmtKind,
 };
 use json_kinds::kind::Kind;
 use serde_json::Value;
@@ -40,6 +40,15 @@ fn segment_kind(node: &Value) -> Option<SegmentKind>
 {
     match text(node, "seg") {
         Some("name") => Some(SegmentKind::Name),
+        _ => None,
+    }
+}
+
+fn modifier(node: &Value) -> Option<BlockModifier>
+    ensures { result ≡ option_and_then spec.modifier (text_in (codes "mod") (view node.now)) }
+{
+    match text(node, "mod") {
+        Some("unsafe") => Some(BlockModifier::Unsafe),
         _ => None,
     }
 }
@@ -90,6 +99,7 @@ pub fn other<P: ReadParts>(node: &Node<'_, P>, kind: Kind) -> Result<Option<AnyP
         Kind::BlockExpr => Ok(Some(AnyPart::Block(BlockExpr {
             id: node.id,
             range: node.range,
+            mod_: modifier(node.value),
             label: node.part::<Label>("label")?,
             stmts: node.list::<Stmt>("stmts")?,
             tail: node.boxed::<Expr>("tail")?,

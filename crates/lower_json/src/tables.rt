@@ -5,11 +5,11 @@ ghost use Rattle.serde_json.specs.View.{view, items_view};
 ghost use Rattle.serde_json.specs.Find.{as_array, get};
 ghost use Rattle.json_faults.specs.Values.{small_of};
 ghost use Rattle.lower_json.specs.Tables.{site_of, triple_of, quadruple_of, both, disabled_of, named_of, numbered_of};
-ghost use Rattle.lower_json.specs.Tables.{with_all, rows, with_tables, tables_of};
+ghost use Rattle.lower_json.specs.Tables.{decision_of, decided_of, with_preds, with_all, rows, with_tables, tables_of};
 
 use hir_env::table::TableEnv;
 use hir_store::ids::{BlockId, CfgId, HygieneId, ItemContainerId, ModuleId};
-use hir_syntax::node::{HirFileId, InFile, NodeId};
+use hir_syntax::node::{HirFileId, InFile, NodeId, PredId};
 use json_faults::value::small;
 use serde_json::Value;
 use std::alloc::{AllocError, Global};
@@ -70,6 +70,32 @@ fn numbered(entry: &Value) -> Option<(InFile<NodeId>, (BlockId, ModuleId))>
     Some((node, (BlockId(block), ModuleId(inside))))
 }
 
+fn decision(value: &Value) -> Option<Option<bool>>
+    ensures { result ≡ decision_of (view value.now) }
+{
+    match value {
+        Value::Bool(holds) => Some(Some(*holds)),
+        Value::Null => Some(None),
+        _ => None,
+    }
+}
+
+#[tactic(auto, using(crate::proofs::Tuples::under_two, crate::proofs::Tuples::over_two))]
+fn pair(items: &[Value]) -> Option<(PredId, Option<bool>)>
+    ensures { result ≡ decided_of (Some (items_view items.now)) }
+{
+    match items {
+        [pred, holds] => Some((PredId(small(pred)?), decision(holds)?)),
+        _ => None,
+    }
+}
+
+fn decided(entry: &Value) -> Option<(PredId, Option<bool>)>
+    ensures { result ≡ decided_of (as_array (view entry.now)) }
+{
+    pair(entry.as_array()?.as_slice())
+}
+
 fn disable_all(tables: &mut TableEnv, entries: &[Value]) -> Result<(), AllocError>
     ensures entries { OnOk result (tables.new.disabled ≡ with_all disabled_of (items_view entries.now) tables.old.disabled) }
     ensures others { OnOk result (tables.new ≡ record tables.old { disabled = tables.new.disabled }) }
@@ -77,6 +103,18 @@ fn disable_all(tables: &mut TableEnv, entries: &[Value]) -> Result<(), AllocErro
     for entry in entries {
         if let Some((node, by)) = disabled(entry) {
             tables.disable(node, by)?;
+        }
+    }
+    Ok(())
+}
+
+fn decide_all(tables: &mut TableEnv, entries: &[Value]) -> Result<(), AllocError>
+    ensures entries { OnOk result (tables.new.preds ≡ with_preds (items_view entries.now) tables.old.preds) }
+    ensures others { OnOk result (tables.new ≡ record tables.old { preds = tables.new.preds }) }
+{
+    for entry in entries {
+        if let Some((pred, holds)) = decided(entry) {
+            tables.decide(pred, holds)?;
         }
     }
     Ok(())
@@ -123,6 +161,7 @@ fn fill(tables: &mut TableEnv, env: &Value) -> Result<(), AllocError>
     ensures { OnOk result (tables.new ≡ with_tables (view env.now) tables.old) }
 {
     disable_all(tables, entries_of(env, "disabled"))?;
+    decide_all(tables, entries_of(env, "preds"))?;
     name_all(tables, entries_of(env, "hygiene"))?;
     number_all(tables, entries_of(env, "blocks"))
 }

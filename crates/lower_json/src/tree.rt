@@ -10,9 +10,13 @@ ghost use Rattle.lower_json.specs.Reading.{of_kind, expr_kind, node_at, tree_at}
 
 use crate::exprs::{flow, plain};
 use crate::field::{number_or, range};
+use crate::leaving::leaving;
+use crate::members::member;
 use crate::node::{Node, ReadParts};
+use crate::operations::operation;
 use crate::others::{function, other, statement};
 use crate::part::AnyPart;
+use crate::partless::partless;
 use hir_syntax::ast::{Expr, ExprKind, Fn as Function, Stmt};
 use hir_syntax::node::NodeId;
 use json_faults::kinds::kind_at;
@@ -50,10 +54,22 @@ fn expr_kind<P: ReadParts>(node: &Node<'_, P>, kind: Kind) -> Result<Option<Expr
     requires { P.can node.now.parts.now }
     ensures { IfOk result (λ expr. expr ≡ expr_kind (here P.parts node.now) kind) }
 {
-    match flow(node, kind)? {
-        Some(expr) => Ok(Some(expr)),
-        None => plain(node, kind),
+    if let Some(expr) = flow(node, kind)? {
+        return Ok(Some(expr));
     }
+    if let Some(expr) = plain(node, kind)? {
+        return Ok(Some(expr));
+    }
+    if let Some(expr) = operation(node, kind)? {
+        return Ok(Some(expr));
+    }
+    if let Some(expr) = member(node, kind)? {
+        return Ok(Some(expr));
+    }
+    if let Some(expr) = leaving(node, kind)? {
+        return Ok(Some(expr));
+    }
+    Ok(partless(node.value, kind))
 }
 
 /// The expression of a kind. An `if` is told from others, since it may follow `else`.

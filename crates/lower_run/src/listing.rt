@@ -4,6 +4,7 @@ mod lines;
 mod numbering;
 mod printer;
 mod waiting;
+mod words;
 mod writer;
 
 use hir_store::source_map::ExpressionStoreSourceMap;

@@ -1,7 +1,8 @@
 //! The lines after the body.
 
+use super::words::{await_word, missing_body_word};
 use super::writer::Writer;
-use hir_store::diagnostics::{ExpressionStoreDiagnostics, MissingBodyItemKind};
+use hir_store::diagnostics::ExpressionStoreDiagnostics;
 use hir_store::ids::LabelId;
 use hir_store::source_map::ExpressionStoreSourceMap;
 use hir_store::store::ExpressionStore;
@@ -51,15 +52,12 @@ fn detail(writer: &mut Writer, fault: &ExpressionStoreDiagnostics) -> Result<(),
             "diag UndeclaredLabel ",
             name,
         ),
-        ExpressionStoreDiagnostics::MissingBody { kind, .. } => writer.word(missing_body(*kind)),
-    }
-}
-
-fn missing_body(kind: MissingBodyItemKind) -> &'static str {
-    match kind {
-        MissingBodyItemKind::Static => "diag MissingBody Static",
-        MissingBodyItemKind::Const => "diag MissingBody Const",
-        MissingBodyItemKind::AssocConst => "diag MissingBody AssocConst",
+        ExpressionStoreDiagnostics::AwaitOutsideOfAsync { location, .. } => writer.word(
+            await_word(*location),
+        ),
+        ExpressionStoreDiagnostics::MissingBody { kind, .. } => writer.word(
+            missing_body_word(*kind),
+        ),
     }
 }
 
@@ -68,6 +66,7 @@ fn node(fault: &ExpressionStoreDiagnostics) -> InFile<AstPtr> {
         ExpressionStoreDiagnostics::InactiveCode { node, .. } => *node,
         ExpressionStoreDiagnostics::UnreachableLabel { node, .. } => *node,
         ExpressionStoreDiagnostics::UndeclaredLabel { node, .. } => *node,
+        ExpressionStoreDiagnostics::AwaitOutsideOfAsync { node, .. } => *node,
         ExpressionStoreDiagnostics::MissingBody { node, .. } => *node,
     }
 }

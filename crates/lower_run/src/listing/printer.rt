@@ -2,7 +2,8 @@
 
 use super::lines;
 use super::numbering::Numbering;
-use super::waiting::{Piece, Waiting, expr_word, statement_word};
+use super::waiting::{Piece, Waiting};
+use super::words::{expr_word, statement_word};
 use super::writer::Writer;
 use hir_store::hir::Statement;
 use hir_store::ids::{ExprId, LabelId};
@@ -110,6 +111,7 @@ impl<'a> Printer<'a> {
             Piece::MoreStatements(statements) => self.statements(" ", statements, "]"),
             Piece::Label(id) => self.label(id),
             Piece::Block(id) => self.writer.numbered("b", id.0),
+            Piece::Name(name) => self.writer.name(name),
             Piece::Path(path, hygiene) => self.writer.path(path, hygiene),
             Piece::Literal(literal) => self.writer.literal(literal),
         }

@@ -1,7 +1,11 @@
 //! What is still to be printed, and the order in which the parts of a form are.
 
-use hir_store::hir::{Expr, Literal, LoopSource, Statement};
+use super::words::{
+    binary_word, loop_word, mutability_word, rawness_word, unary_word, unsafe_word,
+};
+use hir_store::hir::{Expr, Literal, Statement};
 use hir_store::ids::{BlockId, ExprId, HygieneId, LabelId};
+use hir_store::name::Name;
 use hir_store::path::Path;
 use std::alloc::{AllocError, Global};
 
@@ -20,6 +24,7 @@ pub enum Piece<'a> {
     MoreStatements(&'a [Statement]),
     Label(LabelId),
     Block(BlockId),
+    Name(&'a Name),
     Path(&'a Path, HygieneId),
     Literal(&'a Literal),
 }
@@ -74,8 +79,34 @@ impl<'a> Waiting<'a> {
     /// Lets the parts of an expression wait, and the bracket after them.
     pub fn push_expr_parts(&mut self, expr: &'a Expr) -> Result<(), AllocError> {
         match expr {
-            Expr::Missing => self.push_parts(&[]),
+            Expr::Missing | Expr::Underscore | Expr::IncludeBytes => self.push_parts(&[]),
             Expr::Path { path, hygiene } => self.push_parts(&[Piece::Path(path, *hygiene)]),
+            Expr::Literal(literal) => self.push_parts(&[Piece::Literal(literal)]),
+            Expr::Become { expr } | Expr::Await { expr } => self.push_parts(&[Piece::Expr(*expr)]),
+            Expr::Return { expr } | Expr::Yield { expr } | Expr::Yeet { expr } => self.push_parts(
+                &[expr_or_absent(*expr)],
+            ),
+            Expr::Tuple { exprs: elements } | Expr::Array { elements } => self.push_parts(&[
+                Piece::Exprs(elements.as_slice()),
+            ]),
+            Expr::If { .. }
+            | Expr::Block { .. }
+            | Expr::Loop { .. }
+            | Expr::Continue { .. }
+            | Expr::Break { .. } => self.push_flow_parts(expr),
+            Expr::Call { .. }
+            | Expr::MethodCall { .. }
+            | Expr::Field { .. }
+            | Expr::UnaryOp { .. }
+            | Expr::BinaryOp { .. }
+            | Expr::Index { .. }
+            | Expr::Ref { .. } => self.push_operation_parts(expr),
+        }
+    }
+
+    /// The same of what steers the order of running.
+    fn push_flow_parts(&mut self, expr: &'a Expr) -> Result<(), AllocError> {
+        match expr {
             Expr::If {
                 condition,
                 then_branch,
@@ -86,12 +117,13 @@ impl<'a> Waiting<'a> {
                 expr_or_absent(*else_branch),
             ]),
             Expr::Block {
+                is_unsafe,
                 label,
                 id,
                 statements,
                 tail,
             } => self.push_parts(&[
-                ABSENT,
+                Piece::Word(unsafe_word(*is_unsafe)),
                 label_or_absent(*label),
                 block_or_absent(*id),
                 Piece::Statements(statements.as_slice()),
@@ -106,16 +138,59 @@ impl<'a> Waiting<'a> {
                 label_or_absent(*label),
                 Piece::Word(loop_word(*source)),
             ]),
-            Expr::Call { callee, args } => self.push_parts(&[
-                Piece::Expr(*callee),
-                Piece::Exprs(args.as_slice()),
-            ]),
             Expr::Continue { label } => self.push_parts(&[label_or_absent(*label)]),
             Expr::Break { label, expr } => self.push_parts(&[
                 label_or_absent(*label),
                 expr_or_absent(*expr),
             ]),
-            Expr::Literal(literal) => self.push_parts(&[Piece::Literal(literal)]),
+            _ => self.push_parts(&[]),
+        }
+    }
+
+    /// The same of what is made of operands.
+    fn push_operation_parts(&mut self, expr: &'a Expr) -> Result<(), AllocError> {
+        match expr {
+            Expr::Call { callee, args } => self.push_parts(&[
+                Piece::Expr(*callee),
+                Piece::Exprs(args.as_slice()),
+            ]),
+            Expr::MethodCall {
+                receiver,
+                method_name,
+                args,
+            } => self.push_parts(&[
+                Piece::Expr(*receiver),
+                Piece::Name(method_name),
+                ABSENT,
+                Piece::Exprs(args.as_slice()),
+            ]),
+            Expr::Field { expr, name } => self.push_parts(&[
+                Piece::Expr(*expr),
+                Piece::Name(name),
+            ]),
+            Expr::UnaryOp { op, expr } => self.push_parts(&[
+                Piece::Word(unary_word(*op)),
+                Piece::Expr(*expr),
+            ]),
+            Expr::BinaryOp { op, lhs, rhs } => self.push_parts(&[
+                Piece::Word(binary_word(*op)),
+                Piece::Expr(*lhs),
+                Piece::Expr(*rhs),
+            ]),
+            Expr::Index { base, index } => self.push_parts(&[
+                Piece::Expr(*base),
+                Piece::Expr(*index),
+            ]),
+            Expr::Ref {
+                rawness,
+                mutability,
+                expr,
+            } => self.push_parts(&[
+                Piece::Word(rawness_word(*rawness)),
+                Piece::Word(mutability_word(*mutability)),
+                Piece::Expr(*expr),
+            ]),
+            _ => self.push_parts(&[]),
         }
     }
 
@@ -135,35 +210,5 @@ impl<'a> Waiting<'a> {
             self.push(Piece::Word(" "))?;
         }
         Ok(())
-    }
-}
-
-fn loop_word(source: LoopSource) -> &'static str {
-    match source {
-        LoopSource::Loop => "loop",
-    }
-}
-
-/// The kind that an expression begins with.
-pub fn expr_word(expr: &Expr) -> &'static str {
-    match expr {
-        Expr::Missing => "Missing",
-        Expr::Path { .. } => "Path",
-        Expr::If { .. } => "If",
-        Expr::Block { .. } => "Block",
-        Expr::Loop { .. } => "Loop",
-        Expr::Call { .. } => "Call",
-        Expr::Continue { .. } => "Continue",
-        Expr::Break { .. } => "Break",
-        Expr::Literal(_) => "Literal",
-    }
-}
-
-/// The kind that a statement begins with: with a semicolon, without one, or an item.
-pub fn statement_word(statement: &Statement) -> &'static str {
-    match statement {
-        Statement::Expr { has_semi: true, .. } => "Semi",
-        Statement::Expr { .. } => "Expr",
-        Statement::Item => "Item",
     }
 }

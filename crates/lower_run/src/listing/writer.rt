@@ -76,7 +76,7 @@ impl Writer {
     }
 
     /// Adds a name: its text, `?` for the missing one, `$k` for the k-th generated one by first printing.
-    fn name(&mut self, name: &Name) -> Result<(), AllocError> {
+    pub fn name(&mut self, name: &Name) -> Result<(), AllocError> {
         match name {
             Name::Text(text) => self.word(text.as_str()),
             Name::Missing => self.word("?"),

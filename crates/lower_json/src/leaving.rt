@@ -1,0 +1,39 @@
+//! Expressions that leave a body, or wait in it.
+
+ghost use Rattle.std.specs.Prelude.{◌≡◌, IfOk};
+ghost use Rattle.lower_json.specs.Exprs as spec;
+ghost use Rattle.lower_json.specs.Nodes.{here};
+
+use crate::node::{Node, ReadParts};
+use hir_syntax::ast::{Expr, ExprKind};
+use json_kinds::kind::Kind;
+use std::alloc::AllocError;
+
+/// `return`, `become`, `yield`, `do yeet` and `.await`.
+#[tactic(auto, unfolding(crate::specs::Exprs::leaving))]
+pub fn leaving<P: ReadParts>(
+    node: &Node<'_, P>,
+    kind: Kind,
+) -> Result<Option<ExprKind>, AllocError>
+    requires { P.can node.now.parts.now }
+    ensures { IfOk result (λ expr. expr ≡ spec.leaving (here P.parts node.now) kind) }
+{
+    match kind {
+        Kind::ReturnExpr => Ok(Some(ExprKind::ReturnExpr {
+            expr: node.boxed::<Expr>("expr")?,
+        })),
+        Kind::BecomeExpr => Ok(Some(ExprKind::BecomeExpr {
+            expr: node.boxed::<Expr>("expr")?,
+        })),
+        Kind::YieldExpr => Ok(Some(ExprKind::YieldExpr {
+            expr: node.boxed::<Expr>("expr")?,
+        })),
+        Kind::YeetExpr => Ok(Some(ExprKind::YeetExpr {
+            expr: node.boxed::<Expr>("expr")?,
+        })),
+        Kind::AwaitExpr => Ok(Some(ExprKind::AwaitExpr {
+            expr: node.boxed::<Expr>("expr")?,
+        })),
+        _ => Ok(None),
+    }
+}

@@ -1,0 +1,41 @@
+//! Expressions that name a member, or list their elements.
+
+ghost use Rattle.std.specs.Prelude.{◌≡◌, IfOk};
+ghost use Rattle.lower_json.specs.Exprs as spec;
+ghost use Rattle.lower_json.specs.Nodes.{here};
+
+use crate::field::flag;
+use crate::node::{Node, ReadParts};
+use hir_syntax::ast::{Expr, ExprKind};
+use json_kinds::kind::Kind;
+use std::alloc::AllocError;
+
+/// Methods and fields, tuples and arrays.
+#[tactic(auto, unfolding(crate::specs::Exprs::member))]
+pub fn member<P: ReadParts>(
+    node: &Node<'_, P>,
+    kind: Kind,
+) -> Result<Option<ExprKind>, AllocError>
+    requires { P.can node.now.parts.now }
+    ensures { IfOk result (λ expr. expr ≡ spec.member (here P.parts node.now) kind) }
+{
+    match kind {
+        Kind::MethodCallExpr => Ok(Some(ExprKind::MethodCallExpr {
+            receiver: node.boxed::<Expr>("receiver")?,
+            name: node.name("name")?,
+            args: node.list_if_there::<Expr>("args")?,
+        })),
+        Kind::FieldExpr => Ok(Some(ExprKind::FieldExpr {
+            expr: node.boxed::<Expr>("expr")?,
+            name: node.name("name")?,
+        })),
+        Kind::TupleExpr => Ok(Some(ExprKind::TupleExpr {
+            leading_comma: flag(node.value, "leading_comma"),
+            fields: node.list::<Expr>("fields")?,
+        })),
+        Kind::ArrayExpr => Ok(Some(ExprKind::ArrayExpr {
+            elems: node.list::<Expr>("elems")?,
+        })),
+        _ => Ok(None),
+    }
+}
