@@ -136,7 +136,7 @@ module _ (turns : ℕ) where
     run_block_part tree.no_block ss = ends (leave missing)
     run_block_part (tree.some_block b) ss = run_block b ss
 
-    -- an `else` or the value of a break, a return or a yield that is absent is unit
+    -- an absent `else` is unit, and so is an absent value of what leaves or yields
     pub run_or_unit : OptionExpr → List Scope → SyntaxRun Value
     run_or_unit tree.no_expr ss = pure unit
     run_or_unit (tree.some_expr e) ss = run_expr e ss

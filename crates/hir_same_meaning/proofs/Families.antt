@@ -89,9 +89,12 @@ module _ (at : Pointer) where
       → Correct (operands_form at (stored_binary form) p q) (Runs one (λ turns ss. run_binary form (x turns ss) (y turns ss) here))
   binary_fine (tree.operator None) hp hq = operands_fine (record { runs = λ w a b. refl; jumps = λ P ls a b h. h }) hp hq
   binary_fine (tree.operator (Some (ast.LogicOp op))) hp hq = lazy_fine op hp hq
-  binary_fine (tree.operator (Some (ast.ArithOp op))) hp hq = operands_fine (record { runs = λ w a b. refl; jumps = λ P ls a b h. h }) hp hq
-  binary_fine (tree.operator (Some (ast.CmpOp op))) hp hq = operands_fine (record { runs = λ w a b. refl; jumps = λ P ls a b h. h }) hp hq
-  binary_fine (tree.operator (Some (ast.Assignment op))) hp hq = operands_fine (record { runs = λ w a b. refl; jumps = λ P ls a b h. h }) hp hq
+  binary_fine (tree.operator (Some (ast.ArithOp op))) hp hq =
+      operands_fine (record { runs = λ w a b. refl; jumps = λ P ls a b h. h }) hp hq
+  binary_fine (tree.operator (Some (ast.CmpOp op))) hp hq =
+      operands_fine (record { runs = λ w a b. refl; jumps = λ P ls a b h. h }) hp hq
+  binary_fine (tree.operator (Some (ast.Assignment op))) hp hq =
+      operands_fine (record { runs = λ w a b. refl; jumps = λ P ls a b h. h }) hp hq
   binary_fine tree.index_of hp hq = operands_fine (record { runs = λ w a b. refl; jumps = λ P ls a b h. h }) hp hq
 
   pub list_fine : (form : Listing) {p : Lowering (List ExprId)} {x : Walk (List Value)} → Correct p (Runs many x)

@@ -13,7 +13,7 @@ use Rattle.hir_store.specs.declared.ids.BlockId.{BlockId}
 use Rattle.hir_env.specs.Answered.{Label, Jump}
 use Rattle.hir_env.specs.Answering.{site_of}
 use Rattle.hir_meaning.specs.Run.{Value, unit, is_true, break, continue, leave, missing}
-use Rattle.hir_meaning.specs.Run.{ends, pure, ◌>>=◌, tests, entering, lazily}
+use Rattle.hir_meaning.specs.Run.{ends, pure, ◌>>=◌, tests, entering}
 use Rattle.hir_meaning.specs.Catching.{turn, loop, block}
 use Rattle.hir_scope.specs.Scopes.{block_scope, break_target, continue_target, outward, past_block as past_block_scope}
 use Rattle.hir_meaning.specs.Syntax.{run_lazy}
