@@ -67,7 +67,7 @@ module _ (store : Store) (source_map : SourceMap) where
   abbrev pub StandsAlone : HirExpr → Pointer → ExprId → Ways
   StandsAlone e at i = λ ws. ExprAt i e (Some at) × From at i ws
 
-  -- a form that names one part, and one that names two
+  -- a node over one part, and over two, of the form that is made of their numbers
   abbrev pub StandsOver : {A : Type 0} → (A → HirExpr) → Pointer → (A → Ways) → ExprId → Ways
   StandsOver {A = A} form at S i = λ ws. (part : A) × ExprAt i (form part) (Some at) × (S part & From at i) ws
 

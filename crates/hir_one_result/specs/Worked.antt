@@ -164,7 +164,7 @@ elements by = tree.more_exprs (literal_at 1 one) (tree.more_exprs (disabled by) 
 abbrev pub tuple : CfgId → Bool → Expr
 tuple by leading_comma = tree.list_expr (at 0) (tree.tuple_of leading_comma) (elements by)
 
--- `break 'a` and await that
+-- await of `break 'a`
 abbrev pub await_break : Option AwaitLocation → Expr
 await_break location = tree.await_expr (at 0) location (tree.some_expr break_a)
 
