@@ -144,14 +144,14 @@ impl<P: LowerParts> Lowerer<P> {
         &self,
         state: &mut BodyBuilder,
         at: InFile<AstPtr>,
-        expr: &Option<Boxed<ast::Expr>>,
+        awaited: &Option<Boxed<ast::Expr>>,
     ) -> Result<ExprId, StoreFault>
-        requires { IfPresent (P.can self.now.parts).expr expr.now }
+        requires { IfPresent (P.can self.now.parts).expr awaited.now }
         ensures { LowersExpr (tree.await_expr at
             (P.spot self.now.parts).place.await_location
-            (expr_part (P.spot self.now.parts) expr.now)) state.old result state.new }
+            (expr_part (P.spot self.now.parts) awaited.now)) state.old result state.new }
     {
-        let expr = self.collect_expr_opt(state, expr)?;
+        let expr = self.collect_expr_opt(state, awaited)?;
         state.report_await(at, self.parts.place().await_location)?;
         state.alloc_expr(Expr::Await { expr }, Some(at))
     }
