@@ -1,6 +1,5 @@
 -- How small bodies end, computed.
-use Rattle.std.proofs.Common.{◌≡◌, ◌⊎◌, inl, inr, if◌then◌else◌, nat_eq, refl, subst}
-use Rattle.hir_store.specs.declared.ids.LabelId.{LabelId}
+use Rattle.std.proofs.Common.{◌≡◌, ◌⊎◌, inl, inr, nat_eq, true≢false, [], refl, ap, subst}
 use Rattle.hir_meaning.specs.Run.{ends, event, ◌>>=◌}
 use Rattle.hir_meaning.specs.Catching.{loop, block}
 use Rattle.hir_meaning.specs.Store.{run_store, run_to}
@@ -44,11 +43,8 @@ pub value_ends_the_loop : ValueEndsTheLoop
 unfolding ends loop
 value_ends_the_loop turns v w = refl
 
-abbrev is_one : LabelId → Type 0
-is_one n = if nat_eq n.0 1 then Unit {0} else ⊥
-
 not_the_other : (number 1 ≡ number 0) ⊎ ⊥ → ⊥
-not_the_other (inl e) = subst is_one e tt
+not_the_other (inl e) = true≢false (ap (λ n. nat_eq n.0 1) e)
 not_the_other (inr h) = h
 
 pub foreign_is_not_enclosed : ForeignIsNotEnclosed
