@@ -4,16 +4,16 @@ use Rattle.hir_store.specs.declared.hir.Expr.TheVariants as hir
 use Rattle.hir_store.specs.declared.hir.Statement.TheVariants as statement
 use Rattle.hir_env.specs.Answered as tree
 use Rattle.hir_scope.specs.Scopes.{outward}
-use Rattle.hir_meaning.specs.Run.{Value, answered, test, is_true, Event, value, missing, cut, World, pure}
+use Rattle.hir_meaning.specs.Run.{Value, answered, unit, test, is_true, value, missing, cut, World, pure}
 use Rattle.hir_meaning.specs.Catching.{loop}
 use Rattle.hir_meaning.specs.Syntax.{written_body}
 use Rattle.hir_meaning.specs.Store.{stored_body}
 use Rattle.hir_meaning.specs.Jumps.{Enclosed}
-use Rattle.hir_meaning.specs.Same.{stray_break, left, SameRun}
+use Rattle.hir_meaning.specs.Same.{ended, stray_break, left, SameRun}
 use Rattle.hir_meaning.specs.Small.{at, root, one, two, literal_at, label_a, jump_a, in_braces, first, block_of, loop_of, break_of}
-use Rattle.hir_meaning.specs.Small.{Nodes, only, from, id, number, stored_one, stored_block, stored_loop}
+use Rattle.hir_meaning.specs.Small.{Nodes, only, from, id, number, stored_one, stored_two, stored_block, stored_loop}
 use Rattle.hir_meaning.specs.Small.{event_of, literal_event, Example, BothDo}
-use Rattle.hir_meaning.specs.Turns.{nested, break_second}
+use Rattle.hir_meaning.specs.Turns.{nested}
 
 -- ---- `loop { 1; _ }`, where a path expression without path stands for _
 
@@ -82,14 +82,21 @@ continue_past = record {
 abbrev pub ContinuesPastTheBlock : Type 0
 ContinuesPastTheBlock = BothDo continue_past 2 [] (literal_event one 4 ∷ literal_event one 4 ∷ []) (left cut)
 
--- ---- `loop { loop { if 1 { break } } }`, without answers
+-- ---- `if 1 { 2 }`, without answers
 
-abbrev pub unanswered_round : List Event → List Event
-unanswered_round after = literal_event one 5 ∷ event_of (test is_true) (answered 0 ∷ []) 4 ∷ after
+abbrev pub unanswered : Example
+unanswered = record {
+  written = tree.some_expr (tree.if_expr (at 0)
+      (tree.some_expr (literal_at 1 one))
+      (tree.some_block (in_braces 2 None (literal_at 3 two)))
+      tree.no_expr);
+  nodes = (stored_two, 3) ∷ (stored_block None [] 0, 2) ∷ (stored_one, 1) ∷ (hir.If (id 2) (id 1) None, 0) ∷ [];
+  root = 3;
+}
 
--- The literal is 0 and the test says no, so the inner loop is cut after two turns, and that ends the outer one in its first.
+-- The literal is 0 and the test says no, so the branch doesn't happen and the value is unit.
 abbrev pub AnswersNoPastTheEnd : Type 0
-AnswersNoPastTheEnd = BothDo break_second 2 [] (unanswered_round (unanswered_round [])) (left cut)
+AnswersNoPastTheEnd = BothDo unanswered 0 [] (literal_event one 1 ∷ event_of (test is_true) (answered 0 ∷ []) 0 ∷ []) (ended unit)
 
 -- ---- steps that no form takes so far, and jumps
 

@@ -119,7 +119,7 @@ pub fn continues_past_the_block()
     ensures { ContinuesPastTheBlock }
 {}
 
-/// Past the end of the answers a test says no and a value is 0; a loop that is cut ends the loop around it.
+/// `if 1 { 2 }` without answers: past their end a value is 0 and a test says no.
 pub fn answers_no_past_the_end()
     ensures { AnswersNoPastTheEnd }
 {}
