@@ -12,3 +12,4 @@ pub mod Small
 pub mod Rows
 pub mod Turns
 pub mod Worked
+pub mod Endings
