@@ -25,8 +25,11 @@ use Rattle.hir_one_result.proofs.TreeStands.{all_stand}
 use Rattle.hir_one_result.proofs.TreeFaults.{diagnostics_are}
 use Rattle.hir_one_result.proofs.TreeBlocks.{blocks_are}
 use Rattle.hir_one_result.proofs.Whole.{one_results}
-use Rattle.hir_lower.specs.Roots.{Stores, fresh, root_of, body_of, body_fault, report_missing}
-use Rattle.hir_lower.specs.Means.{Rooted, HasBody, unless_skipped, missing_fault, owed_faults}
+use Rattle.hir_lower.specs.Roots.{Stores, fresh, root_of, body_of, report_missing}
+use Rattle.hir_lower.specs.Stays.{Stays}
+use Rattle.hir_lower.proofs.Ways.{Went, went}
+use Rattle.hir_lower.proofs.TreeWays.{part_leads}
+use Rattle.hir_lower.specs.Means.{Rooted, HasBody, body_fault, unless_skipped, missing_fault, owed_faults}
 
 abbrev closed : Builder → Builder
 closed b = record b { scopes = [] }
@@ -47,14 +50,23 @@ recorded_stays : (b : Builder) (o : Checked ExprId) (c : Builder) → Keeps (clo
 recorded_stays b (Ok i) c h = extends_trans h.stays (extends_root c.stored (root_at c.stored.exprs.entries i))
 recorded_stays b (Err x) c h = h
 
-root_stays : (e : OptionExpr) (b : Builder) → Extends b.stored (root_of e b).1.stored
-root_stays e b = rw (root_steps e b) (recorded_stays b (lower_part e (closed b)).0 (lower_part e (closed b)).1 (keeping e (closed b)))
+recorded_went : (b : Builder) (o : Checked ExprId) (c : Builder) → Went b.stored c.stored → Went b.stored (go_on o c recorded).1.stored
+recorded_went b (Ok i) c h = record { nodes = h.nodes; labels = h.labels; expr_ways = h.expr_ways; label_ways = h.label_ways }
+recorded_went b (Err x) c h = h
 
-pub stays_unless : (e : OptionExpr) (b b' : Builder) (r : Checked ExprId) → Lowers HasExpr (root_of e) b r b' → r ≢ Err Memory → Extends b.stored b'.stored
-stays_unless e b b' (Ok i) l n = let P : Checked ExprId × Builder → Type 0 = λ q. Extends b.stored q.1.stored in subst P l.0 (root_stays e b)
+root_stays : (e : OptionExpr) (b : Builder) → Stays b.stored (root_of e b).1.stored
+root_stays e b =
+    let o = (lower_part e (closed b)).0 in
+    let c = (lower_part e (closed b)).1 in
+    let ways : Went b.stored (go_on o c recorded).1.stored = recorded_went b o c (went (part_leads e) (closed b)) in
+    rw (root_steps e b)
+    (record { extends = recorded_stays b o c (keeping e (closed b)); exprs = ways.expr_ways; labels = ways.label_ways })
+
+pub stays_unless : (e : OptionExpr) (b b' : Builder) (r : Checked ExprId) → Lowers HasExpr (root_of e) b r b' → r ≢ Err Memory → Stays b.stored b'.stored
+stays_unless e b b' (Ok i) l n = let P : Checked ExprId × Builder → Type 0 = λ q. Stays b.stored q.1.stored in subst P l.0 (root_stays e b)
 stays_unless e b b' (Err x) l n =
     let other : x ≢ Memory = λ is. n (ap Err is) in
-    let P : Checked ExprId × Builder → Type 0 = λ q. Extends b.stored q.1.stored in
+    let P : Checked ExprId × Builder → Type 0 = λ q. Stays b.stored q.1.stored in
     subst P (l other).0 (root_stays e b)
 
 -- ---- a root
@@ -93,6 +105,7 @@ root_rooted e b b' i d h =
             ways = standing.ways;
             stands = standing.stands;
             led = standing.led;
+            labels = standing.labels;
             reached_once = λ depth le. reached_once e (closed b) p.inner i lowered later ext depth le;
           };
       roots = ap (λ rs. rs ++ root_at p.inner.stored.exprs.entries i ∷ []) kept.roots;

@@ -1,5 +1,5 @@
 -- What a lowered constant and a lowered body are, in words of meaning.
-use Rattle.std.specs.Prelude.{◌≡◌, ◌≤◌, ℕ, Bool, true, false, List, [], ◌∷◌, ◌++◌, length, Option, Some, None, IsPermutation}
+use Rattle.std.specs.Prelude.{◌≡◌, ◌≤◌, ◌+◌, ℕ, Bool, true, false, List, [], ◌∷◌, ◌++◌, length, Option, Some, None, IsPermutation}
 use Rattle.hir_syntax.specs.declared.node.AstPtr.{AstPtr}
 use Rattle.hir_syntax.specs.declared.ast.Expr.{Expr as AstExpr}
 use Rattle.hir_store.specs.Pointers.{Pointer}
@@ -8,7 +8,11 @@ use Rattle.hir_store.specs.Storing.{Extends, root_at}
 use Rattle.hir_store.specs.declared.ids.ExprId.{ExprId}
 use Rattle.hir_store.specs.declared.roots.ExprRoot.{ExprRoot}
 use Rattle.hir_store.specs.declared.ids.DefWithBodyId.{DefWithBodyId}
+use Rattle.hir_store.specs.declared.ids.DefWithBodyId.TheVariants as owner
+use Rattle.hir_store.specs.declared.ids.ItemContainerId.{ItemContainerId}
+use Rattle.hir_store.specs.declared.ids.ItemContainerId.TheVariants as container
 use Rattle.hir_store.specs.declared.diagnostics.MissingBodyItemKind.{MissingBodyItemKind}
+use Rattle.hir_store.specs.declared.diagnostics.MissingBodyItemKind.TheVariants as kind
 use Rattle.hir_store.specs.declared.diagnostics.ExpressionStoreDiagnostics.TheVariants.{MissingBody}
 use Rattle.hir_env.specs.Spot.{Spot}
 use Rattle.hir_env.specs.Answering.{in_file}
@@ -20,17 +24,18 @@ use Rattle.hir_same_meaning.specs.Reached.{Spread, reached_to}
 use Rattle.hir_steps.specs.Keeps.{Paired}
 use Rattle.hir_one_result.specs.Blocks.{blocks_of_part}
 use Rattle.hir_one_result.specs.Diagnostics.{Faults, part_diagnostics}
-use Rattle.hir_one_result.specs.Leads.{Way, Led}
+use Rattle.hir_one_result.specs.Leads.{Way, label_ways, Led}
 use Rattle.hir_one_result.specs.Stands.{StandsPart}
-use Rattle.hir_lower.specs.Roots.{body_fault, required_body}
 
 -- What is so of a root in a later store. Its expression does what the tree does; what is stored stands for the tree, and where the source map
--- led by then it leads still, or by the ways of the tree; each number that it reaches is reached in one way, and is one that lowering it gave out.
+-- led by then it leads still, or by the ways of the tree; each label more has its way; each number that it reaches is reached in one way, and
+-- is one that lowering it gave out.
 pub record Lives (old new later : Stored) (i : ExprId) (e : OptionExpr) : Type 0 where
   pub same : SameMeaning (store_of later) (map_of later) i e
   pub ways : List Way
   pub stands : StandsPart (store_of later) (map_of later) [] e i ways
   pub led : Led (map_of old) (map_of new) ways
+  pub labels : length new.labels.entries ≡ length old.labels.entries + label_ways ways
   pub reached_once : (depth : ℕ) → length later.exprs.entries ≤ depth
       → Spread (length old.exprs.entries) (length new.exprs.entries) (reached_to later.exprs.entries depth i)
 
@@ -53,6 +58,17 @@ pub record HasBody (store : Store) (source_map : SourceMap) (e : OptionExpr) : T
   pub reached_once : (depth : ℕ) → length store.exprs ≤ depth → Spread 0 (length store.exprs) (reached_to store.exprs depth root.root)
 
 -- ---- bodies of items
+
+-- statics and constants of modules and constants of impls must have a body
+abbrev pub required_body : DefWithBodyId → ItemContainerId → Option MissingBodyItemKind
+required_body (owner.StaticId _) (container.ModuleId _) = Some kind.Static
+required_body (owner.ConstId _) (container.ModuleId _) = Some kind.Const
+required_body (owner.ConstId _) (container.ImplId _) = Some kind.AssocConst
+required_body _ _ = None
+
+abbrev pub body_fault : Option MissingBodyItemKind → OptionExpr → Option MissingBodyItemKind
+body_fault k tree.no_expr = k
+body_fault k (tree.some_expr e) = None
 
 abbrev pub unless_skipped : Bool → OptionExpr → OptionExpr
 unless_skipped true e = tree.no_expr

@@ -7,11 +7,7 @@ use Rattle.hir_lower.specs.declared.collector.ConstRef.{ConstRef}
 use Rattle.hir_lower_form.specs.Builder.{Builder}
 use Rattle.hir_store.specs.Pointers.{Pointer}
 use Rattle.hir_store.specs.declared.ids.DefWithBodyId.{DefWithBodyId}
-use Rattle.hir_store.specs.declared.ids.DefWithBodyId.TheVariants as owner
-use Rattle.hir_store.specs.declared.ids.ItemContainerId.{ItemContainerId}
-use Rattle.hir_store.specs.declared.ids.ItemContainerId.TheVariants as container
 use Rattle.hir_store.specs.declared.diagnostics.MissingBodyItemKind.{MissingBodyItemKind}
-use Rattle.hir_store.specs.declared.diagnostics.MissingBodyItemKind.TheVariants as kind
 use Rattle.hir_store.specs.declared.diagnostics.ExpressionStoreDiagnostics.TheVariants.{MissingBody}
 use Rattle.hir_store.specs.declared.diagnostics.AwaitLocation.{AwaitLocation}
 use Rattle.hir_store.specs.declared.diagnostics.AwaitLocation.TheVariants as location
@@ -30,6 +26,7 @@ use Rattle.hir_env.specs.Answered as tree
 use Rattle.hir_env.specs.Answered.{OptionExpr}
 use Rattle.hir_lower_form.specs.Lowering.{Lowering, ◌>>=◌, ◌>>◌, pure, close_labels, report, record_root}
 use Rattle.hir_lower_form.specs.Lower.{Node, lower_part}
+use Rattle.hir_lower.specs.Means.{required_body, body_fault}
 
 -- the expression as a root, in which no label around it is open
 unfoldable pub root_of : OptionExpr → Node
@@ -38,17 +35,6 @@ root_of e = do
   id ← lower_part e
   record_root id
   pure id
-
--- statics and constants of modules and constants of impls must have a body
-abbrev pub required_body : DefWithBodyId → ItemContainerId → Option MissingBodyItemKind
-required_body (owner.StaticId _) (container.ModuleId _) = Some kind.Static
-required_body (owner.ConstId _) (container.ModuleId _) = Some kind.Const
-required_body (owner.ConstId _) (container.ImplId _) = Some kind.AssocConst
-required_body _ _ = None
-
-abbrev pub body_fault : Option MissingBodyItemKind → OptionExpr → Option MissingBodyItemKind
-body_fault k tree.no_expr = k
-body_fault k (tree.some_expr e) = None
 
 unfoldable pub report_missing : Pointer → Option MissingBodyItemKind → Lowering (Unit {0})
 report_missing at None = pure tt

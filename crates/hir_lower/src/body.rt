@@ -4,8 +4,8 @@ ghost use Rattle.std.specs.Prelude.{◌≡◌, ◌≢◌, None, false, IfOk, IsE
 ghost use Rattle.hir_store.specs.Range.{HasExpr, InRange};
 ghost use Rattle.hir_lower_form.specs.Lowering.{Lowers};
 ghost use Rattle.hir_one_result.specs.OneResult.{OneResult};
-ghost use Rattle.hir_lower.specs.Means.{HasBody, body_owes, body_read};
-ghost use Rattle.hir_lower.specs.Roots.{RefusedAtLimit, Stores, await_location, body_spot, item_of, required_body, spot_at};
+ghost use Rattle.hir_lower.specs.Means.{HasBody, body_owes, body_read, required_body};
+ghost use Rattle.hir_lower.specs.Roots.{RefusedAtLimit, Stores, await_location, body_spot, item_of, spot_at};
 
 use crate::collector::lower_root;
 use crate::error::LowerError;

@@ -3,7 +3,7 @@
 ghost use Rattle.std.specs.Prelude.{◌≡◌, ◌≢◌, false, true, Err, IfOk, IsErrOf, IsOkAnd, option_copied};
 ghost use Rattle.hir_store.specs.Range.{HasExpr, InRange};
 ghost use Rattle.hir_store.specs.Stored.{map_of, store_of};
-ghost use Rattle.hir_store.specs.Storing.{Extends, SomeAtLimit};
+ghost use Rattle.hir_store.specs.Storing.{SomeAtLimit};
 ghost use Rattle.hir_env.specs.Whole.{expr_part};
 ghost use Rattle.hir_lower_form.specs.Lowering.{Lowers};
 ghost use Rattle.hir_lower_form.specs.Outcomes.{LowersExprOpt};
@@ -11,6 +11,7 @@ ghost use Rattle.hir_steps.specs.Keeps.{Paired};
 ghost use Rattle.hir_lower.specs.Calls.{Calls};
 ghost use Rattle.hir_lower.specs.Means.{Rooted};
 ghost use Rattle.hir_lower.specs.Roots.{const_of, fresh, outside_body, root_of, spot_at};
+ghost use Rattle.hir_lower.specs.Stays.{Stays};
 
 use crate::error::LowerError;
 use crate::knot::collect_expr;
@@ -79,7 +80,7 @@ pub(crate) fn lower_root<E: LowerEnv>(
         Lowers HasExpr (root_of (expr_part spot (option_copied expr.entry))) state.old result state.new }
     ensures rooted { let e = expr_part (spot_at (E.answers env.now) place) (option_copied expr.entry) in
         Paired state.old.stored → IfOk result (λ i. Rooted state.old.stored state.new.stored i e) }
-    ensures stays { result ≢ Err StoreFault.Memory → Extends state.old.stored state.new.stored }
+    ensures stays { result ≢ Err StoreFault.Memory → Stays state.old.stored state.new.stored }
 {
     root_steps(alloc, env, place, state, expr)
 }
@@ -160,7 +161,7 @@ impl<'db, E: LowerEnv> ExprCollector<'db, E> {
     /// that a loop may take; what is stored stands for the tree, and faults, blocks and ways of the source map come
     /// behind those of before. `Memory` where a growth was refused, `Full` where an arena has reached its limit,
     /// `Failed` after an error, and then nothing changes. All that was stored is stored still, unless memory was
-    /// refused.
+    /// refused, and a node leads to where it led, or to what came since.
     #[tactic(auto, unfolding(crate::specs::Roots::const_of))]
     pub fn lower_const_arg(&mut self, arg: &ast::ConstArg) -> Result<ConstRef, LowerError>
         ensures calls { let steps = const_of (expr_part (spot_at (E.answers self.old.db.now) self.old.place) arg.now.expr) in
@@ -168,7 +169,7 @@ impl<'db, E: LowerEnv> ExprCollector<'db, E> {
         ensures rooted { let e = expr_part (spot_at (E.answers self.old.db.now) self.old.place) arg.now.expr in
             IfOk result (λ c. Rooted self.old.state.stored self.new.state.stored c.expr e) }
         ensures full { IsErrOf result LowerError.Full → SomeAtLimit self.new.state.stored }
-        ensures stays { result ≢ Err LowerError.Memory → Extends self.old.state.stored self.new.state.stored }
+        ensures stays { result ≢ Err LowerError.Memory → Stays self.old.state.stored self.new.state.stored }
         ensures db { self.new.db ≡ self.old.db }
         ensures place { self.new.place ≡ self.old.place }
     {
@@ -187,11 +188,14 @@ impl<'db, E: LowerEnv> ExprCollector<'db, E> {
         Ok(ConstRef { expr })
     }
 
-    /// What is stored so far, after an error too.
+    /// What is stored so far, after an error too. Each number in it is in range.
     pub fn store(&self) -> &ExpressionStoreBuilder
-        ensures { result.now ≡ self.now.state.stored }
+        ensures stored { result.now ≡ self.now.state.stored }
+        ensures in_range { InRange (store_of result.now) (map_of result.now) }
     {
-        self.state.store()
+        let store = self.state.store();
+        store.in_range();
+        store
     }
 
     /// The store and its source map, in which each number is in range, or `Failed` after an error. It takes no memory.

@@ -13,3 +13,4 @@ pub mod Rows
 pub mod Turns
 pub mod Worked
 pub mod Forms
+pub mod Endings

@@ -8,6 +8,8 @@ ghost use Rattle.hir_meaning.specs.Rows.{MissingIsNoLiteral, ParenthesesAreSilen
 ghost use Rattle.hir_meaning.specs.Turns.{EndsTheTurn, ContinuesTheOuter, BreaksTheOuter, HygienesDiffer, UndeclaredIsPlain, HasFreshTurns};
 ghost use Rattle.hir_meaning.specs.Forms.{OperatesInOrder, DecidesByLeft, DecidesByRight, ReturnsFromInside, EmptyTupleIsSilent};
 ghost use Rattle.hir_meaning.specs.Forms.{MissesItsFront, LeavesOutTheSecond, ElementIsNothing, EntersTheUnsafe};
+ghost use Rattle.hir_meaning.specs.Endings.{MissingEndsTheLoop, StraysWithItsValue, StrayIsNoValue, InnerLabelHides};
+ghost use Rattle.hir_meaning.specs.Endings.{ContinuesPastTheBlock, AnswersNoPastTheEnd, ValueEndsTheLoop, ForeignIsNotEnclosed};
 
 /// `'a: { loop { break 'a 1 } }` with one turn is the literal and its value.
 pub fn leaves_the_loop()
@@ -137,4 +139,44 @@ pub fn disabled_is_nothing()
 /// A body behind a barrier runs as if nothing were outside.
 pub fn runs_alone()
     ensures { RunsAlone }
+{}
+
+/// `loop { 1; _ }`, where _ is missing, is the literal and ends as missing in its first turn.
+pub fn missing_ends_the_loop()
+    ensures { MissingEndsTheLoop }
+{}
+
+/// `break 1` is the literal and a stray break with its value.
+pub fn strays_with_its_value()
+    ensures { StraysWithItsValue }
+{}
+
+/// A store of one literal does not run as `break 1`, though their events are the same.
+pub fn stray_is_no_value()
+    ensures { StrayIsNoValue }
+{}
+
+/// `'a: loop { 'a: loop { break 'a 1 }; 2 }` leaves the inner loop.
+pub fn inner_label_hides()
+    ensures { InnerLabelHides }
+{}
+
+/// `loop { 'a: { 1; continue } }` is the literal, turn after turn.
+pub fn continues_past_the_block()
+    ensures { ContinuesPastTheBlock }
+{}
+
+/// `if 1 { 2 }` without answers: past their end a value is 0 and a test says no.
+pub fn answers_no_past_the_end()
+    ensures { AnswersNoPastTheEnd }
+{}
+
+/// A turn that ends with a value for the loop ends the loop with it.
+pub fn value_ends_the_loop()
+    ensures { ValueEndsTheLoop }
+{}
+
+/// A jump for a label that is not around it is not enclosed.
+pub fn foreign_is_not_enclosed()
+    ensures { ForeignIsNotEnclosed }
 {}

@@ -115,6 +115,13 @@ impl<T: Entry> SourcedArena<T> {
         Ok(())
     }
 
+    /// Each entry has its source, and what a node leads to exists.
+    pub fn kept(&self)
+        ensures { Kept T.place self.now }
+    {
+        let _ = &self.map;
+    }
+
     /// The entries, their sources and the way to them. It takes no memory.
     pub fn split(self) -> (Arena<T>, Seq<Option<InFile<AstPtr>>>, PointerMap<T::Id>)
         ensures entries { result.0 ≡ record { entries = self.entries; limit = self.limit } }

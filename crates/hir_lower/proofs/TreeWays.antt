@@ -1,0 +1,105 @@
+-- Lowering a tree is made of such steps.
+use Rattle.std.proofs.Common.{List, [], Option, Some, None}
+use Rattle.hir_store.specs.Pointers.{Pointer}
+use Rattle.hir_store.specs.declared.hir.Statement.{Statement}
+use Rattle.hir_store.specs.declared.ids.ExprId.{ExprId}
+use Rattle.hir_store.specs.declared.ids.LabelId.{LabelId}
+use Rattle.hir_store.specs.declared.ids.BlockId.{BlockId}
+use Rattle.hir_env.specs.Answered as tree
+use Rattle.hir_env.specs.Answered.{Label, Jump, Expr, OptionExpr, Exprs, Block, OptionBlock, Stmts, Stmt}
+use Rattle.hir_lower_form.specs.Lowering.{Lowering}
+use Rattle.hir_lower_form.specs.Lower.{Node, Contents, missing, some, if_form, loop_form, call_form, continue_form}
+use Rattle.hir_lower_form.specs.Lower.{break_form, paren_form, block_form, labelled, kept, lower, lower_part}
+use Rattle.hir_lower_form.specs.Lower.{present, kept_part, lower_each, lower_block, lower_block_part, lower_stmts, lower_stmt}
+use Rattle.hir_lower.proofs.Ways.{Leading, any, since, then', makes, leading_pure, leading_report, leading_block, leading_close, leading_jump}
+use Rattle.hir_lower.proofs.Ways.{leading_alloc, leading_open, leading_point, leading_closed}
+
+missing_leads : Leading since missing
+unfolding missing
+missing_leads = leading_alloc _ None
+
+some_leads : {p : Node} → Leading since p → Leading any (some p)
+some_leads h = then' h (λ a. leading_pure (Some a))
+
+module _ (at : Pointer) where
+  if_leads : {c t : Node} {e : Lowering (Option ExprId)} → Leading since c → Leading since t → Leading any e → Leading since (if_form at c t e)
+  unfolding if_form
+  if_leads hc ht he = makes ht (λ i. makes he (λ j. makes hc (λ k. leading_alloc _ (Some at))))
+
+  loop_leads : (label : Option Label) {b : Node} → Leading since b → Leading since (loop_form at label b)
+  unfolding loop_form
+  loop_leads None h = makes h (λ i. leading_alloc _ (Some at))
+  loop_leads (Some l) h = makes (leading_open l) (λ n. makes h (λ i. makes leading_close (λ u. leading_alloc _ (Some at))))
+
+  call_leads : {f : Node} {xs : Lowering (List ExprId)} → Leading since f → Leading any xs → Leading since (call_form at f xs)
+  unfolding call_form
+  call_leads hf hx = makes hf (λ i. makes hx (λ is. leading_alloc _ (Some at)))
+
+  continue_leads : (j : Option Jump) → Leading since (continue_form at j)
+  unfolding continue_form
+  continue_leads j = makes (leading_jump j) (λ n. leading_alloc _ (Some at))
+
+  break_leads : (j : Option Jump) {e : Lowering (Option ExprId)} → Leading any e → Leading since (break_form at j e)
+  unfolding break_form
+  break_leads j h = makes (leading_jump j) (λ n. makes h (λ v. leading_alloc _ (Some at)))
+
+  paren_leads : {e : Node} → Leading since e → Leading since (paren_form at e)
+  unfolding paren_form
+  paren_leads h = leading_point at h
+
+  block_form_leads : (label : Option LabelId) (number : Option BlockId) {c : Lowering Contents} → Leading any c → Leading since (block_form at label number c)
+  unfolding block_form
+  block_form_leads label number h = makes (leading_block number) (λ u. makes h (λ r. leading_alloc _ (Some at)))
+
+labelled_leads : (label : Option Label) {f : Option LabelId → Node} → ((n : Option LabelId) → Leading since (f n)) → Leading since (labelled label f)
+unfolding labelled
+labelled_leads None h = h None
+labelled_leads (Some l) h = makes (leading_open l) (λ n. leading_closed (h (Some n)))
+
+kept_leads : (e : Expr) {p : Node} → Leading since p → Leading any (kept e p)
+kept_leads (tree.disabled_expr at by e) h = then' (leading_report _) (λ u. leading_pure None)
+kept_leads e h = some_leads h
+
+mutual
+  node_leads : (e : Expr) → Leading since (lower e)
+  node_leads (tree.disabled_expr at by e) = makes (leading_report _) (λ u. missing_leads)
+  node_leads (tree.if_expr at c t e) = if_leads at (part_leads c) (block_part_leads t) (present_leads e)
+  node_leads (tree.block_expr b) = block_leads b
+  node_leads (tree.loop_expr at label b) = loop_leads at label (block_part_leads b)
+  node_leads (tree.call_expr at f es) = call_leads at (part_leads f) (each_leads [] es)
+  node_leads (tree.path_expr at x h) = leading_alloc _ (Some at)
+  node_leads (tree.continue_expr at jump) = continue_leads at jump
+  node_leads (tree.break_expr at jump e) = break_leads at jump (present_leads e)
+  node_leads (tree.paren_expr at e) = paren_leads at (part_leads e)
+  node_leads (tree.literal_expr at l) = leading_alloc _ (Some at)
+
+  pub part_leads : (e : OptionExpr) → Leading since (lower_part e)
+  part_leads tree.no_expr = missing_leads
+  part_leads (tree.some_expr e) = node_leads e
+
+  present_leads : (e : OptionExpr) → Leading any (present e)
+  present_leads tree.no_expr = leading_pure None
+  present_leads (tree.some_expr e) = some_leads (node_leads e)
+
+  kept_part_leads : (e : OptionExpr) → Leading any (kept_part e)
+  kept_part_leads tree.no_expr = leading_pure None
+  kept_part_leads (tree.some_expr e) = kept_leads e (node_leads e)
+
+  each_leads : (done : List ExprId) (es : Exprs) → Leading any (lower_each done es)
+  each_leads done tree.no_exprs = leading_pure done
+  each_leads done (tree.more_exprs e es) = then' (kept_leads e (node_leads e)) (λ x. each_leads _ es)
+
+  block_leads : (b : Block) → Leading since (lower_block b)
+  block_leads (tree.block at label number ss e) = labelled_leads label (λ n. block_form_leads at n number (stmts_leads [] ss (kept_part_leads e)))
+
+  block_part_leads : (b : OptionBlock) → Leading since (lower_block_part b)
+  block_part_leads tree.no_block = missing_leads
+  block_part_leads (tree.some_block b) = block_leads b
+
+  stmts_leads : (done : List Statement) (ss : Stmts) {tail : Lowering (Option ExprId)} → Leading any tail → Leading any (lower_stmts done ss tail)
+  stmts_leads done tree.no_stmts h = then' h (λ t. leading_pure (done, t))
+  stmts_leads done (tree.more_stmts s ss) h = then' (stmt_leads s) (λ x. stmts_leads _ ss h)
+
+  stmt_leads : (s : Stmt) → Leading any (lower_stmt s)
+  stmt_leads (tree.expr_stmt e semi) = then' (kept_part_leads e) (λ x. leading_pure _)
+  stmt_leads tree.item_stmt = leading_pure _

@@ -1,0 +1,233 @@
+-- Each step of lowering lets nodes lead to what came since it began.
+use Rattle.std.proofs.Common.{arith, ◌≡◌, ◌∙◌, refl, sym, ap, subst, ℕ, ◌≤◌, Bool, true, false, if◌then◌else◌, nat_lt, length, length-append}
+use Rattle.std.proofs.Common.{List, [], ◌∷◌, ◌++◌, Option, Some, None, Ok, Err, ◌⊎◌, inl, inr, ⊎_elim, true≢false, is_some}
+use Rattle.hir_store.specs.Pointers.{Pointer, same_pointer, found}
+use Rattle.hir_store.specs.Arenas.{Sourced, pointed, with_entry}
+use Rattle.hir_store.specs.Stored.{Stored}
+use Rattle.hir_store.specs.Storing as storing
+use Rattle.hir_store.specs.Storing.{expr_id, label_id}
+use Rattle.hir_store.specs.declared.fault.StoreFault.TheVariants.{Full}
+use Rattle.hir_store.specs.declared.diagnostics.ExpressionStoreDiagnostics.{ExpressionStoreDiagnostics}
+use Rattle.hir_store.specs.declared.hir.Expr.{Expr}
+use Rattle.hir_store.specs.declared.hir.Label.{Label as HirLabel}
+use Rattle.hir_store.specs.declared.ids.ExprId.{ExprId}
+use Rattle.hir_store.specs.declared.ids.LabelId.{LabelId}
+use Rattle.hir_store.specs.declared.ids.BlockId.{BlockId}
+use Rattle.hir_env.specs.Answered.{Label, Jump}
+use Rattle.hir_scope.specs.Ribs.{Target, found as met, unreachable, undeclared, target}
+use Rattle.hir_lower_form.specs.Builder.{Builder}
+use Rattle.hir_lower_form.specs.Lowering.{Checked, go_on, Lowering, ◌>>=◌, pure, alloc_expr, point, report, enter_block, open_label, close, jump_target, found_or_fault, enter}
+use Rattle.hir_lower.specs.Stays.{LeadsOn}
+
+-- ---- maps
+
+module _ {I : Type 0} (place : I → ℕ) (n : ℕ) where
+  on_refl : (es : List (Pointer × I)) → LeadsOn place n es es
+  on_refl es = λ p t f. (t, (f, inl refl))
+
+  on_trans : (a b c : List (Pointer × I)) → LeadsOn place n a b → LeadsOn place n b c → LeadsOn place n a c
+  on_trans a b c g h = λ p t f. let x = g p t f in let y = h p x.0 x.1.0 in (y.0, (y.1.0, ⊎_elim (λ e. by p t x.0 y.0 e x.1.1) (λ l. inr l) y.1.1))
+    where
+      by : (p : Pointer) (t u v : I) → v ≡ u → (u ≡ t) ⊎ (n ≤ place u) → (v ≡ t) ⊎ (n ≤ place v)
+      by p t u v e (inl d) = inl (e ∙ d)
+      by p t u v e (inr l) = inr (subst (λ k. n ≤ place k) (sym e) l)
+
+  abbrev There : Pointer → I → List (Pointer × I) → Type 0
+  There q t more = (u : I) × ((found more q ≡ Some u) × ((u ≡ t) ⊎ (n ≤ place u)))
+
+  on_insert : (es : List (Pointer × I)) (p : Pointer) (id : I) → n ≤ place id → LeadsOn place n es (pointed es (Some p) id)
+  on_insert [] p id l = λ q t f. absurd (true≢false (sym (ap is_some f)))
+  on_insert (e ∷ es) p id l = λ q t f. by q t (on_insert es p id l q t) (same_pointer p e.0) (same_pointer q e.0) refl f
+    where
+      by : (q : Pointer) (t : I) → (found es q ≡ Some t → There q t (pointed es (Some p) id)) → (b c : Bool) → same_pointer q e.0 ≡ c
+          → found (e ∷ es) q ≡ Some t → There q t (if b then (e.0, id) ∷ es else e ∷ pointed es (Some p) id)
+      by q t others true true m f = (id, (ap (λ b. if b then Some id else found es q) m, inr l))
+      by q t others true false m f = (t, (ap (λ b. if b then Some id else found es q) m ∙ (sym (ap (λ b. if b then Some e.1 else found es q) m) ∙ f), inl refl))
+      by q t others false true m f =
+          let w : Some e.1 ≡ Some t = sym (ap (λ b. if b then Some e.1 else found es q) m) ∙ f in
+          (e.1, (ap (λ b. if b then Some e.1 else found (pointed es (Some p) id) q) m, inl cc))
+      by q t others false false m f =
+          let r = others (sym (ap (λ b. if b then Some e.1 else found es q) m) ∙ f) in
+          (r.0, (ap (λ b. if b then Some e.1 else found (pointed es (Some p) id) q) m ∙ r.1.0, r.1.1))
+
+  on_pointed : (es : List (Pointer × I)) (p : Option Pointer) (id : I) → n ≤ place id → LeadsOn place n es (pointed es p id)
+  on_pointed es None id l = on_refl es
+  on_pointed es (Some p) id l = on_insert es p id l
+
+on_sooner : {I : Type 0} (place : I → ℕ) (n m : ℕ) (a b : List (Pointer × I)) → n ≤ m → LeadsOn place m a b → LeadsOn place n a b
+on_sooner place n m a b le h = λ p t f. let x = h p t f in (x.0, (x.1.0, ⊎_elim (λ e. inl e) (λ l. inr (omega arith)) x.1.1))
+
+-- ---- what is stored
+
+abbrev expr_place : ExprId → ℕ
+expr_place i = i.0
+
+abbrev label_place : LabelId → ℕ
+label_place n = n.0
+
+pub record Went (a b : Stored) : Type 0 where
+  pub nodes : length a.exprs.entries ≤ length b.exprs.entries
+  pub labels : length a.labels.entries ≤ length b.labels.entries
+  pub expr_ways : LeadsOn (λ i. i.0) (length a.exprs.entries) a.exprs.map b.exprs.map
+  pub label_ways : LeadsOn (λ n. n.0) (length a.labels.entries) a.labels.map b.labels.map
+
+went_same : (a b : Stored) → b.exprs ≡ a.exprs → b.labels ≡ a.labels → Went a b
+went_same a b e l = rw (e, l) (record { nodes = omega arith; labels = omega arith; expr_ways = on_refl expr_place _ _; label_ways = on_refl label_place _ _ })
+
+pub went_trans : (a b c : Stored) → Went a b → Went b c → Went a c
+went_trans a b c g h =
+    let n = g.nodes in
+    let l = g.labels in
+    let n' = h.nodes in
+    let l' = h.labels in record {
+      nodes = omega arith;
+      labels = omega arith;
+      expr_ways = on_trans expr_place _ _ _ _ g.expr_ways (on_sooner expr_place _ _ _ _ n h.expr_ways);
+      label_ways = on_trans label_place _ _ _ _ g.label_ways (on_sooner label_place _ _ _ _ l h.label_ways);
+    }
+
+-- ---- steps
+
+-- what is said of an answer, from the number of entries before
+abbrev pub Low : Type 0 → Type 1
+Low A = ℕ → A → Type 0
+
+abbrev pub any : {A : Type 0} → Low A
+any n a = Unit {0}
+
+-- it is an entry that came since
+abbrev pub since : Low ExprId
+since n i = n ≤ i.0
+
+abbrev Goes : {A : Type 0} → Low A → Builder → Checked A → Builder → Type 0
+Goes L b (Ok a) c = Went b.stored c.stored × L (length b.stored.exprs.entries) a
+Goes L b (Err e) c = Went b.stored c.stored
+
+pub record Leading {A : Type 0} (L : Low A) (p : Lowering A) : Type 0 where
+  pub goes : (b : Builder) → Goes L b (p b).0 (p b).1
+
+went_of : {A : Type 0} (L : Low A) (b : Builder) (o : Checked A) (c : Builder) → Goes L b o c → Went b.stored c.stored
+went_of L b (Ok a) c h = h.0
+went_of L b (Err e) c h = h
+
+pub went : {A : Type 0} {L : Low A} {p : Lowering A} → Leading L p → (b : Builder) → Went b.stored (p b).1.stored
+went {L = L} {p = p} h b = went_of L b (p b).0 (p b).1 (h.goes b)
+
+bound : {A B : Type 0} {L : Low A} {p : Lowering A} {f : A → Lowering B} (M : Low B) → ((n m : ℕ) (x : B) → n ≤ m → M m x → M n x) → Leading L p
+    → ((a : A) → Leading M (f a)) → Leading M (p >>= f)
+bound {A = A} {B = B} {L = L} {p = p} {f = f} M less h k = record { goes = λ b. first b (p b).0 (p b).1 (h.goes b) }
+  where
+    second : (b b' : Builder) → Went b.stored b'.stored → (o : Checked B) (c : Builder) → Goes M b' o c → Goes M b o c
+    second b b' x (Ok e) c y = (went_trans _ _ _ x y.0, less _ _ e x.nodes y.1)
+    second b b' x (Err e) c y = went_trans _ _ _ x y
+
+    first : (b : Builder) (o : Checked A) (c : Builder) → Goes L b o c → Goes M b (go_on o c f).0 (go_on o c f).1
+    first b (Ok a) c x = second b c x.0 (f a c).0 (f a c).1 ((k a).goes c)
+    first b (Err e) c x = x
+
+pub then' : {A B : Type 0} {L : Low A} {p : Lowering A} {f : A → Lowering B} → Leading L p → ((a : A) → Leading any (f a)) → Leading any (p >>= f)
+then' h k = bound any (λ n m x le y. tt) h k
+
+-- and what it answers came since
+pub makes : {A : Type 0} {L : Low A} {p : Lowering A} {f : A → Lowering ExprId} → Leading L p → ((a : A) → Leading since (f a)) → Leading since (p >>= f)
+makes h k = bound since (λ n m x le y. omega arith) h k
+
+pub leading_pure : {A : Type 0} (a : A) → Leading any (pure a)
+leading_pure a = record { goes = λ b. (went_same _ _ refl refl, tt) }
+
+pub leading_report : (d : ExpressionStoreDiagnostics) → Leading any (report d)
+unfolding report storing.report
+leading_report d = record { goes = λ b. (went_same _ _ refl refl, tt) }
+
+pub leading_block : (n : Option BlockId) → Leading any (enter_block n)
+unfolding enter_block storing.enter_block
+leading_block None = leading_pure tt
+leading_block (Some n) = record { goes = λ b. (went_same _ _ refl refl, tt) }
+
+pub leading_close : Leading any close
+unfolding close
+leading_close = record { goes = λ b. (went_same _ _ refl refl, tt) }
+
+pub leading_jump : (j : Option Jump) → Leading any (jump_target j)
+unfolding jump_target report storing.report
+leading_jump None = leading_pure None
+leading_jump (Some j) = record { goes = λ b. by b (target j b.scopes) }
+  where
+    by : (b : Builder) (t : Target LabelId) → Goes any b (found_or_fault j t b).0 (found_or_fault j t b).1
+    by b (met n) = (went_same _ _ refl refl, tt)
+    by b unreachable = (went_same _ _ refl refl, tt)
+    by b undeclared = (went_same _ _ refl refl, tt)
+
+abbrev made_expr : Bool → Expr → Option Pointer → Sourced Expr ExprId → Checked ExprId × Sourced Expr ExprId
+made_expr t e source a = if t then (Ok (expr_id (length a.entries)), with_entry expr_id a e source) else (Err Full, a)
+
+pub leading_alloc : (e : Expr) (source : Option Pointer) → Leading since (alloc_expr e source)
+unfolding alloc_expr storing.alloc_expr
+leading_alloc e source = record { goes = λ b. by b (nat_lt (length b.stored.exprs.entries) b.stored.exprs.limit) }
+  where
+    by : (b : Builder) (t : Bool)
+        → Goes since b (made_expr t e source b.stored.exprs).0 (record b { stored = record b.stored { exprs = (made_expr t e source b.stored.exprs).1 } })
+    by b true =
+        let xs = b.stored.exprs.entries in
+        let grown = length-append xs (e ∷ []) in (record {
+          nodes = omega arith;
+          labels = omega arith;
+          expr_ways = on_pointed expr_place _ b.stored.exprs.map source (expr_id (length xs)) (omega arith);
+          label_ways = on_refl label_place _ _;
+        }, omega arith)
+    by b false = went_same _ _ refl refl
+
+abbrev made_label : Bool → HirLabel → Option Pointer → Sourced HirLabel LabelId → Checked LabelId × Sourced HirLabel LabelId
+made_label t l source a = if t then (Ok (label_id (length a.entries)), with_entry label_id a l source) else (Err Full, a)
+
+label_made : (l : HirLabel) (source : Option Pointer) (b : Builder) (t : Bool)
+    → Went b.stored (record b.stored { labels = (made_label t l source b.stored.labels).1 })
+label_made l source b true =
+    let xs = b.stored.labels.entries in
+    let grown = length-append xs (l ∷ []) in record {
+      nodes = omega arith;
+      labels = omega arith;
+      expr_ways = on_refl expr_place _ _;
+      label_ways = on_pointed label_place _ b.stored.labels.map source (label_id (length xs)) (omega arith);
+    }
+label_made l source b false = went_same _ _ refl refl
+
+-- the label is stored, and then opened
+abbrev opening : Label → Bool → Builder → Checked LabelId × Builder
+opening l t b =
+    let r = made_label t (record { name = l.name }) (Some l.pointer) b.stored.labels in
+    go_on r.0 (record b { stored = record b.stored { labels = r.1 } }) (λ n. enter l n >>= (λ _. pure n))
+
+pub leading_open : (l : Label) → Leading any (open_label l)
+unfolding open_label storing.alloc_label
+leading_open l = record { goes = λ b. by b (nat_lt (length b.stored.labels.entries) b.stored.labels.limit) }
+  where
+    by : (b : Builder) (t : Bool) → Goes any b (opening l t b).0 (opening l t b).1
+    by b true = (label_made (record { name = l.name }) (Some l.pointer) b true, tt)
+    by b false = label_made (record { name = l.name }) (Some l.pointer) b false
+
+-- a node more leads to what has come since
+pub leading_point : (at : Pointer) {p : Lowering ExprId} → Leading since p → Leading since (p >>= (λ i. point at i >>= (λ _. pure i)))
+unfolding point storing.point
+leading_point at {p = p} h = record { goes = λ b. by b (p b).0 (p b).1 (h.goes b) }
+  where
+    by : (b : Builder) (o : Checked ExprId) (c : Builder) → Goes since b o c
+        → Goes since b (go_on o c (λ i. point at i >>= (λ _. pure i))).0 (go_on o c (λ i. point at i >>= (λ _. pure i))).1
+    by b (Ok i) c x =
+        let w = x.0 in (record {
+          nodes = w.nodes;
+          labels = w.labels;
+          expr_ways = on_trans expr_place _ _ _ _ w.expr_ways (on_insert expr_place _ c.stored.exprs.map at i x.1);
+          label_ways = w.label_ways;
+        }, x.1)
+    by b (Err e) c x = x
+
+-- what is open is closed behind an expression
+pub leading_closed : {p : Lowering ExprId} → Leading since p → Leading since (p >>= (λ i. close >>= (λ _. pure i)))
+unfolding close
+leading_closed {p = p} h = record { goes = λ b. by b (p b).0 (p b).1 (h.goes b) }
+  where
+    by : (b : Builder) (o : Checked ExprId) (c : Builder) → Goes since b o c
+        → Goes since b (go_on o c (λ i. close >>= (λ _. pure i))).0 (go_on o c (λ i. close >>= (λ _. pure i))).1
+    by b (Ok i) c x = x
+    by b (Err e) c x = x

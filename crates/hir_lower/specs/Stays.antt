@@ -1,0 +1,16 @@
+-- What a call leaves of what was stored.
+use Rattle.std.specs.Prelude.{◌≡◌, ◌≤◌, ◌⊎◌, ℕ, List, length, Some}
+use Rattle.hir_store.specs.Pointers.{Pointer, found}
+use Rattle.hir_store.specs.Stored.{Stored}
+use Rattle.hir_store.specs.Storing.{Extends}
+
+-- a node that led somewhere leads there still, or to an entry from number `n` on
+abbrev pub LeadsOn : {I : Type 0} → (I → ℕ) → ℕ → List (Pointer × I) → List (Pointer × I) → Type 0
+LeadsOn {I = I} place n old new =
+    (p : Pointer) (t : I) → found old p ≡ Some t → (u : I) × ((found new p ≡ Some u) × ((u ≡ t) ⊎ (n ≤ place u)))
+
+-- All that is stored in `old` is stored in `new`, and a node leads to where it led, or to an entry that came since.
+pub record Stays (old new : Stored) : Type 0 where
+  pub extends : Extends old new
+  pub exprs : LeadsOn (λ i. i.0) (length old.exprs.entries) old.exprs.map new.exprs.map
+  pub labels : LeadsOn (λ n. n.0) (length old.labels.entries) old.labels.map new.labels.map

@@ -1,0 +1,15 @@
+use Rattle.std.proofs.Common.{◌≡◌, subst}
+use Rattle.hir_store.specs.Stored.{Stored, map_of, store_of}
+use Rattle.hir_store.specs.Range.{InRange}
+use Rattle.hir_store.proofs.builder.ExpressionStoreBuilder.in_range.Goals as goal
+
+pub returns : goal.returns
+returns c =
+    let s : Stored = record { exprs = c.self.inside.exprs; labels = c.self.inside.labels; roots = c.self.inside.roots; block_scopes = c.self.inside.block_scopes; diagnostics = c.self.inside.diagnostics } in
+    let P : Stored → Type 0 = λ v. InRange (store_of v) (map_of v) in
+    let exprs = c.kept.ensures in
+    let labels = c.kept-2.ensures in
+    subst P c.self.view_is (record {
+      store = c.self.invariant;
+      source_map = record { expr_sources = exprs.as_many; label_sources = labels.as_many; exprs = exprs.ways; labels = labels.ways };
+    })
