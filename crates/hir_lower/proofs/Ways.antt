@@ -1,7 +1,7 @@
 -- Each step of lowering lets nodes lead to what came since it began.
 use Rattle.std.proofs.Common.{arith, ◌≡◌, ◌∙◌, refl, sym, ap, subst, ℕ, ◌≤◌, Bool, true, false, if◌then◌else◌, nat_lt, length}
 use Rattle.std.proofs.Common.{length-append}
-use Rattle.std.proofs.Common.{List, [], ◌∷◌, ◌++◌, Option, Some, None, Ok, Err, ◌⊎◌, inl, inr, ⊎_elim, true≢false, is_some}
+use Rattle.std.proofs.Common.{List, [], ◌∷◌, Option, Some, None, Ok, Err, ◌⊎◌, inl, inr, ⊎_elim, true≢false, is_some}
 use Rattle.hir_store.specs.Pointers.{Pointer, same_pointer, found}
 use Rattle.hir_store.specs.Arenas.{Sourced, pointed, with_entry}
 use Rattle.hir_store.specs.Stored.{Stored}
@@ -184,12 +184,15 @@ leading_alloc e source = record { goes = λ b. by b (nat_lt (length b.stored.exp
         (record b { stored = record b.stored { exprs = (made_expr t e source b.stored.exprs).1 } })
     by b true =
         let xs = b.stored.exprs.entries in
-        let grown = length-append xs (e ∷ []) in (record {
-          nodes = omega arith;
-          labels = omega arith;
-          expr_ways = on_pointed expr_place _ b.stored.exprs.map source (expr_id (length xs)) (omega arith);
-          label_ways = on_refl label_place _ _;
-        }, omega arith)
+        let grown = length-append xs (e ∷ []) in (
+          record {
+            nodes = omega arith;
+            labels = omega arith;
+            expr_ways = on_pointed expr_place _ b.stored.exprs.map source (expr_id (length xs)) (omega arith);
+            label_ways = on_refl label_place _ _;
+          },
+          omega arith,
+        )
     by b false = went_same _ _ refl refl
 
 abbrev made_label : Bool → HirLabel → Option Pointer → Sourced HirLabel LabelId → Checked LabelId × Sourced HirLabel LabelId
@@ -229,12 +232,15 @@ leading_point at {p = p} h = record { goes = λ b. by b (p b).0 (p b).1 (h.goes 
     by : (b : Builder) (o : Checked ExprId) (c : Builder) → Goes since b o c
         → Goes since b (go_on o c (λ i. point at i >>= (λ _. pure i))).0 (go_on o c (λ i. point at i >>= (λ _. pure i))).1
     by b (Ok i) c x =
-        let w = x.0 in (record {
-          nodes = w.nodes;
-          labels = w.labels;
-          expr_ways = on_trans expr_place _ _ _ _ w.expr_ways (on_insert expr_place _ c.stored.exprs.map at i x.1);
-          label_ways = w.label_ways;
-        }, x.1)
+        let w = x.0 in (
+          record {
+            nodes = w.nodes;
+            labels = w.labels;
+            expr_ways = on_trans expr_place _ _ _ _ w.expr_ways (on_insert expr_place _ c.stored.exprs.map at i x.1);
+            label_ways = w.label_ways;
+          },
+          x.1,
+        )
     by b (Err e) c x = x
 
 -- what is open is closed behind an expression
