@@ -62,7 +62,8 @@ root_stays e b =
     rw (root_steps e b)
     (record { extends = recorded_stays b o c (keeping e (closed b)); exprs = ways.expr_ways; labels = ways.label_ways })
 
-pub stays_unless : (e : OptionExpr) (b b' : Builder) (r : Checked ExprId) → Lowers HasExpr (root_of e) b r b' → r ≢ Err Memory → Stays b.stored b'.stored
+pub stays_unless : (e : OptionExpr) (b b' : Builder) (r : Checked ExprId) → Lowers HasExpr (root_of e) b r b'
+    → r ≢ Err Memory → Stays b.stored b'.stored
 stays_unless e b b' (Ok i) l n = let P : Checked ExprId × Builder → Type 0 = λ q. Stays b.stored q.1.stored in subst P l.0 (root_stays e b)
 stays_unless e b b' (Err x) l n =
     let other : x ≢ Memory = λ is. n (ap Err is) in

@@ -11,8 +11,8 @@ use Rattle.hir_lower_form.specs.Lowering.{Lowering}
 use Rattle.hir_lower_form.specs.Lower.{Node, Contents, missing, some, if_form, loop_form, call_form, continue_form}
 use Rattle.hir_lower_form.specs.Lower.{break_form, paren_form, block_form, labelled, kept, lower, lower_part}
 use Rattle.hir_lower_form.specs.Lower.{present, kept_part, lower_each, lower_block, lower_block_part, lower_stmts, lower_stmt}
-use Rattle.hir_lower.proofs.Ways.{Leading, any, since, then', makes, leading_pure, leading_report, leading_block, leading_close, leading_jump}
-use Rattle.hir_lower.proofs.Ways.{leading_alloc, leading_open, leading_point, leading_closed}
+use Rattle.hir_lower.proofs.Ways.{Leading, any, since, then', makes, leading_pure, leading_report, leading_block, leading_close}
+use Rattle.hir_lower.proofs.Ways.{leading_jump, leading_alloc, leading_open, leading_point, leading_closed}
 
 missing_leads : Leading since missing
 unfolding missing
@@ -22,7 +22,8 @@ some_leads : {p : Node} → Leading since p → Leading any (some p)
 some_leads h = then' h (λ a. leading_pure (Some a))
 
 module _ (at : Pointer) where
-  if_leads : {c t : Node} {e : Lowering (Option ExprId)} → Leading since c → Leading since t → Leading any e → Leading since (if_form at c t e)
+  if_leads : {c t : Node} {e : Lowering (Option ExprId)} → Leading since c → Leading since t → Leading any e
+      → Leading since (if_form at c t e)
   unfolding if_form
   if_leads hc ht he = makes ht (λ i. makes he (λ j. makes hc (λ k. leading_alloc _ (Some at))))
 
@@ -47,11 +48,13 @@ module _ (at : Pointer) where
   unfolding paren_form
   paren_leads h = leading_point at h
 
-  block_form_leads : (label : Option LabelId) (number : Option BlockId) {c : Lowering Contents} → Leading any c → Leading since (block_form at label number c)
+  block_form_leads : (label : Option LabelId) (number : Option BlockId) {c : Lowering Contents} → Leading any c
+      → Leading since (block_form at label number c)
   unfolding block_form
   block_form_leads label number h = makes (leading_block number) (λ u. makes h (λ r. leading_alloc _ (Some at)))
 
-labelled_leads : (label : Option Label) {f : Option LabelId → Node} → ((n : Option LabelId) → Leading since (f n)) → Leading since (labelled label f)
+labelled_leads : (label : Option Label) {f : Option LabelId → Node} → ((n : Option LabelId) → Leading since (f n))
+    → Leading since (labelled label f)
 unfolding labelled
 labelled_leads None h = h None
 labelled_leads (Some l) h = makes (leading_open l) (λ n. leading_closed (h (Some n)))
@@ -90,13 +93,15 @@ mutual
   each_leads done (tree.more_exprs e es) = then' (kept_leads e (node_leads e)) (λ x. each_leads _ es)
 
   block_leads : (b : Block) → Leading since (lower_block b)
-  block_leads (tree.block at label number ss e) = labelled_leads label (λ n. block_form_leads at n number (stmts_leads [] ss (kept_part_leads e)))
+  block_leads (tree.block at label number ss e) =
+      labelled_leads label (λ n. block_form_leads at n number (stmts_leads [] ss (kept_part_leads e)))
 
   block_part_leads : (b : OptionBlock) → Leading since (lower_block_part b)
   block_part_leads tree.no_block = missing_leads
   block_part_leads (tree.some_block b) = block_leads b
 
-  stmts_leads : (done : List Statement) (ss : Stmts) {tail : Lowering (Option ExprId)} → Leading any tail → Leading any (lower_stmts done ss tail)
+  stmts_leads : (done : List Statement) (ss : Stmts) {tail : Lowering (Option ExprId)} → Leading any tail
+      → Leading any (lower_stmts done ss tail)
   stmts_leads done tree.no_stmts h = then' h (λ t. leading_pure (done, t))
   stmts_leads done (tree.more_stmts s ss) h = then' (stmt_leads s) (λ x. stmts_leads _ ss h)
 

@@ -1,6 +1,7 @@
 -- Each step of lowering lets nodes lead to what came since it began.
-use Rattle.std.proofs.Common.{arith, ◌≡◌, ◌∙◌, refl, sym, ap, subst, ℕ, ◌≤◌, Bool, true, false, if◌then◌else◌, nat_lt, length, length-append}
-use Rattle.std.proofs.Common.{List, [], ◌∷◌, ◌++◌, Option, Some, None, Ok, Err, ◌⊎◌, inl, inr, ⊎_elim, true≢false, is_some}
+use Rattle.std.proofs.Common.{arith, ◌≡◌, ◌∙◌, refl, sym, ap, subst, ℕ, ◌≤◌, Bool, true, false, if◌then◌else◌, nat_lt, length}
+use Rattle.std.proofs.Common.{length-append}
+use Rattle.std.proofs.Common.{List, [], ◌∷◌, Option, Some, None, Ok, Err, ◌⊎◌, inl, inr, ⊎_elim, true≢false, is_some}
 use Rattle.hir_store.specs.Pointers.{Pointer, same_pointer, found}
 use Rattle.hir_store.specs.Arenas.{Sourced, pointed, with_entry}
 use Rattle.hir_store.specs.Stored.{Stored}
@@ -16,7 +17,8 @@ use Rattle.hir_store.specs.declared.ids.BlockId.{BlockId}
 use Rattle.hir_env.specs.Answered.{Label, Jump}
 use Rattle.hir_scope.specs.Ribs.{Target, found as met, unreachable, undeclared, target}
 use Rattle.hir_lower_form.specs.Builder.{Builder}
-use Rattle.hir_lower_form.specs.Lowering.{Checked, go_on, Lowering, ◌>>=◌, pure, alloc_expr, point, report, enter_block, open_label, close, jump_target, found_or_fault, enter}
+use Rattle.hir_lower_form.specs.Lowering.{Checked, go_on, Lowering, ◌>>=◌, pure, alloc_expr, point, report}
+use Rattle.hir_lower_form.specs.Lowering.{enter_block, open_label, close, jump_target, found_or_fault, enter}
 use Rattle.hir_lower.specs.Stays.{LeadsOn}
 
 -- ---- maps
@@ -26,7 +28,10 @@ module _ {I : Type 0} (place : I → ℕ) (n : ℕ) where
   on_refl es = λ p t f. (t, (f, inl refl))
 
   on_trans : (a b c : List (Pointer × I)) → LeadsOn place n a b → LeadsOn place n b c → LeadsOn place n a c
-  on_trans a b c g h = λ p t f. let x = g p t f in let y = h p x.0 x.1.0 in (y.0, (y.1.0, ⊎_elim (λ e. by p t x.0 y.0 e x.1.1) (λ l. inr l) y.1.1))
+  on_trans a b c g h = λ p t f.
+      let x = g p t f in
+      let y = h p x.0 x.1.0 in
+      (y.0, (y.1.0, ⊎_elim (λ e. by p t x.0 y.0 e x.1.1) (λ l. inr l) y.1.1))
     where
       by : (p : Pointer) (t u v : I) → v ≡ u → (u ≡ t) ⊎ (n ≤ place u) → (v ≡ t) ⊎ (n ≤ place v)
       by p t u v e (inl d) = inl (e ∙ d)
@@ -42,7 +47,9 @@ module _ {I : Type 0} (place : I → ℕ) (n : ℕ) where
       by : (q : Pointer) (t : I) → (found es q ≡ Some t → There q t (pointed es (Some p) id)) → (b c : Bool) → same_pointer q e.0 ≡ c
           → found (e ∷ es) q ≡ Some t → There q t (if b then (e.0, id) ∷ es else e ∷ pointed es (Some p) id)
       by q t others true true m f = (id, (ap (λ b. if b then Some id else found es q) m, inr l))
-      by q t others true false m f = (t, (ap (λ b. if b then Some id else found es q) m ∙ (sym (ap (λ b. if b then Some e.1 else found es q) m) ∙ f), inl refl))
+      by q t others true false m f =
+          let was : found es q ≡ Some t = sym (ap (λ b. if b then Some e.1 else found es q) m) ∙ f in
+          (t, (ap (λ b. if b then Some id else found es q) m ∙ was, inl refl))
       by q t others false true m f =
           let w : Some e.1 ≡ Some t = sym (ap (λ b. if b then Some e.1 else found es q) m) ∙ f in
           (e.1, (ap (λ b. if b then Some e.1 else found (pointed es (Some p) id) q) m, inl cc))
@@ -72,7 +79,12 @@ pub record Went (a b : Stored) : Type 0 where
   pub label_ways : LeadsOn (λ n. n.0) (length a.labels.entries) a.labels.map b.labels.map
 
 went_same : (a b : Stored) → b.exprs ≡ a.exprs → b.labels ≡ a.labels → Went a b
-went_same a b e l = rw (e, l) (record { nodes = omega arith; labels = omega arith; expr_ways = on_refl expr_place _ _; label_ways = on_refl label_place _ _ })
+went_same a b e l = rw (e, l) (record {
+  nodes = omega arith;
+  labels = omega arith;
+  expr_ways = on_refl expr_place _ _;
+  label_ways = on_refl label_place _ _;
+})
 
 pub went_trans : (a b c : Stored) → Went a b → Went b c → Went a c
 went_trans a b c g h =
@@ -113,8 +125,8 @@ went_of L b (Err e) c h = h
 pub went : {A : Type 0} {L : Low A} {p : Lowering A} → Leading L p → (b : Builder) → Went b.stored (p b).1.stored
 went {L = L} {p = p} h b = went_of L b (p b).0 (p b).1 (h.goes b)
 
-bound : {A B : Type 0} {L : Low A} {p : Lowering A} {f : A → Lowering B} (M : Low B) → ((n m : ℕ) (x : B) → n ≤ m → M m x → M n x) → Leading L p
-    → ((a : A) → Leading M (f a)) → Leading M (p >>= f)
+bound : {A B : Type 0} {L : Low A} {p : Lowering A} {f : A → Lowering B} (M : Low B)
+    → ((n m : ℕ) (x : B) → n ≤ m → M m x → M n x) → Leading L p → ((a : A) → Leading M (f a)) → Leading M (p >>= f)
 bound {A = A} {B = B} {L = L} {p = p} {f = f} M less h k = record { goes = λ b. first b (p b).0 (p b).1 (h.goes b) }
   where
     second : (b b' : Builder) → Went b.stored b'.stored → (o : Checked B) (c : Builder) → Goes M b' o c → Goes M b o c
@@ -125,11 +137,13 @@ bound {A = A} {B = B} {L = L} {p = p} {f = f} M less h k = record { goes = λ b.
     first b (Ok a) c x = second b c x.0 (f a c).0 (f a c).1 ((k a).goes c)
     first b (Err e) c x = x
 
-pub then' : {A B : Type 0} {L : Low A} {p : Lowering A} {f : A → Lowering B} → Leading L p → ((a : A) → Leading any (f a)) → Leading any (p >>= f)
+pub then' : {A B : Type 0} {L : Low A} {p : Lowering A} {f : A → Lowering B} → Leading L p
+    → ((a : A) → Leading any (f a)) → Leading any (p >>= f)
 then' h k = bound any (λ n m x le y. tt) h k
 
 -- and what it answers came since
-pub makes : {A : Type 0} {L : Low A} {p : Lowering A} {f : A → Lowering ExprId} → Leading L p → ((a : A) → Leading since (f a)) → Leading since (p >>= f)
+pub makes : {A : Type 0} {L : Low A} {p : Lowering A} {f : A → Lowering ExprId} → Leading L p
+    → ((a : A) → Leading since (f a)) → Leading since (p >>= f)
 makes h k = bound since (λ n m x le y. omega arith) h k
 
 pub leading_pure : {A : Type 0} (a : A) → Leading any (pure a)
@@ -166,15 +180,19 @@ unfolding alloc_expr storing.alloc_expr
 leading_alloc e source = record { goes = λ b. by b (nat_lt (length b.stored.exprs.entries) b.stored.exprs.limit) }
   where
     by : (b : Builder) (t : Bool)
-        → Goes since b (made_expr t e source b.stored.exprs).0 (record b { stored = record b.stored { exprs = (made_expr t e source b.stored.exprs).1 } })
+        → Goes since b (made_expr t e source b.stored.exprs).0
+        (record b { stored = record b.stored { exprs = (made_expr t e source b.stored.exprs).1 } })
     by b true =
         let xs = b.stored.exprs.entries in
-        let grown = length-append xs (e ∷ []) in (record {
-          nodes = omega arith;
-          labels = omega arith;
-          expr_ways = on_pointed expr_place _ b.stored.exprs.map source (expr_id (length xs)) (omega arith);
-          label_ways = on_refl label_place _ _;
-        }, omega arith)
+        let grown = length-append xs (e ∷ []) in (
+          record {
+            nodes = omega arith;
+            labels = omega arith;
+            expr_ways = on_pointed expr_place _ b.stored.exprs.map source (expr_id (length xs)) (omega arith);
+            label_ways = on_refl label_place _ _;
+          },
+          omega arith,
+        )
     by b false = went_same _ _ refl refl
 
 abbrev made_label : Bool → HirLabel → Option Pointer → Sourced HirLabel LabelId → Checked LabelId × Sourced HirLabel LabelId
@@ -214,12 +232,15 @@ leading_point at {p = p} h = record { goes = λ b. by b (p b).0 (p b).1 (h.goes 
     by : (b : Builder) (o : Checked ExprId) (c : Builder) → Goes since b o c
         → Goes since b (go_on o c (λ i. point at i >>= (λ _. pure i))).0 (go_on o c (λ i. point at i >>= (λ _. pure i))).1
     by b (Ok i) c x =
-        let w = x.0 in (record {
-          nodes = w.nodes;
-          labels = w.labels;
-          expr_ways = on_trans expr_place _ _ _ _ w.expr_ways (on_insert expr_place _ c.stored.exprs.map at i x.1);
-          label_ways = w.label_ways;
-        }, x.1)
+        let w = x.0 in (
+          record {
+            nodes = w.nodes;
+            labels = w.labels;
+            expr_ways = on_trans expr_place _ _ _ _ w.expr_ways (on_insert expr_place _ c.stored.exprs.map at i x.1);
+            label_ways = w.label_ways;
+          },
+          x.1,
+        )
     by b (Err e) c x = x
 
 -- what is open is closed behind an expression

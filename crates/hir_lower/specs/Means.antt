@@ -27,9 +27,9 @@ use Rattle.hir_one_result.specs.Diagnostics.{Faults, part_diagnostics}
 use Rattle.hir_one_result.specs.Leads.{Way, label_ways, Led}
 use Rattle.hir_one_result.specs.Stands.{StandsPart}
 
--- What is so of a root in a later store. Its expression does what the tree does; what is stored stands for the tree, and where the source map
--- led by then it leads still, or by the ways of the tree; each label more has its way; each number that it reaches is reached in one way, and
--- is one that lowering it gave out.
+-- What is so of a root in a later store. Its expression does what the tree does; what is stored stands for the tree, and where the source
+-- map led by then it leads still, or by the ways of the tree; each label more has its way; each number that it reaches is reached in one
+-- way, and is one that lowering it gave out.
 pub record Lives (old new later : Stored) (i : ExprId) (e : OptionExpr) : Type 0 where
   pub same : SameMeaning (store_of later) (map_of later) i e
   pub ways : List Way

@@ -5,7 +5,6 @@ use Rattle.hir_store.proofs.builder.ExpressionStoreBuilder.in_range.Goals as goa
 
 pub returns : goal.returns
 returns c =
-    let s : Stored = record { exprs = c.self.inside.exprs; labels = c.self.inside.labels; roots = c.self.inside.roots; block_scopes = c.self.inside.block_scopes; diagnostics = c.self.inside.diagnostics } in
     let P : Stored → Type 0 = λ v. InRange (store_of v) (map_of v) in
     let exprs = c.kept.ensures in
     let labels = c.kept-2.ensures in
