@@ -7,10 +7,13 @@ use Rattle.hir_store.specs.declared.hir.Statement.{Statement}
 use Rattle.hir_store.specs.declared.ids.ExprId.{ExprId}
 use Rattle.hir_store.specs.declared.ids.LabelId.{LabelId}
 use Rattle.hir_store.specs.declared.ids.BlockId.{BlockId}
+use Rattle.hir_syntax.specs.declared.ast.ExprKind.{ExprKind as AstExprKind, out-ExprKind}
+use Rattle.hir_store.specs.Pointers.{Pointer}
 use Rattle.hir_env.specs.Spot.{Spot}
+use Rattle.hir_env.specs.Answering.{expr_at}
 use Rattle.hir_env.specs.Answered as tree
 use Rattle.hir_env.specs.Answered.{Expr, OptionExpr, Exprs, Block, OptionBlock, Stmts, Stmt}
-use Rattle.hir_env.specs.Whole.{expr_part, stmts_part, pointer_at}
+use Rattle.hir_env.specs.Whole.{expr_part, reader, stmts_part, pointer_at}
 use Rattle.hir_lower_form.specs.Builder.{Builder}
 use Rattle.hir_lower_form.specs.Lowering.{Lowering, Checked, Lowers, ◌>>=◌, pure}
 use Rattle.hir_lower_form.specs.Lower as spec
@@ -18,6 +21,10 @@ use Rattle.hir_lower_form.specs.Lower.{Node, Contents}
 
 abbrev pub LowersExpr : Expr → Builder → Checked ExprId → Builder → Type 0
 LowersExpr e old result new = Lowers HasExpr (spec.lower e) old result new
+
+-- an expression of this kind, at this node
+abbrev pub kind_at : Spot → Pointer → AstExprKind → Expr
+kind_at at s k = expr_at at.answers (reader at.answers) (out-ExprKind k) at.place s
 
 -- none where a condition disables it
 abbrev pub MaybeLowersExpr : Expr → Builder → Checked (Option ExprId) → Builder → Type 0

@@ -20,47 +20,33 @@ impl<P: LowerParts> Lowerer<P> {
     {
         let at = self.pointer(node.id, node.range);
         match &node.kind {
-            ast::ExprKind::IfExpr {
-                condition,
-                then,
-                else_,
-            } => self.if_form(state, at, condition, then, else_),
-            ast::ExprKind::BlockExpr(block) => self.block_form(state, block.get()),
-            ast::ExprKind::LoopExpr { label, body } => self.loop_form(state, at, label, body),
-            ast::ExprKind::CallExpr { expr, args } => self.call_form(state, at, expr, args),
-            ast::ExprKind::PathExpr { path } => self.path_form(state, at, path),
-            ast::ExprKind::ContinueExpr { lifetime } => self.continue_form(state, at, lifetime),
-            ast::ExprKind::BreakExpr { lifetime, expr } => self.break_form(
-                state, at, lifetime, expr,
-            ),
-            ast::ExprKind::ParenExpr { expr } => self.paren_form(state, at, expr),
-            ast::ExprKind::Literal(written) => self.literal_form(state, at, written),
-            ast::ExprKind::MethodCallExpr {
-                receiver,
-                name,
-                args,
-            } => self.method_call_form(state, at, receiver, name, args),
-            ast::ExprKind::FieldExpr { expr, name } => self.field_form(state, at, expr, name),
-            ast::ExprKind::PrefixExpr { op, expr } => self.prefix_form(state, at, *op, expr),
-            ast::ExprKind::BinExpr { op, lhs, rhs } => self.binary_form(state, at, *op, lhs, rhs),
-            ast::ExprKind::IndexExpr { base, index } => self.index_form(state, at, base, index),
-            ast::ExprKind::RefExpr { raw, mut_, expr } => self.reference_form(
-                state, at, *raw, *mut_, expr,
-            ),
-            ast::ExprKind::TupleExpr {
-                leading_comma,
-                fields,
-            } => self.tuple_form(state, at, *leading_comma, fields),
-            ast::ExprKind::ArrayExpr { elems } => self.array_form(state, at, elems),
-            ast::ExprKind::ReturnExpr { expr } => self.return_form(state, at, expr),
-            ast::ExprKind::BecomeExpr { expr } => self.become_form(state, at, expr),
-            ast::ExprKind::YieldExpr { expr } => self.yield_form(state, at, expr),
-            ast::ExprKind::YeetExpr { expr } => self.yeet_form(state, at, expr),
-            ast::ExprKind::AwaitExpr { expr } => self.await_form(state, at, expr),
-            ast::ExprKind::CfgPredExpr { pred } => self.predicate_form(state, at, *pred),
-            ast::ExprKind::UnderscoreExpr => self.underscore_form(state, at),
-            ast::ExprKind::IncludeBytesExpr => self.include_bytes_form(state, at),
-            ast::ExprKind::AsmExpr | ast::ExprKind::FormatArgsExpr => self.left_out_form(state, at),
+            ast::ExprKind::IfExpr { .. }
+            | ast::ExprKind::BlockExpr(_)
+            | ast::ExprKind::LoopExpr { .. }
+            | ast::ExprKind::ContinueExpr { .. }
+            | ast::ExprKind::BreakExpr { .. } => self.control_kind(state, at, &node.kind),
+            ast::ExprKind::CallExpr { .. }
+            | ast::ExprKind::MethodCallExpr { .. }
+            | ast::ExprKind::TupleExpr { .. }
+            | ast::ExprKind::ArrayExpr { .. } => self.listing_kind(state, at, &node.kind),
+            ast::ExprKind::ParenExpr { .. }
+            | ast::ExprKind::FieldExpr { .. }
+            | ast::ExprKind::IndexExpr { .. }
+            | ast::ExprKind::RefExpr { .. } => self.place_kind(state, at, &node.kind),
+            ast::ExprKind::PrefixExpr { .. }
+            | ast::ExprKind::BinExpr { .. }
+            | ast::ExprKind::AwaitExpr { .. } => self.operator_kind(state, at, &node.kind),
+            ast::ExprKind::ReturnExpr { .. }
+            | ast::ExprKind::BecomeExpr { .. }
+            | ast::ExprKind::YieldExpr { .. }
+            | ast::ExprKind::YeetExpr { .. } => self.leaving_kind(state, at, &node.kind),
+            ast::ExprKind::PathExpr { .. }
+            | ast::ExprKind::Literal(_)
+            | ast::ExprKind::CfgPredExpr { .. }
+            | ast::ExprKind::UnderscoreExpr
+            | ast::ExprKind::IncludeBytesExpr
+            | ast::ExprKind::AsmExpr
+            | ast::ExprKind::FormatArgsExpr => self.leaf_kind(state, at, &node.kind),
         }
     }
 

@@ -1,0 +1,112 @@
+-- No kind of a family is left where each was taken.
+use Rattle.std.proofs.Common.{◌≡◌, ◌∙◌, ap, sym, refl, Bool, List, Option}
+use Rattle.hir_syntax.specs.declared.ast.ElseBranch.TheOpen.{ExprKind-F}
+use Rattle.hir_syntax.specs.declared.ast.ExprKind.{ExprKind as AstExprKind, out-ExprKind, roll-ExprKind, roll-out-ExprKind}
+use Rattle.hir_syntax.specs.declared.ast.ExprKind.TheVariants as kind
+use Rattle.hir_syntax.specs.declared.ast.Expr.{Expr as AstExpr}
+use Rattle.hir_syntax.specs.declared.ast.BlockExpr.{BlockExpr as AstBlockExpr}
+use Rattle.hir_syntax.specs.declared.ast.ElseBranch.{ElseBranch as AstElseBranch}
+use Rattle.hir_syntax.specs.declared.ast.Label.{Label as AstLabel}
+use Rattle.hir_syntax.specs.declared.ast.Lifetime.{Lifetime as AstLifetime}
+use Rattle.hir_syntax.specs.declared.ast.Literal.{Literal as AstLiteral}
+use Rattle.hir_syntax.specs.declared.ast.Name.{Name as AstName}
+use Rattle.hir_syntax.specs.declared.ast.Path.{Path as AstPath}
+use Rattle.hir_syntax.specs.declared.ast.BinaryOp.{BinaryOp}
+use Rattle.hir_syntax.specs.declared.ast.UnaryOp.{UnaryOp}
+use Rattle.hir_syntax.specs.declared.node.PredId.{PredId}
+use Rattle.hir_env.specs.Layers.{ExprKindLayer}
+use Rattle.hir_env.specs.Whole.{written}
+use Rattle.hir_lower_form.specs.Families.{IsControl, IsListing, IsPlace, IsOperator, IsLeaving, IsLeaf}
+
+made : (k : AstExprKind) (l : ExprKindLayer written) → out-ExprKind k ≡ l → k ≡ roll-ExprKind l
+made k l h = sym (roll-out-ExprKind k) ∙ ap roll-ExprKind h
+
+pub only_control : (k : AstExprKind) → IsControl (out-ExprKind k)
+    → ((c : Option AstExpr) (t : Option AstBlockExpr) (e : Option AstElseBranch) → k ≡ kind.IfExpr c t e → ⊥)
+    → ((b : AstBlockExpr) → k ≡ kind.BlockExpr b → ⊥)
+    → ((l : Option AstLabel) (b : Option AstBlockExpr) → k ≡ kind.LoopExpr l b → ⊥)
+    → ((l : Option AstLifetime) → k ≡ kind.ContinueExpr l → ⊥)
+    → ((l : Option AstLifetime) (e : Option AstExpr) → k ≡ kind.BreakExpr l e → ⊥) → ⊥
+only_control k is no_if no_block no_loop no_continue no_break = by (out-ExprKind k) refl is
+  where
+    by : (l : ExprKindLayer written) → out-ExprKind k ≡ l → IsControl l → ⊥
+    by (ExprKind-F.IfExpr c t e) h is = no_if c t e (made k _ h ∙ kind.rolls-IfExpr c t e)
+    by (ExprKind-F.BlockExpr b) h is = no_block b (made k _ h ∙ kind.rolls-BlockExpr b)
+    by (ExprKind-F.LoopExpr l b) h is = no_loop l b (made k _ h ∙ kind.rolls-LoopExpr l b)
+    by (ExprKind-F.ContinueExpr l) h is = no_continue l (made k _ h ∙ kind.rolls-ContinueExpr l)
+    by (ExprKind-F.BreakExpr l e) h is = no_break l e (made k _ h ∙ kind.rolls-BreakExpr l e)
+    by _ h is = is
+
+pub only_listing : (k : AstExprKind) → IsListing (out-ExprKind k)
+    → ((f : Option AstExpr) (es : Option (List AstExpr)) → k ≡ kind.CallExpr f es → ⊥)
+    → ((e : Option AstExpr) (n : Option AstName) (es : Option (List AstExpr)) → k ≡ kind.MethodCallExpr e n es → ⊥)
+    → ((comma : Bool) (es : List AstExpr) → k ≡ kind.TupleExpr comma es → ⊥)
+    → ((es : List AstExpr) → k ≡ kind.ArrayExpr es → ⊥) → ⊥
+only_listing k is no_call no_methodcall no_tuple no_array = by (out-ExprKind k) refl is
+  where
+    by : (l : ExprKindLayer written) → out-ExprKind k ≡ l → IsListing l → ⊥
+    by (ExprKind-F.CallExpr f es) h is = no_call f es (made k _ h ∙ kind.rolls-CallExpr f es)
+    by (ExprKind-F.MethodCallExpr e n es) h is = no_methodcall e n es (made k _ h ∙ kind.rolls-MethodCallExpr e n es)
+    by (ExprKind-F.TupleExpr comma es) h is = no_tuple comma es (made k _ h ∙ kind.rolls-TupleExpr comma es)
+    by (ExprKind-F.ArrayExpr es) h is = no_array es (made k _ h ∙ kind.rolls-ArrayExpr es)
+    by _ h is = is
+
+pub only_place : (k : AstExprKind) → IsPlace (out-ExprKind k)
+    → ((e : Option AstExpr) → k ≡ kind.ParenExpr e → ⊥)
+    → ((e : Option AstExpr) (n : Option AstName) → k ≡ kind.FieldExpr e n → ⊥)
+    → ((a : Option AstExpr) (b : Option AstExpr) → k ≡ kind.IndexExpr a b → ⊥)
+    → ((r : Bool) (m : Bool) (e : Option AstExpr) → k ≡ kind.RefExpr r m e → ⊥) → ⊥
+only_place k is no_paren no_field no_index no_ref = by (out-ExprKind k) refl is
+  where
+    by : (l : ExprKindLayer written) → out-ExprKind k ≡ l → IsPlace l → ⊥
+    by (ExprKind-F.ParenExpr e) h is = no_paren e (made k _ h ∙ kind.rolls-ParenExpr e)
+    by (ExprKind-F.FieldExpr e n) h is = no_field e n (made k _ h ∙ kind.rolls-FieldExpr e n)
+    by (ExprKind-F.IndexExpr a b) h is = no_index a b (made k _ h ∙ kind.rolls-IndexExpr a b)
+    by (ExprKind-F.RefExpr r m e) h is = no_ref r m e (made k _ h ∙ kind.rolls-RefExpr r m e)
+    by _ h is = is
+
+pub only_operator : (k : AstExprKind) → IsOperator (out-ExprKind k)
+    → ((o : Option UnaryOp) (e : Option AstExpr) → k ≡ kind.PrefixExpr o e → ⊥)
+    → ((o : Option BinaryOp) (a : Option AstExpr) (b : Option AstExpr) → k ≡ kind.BinExpr o a b → ⊥)
+    → ((e : Option AstExpr) → k ≡ kind.AwaitExpr e → ⊥) → ⊥
+only_operator k is no_prefix no_bin no_await = by (out-ExprKind k) refl is
+  where
+    by : (l : ExprKindLayer written) → out-ExprKind k ≡ l → IsOperator l → ⊥
+    by (ExprKind-F.PrefixExpr o e) h is = no_prefix o e (made k _ h ∙ kind.rolls-PrefixExpr o e)
+    by (ExprKind-F.BinExpr o a b) h is = no_bin o a b (made k _ h ∙ kind.rolls-BinExpr o a b)
+    by (ExprKind-F.AwaitExpr e) h is = no_await e (made k _ h ∙ kind.rolls-AwaitExpr e)
+    by _ h is = is
+
+pub only_leaving : (k : AstExprKind) → IsLeaving (out-ExprKind k)
+    → ((e : Option AstExpr) → k ≡ kind.ReturnExpr e → ⊥)
+    → ((e : Option AstExpr) → k ≡ kind.BecomeExpr e → ⊥)
+    → ((e : Option AstExpr) → k ≡ kind.YieldExpr e → ⊥)
+    → ((e : Option AstExpr) → k ≡ kind.YeetExpr e → ⊥) → ⊥
+only_leaving k is no_return no_become no_yield no_yeet = by (out-ExprKind k) refl is
+  where
+    by : (l : ExprKindLayer written) → out-ExprKind k ≡ l → IsLeaving l → ⊥
+    by (ExprKind-F.ReturnExpr e) h is = no_return e (made k _ h ∙ kind.rolls-ReturnExpr e)
+    by (ExprKind-F.BecomeExpr e) h is = no_become e (made k _ h ∙ kind.rolls-BecomeExpr e)
+    by (ExprKind-F.YieldExpr e) h is = no_yield e (made k _ h ∙ kind.rolls-YieldExpr e)
+    by (ExprKind-F.YeetExpr e) h is = no_yeet e (made k _ h ∙ kind.rolls-YeetExpr e)
+    by _ h is = is
+
+pub only_leaf : (k : AstExprKind) → IsLeaf (out-ExprKind k)
+    → ((x : Option AstPath) → k ≡ kind.PathExpr x → ⊥)
+    → ((l : AstLiteral) → k ≡ kind.Literal l → ⊥)
+    → ((pred : Option PredId) → k ≡ kind.CfgPredExpr pred → ⊥)
+    → (k ≡ kind.UnderscoreExpr → ⊥)
+    → (k ≡ kind.IncludeBytesExpr → ⊥)
+    → (k ≡ kind.AsmExpr → ⊥)
+    → (k ≡ kind.FormatArgsExpr → ⊥) → ⊥
+only_leaf k is no_path no_literal no_cfgpred no_underscore no_includebytes no_asm no_formatargs = by (out-ExprKind k) refl is
+  where
+    by : (l : ExprKindLayer written) → out-ExprKind k ≡ l → IsLeaf l → ⊥
+    by (ExprKind-F.PathExpr x) h is = no_path x (made k _ h ∙ kind.rolls-PathExpr x)
+    by (ExprKind-F.Literal l) h is = no_literal l (made k _ h ∙ kind.rolls-Literal l)
+    by (ExprKind-F.CfgPredExpr pred) h is = no_cfgpred pred (made k _ h ∙ kind.rolls-CfgPredExpr pred)
+    by ExprKind-F.UnderscoreExpr h is = no_underscore (made k _ h ∙ kind.rolls-UnderscoreExpr)
+    by ExprKind-F.IncludeBytesExpr h is = no_includebytes (made k _ h ∙ kind.rolls-IncludeBytesExpr)
+    by ExprKind-F.AsmExpr h is = no_asm (made k _ h ∙ kind.rolls-AsmExpr)
+    by ExprKind-F.FormatArgsExpr h is = no_formatargs (made k _ h ∙ kind.rolls-FormatArgsExpr)
+    by _ h is = is

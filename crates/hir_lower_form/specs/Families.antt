@@ -1,0 +1,55 @@
+-- The kinds of expressions by family. A method for each takes its own kinds apart, so that no method takes all.
+use Rattle.hir_syntax.specs.declared.ast.ElseBranch.TheOpen.{ExprKind-F}
+use Rattle.hir_env.specs.Layers.{ExprKindLayer}
+use Rattle.hir_env.specs.Whole.{written}
+
+-- blocks, branches, loops and jumps
+abbrev pub IsControl : ExprKindLayer written → Type 0
+IsControl (ExprKind-F.IfExpr c t e) = Unit {0}
+IsControl (ExprKind-F.BlockExpr b) = Unit {0}
+IsControl (ExprKind-F.LoopExpr l b) = Unit {0}
+IsControl (ExprKind-F.ContinueExpr l) = Unit {0}
+IsControl (ExprKind-F.BreakExpr l e) = Unit {0}
+IsControl _ = ⊥
+
+-- with a list of parts
+abbrev pub IsListing : ExprKindLayer written → Type 0
+IsListing (ExprKind-F.CallExpr f es) = Unit {0}
+IsListing (ExprKind-F.MethodCallExpr e n es) = Unit {0}
+IsListing (ExprKind-F.TupleExpr comma es) = Unit {0}
+IsListing (ExprKind-F.ArrayExpr es) = Unit {0}
+IsListing _ = ⊥
+
+-- what may stand for a place, or refers to one
+abbrev pub IsPlace : ExprKindLayer written → Type 0
+IsPlace (ExprKind-F.ParenExpr e) = Unit {0}
+IsPlace (ExprKind-F.FieldExpr e n) = Unit {0}
+IsPlace (ExprKind-F.IndexExpr a b) = Unit {0}
+IsPlace (ExprKind-F.RefExpr r m e) = Unit {0}
+IsPlace _ = ⊥
+
+-- what works on the values of operands
+abbrev pub IsOperator : ExprKindLayer written → Type 0
+IsOperator (ExprKind-F.PrefixExpr o e) = Unit {0}
+IsOperator (ExprKind-F.BinExpr o a b) = Unit {0}
+IsOperator (ExprKind-F.AwaitExpr e) = Unit {0}
+IsOperator _ = ⊥
+
+-- by which the body is left, for good or for a while
+abbrev pub IsLeaving : ExprKindLayer written → Type 0
+IsLeaving (ExprKind-F.ReturnExpr e) = Unit {0}
+IsLeaving (ExprKind-F.BecomeExpr e) = Unit {0}
+IsLeaving (ExprKind-F.YieldExpr e) = Unit {0}
+IsLeaving (ExprKind-F.YeetExpr e) = Unit {0}
+IsLeaving _ = ⊥
+
+-- without a part
+abbrev pub IsLeaf : ExprKindLayer written → Type 0
+IsLeaf (ExprKind-F.PathExpr x) = Unit {0}
+IsLeaf (ExprKind-F.Literal l) = Unit {0}
+IsLeaf (ExprKind-F.CfgPredExpr pred) = Unit {0}
+IsLeaf ExprKind-F.UnderscoreExpr = Unit {0}
+IsLeaf ExprKind-F.IncludeBytesExpr = Unit {0}
+IsLeaf ExprKind-F.AsmExpr = Unit {0}
+IsLeaf ExprKind-F.FormatArgsExpr = Unit {0}
+IsLeaf _ = ⊥
