@@ -1,5 +1,5 @@
 -- Literals.
-use Rattle.std.specs.Prelude.{ℕ, List, [], ◌∷◌, Option, Some, None, codes, option_and_then, option_map}
+use Rattle.std.specs.Prelude.{ℕ, List, [], ◌∷◌, Option, Some, None, codes, option_and_then}
 use Rattle.serde_json.specs.Data.{Data}
 use Rattle.hir_syntax.specs.declared.ast.Literal.{Literal}
 use Rattle.hir_syntax.specs.declared.ast.LiteralKind.{LiteralKind}
