@@ -1,5 +1,5 @@
 -- What stands at the nodes of a list.
-use Rattle.std.specs.Prelude.{ℕ, suc, zero, codes, List, Option, Some, None, option_and_then, option_map, unwrap_or}
+use Rattle.std.specs.Prelude.{ℕ, suc, zero, codes, List, Option, None, option_and_then, option_map, unwrap_or}
 use Rattle.serde_json.specs.Data.{Data, null, Items}
 use Rattle.serde_json.specs.Find.{get, get_item}
 use Rattle.hir_syntax.specs.declared.ast.ExprKind.{ExprKind}

@@ -11,7 +11,8 @@ use crate::node::{Node, ReadParts};
 use crate::part::AnyPart;
 use hir_syntax::Text;
 use hir_syntax::ast::{
-    BlockExpr, BlockModifier, Expr, Fn, Label, Lifetime, Name, Path, PathSegment, SegmentKind, Stmt, StmtKind,
+    BlockExpr, BlockModifier, Expr, Fn, Label, Lifetime, Name, Path, PathSegment, SegmentKind,
+    Stmt, StmtKind,
 };
 use json_kinds::kind::Kind;
 use serde_json::Value;

@@ -1,12 +1,17 @@
-//! Listings that no document leads to yet: a minus, generated names, nodes of other files.
+//! Listings that no document leads to yet: a minus, generated names, nodes of other files, faults behind a border or
+//! outside of a body.
 
+use hir_env::place::LoweringMode;
+use hir_env::table::TableEnv;
+use hir_lower::{ExprCollector, LowerError};
 use hir_store::builder::ExpressionStoreBuilder;
+use hir_store::diagnostics::ExpressionStoreDiagnostics;
 use hir_store::fault::StoreFault;
 use hir_store::hir::{Expr, Literal};
-use hir_store::ids::HygieneId;
+use hir_store::ids::{HygieneId, ItemContainerId, ModuleId};
 use hir_store::name::Name;
 use hir_store::path::{ModPath, Path, PathKind};
-use hir_syntax::ast::LiteralKind;
+use hir_syntax::ast::{self, ConstArg, ExprKind, LiteralKind};
 use hir_syntax::node::{AstPtr, HirFileId, InFile, NodeId, TextRange};
 use hir_syntax::{Seq, Text};
 use lower_run::listing::body_listing;
@@ -96,5 +101,76 @@ fn path(alloc: Global) -> Result<String, StoreFault> {
 fn generated_names_are_numbered_by_first_printing(rt: HostRuntime) -> Result<(), Fail> {
     let text = path(rt.alloc())?;
     assert_eq!(rt; text.as_str(), "body r0=(Path@3.4 $0::$1::$0!2)\n");
+    Ok(())
+}
+
+/// The listing of an empty store with a jump whose label stands behind a border.
+fn unreachable(alloc: Global, label: &str) -> Result<String, StoreFault> {
+    let name = Name::Text(Text::new(alloc, label)?);
+    let mut builder = ExpressionStoreBuilder::new(alloc, 1);
+    let reported = builder.report(ExpressionStoreDiagnostics::UnreachableLabel {
+        node: OTHER_FILE,
+        name,
+    });
+    let listed = listing(alloc, builder);
+    reported?;
+    Ok(listed?)
+}
+
+#[test]
+fn a_label_behind_a_border_is_told(rt: HostRuntime) -> Result<(), Fail> {
+    let text = unreachable(rt.alloc(), "'a")?;
+    assert_eq!(rt; text.as_str(), "body -\ndiag UnreachableLabel 'a @3.4\n");
+    Ok(())
+}
+
+fn awaiting() -> ConstArg {
+    ConstArg {
+        id: NodeId(0),
+        range: TextRange { start: 0, end: 2 },
+        expr: Some(ast::Expr {
+            id: NodeId(1),
+            range: TextRange { start: 1, end: 2 },
+            kind: ExprKind::AwaitExpr { expr: None },
+        }),
+    }
+}
+
+/// The listing of what a collector holds, with sources.
+fn collected(alloc: Global, collector: ExprCollector<'_, TableEnv>) -> Result<String, LowerError> {
+    match collector.into_store() {
+        Ok((store, source_map)) => {
+            let text = body_listing(alloc, &store, &source_map, true);
+            drop(store);
+            drop(source_map);
+            text.map_err(|_| LowerError::Memory)
+        }
+        Err(error) => Err(error),
+    }
+}
+
+/// The listing of an `await` in a constant that stands in no body.
+fn await_in_no_body(alloc: Global) -> Result<String, LowerError> {
+    let env = TableEnv::new(alloc, ItemContainerId::ModuleId(ModuleId(0)));
+    let constant = awaiting();
+    let mut collector = ExprCollector::new(
+        alloc,
+        &env,
+        ModuleId(0),
+        HirFileId(0),
+        LoweringMode::Analysis,
+    );
+    let _lowered = collector.lower_const_arg(&constant);
+    let listed = collected(alloc, collector);
+    drop(constant);
+    drop(env);
+    listed
+}
+
+#[test]
+fn an_await_in_no_body_stands_in_the_unknown(rt: HostRuntime) -> Result<(), Fail> {
+    let text = await_in_no_body(rt.alloc())?;
+    let listed = "body r0=(Await@1 (Missing))\ndiag AwaitOutsideOfAsync unknown @1\n";
+    assert_eq!(rt; text.as_str(), listed);
     Ok(())
 }

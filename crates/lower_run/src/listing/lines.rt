@@ -52,12 +52,12 @@ fn detail(writer: &mut Writer, fault: &ExpressionStoreDiagnostics) -> Result<(),
             "diag UndeclaredLabel ",
             name,
         ),
-        ExpressionStoreDiagnostics::AwaitOutsideOfAsync { location, .. } => writer.word(
-            await_word(*location),
-        ),
-        ExpressionStoreDiagnostics::MissingBody { kind, .. } => writer.word(
-            missing_body_word(*kind),
-        ),
+        ExpressionStoreDiagnostics::AwaitOutsideOfAsync { location, .. } => {
+            writer.word(await_word(*location))
+        }
+        ExpressionStoreDiagnostics::MissingBody { kind, .. } => {
+            writer.word(missing_body_word(*kind))
+        }
     }
 }
 

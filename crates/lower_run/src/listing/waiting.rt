@@ -83,9 +83,9 @@ impl<'a> Waiting<'a> {
             Expr::Path { path, hygiene } => self.push_parts(&[Piece::Path(path, *hygiene)]),
             Expr::Literal(literal) => self.push_parts(&[Piece::Literal(literal)]),
             Expr::Become { expr } | Expr::Await { expr } => self.push_parts(&[Piece::Expr(*expr)]),
-            Expr::Return { expr } | Expr::Yield { expr } | Expr::Yeet { expr } => self.push_parts(
-                &[expr_or_absent(*expr)],
-            ),
+            Expr::Return { expr } | Expr::Yield { expr } | Expr::Yeet { expr } => self.push_parts(&[
+                expr_or_absent(*expr),
+            ]),
             Expr::Tuple { exprs: elements } | Expr::Array { elements } => self.push_parts(&[
                 Piece::Exprs(elements.as_slice()),
             ]),
@@ -164,10 +164,7 @@ impl<'a> Waiting<'a> {
                 ABSENT,
                 Piece::Exprs(args.as_slice()),
             ]),
-            Expr::Field { expr, name } => self.push_parts(&[
-                Piece::Expr(*expr),
-                Piece::Name(name),
-            ]),
+            Expr::Field { expr, name } => self.push_parts(&[Piece::Expr(*expr), Piece::Name(name)]),
             Expr::UnaryOp { op, expr } => self.push_parts(&[
                 Piece::Word(unary_word(*op)),
                 Piece::Expr(*expr),

@@ -1,7 +1,7 @@
 use Rattle.std.proofs.Common.{◌≡◌, ◌++◌, drop}
 use Rattle.serde_json.specs.View.{items_view}
 use Rattle.lower_json.specs.Parts as spec
-use Rattle.lower_json.specs.Parts.{kept, or_null}
+use Rattle.lower_json.specs.Parts.{kept}
 use Rattle.lower_json.specs.Nodes.{here}
 use Rattle.lower_json.proofs.node.Node.children.Given as goal
 
