@@ -1,18 +1,22 @@
 -- Lowering a tree is made of such steps.
-use Rattle.std.proofs.Common.{List, [], Option, Some, None}
+use Rattle.std.proofs.Common.{Bool, true, false, List, [], Option, Some, None}
 use Rattle.hir_store.specs.Pointers.{Pointer}
+use Rattle.hir_store.specs.declared.hir.Expr.{Expr as HirExpr}
 use Rattle.hir_store.specs.declared.hir.Statement.{Statement}
+use Rattle.hir_store.specs.declared.name.Name.{Name}
+use Rattle.hir_store.specs.declared.diagnostics.AwaitLocation.{AwaitLocation}
 use Rattle.hir_store.specs.declared.ids.ExprId.{ExprId}
 use Rattle.hir_store.specs.declared.ids.LabelId.{LabelId}
 use Rattle.hir_store.specs.declared.ids.BlockId.{BlockId}
 use Rattle.hir_env.specs.Answered as tree
-use Rattle.hir_env.specs.Answered.{Label, Jump, Expr, OptionExpr, Exprs, Block, OptionBlock, Stmts, Stmt}
+use Rattle.hir_env.specs.Answered.{Listing, Label, Jump, Expr, OptionExpr, Exprs, Block, OptionBlock, Stmts, Stmt}
 use Rattle.hir_lower_form.specs.Lowering.{Lowering}
 use Rattle.hir_lower_form.specs.Lower.{Node, Contents, missing, some, if_form, loop_form, call_form, continue_form}
-use Rattle.hir_lower_form.specs.Lower.{break_form, paren_form, block_form, labelled, kept, lower, lower_part}
+use Rattle.hir_lower_form.specs.Lower.{break_form, paren_form, operand_form, operands_form, value_form, list_form}
+use Rattle.hir_lower_form.specs.Lower.{method_call_form, await_form, block_form, labelled, kept, lower, lower_part}
 use Rattle.hir_lower_form.specs.Lower.{present, kept_part, lower_each, lower_block, lower_block_part, lower_stmts, lower_stmt}
 use Rattle.hir_lower.proofs.Ways.{Leading, any, since, then', makes, leading_pure, leading_report, leading_block, leading_close}
-use Rattle.hir_lower.proofs.Ways.{leading_jump, leading_alloc, leading_open, leading_point, leading_closed}
+use Rattle.hir_lower.proofs.Ways.{leading_jump, leading_alloc, leading_open, leading_point, leading_closed, leading_report_await}
 
 missing_leads : Leading since missing
 unfolding missing
@@ -48,10 +52,38 @@ module _ (at : Pointer) where
   unfolding paren_form
   paren_leads h = leading_point at h
 
-  block_form_leads : (label : Option LabelId) (number : Option BlockId) {c : Lowering Contents} → Leading any c
-      → Leading since (block_form at label number c)
+  operand_leads : (form : ExprId → HirExpr) {e : Node} → Leading since e → Leading since (operand_form at form e)
+  unfolding operand_form
+  operand_leads form h = makes h (λ i. leading_alloc _ (Some at))
+
+  operands_leads : (form : ExprId → ExprId → HirExpr) {a b : Node} → Leading since a → Leading since b
+      → Leading since (operands_form at form a b)
+  unfolding operands_form
+  operands_leads form ha hb = makes ha (λ i. makes hb (λ j. leading_alloc _ (Some at)))
+
+  value_leads : (form : Option ExprId → HirExpr) {e : Lowering (Option ExprId)} → Leading any e → Leading since (value_form at form e)
+  unfolding value_form
+  value_leads form h = makes h (λ v. leading_alloc _ (Some at))
+
+  list_leads : (form : Listing) {xs : Lowering (List ExprId)} → Leading any xs → Leading since (list_form at form xs)
+  unfolding list_form
+  list_leads (tree.tuple_of false) h = makes h (λ is. leading_alloc _ (Some at))
+  list_leads (tree.tuple_of true) h = makes h (λ is. makes missing_leads (λ i. leading_alloc _ (Some at)))
+  list_leads tree.array_of h = makes h (λ is. leading_alloc _ (Some at))
+
+  method_call_leads : {e : Node} (name : Name) {xs : Lowering (List ExprId)} → Leading since e → Leading any xs
+      → Leading since (method_call_form at e name xs)
+  unfolding method_call_form
+  method_call_leads name he hx = makes he (λ i. makes hx (λ is. leading_alloc _ (Some at)))
+
+  await_leads : (location : Option AwaitLocation) {e : Node} → Leading since e → Leading since (await_form at location e)
+  unfolding await_form
+  await_leads location h = makes h (λ i. makes (leading_report_await at location) (λ u. leading_alloc _ (Some at)))
+
+  block_form_leads : (is_unsafe : Bool) (label : Option LabelId) (number : Option BlockId) {c : Lowering Contents} → Leading any c
+      → Leading since (block_form at is_unsafe label number c)
   unfolding block_form
-  block_form_leads label number h = makes (leading_block number) (λ u. makes h (λ r. leading_alloc _ (Some at)))
+  block_form_leads is_unsafe label number h = makes (leading_block number) (λ u. makes h (λ r. leading_alloc _ (Some at)))
 
 labelled_leads : (label : Option Label) {f : Option LabelId → Node} → ((n : Option LabelId) → Leading since (f n))
     → Leading since (labelled label f)
@@ -75,6 +107,17 @@ mutual
   node_leads (tree.break_expr at jump e) = break_leads at jump (present_leads e)
   node_leads (tree.paren_expr at e) = paren_leads at (part_leads e)
   node_leads (tree.literal_expr at l) = leading_alloc _ (Some at)
+  node_leads (tree.leaf_expr at form) = leading_alloc _ (Some at)
+  node_leads (tree.unary_expr at form e) = operand_leads at _ (part_leads e)
+  node_leads (tree.binary_expr at form a b) = operands_leads at _ (part_leads a) (part_leads b)
+  node_leads (tree.lazy_expr at op a b) = operands_leads at _ (part_leads a) (part_leads b)
+  node_leads (tree.list_expr at form es) = list_leads at form (each_leads [] es)
+  node_leads (tree.method_call_expr at e name es) = method_call_leads at name (part_leads e) (each_leads [] es)
+  node_leads (tree.leaving_expr at form e) = value_leads at _ (present_leads e)
+  node_leads (tree.become_expr at e) = operand_leads at _ (part_leads e)
+  node_leads (tree.yield_expr at e) = value_leads at _ (present_leads e)
+  node_leads (tree.await_expr at location e) = await_leads at location (part_leads e)
+  node_leads (tree.nameless_expr at e) = operand_leads at _ (part_leads e)
 
   pub part_leads : (e : OptionExpr) → Leading since (lower_part e)
   part_leads tree.no_expr = missing_leads
@@ -93,8 +136,8 @@ mutual
   each_leads done (tree.more_exprs e es) = then' (kept_leads e (node_leads e)) (λ x. each_leads _ es)
 
   block_leads : (b : Block) → Leading since (lower_block b)
-  block_leads (tree.block at label number ss e) =
-      labelled_leads label (λ n. block_form_leads at n number (stmts_leads [] ss (kept_part_leads e)))
+  block_leads (tree.block at is_unsafe label number ss e) =
+      labelled_leads label (λ n. block_form_leads at is_unsafe n number (stmts_leads [] ss (kept_part_leads e)))
 
   block_part_leads : (b : OptionBlock) → Leading since (lower_block_part b)
   block_part_leads tree.no_block = missing_leads

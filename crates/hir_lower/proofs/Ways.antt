@@ -9,6 +9,7 @@ use Rattle.hir_store.specs.Storing as storing
 use Rattle.hir_store.specs.Storing.{expr_id, label_id}
 use Rattle.hir_store.specs.declared.fault.StoreFault.TheVariants.{Full}
 use Rattle.hir_store.specs.declared.diagnostics.ExpressionStoreDiagnostics.{ExpressionStoreDiagnostics}
+use Rattle.hir_store.specs.declared.diagnostics.AwaitLocation.{AwaitLocation}
 use Rattle.hir_store.specs.declared.hir.Expr.{Expr}
 use Rattle.hir_store.specs.declared.hir.Label.{Label as HirLabel}
 use Rattle.hir_store.specs.declared.ids.ExprId.{ExprId}
@@ -18,7 +19,7 @@ use Rattle.hir_env.specs.Answered.{Label, Jump}
 use Rattle.hir_scope.specs.Ribs.{Target, found as met, unreachable, undeclared, target}
 use Rattle.hir_lower_form.specs.Builder.{Builder}
 use Rattle.hir_lower_form.specs.Lowering.{Checked, go_on, Lowering, ◌>>=◌, pure, alloc_expr, point, report}
-use Rattle.hir_lower_form.specs.Lowering.{enter_block, open_label, close, jump_target, found_or_fault, enter}
+use Rattle.hir_lower_form.specs.Lowering.{enter_block, open_label, close, jump_target, found_or_fault, enter, report_await}
 use Rattle.hir_lower.specs.Stays.{LeadsOn}
 
 -- ---- maps
@@ -152,6 +153,11 @@ leading_pure a = record { goes = λ b. (went_same _ _ refl refl, tt) }
 pub leading_report : (d : ExpressionStoreDiagnostics) → Leading any (report d)
 unfolding report storing.report
 leading_report d = record { goes = λ b. (went_same _ _ refl refl, tt) }
+
+pub leading_report_await : (at : Pointer) (location : Option AwaitLocation) → Leading any (report_await at location)
+unfolding report_await
+leading_report_await at None = leading_pure tt
+leading_report_await at (Some l) = leading_report _
 
 pub leading_block : (n : Option BlockId) → Leading any (enter_block n)
 unfolding enter_block storing.enter_block
