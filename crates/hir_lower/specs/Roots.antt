@@ -7,6 +7,7 @@ use Rattle.hir_lower.specs.declared.collector.ConstRef.{ConstRef}
 use Rattle.hir_lower_form.specs.Builder.{Builder}
 use Rattle.hir_store.specs.Pointers.{Pointer}
 use Rattle.hir_store.specs.declared.ids.DefWithBodyId.{DefWithBodyId}
+use Rattle.hir_store.specs.declared.ids.DefWithBodyId.TheVariants as owner
 use Rattle.hir_store.specs.declared.diagnostics.MissingBodyItemKind.{MissingBodyItemKind}
 use Rattle.hir_store.specs.declared.diagnostics.ExpressionStoreDiagnostics.TheVariants.{MissingBody}
 use Rattle.hir_store.specs.declared.diagnostics.AwaitLocation.{AwaitLocation}
