@@ -91,7 +91,9 @@ impl<
         label: Option<LabelId>,
         node: &ast::BlockExpr,
     ) -> Result<ExprId, StoreFault> {
-        (self.block)(self.alloc, self.env, self.place, state, is_unsafe, label, node)
+        (self.block)(
+            self.alloc, self.env, self.place, state, is_unsafe, label, node,
+        )
     }
 }
 
