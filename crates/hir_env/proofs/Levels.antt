@@ -16,11 +16,14 @@ use Rattle.hir_store.specs.Pointers.{Pointer}
 use Rattle.hir_env.specs.declared.place.Place.{Place}
 use Rattle.hir_env.specs.Answers.{Answers}
 use Rattle.hir_env.specs.Spot.{Spot}
-use Rattle.hir_env.specs.Layers.{BlockReading, StmtReading, Reader, ElseBranchLayer, ExprKindLayer, StmtKindLayer, BlockExprLayer, readings, itself}
+use Rattle.hir_env.specs.Layers.{BlockReading, StmtReading, Reader, ElseBranchLayer, ExprKindLayer, StmtKindLayer, BlockExprLayer}
+use Rattle.hir_env.specs.Layers.{readings, itself}
 use Rattle.hir_env.specs.Answering as of
 use Rattle.hir_env.specs.Answered as tree
 use Rattle.hir_env.specs.Answered.{Label, Expr, OptionExpr, Exprs, Block, OptionBlock, Stmts, Stmt}
-use Rattle.hir_env.specs.Whole.{written, reader, read_else_branch, read_expr_kind, read_stmt_kind, read_block, read_expr, read_stmt, answered, answered_plain, answered_block, answered_else, block_head, stmts_part, in_block, block_number, pointer_at, asked_expr, block_level, stmt_level, else_level}
+use Rattle.hir_env.specs.Whole.{written, reader, read_else_branch, read_expr_kind, read_stmt_kind, read_block, read_expr}
+use Rattle.hir_env.specs.Whole.{read_stmt, answered, answered_plain, answered_block, answered_else, block_head, stmts_part}
+use Rattle.hir_env.specs.Whole.{in_block, block_number, pointer_at, asked_expr, block_level, stmt_level, else_level}
 
 -- how a fold passes an option and a list on
 abbrev optional : {A B : Type 0} → (A → B) → Option A → Option B

@@ -32,7 +32,7 @@ pub record Jump : Type 0 where
 abbrev pub Segments : Type 0
 Segments = List (Option Name)
 
--- ---- families of forms, by their operands
+-- families of forms, by their operands
 
 -- no operand; what is left out (inline assembly, format strings) does nothing
 pub data Leaf : Type 0 where

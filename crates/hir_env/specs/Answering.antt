@@ -34,7 +34,8 @@ use Rattle.hir_env.specs.declared.place.LoweringMode.{LoweringMode}
 use Rattle.hir_env.specs.declared.place.LoweringMode.TheVariants as mode
 use Rattle.hir_env.specs.NodeMap.{Site}
 use Rattle.hir_env.specs.Answers.{Answers}
-use Rattle.hir_env.specs.Layers.{BlockReading, StmtReading, Sorts, Reader, ElseBranchLayer, ExprKindLayer, StmtKindLayer, BlockExprLayer, ExprLayer, StmtLayer}
+use Rattle.hir_env.specs.Layers.{BlockReading, StmtReading, Sorts, Reader, ElseBranchLayer, ExprKindLayer, StmtKindLayer}
+use Rattle.hir_env.specs.Layers.{BlockExprLayer, ExprLayer, StmtLayer}
 use Rattle.hir_env.specs.Answered as tree
 use Rattle.hir_env.specs.Answered.{Label, Jump, Segments, Expr, OptionExpr, Exprs, Block, OptionBlock, Stmts, Stmt}
 
@@ -47,7 +48,7 @@ ptr id range = record { node = id; range = range }
 abbrev pub site_of : Pointer → Site
 site_of s = record { file_id = s.file_id; value = s.value.node }
 
--- ---- names, labels and paths
+-- names, labels and paths
 
 abbrev pub named : Option AstName → Option Name
 named None = None
@@ -73,7 +74,9 @@ label_name None = name.Missing
 label_name (Some l) = name.Text l.t
 
 abbrev pub label_of : Answers → Place → AstLabel → Label
-label_of env p l = let s = in_file p (ptr l.id l.range) in record { pointer = s; name = label_name l.lifetime; hygiene = env.hygiene (site_of s) }
+label_of env p l =
+    let s = in_file p (ptr l.id l.range) in
+    record { pointer = s; name = label_name l.lifetime; hygiene = env.hygiene (site_of s) }
 
 -- a jump to this name, with what is answered about contexts
 abbrev pub jump : Answers → Pointer → Name → HygieneId → Jump
@@ -87,7 +90,7 @@ abbrev pub name_or_missing : Option AstName → Name
 name_or_missing None = name.Missing
 name_or_missing (Some n) = name.Text n.t
 
--- ---- operators
+-- operators
 
 -- `&&` and `||` have a meaning of their own
 abbrev pub bin_expr : Pointer → Option BinaryOp → OptionExpr → OptionExpr → Expr
@@ -111,7 +114,7 @@ abbrev pub truth : Option Bool → Literal
 truth (Some false) = record { lit = literal.Bool; t = codes "false"; suffix = None }
 truth _ = record { lit = literal.Bool; t = codes "true"; suffix = None }
 
--- ---- blocks
+-- blocks
 
 -- whether a block is unsafe, and its label, which counts only where no modifier stands
 abbrev pub modified : Option BlockModifier → Option Label → Bool × Option Label
@@ -130,7 +133,7 @@ abbrev pub inside : Option (BlockId × ModuleId) → Place → Place
 inside None p = p
 inside (Some n) p = record p { module_id = n.1 }
 
--- ---- parts that may be absent, and lists
+-- parts that may be absent, and lists
 
 abbrev pub expr_or_none : {A : Type 0} → (A → Place → Expr) → Option A → Place → OptionExpr
 expr_or_none read None p = tree.no_expr
@@ -159,7 +162,7 @@ contents_of read (s ∷ ss) tail p =
     let rest = contents_of read ss tail r.place in
     (r.before rest.0, rest.1)
 
--- ---- one level
+-- one level
 
 -- the expression, with the condition that disables it
 abbrev pub asked : Pointer → Result (Unit {0}) CfgId → Expr → Expr
@@ -172,7 +175,8 @@ module _ (env : Answers) {S : Sorts} (part : Reader S) where
   else_branch (ElseBranch-F.ElseIf e) p = part.expr e p
 
   abbrev pub expr_at : ExprKindLayer S → Place → Pointer → Expr
-  expr_at (ExprKind-F.IfExpr c t e) p s = tree.if_expr s (expr_or_none part.expr c p) (plain_or_none part.block_expr t p) (expr_or_none part.else_branch e p)
+  expr_at (ExprKind-F.IfExpr c t e) p s =
+      tree.if_expr s (expr_or_none part.expr c p) (plain_or_none part.block_expr t p) (expr_or_none part.else_branch e p)
   expr_at (ExprKind-F.BlockExpr b) p s = (part.block_expr b).own p
   expr_at (ExprKind-F.LoopExpr l b) p s = tree.loop_expr s (option_map (label_of env p) l) (plain_or_none part.block_expr b p)
   expr_at (ExprKind-F.CallExpr f es) p s = tree.call_expr s (expr_or_none part.expr f p) (exprs_or_none part.expr es p)
@@ -181,7 +185,8 @@ module _ (env : Answers) {S : Sorts} (part : Reader S) where
   expr_at (ExprKind-F.BreakExpr l e) p s = tree.break_expr s (option_map (jump_of env p) l) (expr_or_none part.expr e p)
   expr_at (ExprKind-F.ParenExpr e) p s = tree.paren_expr s (expr_or_none part.expr e p)
   expr_at (ExprKind-F.Literal l) p s = tree.literal_expr s l
-  expr_at (ExprKind-F.MethodCallExpr e n es) p s = tree.method_call_expr s (expr_or_none part.expr e p) (name_or_missing n) (exprs_or_none part.expr es p)
+  expr_at (ExprKind-F.MethodCallExpr e n es) p s =
+      tree.method_call_expr s (expr_or_none part.expr e p) (name_or_missing n) (exprs_or_none part.expr es p)
   expr_at (ExprKind-F.FieldExpr e n) p s = tree.unary_expr s (tree.field_of (name_or_missing n)) (expr_or_none part.expr e p)
   expr_at (ExprKind-F.PrefixExpr o e) p s = prefix_expr s o (expr_or_none part.expr e p)
   expr_at (ExprKind-F.BinExpr o a b) p s = bin_expr s o (expr_or_none part.expr a p) (expr_or_none part.expr b p)
@@ -213,7 +218,10 @@ module _ (env : Answers) {S : Sorts} (part : Reader S) where
       tree.block (in_file p (ptr b.id b.range)) head.0 head.1 (option_map (λ n. n.0) number) c.0 c.1
 
   abbrev pub block_step : BlockExprLayer S → BlockReading
-  block_step b = record { plain = λ p. block_at b (false, None) p; own = λ p. tree.block_expr (block_at b (modified b.mod_ (option_map (label_of env p) b.label)) p) }
+  block_step b = record {
+    plain = λ p. block_at b (false, None) p;
+    own = λ p. tree.block_expr (block_at b (modified b.mod_ (option_map (label_of env p) b.label)) p);
+  }
 
   -- the one statement that it stands for
   abbrev pub stmt_at : StmtKindLayer S → Place → Stmt

@@ -8,7 +8,8 @@ use Rattle.hir_syntax.specs.declared.ast.Expr.{Expr as AstExpr}
 use Rattle.hir_syntax.specs.declared.ast.Stmt.{Stmt as AstStmt}
 use Rattle.hir_syntax.specs.declared.ast.Label.{Label as AstLabel}
 use Rattle.hir_syntax.specs.declared.ast.Lifetime.{Lifetime as AstLifetime}
-use Rattle.hir_syntax.specs.declared.ast.ElseBranch.TheFolds.{fold-ElseBranch, fold-ExprKind, fold-StmtKind, fold-BlockExpr, fold-Expr, fold-Stmt}
+use Rattle.hir_syntax.specs.declared.ast.ElseBranch.TheFolds.{fold-ElseBranch, fold-ExprKind, fold-StmtKind, fold-BlockExpr}
+use Rattle.hir_syntax.specs.declared.ast.ElseBranch.TheFolds.{fold-Expr, fold-Stmt}
 use Rattle.hir_syntax.specs.declared.node.NodeId.{NodeId}
 use Rattle.hir_syntax.specs.declared.node.TextRange.{TextRange}
 use Rattle.hir_store.specs.Pointers.{Pointer}
@@ -17,37 +18,52 @@ use Rattle.hir_env.specs.Answers.{Answers}
 use Rattle.hir_env.specs.Spot.{Spot}
 use Rattle.hir_store.specs.declared.ids.BlockId.{BlockId}
 use Rattle.hir_env.specs.Layers.{BlockReading, StmtReading, Sorts, Reader, readings, itself}
-use Rattle.hir_env.specs.Answering.{in_file, ptr, site_of, label_of, jump_of, modified, expr_or_none, plain_or_none, exprs_of, exprs_or_none, numbered, inside, asked, else_branch, expr_at, expr_kind, expr_step, block_step, stmt_at, stmt_kind, stmt_step}
+use Rattle.hir_env.specs.Answering.{in_file, ptr, site_of, label_of, jump_of, modified, expr_or_none, plain_or_none, exprs_of}
+use Rattle.hir_env.specs.Answering.{exprs_or_none, numbered, inside, asked, else_branch, expr_at, expr_kind, expr_step}
+use Rattle.hir_env.specs.Answering.{block_step, stmt_at, stmt_kind, stmt_step}
 use Rattle.hir_env.specs.Answered as tree
 use Rattle.hir_env.specs.Answered.{Label, Jump, Expr, OptionExpr, Exprs, Block, OptionBlock, Stmts, Stmt}
 
 abbrev pub written : Sorts
-written = record { ElseBranch = AstElseBranch; ExprKind = AstExprKind; StmtKind = AstStmtKind; BlockExpr = AstBlockExpr; Expr = AstExpr; Stmt = AstStmt }
+written = record {
+  ElseBranch = AstElseBranch;
+  ExprKind = AstExprKind;
+  StmtKind = AstStmtKind;
+  BlockExpr = AstBlockExpr;
+  Expr = AstExpr;
+  Stmt = AstStmt;
+}
 
 module _ (env : Answers) where
   unfoldable pub read_else_branch : AstElseBranch → Place → Expr
   read_else_branch = fold-ElseBranch readings.ElseBranch readings.ExprKind readings.StmtKind readings.BlockExpr readings.Expr readings.Stmt
-      (else_branch env itself) (expr_kind env itself) (stmt_kind env itself) (block_step env itself) (expr_step env itself) (stmt_step env itself)
+      (else_branch env itself) (expr_kind env itself) (stmt_kind env itself)
+      (block_step env itself) (expr_step env itself) (stmt_step env itself)
 
   unfoldable pub read_block : AstBlockExpr → BlockReading
   read_block = fold-BlockExpr readings.ElseBranch readings.ExprKind readings.StmtKind readings.BlockExpr readings.Expr readings.Stmt
-      (else_branch env itself) (expr_kind env itself) (stmt_kind env itself) (block_step env itself) (expr_step env itself) (stmt_step env itself)
+      (else_branch env itself) (expr_kind env itself) (stmt_kind env itself)
+      (block_step env itself) (expr_step env itself) (stmt_step env itself)
 
   unfoldable pub read_expr : AstExpr → Place → Expr
   read_expr = fold-Expr readings.ElseBranch readings.ExprKind readings.StmtKind readings.BlockExpr readings.Expr readings.Stmt
-      (else_branch env itself) (expr_kind env itself) (stmt_kind env itself) (block_step env itself) (expr_step env itself) (stmt_step env itself)
+      (else_branch env itself) (expr_kind env itself) (stmt_kind env itself)
+      (block_step env itself) (expr_step env itself) (stmt_step env itself)
 
   unfoldable pub read_stmt : AstStmt → Place → StmtReading
   read_stmt = fold-Stmt readings.ElseBranch readings.ExprKind readings.StmtKind readings.BlockExpr readings.Expr readings.Stmt
-      (else_branch env itself) (expr_kind env itself) (stmt_kind env itself) (block_step env itself) (expr_step env itself) (stmt_step env itself)
+      (else_branch env itself) (expr_kind env itself) (stmt_kind env itself)
+      (block_step env itself) (expr_step env itself) (stmt_step env itself)
 
   unfoldable pub read_expr_kind : AstExprKind → readings.ExprKind
   read_expr_kind = fold-ExprKind readings.ElseBranch readings.ExprKind readings.StmtKind readings.BlockExpr readings.Expr readings.Stmt
-      (else_branch env itself) (expr_kind env itself) (stmt_kind env itself) (block_step env itself) (expr_step env itself) (stmt_step env itself)
+      (else_branch env itself) (expr_kind env itself) (stmt_kind env itself)
+      (block_step env itself) (expr_step env itself) (stmt_step env itself)
 
   unfoldable pub read_stmt_kind : AstStmtKind → Place → StmtReading
   read_stmt_kind = fold-StmtKind readings.ElseBranch readings.ExprKind readings.StmtKind readings.BlockExpr readings.Expr readings.Stmt
-      (else_branch env itself) (expr_kind env itself) (stmt_kind env itself) (block_step env itself) (expr_step env itself) (stmt_step env itself)
+      (else_branch env itself) (expr_kind env itself) (stmt_kind env itself)
+      (block_step env itself) (expr_step env itself) (stmt_step env itself)
 
   abbrev pub reader : Reader written
   reader = record {
@@ -59,7 +75,7 @@ module _ (env : Answers) where
     stmt = read_stmt;
   }
 
--- ---- read at a spot
+-- read at a spot
 
 abbrev pub answered : Spot → AstExpr → Expr
 answered at e = read_expr at.answers e at.place
@@ -129,7 +145,8 @@ abbrev pub block_level : Spot → Bool × Option Label → AstBlockExpr → Bloc
 block_level at head b =
     let level = out-BlockExpr b in
     let within = in_block at level.id in
-    tree.block (pointer_at at level.id level.range) head.0 head.1 (block_number at level.id) (stmts_part within level.stmts) (expr_part within level.tail)
+    tree.block (pointer_at at level.id level.range) head.0 head.1 (block_number at level.id)
+    (stmts_part within level.stmts) (expr_part within level.tail)
 
 abbrev pub else_level : Spot → AstElseBranch → Expr
 else_level at e = else_branch at.answers (reader at.answers) (out-ElseBranch e) at.place

@@ -42,7 +42,14 @@ impl Model for TableEnv {
 
     ghost Value = { Tables };
 
-    ghost view = { λ t. record { disabled = t.disabled; preds = t.preds; hygiene = t.hygiene; blocks = t.blocks; skip = t.skip; container = t.container } };
+    ghost view = { λ t. record {
+      disabled = t.disabled;
+      preds = t.preds;
+      hygiene = t.hygiene;
+      blocks = t.blocks;
+      skip = t.skip;
+      container = t.container;
+    } };
 }
 
 impl TableEnv {

@@ -44,7 +44,7 @@ root_steps : (e : OptionExpr) (b : Builder) → root_of e b ≡ go_on (lower_par
 unfolding root_of close_labels record_root storing.record_root
 root_steps e b = refl
 
--- ---- nothing is lost
+-- nothing is lost
 
 recorded_stays : (b : Builder) (o : Checked ExprId) (c : Builder) → Keeps (closed b) o c → Extends b.stored (go_on o c recorded).1.stored
 recorded_stays b (Ok i) c h = extends_trans h.stays (extends_root c.stored (root_at c.stored.exprs.entries i))
@@ -70,7 +70,7 @@ stays_unless e b b' (Err x) l n =
     let P : Checked ExprId × Builder → Type 0 = λ q. Stays b.stored q.1.stored in
     subst P (l other).0 (root_stays e b)
 
--- ---- a root
+-- a root
 
 -- the steps of a root that was lowered
 record Parts (e : OptionExpr) (b : Builder) (i : ExprId) (b' : Builder) : Type 0 where
@@ -121,7 +121,7 @@ pub rooted_if : (e : OptionExpr) (b b' : Builder) (r : Checked ExprId) → Lower
 rooted_if e b b' (Ok i) l d = root_rooted e b b' i d l.0
 rooted_if e b b' (Err f) l d = tt
 
--- ---- the body of an item, from nothing
+-- the body of an item, from nothing
 
 record Whole (owed : Faults) (e : OptionExpr) (b' : Builder) : Type 0 where
   result : OneResult (store_of b'.stored) (map_of b'.stored) owed e

@@ -22,7 +22,7 @@ use Rattle.hir_lower_form.specs.Lowering.{Checked, go_on, Lowering, ◌>>=◌, p
 use Rattle.hir_lower_form.specs.Lowering.{enter_block, open_label, close, jump_target, found_or_fault, enter, report_await}
 use Rattle.hir_lower.specs.Stays.{LeadsOn}
 
--- ---- maps
+-- maps
 
 module _ {I : Type 0} (place : I → ℕ) (n : ℕ) where
   on_refl : (es : List (Pointer × I)) → LeadsOn place n es es
@@ -65,7 +65,7 @@ module _ {I : Type 0} (place : I → ℕ) (n : ℕ) where
 on_sooner : {I : Type 0} (place : I → ℕ) (n m : ℕ) (a b : List (Pointer × I)) → n ≤ m → LeadsOn place m a b → LeadsOn place n a b
 on_sooner place n m a b le h = λ p t f. let x = h p t f in (x.0, (x.1.0, ⊎_elim (λ e. inl e) (λ l. inr (omega arith)) x.1.1))
 
--- ---- what is stored
+-- what is stored
 
 abbrev expr_place : ExprId → ℕ
 expr_place i = i.0
@@ -99,7 +99,7 @@ went_trans a b c g h =
       label_ways = on_trans label_place _ _ _ _ g.label_ways (on_sooner label_place _ _ _ _ l h.label_ways);
     }
 
--- ---- steps
+-- steps
 
 -- what is said of an answer, from the number of entries before
 abbrev pub Low : Type 0 → Type 1

@@ -39,8 +39,8 @@ pub record Lives (old new later : Stored) (i : ExprId) (e : OptionExpr) : Type 0
   pub reached_once : (depth : ℕ) → length later.exprs.entries ≤ depth
       → Spread (length old.exprs.entries) (length new.exprs.entries) (reached_to later.exprs.entries depth i)
 
--- What lowering a root leaves. It is the last of the recorded roots, to which all belongs that was stored since the one before; behind the faults
--- and the blocks that were noted before come those of the tree.
+-- What lowering a root leaves. It is the last of the recorded roots, to which all belongs that was stored since the
+-- one before; behind the faults and the blocks that were noted before come those of the tree.
 pub record Rooted (old new : Stored) (i : ExprId) (e : OptionExpr) : Type 0 where
   pub lives : (later : Stored) → Extends new later → Lives old new later i e
   pub roots : new.roots ≡ old.roots ++ root_at new.exprs.entries i ∷ []
@@ -57,7 +57,7 @@ pub record HasBody (store : Store) (source_map : SourceMap) (e : OptionExpr) : T
   pub same : SameMeaning store source_map root.root e
   pub reached_once : (depth : ℕ) → length store.exprs ≤ depth → Spread 0 (length store.exprs) (reached_to store.exprs depth root.root)
 
--- ---- bodies of items
+-- bodies of items
 
 -- statics and constants of modules and constants of impls must have a body
 abbrev pub required_body : DefWithBodyId → ItemContainerId → Option MissingBodyItemKind

@@ -41,7 +41,8 @@ pub record HandlesBlock {E : Type 0} (answers : E → Answers)
     (pre : BlockPre E) (post : BlockPost E) (env : E) (p : Place) (b : AstBlockExpr) : Type 0 where
   pub callable : (alloc : Global) (v : Bor E) (old : MutBor Builder) (is_unsafe : Bool) (label : Option LabelId) (n : Bor AstBlockExpr)
       → v.now ≡ env → n.now ≡ b → HasLabelOption old.now.stored label → pre alloc v p old is_unsafe label n
-  pub lowers : (alloc : Global) (v : Bor E) (old new : MutBor Builder) (is_unsafe : Bool) (label : Option LabelId) (n : Bor AstBlockExpr) (r : Checked ExprId)
+  pub lowers : (alloc : Global) (v : Bor E) (old new : MutBor Builder) (is_unsafe : Bool) (label : Option LabelId)
+      (n : Bor AstBlockExpr) (r : Checked ExprId)
       → v.now ≡ env → n.now ≡ b → post alloc v p old is_unsafe label n r new
       → Lowers HasExpr (lower_inside is_unsafe label (answered_plain (spot_at (answers env) p) b)) old.now r new.now
 

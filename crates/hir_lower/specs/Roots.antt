@@ -71,7 +71,7 @@ pub record RefusedAtLimit {A : Type 0} (p : Lowering A) (limit : ℕ) : Type 0 w
   pub refused : p (fresh limit) ≡ (Err Full, builder)
   pub at_limit : SomeAtLimit builder.stored
 
--- ---- read at a place
+-- read at a place
 
 abbrev pub spot_at : Answers → Place → Spot
 spot_at env p = record { answers = env; place = p }

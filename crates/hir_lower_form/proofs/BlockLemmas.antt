@@ -19,7 +19,7 @@ pub plain_inside : (at : Spot) (b : AstBlockExpr) → lower_block (answered_plai
 unfolding labelled
 plain_inside at b = let P : Block → Type 0 = λ x. lower_block x ≡ lower_inside false None x in subst P (sym (plain_is_level at b)) refl
 
--- ---- the tail that a block has in the end
+-- the tail that a block has in the end
 
 get_end : (xs : List Statement) (x : Statement) → slice_get (xs ++ x ∷ []) (length (xs ++ x ∷ []) - 1) ≡ Some x
 get_end [] x = refl
@@ -89,7 +89,7 @@ pub settled_in_range : (s : Stored) (ss new : List Statement) (t u : Option Expr
     → settled ss t ≡ (new, u) → HasStatements s ss → HasExprOption s t → Settled s (new, u)
 settled_in_range s ss new t u e h k = subst (Settled s) e (settled_range s ss t h k)
 
--- ---- a block as an expression
+-- a block as an expression
 
 pub own_inside : (at : Spot) (b : AstBlockExpr)
     → lower (answered_block at b) ≡ labelled (block_head at b).1 (λ id. lower_inside (block_head at b).0 id (answered_plain at b))

@@ -64,7 +64,7 @@ abbrev pub or_missing : Option ExprId → Node
 or_missing None = spec.missing
 or_missing (Some id) = pure id
 
--- ---- the contents of a block
+-- the contents of a block
 
 -- the statements, without what stands behind them
 abbrev pub stmts_alone : List Statement → Stmts → Lowering (List Statement)

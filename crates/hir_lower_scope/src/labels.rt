@@ -1,5 +1,5 @@
-//! What is open around what is being lowered, as far as a jump by name goes: labels, macro definitions, and the borders of closures, coroutines and
-//! constants.
+//! What is open around what is being lowered, as far as a jump by name goes: labels, macro definitions, and the
+//! borders of closures, coroutines and constants.
 
 ghost use Rattle.std.specs.Prelude.{◌≡◌, [], ◌∷◌, OnOk, OnErr, reverse};
 ghost use Rattle.hir_scope.specs.Ribs.{Rib, label_rib, macro_rib, barrier_rib, Sought, sought_first, is_for, past_macro, search};

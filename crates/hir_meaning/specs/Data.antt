@@ -23,7 +23,7 @@ pub record PathData : Type 0 where
   pub kind : PathKind
   pub names : List Name
 
--- ---- written
+-- written
 
 -- a literal of an expression has no minus before it
 abbrev pub literal_data : AstLiteral → LiteralData
@@ -56,7 +56,7 @@ hygiene_for (n ∷ m ∷ ns) h = record { 0 = 0 }
 abbrev pub lookup_hygiene : PathData → HygieneId → HygieneId
 lookup_hygiene p h = hygiene_for p.names h
 
--- ---- stored
+-- stored
 
 abbrev pub literal_read : Literal → LiteralData
 literal_read l = record { negative = l.negative; kind = l.kind; text = l.text; suffix = l.suffix }

@@ -15,7 +15,7 @@ use Rattle.hir_meaning.specs.Small.{Nodes, only, from, id, number, stored_one, s
 use Rattle.hir_meaning.specs.Small.{event_of, literal_event, Example, BothDo}
 use Rattle.hir_meaning.specs.Turns.{nested}
 
--- ---- `loop { 1; _ }`, where a path expression without path stands for _
+-- `loop { 1; _ }`, where a path expression without path stands for _
 
 abbrev pub missing_in_turn : Example
 missing_in_turn = record {
@@ -34,7 +34,7 @@ missing_in_turn = record {
 abbrev pub MissingEndsTheLoop : Type 0
 MissingEndsTheLoop = BothDo missing_in_turn 2 [] (literal_event one 2 ∷ []) (left missing)
 
--- ---- `break 1`
+-- `break 1`
 
 abbrev pub break_alone : Example
 break_alone = record {
@@ -53,7 +53,7 @@ StrayIsNoValue =
     let ns = (stored_one, Some 1) ∷ [] in
     SameRun (stored_body (only ns) (from ns) (id 0)) (written_body break_alone.written) → ⊥
 
--- ---- `'a: loop { 'a: loop { break 'a 1 }; 2 }`, where both labels have one hygiene
+-- `'a: loop { 'a: loop { break 'a 1 }; 2 }`, where both labels have one hygiene
 
 abbrev pub equal_labels : Example
 equal_labels = nested (Some label_a) jump_a (Some (number 1)) (number 1)
@@ -62,7 +62,7 @@ equal_labels = nested (Some label_a) jump_a (Some (number 1)) (number 1)
 abbrev pub InnerLabelHides : Type 0
 InnerLabelHides = BothDo equal_labels 1 [] (literal_event one 6 ∷ literal_event two 8 ∷ []) (left cut)
 
--- ---- `loop { 'a: { 1; continue } }`
+-- `loop { 'a: { 1; continue } }`
 
 abbrev pub continue_past : Example
 continue_past = record {
@@ -82,7 +82,7 @@ continue_past = record {
 abbrev pub ContinuesPastTheBlock : Type 0
 ContinuesPastTheBlock = BothDo continue_past 2 [] (literal_event one 4 ∷ literal_event one 4 ∷ []) (left cut)
 
--- ---- `if 1 { 2 }`, without answers
+-- `if 1 { 2 }`, without answers
 
 abbrev pub unanswered : Example
 unanswered = record {
@@ -98,7 +98,7 @@ unanswered = record {
 abbrev pub AnswersNoPastTheEnd : Type 0
 AnswersNoPastTheEnd = BothDo unanswered 0 [] (literal_event one 1 ∷ event_of (test is_true) (answered 0 ∷ []) 0 ∷ []) (ended unit)
 
--- ---- steps that no form takes so far, and jumps
+-- steps that no form takes so far, and jumps
 
 -- A turn that ends with a value for the loop ends the loop with it.
 abbrev pub ValueEndsTheLoop : Type 0

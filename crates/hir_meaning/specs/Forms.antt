@@ -42,7 +42,7 @@ reads_a = event_of (read_name 97) [] 1
 abbrev pub reads_b : Event
 reads_b = event_of (read_name 98) [] 2
 
--- ---- `a + b`
+-- `a + b`
 
 abbrev pub plus : Option BinaryOp
 plus = Some (ast.ArithOp arith.Add)
@@ -60,7 +60,7 @@ OperatesInOrder = BothDo sum 0 (no 11 ∷ no 12 ∷ no 13 ∷ [])
     (reads_a ∷ reads_b ∷ event_of (operator plus) (answered 11 ∷ answered 12 ∷ []) 0 ∷ [])
     (ended (answered 13))
 
--- ---- `a && b` and `a || b`
+-- `a && b` and `a || b`
 
 abbrev pub lazy_of : LogicOp → Example
 lazy_of op = record {
@@ -85,7 +85,7 @@ DecidesByRight =
     BothDo (lazy_of logic.And) 0 (no 11 ∷ yes 12 ∷ no 13 ∷ []) (reads_a ∷ tests_a ∷ reads_b ∷ []) (ended (answered 13))
     × BothDo (lazy_of logic.Or) 0 (no 11 ∷ no 12 ∷ no 13 ∷ []) (reads_a ∷ tests_a ∷ reads_b ∷ []) (ended (answered 13))
 
--- ---- `f(loop { return 1 })`
+-- `f(loop { return 1 })`
 
 abbrev pub return_inside : Example
 return_inside = record {
@@ -107,7 +107,7 @@ return_inside = record {
 abbrev pub ReturnsFromInside : Type 0
 ReturnsFromInside = BothDo return_inside 1 [] (event_of (read_name 102) [] 1 ∷ literal_event one 5 ∷ []) (left (returned (answered 0)))
 
--- ---- `()`, `(, a)` and `(a, b)` with a disabled b
+-- `()`, `(, a)` and `(a, b)` with a disabled b
 
 abbrev pub nothing : Example
 nothing = record {
@@ -155,7 +155,7 @@ ElementIsNothing =
     (turns : ℕ) (before after : Exprs) (q : Pointer) (by : CfgId) (e : Expr) (ss : List Scope)
     → run_each turns (followed before (tree.more_exprs (tree.disabled_expr q by e) after)) ss ≡ run_each turns (followed before after) ss
 
--- ---- `unsafe { 1 }`
+-- `unsafe { 1 }`
 
 abbrev pub unsafe_block : Example
 unsafe_block = record {

@@ -16,7 +16,7 @@ use Rattle.hir_meaning.specs.Small.{at, root, one, two, literal_at, name_at, lab
 use Rattle.hir_meaning.specs.Small.{only, from, id, number, stored_one, stored_two, stored_name, stored_block, stored_loop}
 use Rattle.hir_meaning.specs.Small.{event_of, literal_event, read_name, Example, BothDo}
 
--- ---- `'a: { loop { break 'a 1 } }`
+-- `'a: { loop { break 'a 1 } }`
 
 abbrev pub break_out : Example
 break_out = record {
@@ -38,7 +38,7 @@ LeavesTheLoop = BothDo break_out 1 [] (literal_event one 5 ∷ []) (ended (answe
 abbrev pub HasNoTurn : Type 0
 HasNoTurn = BothDo break_out 0 [] [] (left cut)
 
--- ---- `'a: { loop { break 'a 1 }; 2 }`
+-- `'a: { loop { break 'a 1 }; 2 }`
 
 abbrev pub break_past : Example
 break_past = record {
@@ -59,7 +59,7 @@ break_past = record {
 abbrev pub LeavesTheBlock : Type 0
 LeavesTheBlock = BothDo break_past 1 [] (literal_event one 5 ∷ []) (ended (answered 0))
 
--- ---- `'a: { continue 'a }`
+-- `'a: { continue 'a }`
 
 abbrev pub continue_block : Example
 continue_block = record {
@@ -72,7 +72,7 @@ continue_block = record {
 abbrev pub StraysFromBlock : Type 0
 StraysFromBlock = BothDo continue_block 1 [] [] stray_continue
 
--- ---- `f(g())`
+-- `f(g())`
 
 abbrev pub two_calls : Example
 two_calls = record {
@@ -96,7 +96,7 @@ HasTwoSites = BothDo two_calls 0 []
     ∷ [])
     (ended (answered 0))
 
--- ---- a block `{ 1 }` with a number
+-- a block `{ 1 }` with a number
 
 abbrev pub numbered_block : Example
 numbered_block = record {
@@ -112,7 +112,7 @@ EntersItsNumber = BothDo numbered_block 0 (record { yes = false; value = 11 } �
     (event_of (enter (Some (record { 0 = 7 })) false) [] 0 ∷ literal_event one 1 ∷ [])
     (ended (answered 12))
 
--- ---- what isn't the same, and what is
+-- what isn't the same, and what is
 
 -- A store of one missing expression does not run as a literal.
 abbrev pub MissingIsNoLiteral : Type 0

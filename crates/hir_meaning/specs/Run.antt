@@ -19,7 +19,7 @@ pub record Body (T J : Type 0) : Type 0 where
   pub table : T
   pub run : ℕ → Run T J Value
 
--- ---- steps
+-- steps
 
 unfoldable pub ends : {T J A : Type 0} → Outcome J A → Run T J A
 ends o = λ w. (o, w)
@@ -42,7 +42,7 @@ infixl 10 ◌>>◌
 abbrev pub ◌>>◌ : {T J A B : Type 0} → Run T J A → Run T J B → Run T J B
 m >> n = m >>= (λ _. n)
 
--- ---- events
+-- events
 
 -- past the end of the list stand no and 0
 abbrev pub first : Answerer → Answer
@@ -78,7 +78,7 @@ entering is_unsafe number site m = do
   event (enter number is_unsafe) [] site
   m
 
--- ---- what the forms of both readings do with values
+-- what the forms of both readings do with values
 
 -- an empty tuple is silent
 abbrev pub made_tuple : {T J : Type 0} → List Value → Option Site → Run T J Value

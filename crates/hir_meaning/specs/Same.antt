@@ -8,7 +8,7 @@ use Rattle.hir_meaning.specs.Syntax.{SyntaxBody, written_body}
 use Rattle.hir_meaning.specs.Store.{StoreBody, stored_body}
 use Rattle.hir_meaning.specs.Jumps.{Enclosed}
 
--- ---- the same run
+-- the same run
 
 -- how a body ends: a jump that nothing caught is a stray one
 pub data Ending : Type 0 where
@@ -39,7 +39,7 @@ pub record SameRun (stored : StoreBody) (written : SyntaxBody) : Type 0 where
   pub events : (turns : ℕ) (answers : Answerer) → (does stored turns answers).1.events ≡ (does written turns answers).1.events
   pub endings : (turns : ℕ) (answers : Answerer) → ending (does stored turns answers).0 ≡ ending (does written turns answers).0
 
--- ---- bodies
+-- bodies
 
 -- The stored body, which runs the expression `root`, runs as the written one, and its labelled jumps are for what encloses them.
 pub record SameBody (store : Store) (stored : StoreBody) (root : ExprId) (written : SyntaxBody) : Type 0 where

@@ -33,7 +33,7 @@ at n = record { file_id = record { 0 = 0 }; value = record { node = record { 0 =
 abbrev pub root : HygieneId
 root = record { 0 = 0 }
 
--- ---- written
+-- written
 
 -- the literal of one byte
 abbrev pub digit : ℕ → AstLiteral
@@ -83,7 +83,7 @@ loop_of n label b = tree.loop_expr (at n) label (tree.some_block b)
 abbrev pub break_of : ℕ → Option Jump → Expr → Expr
 break_of n jump e = tree.break_expr (at n) jump (tree.some_expr e)
 
--- ---- stored
+-- stored
 
 -- expressions, each with the node that it came from, where it came from one
 abbrev pub Nodes : Type 0
@@ -129,7 +129,7 @@ stored_block label ss tail = hir.Block false label None ss (Some (id tail))
 abbrev pub stored_loop : Option LabelId → ℕ → Stored
 stored_loop label body = hir.Loop (id body) label source.Loop
 
--- ---- what both do
+-- what both do
 
 abbrev pub event_of : Operation → List Value → ℕ → Event
 event_of o vs n = event_at o vs (Some (site_of (at n)))

@@ -38,7 +38,7 @@ StoreRun A = Run Table Named A
 abbrev pub StoreBody : Type 0
 StoreBody = Body Table Named
 
--- ---- jumps
+-- jumps
 
 abbrev pub is_named : Option LabelId → LabelId → Bool
 is_named None k = false
@@ -54,7 +54,7 @@ abbrev pub past_block : Option LabelId → Named → Option Named
 past_block l None = Some None
 past_block l (Some k) = if is_named l k then None else Some (Some k)
 
--- ---- parts of a node, with what runs them
+-- parts of a node, with what runs them
 
 module _ (turns : ℕ) (part : ExprId → StoreRun Value) where
   abbrev pub run_or_unit : Option ExprId → StoreRun Value
@@ -76,7 +76,7 @@ module _ (turns : ℕ) (part : ExprId → StoreRun Value) where
     part i
     run_statements ss tail
 
--- ---- the store
+-- the store
 
 module _ (store : Store) (source_map : SourceMap) where
   -- one node, with what runs its parts

@@ -13,7 +13,7 @@ use Rattle.hir_meaning.specs.Small.{in_braces, first, block_of, loop_of, break_o
 use Rattle.hir_meaning.specs.Small.{Nodes, id, number, stored_one, stored_two, stored_block, stored_loop}
 use Rattle.hir_meaning.specs.Small.{event_of, literal_event, Example, BothDo}
 
--- ---- `loop { 1; continue; 2 }`
+-- `loop { 1; continue; 2 }`
 
 abbrev pub continue_early : Example
 continue_early = record {
@@ -33,7 +33,7 @@ continue_early = record {
 abbrev pub EndsTheTurn : Type 0
 EndsTheTurn = BothDo continue_early 2 [] (literal_event one 2 ∷ literal_event one 2 ∷ []) (left cut)
 
--- ---- `'a: loop { loop { 1; continue 'a }; 2 }`
+-- `'a: loop { loop { 1; continue 'a }; 2 }`
 
 abbrev pub loop_inside : Expr
 loop_inside = loop_of 3 None (block_of 4 None (first (literal_at 5 one) tree.no_stmts) (tree.continue_expr (at 6) (Some jump_a)))
@@ -56,7 +56,7 @@ continue_outer = record {
 abbrev pub ContinuesTheOuter : Type 0
 ContinuesTheOuter = BothDo continue_outer 2 [] (literal_event one 5 ∷ literal_event one 5 ∷ []) (left cut)
 
--- ---- `'a: loop { 'b: loop { break 'c 1 }; 2 }`, where 'b and 'c are 'a, or it with another hygiene
+-- `'a: loop { 'b: loop { break 'c 1 }; 2 }`, where 'b and 'c are 'a, or it with another hygiene
 
 abbrev pub break_nested : Option Label → Jump → Expr
 break_nested inner jump = loop_of 0 (Some label_a) (block_of 2 None
@@ -98,7 +98,7 @@ HygienesDiffer =
     BothDo (two_labels jump_a 0) 1 [] (literal_event one 6 ∷ []) (ended (answered 0))
     × BothDo (two_labels (jump_of other) 1) 1 [] (literal_event one 6 ∷ literal_event two 8 ∷ []) (left cut)
 
--- ---- `loop { break 'a 1 }` and `loop { continue 'a }`, where no label is
+-- `loop { break 'a 1 }` and `loop { continue 'a }`, where no label is
 
 abbrev pub break_undeclared : Example
 break_undeclared = record {
@@ -123,7 +123,7 @@ abbrev pub UndeclaredIsPlain : Type 0
 UndeclaredIsPlain =
     BothDo break_undeclared 1 [] (literal_event one 3 ∷ []) (ended (answered 0)) × BothDo continue_undeclared 1 [] [] (left cut)
 
--- ---- `loop { loop { if 1 { break } } }`
+-- `loop { loop { if 1 { break } } }`
 
 -- `if 1 { break }`
 abbrev pub break_if : Expr

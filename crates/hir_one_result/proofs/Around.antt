@@ -25,7 +25,7 @@ loop_is_rib l a = record { around = λ ss rs e. ap (λ y. label_rib l.name l.hyg
 pub block_is_rib : {A : Type 0} (l : Label) (a : A) → IsRib (block_scope l) (label_rib l.name l.hygiene a)
 block_is_rib l a = record { around = λ ss rs e. ap (λ y. label_rib l.name l.hygiene tt ∷ y) (farther ss rs e) }
 
--- ---- whatever is open, there are scopes for it
+-- whatever is open, there are scopes for it
 
 somewhere : Pointer
 somewhere = record { file_id = record { 0 = 0 }; value = record { node = record { 0 = 0 }; range = record { start = 0; end = 0 } } }

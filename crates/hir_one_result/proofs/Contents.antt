@@ -25,7 +25,7 @@ there : (b : Bool) (S : ExprId → Ways) (o : Option ExprId) (ws : List Way) →
 there true S o ws h = (h.0, h.1)
 there false S o ws h = h.0
 
--- ---- where the written tail is kept
+-- where the written tail is kept
 
 never : (left semi none gives : Bool) → gives ≡ false → ((left && (not semi && (none && false))) || gives) ≡ false
 never true true none gives e = e
@@ -38,7 +38,7 @@ none_gives tree.no_stmts = refl
 none_gives (tree.more_stmts tree.item_stmt ss) = none_gives ss
 none_gives (tree.more_stmts (tree.expr_stmt e semi) ss) = never (is_left e) semi (none_left ss) (gives_value ss true) (none_gives ss)
 
--- ---- where it isn't
+-- where it isn't
 
 abbrev Settled : Bool → List Statement → Type 0
 Settled gives is = HasContents gives is None (settled is None)

@@ -94,7 +94,7 @@ leaves = record {
   parentheses = λ store source_map i ws h. h.is ∙ (ap (λ l. l ++ h.right) h.first.2.1 ∙ ap (λ r. expr_way (at 1) i ∷ r) h.second);
 }
 
--- ---- plain forms
+-- plain forms
 
 abbrev literal_of : LiteralData → Literal
 literal_of d = record { negative = d.negative; kind = d.kind; text = d.text; suffix = d.suffix }

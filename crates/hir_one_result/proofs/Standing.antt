@@ -47,7 +47,7 @@ Placed final i e from = ExprAt (store_of final) (map_of final) i e from
 pub record Shows {A : Type 0} (S : Of A) (final : Stored) (ps : List Frame) (m m' : Mark) (a : A) : Type 0 where
   pub shown : Shown (S final (ribs ps) a) m.stored m'.stored
 
--- ---- what steps store, and where they lead
+-- what steps store, and where they lead
 
 pub moved_pure : {a b : Mark} → b ≡ a → Moved a.stored b.stored []
 moved_pure {a = a} e = moved_same a.stored a.stored (ap (λ m. m.stored) e) refl refl
@@ -108,7 +108,7 @@ module _ {A B : Type 0} {at : Label → LabelId → Frame} {l : Label} {R : Labe
       ∙ ap (λ n. insert_entry same_pointer m.stored.labels.map l.pointer (label_id n)) (sym (row.new ∙ row.last)))
       (ap (λ s. length s.labels.entries) row.stored ∙ length-append m.stored.labels.entries (record { name = l.name } ∷ []))
 
--- ---- leaves
+-- leaves
 
 pub missing_stands : Correct missing (Shows (λ final rs i. StandsMissing (store_of final) (map_of final) i))
 unfolding missing
@@ -166,7 +166,7 @@ literal_stands at l =
     correct_as (alone_stands (hir.Literal (stored_literal l)) at) (λ final ps m m' i g row.
     record { shown = shown_as row.shown (λ ws y. (stored_literal l, refl, y)) })
 
--- ---- forms
+-- forms
 
 pub present_none : {A : Type 0} → Correct {A = Option A} (pure None) (Shows (λ final rs o. Absent o))
 present_none = correct_as (correct_pure None) (λ final ps m m' o g row. record { shown = shown_none (moved_pure row.still) (row.is, refl) })

@@ -76,7 +76,7 @@ module _ {X : Type 0} (L : Listing X) where
   abbrev pub nothing : List Scope → List X
   nothing ss = []
 
-  -- ---- one after another
+  -- one after another
 
   pub tells_bind : {A B : Type 0} {D E : List Scope → List X} {p : Lowering A} {f : A → Lowering B} → Correct p (Tells D)
       → ((a : A) → Correct (f a) (Tells E))
@@ -95,7 +95,7 @@ module _ {X : Type 0} (L : Listing X) where
       → Correct (p >>= f) (Tells D)
   tells_end {D = D} h k = tells_as (tells_bind h k) (λ ss. subst (L.Like (D ss)) (sym (append-nil (D ss))) (L.same (D ss)))
 
-  -- ---- steps
+  -- steps
 
   pub tells_pure : {A : Type 0} (a : A) → Correct (pure a) (Tells nothing)
   tells_pure a =
@@ -124,7 +124,7 @@ module _ {X : Type 0} (L : Listing X) where
       correct_as (correct_enter_block n) (λ final ps m m' u g row.
       record { told = λ ss e. added_these (L.of_block n) (ap L.list row.stored ∙ L.block n m.stored) })
 
-  -- ---- jumps
+  -- jumps
 
   none_more : (s : Stored) → L.list s ≡ L.list s ++ L.of_faults []
   none_more s = sym (ap (λ xs. L.list s ++ xs) L.no_fault ∙ append-nil (L.list s))
@@ -155,7 +155,7 @@ module _ {X : Type 0} (L : Listing X) where
   tells_target j = correct_as (correct_target j) (λ final ps m m' n g row.
       record { told = λ ss e. added_these (L.of_faults (jump_faults ss j)) (ap L.list row.stored ∙ jump_adds j ss (ribs ps) e m.stored) })
 
-  -- ---- awaits
+  -- awaits
 
   await_adds : (at : Pointer) (location : Option AwaitLocation) (s : Stored)
       → L.list (with_await at location s) ≡ L.list s ++ L.of_faults (await_faults at location)
@@ -169,7 +169,7 @@ module _ {X : Type 0} (L : Listing X) where
         told = λ ss e. added_these (L.of_faults (await_faults at location)) (ap L.list row.stored ∙ await_adds at location m.stored);
       })
 
-  -- ---- a label around steps
+  -- a label around steps
 
   last_none : {xs : List X} {a b : Stored} → Added (xs ++ []) a b → Added xs a b
   last_none {xs = xs} {a = a} {b = b} g = subst (λ ys. Added ys a b) (append-nil xs) g
@@ -187,7 +187,7 @@ module _ {X : Type 0} (L : Listing X) where
         last_none (added_then (added_then entered (row.first.told (c ∷ ss) inner)) (row.second.told ss e));
   })
 
-  -- ---- forms
+  -- forms
 
   pub missing_tells : Correct missing (Tells nothing)
   unfolding missing

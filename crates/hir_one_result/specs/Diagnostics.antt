@@ -75,7 +75,7 @@ abbrev mutual
   contents_diagnostics ss (tree.more_stmts (tree.expr_stmt e semi) stmts) tail = part_diagnostics ss e ++ contents_diagnostics ss stmts tail
   contents_diagnostics ss (tree.more_stmts tree.item_stmt stmts) tail = contents_diagnostics ss stmts tail
 
--- ---- the scopes in which something is lowered
+-- the scopes in which something is lowered
 
 -- They have the ribs that are open, whatever is known of the labels.
 abbrev pub forget : {A : Type 0} → A → Unit {0}

@@ -20,7 +20,7 @@ abbrev pub Lowered : (OptionExpr → Builder → ExprId → Builder → Type 0) 
 Lowered R =
     (e : OptionExpr) (old : Builder) (id : ExprId) (new : Builder) → Paired old.stored → lower_part e old ≡ (Ok id, new) → R e old id new
 
--- ---- forms, parts and sources, and ways back
+-- forms, parts and sources, and ways back
 
 -- The expression stands for the tree, what led somewhere before leads there or by the ways of the tree, and each label more has its way.
 pub record Standing (final : Stored) (e : OptionExpr) (old new : Builder) (id : ExprId) : Type 0 where
@@ -33,7 +33,7 @@ pub record Standing (final : Stored) (e : OptionExpr) (old new : Builder) (id : 
 abbrev pub AllStand : Type 0
 AllStand = Lowered (λ e old id new. (final : Stored) → Extends new.stored final → Standing final e old new id)
 
--- ---- diagnostics
+-- diagnostics
 
 -- the faults of the tree come behind those that were met before, in some order
 pub record Diagnosed (ss : List Scope) (e : OptionExpr) (old new : Builder) : Type 0 where
@@ -49,7 +49,7 @@ DiagnosticsAre = Lowered (λ e old id new. (ss : List Scope) → Around ss old.s
 abbrev pub ScopesAround : Type 0
 ScopesAround = (rs : List (Rib LabelId)) → (ss : List Scope) × Around ss rs
 
--- ---- block scopes
+-- block scopes
 
 -- the numbers of the blocks that it enters come behind those of the blocks entered before
 abbrev pub BlocksAre : Type 0

@@ -32,7 +32,7 @@ Open = List (Rib LabelId)
 abbrev pub opened : Label → LabelId → Open → Open
 opened l n rs = label_rib l.name l.hygiene n ∷ rs
 
--- ---- parts that may be absent in the store too
+-- parts that may be absent in the store too
 
 abbrev pub Absent : {A : Type 0} → Option A → Ways
 Absent o = λ ws. (o ≡ None) × No ws
@@ -47,7 +47,7 @@ ThereIf false S o = Absent o
 abbrev pub statement_of : Bool → Option ExprId → Option Statement
 statement_of semi o = option_map (λ id. statement.Expr id semi) o
 
--- ---- in a store
+-- in a store
 
 module _ (store : Store) (source_map : SourceMap) where
   -- the expression of this number, and the node that it came from

@@ -40,7 +40,7 @@ abbrev pub StoredOver : Expr → (ExprId → HirExpr) → Type 0
 StoredOver e x = (store : Store) (source_map : SourceMap) (i : ExprId) (ws : List Way) → Stands store source_map [] e i ws
     → (part : ExprId) × (slice_get store.exprs i.0 ≡ Some (x part))
 
--- ---- jumps
+-- jumps
 
 -- of a macro's names
 abbrev pub other : HygieneId
@@ -65,7 +65,7 @@ pub record Jumps : Type 0 where
   pub nearer : diagnostics (barrier ∷ loop_scope (Some label_a) ∷ []) two_labels ≡ []
   pub unreachable : diagnostics (barrier ∷ loop_scope (Some label_a) ∷ []) break_a ≡ UnreachableLabel jump_a.pointer jump_a.name ∷ []
 
--- ---- statements
+-- statements
 
 -- a block with a number, in which is a fault, disabled
 abbrev pub disabled : CfgId → Expr
@@ -89,7 +89,7 @@ pub record Statements : Type 0 where
   pub faults : (by : CfgId) (semi : Bool) → diagnostics [] (in_block by semi tree.no_expr) ≡ InactiveCode (at 2) by ∷ []
   pub blocks : (by : CfgId) (semi : Bool) → blocks_of (in_block by semi tree.no_expr) ≡ []
 
--- ---- blocks
+-- blocks
 
 -- a block with this number, with this in it
 abbrev pub numbered : ℕ → Stmts → OptionExpr → Block
@@ -113,7 +113,7 @@ branches = tree.block_expr (numbered 1
 abbrev pub EntersInOrder : Type 0
 EntersInOrder = blocks_of branches ≡ block_number 1 ∷ block_number 4 ∷ block_number 5 ∷ block_number 3 ∷ block_number 6 ∷ []
 
--- ---- paths and parentheses
+-- paths and parentheses
 
 abbrev pub letter : ℕ → Name
 letter c = name.Text (c ∷ [])
@@ -129,7 +129,7 @@ pub record Leaves : Type 0 where
       → Stands store source_map [] (tree.paren_expr (at 0) (tree.some_expr (literal_at 1 one))) i ws
       → ws ≡ expr_way (at 1) i ∷ expr_way (at 0) i ∷ []
 
--- ---- plain forms
+-- plain forms
 
 abbrev pub value : ℕ → OptionExpr
 value n = tree.some_expr (literal_at n one)

@@ -23,7 +23,7 @@ use Rattle.hir_same_meaning.proofs.Senses.{Walk, run_in, one, contents, Goes}
 abbrev pub part_walk : OptionExpr → Walk Value
 part_walk e turns = run_part turns e
 
--- ---- what is kept of an expression
+-- what is kept of an expression
 
 -- an expression where one is kept
 abbrev pub KeptIs : ℕ → ℕ → Stored → List Frame → Bool → Walk Value → Option ExprId → Type 0
@@ -32,7 +32,7 @@ KeptIs labels nodes final ps true x (Some i) = Goes labels nodes one x final ps 
 KeptIs labels nodes final ps false x None = Unit {0}
 KeptIs labels nodes final ps false x (Some i) = ⊥
 
--- ---- the statements that are stored, against those that are written
+-- the statements that are stored, against those that are written
 
 abbrev pub Stored1 : ℕ → ℕ → Stored → List Frame → Bool → Walk Value → Bool → (List Statement → Type 0) → List Statement → Type 0
 Stored1 labels nodes final ps false x semi Rest new = Rest new
@@ -58,7 +58,7 @@ module _ (labels nodes : ℕ) (final : Stored) (kept : Bool) (x : Walk Value) wh
   ContentsAre ps (tree.more_stmts (tree.expr_stmt e semi) ss) new o =
       Stored1 labels nodes final ps (is_left e) (part_walk e) semi (λ more. ContentsAre ps ss more o) new
 
--- ---- which statement is the last
+-- which statement is the last
 
 abbrev empty : List Statement → Bool
 empty [] = true
@@ -93,7 +93,7 @@ and_true : (a : Bool) → a && true ≡ a
 and_true true = refl
 and_true false = refl
 
--- ---- the same run
+-- the same run
 
 -- the run of a stored block's contents
 abbrev stored_run : Stored → ℕ → ℕ → List Statement × Option ExprId → StoreRun Value
@@ -157,7 +157,7 @@ module _ (labels nodes : ℕ) (final : Stored) (turns d : ℕ) (deep : nodes ≤
       go true y false (statement.Expr j false ∷ (s ∷ new)) more left h =
           rw (left (s ∷ new) h.2) (same_bind (h.1.same turns d deep f) (λ v. more (s ∷ new) h.2))
 
--- ---- jumps
+-- jumps
 
 -- each jump of the contents of a block names what encloses it
 abbrev AllEnclosed : (ExprId → Type 0) → List Statement → Option ExprId → Type 0
@@ -200,7 +200,7 @@ settled_jumps P (statement.Expr i true ∷ new) None h = let r = settled_jumps P
 settled_jumps P (statement.Expr i false ∷ []) None h = (tt, h.0.0)
 settled_jumps P (statement.Expr i false ∷ (s ∷ new)) None h = let r = settled_jumps P (s ∷ new) None (h.0.1, tt) in ((h.0.0, r.0), r.1)
 
--- ---- the tail is stored where it is kept
+-- the tail is stored where it is kept
 
 module _ (labels nodes : ℕ) (final : Stored) (x : Walk Value) where
   no_tail : (ps : List Frame) (ss : Stmts) (new : List Statement) → ContentsAre labels nodes final true x ps ss new None → ⊥
@@ -234,7 +234,7 @@ module _ (labels nodes : ℕ) (final : Stored) (x : Walk Value) (i : ExprId) whe
       go true y (statement.Item ∷ new) more h = h
       go true y (statement.Expr i semi' ∷ new) more h = more new h.2
 
--- ---- both
+-- both
 
 -- the run of a tail that is written, by whether it is left
 abbrev tail_of : Bool → (List Scope → SyntaxRun Value) → List Scope → SyntaxRun Value

@@ -24,7 +24,7 @@ use Rattle.hir_same_meaning.proofs.Forms.{missing_fine}
 use Rattle.hir_same_meaning.proofs.Strict.{Finish, asks, leaves, makes_tuple, Form1, finished, goes1, form1_fine, Event2}
 use Rattle.hir_same_meaning.proofs.Strict.{event0_fine, event2_fine}
 
--- ---- the kinds of each
+-- the kinds of each
 
 pub unary_is : (form : Unary) → Form1 (stored_unary form) one (asks (unary_operation form) (λ v. v ∷ []))
 unary_is (tree.field_of name) = record { runs = λ w a. refl; jumps = λ P ls a h. h }
@@ -50,7 +50,7 @@ tuple_is = record { runs = λ w a. refl; jumps = λ P ls a h. h }
 array_is : Form1 hir.Array many (asks array (λ vs. vs))
 array_is = record { runs = λ w a. refl; jumps = λ P ls a h. h }
 
--- ---- forms
+-- forms
 
 module _ (at : Pointer) where
   abbrev here : Option Site

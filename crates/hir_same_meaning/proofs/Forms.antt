@@ -44,7 +44,7 @@ use Rattle.hir_same_meaning.proofs.Nodes
 use Rattle.hir_same_meaning.proofs.Strict.{event0_fine, event2_fine}
 use Rattle.hir_same_meaning.proofs.Blocks.{part_walk, KeptIs, Stored1, ContentsAre, contents_go}
 
--- ---- parts
+-- parts
 
 pub missing_fine : Correct missing (Runs one (λ turns ss. ends (leave is_missing)))
 unfolding missing
@@ -61,7 +61,7 @@ some_fine h = correct_as (correct_bind h (λ i. correct_pure (Some i)))
 falls_new : (b c : ℕ) (l : Label) (n : LabelId) (ps : List Frame) → n.0 ≡ b → c ≡ suc b → Falls b ps → Falls c (loop_at l n ∷ ps)
 falls_new b c l n ps e e' f = (omega arith, rw e f)
 
--- ---- inside a loop without a label, of which lowering knows nothing
+-- inside a loop without a label, of which lowering knows nothing
 
 record InLoop {A : Type 0} (R : Rel A) (final : Stored) (ps : List Frame) (m m' : Mark) (a : A) : Type 0 where
   rel : R final (plain_loop ∷ ps) m m' a
@@ -75,7 +75,7 @@ correct_in_loop {A = A} {p = p} {R = R} h =
     go final ps b (Ok a) c y = record { kept = y.kept; grows = y.grows; in_final = λ d pre. record { rel = y.in_final d pre } }
     go final ps b (Err e) c y = y
 
--- ---- forms
+-- forms
 
 module _ (at : Pointer) where
   abbrev here : Option Site
@@ -129,7 +129,7 @@ module _ (at : Pointer) where
   paren_fine h = correct_as (correct_bind h (λ i. correct_bind (correct_point at i) (λ _. correct_pure i)))
       (λ final ps m m' i g row. rw row.second.second.is (goes_within (omega arith) row.first))
 
--- ---- paths
+-- paths
 
 names_from_is : (done : List Name) (ss : Segments) → names_from done ss ≡ option_map (λ ns. done ++ ns) (segment_names ss)
 names_from_is done [] = ap Some (sym (append-nil done))
@@ -168,7 +168,7 @@ pub path_fine : (at : Pointer) (x : Option Segments) (h : HygieneId)
 path_fine at None h = correct_as (correct_alloc hir.Missing (Some at)) (λ final ps m m' i g a. Nodes.goes_missing a)
 path_fine at (Some ss) h = rw (names_of_is ss) (named_fine at (segment_names ss) h)
 
--- ---- what is kept
+-- what is kept
 
 pub kept_fine : (e : Expr) {p : Node} {x : Walk Value} → Correct p (Runs one x)
     → Correct (kept e p) (λ final ps m m' o. KeptIs m.labels m'.nodes final ps (is_kept e) x o)
@@ -191,7 +191,7 @@ pushed_none done e h = record { new = []; is = e ∙ sym (append-nil done); rel 
 pub pushed_one : {A : Type 0} (done : List A) (a : A) (new : List A) {r : List A} → r ≡ (done ++ a ∷ []) ++ new → r ≡ done ++ a ∷ new
 pushed_one done a new e = e ∙ append_assoc done (a ∷ []) new
 
--- ---- lists of expressions
+-- lists of expressions
 
 -- the value before those of the others
 abbrev consed : SyntaxRun Value → SyntaxRun (List Value) → SyntaxRun (List Value)
@@ -210,7 +210,7 @@ each_more true x y done (Some i) g g' h p = record {
 each_more false x y done None g g' h p = record { new = p.new; is = p.is; rel = goes_within (omega arith) p.rel }
 each_more false x y done (Some i) g g' h p = absurd h
 
--- ---- statements
+-- statements
 
 kept_within : {labels nodes labels' nodes' : ℕ} (final : Stored) (ps : List Frame) (t : Bool) (x : Walk Value) (o : Option ExprId)
     → Wider labels nodes labels' nodes' → KeptIs labels nodes final ps t x o → KeptIs labels' nodes' final ps t x o
@@ -282,7 +282,7 @@ filled_expr {final = final} {ps = ps} {m = m} {m1 = m1} {m' = m'} {r = r} t x e 
     go false y None h p = record { new = p.new; is = p.is; rel = λ labels nodes le le'. p.rel labels nodes (omega arith) (omega arith) }
     go false y (Some i) h p = absurd h
 
--- ---- blocks
+-- blocks
 
 pub record BlockIs (at : Pointer) (is_unsafe : Bool) (label : Option LabelId) (number : Option BlockId) (x : Walk Value)
     (final : Stored) (ps : List Frame) (m m' : Mark) (i : ExprId) : Type 0 where
@@ -324,7 +324,7 @@ block_fine at is_unsafe (Some l) number ss e hp = correct_as
     (Nodes.goes_block {labels' = row.entered.labels} is_unsafe number l row.number
     (falls_new m.labels row.entered.labels l row.number ps row.new row.labels) row.first.goes row.first.here))
 
--- ---- what is not kept
+-- what is not kept
 
 pub disabled_fine : (at : Pointer) (by : CfgId)
     → Correct (report (InactiveCode at by) >>= (λ u. missing)) (Runs one (λ turns ss. ends (leave is_missing)))

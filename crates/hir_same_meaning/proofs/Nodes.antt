@@ -100,7 +100,7 @@ module _ {labels : ℕ} {m m' : Mark} {at : Pointer} {final : Stored} {ps qs : L
       (same_block (record { label = l; number = n }) (h.same turns d le (falls f))))
       (λ d le. h.jumps d le)
 
--- ---- parts
+-- parts
 
 module _ {labels nodes : ℕ} {final : Stored} {ps : List Frame} where
   pub goes_none : Goes labels nodes optional (λ turns ss. pure unit) final ps None

@@ -33,7 +33,7 @@ use Rattle.hir_steps.proofs.Steps.{correct_opened, correct_target}
 use Rattle.hir_same_meaning.proofs.Spread.{spread_none, spread_wider, spread_append, spread_node}
 use Rattle.hir_same_meaning.proofs.Forms.{Pushed, pushed_none, pushed_one, correct_statement}
 
--- ---- what was answered has its numbers
+-- what was answered has its numbers
 
 pub record OwnsAs {A : Type 0} (numbers : (ExprId → List ℕ) → A → List ℕ)
     (final : Stored) (ps : List Frame) (m m' : Mark) (a : A) : Type 0 where
@@ -62,7 +62,7 @@ owns_at {final = final} m {m1 = m1} {m' = m'} {i = i} at le h = record { spread 
     go zero le' = absurd (omega (arith, at.next))
     go (suc d) le' = rw (at.number, at.here, at.next) (spread_node m.nodes m1.nodes _ le (h d (omega (arith, at.next))))
 
--- ---- forms
+-- forms
 
 leaf_owns : (e : HirExpr) (from : Option Pointer) → ((f : ExprId → List ℕ) → below f e ≡ []) → Correct (alloc_expr e from) Owns
 leaf_owns e from n = correct_as (correct_alloc e from)
@@ -210,7 +210,7 @@ path_below (Some ss) h f = go (names_of ss)
     go None = refl
     go (Some ns) = refl
 
--- ---- what is kept, lists, statements
+-- what is kept, lists, statements
 
 kept_owns : (e : Expr) {p : Node} → Correct p Owns → Correct (kept e p) OwnsSome
 kept_owns (tree.disabled_expr at by e) h = correct_as (correct_bind (correct_report (InactiveCode at by)) (λ u. correct_pure None))
@@ -277,7 +277,7 @@ filled_expr {final = final} {m = m} {m1 = m1} {m' = m'} {r = r} semi done (Some 
   };
 }
 
--- ---- blocks
+-- blocks
 
 one_below : (f : ExprId → List ℕ) (i : ExprId) (ss ss' : List Statement) (o o' : Option ExprId)
     → of_statements f ss ++ of_some f o ≡ of_statements f ss' ++ of_some f o'
@@ -318,7 +318,7 @@ block_owns at is_unsafe (Some l) number hp = correct_as
 each_owns_all : {p : Lowering (List ExprId)} → Correct p (Pushed [] (OwnsAs of_each)) → Correct p (OwnsAs of_each)
 each_owns_all h = correct_as h (λ final ps m m' r g row. rw row.is row.rel)
 
--- ---- a tree
+-- a tree
 
 mutual
   expr_owns : (e : Expr) → Correct (lower e) Owns

@@ -38,7 +38,7 @@ abbrev leave_of : {J A : Type 0} → Outcome J A → Leave
 leave_of (leave x) = x
 leave_of _ = cut
 
--- ---- steps
+-- steps
 
 module _ {ps : List Frame} where
   pub same_ends : {A : Type 0} (o : Outcome Named A) {o' : Outcome Count A} → view ps o ≡ o' → SameWhere ps (ends o) (ends o')
@@ -111,7 +111,7 @@ module _ {ps : List Frame} where
   unfolding ends ◌>>=◌
   same_stop f x {m = m} h = record { same = λ w. let a = h.same w in stopped f x (m w).0 (m w).1 w a.outcome a.world }
 
--- ---- loops and blocks
+-- loops and blocks
 
 pub record TurnsAgree (ps : List Frame) (s : Step Named) (w : World (Unit {0})) (s' : Step Count) (w' : World (Unit {0})) : Type 0 where
   pub step : view_step ps s ≡ s'

@@ -43,7 +43,7 @@ looked_into final d turns at = record {
 abbrev pub JumpsOf : Type 1
 JumpsOf = List LabelId → ExprId → Type 0
 
--- ---- no operand
+-- no operand
 
 pub record Event0 (e : Expr) (o : Operation) : Type 1 where
   pub runs : (w : Where) → node_run w e ≡ ask o [] w.site
@@ -57,7 +57,7 @@ event0_fine {e = e} {o = o} at is = correct_as (correct_alloc e (Some at)) (λ f
     (same_ask o [] (Some (site_of at))))
     (λ d le. is.jumps (EnclosedTo final.exprs.entries d) (numbers ps)))
 
--- ---- one operand, or one that may be absent, or a list of them
+-- one operand, or one that may be absent, or a list of them
 
 -- how a form ends once its operands have their values
 pub record Finish (B : Type 0) : Type 1 where
@@ -107,7 +107,7 @@ pub form1_fine : {A B : Type 0} {e : A → Expr} {r : Reading A B} {f : Finish B
 form1_fine {e = e} at is hp = correct_as (correct_bind hp (λ a. correct_alloc (e a) (Some at)))
     (λ final ps m m' i g row. goes1 is (goes_within (omega arith) row.first) row.second)
 
--- ---- two operands, or lists of them
+-- two operands, or lists of them
 
 pub record Event2 {A B C D : Type 0} (e : A → C → Expr) (r : Reading A B) (q : Reading C D) (o : Operation)
     (values : B → D → List Value) : Type 1 where

@@ -14,7 +14,7 @@ use Rattle.hir_steps.proofs.Frames.{Frame, plain_loop, loop_at, block_at, try_at
 use Rattle.hir_meaning.specs.Jumps.{Among, NamesAmong}
 use Rattle.hir_same_meaning.proofs.Views.{count_break, count_continue, numbers}
 
--- ---- targets
+-- targets
 
 pub plain_target : (ps : List Frame)
     → (count_break ps None ≡ innermost_loop (scopes ps)) × (count_continue ps None ≡ innermost_loop (scopes ps))
@@ -51,7 +51,7 @@ none_left (try_at n ∷ ps) b k f le =
 none_left (macro_at d ∷ ps) b k f le = none_left ps b k f le
 none_left (barrier_at ∷ ps) b k f le = refl
 
--- ---- the labels that are in reach: their numbers, and what bears them
+-- the labels that are in reach: their numbers, and what bears them
 
 abbrev pub Reached : Type 0
 Reached = LabelId × Bearer
@@ -115,7 +115,7 @@ joined ps j = record {
   bearer = ap (target j) (scopes_reach ps) ∙ target_map bearer_of j (reach ps);
 }
 
--- ---- a number stands for what bears it
+-- a number stands for what bears it
 
 -- the number is one below b, of what bears it and of nothing nearer
 abbrev pub Right : ℕ → List Frame → Reached → Type 0
@@ -206,7 +206,7 @@ continue_meets b ps (Some j) f = let h = joined ps j in
     rw (h.number, h.bearer) (continues b ps (target j (reach ps))
     (target_in_reach (Right b ps) j (reach ps) (all_right ps b f)))
 
--- ---- labels around
+-- labels around
 
 abbrev NumberAmong : List LabelId → Reached → Type 0
 NumberAmong ls x = Among ls x.0

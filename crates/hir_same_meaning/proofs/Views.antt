@@ -9,7 +9,7 @@ use Rattle.hir_meaning.specs.Catching.{Step, again, done, turn_end, block_end, b
 use Rattle.hir_meaning.specs.Store.{Named, past_loop, past_block}
 use Rattle.hir_meaning.specs.Jumps.{and_label}
 
--- ---- how many scopes a jump by number leaves
+-- how many scopes a jump by number leaves
 
 abbrev pub count_break : List Frame → Named → Count
 count_break [] j = None
@@ -45,7 +45,7 @@ abbrev pub view_step : List Frame → Step Named → Step Count
 view_step ps again = again
 view_step ps (done o) = done (view ps o)
 
--- ---- going out of a loop
+-- going out of a loop
 
 -- a label that is stored, with its number
 pub record Numbered : Type 0 where
@@ -113,7 +113,7 @@ turn_ends x ps (break j v) =
 turn_ends x ps (continue j) = view_continued ps (past_loop (number x) j) ∙ ap (λ i. continued i again done) (sym (loop_continue x ps j))
 turn_ends x ps (leave y) = refl
 
--- ---- going out of a block
+-- going out of a block
 
 abbrev pub in_block : Option Numbered → List Frame → List Frame
 in_block None ps = ps
@@ -156,7 +156,7 @@ plain_block_ends (break (Some k) v) = refl
 plain_block_ends (continue j) = refl
 plain_block_ends (leave x) = refl
 
--- ---- labels around
+-- labels around
 
 -- Behind a barrier they are not those of the body inside.
 abbrev pub numbers : List Frame → List LabelId

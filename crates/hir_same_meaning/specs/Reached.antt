@@ -7,7 +7,7 @@ use Rattle.hir_store.specs.declared.hir.Statement.TheVariants as statement
 use Rattle.hir_store.specs.declared.ids.ExprId.{ExprId}
 use Rattle.hir_same_meaning.specs.Headline.{InLaterStores}
 
--- ---- the numbers that are reached, one for each way
+-- the numbers that are reached, one for each way
 
 module _ (f : ExprId → List ℕ) where
   abbrev pub of_some : Option ExprId → List ℕ
@@ -61,7 +61,7 @@ unfoldable pub reached_to : List Expr → ℕ → ExprId → List ℕ
 reached_to exprs zero i = []
 reached_to exprs (suc depth) i = i.0 ∷ below_found (reached_to exprs depth) (slice_get exprs i.0)
 
--- ---- each in one way, and in a range
+-- each in one way, and in a range
 
 abbrev pub AllOf : (ℕ → Type 0) → List ℕ → Type 0
 AllOf P [] = Unit {0}

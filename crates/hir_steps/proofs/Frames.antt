@@ -73,7 +73,7 @@ falls_more (try_at n ∷ ps) b c le f = let lt : n.0 < b = f.0 in (omega arith, 
 falls_more (macro_at d ∷ ps) b c le f = falls_more ps b c le f
 falls_more (barrier_at ∷ ps) b c le f = tt
 
--- ---- whatever is open, there are frames for it
+-- whatever is open, there are frames for it
 
 abbrev somewhere : Pointer
 somewhere = record { file_id = record { 0 = 0 }; value = record { node = record { 0 = 0 }; range = record { start = 0; end = 0 } } }

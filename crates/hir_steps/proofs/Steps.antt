@@ -162,7 +162,7 @@ correct_in_store {A = A} {p = p} {R = R} h = record { holds = λ final ps b r. g
     }
     go final ps b (Err e) c y = y
 
--- ---- steps that store no expression
+-- steps that store no expression
 
 pub record IsPure {A : Type 0} (a : A) (final : Stored) (ps : List Frame) (m m' : Mark) (b : A) : Type 0 where
   pub is : b ≡ a
@@ -260,7 +260,7 @@ correct_enter_block (Some n) = record {
   };
 }
 
--- ---- an expression
+-- an expression
 
 abbrev pub with_expr : Expr → Option Pointer → Stored → Stored
 with_expr e source s = record s { exprs = with_entry expr_id s.exprs e source }
@@ -331,7 +331,7 @@ correct_alloc e source = record { holds = λ final ps b r. go final ps b (nat_lt
         }
     go final ps b false = extends_refl b.stored
 
--- ---- labels
+-- labels
 
 abbrev pub with_label : Label → Stored → Stored
 with_label l s = record s { labels = with_entry label_id s.labels (record { name = l.name }) (Some l.pointer) }
@@ -482,7 +482,7 @@ correct_opened {A = A} {B = B} at l {p = p} {R = R} {f = f} {Q = Q} frame hp hf 
         second final ps b c n r h (p n c).0 (p n c).1 ((hp n).holds final (at l n ∷ ps) c in')
     first final ps b r (Err e) c h = h
 
--- ---- jumps
+-- jumps
 
 -- the fault of a jump by name that has no target
 abbrev pub with_target : Jump → {A : Type 0} → Target A → Stored → Stored

@@ -1,5 +1,6 @@
 -- The first fault of a document.
-use Rattle.std.specs.Prelude.{◌≡◌, ℕ, ◌==◌, Bool, true, not, ◌&&◌, List, Option, Some, None, is_some, codes, replicate, nat_lt, option_and_then, Result, Ok, Err, if◌then◌else◌}
+use Rattle.std.specs.Prelude.{◌≡◌, ℕ, ◌==◌, Bool, true, not, ◌&&◌, List, Option, Some, None, is_some, codes, replicate, nat_lt}
+use Rattle.std.specs.Prelude.{option_and_then, Result, Ok, Err, if◌then◌else◌}
 use Rattle.serde_json.specs.Data.{Data, Items, no_items}
 use Rattle.serde_json.specs.Find.{get, as_array, as_bool, as_object}
 use Rattle.serde_json.specs.Written.{has_float}

@@ -1,5 +1,6 @@
 -- The levels of nodes: 0 for a node that is not used yet, 1 for a root, and one more for a part.
-use Rattle.std.specs.Prelude.{◌≡◌, ℕ, ◌+◌, ◌==◌, Bool, true, false, List, [], ◌∷◌, Option, Some, None, nat_lt, length, option_and_then, slice_index_or, slice_set, if◌then◌else◌}
+use Rattle.std.specs.Prelude.{◌≡◌, ℕ, ◌+◌, ◌==◌, Bool, true, false, List, [], ◌∷◌, Option, Some, None, nat_lt, length}
+use Rattle.std.specs.Prelude.{option_and_then, slice_index_or, slice_set, if◌then◌else◌}
 use Rattle.serde_json.specs.Data.{Data, Items, no_items, item}
 use Rattle.json_faults.specs.Values.{index_of}
 

@@ -1,5 +1,6 @@
 -- The first fault of the nodes of a list.
-use Rattle.std.specs.Prelude.{◌≡◌, ℕ, suc, Bool, true, false, not, List, [], ◌∷◌, Option, Some, None, is_some, bytes_eq, codes, length, slice_index_or, Result, Ok, Err}
+use Rattle.std.specs.Prelude.{◌≡◌, ℕ, suc, Bool, true, false, not, List, [], ◌∷◌, Option, Some, None, is_some, bytes_eq, codes}
+use Rattle.std.specs.Prelude.{length, slice_index_or, Result, Ok, Err}
 use Rattle.serde_json.specs.Data.{Data, string, Items, no_items, item}
 use Rattle.serde_json.specs.Find.{get, as_array, as_object, as_str, as_bool}
 use Rattle.serde_json.specs.View.{view}

@@ -1,5 +1,6 @@
 -- What values are.
-use Rattle.std.specs.Prelude.{ℕ, suc, ◌^◌, List, Bool, true, false, not, ◌&&◌, Option, Some, None, is_some, nat_lt, bytes_eq, codes, option_and_then, if◌then◌else◌}
+use Rattle.std.specs.Prelude.{ℕ, suc, ◌^◌, List, Bool, true, false, not, ◌&&◌, Option, Some, None, is_some, nat_lt, bytes_eq}
+use Rattle.std.specs.Prelude.{codes, option_and_then, if◌then◌else◌}
 use Rattle.std.specs.List.{list_any}
 use Rattle.serde_json.specs.Data.{Data, null, boolean, number, string, array, object, Items, no_items, item}
 use Rattle.serde_json.specs.Find.{as_number, as_str, as_array, as_u64}

@@ -60,7 +60,8 @@ abbrev pub assigned_word : ArithOp → List ℕ
 assigned_word op = arith_word op ++ codes "="
 
 abbrev pub arith_ops : List ArithOp
-arith_ops = arith.Add ∷ arith.Mul ∷ arith.Sub ∷ arith.Div ∷ arith.Rem ∷ arith.Shl ∷ arith.Shr ∷ arith.BitXor ∷ arith.BitOr ∷ arith.BitAnd ∷ []
+arith_ops = arith.Add ∷ arith.Mul ∷ arith.Sub ∷ arith.Div ∷ arith.Rem
+    ∷ arith.Shl ∷ arith.Shr ∷ arith.BitXor ∷ arith.BitOr ∷ arith.BitAnd ∷ []
 
 -- the operator of a binary expression that a word is
 abbrev pub binary_op_of : List ℕ → Option BinaryOp
