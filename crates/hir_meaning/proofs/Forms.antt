@@ -9,6 +9,7 @@ use Rattle.hir_meaning.specs.Syntax.{run_expr}
 use Rattle.hir_meaning.specs.Store.{run_store, run_to}
 use Rattle.hir_meaning.specs.Forms.{OperatesInOrder, DecidesByLeft, DecidesByRight, ReturnsFromInside, EmptyTupleIsSilent}
 use Rattle.hir_meaning.specs.Forms.{MissesItsFront, LeavesOutTheSecond, ElementIsNothing, EntersTheUnsafe}
+use Rattle.hir_meaning.specs.Forms.{MakesAPair, CallsTheMethod, YieldsUnit, YeetsItsValue}
 
 pub operates_in_order : OperatesInOrder
 unfolding ends event ◌>>=◌ loop block run_store run_to
@@ -52,4 +53,23 @@ element_is_nothing turns (tree.more_exprs x xs) after q by e ss = ap
 
 pub enters_the_unsafe : EntersTheUnsafe
 unfolding ends event ◌>>=◌ loop block run_store run_to
-enters_the_unsafe = record { written = record { events = refl; ends = refl }; stored = record { events = refl; ends = refl } }
+enters_the_unsafe = (
+  record { written = record { events = refl; ends = refl }; stored = record { events = refl; ends = refl } },
+  record { written = record { events = refl; ends = refl }; stored = record { events = refl; ends = refl } },
+)
+
+pub makes_a_pair : MakesAPair
+unfolding ends event ◌>>=◌ loop block run_store run_to
+makes_a_pair = record { written = record { events = refl; ends = refl }; stored = record { events = refl; ends = refl } }
+
+pub calls_the_method : CallsTheMethod
+unfolding ends event ◌>>=◌ loop block run_store run_to
+calls_the_method = record { written = record { events = refl; ends = refl }; stored = record { events = refl; ends = refl } }
+
+pub yields_unit : YieldsUnit
+unfolding ends event ◌>>=◌ loop block run_store run_to
+yields_unit = record { written = record { events = refl; ends = refl }; stored = record { events = refl; ends = refl } }
+
+pub yeets_its_value : YeetsItsValue
+unfolding ends event ◌>>=◌ loop block run_store run_to
+yeets_its_value = record { written = record { events = refl; ends = refl }; stored = record { events = refl; ends = refl } }

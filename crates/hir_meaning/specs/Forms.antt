@@ -8,11 +8,15 @@ use Rattle.hir_syntax.specs.declared.ast.LogicOp.TheVariants as logic
 use Rattle.hir_store.specs.Pointers.{Pointer}
 use Rattle.hir_store.specs.declared.hir.Expr.{Expr as Stored}
 use Rattle.hir_store.specs.declared.hir.Expr.TheVariants as hir
+use Rattle.hir_store.specs.declared.ids.BlockId.{BlockId}
 use Rattle.hir_store.specs.declared.ids.CfgId.{CfgId}
+use Rattle.hir_store.specs.declared.name.Name.{Name}
+use Rattle.hir_store.specs.declared.name.Name.TheVariants as name
 use Rattle.hir_env.specs.Answered as tree
 use Rattle.hir_env.specs.Answered.{Expr, OptionExpr, Exprs}
 use Rattle.hir_scope.specs.Scopes.{Scope}
 use Rattle.hir_meaning.specs.Run.{unit, answered, truth, Event, Answer, test, is_true, enter, operator, tuple, missing, returned}
+use Rattle.hir_meaning.specs.Run.{method_call, yielding, yeeted}
 use Rattle.hir_meaning.specs.Syntax.{run_each}
 use Rattle.hir_meaning.specs.Same.{ended, left}
 use Rattle.hir_meaning.specs.Small.{at, root, one, literal_at, name_at, in_braces, loop_of}
@@ -42,7 +46,7 @@ reads_a = event_of (read_name 97) [] 1
 abbrev pub reads_b : Event
 reads_b = event_of (read_name 98) [] 2
 
--- ---- `a + b`
+-- `a + b`
 
 abbrev pub plus : Option BinaryOp
 plus = Some (ast.ArithOp arith.Add)
@@ -60,7 +64,7 @@ OperatesInOrder = BothDo sum 0 (no 11 ∷ no 12 ∷ no 13 ∷ [])
     (reads_a ∷ reads_b ∷ event_of (operator plus) (answered 11 ∷ answered 12 ∷ []) 0 ∷ [])
     (ended (answered 13))
 
--- ---- `a && b` and `a || b`
+-- `a && b` and `a || b`
 
 abbrev pub lazy_of : LogicOp → Example
 lazy_of op = record {
@@ -85,7 +89,7 @@ DecidesByRight =
     BothDo (lazy_of logic.And) 0 (no 11 ∷ yes 12 ∷ no 13 ∷ []) (reads_a ∷ tests_a ∷ reads_b ∷ []) (ended (answered 13))
     × BothDo (lazy_of logic.Or) 0 (no 11 ∷ no 12 ∷ no 13 ∷ []) (reads_a ∷ tests_a ∷ reads_b ∷ []) (ended (answered 13))
 
--- ---- `f(loop { return 1 })`
+-- `f(loop { return 1 })`
 
 abbrev pub return_inside : Example
 return_inside = record {
@@ -107,7 +111,7 @@ return_inside = record {
 abbrev pub ReturnsFromInside : Type 0
 ReturnsFromInside = BothDo return_inside 1 [] (event_of (read_name 102) [] 1 ∷ literal_event one 5 ∷ []) (left (returned (answered 0)))
 
--- ---- `()`, `(, a)` and `(a, b)` with a disabled b
+-- `()`, `(, a)` and `(a, b)` with a disabled b
 
 abbrev pub nothing : Example
 nothing = record {
@@ -144,6 +148,64 @@ LeavesOutTheSecond = BothDo second_disabled 0 (no 11 ∷ no 12 ∷ [])
     (reads_a ∷ event_of tuple (answered 11 ∷ []) 0 ∷ [])
     (ended (answered 12))
 
+-- `(a, b)`
+
+abbrev pub pair : Example
+pair = record {
+  written = tree.some_expr (tree.list_expr (at 0) (tree.tuple_of false)
+      (tree.more_exprs name_a (tree.more_exprs name_b tree.no_exprs)));
+  nodes = (stored_a, Some 1) ∷ (stored_b, Some 2) ∷ (hir.Tuple (id 0 ∷ id 1 ∷ []), Some 0) ∷ [];
+  root = 2;
+}
+
+-- Both are read in order, and the tuple is made of both values.
+abbrev pub MakesAPair : Type 0
+MakesAPair = BothDo pair 0 (no 11 ∷ no 12 ∷ no 13 ∷ [])
+    (reads_a ∷ reads_b ∷ event_of tuple (answered 11 ∷ answered 12 ∷ []) 0 ∷ [])
+    (ended (answered 13))
+
+-- `a.m(b)`
+
+abbrev pub name_m : Name
+name_m = name.Text (109 ∷ [])
+
+abbrev pub method_called : Example
+method_called = record {
+  written = tree.some_expr (tree.method_call_expr (at 0) (tree.some_expr name_a) name_m (tree.more_exprs name_b tree.no_exprs));
+  nodes = (stored_a, Some 1) ∷ (stored_b, Some 2) ∷ (hir.MethodCall (id 0) name_m (id 1 ∷ []), Some 0) ∷ [];
+  root = 2;
+}
+
+-- The receiver is read, then the argument, and then the method of that name is called with both.
+abbrev pub CallsTheMethod : Type 0
+CallsTheMethod = BothDo method_called 0 (no 11 ∷ no 12 ∷ no 13 ∷ [])
+    (reads_a ∷ reads_b ∷ event_of (method_call name_m) (answered 11 ∷ answered 12 ∷ []) 0 ∷ [])
+    (ended (answered 13))
+
+-- `yield` and `do yeet 1`
+
+abbrev pub yield_alone : Example
+yield_alone = record {
+  written = tree.some_expr (tree.yield_expr (at 0) tree.no_expr);
+  nodes = (hir.Yield None, Some 0) ∷ [];
+  root = 0;
+}
+
+-- Unit is yielded, and the answer is the value.
+abbrev pub YieldsUnit : Type 0
+YieldsUnit = BothDo yield_alone 0 (no 11 ∷ []) (event_of yielding (unit ∷ []) 0 ∷ []) (ended (answered 11))
+
+abbrev pub yeet_one : Example
+yeet_one = record {
+  written = tree.some_expr (tree.leaving_expr (at 0) tree.yeeting (tree.some_expr (literal_at 1 one)));
+  nodes = (stored_one, Some 1) ∷ (hir.Yeet (Some (id 0)), Some 0) ∷ [];
+  root = 1;
+}
+
+-- That is not a return.
+abbrev pub YeetsItsValue : Type 0
+YeetsItsValue = BothDo yeet_one 0 (no 11 ∷ []) (literal_event one 1 ∷ []) (left (yeeted (answered 11)))
+
 -- the elements of both
 abbrev pub followed : Exprs → Exprs → Exprs
 followed tree.no_exprs after = after
@@ -155,17 +217,25 @@ ElementIsNothing =
     (turns : ℕ) (before after : Exprs) (q : Pointer) (by : CfgId) (e : Expr) (ss : List Scope)
     → run_each turns (followed before (tree.more_exprs (tree.disabled_expr q by e) after)) ss ≡ run_each turns (followed before after) ss
 
--- ---- `unsafe { 1 }`
+-- `unsafe { 1 }`, as a scope of items or not
 
-abbrev pub unsafe_block : Example
-unsafe_block = record {
-  written = tree.some_expr (tree.block_expr (tree.block (at 0) true None None tree.no_stmts (tree.some_expr (literal_at 1 one))));
-  nodes = (stored_one, Some 1) ∷ (hir.Block true None None [] (Some (id 0)), Some 0) ∷ [];
+abbrev pub unsafe_with : Option BlockId → Example
+unsafe_with number = record {
+  written = tree.some_expr (tree.block_expr (tree.block (at 0) true None number tree.no_stmts (tree.some_expr (literal_at 1 one))));
+  nodes = (stored_one, Some 1) ∷ (hir.Block true None number [] (Some (id 0)), Some 0) ∷ [];
   root = 1;
 }
 
--- It is entered without a number, before what is in it happens.
+abbrev pub unsafe_block : Example
+unsafe_block = unsafe_with None
+
+abbrev pub unsafe_scope : Example
+unsafe_scope = unsafe_with (Some (record { 0 = 7 }))
+
+-- It is entered, with its number where it has one, before what is in it happens.
 abbrev pub EntersTheUnsafe : Type 0
-EntersTheUnsafe = BothDo unsafe_block 0 (no 11 ∷ no 12 ∷ [])
-    (event_of (enter None true) [] 0 ∷ literal_event one 1 ∷ [])
+EntersTheUnsafe =
+    BothDo unsafe_block 0 (no 11 ∷ no 12 ∷ []) (event_of (enter None true) [] 0 ∷ literal_event one 1 ∷ []) (ended (answered 12))
+    × BothDo unsafe_scope 0 (no 11 ∷ no 12 ∷ [])
+    (event_of (enter (Some (record { 0 = 7 })) true) [] 0 ∷ literal_event one 1 ∷ [])
     (ended (answered 12))

@@ -8,6 +8,7 @@ ghost use Rattle.hir_meaning.specs.Rows.{MissingIsNoLiteral, ParenthesesAreSilen
 ghost use Rattle.hir_meaning.specs.Turns.{EndsTheTurn, ContinuesTheOuter, BreaksTheOuter, HygienesDiffer, UndeclaredIsPlain, HasFreshTurns};
 ghost use Rattle.hir_meaning.specs.Forms.{OperatesInOrder, DecidesByLeft, DecidesByRight, ReturnsFromInside, EmptyTupleIsSilent};
 ghost use Rattle.hir_meaning.specs.Forms.{MissesItsFront, LeavesOutTheSecond, ElementIsNothing, EntersTheUnsafe};
+ghost use Rattle.hir_meaning.specs.Forms.{MakesAPair, CallsTheMethod, YieldsUnit, YeetsItsValue};
 ghost use Rattle.hir_meaning.specs.Endings.{MissingEndsTheLoop, StraysWithItsValue, StrayIsNoValue, InnerLabelHides};
 ghost use Rattle.hir_meaning.specs.Endings.{ContinuesPastTheBlock, AnswersNoPastTheEnd, ValueEndsTheLoop, ForeignIsNotEnclosed};
 
@@ -114,6 +115,26 @@ pub fn element_is_nothing()
 /// An unsafe block without a number is entered before what is in it happens.
 pub fn enters_the_unsafe()
     ensures { EntersTheUnsafe }
+{}
+
+/// `(a, b)` is one tuple of both values.
+pub fn makes_a_pair()
+    ensures { MakesAPair }
+{}
+
+/// `a.m(b)` reads a, then b, and calls the method of that name with both.
+pub fn calls_the_method()
+    ensures { CallsTheMethod }
+{}
+
+/// `yield` yields unit, and its value is the answer.
+pub fn yields_unit()
+    ensures { YieldsUnit }
+{}
+
+/// `do yeet 1` leaves with its value, and is no return.
+pub fn yeets_its_value()
+    ensures { YeetsItsValue }
 {}
 
 /// The body that docs/MEANING.md works out.
