@@ -10,7 +10,7 @@ use Rattle.hir_store.specs.declared.roots.ExprRoot.{ExprRoot}
 use Rattle.hir_store.specs.declared.ids.ExprId.{ExprId}
 use Rattle.hir_store.specs.declared.ids.LabelId.{LabelId}
 
--- the least number above those that are named, for each arena
+-- ---- the least number above those that are named, for each arena
 
 abbrev pub past_expr : ExprId → ℕ
 past_expr id = suc id.0
@@ -55,7 +55,7 @@ labels_in (hir.Continue label) = past_option past_label label
 labels_in (hir.Break label e) = past_option past_label label
 labels_in _ = 0
 
--- what is named exists
+-- ---- what is named exists
 
 abbrev pub HasNone : Stored → Unit {0} → Type 0
 HasNone s _ = Unit {0}

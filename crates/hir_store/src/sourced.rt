@@ -41,9 +41,7 @@ impl<T: Entry> Model for SourcedArena<T> {
 
     ghost view = { λ a. record { entries = a.entries.items; sources = a.sources.items; map = a.map; limit = a.limit } };
 
-    ghost invariant = { λ a.
-        let said = record { entries = a.entries.items; sources = a.sources.items; map = a.map; limit = a.limit } in
-        Kept T.place said × (a.limit < 2 ^ 32) };
+    ghost invariant = { λ a. Kept T.place (record { entries = a.entries.items; sources = a.sources.items; map = a.map; limit = a.limit }) × (a.limit < 2 ^ 32) };
 }
 
 /// Lets the node, where there is one, lead to the entry. Where memory is refused nothing changes.
