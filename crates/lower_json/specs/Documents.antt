@@ -13,10 +13,10 @@ use Rattle.json_kinds.specs.declared.group.Group.TheVariants as group
 use Rattle.json_faults.specs.Documents.{document_fault, nodes}
 use Rattle.json_faults.specs.Faults.{Fault}
 use Rattle.json_faults.specs.Kinds.{kinds_of}
-use Rattle.lower_json.specs.Fields.{number_or, flag_of, text_in}
+use Rattle.json_nodes.specs.Fields.{number_or, flag_of, text_in}
 use Rattle.lower_json.specs.Reading.{tree_at}
 use Rattle.lower_json.specs.Tables.{tables_of}
-use Rattle.lower_json.specs.Words.{named}
+use Rattle.json_nodes.specs.Words.{named}
 use Rattle.lower_json.specs.declared.document.Document.{Document}
 
 -- the word of an owner

@@ -1,13 +1,4 @@
-pub mod Words
-pub mod Fields
-pub mod Literals
-pub mod Operators
-pub mod Groups
-pub mod Parts
-pub mod Exprs
-pub mod Others
 pub mod Reading
-pub mod Nodes
 pub mod Reads
 pub mod Tables
 pub mod Documents

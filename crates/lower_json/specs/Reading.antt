@@ -8,13 +8,13 @@ use Rattle.hir_syntax.specs.declared.ast.Fn.{Fn}
 use Rattle.json_faults.specs.Kinds.{kind_at}
 use Rattle.json_kinds.specs.declared.kind.Kind.{Kind}
 use Rattle.json_kinds.specs.declared.kind.Kind.TheVariants as kind
-use Rattle.lower_json.specs.Exprs.{flow, plain, operation, member, leaving, partless}
-use Rattle.lower_json.specs.Fields.{number_or, range_of}
-use Rattle.lower_json.specs.Others.{statement, other, function}
-use Rattle.lower_json.specs.Parts.{Here}
-use Rattle.lower_json.specs.Words.{or_else}
-use Rattle.lower_json.specs.declared.part.AnyPart.{AnyPart}
-use Rattle.lower_json.specs.declared.part.AnyPart.TheVariants as part
+use Rattle.json_nodes.specs.Exprs.{flow, plain, operation, member, leaving, partless}
+use Rattle.json_nodes.specs.Fields.{number_or, range_of}
+use Rattle.json_nodes.specs.Others.{statement, other, function}
+use Rattle.json_nodes.specs.Parts.{Here}
+use Rattle.json_nodes.specs.Words.{or_else}
+use Rattle.json_nodes.specs.declared.part.AnyPart.{AnyPart}
+use Rattle.json_nodes.specs.declared.part.AnyPart.TheVariants as part
 
 -- an `if` is told from other expressions, since it may follow `else`
 abbrev pub of_expr : Here → Kind → ExprKind → AnyPart

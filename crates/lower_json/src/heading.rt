@@ -3,13 +3,13 @@
 ghost use Rattle.std.specs.Prelude.{◌≡◌};
 ghost use Rattle.serde_json.specs.View.{view};
 ghost use Rattle.lower_json.specs.Documents.{owner_word, owners, owner_of, container_word, containers, container_of};
-ghost use Rattle.lower_json.specs.Words.{named};
+ghost use Rattle.json_nodes.specs.Words.{named};
 
-use crate::field::text;
 use hir_store::ids::{
     ConstId, DefWithBodyId, ExternBlockId, FunctionId, ImplId, ItemContainerId, ModuleId, StaticId,
     TraitId, VariantId,
 };
+use json_nodes::field::text;
 use serde_json::Value;
 
 fn owner_with(word: &str) -> Option<DefWithBodyId>

@@ -10,7 +10,6 @@ ghost use Rattle.lower_json.specs.Faults.{IsErrorOf, IsTextError};
 
 use crate::document::Document;
 use crate::fault::{Fault, ReadError};
-use crate::field::{flag, number_or};
 use crate::heading::{container, owner};
 use crate::tables::tables;
 use crate::tree::read_tree_at;
@@ -18,6 +17,7 @@ use hir_syntax::ast::Fn;
 use json_faults::document::{checked_kinds, nodes};
 use json_kinds::group::Group;
 use json_kinds::kind::Kind;
+use json_nodes::field::{flag, number_or};
 use serde_json::Value;
 use std::alloc::{AllocError, Global};
 

@@ -2,26 +2,26 @@
 
 ghost use Rattle.std.specs.Prelude.{◌≡◌, IfOk, Some};
 ghost use Rattle.serde_json.specs.View.{view, items_view};
-ghost use Rattle.lower_json.specs.Nodes.{here};
-ghost use Rattle.lower_json.specs.Others.{function};
+ghost use Rattle.json_nodes.specs.Nodes.{here};
+ghost use Rattle.json_nodes.specs.Others.{function};
 ghost use Rattle.lower_json.specs.Reads.{Reads};
 ghost use Rattle.lower_json.specs.Reading as spec;
 ghost use Rattle.lower_json.specs.Reading.{of_kind, expr_kind, node_at, tree_at};
 
-use crate::exprs::{flow, plain};
-use crate::field::{number_or, range};
-use crate::leaving::leaving;
-use crate::members::member;
-use crate::node::{Node, ReadParts};
-use crate::operations::operation;
-use crate::others::{function, other, statement};
-use crate::part::AnyPart;
-use crate::partless::partless;
 use hir_syntax::ast::{Expr, ExprKind, Fn as Function, Stmt};
 use hir_syntax::node::NodeId;
 use json_faults::kinds::kind_at;
 use json_faults::value::item_at;
 use json_kinds::kind::Kind;
+use json_nodes::exprs::{flow, plain};
+use json_nodes::field::{number_or, range};
+use json_nodes::leaving::leaving;
+use json_nodes::members::member;
+use json_nodes::node::{Node, ReadParts};
+use json_nodes::operations::operation;
+use json_nodes::others::{function, other, statement};
+use json_nodes::part::AnyPart;
+use json_nodes::partless::partless;
 use serde_json::Value;
 use std::alloc::{AllocError, Global};
 

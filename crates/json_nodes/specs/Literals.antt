@@ -4,8 +4,8 @@ use Rattle.serde_json.specs.Data.{Data}
 use Rattle.hir_syntax.specs.declared.ast.Literal.{Literal}
 use Rattle.hir_syntax.specs.declared.ast.LiteralKind.{LiteralKind}
 use Rattle.hir_syntax.specs.declared.ast.LiteralKind.TheVariants as literal
-use Rattle.lower_json.specs.Fields.{text_in}
-use Rattle.lower_json.specs.Words.{named}
+use Rattle.json_nodes.specs.Fields.{text_in}
+use Rattle.json_nodes.specs.Words.{named}
 
 -- the word of a kind of literals
 abbrev pub literal_word : LiteralKind → List ℕ

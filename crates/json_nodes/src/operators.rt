@@ -2,9 +2,9 @@
 
 ghost use Rattle.std.specs.Prelude.{◌≡◌};
 ghost use Rattle.serde_json.specs.View.{view};
-ghost use Rattle.lower_json.specs.Operators as spec;
-ghost use Rattle.lower_json.specs.Operators.{logic_word, logic_ops, cmp_word, cmp_ops, arith_word, assigned_word, arith_ops};
-ghost use Rattle.lower_json.specs.Words.{named};
+ghost use Rattle.json_nodes.specs.Operators as spec;
+ghost use Rattle.json_nodes.specs.Operators.{logic_word, logic_ops, cmp_word, cmp_ops, arith_word, assigned_word, arith_ops};
+ghost use Rattle.json_nodes.specs.Words.{named};
 
 use crate::field::text;
 use hir_syntax::ast::{ArithOp, BinaryOp, CmpOp, LogicOp, Ordering, UnaryOp};

@@ -11,11 +11,11 @@ use Rattle.hir_syntax.specs.declared.ast.SegmentKind.TheVariants as segment
 use Rattle.hir_syntax.specs.declared.ast.Fn.{Fn}
 use Rattle.json_kinds.specs.declared.kind.Kind.{Kind}
 use Rattle.json_kinds.specs.declared.kind.Kind.TheVariants as kind
-use Rattle.lower_json.specs.Fields.{flag_of, text_in}
-use Rattle.lower_json.specs.Groups.{as_expr, as_stmt, as_segment, as_label}
-use Rattle.lower_json.specs.Parts.{Here, part_in, list_in, list_with_nulls_in, lifetime_in, name_in}
-use Rattle.lower_json.specs.declared.part.AnyPart.{AnyPart}
-use Rattle.lower_json.specs.declared.part.AnyPart.TheVariants as part
+use Rattle.json_nodes.specs.Fields.{flag_of, text_in}
+use Rattle.json_nodes.specs.Groups.{as_expr, as_stmt, as_segment, as_label}
+use Rattle.json_nodes.specs.Parts.{Here, part_in, list_in, list_with_nulls_in, lifetime_in, name_in}
+use Rattle.json_nodes.specs.declared.part.AnyPart.{AnyPart}
+use Rattle.json_nodes.specs.declared.part.AnyPart.TheVariants as part
 
 unfoldable pub statement : Here → Kind → Option StmtKind
 statement h kind.ExprStmt = Some (stmt.ExprStmt (part_in h as_expr (codes "expr")) (flag_of (get (codes "semi") h.value)))

@@ -1,7 +1,7 @@
 //! The parts of trees, by their group.
 
 ghost use Rattle.std.specs.Prelude.{◌≡◌, IfOk, Option};
-ghost use Rattle.lower_json.specs.Groups.{as_expr, as_block, as_else, as_stmt, as_path, as_segment, as_label, as_lifetime, as_name};
+ghost use Rattle.json_nodes.specs.Groups.{as_expr, as_block, as_else, as_stmt, as_path, as_segment, as_label, as_lifetime, as_name};
 
 use hir_syntax::Boxed;
 use hir_syntax::ast::{
@@ -159,7 +159,7 @@ impl AnyPart {
 
 /// What a field for one group of parts may hold.
 pub trait Part: Drop {
-    ghost use Rattle.lower_json.specs.declared.part.AnyPart.{AnyPart};
+    ghost use Rattle.json_nodes.specs.declared.part.AnyPart.{AnyPart};
 
     /// What a part is in such a field, if it serves there.
     ghost as_group: { AnyPart → Option Self };

@@ -1,8 +1,8 @@
 //! Expressions that leave a body, or wait in it.
 
 ghost use Rattle.std.specs.Prelude.{◌≡◌, IfOk};
-ghost use Rattle.lower_json.specs.Exprs as spec;
-ghost use Rattle.lower_json.specs.Nodes.{here};
+ghost use Rattle.json_nodes.specs.Exprs as spec;
+ghost use Rattle.json_nodes.specs.Nodes.{here};
 
 use crate::node::{Node, ReadParts};
 use hir_syntax::ast::{Expr, ExprKind};

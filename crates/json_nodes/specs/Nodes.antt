@@ -1,9 +1,9 @@
 -- What a node knows of itself.
 use Rattle.std.specs.Prelude.{ℕ, Option}
 use Rattle.serde_json.specs.View.{view}
-use Rattle.lower_json.specs.Parts.{Here}
-use Rattle.lower_json.specs.declared.node.Node.{Node}
-use Rattle.lower_json.specs.declared.part.AnyPart.{AnyPart}
+use Rattle.json_nodes.specs.Parts.{Here}
+use Rattle.json_nodes.specs.declared.node.Node.{Node}
+use Rattle.json_nodes.specs.declared.part.AnyPart.{AnyPart}
 
 -- the node, where `parts` says what its reader reads
 abbrev pub here : {P : Type 0} → (P → ℕ → Option AnyPart) → Node P → Here

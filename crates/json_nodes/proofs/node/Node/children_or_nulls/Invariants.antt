@@ -1,13 +1,13 @@
 use Rattle.std.proofs.Common.{◌≡◌, ◌++◌, drop}
 use Rattle.serde_json.specs.View.{items_view}
-use Rattle.lower_json.specs.Parts as spec
-use Rattle.lower_json.specs.Parts.{kept}
-use Rattle.lower_json.specs.Nodes.{here}
-use Rattle.lower_json.proofs.node.Node.children.Given as goal
+use Rattle.json_nodes.specs.Parts as spec
+use Rattle.json_nodes.specs.Parts.{kept, or_null}
+use Rattle.json_nodes.specs.Nodes.{here}
+use Rattle.json_nodes.proofs.node.Node.children_or_nulls.Given as goal
 
 abbrev pub invariant-loop-value : goal.invariant-loop-value
 invariant-loop-value g l =
-    let read = (spec.child (here g.P.ReadParts.parts l.self) g.T.Part.as_group) in
+    let read = (or_null (spec.child (here g.P.ReadParts.parts l.self) g.T.Part.as_group)) in
     record {
       same : l.self ≡ l.fn.self;
       so_far : kept read (items_view l.items) ≡ l.parts ++ kept read (items_view (drop l.value-index l.items));

@@ -8,11 +8,11 @@ use Rattle.hir_syntax.specs.declared.node.PredId.{PredId}
 use Rattle.json_faults.specs.Values.{small_of}
 use Rattle.json_kinds.specs.declared.kind.Kind.{Kind}
 use Rattle.json_kinds.specs.declared.kind.Kind.TheVariants as kind
-use Rattle.lower_json.specs.Groups.{as_expr, as_block, as_else, as_path, as_label}
-use Rattle.lower_json.specs.Fields.{flag_of}
-use Rattle.lower_json.specs.Literals.{literal_of}
-use Rattle.lower_json.specs.Operators.{unary_op_in, binary_op_in}
-use Rattle.lower_json.specs.Parts.{Here, part_in, list_in, list_if_there, lifetime_in, name_in}
+use Rattle.json_nodes.specs.Groups.{as_expr, as_block, as_else, as_path, as_label}
+use Rattle.json_nodes.specs.Fields.{flag_of}
+use Rattle.json_nodes.specs.Literals.{literal_of}
+use Rattle.json_nodes.specs.Operators.{unary_op_in, binary_op_in}
+use Rattle.json_nodes.specs.Parts.{Here, part_in, list_in, list_if_there, lifetime_in, name_in}
 
 -- what steers the order of running
 unfoldable pub flow : Here → Kind → Option ExprKind

@@ -3,7 +3,7 @@
 ghost use Rattle.std.specs.Prelude.{◌≡◌, codes};
 ghost use Rattle.serde_json.specs.View.{view};
 ghost use Rattle.serde_json.specs.Find.{get};
-ghost use Rattle.lower_json.specs.Exprs as spec;
+ghost use Rattle.json_nodes.specs.Exprs as spec;
 
 use hir_syntax::ast::ExprKind;
 use hir_syntax::node::PredId;

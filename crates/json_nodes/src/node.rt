@@ -3,10 +3,10 @@
 ghost use Rattle.std.specs.Prelude.{◌≡◌, ℕ, IfOk, Option, option_and_then, option_map};
 ghost use Rattle.serde_json.specs.View.{view, items_view};
 ghost use Rattle.json_faults.specs.Values.{small_of};
-ghost use Rattle.lower_json.specs.Parts as spec;
-ghost use Rattle.lower_json.specs.Parts.{kept, or_null};
-ghost use Rattle.lower_json.specs.Nodes.{here};
-ghost use Rattle.lower_json.specs.declared.part.AnyPart.{AnyPart};
+ghost use Rattle.json_nodes.specs.Parts as spec;
+ghost use Rattle.json_nodes.specs.Parts.{kept, or_null};
+ghost use Rattle.json_nodes.specs.Nodes.{here};
+ghost use Rattle.json_nodes.specs.declared.part.AnyPart.{AnyPart};
 
 use crate::part::{AnyPart, Part};
 use hir_syntax::ast::{Lifetime, Name};

@@ -12,8 +12,8 @@ use Rattle.hir_syntax.specs.declared.ast.LogicOp.TheVariants as logic
 use Rattle.hir_syntax.specs.declared.ast.Ordering.TheVariants.{Less, Greater}
 use Rattle.hir_syntax.specs.declared.ast.UnaryOp.{UnaryOp}
 use Rattle.hir_syntax.specs.declared.ast.UnaryOp.TheVariants as unary
-use Rattle.lower_json.specs.Fields.{text_in}
-use Rattle.lower_json.specs.Words.{named, or_else}
+use Rattle.json_nodes.specs.Fields.{text_in}
+use Rattle.json_nodes.specs.Words.{named, or_else}
 
 abbrev unary_word : UnaryOp → List ℕ
 unary_word unary.Deref = codes "*"

@@ -7,8 +7,8 @@ use Rattle.hir_syntax.specs.declared.ast.Lifetime.{Lifetime}
 use Rattle.hir_syntax.specs.declared.ast.Name.{Name}
 use Rattle.hir_syntax.specs.declared.node.NodeId.{NodeId}
 use Rattle.hir_syntax.specs.declared.node.TextRange.{TextRange}
-use Rattle.lower_json.specs.Groups.{as_lifetime, as_name}
-use Rattle.lower_json.specs.declared.part.AnyPart.{AnyPart}
+use Rattle.json_nodes.specs.Groups.{as_lifetime, as_name}
+use Rattle.json_nodes.specs.declared.part.AnyPart.{AnyPart}
 
 -- a node, with what stands at each node
 pub record Here : Type 0 where

@@ -1,8 +1,8 @@
 //! Expressions that are made of operands.
 
 ghost use Rattle.std.specs.Prelude.{◌≡◌, IfOk};
-ghost use Rattle.lower_json.specs.Exprs as spec;
-ghost use Rattle.lower_json.specs.Nodes.{here};
+ghost use Rattle.json_nodes.specs.Exprs as spec;
+ghost use Rattle.json_nodes.specs.Nodes.{here};
 
 use crate::field::flag;
 use crate::node::{Node, ReadParts};

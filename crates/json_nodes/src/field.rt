@@ -3,7 +3,7 @@
 ghost use Rattle.std.specs.Prelude.{◌≡◌, Some, codes, option_and_then, option_map};
 ghost use Rattle.serde_json.specs.View.{view, items_view};
 ghost use Rattle.serde_json.specs.Find.{as_array, get};
-ghost use Rattle.lower_json.specs.Fields.{number_or, range_in, range_of, flag_of, text_in};
+ghost use Rattle.json_nodes.specs.Fields.{number_or, range_in, range_of, flag_of, text_in};
 
 use hir_syntax::node::TextRange;
 use json_faults::value::small;

@@ -2,9 +2,9 @@
 
 ghost use Rattle.std.specs.Prelude.{◌≡◌, IfOk, codes, option_and_then};
 ghost use Rattle.serde_json.specs.View.{view};
-ghost use Rattle.lower_json.specs.Fields.{text_in};
-ghost use Rattle.lower_json.specs.Others as spec;
-ghost use Rattle.lower_json.specs.Nodes.{here};
+ghost use Rattle.json_nodes.specs.Fields.{text_in};
+ghost use Rattle.json_nodes.specs.Others as spec;
+ghost use Rattle.json_nodes.specs.Nodes.{here};
 
 use crate::field::{flag, text};
 use crate::node::{Node, ReadParts};

@@ -11,8 +11,8 @@ use Rattle.hir_syntax.specs.declared.ast.PathSegment.{PathSegment}
 use Rattle.hir_syntax.specs.declared.ast.Label.{Label}
 use Rattle.hir_syntax.specs.declared.ast.Lifetime.{Lifetime}
 use Rattle.hir_syntax.specs.declared.ast.Name.{Name}
-use Rattle.lower_json.specs.declared.part.AnyPart.{AnyPart}
-use Rattle.lower_json.specs.declared.part.AnyPart.TheVariants as part
+use Rattle.json_nodes.specs.declared.part.AnyPart.{AnyPart}
+use Rattle.json_nodes.specs.declared.part.AnyPart.TheVariants as part
 
 -- a block serves as an expression
 abbrev pub as_expr : AnyPart → Option Expr

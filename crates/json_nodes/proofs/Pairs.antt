@@ -2,7 +2,7 @@
 use Rattle.std.proofs.Common.{◌≡◌, ◌<◌, ◌≤◌, List, [], ◌∷◌, length, refl, arith, Some, None}
 use Rattle.serde_json.specs.View.{items_view}
 use Rattle.serde_json.specs.declared.value.Value.{Value}
-use Rattle.lower_json.specs.Fields.{range_in}
+use Rattle.json_nodes.specs.Fields.{range_in}
 
 pub too_short : (vs : List Value) → length vs < 2 → None ≡ range_in (Some (items_view vs))
 too_short [] h = refl

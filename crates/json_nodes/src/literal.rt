@@ -2,8 +2,8 @@
 
 ghost use Rattle.std.specs.Prelude.{◌≡◌, IfOk, codes};
 ghost use Rattle.serde_json.specs.View.{view};
-ghost use Rattle.lower_json.specs.Fields.{text_in};
-ghost use Rattle.lower_json.specs.Literals.{literal_kind_of, kind_in, literal_of};
+ghost use Rattle.json_nodes.specs.Fields.{text_in};
+ghost use Rattle.json_nodes.specs.Literals.{literal_kind_of, kind_in, literal_of};
 
 use crate::field;
 use hir_syntax::Text;

@@ -1,0 +1,9 @@
+pub mod Fields
+pub mod Words
+pub mod Literals
+pub mod Groups
+pub mod Parts
+pub mod Nodes
+pub mod Operators
+pub mod Exprs
+pub mod Others
