@@ -1,13 +1,14 @@
 -- What is lowered as a root is what is written.
 use Rattle.std.proofs.Common.{◌≡◌, ◌≢◌, ◌∙◌, refl, sym, ap, subst, ℕ, true, false, Bool, [], ◌∷◌, ◌++◌, Option, Some, None, Result, Ok, Err}
-use Rattle.std.specs.Prelude.{IfOk}
+use Rattle.std.specs.Prelude.{IfOk, IsErrOf}
 use Rattle.hir_store.specs.Pointers.{Pointer}
 use Rattle.hir_store.specs.Stored.{Store, SourceMap, store_of, map_of}
 use Rattle.hir_store.specs.Storing as storing
-use Rattle.hir_store.specs.Storing.{Extends, root_at}
+use Rattle.hir_store.specs.Storing.{Extends, empty, root_at}
 use Rattle.hir_store.specs.Range.{HasExpr}
 use Rattle.hir_store.specs.declared.ids.ExprId.{ExprId}
-use Rattle.hir_store.specs.declared.fault.StoreFault.TheVariants.{Memory}
+use Rattle.hir_store.specs.declared.fault.StoreFault.{StoreFault}
+use Rattle.hir_store.specs.declared.fault.StoreFault.TheVariants.{Memory, Full}
 use Rattle.hir_store.specs.declared.diagnostics.MissingBodyItemKind.{MissingBodyItemKind}
 use Rattle.hir_store.proofs.Range.{extends_refl, extends_root, extends_trans}
 use Rattle.hir_env.specs.Answered as tree
@@ -20,12 +21,15 @@ use Rattle.hir_steps.proofs.Kept.{keeping}
 use Rattle.hir_same_meaning.specs.Headline.{Lowered}
 use Rattle.hir_same_meaning.proofs.Tree.{headline, reached_once}
 use Rattle.hir_one_result.specs.Diagnostics.{Faults}
+use Rattle.hir_one_result.specs.Laws.{Fits, FitsUnless}
+use Rattle.hir_one_result.specs.Room.{TooLarge}
 use Rattle.hir_one_result.specs.OneResult.{OneResult, begun}
 use Rattle.hir_one_result.proofs.TreeStands.{all_stand}
 use Rattle.hir_one_result.proofs.TreeFaults.{diagnostics_are}
 use Rattle.hir_one_result.proofs.TreeBlocks.{blocks_are}
+use Rattle.hir_one_result.proofs.TreeRooms.{all_fit}
 use Rattle.hir_one_result.proofs.Whole.{one_results}
-use Rattle.hir_lower.specs.Roots.{Stores, fresh, root_of, body_of, report_missing}
+use Rattle.hir_lower.specs.Roots.{RefusedAtLimit, Stores, fresh, root_of, body_of, report_missing}
 use Rattle.hir_lower.specs.Stays.{Stays}
 use Rattle.hir_lower.proofs.Ways.{Went, went}
 use Rattle.hir_lower.proofs.TreeWays.{part_leads}
@@ -70,6 +74,20 @@ stays_unless e b b' (Err x) l n =
     let P : Checked ExprId × Builder → Type 0 = λ q. Stays b.stored q.1.stored in
     subst P (l other).0 (root_stays e b)
 
+-- where there is no room
+
+root_too_large : (e : OptionExpr) (b b' : Builder) (x : StoreFault) → root_of e b ≡ (Err x, b') → TooLarge b.stored e
+root_too_large e b b' x h = by (lower_part e (closed b)).0 (lower_part e (closed b)).1 (all_fit e (closed b)) (sym (root_steps e b) ∙ h)
+  where
+    by : (o : Checked ExprId) (c : Builder) → FitsUnless e b.stored o c.stored → go_on o c recorded ≡ (Err x, b') → TooLarge b.stored e
+    by (Ok i) c f g = let no = ap (λ (q : Checked ExprId × Builder). q.0) g in cc
+    by (Err y) c f g = f
+
+pub too_large_if : (e : OptionExpr) (b b' : Builder) (r : Checked ExprId) → Lowers HasExpr (root_of e) b r b'
+    → IsErrOf r Full → TooLarge b.stored e
+too_large_if e b b' (Ok i) l is = cc
+too_large_if e b b' (Err x) l is = let other : x ≢ Memory = λ m. cc in root_too_large e b b' x (l other).0
+
 -- a root
 
 -- the steps of a root that was lowered
@@ -96,6 +114,7 @@ root_rooted e b b' i d h =
     let paired : Paired (closed b).stored = d in
     let lowered : Lowered e (closed b) i p.inner = record { fresh = refl; paired = paired; is = p.is } in
     let kept : Kept (closed b) p.inner = subst (λ r. Keeps (closed b) r.0 r.1) p.is (keeping e (closed b)) in
+    let fits : Fits e b.stored p.inner.stored = subst (λ r. FitsUnless e b.stored r.0 r.1.stored) p.is (all_fit e (closed b)) in
     let faults = diagnostics_are e (closed b) i p.inner paired p.is [] refl in
     let after = kept.paired paired in
     subst P p.left (record {
@@ -109,6 +128,7 @@ root_rooted e b b' i d h =
             labels = standing.labels;
             reached_once = λ depth le. reached_once e (closed b) p.inner i lowered later ext depth le;
           };
+      exprs = fits.exprs;
       roots = ap (λ rs. rs ++ root_at p.inner.stored.exprs.entries i ∷ []) kept.roots;
       found = faults.more;
       faults = faults.is;
@@ -147,6 +167,18 @@ body_whole false node k e limit b' i h = by (body_fault k e) h
     by : (f : Option MissingBodyItemKind) → go_on (report_missing node f (fresh limit)).0 (report_missing node f (fresh limit)).1 (λ u. root_of e) ≡ (Ok i, b') → Whole (missing_fault node f) e b'
     by None g = root_whole e limit [] b' i g
     by (Some f) g = root_whole e limit (missing_fault node (Some f)) b' i g
+
+pub body_too_large : (skip : Bool) (node : Pointer) (k : Option MissingBodyItemKind) (e : OptionExpr) (limit : ℕ)
+    → RefusedAtLimit (body_of skip node k e) limit → TooLarge (empty limit) (unless_skipped skip e)
+unfolding body_of report_missing report storing.report
+body_too_large true node k e limit r = root_too_large tree.no_expr (fresh limit) r.builder Full r.refused
+body_too_large false node k e limit r = by (body_fault k e) r.refused
+  where
+    by : (f : Option MissingBodyItemKind)
+        → go_on (report_missing node f (fresh limit)).0 (report_missing node f (fresh limit)).1 (λ u. root_of e) ≡ (Err Full, r.builder)
+        → TooLarge (empty limit) e
+    by None g = root_too_large e (fresh limit) r.builder Full g
+    by (Some f) g = root_too_large e (begun limit (missing_fault node (Some f))) r.builder Full g
 
 if_ok : {A E : Type 0} (P Q : A → Type 0) → ((a : A) → P a → Q a) → (r : Result A E) → IfOk r P → IfOk r Q
 if_ok P Q f (Ok a) p = f a p

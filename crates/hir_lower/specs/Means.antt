@@ -24,6 +24,7 @@ use Rattle.hir_same_meaning.specs.Reached.{Spread, reached_to}
 use Rattle.hir_steps.specs.Keeps.{Paired}
 use Rattle.hir_one_result.specs.Blocks.{blocks_of_part}
 use Rattle.hir_one_result.specs.Diagnostics.{Faults, part_diagnostics}
+use Rattle.hir_one_result.specs.Room.{exprs_of}
 use Rattle.hir_one_result.specs.Leads.{Way, label_ways, Led}
 use Rattle.hir_one_result.specs.Stands.{StandsPart}
 
@@ -40,9 +41,11 @@ pub record Lives (old new later : Stored) (i : ExprId) (e : OptionExpr) : Type 0
       → Spread (length old.exprs.entries) (length new.exprs.entries) (reached_to later.exprs.entries depth i)
 
 -- What lowering a root leaves. It is the last of the recorded roots, to which all belongs that was stored since the
--- one before; behind the faults and the blocks that were noted before come those of the tree.
+-- one before, as many expressions as the tree becomes; behind the faults and the blocks that were noted before come those
+-- of the tree.
 pub record Rooted (old new : Stored) (i : ExprId) (e : OptionExpr) : Type 0 where
   pub lives : (later : Stored) → Extends new later → Lives old new later i e
+  pub exprs : length new.exprs.entries ≡ length old.exprs.entries + exprs_of e
   pub roots : new.roots ≡ old.roots ++ root_at new.exprs.entries i ∷ []
   pub found : Faults
   pub faults : new.diagnostics ≡ old.diagnostics ++ found

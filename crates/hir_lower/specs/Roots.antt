@@ -3,7 +3,6 @@ use Rattle.std.specs.Prelude.{◌≡◌, ℕ, Bool, true, false, [], Option, Som
 use Rattle.hir_store.specs.Stored.{Store, SourceMap, store_of, map_of}
 use Rattle.hir_store.specs.Storing.{SomeAtLimit, empty}
 use Rattle.hir_store.specs.declared.fault.StoreFault.TheVariants.{Full}
-use Rattle.hir_lower.specs.declared.collector.ConstRef.{ConstRef}
 use Rattle.hir_lower_form.specs.Builder.{Builder}
 use Rattle.hir_store.specs.Pointers.{Pointer}
 use Rattle.hir_store.specs.declared.ids.DefWithBodyId.{DefWithBodyId}
@@ -47,11 +46,6 @@ body_of true at k e = root_of tree.no_expr
 body_of false at k e = do
   report_missing at (body_fault k e)
   root_of e
-
-unfoldable pub const_of : OptionExpr → Lowering ConstRef
-const_of e = do
-  id ← root_of e
-  pure (record { expr = id })
 
 -- nothing is stored and no label is open
 abbrev pub fresh : ℕ → Builder

@@ -2,8 +2,10 @@
 
 ghost use Rattle.std.specs.Prelude.{◌≡◌, ◌≢◌, None, false, IfOk, IsErrOf, option_copied};
 ghost use Rattle.hir_store.specs.Range.{HasExpr, InRange};
+ghost use Rattle.hir_store.specs.Storing.{empty};
 ghost use Rattle.hir_lower_form.specs.Lowering.{Lowers};
 ghost use Rattle.hir_one_result.specs.OneResult.{OneResult};
+ghost use Rattle.hir_one_result.specs.Room.{TooLarge};
 ghost use Rattle.hir_lower.specs.Means.{HasBody, body_owes, body_read, required_body};
 ghost use Rattle.hir_lower.specs.Roots.{RefusedAtLimit, Stores, await_location, body_spot, item_of, spot_at};
 
@@ -150,7 +152,7 @@ fn body_steps<E: LowerEnv>(
 /// source map leads from each written expression and label to what it became, and from nothing else; the numbers of
 /// blocks come in the order of entering; the diagnostics are those that body and tree owe. Each number in store and
 /// source map is in range. A skipped body is a missing expression and owes no fault. `Memory` where a growth was
-/// refused; `Full` only where the steps have filled an arena by then; never `Failed`. Until patterns come the caller
+/// refused; `Full` only where the tree becomes more expressions or labels than there are numbers; never `Failed`. Until patterns come the caller
 /// hands in no parameters, and until inner bodies come neither flag.
 pub fn lower_body<E: LowerEnv>(
     alloc: Global,
@@ -174,7 +176,7 @@ pub fn lower_body<E: LowerEnv>(
         IfOk result (λ r. OneResult r.0.store r.1.store owed (body_read at owner (option_copied body.entry))) }
     ensures in_range { IfOk result (λ r. InRange r.0.store r.1.store) }
     ensures full { let at = body_spot (E.answers db.now) owner current_file_id inside in
-        IsErrOf result LowerError.Full → RefusedAtLimit (item_of at owner syntax_node (option_copied body.entry)) 4294967295 }
+        IsErrOf result LowerError.Full → TooLarge (empty 4294967295) (body_read at owner (option_copied body.entry)) }
     ensures own { result ≢ Err LowerError.Failed }
 {
     body_steps(alloc, db, owner, syntax_node, current_file_id, inside, body)

@@ -8,9 +8,10 @@ ghost use Rattle.hir_env.specs.Whole.{expr_part};
 ghost use Rattle.hir_lower_form.specs.Lowering.{Lowers};
 ghost use Rattle.hir_lower_form.specs.Outcomes.{LowersExprOpt};
 ghost use Rattle.hir_steps.specs.Keeps.{Paired};
+ghost use Rattle.hir_one_result.specs.Room.{TooLarge};
 ghost use Rattle.hir_lower.specs.Calls.{Calls};
 ghost use Rattle.hir_lower.specs.Means.{Rooted};
-ghost use Rattle.hir_lower.specs.Roots.{const_of, fresh, outside_body, root_of, spot_at};
+ghost use Rattle.hir_lower.specs.Roots.{fresh, outside_body, root_of, spot_at};
 ghost use Rattle.hir_lower.specs.Stays.{Stays};
 
 use crate::error::LowerError;
@@ -80,6 +81,8 @@ pub(crate) fn lower_root<E: LowerEnv>(
         Lowers HasExpr (root_of (expr_part spot (option_copied expr.entry))) state.old result state.new }
     ensures rooted { let e = expr_part (spot_at (E.answers env.now) place) (option_copied expr.entry) in
         Paired state.old.stored → IfOk result (λ i. Rooted state.old.stored state.new.stored i e) }
+    ensures too_large { let e = expr_part (spot_at (E.answers env.now) place) (option_copied expr.entry) in
+        IsErrOf result StoreFault.Full → TooLarge state.old.stored e }
     ensures stays { result ≢ Err StoreFault.Memory → Stays state.old.stored state.new.stored }
 {
     root_steps(alloc, env, place, state, expr)
@@ -162,13 +165,13 @@ impl<'db, E: LowerEnv> ExprCollector<'db, E> {
     /// behind those of before. `Memory` where a growth was refused, `Full` where an arena has reached its limit,
     /// `Failed` after an error, and then nothing changes. All that was stored is stored still, unless memory was
     /// refused, and a node leads to where it led, or to what came since.
-    #[tactic(auto, unfolding(crate::specs::Roots::const_of))]
     pub fn lower_const_arg(&mut self, arg: &ast::ConstArg) -> Result<ConstRef, LowerError>
-        ensures calls { let steps = const_of (expr_part (spot_at (E.answers self.old.db.now) self.old.place) arg.now.expr) in
-            Calls steps self.old.failed self.old.state result self.new.state self.new.failed }
+        ensures calls { Calls self.old.failed self.old.state result self.new.state self.new.failed }
         ensures rooted { let e = expr_part (spot_at (E.answers self.old.db.now) self.old.place) arg.now.expr in
             IfOk result (λ c. Rooted self.old.state.stored self.new.state.stored c.expr e) }
         ensures full { IsErrOf result LowerError.Full → SomeAtLimit self.new.state.stored }
+        ensures too_large { let e = expr_part (spot_at (E.answers self.old.db.now) self.old.place) arg.now.expr in
+            IsErrOf result LowerError.Full → TooLarge self.old.state.stored e }
         ensures stays { result ≢ Err LowerError.Memory → Stays self.old.state.stored self.new.state.stored }
         ensures db { self.new.db ≡ self.old.db }
         ensures place { self.new.place ≡ self.old.place }

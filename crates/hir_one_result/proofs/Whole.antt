@@ -4,11 +4,13 @@ use Rattle.hir_store.proofs.Range.{extends_root}
 use Rattle.hir_store.specs.Storing.{root_at}
 use Rattle.hir_steps.specs.Keeps.{Kept, Keeps, Paired}
 use Rattle.hir_steps.proofs.Kept.{keeping}
+use Rattle.hir_one_result.specs.Laws.{Fits, FitsUnless}
 use Rattle.hir_one_result.specs.OneResult.{OneResults, begun, with_root}
 use Rattle.hir_one_result.proofs.Leading.{leads_nowhere}
 use Rattle.hir_one_result.proofs.TreeStands.{all_stand}
 use Rattle.hir_one_result.proofs.TreeFaults.{diagnostics_are}
 use Rattle.hir_one_result.proofs.TreeBlocks.{blocks_are}
+use Rattle.hir_one_result.proofs.TreeRooms.{all_fit}
 
 pub one_results : OneResults
 one_results limit owed e id new is =
@@ -18,11 +20,13 @@ one_results limit owed e id new is =
     let paired = kept.paired none in
     let stays = extends_root new.stored (root_at new.stored.exprs.entries id) in
     let standing = all_stand e old id new none is (with_root id new.stored) stays in
+    let fits : Fits e old.stored new.stored = subst (λ r. FitsUnless e old.stored r.0 r.1.stored) is (all_fit e old) in
     let faults = diagnostics_are e old id new none is [] refl in record {
       root = id;
       only = ap (λ rs. rs ++ root_at new.stored.exprs.entries id ∷ []) kept.roots;
       expr_sources = paired.exprs;
       label_sources = paired.labels;
+      exprs = let n = fits.exprs in omega arith;
       ways = standing.ways;
       stands = standing.stands;
       leads = standing.led [] (leads_nowhere refl refl);

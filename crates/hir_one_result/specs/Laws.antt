@@ -1,7 +1,7 @@
 -- What lowering a tree does to what is stored.
-use Rattle.std.specs.Prelude.{◌≡◌, ◌+◌, List, ◌++◌, length, Ok, IsPermutation}
+use Rattle.std.specs.Prelude.{◌≡◌, ◌+◌, List, ◌++◌, length, Ok, Err, IsPermutation}
 use Rattle.hir_store.specs.Stored.{Stored, store_of, map_of}
-use Rattle.hir_store.specs.Storing.{Extends}
+use Rattle.hir_store.specs.Storing.{Checked, Extends}
 use Rattle.hir_store.specs.declared.ids.ExprId.{ExprId}
 use Rattle.hir_store.specs.declared.ids.LabelId.{LabelId}
 use Rattle.hir_env.specs.Answered.{OptionExpr}
@@ -14,6 +14,7 @@ use Rattle.hir_one_result.specs.Leads.{Way, label_ways, Led}
 use Rattle.hir_one_result.specs.Stands.{StandsPart}
 use Rattle.hir_one_result.specs.Diagnostics.{Faults, part_diagnostics, Around}
 use Rattle.hir_one_result.specs.Blocks.{blocks_of_part}
+use Rattle.hir_one_result.specs.Room.{TooLarge, exprs_of, labels_of}
 
 -- what is claimed where the tree is lowered, and what was stored had its sources
 abbrev pub Lowered : (OptionExpr → Builder → ExprId → Builder → Type 0) → Type 0
@@ -54,3 +55,18 @@ ScopesAround = (rs : List (Rib LabelId)) → (ss : List Scope) × Around ss rs
 -- the numbers of the blocks that it enters come behind those of the blocks entered before
 abbrev pub BlocksAre : Type 0
 BlocksAre = Lowered (λ e old id new. new.stored.block_scopes ≡ old.stored.block_scopes ++ blocks_of_part e)
+
+-- numbers
+
+-- so many expressions and labels come behind those that were stored
+pub record Fits (e : OptionExpr) (old new : Stored) : Type 0 where
+  pub exprs : length new.exprs.entries ≡ length old.exprs.entries + exprs_of e
+  pub labels : length new.labels.entries ≡ length old.labels.entries + labels_of e
+
+-- where lowering is refused there is no room for them
+abbrev pub FitsUnless : OptionExpr → Stored → Checked ExprId → Stored → Type 0
+FitsUnless e old (Ok id) new = Fits e old new
+FitsUnless e old (Err fault) new = TooLarge old e
+
+abbrev pub AllFit : Type 0
+AllFit = (e : OptionExpr) (old : Builder) → FitsUnless e old.stored (lower_part e old).0 (lower_part e old).1.stored

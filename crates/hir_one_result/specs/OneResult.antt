@@ -10,9 +10,10 @@ use Rattle.hir_one_result.specs.Leads.{Way, label_ways, MapLeads}
 use Rattle.hir_one_result.specs.Stands.{StandsPart}
 use Rattle.hir_one_result.specs.Diagnostics.{Faults, part_diagnostics}
 use Rattle.hir_one_result.specs.Blocks.{blocks_of_part}
+use Rattle.hir_one_result.specs.Room.{exprs_of}
 
 -- What is stored where one body was lowered. To the one root belongs all that is stored, each with its source, and it
--- stands for the tree. The source map leads from each written expression and label to what it became, and from nowhere
+-- stands for the tree, which becomes so many expressions and no more. The source map leads from each written expression and label to what it became, and from nowhere
 -- else, and each label has its way. Behind the faults that the body owes as a whole come those of what is read of the
 -- tree, in some order. The blocks with numbers are those of the tree, in the order of entering.
 pub record OneResult (store : Store) (source_map : SourceMap) (owed : Faults) (e : OptionExpr) : Type 0 where
@@ -20,6 +21,7 @@ pub record OneResult (store : Store) (source_map : SourceMap) (owed : Faults) (e
   pub only : store.roots ≡ root_at store.exprs root ∷ []
   pub expr_sources : length source_map.expr_sources ≡ length store.exprs
   pub label_sources : length source_map.label_sources ≡ length store.labels
+  pub exprs : length store.exprs ≡ exprs_of e
   pub ways : List Way
   pub stands : StandsPart store source_map [] e root ways
   pub leads : MapLeads source_map ways

@@ -1,4 +1,4 @@
-use Rattle.hir_lower.proofs.Meanings.{rooted_if, stays_unless}
+use Rattle.hir_lower.proofs.Meanings.{rooted_if, stays_unless, too_large_if}
 use Rattle.hir_lower.proofs.collector.lower_root.Goals as goal
 
 pub returns-clause-rooted : goal.returns-clause-rooted
@@ -6,3 +6,6 @@ returns-clause-rooted g c = λ d. rooted_if _ _ _ c.root_steps.result c.root_ste
 
 pub returns-clause-stays : goal.returns-clause-stays
 returns-clause-stays g c = λ n. stays_unless _ _ _ c.root_steps.result c.root_steps.ensures n
+
+pub returns-clause-too_large : goal.returns-clause-too_large
+returns-clause-too_large g c = λ is. too_large_if _ _ _ c.root_steps.result c.root_steps.ensures is
