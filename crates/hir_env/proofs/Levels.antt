@@ -27,7 +27,9 @@ use Rattle.hir_env.specs.Whole.{in_block, block_number, pointer_at, asked_expr, 
 
 -- how a fold passes an option and a list on
 abbrev optional : {A B : Type 0} → (A → B) → Option A → Option B
-optional {A} {B} h x = (folds.map-BlockExpr (Unit {0}) (Unit {0}) (Unit {0}) (Unit {0}) A (Unit {0}) (Unit {0}) (Unit {0}) (Unit {0}) (Unit {0}) B (Unit {0}) (λ x. x) (λ x. x) (λ x. x) (λ x. x) h (λ x. x)
+optional {A} {B} h x = (folds.map-BlockExpr
+    (Unit {0}) (Unit {0}) (Unit {0}) (Unit {0}) A (Unit {0}) (Unit {0}) (Unit {0}) (Unit {0}) (Unit {0}) B (Unit {0})
+    (λ x. x) (λ x. x) (λ x. x) (λ x. x) h (λ x. x)
     (record { id = record { 0 = 0 }; range = record { start = 0; end = 0 }; mod_ = None; label = None; stmts = []; tail = x })).tail
 
 abbrev listed : {A B : Type 0} → (A → B) → List A → List B
@@ -37,7 +39,8 @@ expr_is : {A : Type 0} (h : A → Place → Expr) (x : Option A) (p : Place) →
 expr_is h None p = refl
 expr_is h (Some x) p = refl
 
-plain_is : {A : Type 0} (h : A → BlockReading) (x : Option A) (p : Place) → of.plain_or_none (λ y. y) (optional h x) p ≡ of.plain_or_none h x p
+plain_is : {A : Type 0} (h : A → BlockReading) (x : Option A) (p : Place)
+    → of.plain_or_none (λ y. y) (optional h x) p ≡ of.plain_or_none h x p
 plain_is h None p = refl
 plain_is h (Some x) p = refl
 
@@ -45,8 +48,8 @@ exprs_is : {A : Type 0} (h : A → Place → Expr) (xs : List A) (p : Place) →
 exprs_is h [] p = refl
 exprs_is h (x ∷ xs) p = λ i. tree.more_exprs (h x p) (exprs_is h xs p i)
 
-contents_is : {A : Type 0} (h : A → Place → StmtReading) (xs : List A) (t t' : Place → OptionExpr) → ((p : Place) → t p ≡ t' p) → (p : Place)
-    → of.contents_of (λ y. y) (listed h xs) t p ≡ of.contents_of h xs t' p
+contents_is : {A : Type 0} (h : A → Place → StmtReading) (xs : List A) (t t' : Place → OptionExpr)
+    → ((p : Place) → t p ≡ t' p) → (p : Place) → of.contents_of (λ y. y) (listed h xs) t p ≡ of.contents_of h xs t' p
 contents_is h [] t t' e p = λ j. (tree.no_stmts, e p j)
 contents_is h (x ∷ xs) t t' e p = λ j. let rest = contents_is h xs t t' e (h x p).place j in ((h x p).before rest.0, rest.1)
 
@@ -55,19 +58,28 @@ module _ (env : Answers) where
   rd = reader env
 
   abbrev mapped_kind : ExprKindLayer written → ExprKindLayer readings
-  mapped_kind = folds.map-ExprKind written.ElseBranch written.ExprKind written.StmtKind written.BlockExpr written.Expr written.Stmt readings.ElseBranch readings.ExprKind readings.StmtKind readings.BlockExpr readings.Expr readings.Stmt rd.else_branch rd.expr_kind rd.stmt_kind rd.block_expr rd.expr rd.stmt
+  mapped_kind = folds.map-ExprKind written.ElseBranch written.ExprKind written.StmtKind written.BlockExpr written.Expr written.Stmt
+      readings.ElseBranch readings.ExprKind readings.StmtKind readings.BlockExpr readings.Expr readings.Stmt
+      rd.else_branch rd.expr_kind rd.stmt_kind rd.block_expr rd.expr rd.stmt
 
   abbrev mapped_block : BlockExprLayer written → BlockExprLayer readings
-  mapped_block = folds.map-BlockExpr written.ElseBranch written.ExprKind written.StmtKind written.BlockExpr written.Expr written.Stmt readings.ElseBranch readings.ExprKind readings.StmtKind readings.BlockExpr readings.Expr readings.Stmt rd.else_branch rd.expr_kind rd.stmt_kind rd.block_expr rd.expr rd.stmt
+  mapped_block = folds.map-BlockExpr written.ElseBranch written.ExprKind written.StmtKind written.BlockExpr written.Expr written.Stmt
+      readings.ElseBranch readings.ExprKind readings.StmtKind readings.BlockExpr readings.Expr readings.Stmt
+      rd.else_branch rd.expr_kind rd.stmt_kind rd.block_expr rd.expr rd.stmt
 
   abbrev mapped_stmt_kind : StmtKindLayer written → StmtKindLayer readings
-  mapped_stmt_kind = folds.map-StmtKind written.ElseBranch written.ExprKind written.StmtKind written.BlockExpr written.Expr written.Stmt readings.ElseBranch readings.ExprKind readings.StmtKind readings.BlockExpr readings.Expr readings.Stmt rd.else_branch rd.expr_kind rd.stmt_kind rd.block_expr rd.expr rd.stmt
+  mapped_stmt_kind = folds.map-StmtKind written.ElseBranch written.ExprKind written.StmtKind written.BlockExpr written.Expr written.Stmt
+      readings.ElseBranch readings.ExprKind readings.StmtKind readings.BlockExpr readings.Expr readings.Stmt
+      rd.else_branch rd.expr_kind rd.stmt_kind rd.block_expr rd.expr rd.stmt
 
   abbrev mapped_else : ElseBranchLayer written → ElseBranchLayer readings
-  mapped_else = folds.map-ElseBranch written.ElseBranch written.ExprKind written.StmtKind written.BlockExpr written.Expr written.Stmt readings.ElseBranch readings.ExprKind readings.StmtKind readings.BlockExpr readings.Expr readings.Stmt rd.else_branch rd.expr_kind rd.stmt_kind rd.block_expr rd.expr rd.stmt
+  mapped_else = folds.map-ElseBranch written.ElseBranch written.ExprKind written.StmtKind written.BlockExpr written.Expr written.Stmt
+      readings.ElseBranch readings.ExprKind readings.StmtKind readings.BlockExpr readings.Expr readings.Stmt
+      rd.else_branch rd.expr_kind rd.stmt_kind rd.block_expr rd.expr rd.stmt
 
   expr_at_is : (k : ExprKindLayer written) (p : Place) (s : Pointer) → of.expr_at env itself (mapped_kind k) p s ≡ of.expr_at env rd k p s
-  expr_at_is (ExprKind-F.IfExpr c t e) p s = λ j. tree.if_expr s (expr_is rd.expr c p j) (plain_is rd.block_expr t p j) (expr_is rd.else_branch e p j)
+  expr_at_is (ExprKind-F.IfExpr c t e) p s = λ j.
+      tree.if_expr s (expr_is rd.expr c p j) (plain_is rd.block_expr t p j) (expr_is rd.else_branch e p j)
   expr_at_is (ExprKind-F.BlockExpr b) p s = refl
   expr_at_is (ExprKind-F.LoopExpr l b) p s = λ j. tree.loop_expr s (option_map (of.label_of env p) l) (plain_is rd.block_expr b p j)
   expr_at_is (ExprKind-F.CallExpr f None) p s = λ j. tree.call_expr s (expr_is rd.expr f p j) tree.no_exprs
@@ -77,13 +89,16 @@ module _ (env : Answers) where
   expr_at_is (ExprKind-F.BreakExpr l e) p s = λ j. tree.break_expr s (option_map (of.jump_of env p) l) (expr_is rd.expr e p j)
   expr_at_is (ExprKind-F.ParenExpr e) p s = λ j. tree.paren_expr s (expr_is rd.expr e p j)
   expr_at_is (ExprKind-F.Literal l) p s = refl
-  expr_at_is (ExprKind-F.MethodCallExpr e n None) p s = λ j. tree.method_call_expr s (expr_is rd.expr e p j) (of.name_or_missing n) tree.no_exprs
-  expr_at_is (ExprKind-F.MethodCallExpr e n (Some es)) p s = λ j. tree.method_call_expr s (expr_is rd.expr e p j) (of.name_or_missing n) (exprs_is rd.expr es p j)
+  expr_at_is (ExprKind-F.MethodCallExpr e n None) p s = λ j.
+      tree.method_call_expr s (expr_is rd.expr e p j) (of.name_or_missing n) tree.no_exprs
+  expr_at_is (ExprKind-F.MethodCallExpr e n (Some es)) p s = λ j.
+      tree.method_call_expr s (expr_is rd.expr e p j) (of.name_or_missing n) (exprs_is rd.expr es p j)
   expr_at_is (ExprKind-F.FieldExpr e n) p s = λ j. tree.unary_expr s (tree.field_of (of.name_or_missing n)) (expr_is rd.expr e p j)
   expr_at_is (ExprKind-F.PrefixExpr o e) p s = λ j. of.prefix_expr s o (expr_is rd.expr e p j)
   expr_at_is (ExprKind-F.BinExpr o a b) p s = λ j. of.bin_expr s o (expr_is rd.expr a p j) (expr_is rd.expr b p j)
   expr_at_is (ExprKind-F.IndexExpr a b) p s = λ j. tree.binary_expr s tree.index_of (expr_is rd.expr a p j) (expr_is rd.expr b p j)
-  expr_at_is (ExprKind-F.RefExpr r m e) p s = λ j. tree.unary_expr s (tree.reference_to (of.rawness r) (of.mutability m)) (expr_is rd.expr e p j)
+  expr_at_is (ExprKind-F.RefExpr r m e) p s = λ j.
+      tree.unary_expr s (tree.reference_to (of.rawness r) (of.mutability m)) (expr_is rd.expr e p j)
   expr_at_is (ExprKind-F.TupleExpr comma es) p s = λ j. tree.list_expr s (tree.tuple_of comma) (exprs_is rd.expr es p j)
   expr_at_is (ExprKind-F.ArrayExpr es) p s = λ j. tree.list_expr s tree.array_of (exprs_is rd.expr es p j)
   expr_at_is (ExprKind-F.ReturnExpr e) p s = λ j. tree.leaving_expr s tree.returning (expr_is rd.expr e p j)
@@ -97,17 +112,21 @@ module _ (env : Answers) where
   expr_at_is ExprKind-F.AsmExpr p s = refl
   expr_at_is ExprKind-F.FormatArgsExpr p s = refl
 
-  expr_kind_is : (k : ExprKindLayer written) (n : AstPtr) (p : Place) → of.expr_kind env itself (mapped_kind k) n p ≡ of.expr_kind env rd k n p
+  expr_kind_is : (k : ExprKindLayer written) (n : AstPtr) (p : Place)
+      → of.expr_kind env itself (mapped_kind k) n p ≡ of.expr_kind env rd k n p
   expr_kind_is k n p = λ j. let s = of.in_file p n in of.asked s (env.cfg (of.site_of s)) (expr_at_is k p s j)
 
-  block_at_is : (b : BlockExprLayer written) (head : Bool × Option Label) (p : Place) → of.block_at env itself (mapped_block b) head p ≡ of.block_at env rd b head p
+  block_at_is : (b : BlockExprLayer written) (head : Bool × Option Label) (p : Place)
+      → of.block_at env itself (mapped_block b) head p ≡ of.block_at env rd b head p
   block_at_is b head p = λ j.
       let number = of.numbered env p b.id in
-      let c = contents_is rd.stmt b.stmts (of.expr_or_none (λ y. y) (optional rd.expr b.tail)) (of.expr_or_none rd.expr b.tail) (expr_is rd.expr b.tail) (of.inside number p) j in
+      let c = contents_is rd.stmt b.stmts (of.expr_or_none (λ y. y) (optional rd.expr b.tail))
+      (of.expr_or_none rd.expr b.tail) (expr_is rd.expr b.tail) (of.inside number p) j in
       tree.block (of.in_file p (of.ptr b.id b.range)) head.0 head.1 (option_map (λ n. n.0) number) c.0 c.1
 
   stmt_kind_is : (k : StmtKindLayer written) (p : Place) → of.stmt_kind env itself (mapped_stmt_kind k) p ≡ of.stmt_kind env rd k p
-  stmt_kind_is (StmtKind-F.ExprStmt e semi) p = λ j. record { before = tree.more_stmts (tree.expr_stmt (expr_is rd.expr e p j) semi); place = p }
+  stmt_kind_is (StmtKind-F.ExprStmt e semi) p = λ j.
+      record { before = tree.more_stmts (tree.expr_stmt (expr_is rd.expr e p j) semi); place = p }
   stmt_kind_is StmtKind-F.Item p = refl
 
   else_is : (k : ElseBranchLayer written) (p : Place) → of.else_branch env itself (mapped_else k) p ≡ of.else_branch env rd k p
@@ -116,46 +135,75 @@ module _ (env : Answers) where
 
   read_expr_kind_is : (k : AstExprKind) (n : AstPtr) (p : Place) → read_expr_kind env k n p ≡ of.expr_kind env rd (out-ExprKind k) n p
   unfolding read_else_branch read_expr_kind read_stmt_kind read_block read_expr read_stmt
-  read_expr_kind_is k n p = (λ j. folds.fold_out-ExprKind readings.ElseBranch readings.ExprKind readings.StmtKind readings.BlockExpr readings.Expr readings.Stmt
-      (of.else_branch env itself) (of.expr_kind env itself) (of.stmt_kind env itself) (of.block_step env itself) (of.expr_step env itself) (of.stmt_step env itself) k j n p) ∙ expr_kind_is (out-ExprKind k) n p
+  read_expr_kind_is k n p = (λ j. folds.fold_out-ExprKind
+      readings.ElseBranch readings.ExprKind readings.StmtKind readings.BlockExpr readings.Expr readings.Stmt
+      (of.else_branch env itself) (of.expr_kind env itself) (of.stmt_kind env itself)
+      (of.block_step env itself) (of.expr_step env itself) (of.stmt_step env itself) k j n p)
+      ∙ expr_kind_is (out-ExprKind k) n p
 
   read_expr_is : (e : AstExpr) (p : Place) → read_expr env e p ≡ of.expr_kind env rd (out-ExprKind e.kind) (of.ptr e.id e.range) p
   unfolding read_else_branch read_expr_kind read_stmt_kind read_block read_expr read_stmt
-  read_expr_is e p = (λ j. folds.fold_out-Expr readings.ElseBranch readings.ExprKind readings.StmtKind readings.BlockExpr readings.Expr readings.Stmt
-      (of.else_branch env itself) (of.expr_kind env itself) (of.stmt_kind env itself) (of.block_step env itself) (of.expr_step env itself) (of.stmt_step env itself) e j p) ∙ read_expr_kind_is e.kind (of.ptr e.id e.range) p
+  read_expr_is e p = (λ j. folds.fold_out-Expr
+      readings.ElseBranch readings.ExprKind readings.StmtKind readings.BlockExpr readings.Expr readings.Stmt
+      (of.else_branch env itself) (of.expr_kind env itself) (of.stmt_kind env itself)
+      (of.block_step env itself) (of.expr_step env itself) (of.stmt_step env itself) e j p)
+      ∙ read_expr_kind_is e.kind (of.ptr e.id e.range) p
 
   read_plain_is : (b : AstBlockExpr) (p : Place) → (read_block env b).plain p ≡ of.block_at env rd (out-BlockExpr b) (false, None) p
   unfolding read_else_branch read_expr_kind read_stmt_kind read_block read_expr read_stmt
-  read_plain_is b p = (λ j. (folds.fold_out-BlockExpr readings.ElseBranch readings.ExprKind readings.StmtKind readings.BlockExpr readings.Expr readings.Stmt
-      (of.else_branch env itself) (of.expr_kind env itself) (of.stmt_kind env itself) (of.block_step env itself) (of.expr_step env itself) (of.stmt_step env itself) b j).plain p) ∙ block_at_is (out-BlockExpr b) (false, None) p
+  read_plain_is b p = (λ j. (folds.fold_out-BlockExpr
+      readings.ElseBranch readings.ExprKind readings.StmtKind readings.BlockExpr readings.Expr readings.Stmt
+      (of.else_branch env itself) (of.expr_kind env itself) (of.stmt_kind env itself)
+      (of.block_step env itself) (of.expr_step env itself) (of.stmt_step env itself) b j).plain p)
+      ∙ block_at_is (out-BlockExpr b) (false, None) p
 
-  read_own_is : (b : AstBlockExpr) (p : Place) → (read_block env b).own p ≡ tree.block_expr (of.block_at env rd (out-BlockExpr b) (of.modified (out-BlockExpr b).mod_ (option_map (of.label_of env p) (out-BlockExpr b).label)) p)
+  -- what a block's label and its modifiers say of it
+  abbrev own_head : BlockExprLayer written → Place → Bool × Option Label
+  own_head b p = of.modified b.mod_ (option_map (of.label_of env p) b.label)
+
+  read_own_is : (b : AstBlockExpr) (p : Place) → (read_block env b).own p
+      ≡ tree.block_expr (of.block_at env rd (out-BlockExpr b) (own_head (out-BlockExpr b) p) p)
   unfolding read_else_branch read_expr_kind read_stmt_kind read_block read_expr read_stmt
-  read_own_is b p = (λ j. (folds.fold_out-BlockExpr readings.ElseBranch readings.ExprKind readings.StmtKind readings.BlockExpr readings.Expr readings.Stmt
-      (of.else_branch env itself) (of.expr_kind env itself) (of.stmt_kind env itself) (of.block_step env itself) (of.expr_step env itself) (of.stmt_step env itself) b j).own p) ∙ (λ j. tree.block_expr (block_at_is (out-BlockExpr b) (of.modified (out-BlockExpr b).mod_ (option_map (of.label_of env p) (out-BlockExpr b).label)) p j))
+  read_own_is b p = (λ j. (folds.fold_out-BlockExpr
+      readings.ElseBranch readings.ExprKind readings.StmtKind readings.BlockExpr readings.Expr readings.Stmt
+      (of.else_branch env itself) (of.expr_kind env itself) (of.stmt_kind env itself)
+      (of.block_step env itself) (of.expr_step env itself) (of.stmt_step env itself) b j).own p)
+      ∙ (λ j. tree.block_expr (block_at_is (out-BlockExpr b) (own_head (out-BlockExpr b) p) p j))
 
   read_stmt_kind_is : (k : AstStmtKind) (p : Place) → read_stmt_kind env k p ≡ of.stmt_kind env rd (out-StmtKind k) p
   unfolding read_else_branch read_expr_kind read_stmt_kind read_block read_expr read_stmt
-  read_stmt_kind_is k p = (λ j. folds.fold_out-StmtKind readings.ElseBranch readings.ExprKind readings.StmtKind readings.BlockExpr readings.Expr readings.Stmt
-      (of.else_branch env itself) (of.expr_kind env itself) (of.stmt_kind env itself) (of.block_step env itself) (of.expr_step env itself) (of.stmt_step env itself) k j p) ∙ stmt_kind_is (out-StmtKind k) p
+  read_stmt_kind_is k p = (λ j. folds.fold_out-StmtKind
+      readings.ElseBranch readings.ExprKind readings.StmtKind readings.BlockExpr readings.Expr readings.Stmt
+      (of.else_branch env itself) (of.expr_kind env itself) (of.stmt_kind env itself)
+      (of.block_step env itself) (of.expr_step env itself) (of.stmt_step env itself) k j p)
+      ∙ stmt_kind_is (out-StmtKind k) p
 
   read_stmt_is : (s : AstStmt) (p : Place) → read_stmt env s p ≡ of.stmt_kind env rd (out-StmtKind s.kind) p
   unfolding read_else_branch read_expr_kind read_stmt_kind read_block read_expr read_stmt
-  read_stmt_is s p = (λ j. folds.fold_out-Stmt readings.ElseBranch readings.ExprKind readings.StmtKind readings.BlockExpr readings.Expr readings.Stmt
-      (of.else_branch env itself) (of.expr_kind env itself) (of.stmt_kind env itself) (of.block_step env itself) (of.expr_step env itself) (of.stmt_step env itself) s j p) ∙ read_stmt_kind_is s.kind p
+  read_stmt_is s p = (λ j. folds.fold_out-Stmt
+      readings.ElseBranch readings.ExprKind readings.StmtKind readings.BlockExpr readings.Expr readings.Stmt
+      (of.else_branch env itself) (of.expr_kind env itself) (of.stmt_kind env itself)
+      (of.block_step env itself) (of.expr_step env itself) (of.stmt_step env itself) s j p)
+      ∙ read_stmt_kind_is s.kind p
 
   read_else_is : (e : AstElseBranch) (p : Place) → read_else_branch env e p ≡ of.else_branch env rd (out-ElseBranch e) p
   unfolding read_else_branch read_expr_kind read_stmt_kind read_block read_expr read_stmt
-  read_else_is e p = (λ j. folds.fold_out-ElseBranch readings.ElseBranch readings.ExprKind readings.StmtKind readings.BlockExpr readings.Expr readings.Stmt
-      (of.else_branch env itself) (of.expr_kind env itself) (of.stmt_kind env itself) (of.block_step env itself) (of.expr_step env itself) (of.stmt_step env itself) e j p) ∙ else_is (out-ElseBranch e) p
+  read_else_is e p = (λ j. folds.fold_out-ElseBranch
+      readings.ElseBranch readings.ExprKind readings.StmtKind readings.BlockExpr readings.Expr readings.Stmt
+      (of.else_branch env itself) (of.expr_kind env itself) (of.stmt_kind env itself)
+      (of.block_step env itself) (of.expr_step env itself) (of.stmt_step env itself) e j p)
+      ∙ else_is (out-ElseBranch e) p
 
 -- so far each statement stands for itself alone
-flat : (env : Answers) (ss : List AstStmt) (tail : Place → OptionExpr) (p : Place) → of.contents_of (read_stmt env) ss tail p ≡ (stmts_part (record { answers = env; place = p }) ss, tail p)
+flat : (env : Answers) (ss : List AstStmt) (tail : Place → OptionExpr) (p : Place)
+    → of.contents_of (read_stmt env) ss tail p ≡ (stmts_part (record { answers = env; place = p }) ss, tail p)
 flat env [] tail p = refl
-flat env (s ∷ ss) tail p = (λ j. let r = read_stmt_is env s p j in let rest = of.contents_of (read_stmt env) ss tail r.place in (r.before rest.0, rest.1))
+flat env (s ∷ ss) tail p = (λ j. let r = read_stmt_is env s p j in
+    let rest = of.contents_of (read_stmt env) ss tail r.place in (r.before rest.0, rest.1))
     ∙ (λ j. let rest = flat env ss tail p j in (tree.more_stmts (stmt_level (record { answers = env; place = p }) s) rest.0, rest.1))
 
-block_at_level : (at : Spot) (head : Bool × Option Label) (b : AstBlockExpr) → of.block_at at.answers (reader at.answers) (out-BlockExpr b) head at.place ≡ block_level at head b
+block_at_level : (at : Spot) (head : Bool × Option Label) (b : AstBlockExpr)
+    → of.block_at at.answers (reader at.answers) (out-BlockExpr b) head at.place ≡ block_level at head b
 block_at_level at head b = λ j.
     let level = out-BlockExpr b in
     let c = flat at.answers level.stmts (of.expr_or_none (read_expr at.answers) level.tail) (in_block at level.id).place j in

@@ -33,15 +33,15 @@ impl<T: Entry> Drop for SourcedArena<T> {
 
 impl<T: Entry> Model for SourcedArena<T> {
     ghost use Rattle.std.specs.Prelude.{length, ◌≤◌, ◌<◌, ◌^◌};
-    ghost use Rattle.hir_store.specs.Arenas.{Kept, Sourced, sourced_code};
+    ghost use Rattle.hir_store.specs.Arenas.{Kept, Sourced, sourced_code, sourced_of};
 
     ghost Value = { Sourced T T.Id };
 
     ghost coded = { sourced_code T.code T.Id.code };
 
-    ghost view = { λ a. record { entries = a.entries.items; sources = a.sources.items; map = a.map; limit = a.limit } };
+    ghost view = { λ a. sourced_of a.entries.items a.sources.items a.map a.limit };
 
-    ghost invariant = { λ a. Kept T.place (record { entries = a.entries.items; sources = a.sources.items; map = a.map; limit = a.limit }) × (a.limit < 2 ^ 32) };
+    ghost invariant = { λ a. Kept T.place (sourced_of a.entries.items a.sources.items a.map a.limit) × (a.limit < 2 ^ 32) };
 }
 
 /// Lets the node, where there is one, lead to the entry. Where memory is refused nothing changes.

@@ -88,6 +88,17 @@ fn answer<W: AsStr, R: Read>(alloc: Global, words: &[W], input: &mut R) -> Resul
     listing(alloc, text.as_slice())
 }
 
+/// Writes all of a text, and answers the status: 0, or 2 where the write failed.
+fn written<O: Write>(out: &mut O, text: &str) -> u8
+    ensures status { (result ≡ 0) ⊎ (result ≡ 2) }
+    ensures listed { result ≡ 0 → Appends (O.contents out.old) (O.contents out.new) text.now }
+{
+    match out.write_all(text.as_bytes()) {
+        Ok(()) => 0,
+        Err(_) => 2,
+    }
+}
+
 /// Reads a document from `input`, writes its listing to `out`, and answers the status: 0, or 2 where the words or the
 /// document are wrong or a read or a write failed, or 3 where memory was refused or an arena was full.
 ///
@@ -109,10 +120,7 @@ pub fn run<W: AsStr, R: Read, O: Write, X: Write>(
     ensures one_writer { (out.new ≡ out.old) ⊎ (errors.new ≡ errors.old) }
 {
     match answer(alloc, words, input) {
-        Ok(text) => match out.write_all(text.as_bytes()) {
-            Ok(()) => 0,
-            Err(_) => 2,
-        },
+        Ok(text) => written(out, text.as_str()),
         Err(failure) => failure.report(errors),
     }
 }

@@ -1,11 +1,12 @@
 use Rattle.std.proofs.Common.{◌≡◌, subst}
+use Rattle.hir_store.specs.declared.builder.ExpressionStoreBuilder.TheView.{view}
 use Rattle.hir_store.specs.Stored.{Stored, map_of, store_of}
 use Rattle.hir_store.specs.Range.{InRange}
 use Rattle.hir_store.proofs.builder.ExpressionStoreBuilder.finish.Goals as goal
 
 pub returns-clause-in_range : goal.returns-clause-in_range
 returns-clause-in_range c =
-    let s : Stored = record { exprs = c.self.inside.exprs; labels = c.self.inside.labels; roots = c.self.inside.roots; block_scopes = c.self.inside.block_scopes; diagnostics = c.self.inside.diagnostics } in
+    let s : Stored = view c.self.inside in
     let P : Stored → Type 0 = λ v. InRange (store_of v) (map_of v) in
     let exprs = c.split-exprs.ensures.kept in
     let labels = c.split-labels.ensures.kept in
