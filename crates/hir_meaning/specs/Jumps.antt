@@ -6,6 +6,7 @@ use Rattle.hir_store.specs.declared.hir.Statement.{Statement}
 use Rattle.hir_store.specs.declared.hir.Statement.TheVariants as statement
 use Rattle.hir_store.specs.declared.ids.ExprId.{ExprId}
 use Rattle.hir_store.specs.declared.ids.LabelId.{LabelId}
+use Rattle.hir_scope.specs.Each.{Each, IfPresent}
 
 -- a number among others
 abbrev pub Among : List LabelId → LabelId → Type 0
@@ -20,14 +21,6 @@ abbrev pub and_label : Option LabelId → List LabelId → List LabelId
 and_label None ls = ls
 and_label (Some n) ls = n ∷ ls
 
-abbrev pub IfSome : (ExprId → Type 0) → Option ExprId → Type 0
-IfSome P None = Unit {0}
-IfSome P (Some i) = P i
-
-abbrev pub Each : (ExprId → Type 0) → List ExprId → Type 0
-Each P [] = Unit {0}
-Each P (i ∷ is) = P i × Each P is
-
 abbrev pub EachStatement : (ExprId → Type 0) → List Statement → Type 0
 EachStatement P [] = Unit {0}
 EachStatement P (statement.Item ∷ ss) = EachStatement P ss
@@ -40,10 +33,10 @@ module _ (Part : List LabelId → ExprId → Type 0) (ls : List LabelId) where
   NodeEnclosed (hir.Literal l) = Unit {0}
   NodeEnclosed (hir.Path p h) = Unit {0}
   NodeEnclosed (hir.Call f xs) = Part ls f × Each (Part ls) xs
-  NodeEnclosed (hir.If c t e) = Part ls c × Part ls t × IfSome (Part ls) e
+  NodeEnclosed (hir.If c t e) = Part ls c × Part ls t × IfPresent (Part ls) e
   NodeEnclosed (hir.Loop b l source) = Part (and_label l ls) b
-  NodeEnclosed (hir.Block is_unsafe l number ss tail) = EachStatement (Part (and_label l ls)) ss × IfSome (Part (and_label l ls)) tail
-  NodeEnclosed (hir.Break l e) = NamesAmong ls l × IfSome (Part ls) e
+  NodeEnclosed (hir.Block is_unsafe l number ss tail) = EachStatement (Part (and_label l ls)) ss × IfPresent (Part (and_label l ls)) tail
+  NodeEnclosed (hir.Break l e) = NamesAmong ls l × IfPresent (Part ls) e
   NodeEnclosed (hir.Continue l) = NamesAmong ls l
   NodeEnclosed hir.Underscore = Unit {0}
   NodeEnclosed hir.IncludeBytes = Unit {0}
@@ -57,9 +50,9 @@ module _ (Part : List LabelId → ExprId → Type 0) (ls : List LabelId) where
   NodeEnclosed (hir.Tuple es) = Each (Part ls) es
   NodeEnclosed (hir.Array es) = Each (Part ls) es
   NodeEnclosed (hir.MethodCall e name es) = Part ls e × Each (Part ls) es
-  NodeEnclosed (hir.Return e) = IfSome (Part ls) e
-  NodeEnclosed (hir.Yeet e) = IfSome (Part ls) e
-  NodeEnclosed (hir.Yield e) = IfSome (Part ls) e
+  NodeEnclosed (hir.Return e) = IfPresent (Part ls) e
+  NodeEnclosed (hir.Yeet e) = IfPresent (Part ls) e
+  NodeEnclosed (hir.Yield e) = IfPresent (Part ls) e
 
   abbrev pub FoundEnclosed : Option Expr → Type 0
   FoundEnclosed None = Unit {0}

@@ -13,7 +13,8 @@ use Rattle.hir_scope.specs.Scopes.{Scope}
 use Rattle.hir_meaning.specs.Syntax.{SyntaxRun, run_expr, run_part, run_stmts, run_tail}
 use Rattle.hir_meaning.specs.Left.{is_kept, is_left, none_left}
 use Rattle.hir_meaning.specs.Store.{StoreRun, run_statements}
-use Rattle.hir_meaning.specs.Jumps.{IfSome, EachStatement, EnclosedTo}
+use Rattle.hir_scope.specs.Each.{IfPresent}
+use Rattle.hir_meaning.specs.Jumps.{EachStatement, EnclosedTo}
 use Rattle.hir_steps.proofs.Frames.{Frame, scopes, Falls}
 use Rattle.hir_same_meaning.proofs.Views.{numbers}
 use Rattle.hir_same_meaning.proofs.Relation.{SameWhere, same_pure, same_bind}
@@ -161,11 +162,11 @@ module _ (labels nodes : ℕ) (final : Stored) (turns d : ℕ) (deep : nodes ≤
 
 -- each jump of the contents of a block names what encloses it
 abbrev AllEnclosed : (ExprId → Type 0) → List Statement → Option ExprId → Type 0
-AllEnclosed P ss o = EachStatement P ss × IfSome P o
+AllEnclosed P ss o = EachStatement P ss × IfPresent P o
 
 module _ (labels nodes : ℕ) (final : Stored) (d : ℕ) (deep : nodes ≤ d) (kept : Bool) (x : Walk Value) where
   kept_jumps : (ps : List Frame) (t : Bool) (y : Walk Value) (o : Option ExprId) → KeptIs labels nodes final ps t y o
-      → IfSome (EnclosedTo final.exprs.entries d (numbers ps)) o
+      → IfPresent (EnclosedTo final.exprs.entries d (numbers ps)) o
   kept_jumps ps true y None k = absurd k
   kept_jumps ps true y (Some i) k = k.jumps d deep
   kept_jumps ps false y None k = tt

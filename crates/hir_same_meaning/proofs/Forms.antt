@@ -1,7 +1,6 @@
 -- What each form becomes runs as the form is written, where its parts do.
-use Rattle.std.proofs.Common.{◌≡◌, ℕ, suc, ◌≤◌, Bool, true, false, if◌then◌else◌, nat_le, List, [], ◌∷◌, ◌++◌, length, append-nil}
-use Rattle.std.proofs.Common.{append_assoc, Option, Some, None, Ok, Err, option_map, refl, sym, ap, ◌∙◌, arith}
-use Rattle.std.proofs.lemmas.Bool.Decides.{nat_tests}
+use Rattle.std.proofs.Common.{◌≡◌, ℕ, suc, ◌≤◌, Bool, true, false, if◌then◌else◌, List, [], ◌∷◌, ◌++◌, append-nil}
+use Rattle.std.proofs.Common.{append_assoc, Option, Some, None, Ok, Err, option_map, refl, sym, ◌∙◌, arith}
 use Rattle.hir_syntax.specs.declared.ast.Literal.{Literal as AstLiteral}
 use Rattle.hir_store.specs.Pointers.{Pointer}
 use Rattle.hir_store.specs.Stored.{Stored}
@@ -26,7 +25,8 @@ use Rattle.hir_env.specs.Answering.{site_of}
 use Rattle.hir_lower_form.specs.Builder.{Builder}
 use Rattle.hir_lower_form.specs.Lowering.{Checked, Lowering, ◌>>=◌, pure, alloc_expr, report}
 use Rattle.hir_lower_form.specs.Lower.{Node, Contents, push_some, missing, some, if_form, loop_form, call_form, continue_form, break_form}
-use Rattle.hir_lower_form.specs.Lower.{paren_form, stored_literal, names_from, names_of, path_hygiene, named_path, stored_path, settled}
+use Rattle.hir_lower_form.specs.Lower.{paren_form, stored_literal, names_of, path_hygiene, named_path, stored_path, settled}
+use Rattle.hir_lower_form.proofs.Paths.{names_are, long_hygiene}
 use Rattle.hir_lower_form.specs.Lower.{settled_block, block_form, labelled, kept}
 use Rattle.hir_meaning.specs.Data.{literal_data, names_of as segment_names, plain_path, data_if_written, hygiene_for}
 use Rattle.hir_meaning.specs.Run.{Value, unit, is_true, literal, call, break, continue, leave, missing as is_missing}
@@ -131,27 +131,13 @@ module _ (at : Pointer) where
 
 -- paths
 
-names_from_is : (done : List Name) (ss : Segments) → names_from done ss ≡ option_map (λ ns. done ++ ns) (segment_names ss)
-names_from_is done [] = ap Some (sym (append-nil done))
-names_from_is done (None ∷ ss) = refl
-names_from_is done (Some n ∷ ss) = names_from_is (done ++ n ∷ []) ss ∙ go (segment_names ss)
-  where
-    go : (o : Option (List Name))
-        → option_map (λ ns. (done ++ n ∷ []) ++ ns) o ≡ option_map (λ ns. done ++ ns) (option_map (λ ns. n ∷ ns) o)
-    go None = refl
-    go (Some ns) = ap Some (append_assoc done (n ∷ []) ns)
-
 names_of_is : (ss : Segments) → names_of ss ≡ segment_names ss
-names_of_is ss = names_from_is [] ss ∙ go (segment_names ss)
-  where
-    go : (o : Option (List Name)) → option_map (λ ns. [] ++ ns) o ≡ o
-    go None = refl
-    go (Some ns) = refl
+names_of_is = names_are (record { none = refl; refused = λ ss. refl; more = λ n ss. refl })
 
 hygiene_is : (ns : List Name) (h : HygieneId) → path_hygiene ns h ≡ hygiene_for ns h
 hygiene_is [] h = refl
 hygiene_is (n ∷ []) h = refl
-hygiene_is (n ∷ (m ∷ ns)) h = let e : nat_le (length (n ∷ m ∷ ns)) 1 ≡ false = grind (arith, nat_tests) in rw e refl
+hygiene_is (n ∷ (m ∷ ns)) h = long_hygiene n m ns h
 
 abbrev bare : List Name → Path
 bare ns = BarePath (record { kind = Plain; segments = ns })

@@ -11,7 +11,8 @@ use Rattle.hir_meaning.specs.Run.{Value}
 use Rattle.hir_scope.specs.Scopes.{Scope}
 use Rattle.hir_meaning.specs.Syntax.{SyntaxRun}
 use Rattle.hir_meaning.specs.Store.{StoreRun, run_or_unit, run_each, run_statements, run_node, run_to}
-use Rattle.hir_meaning.specs.Jumps.{IfSome, Each, EachStatement, NodeEnclosed, EnclosedTo}
+use Rattle.hir_scope.specs.Each.{Each, IfPresent}
+use Rattle.hir_meaning.specs.Jumps.{EachStatement, NodeEnclosed, EnclosedTo}
 use Rattle.hir_steps.proofs.Frames.{Frame, scopes, Falls, falls_more}
 use Rattle.hir_steps.proofs.Steps.{Mark, Rel, Allocated}
 use Rattle.hir_same_meaning.proofs.Views.{numbers}
@@ -38,13 +39,13 @@ abbrev pub one : Reading ExprId Value
 one = record { run = λ turns part i. part i; Jumps = λ P i. P i }
 
 abbrev pub optional : Reading (Option ExprId) Value
-optional = record { run = run_or_unit; Jumps = IfSome }
+optional = record { run = run_or_unit; Jumps = IfPresent }
 
 abbrev pub many : Reading (List ExprId) (List Value)
 many = record { run = run_each; Jumps = Each }
 
 abbrev pub contents : Reading (List Statement × Option ExprId) Value
-contents = record { run = λ turns part r. run_statements turns part r.0 r.1; Jumps = λ P r. EachStatement P r.0 × IfSome P r.1 }
+contents = record { run = λ turns part r. run_statements turns part r.0 r.1; Jumps = λ P r. EachStatement P r.0 × IfPresent P r.1 }
 
 -- What stands at a is x, inside frames whose labels are below `labels`, where the store is looked into past `nodes`.
 pub record Goes {A B : Type 0} (labels nodes : ℕ) (r : Reading A B) (x : Walk B) (final : Stored) (ps : List Frame) (a : A) : Type 0 where

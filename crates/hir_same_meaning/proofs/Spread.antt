@@ -1,16 +1,17 @@
 -- Lists of numbers, each in a range and each once.
 use Rattle.std.proofs.Common.{◌≢◌, ℕ, suc, ◌<◌, ◌≤◌, ◌⊎◌, inl, inr, List, [], ◌∷◌, ◌++◌, arith}
-use Rattle.hir_same_meaning.specs.Reached.{AllOf, Distinct, From, Spread}
+use Rattle.hir_scope.specs.Each.{Each}
+use Rattle.hir_same_meaning.specs.Reached.{Distinct, From, Spread}
 
-pub all_less : {P Q : ℕ → Type 0} (ks : List ℕ) → ((k : ℕ) → P k → Q k) → AllOf P ks → AllOf Q ks
+pub all_less : {P Q : ℕ → Type 0} (ks : List ℕ) → ((k : ℕ) → P k → Q k) → Each P ks → Each Q ks
 all_less [] f h = tt
 all_less (k ∷ ks) f h = (f k h.0, all_less ks f h.1)
 
-all_append : (P : ℕ → Type 0) (ks js : List ℕ) → AllOf P ks → AllOf P js → AllOf P (ks ++ js)
+all_append : (P : ℕ → Type 0) (ks js : List ℕ) → Each P ks → Each P js → Each P (ks ++ js)
 all_append P [] js h h' = h'
 all_append P (k ∷ ks) js h h' = (h.0, all_append P ks js h.1 h')
 
-apart : (lo hi lo' hi' k : ℕ) (js : List ℕ) → (hi ≤ lo') ⊎ (hi' ≤ lo) → From lo hi k → AllOf (From lo' hi') js → AllOf (λ j. k ≢ j) js
+apart : (lo hi lo' hi' k : ℕ) (js : List ℕ) → (hi ≤ lo') ⊎ (hi' ≤ lo) → From lo hi k → Each (From lo' hi') js → Each (λ j. k ≢ j) js
 apart lo hi lo' hi' k js (inl le) h h' = let a : k < hi = h.1 in all_less js (λ j f. let b : lo' ≤ j = f.0 in omega arith) h'
 apart lo hi lo' hi' k js (inr le) h h' = let a : lo ≤ k = h.0 in all_less js (λ j f. let b : j < hi' = f.1 in omega arith) h'
 

@@ -5,6 +5,7 @@ use Rattle.hir_store.specs.declared.hir.Expr.TheVariants as hir
 use Rattle.hir_store.specs.declared.hir.Statement.{Statement}
 use Rattle.hir_store.specs.declared.hir.Statement.TheVariants as statement
 use Rattle.hir_store.specs.declared.ids.ExprId.{ExprId}
+use Rattle.hir_scope.specs.Each.{Each}
 use Rattle.hir_same_meaning.specs.Headline.{InLaterStores}
 
 -- the numbers that are reached, one for each way
@@ -63,19 +64,15 @@ reached_to exprs (suc depth) i = i.0 ∷ below_found (reached_to exprs depth) (s
 
 -- each in one way, and in a range
 
-abbrev pub AllOf : (ℕ → Type 0) → List ℕ → Type 0
-AllOf P [] = Unit {0}
-AllOf P (k ∷ ks) = P k × AllOf P ks
-
 abbrev pub Distinct : List ℕ → Type 0
 Distinct [] = Unit {0}
-Distinct (k ∷ ks) = AllOf (λ j. k ≢ j) ks × Distinct ks
+Distinct (k ∷ ks) = Each (λ j. k ≢ j) ks × Distinct ks
 
 abbrev pub From : ℕ → ℕ → ℕ → Type 0
 From lo hi k = (lo ≤ k) × (k < hi)
 
 pub record Spread (lo hi : ℕ) (ks : List ℕ) : Type 0 where
-  pub within : AllOf (From lo hi) ks
+  pub within : Each (From lo hi) ks
   pub distinct : Distinct ks
 
 -- However deep one looks, each number that the body reaches is reached in one way, so none reaches itself, and is one of
