@@ -10,6 +10,8 @@ ghost use Rattle.hir_lower.specs.Roots.{spot_at};
 
 use hir_env::env::LowerEnv;
 use hir_env::place::{LoweringMode, Place};
+use hir_lower_expr::blocks::block_node;
+use hir_lower_expr::exprs::expr_node;
 use hir_lower_form::builder::BodyBuilder;
 use hir_lower_form::parts::{LowerParts, Lowerer};
 use hir_lower_scope::labels::{LabelScopes, NoTarget};
@@ -143,7 +145,7 @@ pub fn maybe_collect_expr<E: LowerEnv>(
 ) -> Result<Option<ExprId>, StoreFault>
     ensures { MaybeLowersExpr (answered (spot_at (E.answers env.now) place) node.now) state.old result state.new }
 {
-    Lowerer {
+    let lowerer = Lowerer {
         alloc,
         parts: Handlers {
             alloc,
@@ -152,8 +154,8 @@ pub fn maybe_collect_expr<E: LowerEnv>(
             expr: maybe_collect_expr::<E>,
             block: collect_block_inside::<E>,
         },
-    }
-    .expr_node(state, node)
+    };
+    expr_node(&lowerer, state, node)
 }
 
 /// The block, as one that is unsafe or isn't, inside the label of this number.
@@ -173,7 +175,7 @@ pub fn collect_block_inside<E: LowerEnv>(
     let found = number(env, place, node.id);
     let inner = inside(place, found);
     let block = block_number(found);
-    Lowerer {
+    let lowerer = Lowerer {
         alloc,
         parts: Handlers {
             alloc,
@@ -182,8 +184,8 @@ pub fn collect_block_inside<E: LowerEnv>(
             expr: maybe_collect_expr::<E>,
             block: collect_block_inside::<E>,
         },
-    }
-    .block_node(state, is_unsafe, label, block, node)
+    };
+    block_node(&lowerer, state, is_unsafe, label, block, node)
 }
 
 /// The expression, missing where a condition disables it.

@@ -76,7 +76,7 @@ pub trait LowerParts {
 }
 
 /// The node that a pointer leads to, as it is asked about.
-pub(crate) fn site(pointer: InFile<AstPtr>) -> InFile<NodeId>
+pub fn site(pointer: InFile<AstPtr>) -> InFile<NodeId>
     ensures { result ≡ site_of pointer }
 {
     InFile {
@@ -93,7 +93,7 @@ pub struct Lowerer<P> {
 }
 
 impl<P: LowerParts> Lowerer<P> {
-    pub(crate) fn pointer(&self, node: NodeId, range: TextRange) -> InFile<AstPtr>
+    pub fn pointer(&self, node: NodeId, range: TextRange) -> InFile<AstPtr>
         ensures { result ≡ pointer_at (P.spot self.now.parts) node range }
     {
         InFile {
@@ -104,7 +104,7 @@ impl<P: LowerParts> Lowerer<P> {
 
     /// The expression, missing where a condition disables it.
     #[tactic(auto, using(crate::proofs::Kept::lower_on))]
-    pub(crate) fn collect_expr(
+    pub fn collect_expr(
         &self,
         state: &mut BodyBuilder,
         node: &ast::Expr,
@@ -119,7 +119,7 @@ impl<P: LowerParts> Lowerer<P> {
     }
 
     /// The expression, missing where it is absent or a condition disables it.
-    pub(crate) fn collect_expr_opt(
+    pub fn collect_expr_opt(
         &self,
         state: &mut BodyBuilder,
         part: &Option<Boxed<ast::Expr>>,
@@ -134,7 +134,7 @@ impl<P: LowerParts> Lowerer<P> {
     }
 
     /// The expression, none where it is absent, and missing where a condition disables it.
-    pub(crate) fn collect_expr_if_present(
+    pub fn collect_expr_if_present(
         &self,
         state: &mut BodyBuilder,
         part: &Option<Boxed<ast::Expr>>,
@@ -149,7 +149,7 @@ impl<P: LowerParts> Lowerer<P> {
     }
 
     /// The expression, none where it is absent or a condition disables it.
-    pub(crate) fn maybe_collect_expr_opt(
+    pub fn maybe_collect_expr_opt(
         &self,
         state: &mut BodyBuilder,
         part: &Option<Boxed<ast::Expr>>,
@@ -164,7 +164,7 @@ impl<P: LowerParts> Lowerer<P> {
     }
 
     /// A block in a place where only a block may stand, so that neither a label nor a modifier of its own counts.
-    pub(crate) fn collect_block(
+    pub fn collect_block(
         &self,
         state: &mut BodyBuilder,
         node: &ast::BlockExpr,
@@ -176,7 +176,7 @@ impl<P: LowerParts> Lowerer<P> {
     }
 
     /// Such a block, missing where it is absent.
-    pub(crate) fn collect_block_opt(
+    pub fn collect_block_opt(
         &self,
         state: &mut BodyBuilder,
         part: &Option<Boxed<ast::BlockExpr>>,

@@ -1,0 +1,5 @@
+use Rattle.hir_lower_form.proofs.BlockLemmas.{own_inside}
+use Rattle.hir_lower_expr.proofs.blocks.block_form.Goals as goal
+
+pub returns : goal.returns
+returns g c = rw (own_inside (g.P.LowerParts.spot c.args.lowerer.now.parts) c.args.node.now) c.headed_block.ensures

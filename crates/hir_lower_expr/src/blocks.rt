@@ -1,0 +1,204 @@
+//! Blocks and statements.
+
+ghost use Rattle.std.specs.Prelude.{◌≡◌, ◌-◌, [], false, length, slice_get};
+ghost use Rattle.hir_syntax.specs.declared.ast.BlockExpr.{out-BlockExpr};
+ghost use Rattle.hir_syntax.specs.declared.ast.StmtKind.{out-StmtKind};
+ghost use Rattle.hir_store.specs.Range.{HasExpr, HasLabelOption};
+ghost use Rattle.hir_env.specs.Whole.{answered_block, answered_plain, block_head, expr_part, label_part, stmt_level, stmts_part};
+ghost use Rattle.hir_lower_form.specs.Lowering.{Lowers};
+ghost use Rattle.hir_lower_form.specs.Lower as spec;
+ghost use Rattle.hir_lower_form.specs.Nests.{Each, KidsBlock, KidsStmt};
+ghost use Rattle.hir_lower_form.specs.Outcomes.{HasContents, LowersExpr, LowersStmt, LowersStmts, block_at, contents_at, flat};
+
+use hir_lower_form::builder::BodyBuilder;
+use hir_lower_form::parts::{LowerParts, Lowerer};
+use hir_store::builder::push_statement;
+use hir_store::fault::StoreFault;
+use hir_store::hir::{Expr, Statement};
+use hir_store::ids::{BlockId, ExprId, LabelId};
+use hir_syntax::{Seq, ast};
+
+/// The expression of a last statement that has no semicolon.
+fn value_at_end(statements: &[Statement]) -> Option<ExprId>
+    ensures { result ≡ spec.value_of (slice_get statements.now (length statements.now - 1)) }
+{
+    match statements.last() {
+        Some(
+            Statement::Expr {
+                expr,
+                has_semi: false,
+            },
+        ) => Some(*expr),
+        _ => None,
+    }
+}
+
+/// Where no tail is left, a last expression statement without a semicolon becomes it.
+#[tactic(auto, using(hir_lower_form::proofs::BlockLemmas::settled_none))]
+fn settle(statements: &mut Seq<Statement>, tail: Option<ExprId>) -> Option<ExprId>
+    ensures { spec.settled statements.old tail ≡ (statements.new, result) }
+{
+    match tail {
+        Some(id) => Some(id),
+        None => match value_at_end(statements.as_slice()) {
+            Some(id) => {
+                let _ = statements.pop();
+                Some(id)
+            }
+            None => None,
+        },
+    }
+}
+
+/// What a statement leaves, where it leaves something.
+fn collect_stmt<P: LowerParts>(
+    lowerer: &Lowerer<P>,
+    state: &mut BodyBuilder,
+    node: &ast::Stmt,
+) -> Result<Option<Statement>, StoreFault>
+    requires { KidsStmt (P.can lowerer.now.parts) (out-StmtKind node.now.kind) }
+    ensures { LowersStmt (stmt_level (P.spot lowerer.now.parts) node.now) state.old result state.new }
+{
+    match &node.kind {
+        ast::StmtKind::ExprStmt { expr, semi } => {
+            match lowerer.maybe_collect_expr_opt(state, expr)? {
+                None => Ok(None),
+                Some(expr) => Ok(Some(Statement::Expr {
+                    expr,
+                    has_semi: *semi,
+                })),
+            }
+        }
+        ast::StmtKind::Item => Ok(Some(Statement::Item)),
+    }
+}
+
+fn collect_stmts<P: LowerParts>(
+    lowerer: &Lowerer<P>,
+    state: &mut BodyBuilder,
+    mut all: &[ast::Stmt],
+) -> Result<Seq<Statement>, StoreFault>
+    requires { Each (λ s. KidsStmt (P.can lowerer.now.parts) (out-StmtKind s.kind)) all.now }
+    ensures { LowersStmts (stmts_part (P.spot lowerer.now.parts) all.entry.now) state.old result state.new }
+{
+    let mut done = Seq::new(lowerer.alloc);
+    while let [one, rest @ ..] = all {
+        if let Some(statement) = collect_stmt(lowerer, state, one)? {
+            push_statement(&mut done, statement)?;
+        }
+        all = rest;
+    }
+    Ok(done)
+}
+
+/// The statements, and then the tail.
+fn flat_contents<P: LowerParts>(
+    lowerer: &Lowerer<P>,
+    state: &mut BodyBuilder,
+    node: &ast::BlockExpr,
+) -> Result<(Seq<Statement>, Option<ExprId>), StoreFault>
+    requires { KidsBlock (P.can lowerer.now.parts) (out-BlockExpr node.now) }
+    ensures { let block = out-BlockExpr node.now in
+        let spot = P.spot lowerer.now.parts in
+        let tail = spec.kept_part (expr_part spot block.tail) in
+        Lowers HasContents (flat [] (stmts_part spot block.stmts) tail) state.old result state.new }
+{
+    let statements = collect_stmts(lowerer, state, node.stmts.as_slice())?;
+    let tail = lowerer.maybe_collect_expr_opt(state, &node.tail)?;
+    Ok((statements, tail))
+}
+
+/// What is in a block that is read here.
+fn contents<P: LowerParts>(
+    lowerer: &Lowerer<P>,
+    state: &mut BodyBuilder,
+    node: &ast::BlockExpr,
+) -> Result<(Seq<Statement>, Option<ExprId>), StoreFault>
+    requires { KidsBlock (P.can lowerer.now.parts) (out-BlockExpr node.now) }
+    ensures { Lowers HasContents (contents_at (P.spot lowerer.now.parts) node.now) state.old result state.new }
+{
+    flat_contents(lowerer, state, node)
+}
+
+/// A block that is read here, as one that is unsafe or isn't, inside the label of this number.
+#[tactic(auto, unfolding(hir_lower_form::specs::Lower::block_form))]
+pub fn block_node<P: LowerParts>(
+    lowerer: &Lowerer<P>,
+    state: &mut BodyBuilder,
+    is_unsafe: bool,
+    label: Option<LabelId>,
+    number: Option<BlockId>,
+    node: &ast::BlockExpr,
+) -> Result<ExprId, StoreFault>
+    requires parts { KidsBlock (P.can lowerer.now.parts) (out-BlockExpr node.now) }
+    requires label { HasLabelOption state.old.stored label }
+    ensures { Lowers HasExpr (block_at (P.spot lowerer.now.parts) is_unsafe label number node.now) state.old result state.new }
+{
+    state.enter_block(number)?;
+    let (mut statements, tail) = contents(lowerer, state, node)?;
+    let tail = settle(&mut statements, tail);
+    let expr = Expr::Block {
+        is_unsafe,
+        label,
+        id: number,
+        statements,
+        tail,
+    };
+    state.alloc_expr(expr, Some(lowerer.pointer(node.id, node.range)))
+}
+
+/// A block with a label, if it has one, and with no modifier.
+#[tactic(auto, unfolding(hir_lower_form::specs::Lower::labelled))]
+fn labelled_block<P: LowerParts>(
+    lowerer: &Lowerer<P>,
+    state: &mut BodyBuilder,
+    label: &Option<ast::Label>,
+    node: &ast::BlockExpr,
+) -> Result<ExprId, StoreFault>
+    requires { (P.can lowerer.now.parts).block node.now }
+    ensures { let block = answered_plain (P.spot lowerer.now.parts) node.now in
+        let label = label_part (P.spot lowerer.now.parts) label.now in
+        Lowers HasExpr (spec.labelled label (λ id. spec.lower_inside false id block)) state.old result state.new }
+{
+    let Some(label) = label else {
+        return lowerer.parts.collect_block_inside(state, false, None, node);
+    };
+    let label = lowerer.open_label(state, label)?;
+    let id = lowerer
+        .parts
+        .collect_block_inside(state, false, Some(label), node)?;
+    state.close();
+    Ok(id)
+}
+
+/// A block with its modifier, beside which no label counts, or else with its label.
+#[tactic(auto, unfolding(hir_lower_form::specs::Lower::labelled))]
+fn headed_block<P: LowerParts>(
+    lowerer: &Lowerer<P>,
+    state: &mut BodyBuilder,
+    node: &ast::BlockExpr,
+) -> Result<ExprId, StoreFault>
+    requires { (P.can lowerer.now.parts).block node.now }
+    ensures { let block = answered_plain (P.spot lowerer.now.parts) node.now in
+        let head = block_head (P.spot lowerer.now.parts) node.now in
+        Lowers HasExpr (spec.labelled head.1 (λ id. spec.lower_inside head.0 id block)) state.old result state.new }
+{
+    match node.mod_ {
+        None => labelled_block(lowerer, state, &node.label, node),
+        Some(ast::BlockModifier::Unsafe) => {
+            lowerer.parts.collect_block_inside(state, true, None, node)
+        }
+    }
+}
+
+/// A block as an expression, where its own modifier and its own label count.
+pub(crate) fn block_form<P: LowerParts>(
+    lowerer: &Lowerer<P>,
+    state: &mut BodyBuilder,
+    node: &ast::BlockExpr,
+) -> Result<ExprId, StoreFault>
+    requires { (P.can lowerer.now.parts).block node.now }
+    ensures { LowersExpr (answered_block (P.spot lowerer.now.parts) node.now) state.old result state.new }
+{
+    headed_block(lowerer, state, node)
+}

@@ -1,0 +1,127 @@
+//! Branches and loops.
+
+ghost use Rattle.hir_syntax.specs.declared.ast.ElseBranch.{out-ElseBranch};
+ghost use Rattle.hir_env.specs.Answered as tree;
+ghost use Rattle.hir_env.specs.Whole.{answered_else, block_part, else_level, else_part, expr_part, label_part};
+ghost use Rattle.hir_lower_form.specs.Nests.{IfPresent, KidsElse};
+ghost use Rattle.hir_lower_form.specs.Outcomes.{LowersExpr, LowersIfPresent};
+
+use hir_lower_form::builder::BodyBuilder;
+use hir_lower_form::parts::{LowerParts, Lowerer};
+use hir_store::fault::StoreFault;
+use hir_store::hir::{Expr, LoopSource};
+use hir_store::ids::ExprId;
+use hir_syntax::node::{AstPtr, InFile};
+use hir_syntax::{Boxed, ast};
+
+fn else_node<P: LowerParts>(
+    lowerer: &Lowerer<P>,
+    state: &mut BodyBuilder,
+    part: &ast::ElseBranch,
+) -> Result<ExprId, StoreFault>
+    requires { KidsElse (P.can lowerer.now.parts) (out-ElseBranch part.now) }
+    ensures { LowersExpr (else_level (P.spot lowerer.now.parts) part.now) state.old result state.new }
+{
+    match part {
+        ast::ElseBranch::ElseBlock(block) => lowerer.collect_block(state, block.get()),
+        ast::ElseBranch::ElseIf(expr) => lowerer.collect_expr(state, expr.get()),
+    }
+}
+
+fn else_branch<P: LowerParts>(
+    lowerer: &Lowerer<P>,
+    state: &mut BodyBuilder,
+    part: &ast::ElseBranch,
+) -> Result<ExprId, StoreFault>
+    requires { KidsElse (P.can lowerer.now.parts) (out-ElseBranch part.now) }
+    ensures { LowersExpr (answered_else (P.spot lowerer.now.parts) part.now) state.old result state.new }
+{
+    else_node(lowerer, state, part)
+}
+
+fn else_if_present<P: LowerParts>(
+    lowerer: &Lowerer<P>,
+    state: &mut BodyBuilder,
+    part: &Option<ast::ElseBranch>,
+) -> Result<Option<ExprId>, StoreFault>
+    requires { IfPresent (λ e. KidsElse (P.can lowerer.now.parts) (out-ElseBranch e)) part.now }
+    ensures { LowersIfPresent (else_part (P.spot lowerer.now.parts) part.now) state.old result state.new }
+{
+    match part {
+        None => Ok(None),
+        Some(part) => Ok(Some(else_branch(lowerer, state, part)?)),
+    }
+}
+
+/// The branches are lowered before the condition.
+#[tactic(auto, unfolding(hir_lower_form::specs::Lower::if_form))]
+pub(crate) fn if_form<P: LowerParts>(
+    lowerer: &Lowerer<P>,
+    state: &mut BodyBuilder,
+    at: InFile<AstPtr>,
+    condition: &Option<Boxed<ast::Expr>>,
+    then: &Option<Boxed<ast::BlockExpr>>,
+    else_: &Option<ast::ElseBranch>,
+) -> Result<ExprId, StoreFault>
+    requires condition { IfPresent (P.can lowerer.now.parts).expr condition.now }
+    requires then { IfPresent (P.can lowerer.now.parts).block then.now }
+    requires else_ { IfPresent (λ e. KidsElse (P.can lowerer.now.parts) (out-ElseBranch e)) else_.now }
+    ensures { LowersExpr (tree.if_expr at
+        (expr_part (P.spot lowerer.now.parts) condition.now)
+        (block_part (P.spot lowerer.now.parts) then.now)
+        (else_part (P.spot lowerer.now.parts) else_.now)) state.old result state.new }
+{
+    let then_branch = lowerer.collect_block_opt(state, then)?;
+    let else_branch = else_if_present(lowerer, state, else_)?;
+    let condition = lowerer.collect_expr_opt(state, condition)?;
+    let expr = Expr::If {
+        condition,
+        then_branch,
+        else_branch,
+    };
+    state.alloc_expr(expr, Some(at))
+}
+
+#[tactic(auto, unfolding(hir_lower_form::specs::Lower::loop_form))]
+pub(crate) fn loop_form<P: LowerParts>(
+    lowerer: &Lowerer<P>,
+    state: &mut BodyBuilder,
+    at: InFile<AstPtr>,
+    label: &Option<ast::Label>,
+    body: &Option<Boxed<ast::BlockExpr>>,
+) -> Result<ExprId, StoreFault>
+    requires { IfPresent (P.can lowerer.now.parts).block body.now }
+    ensures { LowersExpr (tree.loop_expr at
+        (label_part (P.spot lowerer.now.parts) label.now)
+        (block_part (P.spot lowerer.now.parts) body.now)) state.old result state.new }
+{
+    let source = LoopSource::Loop;
+    match label {
+        None => {
+            let body = lowerer.collect_block_opt(state, body)?;
+            let label = None;
+            state.alloc_expr(
+                Expr::Loop {
+                    body,
+                    label,
+                    source,
+                },
+                Some(at),
+            )
+        }
+        Some(label) => {
+            let label = lowerer.open_label(state, label)?;
+            let body = lowerer.collect_block_opt(state, body)?;
+            state.close();
+            let label = Some(label);
+            state.alloc_expr(
+                Expr::Loop {
+                    body,
+                    label,
+                    source,
+                },
+                Some(at),
+            )
+        }
+    }
+}

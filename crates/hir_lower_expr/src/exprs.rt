@@ -1,0 +1,77 @@
+//! An expression, by its kind.
+
+ghost use Rattle.hir_syntax.specs.declared.ast.ExprKind.{out-ExprKind};
+ghost use Rattle.hir_env.specs.Whole.{asked_expr, kept_expr};
+ghost use Rattle.hir_lower_form.specs.Nests.{KidsExpr};
+ghost use Rattle.hir_lower_form.specs.Outcomes.{LowersExpr, MaybeLowersExpr};
+
+use crate::families::{
+    control_kind, leaf_kind, leaving_kind, listing_kind, operator_kind, place_kind,
+};
+use hir_lower_form::builder::BodyBuilder;
+use hir_lower_form::parts::{LowerParts, Lowerer, site};
+use hir_store::diagnostics::ExpressionStoreDiagnostics;
+use hir_store::fault::StoreFault;
+use hir_store::ids::ExprId;
+use hir_syntax::ast;
+
+/// The form of an expression that no condition disables.
+fn expr_form<P: LowerParts>(
+    lowerer: &Lowerer<P>,
+    state: &mut BodyBuilder,
+    node: &ast::Expr,
+) -> Result<ExprId, StoreFault>
+    requires { KidsExpr (P.can lowerer.now.parts) (out-ExprKind node.now.kind) }
+    ensures { LowersExpr (kept_expr (P.spot lowerer.now.parts) node.now) state.old result state.new }
+{
+    let at = lowerer.pointer(node.id, node.range);
+    match &node.kind {
+        ast::ExprKind::IfExpr { .. }
+        | ast::ExprKind::BlockExpr(_)
+        | ast::ExprKind::LoopExpr { .. }
+        | ast::ExprKind::ContinueExpr { .. }
+        | ast::ExprKind::BreakExpr { .. } => control_kind(lowerer, state, at, &node.kind),
+        ast::ExprKind::CallExpr { .. }
+        | ast::ExprKind::MethodCallExpr { .. }
+        | ast::ExprKind::TupleExpr { .. }
+        | ast::ExprKind::ArrayExpr { .. } => listing_kind(lowerer, state, at, &node.kind),
+        ast::ExprKind::ParenExpr { .. }
+        | ast::ExprKind::FieldExpr { .. }
+        | ast::ExprKind::IndexExpr { .. }
+        | ast::ExprKind::RefExpr { .. } => place_kind(lowerer, state, at, &node.kind),
+        ast::ExprKind::PrefixExpr { .. }
+        | ast::ExprKind::BinExpr { .. }
+        | ast::ExprKind::AwaitExpr { .. } => operator_kind(lowerer, state, at, &node.kind),
+        ast::ExprKind::ReturnExpr { .. }
+        | ast::ExprKind::BecomeExpr { .. }
+        | ast::ExprKind::YieldExpr { .. }
+        | ast::ExprKind::YeetExpr { .. } => leaving_kind(lowerer, state, at, &node.kind),
+        ast::ExprKind::PathExpr { .. }
+        | ast::ExprKind::Literal(_)
+        | ast::ExprKind::CfgPredExpr { .. }
+        | ast::ExprKind::UnderscoreExpr
+        | ast::ExprKind::IncludeBytesExpr
+        | ast::ExprKind::AsmExpr
+        | ast::ExprKind::FormatArgsExpr => leaf_kind(lowerer, state, at, &node.kind),
+    }
+}
+
+/// The expression, none where a condition disables it.
+#[tactic(auto, using(hir_lower_form::proofs::Kept::kept_is_some))]
+pub fn expr_node<P: LowerParts>(
+    lowerer: &Lowerer<P>,
+    state: &mut BodyBuilder,
+    node: &ast::Expr,
+) -> Result<Option<ExprId>, StoreFault>
+    requires { KidsExpr (P.can lowerer.now.parts) (out-ExprKind node.now.kind) }
+    ensures { MaybeLowersExpr (asked_expr (P.spot lowerer.now.parts) node.now) state.old result state.new }
+{
+    let at = lowerer.pointer(node.id, node.range);
+    match lowerer.parts.cfg(site(at)) {
+        Err(cfg) => {
+            state.report(ExpressionStoreDiagnostics::InactiveCode { node: at, cfg })?;
+            Ok(None)
+        }
+        Ok(()) => Ok(Some(expr_form(lowerer, state, node)?)),
+    }
+}

@@ -1,0 +1,168 @@
+//! The kinds of expressions by family: a method that takes all kinds apart would be too much for one proof.
+
+ghost use Rattle.hir_syntax.specs.declared.ast.ExprKind.{out-ExprKind};
+ghost use Rattle.hir_lower_form.specs.Families.{IsControl, IsLeaf, IsLeaving, IsListing, IsOperator, IsPlace};
+ghost use Rattle.hir_lower_form.specs.Nests.{KidsExpr};
+ghost use Rattle.hir_lower_form.specs.Outcomes.{LowersExpr, kind_at};
+
+use crate::blocks::block_form;
+use crate::calls::{call_form, method_call_form, paren_form};
+use crate::control::{if_form, loop_form};
+use crate::jumps::{break_form, continue_form};
+use crate::leaves::{
+    include_bytes_form, left_out_form, literal_form, path_form, predicate_form, underscore_form,
+};
+use crate::leaving::{become_form, return_form, yeet_form, yield_form};
+use crate::lists::{array_form, tuple_form};
+use crate::operators::{
+    await_form, binary_form, field_form, index_form, prefix_form, reference_form,
+};
+use hir_lower_form::builder::BodyBuilder;
+use hir_lower_form::parts::{LowerParts, Lowerer};
+use hir_store::fault::StoreFault;
+use hir_store::ids::ExprId;
+use hir_syntax::ast;
+use hir_syntax::node::{AstPtr, InFile};
+
+/// Blocks, branches, loops and jumps.
+#[tactic(auto, using(crate::proofs::OfFamily::only_control))]
+pub(crate) fn control_kind<P: LowerParts>(
+    lowerer: &Lowerer<P>,
+    state: &mut BodyBuilder,
+    at: InFile<AstPtr>,
+    kind: &ast::ExprKind,
+) -> Result<ExprId, StoreFault>
+    requires family { IsControl (out-ExprKind kind.now) }
+    requires parts { KidsExpr (P.can lowerer.now.parts) (out-ExprKind kind.now) }
+    ensures { LowersExpr (kind_at (P.spot lowerer.now.parts) at kind.now) state.old result state.new }
+{
+    match kind {
+        ast::ExprKind::IfExpr {
+            condition,
+            then,
+            else_,
+        } => if_form(lowerer, state, at, condition, then, else_),
+        ast::ExprKind::BlockExpr(block) => block_form(lowerer, state, block.get()),
+        ast::ExprKind::LoopExpr { label, body } => loop_form(lowerer, state, at, label, body),
+        ast::ExprKind::ContinueExpr { lifetime } => continue_form(lowerer, state, at, lifetime),
+        ast::ExprKind::BreakExpr { lifetime, expr } => break_form(
+            lowerer, state, at, lifetime, expr,
+        ),
+        _ => unreachable!(),
+    }
+}
+
+/// What has a list of parts.
+#[tactic(auto, using(crate::proofs::OfFamily::only_listing))]
+pub(crate) fn listing_kind<P: LowerParts>(
+    lowerer: &Lowerer<P>,
+    state: &mut BodyBuilder,
+    at: InFile<AstPtr>,
+    kind: &ast::ExprKind,
+) -> Result<ExprId, StoreFault>
+    requires family { IsListing (out-ExprKind kind.now) }
+    requires parts { KidsExpr (P.can lowerer.now.parts) (out-ExprKind kind.now) }
+    ensures { LowersExpr (kind_at (P.spot lowerer.now.parts) at kind.now) state.old result state.new }
+{
+    match kind {
+        ast::ExprKind::CallExpr { expr, args } => call_form(lowerer, state, at, expr, args),
+        ast::ExprKind::MethodCallExpr {
+            receiver,
+            name,
+            args,
+        } => method_call_form(lowerer, state, at, receiver, name, args),
+        ast::ExprKind::TupleExpr {
+            leading_comma,
+            fields,
+        } => tuple_form(lowerer, state, at, *leading_comma, fields),
+        ast::ExprKind::ArrayExpr { elems } => array_form(lowerer, state, at, elems),
+        _ => unreachable!(),
+    }
+}
+
+/// What may stand for a place, or refers to one.
+#[tactic(auto, using(crate::proofs::OfFamily::only_place))]
+pub(crate) fn place_kind<P: LowerParts>(
+    lowerer: &Lowerer<P>,
+    state: &mut BodyBuilder,
+    at: InFile<AstPtr>,
+    kind: &ast::ExprKind,
+) -> Result<ExprId, StoreFault>
+    requires family { IsPlace (out-ExprKind kind.now) }
+    requires parts { KidsExpr (P.can lowerer.now.parts) (out-ExprKind kind.now) }
+    ensures { LowersExpr (kind_at (P.spot lowerer.now.parts) at kind.now) state.old result state.new }
+{
+    match kind {
+        ast::ExprKind::ParenExpr { expr } => paren_form(lowerer, state, at, expr),
+        ast::ExprKind::FieldExpr { expr, name } => field_form(lowerer, state, at, expr, name),
+        ast::ExprKind::IndexExpr { base, index } => index_form(lowerer, state, at, base, index),
+        ast::ExprKind::RefExpr { raw, mut_, expr } => reference_form(
+            lowerer, state, at, *raw, *mut_, expr,
+        ),
+        _ => unreachable!(),
+    }
+}
+
+/// What works on the values of operands.
+#[tactic(auto, using(crate::proofs::OfFamily::only_operator))]
+pub(crate) fn operator_kind<P: LowerParts>(
+    lowerer: &Lowerer<P>,
+    state: &mut BodyBuilder,
+    at: InFile<AstPtr>,
+    kind: &ast::ExprKind,
+) -> Result<ExprId, StoreFault>
+    requires family { IsOperator (out-ExprKind kind.now) }
+    requires parts { KidsExpr (P.can lowerer.now.parts) (out-ExprKind kind.now) }
+    ensures { LowersExpr (kind_at (P.spot lowerer.now.parts) at kind.now) state.old result state.new }
+{
+    match kind {
+        ast::ExprKind::PrefixExpr { op, expr } => prefix_form(lowerer, state, at, *op, expr),
+        ast::ExprKind::BinExpr { op, lhs, rhs } => binary_form(lowerer, state, at, *op, lhs, rhs),
+        ast::ExprKind::AwaitExpr { expr } => await_form(lowerer, state, at, expr),
+        _ => unreachable!(),
+    }
+}
+
+/// What leaves the body, for good or for a while.
+#[tactic(auto, using(crate::proofs::OfFamily::only_leaving))]
+pub(crate) fn leaving_kind<P: LowerParts>(
+    lowerer: &Lowerer<P>,
+    state: &mut BodyBuilder,
+    at: InFile<AstPtr>,
+    kind: &ast::ExprKind,
+) -> Result<ExprId, StoreFault>
+    requires family { IsLeaving (out-ExprKind kind.now) }
+    requires parts { KidsExpr (P.can lowerer.now.parts) (out-ExprKind kind.now) }
+    ensures { LowersExpr (kind_at (P.spot lowerer.now.parts) at kind.now) state.old result state.new }
+{
+    match kind {
+        ast::ExprKind::ReturnExpr { expr } => return_form(lowerer, state, at, expr),
+        ast::ExprKind::BecomeExpr { expr } => become_form(lowerer, state, at, expr),
+        ast::ExprKind::YieldExpr { expr } => yield_form(lowerer, state, at, expr),
+        ast::ExprKind::YeetExpr { expr } => yeet_form(lowerer, state, at, expr),
+        _ => unreachable!(),
+    }
+}
+
+/// What has no part.
+#[tactic(auto, using(crate::proofs::OfFamily::only_leaf))]
+pub(crate) fn leaf_kind<P: LowerParts>(
+    lowerer: &Lowerer<P>,
+    state: &mut BodyBuilder,
+    at: InFile<AstPtr>,
+    kind: &ast::ExprKind,
+) -> Result<ExprId, StoreFault>
+    requires family { IsLeaf (out-ExprKind kind.now) }
+    requires parts { KidsExpr (P.can lowerer.now.parts) (out-ExprKind kind.now) }
+    ensures { LowersExpr (kind_at (P.spot lowerer.now.parts) at kind.now) state.old result state.new }
+{
+    match kind {
+        ast::ExprKind::PathExpr { path } => path_form(lowerer, state, at, path),
+        ast::ExprKind::Literal(written) => literal_form(lowerer, state, at, written),
+        ast::ExprKind::CfgPredExpr { pred } => predicate_form(lowerer, state, at, *pred),
+        ast::ExprKind::UnderscoreExpr => underscore_form(lowerer, state, at),
+        ast::ExprKind::IncludeBytesExpr => include_bytes_form(lowerer, state, at),
+        ast::ExprKind::AsmExpr | ast::ExprKind::FormatArgsExpr => left_out_form(lowerer, state, at),
+        _ => unreachable!(),
+    }
+}

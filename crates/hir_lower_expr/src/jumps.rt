@@ -1,0 +1,45 @@
+//! Labels, and the jumps to them.
+
+ghost use Rattle.hir_env.specs.Answered as tree;
+ghost use Rattle.hir_env.specs.Whole.{expr_part, jump_part};
+ghost use Rattle.hir_lower_form.specs.Nests.{IfPresent};
+ghost use Rattle.hir_lower_form.specs.Outcomes.{LowersExpr};
+
+use hir_lower_form::builder::BodyBuilder;
+use hir_lower_form::parts::{LowerParts, Lowerer};
+use hir_store::fault::StoreFault;
+use hir_store::hir::Expr;
+use hir_store::ids::ExprId;
+use hir_syntax::node::{AstPtr, InFile};
+use hir_syntax::{Boxed, ast};
+
+#[tactic(auto, unfolding(hir_lower_form::specs::Lower::continue_form))]
+pub(crate) fn continue_form<P: LowerParts>(
+    lowerer: &Lowerer<P>,
+    state: &mut BodyBuilder,
+    at: InFile<AstPtr>,
+    lifetime: &Option<ast::Lifetime>,
+) -> Result<ExprId, StoreFault>
+    ensures { LowersExpr (tree.continue_expr at (jump_part (P.spot lowerer.now.parts) lifetime.now)) state.old result state.new }
+{
+    let label = lowerer.jump_target(state, lifetime)?;
+    state.alloc_expr(Expr::Continue { label }, Some(at))
+}
+
+#[tactic(auto, unfolding(hir_lower_form::specs::Lower::break_form))]
+pub(crate) fn break_form<P: LowerParts>(
+    lowerer: &Lowerer<P>,
+    state: &mut BodyBuilder,
+    at: InFile<AstPtr>,
+    lifetime: &Option<ast::Lifetime>,
+    value: &Option<Boxed<ast::Expr>>,
+) -> Result<ExprId, StoreFault>
+    requires { IfPresent (P.can lowerer.now.parts).expr value.now }
+    ensures { LowersExpr (tree.break_expr at
+        (jump_part (P.spot lowerer.now.parts) lifetime.now)
+        (expr_part (P.spot lowerer.now.parts) value.now)) state.old result state.new }
+{
+    let label = lowerer.jump_target(state, lifetime)?;
+    let expr = lowerer.collect_expr_if_present(state, value)?;
+    state.alloc_expr(Expr::Break { label, expr }, Some(at))
+}

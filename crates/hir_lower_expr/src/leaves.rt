@@ -1,0 +1,86 @@
+//! Expressions without parts.
+
+ghost use Rattle.std.specs.Prelude.{option_map};
+ghost use Rattle.hir_env.specs.Answered as tree;
+ghost use Rattle.hir_env.specs.Answering.{path_of, site_of, truth};
+ghost use Rattle.hir_lower_form.specs.Outcomes.{LowersExpr};
+
+use hir_lower_form::builder::BodyBuilder;
+use hir_lower_form::names::{literal, path_expr, truth_literal};
+use hir_lower_form::parts::{LowerParts, Lowerer, site};
+use hir_store::fault::StoreFault;
+use hir_store::hir::Expr;
+use hir_store::ids::ExprId;
+use hir_syntax::ast;
+use hir_syntax::node::{AstPtr, InFile, PredId};
+
+pub(crate) fn path_form<P: LowerParts>(
+    lowerer: &Lowerer<P>,
+    state: &mut BodyBuilder,
+    at: InFile<AstPtr>,
+    path: &Option<ast::Path>,
+) -> Result<ExprId, StoreFault>
+    ensures { let hygiene = (P.spot lowerer.now.parts).answers.hygiene (site_of at) in
+        LowersExpr (tree.path_expr at (option_map path_of path.now) hygiene) state.old result state.new }
+{
+    let hygiene = lowerer.parts.hygiene(site(at));
+    let expr = path_expr(lowerer.alloc, path, hygiene)?;
+    state.alloc_expr(expr, Some(at))
+}
+
+pub(crate) fn literal_form<P: LowerParts>(
+    lowerer: &Lowerer<P>,
+    state: &mut BodyBuilder,
+    at: InFile<AstPtr>,
+    written: &ast::Literal,
+) -> Result<ExprId, StoreFault>
+    ensures { LowersExpr (tree.literal_expr at written.now) state.old result state.new }
+{
+    let written = literal(written)?;
+    state.alloc_expr(Expr::Literal(written), Some(at))
+}
+
+/// A condition predicate is read to what it comes to.
+pub(crate) fn predicate_form<P: LowerParts>(
+    lowerer: &Lowerer<P>,
+    state: &mut BodyBuilder,
+    at: InFile<AstPtr>,
+    pred: Option<PredId>,
+) -> Result<ExprId, StoreFault>
+    ensures { let holds = (P.spot lowerer.now.parts).answers.cfg_pred pred in
+        LowersExpr (tree.literal_expr at (truth holds)) state.old result state.new }
+{
+    let read = truth_literal(lowerer.alloc, lowerer.parts.cfg_pred(pred))?;
+    state.alloc_expr(Expr::Literal(read), Some(at))
+}
+
+pub(crate) fn underscore_form<P: LowerParts>(
+    lowerer: &Lowerer<P>,
+    state: &mut BodyBuilder,
+    at: InFile<AstPtr>,
+) -> Result<ExprId, StoreFault>
+    ensures { LowersExpr (tree.leaf_expr at tree.underscore) state.old result state.new }
+{
+    state.alloc_expr(Expr::Underscore, Some(at))
+}
+
+pub(crate) fn include_bytes_form<P: LowerParts>(
+    lowerer: &Lowerer<P>,
+    state: &mut BodyBuilder,
+    at: InFile<AstPtr>,
+) -> Result<ExprId, StoreFault>
+    ensures { LowersExpr (tree.leaf_expr at tree.include_bytes) state.old result state.new }
+{
+    state.alloc_expr(Expr::IncludeBytes, Some(at))
+}
+
+/// Inline assembly and format strings are left out, and missing.
+pub(crate) fn left_out_form<P: LowerParts>(
+    lowerer: &Lowerer<P>,
+    state: &mut BodyBuilder,
+    at: InFile<AstPtr>,
+) -> Result<ExprId, StoreFault>
+    ensures { LowersExpr (tree.leaf_expr at tree.left_out) state.old result state.new }
+{
+    state.alloc_expr(Expr::Missing, Some(at))
+}

@@ -1,0 +1,75 @@
+//! What leaves the body, and what comes back to it.
+
+ghost use Rattle.hir_env.specs.Answered as tree;
+ghost use Rattle.hir_env.specs.Whole.{expr_part};
+ghost use Rattle.hir_lower_form.specs.Nests.{IfPresent};
+ghost use Rattle.hir_lower_form.specs.Outcomes.{LowersExpr};
+
+use hir_lower_form::builder::BodyBuilder;
+use hir_lower_form::parts::{LowerParts, Lowerer};
+use hir_store::fault::StoreFault;
+use hir_store::hir::Expr;
+use hir_store::ids::ExprId;
+use hir_syntax::node::{AstPtr, InFile};
+use hir_syntax::{Boxed, ast};
+
+#[tactic(auto, unfolding(hir_lower_form::specs::Lower::value_form))]
+pub(crate) fn return_form<P: LowerParts>(
+    lowerer: &Lowerer<P>,
+    state: &mut BodyBuilder,
+    at: InFile<AstPtr>,
+    value: &Option<Boxed<ast::Expr>>,
+) -> Result<ExprId, StoreFault>
+    requires { IfPresent (P.can lowerer.now.parts).expr value.now }
+    ensures { LowersExpr (tree.leaving_expr at
+        tree.returning
+        (expr_part (P.spot lowerer.now.parts) value.now)) state.old result state.new }
+{
+    let expr = lowerer.collect_expr_if_present(state, value)?;
+    state.alloc_expr(Expr::Return { expr }, Some(at))
+}
+
+#[tactic(auto, unfolding(hir_lower_form::specs::Lower::value_form))]
+pub(crate) fn yeet_form<P: LowerParts>(
+    lowerer: &Lowerer<P>,
+    state: &mut BodyBuilder,
+    at: InFile<AstPtr>,
+    value: &Option<Boxed<ast::Expr>>,
+) -> Result<ExprId, StoreFault>
+    requires { IfPresent (P.can lowerer.now.parts).expr value.now }
+    ensures { LowersExpr (tree.leaving_expr at
+        tree.yeeting
+        (expr_part (P.spot lowerer.now.parts) value.now)) state.old result state.new }
+{
+    let expr = lowerer.collect_expr_if_present(state, value)?;
+    state.alloc_expr(Expr::Yeet { expr }, Some(at))
+}
+
+#[tactic(auto, unfolding(hir_lower_form::specs::Lower::value_form))]
+pub(crate) fn yield_form<P: LowerParts>(
+    lowerer: &Lowerer<P>,
+    state: &mut BodyBuilder,
+    at: InFile<AstPtr>,
+    value: &Option<Boxed<ast::Expr>>,
+) -> Result<ExprId, StoreFault>
+    requires { IfPresent (P.can lowerer.now.parts).expr value.now }
+    ensures { LowersExpr (tree.yield_expr at (expr_part (P.spot lowerer.now.parts) value.now)) state.old result state.new }
+{
+    let expr = lowerer.collect_expr_if_present(state, value)?;
+    state.alloc_expr(Expr::Yield { expr }, Some(at))
+}
+
+/// The call that it becomes is missing where it is absent.
+#[tactic(auto, unfolding(hir_lower_form::specs::Lower::operand_form))]
+pub(crate) fn become_form<P: LowerParts>(
+    lowerer: &Lowerer<P>,
+    state: &mut BodyBuilder,
+    at: InFile<AstPtr>,
+    call: &Option<Boxed<ast::Expr>>,
+) -> Result<ExprId, StoreFault>
+    requires { IfPresent (P.can lowerer.now.parts).expr call.now }
+    ensures { LowersExpr (tree.become_expr at (expr_part (P.spot lowerer.now.parts) call.now)) state.old result state.new }
+{
+    let expr = lowerer.collect_expr_opt(state, call)?;
+    state.alloc_expr(Expr::Become { expr }, Some(at))
+}

@@ -1,0 +1,65 @@
+//! Tuples and arrays.
+
+ghost use Rattle.std.specs.Prelude.{◌≡◌, ◌∷◌, IfOk};
+ghost use Rattle.hir_env.specs.Answered as tree;
+ghost use Rattle.hir_env.specs.Whole.{exprs_part};
+ghost use Rattle.hir_lower_form.specs.Nests.{Each};
+ghost use Rattle.hir_lower_form.specs.Outcomes.{LowersExpr};
+
+use hir_lower_form::builder::BodyBuilder;
+use hir_lower_form::parts::{LowerParts, Lowerer};
+use hir_store::fault::StoreFault;
+use hir_store::hir::Expr;
+use hir_store::ids::ExprId;
+use hir_syntax::node::{AstPtr, InFile};
+use hir_syntax::{Seq, ast};
+use std::alloc::{AllocError, Global};
+
+/// The numbers with one more in front.
+fn with_first(alloc: Global, first: ExprId, rest: Seq<ExprId>) -> Result<Seq<ExprId>, AllocError>
+    ensures { IfOk result (λ all. all ≡ first ∷ rest) }
+{
+    let mut all = Seq::new(alloc);
+    all.push(first)?;
+    all.append(rest)?;
+    Ok(all)
+}
+
+/// A leading comma stands for a missing element in front, which is made last.
+#[tactic(auto, unfolding(hir_lower_form::specs::Lower::list_form))]
+pub(crate) fn tuple_form<P: LowerParts>(
+    lowerer: &Lowerer<P>,
+    state: &mut BodyBuilder,
+    at: InFile<AstPtr>,
+    leading_comma: bool,
+    fields: &Seq<ast::Expr>,
+) -> Result<ExprId, StoreFault>
+    requires { Each (P.can lowerer.now.parts).expr fields.now }
+    ensures { LowersExpr (tree.list_expr at
+        (tree.tuple_of leading_comma)
+        (exprs_part (P.spot lowerer.now.parts) fields.now)) state.old result state.new }
+{
+    let exprs = lowerer.collect_each(state, fields.as_slice())?;
+    if !leading_comma {
+        return state.alloc_expr(Expr::Tuple { exprs }, Some(at));
+    }
+    let first = state.missing_expr()?;
+    let exprs = with_first(lowerer.alloc, first, exprs)?;
+    state.alloc_expr(Expr::Tuple { exprs }, Some(at))
+}
+
+#[tactic(auto, unfolding(hir_lower_form::specs::Lower::list_form))]
+pub(crate) fn array_form<P: LowerParts>(
+    lowerer: &Lowerer<P>,
+    state: &mut BodyBuilder,
+    at: InFile<AstPtr>,
+    elems: &Seq<ast::Expr>,
+) -> Result<ExprId, StoreFault>
+    requires { Each (P.can lowerer.now.parts).expr elems.now }
+    ensures { LowersExpr (tree.list_expr at
+        tree.array_of
+        (exprs_part (P.spot lowerer.now.parts) elems.now)) state.old result state.new }
+{
+    let elements = lowerer.collect_each(state, elems.as_slice())?;
+    state.alloc_expr(Expr::Array { elements }, Some(at))
+}

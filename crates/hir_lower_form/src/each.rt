@@ -1,0 +1,48 @@
+//! Lists of parts.
+
+ghost use Rattle.hir_env.specs.Whole.{args_part, exprs_part};
+ghost use Rattle.hir_lower_form.specs.Nests.{Each, IfPresent};
+ghost use Rattle.hir_lower_form.specs.Outcomes.{LowersEach};
+
+use crate::builder::BodyBuilder;
+use crate::parts::{LowerParts, Lowerer};
+use hir_store::builder::push_id;
+use hir_store::fault::StoreFault;
+use hir_store::ids::ExprId;
+use hir_syntax::{Seq, ast};
+
+impl<P: LowerParts> Lowerer<P> {
+    /// The expressions that no condition disables.
+    pub fn collect_each(
+        &self,
+        state: &mut BodyBuilder,
+        mut all: &[ast::Expr],
+    ) -> Result<Seq<ExprId>, StoreFault>
+        requires { Each (P.can self.now.parts).expr all.now }
+        ensures { LowersEach (exprs_part (P.spot self.now.parts) all.entry.now) state.old result state.new }
+    {
+        let mut done = Seq::new(self.alloc);
+        while let [one, rest @ ..] = all {
+            if let Some(id) = self.parts.maybe_collect_expr(state, one)? {
+                push_id(&mut done, id)?;
+            }
+            all = rest;
+        }
+        Ok(done)
+    }
+
+    /// The arguments that no condition disables.
+    pub fn arguments(
+        &self,
+        state: &mut BodyBuilder,
+        all: &Option<Seq<ast::Expr>>,
+    ) -> Result<Seq<ExprId>, StoreFault>
+        requires { IfPresent (Each (P.can self.now.parts).expr) all.now }
+        ensures { LowersEach (args_part (P.spot self.now.parts) all.now) state.old result state.new }
+    {
+        match all {
+            None => Ok(Seq::new(self.alloc)),
+            Some(all) => self.collect_each(state, all.as_slice()),
+        }
+    }
+}

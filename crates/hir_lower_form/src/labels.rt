@@ -1,0 +1,52 @@
+//! Labels, and what jumps are for.
+
+ghost use Rattle.hir_store.specs.Range.{HasLabel, HasLabelOption};
+ghost use Rattle.hir_env.specs.Answering.{label_of};
+ghost use Rattle.hir_env.specs.Whole.{jump_part};
+ghost use Rattle.hir_lower_form.specs.Lowering.{Lowers};
+ghost use Rattle.hir_lower_form.specs.Lowering as step;
+
+use crate::builder::BodyBuilder;
+use crate::names::name_of_label;
+use crate::parts::{LowerParts, Lowerer, site};
+use hir_store::fault::StoreFault;
+use hir_store::ids::LabelId;
+use hir_store::name::Name;
+use hir_syntax::ast;
+
+impl<P: LowerParts> Lowerer<P> {
+    /// Stores and opens a label, at whose node its hygiene is asked for.
+    pub fn open_label(
+        &self,
+        state: &mut BodyBuilder,
+        label: &ast::Label,
+    ) -> Result<LabelId, StoreFault>
+        ensures { let spot = P.spot self.now.parts in
+            Lowers HasLabel (step.open_label (label_of spot.answers spot.place label.now)) state.old result state.new }
+    {
+        let source = self.pointer(label.id, label.range);
+        let hygiene = self.parts.hygiene(site(source));
+        let name = name_of_label(&label.lifetime)?;
+        state.open_label(name, hygiene, source)
+    }
+
+    /// The label that a jump is for, or none; a lifetime that names none is a fault.
+    #[tactic(auto, unfolding(crate::specs::Lowering::jump_target))]
+    pub fn jump_target(
+        &self,
+        state: &mut BodyBuilder,
+        lifetime: &Option<ast::Lifetime>,
+    ) -> Result<Option<LabelId>, StoreFault>
+        ensures { Lowers HasLabelOption (step.jump_target (jump_part (P.spot self.now.parts) lifetime.now)) state.old result state.new }
+    {
+        match lifetime {
+            None => Ok(None),
+            Some(lifetime) => {
+                let source = self.pointer(lifetime.id, lifetime.range);
+                let hygiene = self.parts.hygiene(site(source));
+                let name = Name::Text(lifetime.t.clone()?);
+                state.jump_target(&self.parts, name, hygiene, source)
+            }
+        }
+    }
+}
