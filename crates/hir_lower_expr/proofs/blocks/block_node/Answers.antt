@@ -1,5 +1,6 @@
-use Rattle.std.proofs.Common.{arith}
+use Rattle.std.proofs.Common.{arith, rules}
 use Rattle.hir_lower_form.proofs.BlockLemmas.{settled_in_range}
+use Rattle.hir_lower_form.specs.Lower.{block_form}
 use Rattle.hir_lower_expr.proofs.blocks.block_node.Goals as goal
 
 pub alloc_expr-requires : goal.alloc_expr-requires
@@ -9,3 +10,7 @@ alloc_expr-requires g c =
     let settled = settled_in_range c.contents.new.state.stored _ _ _ _ c.settle-tail.ensures inner.2.0 inner.2.1 in
     let label = c.requires.label in
     (omega (arith, settled.0, settled.1), omega (arith, entered, inner, label))
+
+pub returns : goal.returns
+unfolding block_form
+returns g c = search rules

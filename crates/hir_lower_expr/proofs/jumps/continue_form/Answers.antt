@@ -1,0 +1,7 @@
+use Rattle.std.proofs.Common.{rules}
+use Rattle.hir_lower_form.specs.Lower.{continue_form}
+use Rattle.hir_lower_expr.proofs.jumps.continue_form.Goals as goal
+
+pub returns : goal.returns
+unfolding continue_form
+returns g c = search rules

@@ -1,0 +1,7 @@
+use Rattle.std.proofs.Common.{rules}
+use Rattle.hir_lower_form.specs.Lower.{operands_form}
+use Rattle.hir_lower_expr.proofs.operators.binary_form.Goals as goal
+
+pub returns : goal.returns
+unfolding operands_form
+returns g c = search rules

@@ -1,0 +1,7 @@
+use Rattle.std.proofs.Common.{rules}
+use Rattle.hir_lower_form.specs.Lowering.{report}
+use Rattle.hir_lower_form.proofs.builder.BodyBuilder.report.Goals as goal
+
+pub returns : goal.returns
+unfolding report
+returns c = search rules
