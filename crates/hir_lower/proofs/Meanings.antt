@@ -124,6 +124,7 @@ root_rooted e b b' i d h =
             same = headline e (closed b) p.inner i lowered later ext;
             ways = standing.ways;
             stands = standing.stands;
+            covers = standing.covers;
             led = standing.led;
             labels = standing.labels;
             reached_once = λ depth le. reached_once e (closed b) p.inner i lowered later ext depth le;

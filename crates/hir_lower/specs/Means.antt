@@ -25,16 +25,18 @@ use Rattle.hir_steps.specs.Keeps.{Paired}
 use Rattle.hir_one_result.specs.Blocks.{blocks_of_part}
 use Rattle.hir_one_result.specs.Diagnostics.{Faults, part_diagnostics}
 use Rattle.hir_one_result.specs.Room.{exprs_of}
-use Rattle.hir_one_result.specs.Leads.{Way, label_ways, Led}
+use Rattle.hir_one_result.specs.Leads.{Way, label_ways, Covers, Led}
 use Rattle.hir_one_result.specs.Stands.{StandsPart}
 
--- What is so of a root in a later store. Its expression does what the tree does; what is stored stands for the tree, and where the source
--- map led by then it leads still, or by the ways of the tree; each label more has its way; each number that it reaches is reached in one
+-- What is so of a root in a later store. Its expression does what the tree does; it stands for the tree, and each expression
+-- that came with it is what a written one became, or a missing one for an absent or disabled part; where the source map led by
+-- then it leads still, or by the ways of the tree; each label more has its way; each number that it reaches is reached in one
 -- way, and is one that lowering it gave out.
 pub record Lives (old new later : Stored) (i : ExprId) (e : OptionExpr) : Type 0 where
   pub same : SameMeaning (store_of later) (map_of later) i e
   pub ways : List Way
   pub stands : StandsPart (store_of later) (map_of later) [] e i ways
+  pub covers : Covers ways (length old.exprs.entries) (length new.exprs.entries)
   pub led : Led (map_of old) (map_of new) ways
   pub labels : length new.labels.entries ≡ length old.labels.entries + label_ways ways
   pub reached_once : (depth : ℕ) → length later.exprs.entries ≤ depth

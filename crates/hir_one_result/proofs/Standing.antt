@@ -1,6 +1,6 @@
 -- Steps whose answers stand for what is written, and the forms that are made of them.
 use Rattle.std.proofs.Common.{◌≡◌, ◌∙◌, refl, sym, ap, subst, List, [], ◌∷◌, length, length-append, slice_get, Option, Some, None}
-use Rattle.std.proofs.Common.{Bool, true, false}
+use Rattle.std.proofs.Common.{arith, Bool, true, false}
 use Rattle.indexmap.specs.IndexMap.{insert_entry}
 use Rattle.hir_syntax.specs.declared.ast.Literal.{Literal as AstLiteral}
 use Rattle.hir_store.specs.Pointers.{Pointer, same_pointer}
@@ -30,11 +30,11 @@ use Rattle.hir_steps.proofs.Steps.{Mark, Rel, Correct, Allocated, Opened, correc
 use Rattle.hir_steps.proofs.Steps.{correct_enter_block, correct_alloc, correct_opened, correct_target, with_fault, with_target, with_jump}
 use Rattle.hir_steps.proofs.Steps.{with_block, with_await, correct_report_await}
 use Rattle.hir_one_result.specs.Forms.{leaf_form, unary_form, binary_form, leaving_form}
-use Rattle.hir_one_result.specs.Leads.{Ways, From, FromLabel, ◌&◌}
+use Rattle.hir_one_result.specs.Leads.{Ways, From, FromNone, FromLabel, ◌&◌}
 use Rattle.hir_one_result.specs.Stands.{Open, Absent, There, ExprAt, LabelAt, StandsMissing, StandsAlone, StandsPath, StandsLiteral}
 use Rattle.hir_one_result.specs.Stands.{StandsOver, StandsOverTwo, StandsList, InLabel}
 use Rattle.hir_one_result.proofs.Leading.{Shown, shown_as, shown_none, shown_own, shown_label, shown_both, shown_swap, shown_after}
-use Rattle.hir_one_result.proofs.Leading.{shown_before, Moved, moved_same, moved_none}
+use Rattle.hir_one_result.proofs.Leading.{shown_before, shown_unled, Moved, moved_same, OnlyNew, none_new}
 use Rattle.hir_one_result.proofs.Data.{PathIs, path_is}
 
 abbrev pub Of : Type 0 → Type 1
@@ -86,11 +86,24 @@ module _ {e : HirExpr} {final : Stored} {ps : List Frame} {m m' : Mark} {i : Exp
         source = ap (λ n. slice_get final.exprs.sources n) row.number ∙ row.from;
       }
 
+  -- it is the only one that is new
+  one_more : {at : Option Pointer} → Allocated e at final ps m m' i → OnlyNew m.stored m'.stored i
+  one_more row = λ j le lt.
+      let many = ap (λ s. length s.exprs.entries) row.stored in
+      let grown = length-append m.stored.exprs.entries (e ∷ []) in
+      let last = row.last in
+      let number = row.number in
+      omega arith
+
   own : {at : Pointer} → Allocated e (Some at) final ps m m' i → Shown (From at i) m.stored m'.stored
   own {at = at} row = shown_own at i
       (ap (λ s. s.exprs.map) row.stored
       ∙ ap (λ n. insert_entry same_pointer m.stored.exprs.map at (expr_id n)) (sym (row.number ∙ row.last)))
       (ap (λ s. s.labels) row.stored)
+      (one_more row)
+
+  unled : Allocated e None final ps m m' i → Shown (FromNone i) m.stored m'.stored
+  unled row = shown_unled i (ap (λ s. s.exprs.map) row.stored) (ap (λ s. s.labels) row.stored) (one_more row)
 
 module _ {A B : Type 0} {at : Label → LabelId → Frame} {l : Label} {R : LabelId → Rel A} {Q : LabelId → A → Rel B}
     {final : Stored} {ps : List Frame} {m m' : Mark} {b : B} where
@@ -113,7 +126,7 @@ module _ {A B : Type 0} {at : Label → LabelId → Frame} {l : Label} {R : Labe
 pub missing_stands : Correct missing (Shows (λ final rs i. StandsMissing (store_of final) (map_of final) i))
 unfolding missing
 missing_stands = correct_as (correct_alloc hir.Missing None) (λ final ps m m' i g row.
-    record { shown = shown_none (moved_none (ap (λ s. s.exprs.map) row.stored) (ap (λ s. s.labels) row.stored)) (expr_at row, refl) })
+    record { shown = shown_as (unled row) (λ ws x. (expr_at row, x)) })
 
 pub alone_stands : (e : HirExpr) (at : Pointer)
     → Correct (alloc_expr e (Some at)) (Shows (λ final rs i. StandsAlone (store_of final) (map_of final) e at i))
@@ -305,7 +318,8 @@ module _ (at : Pointer) where
       correct_as (correct_bind h (λ i. correct_bind (correct_point at i) (λ u. correct_pure i))) (λ final ps m m' i g row.
       let r = row.second in
       let own : Shown (From at row.one) row.middle.stored r.middle.stored =
-      shown_own at row.one (ap (λ s. s.exprs.map) r.first.stored) (ap (λ s. s.labels) r.first.stored) in
+      shown_own at row.one (ap (λ s. s.exprs.map) r.first.stored) (ap (λ s. s.labels) r.first.stored)
+      (none_new row.middle.stored r.middle.stored (ap (λ s. s.exprs.entries) r.first.stored)) in
       let x = shown_before (shown_both row.first.shown own) (moved_pure r.second.still) in
       record { shown = subst (λ k. Shown (S final (ribs ps) k & From at k) m.stored m'.stored) (sym r.second.is) x })
 

@@ -1,5 +1,5 @@
 -- Lowering a tree stores so many expressions and labels as it becomes, or there is no room for them.
-use Rattle.std.proofs.Common.{arith, ◌≡◌, ℕ, ◌+◌, Bool, true, false, if◌then◌else◌, List, [], Option, Some, None, Ok, Err}
+use Rattle.std.proofs.Common.{arith, ℕ, ◌+◌, Bool, true, false, if◌then◌else◌, List, [], Option, Some, None, Ok, Err}
 use Rattle.hir_store.specs.Pointers.{Pointer}
 use Rattle.hir_store.specs.declared.hir.Expr.{Expr as HirExpr}
 use Rattle.hir_store.specs.declared.hir.Statement.{Statement}
@@ -17,7 +17,7 @@ use Rattle.hir_lower_form.specs.Lower.{Node, Contents, missing, some, if_form, l
 use Rattle.hir_lower_form.specs.Lower.{break_form, paren_form, operand_form, operands_form, value_form, list_form}
 use Rattle.hir_lower_form.specs.Lower.{method_call_form, await_form, block_form, labelled, kept, lower, lower_part}
 use Rattle.hir_lower_form.specs.Lower.{present, kept_part, lower_each, lower_block, lower_block_part, lower_stmts, lower_stmt}
-use Rattle.hir_one_result.specs.Room.{label_room, front_room, room, room_part, room_present, room_kept, room_each, block_room}
+use Rattle.hir_one_result.specs.Room.{label_room, front_room, room, room_present, room_kept, room_each, block_room}
 use Rattle.hir_one_result.specs.Room.{block_part_room, stmts_room, stmt_room, exprs_of, labels_of}
 use Rattle.hir_one_result.specs.Laws.{FitsUnless, AllFit}
 use Rattle.hir_one_result.proofs.Rooms.{Room, Takes, takes_then, takes_as, takes_end, takes_begin, takes_pure, takes_report, takes_block}

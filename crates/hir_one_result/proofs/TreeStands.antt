@@ -191,4 +191,4 @@ pub all_stand : AllStand
 all_stand e old id new paired is final ext =
     let x = (lowered (part_stands e) old id new paired is final ext).shown in
     let y = subst (λ rs. Shown (part final rs e id) old.stored new.stored) (sym (ribs_frames old.scopes)) x in
-    record { ways = y.ways; stands = y.shown; led = y.moved.led; labels = y.moved.labels }
+    record { ways = y.ways; stands = y.shown; covers = y.moved.covers; led = y.moved.led; labels = y.moved.labels }

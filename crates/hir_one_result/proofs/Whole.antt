@@ -29,6 +29,7 @@ one_results limit owed e id new is =
       exprs = let n = fits.exprs in omega arith;
       ways = standing.ways;
       stands = standing.stands;
+      covers = standing.covers;
       leads = standing.led [] (leads_nowhere refl refl);
       labels = let l = standing.labels in omega arith;
       found = faults.more;

@@ -10,7 +10,7 @@ use Rattle.hir_scope.specs.Scopes.{Scope}
 use Rattle.hir_lower_form.specs.Builder.{Builder}
 use Rattle.hir_lower_form.specs.Lower.{lower_part}
 use Rattle.hir_steps.specs.Keeps.{Paired}
-use Rattle.hir_one_result.specs.Leads.{Way, label_ways, Led}
+use Rattle.hir_one_result.specs.Leads.{Way, label_ways, Covers, Led}
 use Rattle.hir_one_result.specs.Stands.{StandsPart}
 use Rattle.hir_one_result.specs.Diagnostics.{Faults, part_diagnostics, Around}
 use Rattle.hir_one_result.specs.Blocks.{blocks_of_part}
@@ -23,10 +23,12 @@ Lowered R =
 
 -- forms, parts and sources, and ways back
 
--- The expression stands for the tree, what led somewhere before leads there or by the ways of the tree, and each label more has its way.
+-- The expression stands for the tree, and so does each one that is stored with it; what led somewhere before leads there or by
+-- the ways of the tree, and each label more has its way.
 pub record Standing (final : Stored) (e : OptionExpr) (old new : Builder) (id : ExprId) : Type 0 where
   pub ways : List Way
   pub stands : StandsPart (store_of final) (map_of final) old.scopes e id ways
+  pub covers : Covers ways (length old.stored.exprs.entries) (length new.stored.exprs.entries)
   pub led : Led (map_of old.stored) (map_of new.stored) ways
   pub labels : length new.stored.labels.entries ≡ length old.stored.labels.entries + label_ways ways
 

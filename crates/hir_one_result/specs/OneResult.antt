@@ -6,15 +6,16 @@ use Rattle.hir_store.specs.declared.ids.ExprId.{ExprId}
 use Rattle.hir_env.specs.Answered.{OptionExpr}
 use Rattle.hir_lower_form.specs.Builder.{Builder}
 use Rattle.hir_lower_form.specs.Lower.{lower_part}
-use Rattle.hir_one_result.specs.Leads.{Way, label_ways, MapLeads}
+use Rattle.hir_one_result.specs.Leads.{Way, label_ways, Covers, MapLeads}
 use Rattle.hir_one_result.specs.Stands.{StandsPart}
 use Rattle.hir_one_result.specs.Diagnostics.{Faults, part_diagnostics}
 use Rattle.hir_one_result.specs.Blocks.{blocks_of_part}
 use Rattle.hir_one_result.specs.Room.{exprs_of}
 
--- What is stored where one body was lowered. To the one root belongs all that is stored, each with its source, and it
--- stands for the tree, which becomes so many expressions and no more. The source map leads from each written expression and label to what it became, and from nowhere
--- else, and each label has its way. Behind the faults that the body owes as a whole come those of what is read of the
+-- What is stored where one body was lowered. To the one root belongs all that is stored, each with its source, and as many
+-- expressions as the tree becomes. The root stands for the tree, and each expression is what a written one became, or a missing
+-- one for an absent or disabled part. The source map leads from each written expression and label to what it became, and from
+-- nowhere else, and each label has its way. Behind the faults that the body owes as a whole come those of what is read of the
 -- tree, in some order. The blocks with numbers are those of the tree, in the order of entering.
 pub record OneResult (store : Store) (source_map : SourceMap) (owed : Faults) (e : OptionExpr) : Type 0 where
   pub root : ExprId
@@ -24,6 +25,7 @@ pub record OneResult (store : Store) (source_map : SourceMap) (owed : Faults) (e
   pub exprs : length store.exprs ≡ exprs_of e
   pub ways : List Way
   pub stands : StandsPart store source_map [] e root ways
+  pub covers : Covers ways 0 (length store.exprs)
   pub leads : MapLeads source_map ways
   pub labels : length store.labels ≡ label_ways ways
   pub found : Faults

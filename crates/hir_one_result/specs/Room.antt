@@ -1,7 +1,7 @@
 -- How many expressions and labels a tree becomes. Each written expression becomes one, but parentheses become none besides
 -- what is in them. An absent or disabled part is one missing expression, or none where the form knows none. Nothing in a
 -- disabled node becomes anything.
-use Rattle.std.specs.Prelude.{ℕ, ◌+◌, ◌<◌, ◌⊎◌, Option, Some, None, Bool, true, false, if◌then◌else◌, length}
+use Rattle.std.specs.Prelude.{ℕ, ◌+◌, ◌<◌, ◌⊎◌, Option, Some, None, true, false, if◌then◌else◌, length}
 use Rattle.hir_store.specs.Stored.{Stored}
 use Rattle.hir_env.specs.Answered as tree
 use Rattle.hir_env.specs.Answered.{Listing, Label, Expr, OptionExpr, Exprs, Block, OptionBlock, Stmts, Stmt}

@@ -23,7 +23,7 @@ use Rattle.hir_meaning.specs.Data.{PathData, literal_data, literal_read, data_if
 use Rattle.hir_meaning.specs.Left.{is_kept, is_left, gives_value}
 use Rattle.hir_meaning.specs.Contents.{HasContents}
 use Rattle.hir_one_result.specs.Forms.{leaf_form, unary_form, binary_form, lazy_form, leaving_form}
-use Rattle.hir_one_result.specs.Leads.{Ways, No, From, FromLabel, ◌&◌}
+use Rattle.hir_one_result.specs.Leads.{Ways, No, From, FromNone, FromLabel, ◌&◌}
 
 -- the numbers of the labels that are open, innermost first
 abbrev pub Open : Type 0
@@ -61,7 +61,7 @@ module _ (store : Store) (source_map : SourceMap) where
     pub source : slice_get source_map.label_sources n.0 ≡ Some (Some l.pointer)
 
   abbrev pub StandsMissing : ExprId → Ways
-  StandsMissing i = λ ws. ExprAt i hir.Missing None × No ws
+  StandsMissing i = λ ws. ExprAt i hir.Missing None × FromNone i ws
 
   -- a form that names no part
   abbrev pub StandsAlone : HirExpr → Pointer → ExprId → Ways
