@@ -16,20 +16,20 @@ use Rattle.hir_env.specs.Answered.{OptionExpr}
 use Rattle.hir_lower_form.specs.Builder.{Builder}
 use Rattle.hir_lower_form.specs.Lowering.{Checked, Lowering, Lowers, go_on, close_labels, record_root, report}
 use Rattle.hir_lower_form.specs.Lower.{lower_part}
-use Rattle.hir_steps.specs.Keeps.{Kept, Keeps, Paired}
-use Rattle.hir_steps.proofs.Kept.{keeping}
+use Rattle.hir_steps.specs.Keeps.{KeepsAll, Keeps, Paired}
+use Rattle.hir_steps.proofs.Keeping.{keeping}
 use Rattle.hir_same_meaning.specs.Headline.{Lowered}
 use Rattle.hir_same_meaning.proofs.Tree.{headline, reached_once}
 use Rattle.hir_one_result.specs.Diagnostics.{Faults}
 use Rattle.hir_one_result.specs.Laws.{Fits, FitsUnless}
 use Rattle.hir_one_result.specs.Room.{TooLarge}
-use Rattle.hir_one_result.specs.OneResult.{OneResult, begun}
+use Rattle.hir_one_result.specs.OneResult.{OneResult, fresh_owing}
 use Rattle.hir_one_result.proofs.TreeStands.{all_stand}
 use Rattle.hir_one_result.proofs.TreeFaults.{diagnostics_are}
 use Rattle.hir_one_result.proofs.TreeBlocks.{blocks_are}
 use Rattle.hir_one_result.proofs.TreeRooms.{all_fit}
 use Rattle.hir_one_result.proofs.Whole.{one_results}
-use Rattle.hir_lower.specs.Roots.{RefusedAtLimit, Stores, fresh, root_of, body_of, report_missing}
+use Rattle.hir_lower.specs.Roots.{RefusedAtLimit, StoresFromNothing, fresh, root_of, body_of, report_missing}
 use Rattle.hir_lower.specs.Stays.{Stays}
 use Rattle.hir_lower.proofs.Ways.{Went, went}
 use Rattle.hir_lower.proofs.TreeWays.{part_leads}
@@ -112,8 +112,8 @@ root_rooted e b b' i d h =
     let P : Builder → Type 0 = λ x. Rooted b.stored x.stored i e in
     let p : Parts e b i b' = parts e b b' i h in
     let paired : Paired (closed b).stored = d in
-    let lowered : Lowered e (closed b) i p.inner = record { fresh = refl; paired = paired; is = p.is } in
-    let kept : Kept (closed b) p.inner = subst (λ r. Keeps (closed b) r.0 r.1) p.is (keeping e (closed b)) in
+    let lowered : Lowered e (closed b) i p.inner = record { none_open = refl; paired = paired; is = p.is } in
+    let kept : KeepsAll (closed b) p.inner = subst (λ r. Keeps (closed b) r.0 r.1) p.is (keeping e (closed b)) in
     let fits : Fits e b.stored p.inner.stored = subst (λ r. FitsUnless e b.stored r.0 r.1.stored) p.is (all_fit e (closed b)) in
     let faults = diagnostics_are e (closed b) i p.inner paired p.is [] refl in
     let after = kept.paired paired in
@@ -131,14 +131,15 @@ root_rooted e b b' i d h =
           };
       exprs = fits.exprs;
       roots = ap (λ rs. rs ++ root_at p.inner.stored.exprs.entries i ∷ []) kept.roots;
-      found = faults.more;
+      more = faults.more;
       faults = faults.is;
       permuted = faults.permuted;
       blocks = blocks_are e (closed b) i p.inner paired p.is;
       paired = record { exprs = after.exprs; labels = after.labels };
     })
 
-pub rooted_if : (e : OptionExpr) (b b' : Builder) (r : Checked ExprId) → Lowers HasExpr (root_of e) b r b' → Paired b.stored → IfOk r (λ i. Rooted b.stored b'.stored i e)
+pub rooted_if : (e : OptionExpr) (b b' : Builder) (r : Checked ExprId) → Lowers HasExpr (root_of e) b r b' → Paired b.stored
+    → IfOk r (λ i. Rooted b.stored b'.stored i e)
 rooted_if e b b' (Ok i) l d = root_rooted e b b' i d l.0
 rooted_if e b b' (Err f) l d = tt
 
@@ -148,9 +149,11 @@ record Whole (owed : Faults) (e : OptionExpr) (b' : Builder) : Type 0 where
   result : OneResult (store_of b'.stored) (map_of b'.stored) owed e
   body : HasBody (store_of b'.stored) (map_of b'.stored) e
 
-root_whole : (e : OptionExpr) (limit : ℕ) (owed : Faults) (b' : Builder) (i : ExprId) → root_of e (begun limit owed) ≡ (Ok i, b') → Whole owed e b'
+root_whole : (e : OptionExpr) (limit : ℕ) (owed : Faults) (b' : Builder) (i : ExprId) → root_of e (fresh_owing limit owed) ≡ (Ok i, b')
+    → Whole owed e b'
+unfolding storing.record_root
 root_whole e limit owed b' i h =
-    let b = begun limit owed in
+    let b = fresh_owing limit owed in
     let p = parts e b b' i h in
     let done = root_rooted e b b' i (record { exprs = refl; labels = refl }) h in
     let live = done.lives b'.stored (extends_refl b'.stored) in
@@ -159,13 +162,15 @@ root_whole e limit owed b' i h =
       body = record { root = root_at b'.stored.exprs.entries i; only = done.roots; same = live.same; reached_once = live.reached_once };
     }
 
-body_whole : (skip : Bool) (node : Pointer) (k : Option MissingBodyItemKind) (e : OptionExpr) (limit : ℕ) (b' : Builder) (i : ExprId) → body_of skip node k e (fresh limit) ≡ (Ok i, b')
-    → Whole (owed_faults skip node k e) (unless_skipped skip e) b'
+body_whole : (skip : Bool) (node : Pointer) (k : Option MissingBodyItemKind) (e : OptionExpr) (limit : ℕ) (b' : Builder) (i : ExprId)
+    → body_of skip node k e (fresh limit) ≡ (Ok i, b') → Whole (owed_faults skip node k e) (unless_skipped skip e) b'
 unfolding body_of report_missing report storing.report
 body_whole true node k e limit b' i h = root_whole tree.no_expr limit [] b' i h
 body_whole false node k e limit b' i h = by (body_fault k e) h
   where
-    by : (f : Option MissingBodyItemKind) → go_on (report_missing node f (fresh limit)).0 (report_missing node f (fresh limit)).1 (λ u. root_of e) ≡ (Ok i, b') → Whole (missing_fault node f) e b'
+    by : (f : Option MissingBodyItemKind)
+        → go_on (report_missing node f (fresh limit)).0 (report_missing node f (fresh limit)).1 (λ u. root_of e) ≡ (Ok i, b')
+        → Whole (missing_fault node f) e b'
     by None g = root_whole e limit [] b' i g
     by (Some f) g = root_whole e limit (missing_fault node (Some f)) b' i g
 
@@ -179,21 +184,22 @@ body_too_large false node k e limit r = by (body_fault k e) r.refused
         → go_on (report_missing node f (fresh limit)).0 (report_missing node f (fresh limit)).1 (λ u. root_of e) ≡ (Err Full, r.builder)
         → TooLarge (empty limit) e
     by None g = root_too_large e (fresh limit) r.builder Full g
-    by (Some f) g = root_too_large e (begun limit (missing_fault node (Some f))) r.builder Full g
+    by (Some f) g = root_too_large e (fresh_owing limit (missing_fault node (Some f))) r.builder Full g
 
 if_ok : {A E : Type 0} (P Q : A → Type 0) → ((a : A) → P a → Q a) → (r : Result A E) → IfOk r P → IfOk r Q
 if_ok P Q f (Ok a) p = f a p
 if_ok P Q f (Err e) p = tt
 
 module _ (skip : Bool) (node : Pointer) (k : Option MissingBodyItemKind) (e : OptionExpr) (limit : ℕ) where
-  has_body : (store : Store) (source_map : SourceMap) → Stores (body_of skip node k e) limit store source_map → HasBody store source_map (unless_skipped skip e)
+  has_body : (store : Store) (source_map : SourceMap) → StoresFromNothing (body_of skip node k e) limit store source_map
+      → HasBody store source_map (unless_skipped skip e)
   has_body store source_map s =
       let w = body_whole skip node k e limit s.builder s.answer s.done in
       let P : Store → Type 0 = λ x. HasBody x source_map (unless_skipped skip e) in
       let Q : SourceMap → Type 0 = λ m. HasBody (store_of s.builder.stored) m (unless_skipped skip e) in
       subst P (sym s.store_is) (subst Q (sym s.source_map_is) w.body)
 
-  one_result : (store : Store) (source_map : SourceMap) → Stores (body_of skip node k e) limit store source_map
+  one_result : (store : Store) (source_map : SourceMap) → StoresFromNothing (body_of skip node k e) limit store source_map
       → OneResult store source_map (owed_faults skip node k e) (unless_skipped skip e)
   one_result store source_map s =
       let w = body_whole skip node k e limit s.builder s.answer s.done in
@@ -202,9 +208,10 @@ module _ (skip : Bool) (node : Pointer) (k : Option MissingBodyItemKind) (e : Op
       subst P (sym s.store_is) (subst Q (sym s.source_map_is) w.result)
 
   module _ {A E : Type 0} (store : A → Store) (source_map : A → SourceMap) where
-    pub has_body_if : (r : Result A E) → IfOk r (λ a. Stores (body_of skip node k e) limit (store a) (source_map a)) → IfOk r (λ a. HasBody (store a) (source_map a) (unless_skipped skip e))
+    pub has_body_if : (r : Result A E) → IfOk r (λ a. StoresFromNothing (body_of skip node k e) limit (store a) (source_map a))
+        → IfOk r (λ a. HasBody (store a) (source_map a) (unless_skipped skip e))
     has_body_if r h = if_ok _ _ (λ a s. has_body (store a) (source_map a) s) r h
 
-    pub one_result_if : (r : Result A E) → IfOk r (λ a. Stores (body_of skip node k e) limit (store a) (source_map a))
+    pub one_result_if : (r : Result A E) → IfOk r (λ a. StoresFromNothing (body_of skip node k e) limit (store a) (source_map a))
         → IfOk r (λ a. OneResult (store a) (source_map a) (owed_faults skip node k e) (unless_skipped skip e))
     one_result_if r h = if_ok _ _ (λ a s. one_result (store a) (source_map a) s) r h

@@ -11,7 +11,7 @@ use Rattle.hir_store.specs.declared.ids.BlockId.{BlockId}
 use Rattle.hir_env.specs.Answered as tree
 use Rattle.hir_env.specs.Answered.{Listing, Label, Jump, Expr, OptionExpr, Exprs, Block, OptionBlock, Stmts, Stmt}
 use Rattle.hir_lower_form.specs.Lowering.{Lowering}
-use Rattle.hir_lower_form.specs.Lower.{Node, Contents, missing, some, if_form, loop_form, call_form, continue_form}
+use Rattle.hir_lower_form.specs.Lower.{ExprSteps, StoredContents, missing, some, if_form, loop_form, call_form, continue_form}
 use Rattle.hir_lower_form.specs.Lower.{break_form, paren_form, operand_form, operands_form, value_form, list_form}
 use Rattle.hir_lower_form.specs.Lower.{method_call_form, await_form, block_form, labelled, kept, lower, lower_part}
 use Rattle.hir_lower_form.specs.Lower.{present, kept_part, lower_each, lower_block, lower_block_part, lower_stmts, lower_stmt}
@@ -22,21 +22,21 @@ missing_leads : Leading since missing
 unfolding missing
 missing_leads = leading_alloc _ None
 
-some_leads : {p : Node} → Leading since p → Leading any (some p)
+some_leads : {p : ExprSteps} → Leading since p → Leading any (some p)
 some_leads h = then' h (λ a. leading_pure (Some a))
 
 module _ (at : Pointer) where
-  if_leads : {c t : Node} {e : Lowering (Option ExprId)} → Leading since c → Leading since t → Leading any e
+  if_leads : {c t : ExprSteps} {e : Lowering (Option ExprId)} → Leading since c → Leading since t → Leading any e
       → Leading since (if_form at c t e)
   unfolding if_form
   if_leads hc ht he = makes ht (λ i. makes he (λ j. makes hc (λ k. leading_alloc _ (Some at))))
 
-  loop_leads : (label : Option Label) {b : Node} → Leading since b → Leading since (loop_form at label b)
+  loop_leads : (label : Option Label) {b : ExprSteps} → Leading since b → Leading since (loop_form at label b)
   unfolding loop_form
   loop_leads None h = makes h (λ i. leading_alloc _ (Some at))
   loop_leads (Some l) h = makes (leading_open l) (λ n. makes h (λ i. makes leading_close (λ u. leading_alloc _ (Some at))))
 
-  call_leads : {f : Node} {xs : Lowering (List ExprId)} → Leading since f → Leading any xs → Leading since (call_form at f xs)
+  call_leads : {f : ExprSteps} {xs : Lowering (List ExprId)} → Leading since f → Leading any xs → Leading since (call_form at f xs)
   unfolding call_form
   call_leads hf hx = makes hf (λ i. makes hx (λ is. leading_alloc _ (Some at)))
 
@@ -48,15 +48,15 @@ module _ (at : Pointer) where
   unfolding break_form
   break_leads j h = makes (leading_jump j) (λ n. makes h (λ v. leading_alloc _ (Some at)))
 
-  paren_leads : {e : Node} → Leading since e → Leading since (paren_form at e)
+  paren_leads : {e : ExprSteps} → Leading since e → Leading since (paren_form at e)
   unfolding paren_form
   paren_leads h = leading_point at h
 
-  operand_leads : (form : ExprId → HirExpr) {e : Node} → Leading since e → Leading since (operand_form at form e)
+  operand_leads : (form : ExprId → HirExpr) {e : ExprSteps} → Leading since e → Leading since (operand_form at form e)
   unfolding operand_form
   operand_leads form h = makes h (λ i. leading_alloc _ (Some at))
 
-  operands_leads : (form : ExprId → ExprId → HirExpr) {a b : Node} → Leading since a → Leading since b
+  operands_leads : (form : ExprId → ExprId → HirExpr) {a b : ExprSteps} → Leading since a → Leading since b
       → Leading since (operands_form at form a b)
   unfolding operands_form
   operands_leads form ha hb = makes ha (λ i. makes hb (λ j. leading_alloc _ (Some at)))
@@ -71,27 +71,27 @@ module _ (at : Pointer) where
   list_leads (tree.tuple_of true) h = makes h (λ is. makes missing_leads (λ i. leading_alloc _ (Some at)))
   list_leads tree.array_of h = makes h (λ is. leading_alloc _ (Some at))
 
-  method_call_leads : {e : Node} (name : Name) {xs : Lowering (List ExprId)} → Leading since e → Leading any xs
+  method_call_leads : {e : ExprSteps} (name : Name) {xs : Lowering (List ExprId)} → Leading since e → Leading any xs
       → Leading since (method_call_form at e name xs)
   unfolding method_call_form
   method_call_leads name he hx = makes he (λ i. makes hx (λ is. leading_alloc _ (Some at)))
 
-  await_leads : (location : Option AwaitLocation) {e : Node} → Leading since e → Leading since (await_form at location e)
+  await_leads : (location : Option AwaitLocation) {e : ExprSteps} → Leading since e → Leading since (await_form at location e)
   unfolding await_form
   await_leads location h = makes h (λ i. makes (leading_report_await at location) (λ u. leading_alloc _ (Some at)))
 
-  block_form_leads : (is_unsafe : Bool) (label : Option LabelId) (number : Option BlockId) {c : Lowering Contents} → Leading any c
+  block_form_leads : (is_unsafe : Bool) (label : Option LabelId) (number : Option BlockId) {c : Lowering StoredContents} → Leading any c
       → Leading since (block_form at is_unsafe label number c)
   unfolding block_form
   block_form_leads is_unsafe label number h = makes (leading_block number) (λ u. makes h (λ r. leading_alloc _ (Some at)))
 
-labelled_leads : (label : Option Label) {f : Option LabelId → Node} → ((n : Option LabelId) → Leading since (f n))
+labelled_leads : (label : Option Label) {f : Option LabelId → ExprSteps} → ((n : Option LabelId) → Leading since (f n))
     → Leading since (labelled label f)
 unfolding labelled
 labelled_leads None h = h None
 labelled_leads (Some l) h = makes (leading_open l) (λ n. leading_closed (h (Some n)))
 
-kept_leads : (e : Expr) {p : Node} → Leading since p → Leading any (kept e p)
+kept_leads : (e : Expr) {p : ExprSteps} → Leading since p → Leading any (kept e p)
 kept_leads (tree.disabled_expr at by e) h = then' (leading_report _) (λ u. leading_pure None)
 kept_leads e h = some_leads h
 

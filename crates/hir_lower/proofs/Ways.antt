@@ -16,10 +16,10 @@ use Rattle.hir_store.specs.declared.ids.ExprId.{ExprId}
 use Rattle.hir_store.specs.declared.ids.LabelId.{LabelId}
 use Rattle.hir_store.specs.declared.ids.BlockId.{BlockId}
 use Rattle.hir_env.specs.Answered.{Label, Jump}
-use Rattle.hir_scope.specs.Ribs.{Target, found as met, unreachable, undeclared, target}
+use Rattle.hir_scope.specs.Ribs.{Target, reachable, unreachable, undeclared, target}
 use Rattle.hir_lower_form.specs.Builder.{Builder}
 use Rattle.hir_lower_form.specs.Lowering.{Checked, go_on, Lowering, ◌>>=◌, pure, alloc_expr, point, report}
-use Rattle.hir_lower_form.specs.Lowering.{enter_block, open_label, close, jump_target, found_or_fault, enter, report_await}
+use Rattle.hir_lower_form.specs.Lowering.{enter_block, open_label, close, jump_target, found_or_fault, open_as, report_await}
 use Rattle.hir_lower.specs.Stays.{LeadsOn}
 
 -- maps
@@ -174,7 +174,7 @@ leading_jump None = leading_pure None
 leading_jump (Some j) = record { goes = λ b. by b (target j b.scopes) }
   where
     by : (b : Builder) (t : Target LabelId) → Goes any b (found_or_fault j t b).0 (found_or_fault j t b).1
-    by b (met n) = (went_same _ _ refl refl, tt)
+    by b (reachable n) = (went_same _ _ refl refl, tt)
     by b unreachable = (went_same _ _ refl refl, tt)
     by b undeclared = (went_same _ _ refl refl, tt)
 
@@ -220,7 +220,7 @@ label_made l source b false = went_same _ _ refl refl
 abbrev opening : Label → Bool → Builder → Checked LabelId × Builder
 opening l t b =
     let r = made_label t (record { name = l.name }) (Some l.pointer) b.stored.labels in
-    go_on r.0 (record b { stored = record b.stored { labels = r.1 } }) (λ n. enter l n >>= (λ _. pure n))
+    go_on r.0 (record b { stored = record b.stored { labels = r.1 } }) (λ n. open_as l n >>= (λ _. pure n))
 
 pub leading_open : (l : Label) → Leading any (open_label l)
 unfolding open_label storing.alloc_label

@@ -49,9 +49,9 @@ pub record Rooted (old new : Stored) (i : ExprId) (e : OptionExpr) : Type 0 wher
   pub lives : (later : Stored) → Extends new later → Lives old new later i e
   pub exprs : length new.exprs.entries ≡ length old.exprs.entries + exprs_of e
   pub roots : new.roots ≡ old.roots ++ root_at new.exprs.entries i ∷ []
-  pub found : Faults
-  pub faults : new.diagnostics ≡ old.diagnostics ++ found
-  pub permuted : IsPermutation (part_diagnostics [] e) found
+  pub more : Faults
+  pub faults : new.diagnostics ≡ old.diagnostics ++ more
+  pub permuted : IsPermutation (part_diagnostics [] e) more
   pub blocks : new.block_scopes ≡ old.block_scopes ++ blocks_of_part e
   pub paired : Paired new
 

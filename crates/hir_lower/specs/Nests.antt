@@ -13,7 +13,7 @@ use Rattle.hir_env.specs.Answers.{Answers}
 use Rattle.hir_env.specs.Whole.{answered, answered_plain}
 use Rattle.hir_lower_form.specs.Builder.{Builder}
 use Rattle.hir_lower_form.specs.Lowering.{Lowering, Checked, Lowers}
-use Rattle.hir_lower_form.specs.Lower.{kept_expr, lower_inside}
+use Rattle.hir_lower_form.specs.Lower.{lower_kept, lower_inside}
 use Rattle.hir_lower.specs.Roots.{spot_at}
 
 -- what such a function requires and ensures, over an environment
@@ -48,4 +48,4 @@ pub record HandlesBlock {E : Type 0} (answers : E → Answers)
 
 module _ {E : Type 0} (answers : E → Answers) where
   abbrev pub HandlesExpr : Pre E → Post E (Option ExprId) → E → Place → AstExpr → Type 0
-  HandlesExpr pre post env p e = Handles HasExprOption (kept_expr (answered (spot_at (answers env) p) e)) pre post env p e
+  HandlesExpr pre post env p e = Handles HasExprOption (lower_kept (answered (spot_at (answers env) p) e)) pre post env p e

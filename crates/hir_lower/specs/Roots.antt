@@ -1,9 +1,10 @@
 -- What the entry functions make of a tree.
 use Rattle.std.specs.Prelude.{◌≡◌, ℕ, Bool, true, false, [], Option, Some, None, Ok, Err}
 use Rattle.hir_store.specs.Stored.{Store, SourceMap, store_of, map_of}
-use Rattle.hir_store.specs.Storing.{SomeAtLimit, empty}
+use Rattle.hir_store.specs.Storing.{SomeAtLimit}
 use Rattle.hir_store.specs.declared.fault.StoreFault.TheVariants.{Full}
 use Rattle.hir_lower_form.specs.Builder.{Builder}
+pub use Rattle.hir_lower_form.specs.Builder.{fresh}
 use Rattle.hir_store.specs.Pointers.{Pointer}
 use Rattle.hir_store.specs.declared.ids.DefWithBodyId.{DefWithBodyId}
 use Rattle.hir_store.specs.declared.ids.DefWithBodyId.TheVariants as owner
@@ -25,11 +26,11 @@ use Rattle.hir_env.specs.Whole.{expr_part}
 use Rattle.hir_env.specs.Answered as tree
 use Rattle.hir_env.specs.Answered.{OptionExpr}
 use Rattle.hir_lower_form.specs.Lowering.{Lowering, ◌>>=◌, ◌>>◌, pure, close_labels, report, record_root}
-use Rattle.hir_lower_form.specs.Lower.{Node, lower_part}
+use Rattle.hir_lower_form.specs.Lower.{ExprSteps, lower_part}
 use Rattle.hir_lower.specs.Means.{required_body, body_fault}
 
 -- the expression as a root, in which no label around it is open
-unfoldable pub root_of : OptionExpr → Node
+unfoldable pub root_of : OptionExpr → ExprSteps
 root_of e = do
   close_labels
   id ← lower_part e
@@ -41,18 +42,14 @@ report_missing at None = pure tt
 report_missing at (Some k) = report (MissingBody at k)
 
 -- a body: a skipped one is a missing root
-unfoldable pub body_of : Bool → Pointer → Option MissingBodyItemKind → OptionExpr → Node
+unfoldable pub body_of : Bool → Pointer → Option MissingBodyItemKind → OptionExpr → ExprSteps
 body_of true at k e = root_of tree.no_expr
 body_of false at k e = do
   report_missing at (body_fault k e)
   root_of e
 
--- nothing is stored and no label is open
-abbrev pub fresh : ℕ → Builder
-fresh limit = record { stored = empty limit; scopes = [] }
-
 -- what the steps store, from nothing
-pub record Stores {A : Type 0} (p : Lowering A) (limit : ℕ) (store : Store) (source_map : SourceMap) : Type 0 where
+pub record StoresFromNothing {A : Type 0} (p : Lowering A) (limit : ℕ) (store : Store) (source_map : SourceMap) : Type 0 where
   pub answer : A
   pub builder : Builder
   pub done : p (fresh limit) ≡ (Ok answer, builder)
@@ -71,7 +68,7 @@ abbrev pub spot_at : Answers → Place → Spot
 spot_at env p = record { answers = env; place = p }
 
 -- the body of an item
-abbrev pub item_of : Spot → DefWithBodyId → AstPtr → Option AstExpr → Node
+abbrev pub item_of : Spot → DefWithBodyId → AstPtr → Option AstExpr → ExprSteps
 item_of at owner node body =
     let required = required_body owner (at.answers.container owner) in
     body_of (at.answers.skip owner) (in_file at.place node) required (expr_part at body)

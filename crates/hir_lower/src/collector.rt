@@ -6,7 +6,7 @@ ghost use Rattle.hir_store.specs.Stored.{map_of, store_of};
 ghost use Rattle.hir_store.specs.Storing.{SomeAtLimit};
 ghost use Rattle.hir_env.specs.Whole.{expr_part};
 ghost use Rattle.hir_lower_form.specs.Lowering.{Lowers};
-ghost use Rattle.hir_lower_form.specs.Outcomes.{LowersExprOpt};
+ghost use Rattle.hir_lower_form.specs.Methods.{LowersExprOpt};
 ghost use Rattle.hir_steps.specs.Keeps.{Paired};
 ghost use Rattle.hir_one_result.specs.Room.{TooLarge};
 ghost use Rattle.hir_lower.specs.Calls.{Calls};

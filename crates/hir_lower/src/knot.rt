@@ -4,7 +4,7 @@ ghost use Rattle.std.specs.Prelude.{◌≡◌, option_map};
 ghost use Rattle.hir_store.specs.Range.{HasLabelOption};
 ghost use Rattle.hir_env.specs.Answering.{inside as place_inside, numbered as number_at};
 ghost use Rattle.hir_env.specs.Whole.{answered, answered_plain};
-ghost use Rattle.hir_lower_form.specs.Outcomes.{LowersExpr, LowersInside, MaybeLowersExpr};
+ghost use Rattle.hir_lower_form.specs.Methods.{LowersExpr, LowersInside, MaybeLowersExpr};
 ghost use Rattle.hir_lower.specs.Nests.{HandlesBlock, HandlesExpr};
 ghost use Rattle.hir_lower.specs.Roots.{spot_at};
 

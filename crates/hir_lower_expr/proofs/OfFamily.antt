@@ -16,7 +16,7 @@ use Rattle.hir_syntax.specs.declared.ast.UnaryOp.{UnaryOp}
 use Rattle.hir_syntax.specs.declared.node.PredId.{PredId}
 use Rattle.hir_env.specs.Layers.{ExprKindLayer}
 use Rattle.hir_env.specs.Whole.{written}
-use Rattle.hir_lower_form.specs.Families.{IsControl, IsListing, IsPlace, IsOperator, IsLeaving, IsLeaf}
+use Rattle.hir_lower_form.specs.Families.{IsControl, IsListing, IsAccess, IsOperator, IsLeaving, IsLeaf}
 
 made : (k : AstExprKind) (l : ExprKindLayer written) → out-ExprKind k ≡ l → k ≡ roll-ExprKind l
 made k l h = sym (roll-out-ExprKind k) ∙ ap roll-ExprKind h
@@ -51,14 +51,14 @@ only_listing k is no_call no_methodcall no_tuple no_array = by (out-ExprKind k) 
     by (ExprKind-F.ArrayExpr es) h is = no_array es (made k _ h ∙ kind.rolls-ArrayExpr es)
     by _ h is = is
 
-pub only_place : (k : AstExprKind) → IsPlace (out-ExprKind k)
+pub only_access : (k : AstExprKind) → IsAccess (out-ExprKind k)
     → ((e : Option AstExpr) → k ≡ kind.ParenExpr e → ⊥)
     → ((e : Option AstExpr) (n : Option AstName) → k ≡ kind.FieldExpr e n → ⊥)
     → ((a : Option AstExpr) (b : Option AstExpr) → k ≡ kind.IndexExpr a b → ⊥)
     → ((r : Bool) (m : Bool) (e : Option AstExpr) → k ≡ kind.RefExpr r m e → ⊥) → ⊥
-only_place k is no_paren no_field no_index no_ref = by (out-ExprKind k) refl is
+only_access k is no_paren no_field no_index no_ref = by (out-ExprKind k) refl is
   where
-    by : (l : ExprKindLayer written) → out-ExprKind k ≡ l → IsPlace l → ⊥
+    by : (l : ExprKindLayer written) → out-ExprKind k ≡ l → IsAccess l → ⊥
     by (ExprKind-F.ParenExpr e) h is = no_paren e (made k _ h ∙ kind.rolls-ParenExpr e)
     by (ExprKind-F.FieldExpr e n) h is = no_field e n (made k _ h ∙ kind.rolls-FieldExpr e n)
     by (ExprKind-F.IndexExpr a b) h is = no_index a b (made k _ h ∙ kind.rolls-IndexExpr a b)

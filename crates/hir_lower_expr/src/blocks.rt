@@ -8,7 +8,7 @@ ghost use Rattle.hir_env.specs.Whole.{answered_block, answered_plain, block_head
 ghost use Rattle.hir_lower_form.specs.Lowering.{Lowers};
 ghost use Rattle.hir_lower_form.specs.Lower as spec;
 ghost use Rattle.hir_lower_form.specs.Nests.{Each, KidsBlock, KidsStmt};
-ghost use Rattle.hir_lower_form.specs.Outcomes.{HasContents, LowersExpr, LowersStmt, LowersStmts, block_at, contents_at, flat};
+ghost use Rattle.hir_lower_form.specs.Methods.{HasContents, LowersExpr, LowersStmt, LowersStmts, block_steps_at, contents_at, flat};
 
 use hir_lower_form::builder::BodyBuilder;
 use hir_lower_form::parts::{LowerParts, Lowerer};
@@ -132,7 +132,7 @@ pub fn block_node<P: LowerParts>(
 ) -> Result<ExprId, StoreFault>
     requires parts { KidsBlock (P.can lowerer.now.parts) (out-BlockExpr node.now) }
     requires label { HasLabelOption state.old.stored label }
-    ensures { Lowers HasExpr (block_at (P.spot lowerer.now.parts) is_unsafe label number node.now) state.old result state.new }
+    ensures { Lowers HasExpr (block_steps_at (P.spot lowerer.now.parts) is_unsafe label number node.now) state.old result state.new }
 {
     state.enter_block(number)?;
     let (mut statements, tail) = contents(lowerer, state, node)?;

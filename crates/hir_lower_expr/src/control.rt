@@ -4,7 +4,7 @@ ghost use Rattle.hir_syntax.specs.declared.ast.ElseBranch.{out-ElseBranch};
 ghost use Rattle.hir_env.specs.Answered as tree;
 ghost use Rattle.hir_env.specs.Whole.{answered_else, block_part, else_level, else_part, expr_part, label_part};
 ghost use Rattle.hir_lower_form.specs.Nests.{IfPresent, KidsElse};
-ghost use Rattle.hir_lower_form.specs.Outcomes.{LowersExpr, LowersIfPresent};
+ghost use Rattle.hir_lower_form.specs.Methods.{LowersExpr, LowersIfPresent};
 
 use hir_lower_form::builder::BodyBuilder;
 use hir_lower_form::parts::{LowerParts, Lowerer};

@@ -3,7 +3,7 @@
 ghost use Rattle.hir_syntax.specs.declared.ast.ExprKind.{out-ExprKind};
 ghost use Rattle.hir_env.specs.Whole.{asked_expr, kept_expr};
 ghost use Rattle.hir_lower_form.specs.Nests.{KidsExpr};
-ghost use Rattle.hir_lower_form.specs.Outcomes.{LowersExpr, MaybeLowersExpr};
+ghost use Rattle.hir_lower_form.specs.Methods.{LowersExpr, MaybeLowersExpr};
 
 use crate::families::{
     control_kind, leaf_kind, leaving_kind, listing_kind, operator_kind, place_kind,

@@ -1,9 +1,9 @@
 //! The kinds of expressions by family: a method that takes all kinds apart would be too much for one proof.
 
 ghost use Rattle.hir_syntax.specs.declared.ast.ExprKind.{out-ExprKind};
-ghost use Rattle.hir_lower_form.specs.Families.{IsControl, IsLeaf, IsLeaving, IsListing, IsOperator, IsPlace};
+ghost use Rattle.hir_lower_form.specs.Families.{IsControl, IsLeaf, IsLeaving, IsListing, IsOperator, IsAccess};
 ghost use Rattle.hir_lower_form.specs.Nests.{KidsExpr};
-ghost use Rattle.hir_lower_form.specs.Outcomes.{LowersExpr, kind_at};
+ghost use Rattle.hir_lower_form.specs.Methods.{LowersExpr, kind_at};
 
 use crate::blocks::block_form;
 use crate::calls::{call_form, method_call_form, paren_form};
@@ -80,15 +80,15 @@ pub(crate) fn listing_kind<P: LowerParts>(
     }
 }
 
-/// What may stand for a place, or refers to one.
-#[tactic(auto, using(crate::proofs::OfFamily::only_place))]
+/// What stands for a thing in memory, or refers to one.
+#[tactic(auto, using(crate::proofs::OfFamily::only_access))]
 pub(crate) fn place_kind<P: LowerParts>(
     lowerer: &Lowerer<P>,
     state: &mut BodyBuilder,
     at: InFile<AstPtr>,
     kind: &ast::ExprKind,
 ) -> Result<ExprId, StoreFault>
-    requires family { IsPlace (out-ExprKind kind.now) }
+    requires family { IsAccess (out-ExprKind kind.now) }
     requires parts { KidsExpr (P.can lowerer.now.parts) (out-ExprKind kind.now) }
     ensures { LowersExpr (kind_at (P.spot lowerer.now.parts) at kind.now) state.old result state.new }
 {

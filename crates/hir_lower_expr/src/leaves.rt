@@ -3,7 +3,7 @@
 ghost use Rattle.std.specs.Prelude.{option_map};
 ghost use Rattle.hir_env.specs.Answered as tree;
 ghost use Rattle.hir_env.specs.Answering.{path_of, site_of, truth};
-ghost use Rattle.hir_lower_form.specs.Outcomes.{LowersExpr};
+ghost use Rattle.hir_lower_form.specs.Methods.{LowersExpr};
 
 use hir_lower_form::builder::BodyBuilder;
 use hir_lower_form::names::{literal, path_expr, truth_literal};

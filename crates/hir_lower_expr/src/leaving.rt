@@ -3,7 +3,7 @@
 ghost use Rattle.hir_env.specs.Answered as tree;
 ghost use Rattle.hir_env.specs.Whole.{expr_part};
 ghost use Rattle.hir_lower_form.specs.Nests.{IfPresent};
-ghost use Rattle.hir_lower_form.specs.Outcomes.{LowersExpr};
+ghost use Rattle.hir_lower_form.specs.Methods.{LowersExpr};
 
 use hir_lower_form::builder::BodyBuilder;
 use hir_lower_form::parts::{LowerParts, Lowerer};

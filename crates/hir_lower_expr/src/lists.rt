@@ -4,7 +4,7 @@ ghost use Rattle.std.specs.Prelude.{◌≡◌, ◌∷◌, IfOk};
 ghost use Rattle.hir_env.specs.Answered as tree;
 ghost use Rattle.hir_env.specs.Whole.{exprs_part};
 ghost use Rattle.hir_lower_form.specs.Nests.{Each};
-ghost use Rattle.hir_lower_form.specs.Outcomes.{LowersExpr};
+ghost use Rattle.hir_lower_form.specs.Methods.{LowersExpr};
 
 use hir_lower_form::builder::BodyBuilder;
 use hir_lower_form::parts::{LowerParts, Lowerer};

@@ -7,7 +7,7 @@ use Rattle.hir_env.specs.Answered.{Stmts}
 use Rattle.hir_lower_form.specs.Builder.{Builder}
 use Rattle.hir_lower_form.specs.Lowering.{Checked, Lowering, go_on}
 use Rattle.hir_lower_form.specs.Lower.{push_some, lower_stmt, lower_stmts}
-use Rattle.hir_lower_form.specs.Outcomes.{flat}
+use Rattle.hir_lower_form.specs.Methods.{flat}
 
 again : {A B C : Type 0} (o : Checked A) (b : Builder) (f : A → Lowering B) (g : B → Lowering C)
     → go_on o b (λ a c. go_on (f a c).0 (f a c).1 g) ≡ go_on (go_on o b f).0 (go_on o b f).1 g

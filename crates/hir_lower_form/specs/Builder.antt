@@ -1,6 +1,7 @@
 -- What lowering works on.
 use Rattle.std.specs.Prelude.{ℕ, suc, ◌≤◌, max, List, [], ◌∷◌, length}
 use Rattle.hir_store.specs.Stored.{Stored}
+use Rattle.hir_store.specs.Storing.{empty}
 use Rattle.hir_store.specs.declared.ids.LabelId.{LabelId}
 use Rattle.hir_scope.specs.Ribs.{Rib, label_rib, macro_rib, barrier_rib}
 
@@ -8,6 +9,10 @@ use Rattle.hir_scope.specs.Ribs.{Rib, label_rib, macro_rib, barrier_rib}
 pub record Builder : Type 0 where
   pub stored : Stored
   pub scopes : List (Rib LabelId)
+
+-- nothing is stored and no label is open
+abbrev pub fresh : ℕ → Builder
+fresh limit = record { stored = empty limit; scopes = [] }
 
 -- the least number above those of the labels
 abbrev pub past_ribs : List (Rib LabelId) → ℕ

@@ -20,13 +20,13 @@ IsListing (ExprKind-F.TupleExpr comma es) = Unit {0}
 IsListing (ExprKind-F.ArrayExpr es) = Unit {0}
 IsListing _ = ⊥
 
--- what may stand for a place, or refers to one
-abbrev pub IsPlace : ExprKindLayer written → Type 0
-IsPlace (ExprKind-F.ParenExpr e) = Unit {0}
-IsPlace (ExprKind-F.FieldExpr e n) = Unit {0}
-IsPlace (ExprKind-F.IndexExpr a b) = Unit {0}
-IsPlace (ExprKind-F.RefExpr r m e) = Unit {0}
-IsPlace _ = ⊥
+-- what stands for a thing in memory, or refers to one
+abbrev pub IsAccess : ExprKindLayer written → Type 0
+IsAccess (ExprKind-F.ParenExpr e) = Unit {0}
+IsAccess (ExprKind-F.FieldExpr e n) = Unit {0}
+IsAccess (ExprKind-F.IndexExpr a b) = Unit {0}
+IsAccess (ExprKind-F.RefExpr r m e) = Unit {0}
+IsAccess _ = ⊥
 
 -- what works on the values of operands
 abbrev pub IsOperator : ExprKindLayer written → Type 0

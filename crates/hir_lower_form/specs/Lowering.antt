@@ -1,11 +1,11 @@
 -- The steps of lowering: each answers a value, or is refused because an arena is full, and leaves what is stored by then.
-use Rattle.std.specs.Prelude.{◌≡◌, ◌≢◌, [], ◌∷◌, Option, Some, None, Result, Ok, Err}
+use Rattle.std.specs.Prelude.{◌≡◌, ◌≢◌, [], ◌∷◌, Option, Some, None, Ok, Err}
 use Rattle.hir_store.specs.Pointers.{Pointer}
 use Rattle.hir_store.specs.Stored.{Stored}
 use Rattle.hir_store.specs.Range.{Grows}
 use Rattle.hir_store.specs.Storing as storing
 use Rattle.hir_store.specs.Storing.{Storing, SomeAtLimit}
-use Rattle.hir_store.specs.declared.fault.StoreFault.{StoreFault}
+pub use Rattle.hir_store.specs.Storing.{Checked}
 use Rattle.hir_store.specs.declared.fault.StoreFault.TheVariants.{Memory}
 use Rattle.hir_store.specs.declared.hir.Expr.{Expr}
 use Rattle.hir_store.specs.declared.ids.ExprId.{ExprId}
@@ -15,13 +15,10 @@ use Rattle.hir_store.specs.declared.diagnostics.ExpressionStoreDiagnostics.{Expr
 use Rattle.hir_store.specs.declared.diagnostics.ExpressionStoreDiagnostics.TheVariants.{AwaitOutsideOfAsync}
 use Rattle.hir_store.specs.declared.diagnostics.ExpressionStoreDiagnostics.TheVariants.{UndeclaredLabel, UnreachableLabel}
 use Rattle.hir_store.specs.declared.diagnostics.AwaitLocation.{AwaitLocation}
-use Rattle.hir_scope.specs.Ribs.{label_rib, Target, found, unreachable, undeclared, target}
+use Rattle.hir_scope.specs.Ribs.{label_rib, Target, reachable, unreachable, undeclared, target}
 use Rattle.hir_lower_scope.specs.Labels.{rest}
 use Rattle.hir_env.specs.Answered.{Label, Jump}
 use Rattle.hir_lower_form.specs.Builder.{Builder}
-
-abbrev pub Checked : Type 0 → Type 0
-Checked A = Result A StoreFault
 
 abbrev pub Lowering : Type 0 → Type 0
 Lowering A = Builder → Checked A × Builder
@@ -66,14 +63,14 @@ enter_block (Some b) = stored (storing.enter_block b)
 unfoldable pub record_root : ExprId → Lowering (Unit {0})
 record_root root = stored (storing.record_root root)
 
-abbrev pub enter : Label → LabelId → Lowering (Unit {0})
-enter l id = λ b. (Ok tt, record b { scopes = label_rib l.name l.hygiene id ∷ b.scopes })
+abbrev pub open_as : Label → LabelId → Lowering (Unit {0})
+open_as l id = λ b. (Ok tt, record b { scopes = label_rib l.name l.hygiene id ∷ b.scopes })
 
 -- stores a label and opens it
 unfoldable pub open_label : Label → Lowering LabelId
 open_label l = do
   id ← stored (storing.alloc_label (record { name = l.name }) (Some l.pointer))
-  enter l id
+  open_as l id
   pure id
 
 -- closes what was opened last
@@ -85,7 +82,7 @@ unfoldable pub close_labels : Lowering (Unit {0})
 close_labels = λ b. (Ok tt, record b { scopes = [] })
 
 abbrev pub found_or_fault : Jump → Target LabelId → Lowering (Option LabelId)
-found_or_fault j (found id) = pure (Some id)
+found_or_fault j (reachable id) = pure (Some id)
 found_or_fault j unreachable = do
   report (UnreachableLabel j.pointer j.name)
   pure None
@@ -98,7 +95,7 @@ unfoldable pub jump_target : Option Jump → Lowering (Option LabelId)
 jump_target None = pure None
 jump_target (Some j) = λ b. found_or_fault j (target j b.scopes) b
 
--- The outcome of the steps, unless memory was refused. What is answered exists, and no arena is shorter than it
+-- What the steps answer and leave, unless memory was refused. What is answered exists, and no arena is shorter than it
 -- was; where there is no room an arena has reached its limit.
 abbrev pub Lowers : {A : Type 0} → (Stored → A → Type 0) → Lowering A → Builder → Checked A → Builder → Type 0
 Lowers Has p old (Ok a) new = (p old ≡ (Ok a, new)) × Grows old.stored new.stored × Has new.stored a

@@ -2,7 +2,7 @@
 
 ghost use Rattle.hir_env.specs.Whole.{args_part, exprs_part};
 ghost use Rattle.hir_lower_form.specs.Nests.{Each, IfPresent};
-ghost use Rattle.hir_lower_form.specs.Outcomes.{LowersEach};
+ghost use Rattle.hir_lower_form.specs.Methods.{LowersEach};
 
 use crate::builder::BodyBuilder;
 use crate::parts::{LowerParts, Lowerer};

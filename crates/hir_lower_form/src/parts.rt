@@ -9,8 +9,8 @@ ghost use Rattle.hir_env.specs.Whole.{answered, answered_plain, block_part, expr
 ghost use Rattle.hir_scope.specs.Ribs.{search, sought_first};
 ghost use Rattle.hir_lower_scope.specs.Labels.{answer};
 ghost use Rattle.hir_lower_form.specs.Nests.{Claims, IfPresent};
-ghost use Rattle.hir_lower_form.specs.Outcomes.{LowersBlock, LowersBlockOpt, LowersExpr, LowersExprOpt, LowersIfPresent, LowersInside};
-ghost use Rattle.hir_lower_form.specs.Outcomes.{MaybeLowersExpr, MaybeLowersExprOpt};
+ghost use Rattle.hir_lower_form.specs.Methods.{LowersBlock, LowersBlockOpt, LowersExpr, LowersExprOpt, LowersIfPresent, LowersInside};
+ghost use Rattle.hir_lower_form.specs.Methods.{MaybeLowersExpr, MaybeLowersExprOpt};
 
 use crate::builder::BodyBuilder;
 use hir_env::place::Place;

@@ -3,7 +3,7 @@ use Rattle.std.proofs.Common.{◌≡◌, ℕ, Bool, if◌then◌else◌, List, [
 use Rattle.hir_env.specs.Answering.{site_of}
 use Rattle.hir_env.specs.Answered as tree
 use Rattle.hir_env.specs.Answered.{Label, Expr, OptionExpr, Exprs, Block, OptionBlock, Stmts}
-use Rattle.hir_scope.specs.Scopes.{Scope, loop_scope, barrier, outward, in_block}
+use Rattle.hir_scope.specs.Scopes.{Scope, loop_scope, barrier, outward, scopes_in_block}
 use Rattle.hir_scope.proofs.Alone.{nothing_outside}
 use Rattle.hir_meaning.specs.Run.{Value, unit, is_true, call, method_call, yielding, awaiting, break, continue, leave, became}
 use Rattle.hir_meaning.specs.Run.{ends, pure, ◌>>=◌, ◌>>◌, ask, tests, entering}
@@ -15,7 +15,7 @@ use Rattle.hir_meaning.specs.Rows.{RunsAlone}
 
 module _ (turns : ℕ) (outer : List Scope) where
   in_block_alone : (label : Option Label) (inner : List Scope)
-      → in_block label (inner ++ barrier ∷ outer) ≡ in_block label inner ++ barrier ∷ outer
+      → scopes_in_block label (inner ++ barrier ∷ outer) ≡ scopes_in_block label inner ++ barrier ∷ outer
   in_block_alone None inner = refl
   in_block_alone (Some l) inner = refl
 
@@ -74,7 +74,7 @@ module _ (turns : ℕ) (outer : List Scope) where
     block_alone : (b : Block) (inner : List Scope) → run_block turns b (inner ++ barrier ∷ outer) ≡ run_block turns b inner
     block_alone (tree.block at is_unsafe label number ss e) inner = rw (in_block_alone label inner)
         (ap (λ m. entering is_unsafe number (Some (site_of at)) (catching label m))
-        (stmts_alone ss (is_left e) (run_tail turns e) (tail_alone e) (in_block label inner)))
+        (stmts_alone ss (is_left e) (run_tail turns e) (tail_alone e) (scopes_in_block label inner)))
 
     tail_alone : (e : OptionExpr) (inner : List Scope) → run_tail turns e (inner ++ barrier ∷ outer) ≡ run_tail turns e inner
     tail_alone tree.no_expr inner = refl

@@ -7,13 +7,13 @@ use Rattle.hir_env.specs.Answered as tree
 use Rattle.hir_env.specs.Answered.{Expr, OptionExpr, Stmts, Stmt}
 use Rattle.hir_meaning.specs.Run.{Value, Event, entering, ends, event, ◌>>=◌, ◌>>◌}
 use Rattle.hir_meaning.specs.Catching.{loop, block}
-use Rattle.hir_scope.specs.Scopes.{Scope, in_block}
+use Rattle.hir_scope.specs.Scopes.{Scope, scopes_in_block}
 use Rattle.hir_meaning.specs.Left.{is_left, stmt_is_left, none_left}
 use Rattle.hir_meaning.specs.Syntax.{SyntaxRun, run_part, run_stmts, run_tail, catching}
 use Rattle.hir_meaning.specs.Store.{run_store, run_to}
 use Rattle.hir_meaning.specs.Worked.{RunsAsWorked}
 use Rattle.hir_meaning.specs.Rows.{LeavesTheLoop, LeavesTheBlock, HasNoTurn, StraysFromBlock, HasTwoSites, EntersItsNumber}
-use Rattle.hir_meaning.specs.Rows.{MissingIsNoLiteral, ParenthesesAreSilent, DisabledIsNothing, joined, disabled}
+use Rattle.hir_meaning.specs.Rows.{MissingIsNoLiteral, ParenthesesAreSilent, DisabledIsNothing, joined, disabled_stmt}
 use Rattle.hir_meaning.specs.Turns.{EndsTheTurn, ContinuesTheOuter, BreaksTheOuter, HygienesDiffer, UndeclaredIsPlain, HasFreshTurns}
 
 pub leaves_the_loop : LeavesTheLoop
@@ -88,7 +88,7 @@ parentheses_are_silent p e = refl
 module _ (q : Pointer) (by : CfgId) (e : Expr) (semi : Bool) (after : Stmts) where
   -- with the disabled statement before what follows, and without
   abbrev more : Stmts → Stmts
-  more before = joined before (tree.more_stmts (disabled q by e semi) after)
+  more before = joined before (tree.more_stmts (disabled_stmt q by e semi) after)
 
   none_more : (before : Stmts) → none_left (more before) ≡ none_left (joined before after)
   none_more tree.no_stmts = refl
@@ -112,4 +112,4 @@ module _ (q : Pointer) (by : CfgId) (e : Expr) (semi : Bool) (after : Stmts) whe
 pub disabled_is_nothing : DisabledIsNothing
 disabled_is_nothing turns p q is_unsafe label number before after by e semi tail ss =
     ap (λ m. entering is_unsafe number (Some (site_of p)) (catching label m))
-    (run_more q by e semi after turns (is_left tail) (run_tail turns tail) (in_block label ss) before)
+    (run_more q by e semi after turns (is_left tail) (run_tail turns tail) (scopes_in_block label ss) before)

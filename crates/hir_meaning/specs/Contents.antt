@@ -5,6 +5,6 @@ use Rattle.hir_store.specs.declared.hir.Statement.TheVariants as statement
 use Rattle.hir_store.specs.declared.ids.ExprId.{ExprId}
 
 -- Where a statement gives the value (`gives_value`), the last one is the tail and no statement; else they are as they are.
-abbrev pub HasContents : Bool → List Statement → Option ExprId → List Statement × Option ExprId → Type 0
-HasContents false ss tail r = r ≡ (ss, tail)
-HasContents true ss tail r = (last : ExprId) × (ss ≡ r.0 ++ statement.Expr last false ∷ []) × (r.1 ≡ Some last)
+abbrev pub BlockContents : Bool → List Statement → Option ExprId → List Statement × Option ExprId → Type 0
+BlockContents false ss tail r = r ≡ (ss, tail)
+BlockContents true ss tail r = (last : ExprId) × (ss ≡ r.0 ++ statement.Expr last false ∷ []) × (r.1 ≡ Some last)

@@ -30,17 +30,17 @@ abbrev pub literal_data : AstLiteral → LiteralData
 literal_data l = record { negative = false; kind = l.lit; text = l.t; suffix = l.suffix }
 
 -- the names of a path, none where a segment has no kind
-abbrev pub names_of : Segments → Option (List Name)
-names_of [] = Some []
-names_of (None ∷ ss) = None
-names_of (Some n ∷ ss) = option_map (λ ns. n ∷ ns) (names_of ss)
+abbrev pub segment_names : Segments → Option (List Name)
+segment_names [] = Some []
+segment_names (None ∷ ss) = None
+segment_names (Some n ∷ ss) = option_map (λ ns. n ∷ ns) (segment_names ss)
 
 abbrev pub plain_path : List Name → PathData
 plain_path ns = record { kind = Plain; names = ns }
 
 -- None: the path is refused, since a segment has no kind
 abbrev pub path_data : Segments → Option PathData
-path_data ss = option_map plain_path (names_of ss)
+path_data ss = option_map plain_path (segment_names ss)
 
 -- a path that is absent has no data either
 abbrev pub data_if_written : Option Segments → Option PathData

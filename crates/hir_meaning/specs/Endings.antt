@@ -11,7 +11,7 @@ use Rattle.hir_meaning.specs.Store.{stored_body}
 use Rattle.hir_meaning.specs.Jumps.{Enclosed}
 use Rattle.hir_meaning.specs.Same.{ended, stray_break, left, SameRun}
 use Rattle.hir_meaning.specs.Small.{at, root, one, two, literal_at, label_a, jump_a, in_braces, first, block_of, loop_of, break_of}
-use Rattle.hir_meaning.specs.Small.{Nodes, only, from, id, number, stored_one, stored_two, stored_block, stored_loop}
+use Rattle.hir_meaning.specs.Small.{StoredExprs, only, from, id, number, stored_one, stored_two, stored_block, stored_loop}
 use Rattle.hir_meaning.specs.Small.{event_of, literal_event, Example, BothDo}
 use Rattle.hir_meaning.specs.Turns.{nested}
 
@@ -105,7 +105,7 @@ abbrev pub ValueEndsTheLoop : Type 0
 ValueEndsTheLoop = (turns : ℕ) (v : Value) (w : World (Unit {0})) → loop outward (suc turns) (pure (Some v)) w ≡ (value v, w)
 
 -- a `continue` for the label 0, alone, and in the block 1
-abbrev pub foreign_jump : Nodes
+abbrev pub foreign_jump : StoredExprs
 foreign_jump = (hir.Continue (Some (number 0)), Some 0) ∷ (stored_block (Some (number 1)) [] 0, Some 1) ∷ []
 
 -- Neither names what encloses it.

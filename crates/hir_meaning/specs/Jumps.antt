@@ -28,35 +28,35 @@ EachStatement P (statement.Expr i semi ∷ ss) = P i × EachStatement P ss
 
 -- The jumps of a node and of its parts name what encloses them; `ls` are the numbers around the node.
 module _ (Part : List LabelId → ExprId → Type 0) (ls : List LabelId) where
-  abbrev pub NodeEnclosed : Expr → Type 0
-  NodeEnclosed hir.Missing = Unit {0}
-  NodeEnclosed (hir.Literal l) = Unit {0}
-  NodeEnclosed (hir.Path p h) = Unit {0}
-  NodeEnclosed (hir.Call f xs) = Part ls f × Each (Part ls) xs
-  NodeEnclosed (hir.If c t e) = Part ls c × Part ls t × IfPresent (Part ls) e
-  NodeEnclosed (hir.Loop b l source) = Part (and_label l ls) b
-  NodeEnclosed (hir.Block is_unsafe l number ss tail) = EachStatement (Part (and_label l ls)) ss × IfPresent (Part (and_label l ls)) tail
-  NodeEnclosed (hir.Break l e) = NamesAmong ls l × IfPresent (Part ls) e
-  NodeEnclosed (hir.Continue l) = NamesAmong ls l
-  NodeEnclosed hir.Underscore = Unit {0}
-  NodeEnclosed hir.IncludeBytes = Unit {0}
-  NodeEnclosed (hir.Field e name) = Part ls e
-  NodeEnclosed (hir.UnaryOp op e) = Part ls e
-  NodeEnclosed (hir.Ref rawness mutability e) = Part ls e
-  NodeEnclosed (hir.Await e) = Part ls e
-  NodeEnclosed (hir.Become e) = Part ls e
-  NodeEnclosed (hir.BinaryOp op a b) = Part ls a × Part ls b
-  NodeEnclosed (hir.Index a b) = Part ls a × Part ls b
-  NodeEnclosed (hir.Tuple es) = Each (Part ls) es
-  NodeEnclosed (hir.Array es) = Each (Part ls) es
-  NodeEnclosed (hir.MethodCall e name es) = Part ls e × Each (Part ls) es
-  NodeEnclosed (hir.Return e) = IfPresent (Part ls) e
-  NodeEnclosed (hir.Yeet e) = IfPresent (Part ls) e
-  NodeEnclosed (hir.Yield e) = IfPresent (Part ls) e
+  abbrev pub StoredEnclosed : Expr → Type 0
+  StoredEnclosed hir.Missing = Unit {0}
+  StoredEnclosed (hir.Literal l) = Unit {0}
+  StoredEnclosed (hir.Path p h) = Unit {0}
+  StoredEnclosed (hir.Call f xs) = Part ls f × Each (Part ls) xs
+  StoredEnclosed (hir.If c t e) = Part ls c × Part ls t × IfPresent (Part ls) e
+  StoredEnclosed (hir.Loop b l source) = Part (and_label l ls) b
+  StoredEnclosed (hir.Block is_unsafe l number ss tail) = EachStatement (Part (and_label l ls)) ss × IfPresent (Part (and_label l ls)) tail
+  StoredEnclosed (hir.Break l e) = NamesAmong ls l × IfPresent (Part ls) e
+  StoredEnclosed (hir.Continue l) = NamesAmong ls l
+  StoredEnclosed hir.Underscore = Unit {0}
+  StoredEnclosed hir.IncludeBytes = Unit {0}
+  StoredEnclosed (hir.Field e name) = Part ls e
+  StoredEnclosed (hir.UnaryOp op e) = Part ls e
+  StoredEnclosed (hir.Ref rawness mutability e) = Part ls e
+  StoredEnclosed (hir.Await e) = Part ls e
+  StoredEnclosed (hir.Become e) = Part ls e
+  StoredEnclosed (hir.BinaryOp op a b) = Part ls a × Part ls b
+  StoredEnclosed (hir.Index a b) = Part ls a × Part ls b
+  StoredEnclosed (hir.Tuple es) = Each (Part ls) es
+  StoredEnclosed (hir.Array es) = Each (Part ls) es
+  StoredEnclosed (hir.MethodCall e name es) = Part ls e × Each (Part ls) es
+  StoredEnclosed (hir.Return e) = IfPresent (Part ls) e
+  StoredEnclosed (hir.Yeet e) = IfPresent (Part ls) e
+  StoredEnclosed (hir.Yield e) = IfPresent (Part ls) e
 
   abbrev pub FoundEnclosed : Option Expr → Type 0
   FoundEnclosed None = Unit {0}
-  FoundEnclosed (Some e) = NodeEnclosed e
+  FoundEnclosed (Some e) = StoredEnclosed e
 
 module _ (exprs : List Expr) where
   unfoldable pub EnclosedTo : ℕ → List LabelId → ExprId → Type 0

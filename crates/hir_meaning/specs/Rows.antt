@@ -129,15 +129,15 @@ abbrev pub joined : Stmts → Stmts → Stmts
 joined tree.no_stmts after = after
 joined (tree.more_stmts s ss) after = tree.more_stmts s (joined ss after)
 
-abbrev pub disabled : Pointer → CfgId → Expr → Bool → Stmt
-disabled q by e semi = tree.expr_stmt (tree.some_expr (tree.disabled_expr q by e)) semi
+abbrev pub disabled_stmt : Pointer → CfgId → Expr → Bool → Stmt
+disabled_stmt q by e semi = tree.expr_stmt (tree.some_expr (tree.disabled_expr q by e)) semi
 
 -- A disabled statement of a block is nothing, wherever it stands.
 abbrev pub DisabledIsNothing : Type 0
 DisabledIsNothing =
     (turns : ℕ) (p q : Pointer) (is_unsafe : Bool) (label : Option Label) (number : Option BlockId) (before after : Stmts)
     (by : CfgId) (e : Expr) (semi : Bool) (tail : OptionExpr) (ss : List Scope)
-    → run_block turns (tree.block p is_unsafe label number (joined before (tree.more_stmts (disabled q by e semi) after)) tail) ss
+    → run_block turns (tree.block p is_unsafe label number (joined before (tree.more_stmts (disabled_stmt q by e semi) after)) tail) ss
     ≡ run_block turns (tree.block p is_unsafe label number (joined before after) tail) ss
 
 -- A body behind a barrier runs as if nothing were outside.

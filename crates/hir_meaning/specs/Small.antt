@@ -53,17 +53,17 @@ abbrev pub name_at : ℕ → ℕ → Expr
 name_at c n = tree.path_expr (at n) (Some (Some (name.Text (c ∷ [])) ∷ [])) root
 
 -- `'a`, with this hygiene
-abbrev pub label_of : HygieneId → Label
-label_of h = record { pointer = at 1; name = name.Text (97 ∷ []); hygiene = h }
+abbrev pub label_with : HygieneId → Label
+label_with h = record { pointer = at 1; name = name.Text (97 ∷ []); hygiene = h }
 
-abbrev pub jump_of : HygieneId → Jump
-jump_of h = record { pointer = at 9; name = name.Text (97 ∷ []); hygiene = h; contexts = no_contexts }
+abbrev pub jump_with : HygieneId → Jump
+jump_with h = record { pointer = at 9; name = name.Text (97 ∷ []); hygiene = h; contexts = no_contexts }
 
 abbrev pub label_a : Label
-label_a = label_of root
+label_a = label_with root
 
 abbrev pub jump_a : Jump
-jump_a = jump_of root
+jump_a = jump_with root
 
 -- `{ e }`
 abbrev pub in_braces : ℕ → Option Label → Expr → Block
@@ -86,14 +86,14 @@ break_of n jump e = tree.break_expr (at n) jump (tree.some_expr e)
 -- stored
 
 -- expressions, each with the node that it came from, where it came from one
-abbrev pub Nodes : Type 0
-Nodes = List (Stored × Option ℕ)
+abbrev pub StoredExprs : Type 0
+StoredExprs = List (Stored × Option ℕ)
 
 -- a store of these alone
-abbrev pub only : Nodes → Store
+abbrev pub only : StoredExprs → Store
 only ns = record { exprs = map (λ n. n.0) ns; labels = []; roots = [] }
 
-abbrev pub from : Nodes → SourceMap
+abbrev pub from : StoredExprs → SourceMap
 from ns = record {
   expr_sources = map (λ n. option_map at n.1) ns;
   label_sources = [];
@@ -143,7 +143,7 @@ read_name c = read (plain_path (name.Text (c ∷ []) ∷ [])) root
 -- a body as it is written, and expressions, of which this one is the body as it is stored
 pub record Example : Type 0 where
   pub written : OptionExpr
-  pub nodes : Nodes
+  pub nodes : StoredExprs
   pub root : ℕ
 
 -- the body, told these answers, makes these events and ends so

@@ -22,21 +22,21 @@ use Rattle.hir_meaning.specs.Run.{ends, pure, ◌>>=◌, ◌>>◌, ask, tests, e
 use Rattle.hir_meaning.specs.Catching.{turn, loop, block}
 
 -- the label that a jump names; None: a plain jump
-abbrev pub Named : Type 0
-Named = Option LabelId
+abbrev pub JumpLabel : Type 0
+JumpLabel = Option LabelId
 
 -- what it keeps besides: so far nothing
-abbrev pub Table : Type 0
-Table = Unit {0}
+abbrev pub RunTable : Type 0
+RunTable = Unit {0}
 
-abbrev pub new_table : Table
+abbrev pub new_table : RunTable
 new_table = tt
 
 abbrev pub StoreRun : Type 0 → Type 0
-StoreRun A = Run Table Named A
+StoreRun A = Run RunTable JumpLabel A
 
 abbrev pub StoreBody : Type 0
-StoreBody = Body Table Named
+StoreBody = Body RunTable JumpLabel
 
 -- jumps
 
@@ -45,12 +45,12 @@ is_named None k = false
 is_named (Some n) k = nat_eq n.0 k.0
 
 -- A plain jump is caught by the innermost loop, a labelled one by the loop with that number.
-abbrev pub past_loop : Option LabelId → Named → Option Named
+abbrev pub past_loop : Option LabelId → JumpLabel → Option JumpLabel
 past_loop l None = None
 past_loop l (Some k) = if is_named l k then None else Some (Some k)
 
 -- A labelled break is caught by the block with that number as well.
-abbrev pub past_block : Option LabelId → Named → Option Named
+abbrev pub past_block : Option LabelId → JumpLabel → Option JumpLabel
 past_block l None = Some None
 past_block l (Some k) = if is_named l k then None else Some (Some k)
 
@@ -93,57 +93,57 @@ module _ (store : Store) (source_map : SourceMap) where
       w ← part b
       ask operation (v ∷ w ∷ []) site
 
-    abbrev pub run_node : Expr → Option Site → StoreRun Value
-    run_node hir.Missing site = ends (leave missing)
-    run_node (hir.Literal l) site = ask (literal (literal_read l)) [] site
-    run_node (hir.Path p h) site = ask (read (path_read p) h) [] site
-    run_node (hir.Call f xs) site = do
+    abbrev pub run_stored : Expr → Option Site → StoreRun Value
+    run_stored hir.Missing site = ends (leave missing)
+    run_stored (hir.Literal l) site = ask (literal (literal_read l)) [] site
+    run_stored (hir.Path p h) site = ask (read (path_read p) h) [] site
+    run_stored (hir.Call f xs) site = do
       v ← part f
       vs ← run_each turns part xs
       ask call (v ∷ vs) site
-    run_node (hir.If c t e) site = do
+    run_stored (hir.If c t e) site = do
       v ← part c
       holds ← tests is_true v site
       if holds then part t else run_or_unit turns part e
-    run_node (hir.Loop b l source) site = loop (past_loop l) turns (turn (part b))
-    run_node (hir.Block is_unsafe l number statements tail) site =
+    run_stored (hir.Loop b l source) site = loop (past_loop l) turns (turn (part b))
+    run_stored (hir.Block is_unsafe l number statements tail) site =
         entering is_unsafe number site (block (past_block l) (λ j. j) (run_statements turns part statements tail))
-    run_node (hir.Break l e) site = do
+    run_stored (hir.Break l e) site = do
       v ← run_or_unit turns part e
       ends (break l v)
-    run_node (hir.Continue l) site = ends (continue l)
-    run_node hir.Underscore site = ask underscore [] site
-    run_node hir.IncludeBytes site = ask include_bytes [] site
-    run_node (hir.Field e name) site = operand e (field name) site
-    run_node (hir.UnaryOp op e) site = operand e (prefix op) site
-    run_node (hir.Ref rawness mutability e) site = operand e (reference rawness mutability) site
-    run_node (hir.Await e) site = operand e awaiting site
-    run_node (hir.BinaryOp (Some (ast.LogicOp op)) a b) site = do
+    run_stored (hir.Continue l) site = ends (continue l)
+    run_stored hir.Underscore site = ask underscore [] site
+    run_stored hir.IncludeBytes site = ask include_bytes [] site
+    run_stored (hir.Field e name) site = operand e (field name) site
+    run_stored (hir.UnaryOp op e) site = operand e (prefix op) site
+    run_stored (hir.Ref rawness mutability e) site = operand e (reference rawness mutability) site
+    run_stored (hir.Await e) site = operand e awaiting site
+    run_stored (hir.BinaryOp (Some (ast.LogicOp op)) a b) site = do
       v ← part a
       holds ← tests is_true v site
       lazily op holds (part b)
-    run_node (hir.BinaryOp op a b) site = operands a b (operator op) site
-    run_node (hir.Index a b) site = operands a b index site
-    run_node (hir.Tuple es) site = do
+    run_stored (hir.BinaryOp op a b) site = operands a b (operator op) site
+    run_stored (hir.Index a b) site = operands a b index site
+    run_stored (hir.Tuple es) site = do
       vs ← run_each turns part es
       made_tuple vs site
-    run_node (hir.Array es) site = do
+    run_stored (hir.Array es) site = do
       vs ← run_each turns part es
       ask array vs site
-    run_node (hir.MethodCall e name es) site = do
+    run_stored (hir.MethodCall e name es) site = do
       v ← part e
       vs ← run_each turns part es
       ask (method_call name) (v ∷ vs) site
-    run_node (hir.Return e) site = do
+    run_stored (hir.Return e) site = do
       v ← run_or_unit turns part e
       ends (leave (returned v))
-    run_node (hir.Become e) site = do
+    run_stored (hir.Become e) site = do
       v ← part e
       ends (leave (became v))
-    run_node (hir.Yeet e) site = do
+    run_stored (hir.Yeet e) site = do
       v ← run_or_unit turns part e
       ends (leave (yeeted v))
-    run_node (hir.Yield e) site = do
+    run_stored (hir.Yield e) site = do
       v ← run_or_unit turns part e
       ask yielding (v ∷ []) site
 
@@ -159,7 +159,7 @@ module _ (store : Store) (source_map : SourceMap) where
   -- with at most so many expressions inside one another
   unfoldable pub run_to : ℕ → ℕ → ExprId → StoreRun Value
   run_to zero turns i = ends (leave missing)
-  run_to (suc depth) turns i = run_found (λ e. run_node turns (run_to depth turns) e (site_at i)) (slice_get store.exprs i.0)
+  run_to (suc depth) turns i = run_found (λ e. run_stored turns (run_to depth turns) e (site_at i)) (slice_get store.exprs i.0)
 
   -- no more than there are can be inside one another
   unfoldable pub run_store : ExprId → ℕ → StoreRun Value

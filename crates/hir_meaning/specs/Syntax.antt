@@ -15,7 +15,7 @@ use Rattle.hir_meaning.specs.Run.{yielding, awaiting}
 use Rattle.hir_meaning.specs.Run.{Leave, returned, became, yeeted, made_tuple, lazily}
 use Rattle.hir_meaning.specs.Run.{ends, pure, ◌>>=◌, ◌>>◌, ask, tests, entering}
 use Rattle.hir_meaning.specs.Catching.{turn, loop, block}
-use Rattle.hir_scope.specs.Scopes.{Scope, loop_scope, Count, break_target, continue_target, outward, past_block, in_block}
+use Rattle.hir_scope.specs.Scopes.{Scope, loop_scope, Count, break_target, continue_target, outward, continue_past_block, scopes_in_block}
 use Rattle.hir_meaning.specs.Data.{PathData, literal_data, data_if_written, lookup_hygiene}
 use Rattle.hir_meaning.specs.Left.{is_kept, is_left, is_last}
 
@@ -78,7 +78,7 @@ leaves_with tree.yeeting v = yeeted v
 -- a block with a label catches the breaks that are for it
 abbrev pub catching : Option Label → SyntaxRun Value → SyntaxRun Value
 catching None m = m
-catching (Some l) m = block outward past_block m
+catching (Some l) m = block outward continue_past_block m
 
 -- with so many turns at each entry of a loop
 module _ (turns : ℕ) where
@@ -151,7 +151,8 @@ module _ (turns : ℕ) where
 
     pub run_block : Block → List Scope → SyntaxRun Value
     run_block (tree.block at is_unsafe label number stmts tail) ss =
-        entering is_unsafe number (Some (site_of at)) (catching label (run_stmts stmts (is_left tail) (run_tail tail) (in_block label ss)))
+        entering is_unsafe number (Some (site_of at))
+        (catching label (run_stmts stmts (is_left tail) (run_tail tail) (scopes_in_block label ss)))
 
     -- the tail that is written, where it is left
     pub run_tail : OptionExpr → List Scope → SyntaxRun Value

@@ -8,9 +8,9 @@ use Rattle.hir_env.specs.Answered as tree
 use Rattle.hir_env.specs.Answered.{Label, Jump, Expr}
 use Rattle.hir_meaning.specs.Run.{answered, test, is_true, Event, Answer, cut}
 use Rattle.hir_meaning.specs.Same.{ended, left}
-use Rattle.hir_meaning.specs.Small.{at, one, two, literal_at, label_of, jump_of, label_a, jump_a}
+use Rattle.hir_meaning.specs.Small.{at, one, two, literal_at, label_with, jump_with, label_a, jump_a}
 use Rattle.hir_meaning.specs.Small.{in_braces, first, block_of, loop_of, break_of}
-use Rattle.hir_meaning.specs.Small.{Nodes, id, number, stored_one, stored_two, stored_block, stored_loop}
+use Rattle.hir_meaning.specs.Small.{StoredExprs, id, number, stored_one, stored_two, stored_block, stored_loop}
 use Rattle.hir_meaning.specs.Small.{event_of, literal_event, Example, BothDo}
 
 -- `loop { 1; continue; 2 }`
@@ -64,7 +64,7 @@ break_nested inner jump = loop_of 0 (Some label_a) (block_of 2 None
     (literal_at 8 two))
 
 -- the loops have the numbers 0 and 1, the latter where it has a label, and the break is for this number
-abbrev pub stored_nested : Option LabelId → LabelId → Nodes
+abbrev pub stored_nested : Option LabelId → LabelId → StoredExprs
 stored_nested inner target = (stored_one, Some 6)
     ∷ (hir.Break (Some target) (Some (id 0)), Some 5)
     ∷ (stored_block None [] 1, Some 4)
@@ -90,13 +90,13 @@ other = record { 0 = 1 }
 
 -- where the inner loop has a label as well
 abbrev pub two_labels : Jump → ℕ → Example
-two_labels jump target = nested (Some (label_of other)) jump (Some (number 1)) (number target)
+two_labels jump target = nested (Some (label_with other)) jump (Some (number 1)) (number target)
 
 -- So it does where the inner loop's label has the name, but another hygiene; a break with that one leaves the inner loop alone.
 abbrev pub HygienesDiffer : Type 0
 HygienesDiffer =
     BothDo (two_labels jump_a 0) 1 [] (literal_event one 6 ∷ []) (ended (answered 0))
-    × BothDo (two_labels (jump_of other) 1) 1 [] (literal_event one 6 ∷ literal_event two 8 ∷ []) (left cut)
+    × BothDo (two_labels (jump_with other) 1) 1 [] (literal_event one 6 ∷ literal_event two 8 ∷ []) (left cut)
 
 -- `loop { break 'a 1 }` and `loop { continue 'a }`, where no label is
 

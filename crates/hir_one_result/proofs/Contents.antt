@@ -8,7 +8,7 @@ use Rattle.hir_store.specs.declared.ids.ExprId.{ExprId}
 use Rattle.hir_env.specs.Answered as tree
 use Rattle.hir_env.specs.Answered.{OptionExpr, Stmts}
 use Rattle.hir_meaning.specs.Left.{is_kept, is_left, none_left, gives_value}
-use Rattle.hir_meaning.specs.Contents.{HasContents}
+use Rattle.hir_meaning.specs.Contents.{BlockContents}
 use Rattle.hir_lower_form.specs.Lower.{settled}
 use Rattle.hir_one_result.specs.Leads.{Way, Ways}
 use Rattle.hir_one_result.specs.Stands.{Open, ThereIf, statement_of, StandsKept, StandsContents}
@@ -41,22 +41,22 @@ none_gives (tree.more_stmts (tree.expr_stmt e semi) ss) = never (is_left e) semi
 -- where it isn't
 
 abbrev Settled : Bool → List Statement → Type 0
-Settled gives is = HasContents gives is None (settled is None)
+Settled gives is = BlockContents gives is None (settled is None)
 
 -- a statement before others
 before : (gives : Bool) (s : Statement) (others : List Statement)
     → settled (s ∷ others) None ≡ (s ∷ (settled others None).0, (settled others None).1)
-    → HasContents gives others None (settled others None) → HasContents gives (s ∷ others) None (settled (s ∷ others) None)
+    → BlockContents gives others None (settled others None) → BlockContents gives (s ∷ others) None (settled (s ∷ others) None)
 before false s others e h = e ∙ ap (λ r. (s ∷ r.0, r.1)) h
 before true s others e h = (h.0, ap (λ is. s ∷ is) h.1 ∙ ap (λ r. r.0 ++ statement.Expr h.0 false ∷ []) (sym e), ap (λ r. r.1) e ∙ h.2)
 
 -- an expression statement that is left
 last : (semi none gives : Bool) (v : ExprId) (others : List Statement) → IsEmpty none others
-    → HasContents gives others None (settled others None)
+    → BlockContents gives others None (settled others None)
     → Settled ((not semi && (none && true)) || gives) (statement.Expr v semi ∷ others)
 last true none gives v others n h = before gives (statement.Expr v true) others refl h
 last false true gives v others n h =
-    subst (λ is. HasContents true (statement.Expr v false ∷ is) None (settled (statement.Expr v false ∷ is) None)) (sym n) (v, refl, refl)
+    subst (λ is. BlockContents true (statement.Expr v false ∷ is) None (settled (statement.Expr v false ∷ is) None)) (sym n) (v, refl, refl)
 last false false gives v others n h = before gives (statement.Expr v false) others (subst Later (sym n.2) refl) h
   where
     Later : List Statement → Type 0
@@ -107,11 +107,11 @@ module _ (store : Store) (source_map : SourceMap) where
 
   -- the tail is there just where the written one is kept
   whole : (left : Bool) (ss : Stmts) (is : List Statement) (tail : Option ExprId) → IsThere left tail → Settled (gives_value ss false) is
-      → HasContents (gives_value ss left) is tail (settled is tail)
+      → BlockContents (gives_value ss left) is tail (settled is tail)
   whole true ss is tail t h =
-      subst (λ o. HasContents (gives_value ss true) is o (settled is o)) (sym t.1)
-      (subst (λ g. HasContents g is (Some t.0) (is, Some t.0)) (sym (none_gives ss)) refl)
-  whole false ss is tail t h = subst (λ o. HasContents (gives_value ss false) is o (settled is o)) (sym t) h
+      subst (λ o. BlockContents (gives_value ss true) is o (settled is o)) (sym t.1)
+      (subst (λ g. BlockContents g is (Some t.0) (is, Some t.0)) (sym (none_gives ss)) refl)
+  whole false ss is tail t h = subst (λ o. BlockContents (gives_value ss false) is o (settled is o)) (sym t) h
 
   module _ (e : OptionExpr) (tail : Option ExprId) where
     tail_there : (rs : Open) (ss : Stmts) (is : List Statement) (ws : List Way)
@@ -122,7 +122,7 @@ module _ (store : Store) (source_map : SourceMap) where
 
   pub has_contents : (rs : Open) (ss : Stmts) (e : OptionExpr) (is : List Statement) (tail : Option ExprId) (ws : List Way)
       → StandsContents store source_map rs ss (λ around o. StandsKept store source_map around e o) is tail ws
-      → HasContents (gives_value ss (is_left e)) is tail (settled is tail)
+      → BlockContents (gives_value ss (is_left e)) is tail (settled is tail)
   has_contents rs ss e is tail ws h =
       whole (is_left e) ss is tail (tail_there e tail rs ss is ws h)
       (gives (λ around o. StandsKept store source_map around e o) tail rs ss is ws h)

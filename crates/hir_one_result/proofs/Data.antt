@@ -8,7 +8,7 @@ use Rattle.hir_store.specs.declared.path.Path.TheVariants.{BarePath}
 use Rattle.hir_store.specs.declared.path.PathKind.TheVariants.{Plain}
 use Rattle.hir_store.specs.declared.ids.HygieneId.{HygieneId}
 use Rattle.hir_env.specs.Answered.{Segments}
-use Rattle.hir_meaning.specs.Data.{PathData, names_of, plain_path, data_if_written, hygiene_for, lookup_hygiene, path_read}
+use Rattle.hir_meaning.specs.Data.{PathData, segment_names, plain_path, data_if_written, hygiene_for, lookup_hygiene, path_read}
 use Rattle.hir_lower_form.specs.Lower.{path_hygiene, named_path, stored_path}
 use Rattle.hir_lower_form.proofs.Paths.{ReadsNames, names_are, long_hygiene}
 
@@ -27,10 +27,11 @@ named None h = refl
 named (Some ns) h =
     let path : Path = BarePath (record { kind = Plain; segments = ns }) in (path, refl, ap (λ x. hir.Path path x) (hygiene_is ns h))
 
-reads : ReadsNames names_of
+reads : ReadsNames segment_names
 reads = record { none = refl; refused = λ ss. refl; more = λ n ss. refl }
 
 pub path_is : (x : Option Segments) (h : HygieneId) → PathIs (data_if_written x) h (stored_path x h)
 path_is None h = refl
 path_is (Some ss) h =
-    subst (λ o. PathIs (option_map plain_path (names_of ss)) h (named_path o h)) (sym (names_are reads ss)) (named (names_of ss) h)
+    subst (λ o. PathIs (option_map plain_path (segment_names ss)) h (named_path o h)) (sym (names_are reads ss))
+    (named (segment_names ss) h)

@@ -16,10 +16,10 @@ use Rattle.hir_store.specs.declared.ids.ExprId.{ExprId}
 use Rattle.hir_store.specs.declared.ids.LabelId.{LabelId}
 use Rattle.hir_store.specs.declared.ids.BlockId.{BlockId}
 use Rattle.hir_env.specs.Answered.{Label, Jump}
-use Rattle.hir_scope.specs.Ribs.{Target, found, unreachable, undeclared, target}
+use Rattle.hir_scope.specs.Ribs.{Target, reachable, unreachable, undeclared, target}
 use Rattle.hir_lower_form.specs.Builder.{Builder}
 use Rattle.hir_lower_form.specs.Lowering.{Checked, go_on, Lowering, ◌>>=◌, pure, alloc_expr, point, report}
-use Rattle.hir_lower_form.specs.Lowering.{enter_block, open_label, close, jump_target, found_or_fault, enter, report_await}
+use Rattle.hir_lower_form.specs.Lowering.{enter_block, open_label, close, jump_target, found_or_fault, open_as, report_await}
 
 -- so many more are stored
 pub record Took (n l : ℕ) (a b : Stored) : Type 0 where
@@ -129,7 +129,7 @@ takes_jump None = takes_pure None
 takes_jump (Some j) = record { takes = λ b. by b (target j b.scopes) }
   where
     by : (b : Builder) (t : Target LabelId) → Room 0 0 b (found_or_fault j t b).0 (found_or_fault j t b).1
-    by b (found n) = took_none _ _ refl refl refl
+    by b (reachable n) = took_none _ _ refl refl refl
     by b unreachable = took_none _ _ refl refl refl
     by b undeclared = took_none _ _ refl refl refl
 
@@ -155,7 +155,7 @@ made_label t l source a = if t then (Ok (label_id (length a.entries)), with_entr
 abbrev opening : Label → Bool → Builder → Checked LabelId × Builder
 opening l t b =
     let r = made_label t (record { name = l.name }) (Some l.pointer) b.stored.labels in
-    go_on r.0 (record b { stored = record b.stored { labels = r.1 } }) (λ n. enter l n >>= (λ _. pure n))
+    go_on r.0 (record b { stored = record b.stored { labels = r.1 } }) (λ n. open_as l n >>= (λ _. pure n))
 
 pub takes_open : (l : Label) → Takes 0 1 (open_label l)
 unfolding open_label storing.alloc_label

@@ -13,12 +13,12 @@ use Rattle.hir_syntax.specs.declared.ast.Literal.{Literal as AstLiteral}
 use Rattle.hir_store.specs.Pointers.{Pointer}
 use Rattle.hir_store.specs.declared.hir.Literal.{Literal}
 use Rattle.hir_meaning.specs.Data.{PathData, path_read, LiteralData, literal_data}
-use Rattle.hir_meaning.specs.Contents.{HasContents}
+use Rattle.hir_meaning.specs.Contents.{BlockContents}
 use Rattle.hir_store.specs.declared.ids.CfgId.{CfgId}
 use Rattle.hir_meaning.specs.Small.{at, root, stored_one}
 use Rattle.hir_one_result.specs.Leads.{Way, expr_way}
 use Rattle.hir_one_result.specs.Stands.{Absent, statement_of, StandsLiteral, StandsEach, StandsContents}
-use Rattle.hir_one_result.specs.Worked.{Jumps, other, literal_first, Statements, EntersInOrder, Leaves, letter, block_number}
+use Rattle.hir_one_result.specs.Worked.{Jumps, other, literal_first, Statements, EntersInOrder, Leaves, letter, block_id}
 use Rattle.hir_one_result.specs.Worked.{elements, PlainForms}
 
 -- a path is what is read of it
@@ -42,13 +42,13 @@ alone v last (s ∷ (t ∷ ss)) e = cc
 
 module _ (store : Store) (source_map : SourceMap) (by : CfgId) (semi : Bool) where
   -- the literal's statement alone is kept
-  pub record Kept (is : List Statement) (tail : Option ExprId) : Type 0 where
+  pub record LiteralAlone (is : List Statement) (tail : Option ExprId) : Type 0 where
     pub value : ExprId
     pub is_one : is ≡ statement.Expr value semi ∷ []
     pub no_tail : tail ≡ None
 
   kept : (is : List Statement) (tail : Option ExprId) (ws : List Way)
-      → StandsContents store source_map [] (literal_first by semi) (λ rs o. Absent o) is tail ws → Kept is tail
+      → StandsContents store source_map [] (literal_first by semi) (λ rs o. Absent o) is tail ws → LiteralAlone is tail
   kept is tail ws c =
       let d = c.3.second in
       let none : c.1 ≡ [] = d.2 ∙ (ap (λ o. option_to_list (statement_of true o) ++ d.1) d.3.first.0 ∙ d.3.second.0) in
@@ -60,7 +60,7 @@ module _ (store : Store) (source_map : SourceMap) (by : CfgId) (semi : Bool) whe
       }
 
 settles : (contents : List Statement × Option ExprId) (v : ExprId) (is : List Statement) → is ≡ statement.Expr v false ∷ []
-    → HasContents true is None contents
+    → BlockContents true is None contents
     → (last : ExprId) × (hir.Block false None None contents.0 contents.1 ≡ hir.Block false None None [] (Some last))
 settles contents v is e h =
     let none = alone v h.0 contents.0 (sym e ∙ h.1) in
@@ -121,7 +121,7 @@ module _ (store : Store) (source_map : SourceMap) where
       }
 
 abbrev numbered_block : List Statement → Option ExprId → Option HirExpr
-numbered_block ss tail = Some (hir.Block true None (Some (block_number 7)) ss tail)
+numbered_block ss tail = Some (hir.Block true None (Some (block_id 7)) ss tail)
 
 pub plain_forms : PlainForms
 plain_forms = record {

@@ -14,14 +14,14 @@ use Rattle.hir_store.specs.declared.ids.LabelId.{LabelId}
 use Rattle.hir_store.specs.declared.ids.BlockId.{BlockId}
 use Rattle.hir_store.specs.declared.ids.HygieneId.{HygieneId}
 use Rattle.hir_store.specs.declared.diagnostics.ExpressionStoreDiagnostics.{ExpressionStoreDiagnostics}
-use Rattle.hir_scope.specs.Ribs.{Rib, Target, found, unreachable, undeclared, target, jump_number}
+use Rattle.hir_scope.specs.Ribs.{Rib, Target, reachable, unreachable, undeclared, target, jump_number}
 use Rattle.hir_store.specs.declared.diagnostics.AwaitLocation.{AwaitLocation}
 use Rattle.hir_store.specs.declared.name.Name.{Name}
 use Rattle.hir_env.specs.Answered as tree
 use Rattle.hir_env.specs.Answered.{Leaf, Unary, Binary, Leaving, Listing, Label, Jump, Segments}
 use Rattle.hir_meaning.specs.Data.{PathData, data_if_written}
 use Rattle.hir_lower_form.specs.Lowering.{Lowering, ◌>>=◌, pure, alloc_expr}
-use Rattle.hir_lower_form.specs.Lower.{Node, Contents, missing, some, if_form, loop_form, call_form, continue_form, break_form}
+use Rattle.hir_lower_form.specs.Lower.{ExprSteps, StoredContents, missing, some, if_form, loop_form, call_form, continue_form, break_form}
 use Rattle.hir_lower_form.specs.Lower.{stored_leaf, stored_unary, stored_binary, stored_leaving}
 use Rattle.hir_lower_form.specs.Lower.{operand_form, operands_form, value_form, list_form, method_call_form, await_form}
 use Rattle.hir_lower_form.specs.Lower.{paren_form, block_form, labelled, settled, stored_path, stored_literal}
@@ -30,7 +30,7 @@ use Rattle.hir_steps.proofs.Steps.{Mark, Rel, Correct, Allocated, Opened, correc
 use Rattle.hir_steps.proofs.Steps.{correct_enter_block, correct_alloc, correct_opened, correct_target, with_fault, with_target, with_jump}
 use Rattle.hir_steps.proofs.Steps.{with_block, with_await, correct_report_await}
 use Rattle.hir_one_result.specs.Forms.{leaf_form, unary_form, binary_form, leaving_form}
-use Rattle.hir_one_result.specs.Leads.{Ways, From, FromNone, FromLabel, ◌&◌}
+use Rattle.hir_one_result.specs.Leads.{Ways, OneWay, FromNone, OneLabelWay, ◌&◌}
 use Rattle.hir_one_result.specs.Stands.{Open, Absent, There, ExprAt, LabelAt, StandsMissing, StandsAlone, StandsPath, StandsLiteral}
 use Rattle.hir_one_result.specs.Stands.{StandsOver, StandsOverTwo, StandsList, InLabel}
 use Rattle.hir_one_result.proofs.Leading.{Shown, shown_as, shown_none, shown_own, shown_label, shown_both, shown_swap, shown_after}
@@ -57,7 +57,7 @@ moved_fault d {a = a} e = moved_same a (with_fault d a) e refl refl
 
 target_leads : {A : Type 0} (j : Jump) (t : Target A) (s : Stored)
     → ((with_target j t s).exprs ≡ s.exprs) × ((with_target j t s).labels ≡ s.labels)
-target_leads j (found n) s = (refl, refl)
+target_leads j (reachable n) s = (refl, refl)
 target_leads j unreachable s = (refl, refl)
 target_leads j undeclared s = (refl, refl)
 
@@ -95,7 +95,7 @@ module _ {e : HirExpr} {final : Stored} {ps : List Frame} {m m' : Mark} {i : Exp
       let number = row.number in
       omega arith
 
-  own : {at : Pointer} → Allocated e (Some at) final ps m m' i → Shown (From at i) m.stored m'.stored
+  own : {at : Pointer} → Allocated e (Some at) final ps m m' i → Shown (OneWay at i) m.stored m'.stored
   own {at = at} row = shown_own at i
       (ap (λ s. s.exprs.map) row.stored
       ∙ ap (λ n. insert_entry same_pointer m.stored.exprs.map at (expr_id n)) (sym (row.number ∙ row.last)))
@@ -114,7 +114,7 @@ module _ {A B : Type 0} {at : Label → LabelId → Frame} {l : Label} {R : Labe
         source = ap (λ n. slice_get final.labels.sources n) row.new ∙ row.from;
       }
 
-  own_label : (row : Opened at l R Q final ps m m' b) → Shown (FromLabel l.pointer row.number) m.stored row.entered.stored
+  own_label : (row : Opened at l R Q final ps m m' b) → Shown (OneLabelWay l.pointer row.number) m.stored row.entered.stored
   own_label row = shown_label l.pointer row.number
       (ap (λ s. s.exprs) row.stored)
       (ap (λ s. s.labels.map) row.stored
@@ -190,11 +190,11 @@ present_some h = correct_as (correct_bind h (λ a. correct_pure (Some a))) (λ f
     record { shown = shown_as (shown_before row.first.shown (moved_pure row.second.still)) (λ ws y. (row.one, row.second.is, y)) })
 
 module _ (at : Pointer) where
-  pub if_stands : {c t : Node} {e : Lowering (Option ExprId)} {C T : Of ExprId} {E : Of (Option ExprId)} → Correct c (Shows C)
+  pub if_stands : {c t : ExprSteps} {e : Lowering (Option ExprId)} {C T : Of ExprId} {E : Of (Option ExprId)} → Correct c (Shows C)
       → Correct t (Shows T) → Correct e (Shows E)
       → Correct (if_form at c t e) (Shows (λ final rs i ws. (condition : ExprId) × (then_branch : ExprId) × (else_branch : Option ExprId)
       × Placed final i (hir.If condition then_branch else_branch) (Some at)
-      × (C final rs condition & T final rs then_branch & E final rs else_branch & From at i) ws))
+      × (C final rs condition & T final rs then_branch & E final rs else_branch & OneWay at i) ws))
   unfolding if_form
   if_stands hc ht he =
       correct_as (correct_bind ht (λ i. correct_bind he (λ j. correct_bind hc (λ k. correct_alloc (hir.If k i j) (Some at)))))
@@ -204,9 +204,9 @@ module _ (at : Pointer) where
       let parts = shown_swap (shown_both row.first.shown two) in
       record { shown = shown_as parts (λ ws x. (q.one, row.one, r.one, expr_at q.second, x)) })
 
-  pub loop_stands : (label : Option Label) {b : Node} {B : Of ExprId} → Correct b (Shows B)
+  pub loop_stands : (label : Option Label) {b : ExprSteps} {B : Of ExprId} → Correct b (Shows B)
       → Correct (loop_form at label b) (Shows (λ final rs i. InLabel (store_of final) (map_of final) rs label (λ inner n ws. (body : ExprId)
-      × Placed final i (hir.Loop body n source.Loop) (Some at) × (B final inner body & From at i) ws)))
+      × Placed final i (hir.Loop body n source.Loop) (Some at) × (B final inner body & OneWay at i) ws)))
   unfolding loop_form
   loop_stands None h = correct_as (correct_bind h (λ i. correct_alloc (hir.Loop i None source.Loop) (Some at))) (λ final ps m m' i g row.
       record { shown = shown_as (shown_both row.first.shown (own row.second)) (λ ws x. (row.one, expr_at row.second, x)) })
@@ -216,10 +216,10 @@ module _ (at : Pointer) where
       let body = shown_as (shown_both row.first.shown (own row.second)) (λ ws y. (row.one, expr_at row.second, y)) in
       record { shown = shown_as (shown_both (own_label row) body) (λ ws y. (row.number, label_at row, y)) })
 
-  pub call_stands : {f : Node} {xs : Lowering (List ExprId)} {F : Of ExprId} {X : Of (List ExprId)} → Correct f (Shows F)
+  pub call_stands : {f : ExprSteps} {xs : Lowering (List ExprId)} {F : Of ExprId} {X : Of (List ExprId)} → Correct f (Shows F)
       → Correct xs (Shows X)
       → Correct (call_form at f xs) (Shows (λ final rs i ws. (callee : ExprId) × (arguments : List ExprId)
-      × Placed final i (hir.Call callee arguments) (Some at) × (F final rs callee & X final rs arguments & From at i) ws))
+      × Placed final i (hir.Call callee arguments) (Some at) × (F final rs callee & X final rs arguments & OneWay at i) ws))
   unfolding call_form
   call_stands hf hx =
       correct_as (correct_bind hf (λ i. correct_bind hx (λ js. correct_alloc (hir.Call i js) (Some at)))) (λ final ps m m' i g row.
@@ -246,12 +246,13 @@ module _ (at : Pointer) where
       let parts = shown_both row.first.shown (shown_both r.first.shown (own r.second)) in
       record { shown = shown_as parts (λ ws x. (row.one, r.one, node, x)) })
 
-  pub operand_stands : {made form : ExprId → HirExpr} {e : Node} {S : Of ExprId} → ((i : ExprId) → made i ≡ form i) → Correct e (Shows S)
+  pub operand_stands : {made form : ExprId → HirExpr} {e : ExprSteps} {S : Of ExprId} → ((i : ExprId) → made i ≡ form i)
+      → Correct e (Shows S)
       → Correct (operand_form at made e) (Shows (λ final rs i. StandsOver (store_of final) (map_of final) form at (λ x. S final rs x) i))
   unfolding operand_form
   operand_stands is h = over is h
 
-  pub operands_stand : {made form : ExprId → ExprId → HirExpr} {a b : Node} {S T : Of ExprId}
+  pub operands_stand : {made form : ExprId → ExprId → HirExpr} {a b : ExprSteps} {S T : Of ExprId}
       → ((i j : ExprId) → made i j ≡ form i j) → Correct a (Shows S) → Correct b (Shows T)
       → Correct (operands_form at made a b)
       (Shows (λ final rs i. StandsOverTwo (store_of final) (map_of final) form at (λ x. S final rs x) (λ y. T final rs y) i))
@@ -271,14 +272,14 @@ module _ (at : Pointer) where
   list_stands (tree.tuple_of true) h = over_two (λ is i. refl) h missing_stands
   list_stands tree.array_of h = over (λ is. refl) h
 
-  pub method_call_stands : (name : Name) {e : Node} {xs : Lowering (List ExprId)} {S : Of ExprId} {X : Of (List ExprId)}
+  pub method_call_stands : (name : Name) {e : ExprSteps} {xs : Lowering (List ExprId)} {S : Of ExprId} {X : Of (List ExprId)}
       → Correct e (Shows S) → Correct xs (Shows X)
       → Correct (method_call_form at e name xs) (Shows (λ final rs i. StandsOverTwo (store_of final) (map_of final)
       (λ receiver arguments. hir.MethodCall receiver name arguments) at (λ x. S final rs x) (λ is. X final rs is) i))
   unfolding method_call_form
   method_call_stands name he hx = over_two (λ i is. refl) he hx
 
-  pub await_stands : (location : Option AwaitLocation) {e : Node} {S : Of ExprId} → Correct e (Shows S)
+  pub await_stands : (location : Option AwaitLocation) {e : ExprSteps} {S : Of ExprId} → Correct e (Shows S)
       → Correct (await_form at location e)
       (Shows (λ final rs i. StandsOver (store_of final) (map_of final) hir.Await at (λ x. S final rs x) i))
   unfolding await_form
@@ -301,7 +302,7 @@ module _ (at : Pointer) where
 
   pub break_stands : (j : Option Jump) {e : Lowering (Option ExprId)} {E : Of (Option ExprId)} → Correct e (Shows E)
       → Correct (break_form at j e) (Shows (λ final rs i ws. (value : Option ExprId)
-      × Placed final i (hir.Break (jump_number rs j) value) (Some at) × (E final rs value & From at i) ws))
+      × Placed final i (hir.Break (jump_number rs j) value) (Some at) × (E final rs value & OneWay at i) ws))
   unfolding break_form
   break_stands j he =
       correct_as (correct_bind (correct_target j) (λ n. correct_bind he (λ v. correct_alloc (hir.Break n v) (Some at))))
@@ -311,24 +312,25 @@ module _ (at : Pointer) where
       let whole = shown_as (shown_both r.first.shown (own r.second)) (λ ws x. (r.one, node, x)) in
       record { shown = shown_after (moved_jump j ps m.stored row.first.stored) whole })
 
-  pub paren_stands : {e : Node} {S : Of ExprId} → Correct e (Shows S)
-      → Correct (paren_form at e) (Shows (λ final rs i. S final rs i & From at i))
+  pub paren_stands : {e : ExprSteps} {S : Of ExprId} → Correct e (Shows S)
+      → Correct (paren_form at e) (Shows (λ final rs i. S final rs i & OneWay at i))
   unfolding paren_form
   paren_stands {S = S} h =
       correct_as (correct_bind h (λ i. correct_bind (correct_point at i) (λ u. correct_pure i))) (λ final ps m m' i g row.
       let r = row.second in
-      let own : Shown (From at row.one) row.middle.stored r.middle.stored =
+      let own : Shown (OneWay at row.one) row.middle.stored r.middle.stored =
       shown_own at row.one (ap (λ s. s.exprs.map) r.first.stored) (ap (λ s. s.labels) r.first.stored)
       (none_new row.middle.stored r.middle.stored (ap (λ s. s.exprs.entries) r.first.stored)) in
       let x = shown_before (shown_both row.first.shown own) (moved_pure r.second.still) in
-      record { shown = subst (λ k. Shown (S final (ribs ps) k & From at k) m.stored m'.stored) (sym r.second.is) x })
+      record { shown = subst (λ k. Shown (S final (ribs ps) k & OneWay at k) m.stored m'.stored) (sym r.second.is) x })
 
   -- what its statements and its tail became, as it is settled
-  pub block_form_stands : (is_unsafe : Bool) (label : Option LabelId) (number : Option BlockId) {c : Lowering Contents} {S : Of Contents}
+  pub block_form_stands : (is_unsafe : Bool) (label : Option LabelId) (number : Option BlockId) {c : Lowering StoredContents}
+      {S : Of StoredContents}
       → Correct c (Shows S)
-      → Correct (block_form at is_unsafe label number c) (Shows (λ final rs i ws. (r : Contents)
+      → Correct (block_form at is_unsafe label number c) (Shows (λ final rs i ws. (r : StoredContents)
       × Placed final i (hir.Block is_unsafe label number (settled r.0 r.1).0 (settled r.0 r.1).1) (Some at)
-      × (S final rs r & From at i) ws))
+      × (S final rs r & OneWay at i) ws))
   unfolding block_form
   block_form_stands is_unsafe label number h =
       correct_as (correct_bind (correct_enter_block number) (λ u. correct_bind h (λ r. correct_alloc _ (Some at))))
@@ -338,7 +340,7 @@ module _ (at : Pointer) where
       let moved = moved_same m.stored (with_block number m.stored) row.first.stored same.0 same.1 in
       record { shown = shown_after moved (shown_as (shown_both r.first.shown (own r.second)) (λ ws x. (r.one, expr_at r.second, x))) })
 
-pub labelled_stands : (label : Option Label) {f : Option LabelId → Node} {S : Stored → Open → Option LabelId → ExprId → Ways}
+pub labelled_stands : (label : Option Label) {f : Option LabelId → ExprSteps} {S : Stored → Open → Option LabelId → ExprId → Ways}
     → ((n : Option LabelId) → Correct (f n) (Shows (λ final rs i. S final rs n i)))
     → Correct (labelled label f) (Shows (λ final rs i. InLabel (store_of final) (map_of final) rs label (λ inner n. S final inner n i)))
 unfolding labelled

@@ -14,13 +14,13 @@ use Rattle.hir_store.specs.declared.diagnostics.AwaitLocation.{AwaitLocation}
 use Rattle.hir_store.specs.declared.name.Name.{Name}
 use Rattle.hir_env.specs.Answered as tree
 use Rattle.hir_env.specs.Answered.{Label, Jump}
-use Rattle.hir_scope.specs.Ribs.{Rib, label_rib, Target, found, unreachable, undeclared, target, map_ribs, map_target}
+use Rattle.hir_scope.specs.Ribs.{Rib, label_rib, Target, reachable, unreachable, undeclared, target, map_ribs, map_target}
 use Rattle.hir_scope.specs.Scopes as scope
-use Rattle.hir_scope.specs.Scopes.{Scope, loop_scope, block_scope, in_block}
+use Rattle.hir_scope.specs.Scopes.{Scope, loop_scope, block_scope, scopes_in_block}
 use Rattle.hir_scope.proofs.Ribs.{target_map}
 use Rattle.hir_lower_form.specs.Lowering.{Lowering, ◌>>=◌, pure, alloc_expr, point, report, report_await, enter_block}
 use Rattle.hir_lower_form.specs.Lowering.{open_label, close, jump_target}
-use Rattle.hir_lower_form.specs.Lower.{Node, Contents, missing, some, if_form, loop_form, call_form, continue_form, break_form}
+use Rattle.hir_lower_form.specs.Lower.{ExprSteps, StoredContents, missing, some, if_form, loop_form, call_form, continue_form, break_form}
 use Rattle.hir_lower_form.specs.Lower.{operand_form, operands_form, value_form, list_form, method_call_form, await_form}
 use Rattle.hir_lower_form.specs.Lower.{paren_form, block_form, labelled}
 use Rattle.hir_steps.proofs.Frames.{Frame, loop_at, block_at, ribs}
@@ -130,12 +130,12 @@ module _ {X : Type 0} (L : Listing X) where
   none_more s = sym (ap (λ xs. L.list s ++ xs) L.no_fault ∙ append-nil (L.list s))
 
   faults_of : {A : Type 0} (j : Jump) (t : Target A) (s : Stored) → L.list (with_target j t s) ≡ L.list s ++ L.of_faults (target_faults j t)
-  faults_of j (found n) s = none_more s
+  faults_of j (reachable n) s = none_more s
   faults_of j unreachable s = L.fault (UnreachableLabel j.pointer j.name) s
   faults_of j undeclared s = L.fault (UndeclaredLabel j.pointer j.name) s
 
   target_like : {A B : Type 0} (f : A → B) (j : Jump) (t : Target A) → target_faults j (map_target f t) ≡ target_faults j t
-  target_like f j (found a) = refl
+  target_like f j (reachable a) = refl
   target_like f j unreachable = refl
   target_like f j undeclared = refl
 
@@ -195,13 +195,14 @@ module _ {X : Type 0} (L : Listing X) where
 
   module _ (at : Pointer) where
     -- the branches first
-    pub if_tells : {C T E : List Scope → List X} {c t : Node} {e : Lowering (Option ExprId)} → Correct c (Tells C) → Correct t (Tells T)
+    pub if_tells : {C T E : List Scope → List X} {c t : ExprSteps} {e : Lowering (Option ExprId)} → Correct c (Tells C)
+        → Correct t (Tells T)
         → Correct e (Tells E)
         → Correct (if_form at c t e) (Tells (λ ss. T ss ++ (E ss ++ C ss)))
     unfolding if_form
     if_tells hc ht he = tells_bind ht (λ i. tells_bind he (λ j. tells_end hc (λ k. tells_alloc _ _)))
 
-    pub loop_tells : (label : Option Label) {D : List Scope → List X} {b : Node} → Correct b (Tells D)
+    pub loop_tells : (label : Option Label) {D : List Scope → List X} {b : ExprSteps} → Correct b (Tells D)
         → Correct (loop_form at label b) (Tells (λ ss. D (loop_scope label ∷ ss)))
     unfolding loop_form
     loop_tells None h = tells_end
@@ -210,7 +211,7 @@ module _ {X : Type 0} (L : Listing X) where
     loop_tells (Some l) h =
         opened_tells loop_at l (loop_scope (Some l)) (λ n ps. refl) (λ n. loop_is_rib l n) (λ n. h) (λ n i. tells_alloc _ _)
 
-    pub call_tells : {D E : List Scope → List X} {f : Node} {xs : Lowering (List ExprId)} → Correct f (Tells D) → Correct xs (Tells E)
+    pub call_tells : {D E : List Scope → List X} {f : ExprSteps} {xs : Lowering (List ExprId)} → Correct f (Tells D) → Correct xs (Tells E)
         → Correct (call_form at f xs) (Tells (λ ss. D ss ++ E ss))
     unfolding call_form
     call_tells hf hx = tells_bind hf (λ i. tells_end hx (λ js. tells_alloc _ _))
@@ -224,16 +225,16 @@ module _ {X : Type 0} (L : Listing X) where
     unfolding break_form
     break_tells j h = tells_bind (tells_target j) (λ n. tells_end h (λ v. tells_alloc _ _))
 
-    pub paren_tells : {D : List Scope → List X} {e : Node} → Correct e (Tells D) → Correct (paren_form at e) (Tells D)
+    pub paren_tells : {D : List Scope → List X} {e : ExprSteps} → Correct e (Tells D) → Correct (paren_form at e) (Tells D)
     unfolding paren_form
     paren_tells h = tells_end h (λ i. tells_end (tells_point at i) (λ u. tells_pure i))
 
-    pub operand_tells : (form : ExprId → HirExpr) {D : List Scope → List X} {e : Node} → Correct e (Tells D)
+    pub operand_tells : (form : ExprId → HirExpr) {D : List Scope → List X} {e : ExprSteps} → Correct e (Tells D)
         → Correct (operand_form at form e) (Tells D)
     unfolding operand_form
     operand_tells form h = tells_end h (λ i. tells_alloc _ _)
 
-    pub operands_tells : (form : ExprId → ExprId → HirExpr) {D E : List Scope → List X} {a b : Node} → Correct a (Tells D)
+    pub operands_tells : (form : ExprId → ExprId → HirExpr) {D E : List Scope → List X} {a b : ExprSteps} → Correct a (Tells D)
         → Correct b (Tells E) → Correct (operands_form at form a b) (Tells (λ ss. D ss ++ E ss))
     unfolding operands_form
     operands_tells form ha hb = tells_bind ha (λ i. tells_end hb (λ j. tells_alloc _ _))
@@ -250,25 +251,25 @@ module _ {X : Type 0} (L : Listing X) where
     list_tells (tree.tuple_of true) h = tells_end h (λ is. tells_end missing_tells (λ i. tells_alloc _ _))
     list_tells tree.array_of h = tells_end h (λ is. tells_alloc _ _)
 
-    pub method_call_tells : (name : Name) {D E : List Scope → List X} {e : Node} {xs : Lowering (List ExprId)} → Correct e (Tells D)
+    pub method_call_tells : (name : Name) {D E : List Scope → List X} {e : ExprSteps} {xs : Lowering (List ExprId)} → Correct e (Tells D)
         → Correct xs (Tells E) → Correct (method_call_form at e name xs) (Tells (λ ss. D ss ++ E ss))
     unfolding method_call_form
     method_call_tells name he hx = tells_bind he (λ i. tells_end hx (λ is. tells_alloc _ _))
 
-    pub await_tells : (location : Option AwaitLocation) {D : List Scope → List X} {e : Node} → Correct e (Tells D)
+    pub await_tells : (location : Option AwaitLocation) {D : List Scope → List X} {e : ExprSteps} → Correct e (Tells D)
         → Correct (await_form at location e) (Tells (λ ss. D ss ++ L.of_faults (await_faults at location)))
     unfolding await_form
     await_tells location h = tells_bind h (λ i. tells_end (tells_report_await at location) (λ u. tells_alloc _ _))
 
     pub block_form_tells : (is_unsafe : Bool) (label : Option LabelId) (number : Option BlockId) {D : List Scope → List X}
-        {c : Lowering Contents} → Correct c (Tells D)
+        {c : Lowering StoredContents} → Correct c (Tells D)
         → Correct (block_form at is_unsafe label number c) (Tells (λ ss. L.of_block number ++ D ss))
     unfolding block_form
     block_form_tells is_unsafe label number h = tells_bind (tells_enter_block number) (λ u. tells_end h (λ r. tells_alloc _ _))
 
-  pub labelled_tells : (label : Option Label) {D : List Scope → List X} {f : Option LabelId → Node}
+  pub labelled_tells : (label : Option Label) {D : List Scope → List X} {f : Option LabelId → ExprSteps}
       → ((n : Option LabelId) → Correct (f n) (Tells D))
-      → Correct (labelled label f) (Tells (λ ss. D (in_block label ss)))
+      → Correct (labelled label f) (Tells (λ ss. D (scopes_in_block label ss)))
   unfolding labelled
   labelled_tells None h = h None
   labelled_tells (Some l) h =

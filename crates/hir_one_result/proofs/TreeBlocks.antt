@@ -8,7 +8,7 @@ use Rattle.hir_store.proofs.Range.{extends_refl}
 use Rattle.hir_env.specs.Answered as tree
 use Rattle.hir_env.specs.Answered.{Expr, OptionExpr, Exprs, Block, OptionBlock, Stmts, Stmt}
 use Rattle.hir_lower_form.specs.Lowering.{Lowering}
-use Rattle.hir_lower_form.specs.Lower.{Node, kept, lower, lower_part, present, kept_part, lower_each, lower_block, lower_block_part}
+use Rattle.hir_lower_form.specs.Lower.{ExprSteps, kept, lower, lower_part, present, kept_part, lower_each, lower_block, lower_block_part}
 use Rattle.hir_lower_form.specs.Lower.{lower_stmts, lower_stmt}
 use Rattle.hir_steps.proofs.Frames.{frames, ribs}
 use Rattle.hir_steps.proofs.Steps.{Correct}
@@ -17,7 +17,7 @@ use Rattle.hir_one_result.specs.Blocks.{blocks_of, blocks_of_part, blocks_of_eac
 use Rattle.hir_one_result.specs.Blocks.{blocks_of_stmt}
 use Rattle.hir_one_result.specs.Laws.{BlocksAre}
 use Rattle.hir_one_result.proofs.Around.{scopes_around}
-use Rattle.hir_one_result.proofs.Lowered.{lowered}
+use Rattle.hir_one_result.proofs.AfterLowering.{after_lowering}
 use Rattle.hir_one_result.proofs.Telling.{Listing, Tells, tells_bind, tells_as, tells_end, tells_pure, tells_some, tells_report}
 use Rattle.hir_one_result.proofs.Telling.{missing_tells, if_tells, loop_tells, call_tells, continue_tells, break_tells, paren_tells}
 use Rattle.hir_one_result.proofs.Telling.{operand_tells, operands_tells, value_tells, list_tells, method_call_tells, await_tells}
@@ -49,7 +49,7 @@ entered = record {
 abbrev Enters : {A : Type 0} → List BlockId → Lowering A → Type 0
 Enters ns p = Correct p (Tells entered (λ ss. ns))
 
-kept_blocks : (e : Expr) {p : Node} → Enters (blocks_of e) p → Enters (blocks_of e) (kept e p)
+kept_blocks : (e : Expr) {p : ExprSteps} → Enters (blocks_of e) p → Enters (blocks_of e) (kept e p)
 kept_blocks (tree.disabled_expr at by e) h = tells_end entered (tells_report entered _) (λ u. tells_pure entered None)
 kept_blocks e h = tells_some entered h
 
@@ -115,7 +115,7 @@ mutual
 
 pub blocks_are : BlocksAre
 blocks_are e old id new paired is =
-    let row = lowered (part_blocks e) old id new paired is new.stored (extends_refl new.stored) in
+    let row = after_lowering (part_blocks e) old id new paired is new.stored (extends_refl new.stored) in
     let scopes = scopes_around (ribs (frames old.scopes)) in
     let x = row.told scopes.0 scopes.1 in
     x.is ∙ ap (λ ns. old.stored.block_scopes ++ ns) (sym x.like)

@@ -12,7 +12,7 @@ use Rattle.hir_scope.specs.Scopes.{Scope}
 use Rattle.hir_env.specs.Answered as tree
 use Rattle.hir_env.specs.Answered.{Expr, OptionExpr, Exprs, Block, OptionBlock, Stmts, Stmt}
 use Rattle.hir_lower_form.specs.Lowering.{Lowering}
-use Rattle.hir_lower_form.specs.Lower.{Node, push_some, kept, lower, lower_part, present, kept_part, lower_each, lower_block}
+use Rattle.hir_lower_form.specs.Lower.{ExprSteps, push_some, kept, lower, lower_part, present, kept_part, lower_each, lower_block}
 use Rattle.hir_lower_form.specs.Lower.{lower_block_part, lower_stmts}
 use Rattle.hir_steps.proofs.Frames.{ribs_frames}
 use Rattle.hir_steps.proofs.Steps.{Correct}
@@ -20,7 +20,7 @@ use Rattle.hir_steps.proofs.Steps.{with_block}
 use Rattle.hir_one_result.specs.Diagnostics.{Faults, Around, diagnostics, part_diagnostics, each_diagnostics, block_diagnostics}
 use Rattle.hir_one_result.specs.Diagnostics.{block_part_diagnostics, contents_diagnostics}
 use Rattle.hir_one_result.specs.Laws.{DiagnosticsAre}
-use Rattle.hir_one_result.proofs.Lowered.{lowered}
+use Rattle.hir_one_result.proofs.AfterLowering.{after_lowering}
 use Rattle.hir_one_result.proofs.Telling.{Listing, Tells, tells_bind, tells_as, tells_end, tells_pure, tells_some, tells_report}
 use Rattle.hir_one_result.proofs.Telling.{missing_tells, if_tells, loop_tells, call_tells, continue_tells, break_tells, paren_tells}
 use Rattle.hir_one_result.proofs.Telling.{operand_tells, operands_tells, value_tells, list_tells, method_call_tells, await_tells}
@@ -54,7 +54,7 @@ Reports D p = Correct p (Tells reported D)
 turned : (c t e : Faults) → IsPermutation (c ++ (t ++ e)) (t ++ (e ++ c))
 turned c t e = subst (IsPermutation (c ++ (t ++ e))) (append_assoc t e c) (IsPermutation-append_comm c (t ++ e))
 
-kept_faults : (e : Expr) {p : Node} → Reports (λ ss. diagnostics ss e) p → Reports (λ ss. diagnostics ss e) (kept e p)
+kept_faults : (e : Expr) {p : ExprSteps} → Reports (λ ss. diagnostics ss e) p → Reports (λ ss. diagnostics ss e) (kept e p)
 kept_faults (tree.disabled_expr at by e) h = tells_end reported (tells_report reported _) (λ u. tells_pure reported None)
 kept_faults e h = tells_some reported h
 
@@ -117,6 +117,6 @@ mutual
 
 pub diagnostics_are : DiagnosticsAre
 diagnostics_are e old id new paired is ss around =
-    let row = lowered (part_faults e) old id new paired is new.stored (extends_refl new.stored) in
+    let row = after_lowering (part_faults e) old id new paired is new.stored (extends_refl new.stored) in
     let x = row.told ss (subst (Around ss) (ribs_frames old.scopes) around) in
     record { more = x.more; is = x.is; permuted = x.like }

@@ -13,7 +13,7 @@ use Rattle.hir_env.specs.Answered.{Listing, Label, Jump, Expr, OptionExpr, Exprs
 use Rattle.hir_meaning.specs.Left.{is_kept}
 use Rattle.hir_lower_form.specs.Builder.{Builder}
 use Rattle.hir_lower_form.specs.Lowering.{Checked, Lowering}
-use Rattle.hir_lower_form.specs.Lower.{Node, Contents, missing, some, if_form, loop_form, call_form, continue_form}
+use Rattle.hir_lower_form.specs.Lower.{ExprSteps, StoredContents, missing, some, if_form, loop_form, call_form, continue_form}
 use Rattle.hir_lower_form.specs.Lower.{break_form, paren_form, operand_form, operands_form, value_form, list_form}
 use Rattle.hir_lower_form.specs.Lower.{method_call_form, await_form, block_form, labelled, kept, lower, lower_part}
 use Rattle.hir_lower_form.specs.Lower.{present, kept_part, lower_each, lower_block, lower_block_part, lower_stmts, lower_stmt}
@@ -27,24 +27,24 @@ missing_takes : Takes 1 0 missing
 unfolding missing
 missing_takes = takes_alloc _ None
 
-some_takes : {n l : ℕ} {p : Node} → Takes n l p → Takes n l (some p)
+some_takes : {n l : ℕ} {p : ExprSteps} → Takes n l p → Takes n l (some p)
 some_takes h = takes_end h (λ a. takes_pure (Some a))
 
 module _ (at : Pointer) where
-  if_takes : {n l k j m i : ℕ} {c t : Node} {e : Lowering (Option ExprId)} → Takes n l c → Takes k j t → Takes m i e
+  if_takes : {n l k j m i : ℕ} {c t : ExprSteps} {e : Lowering (Option ExprId)} → Takes n l c → Takes k j t → Takes m i e
       → Takes (n + (k + (m + 1))) (l + (j + (i + 0))) (if_form at c t e)
   unfolding if_form
   if_takes hc ht he =
       takes_as (omega arith) (omega arith) (takes_then ht (λ x. takes_then he (λ y. takes_then hc (λ z. takes_alloc _ (Some at)))))
 
-  loop_takes : (label : Option Label) {n l : ℕ} {b : Node} → Takes n l b
+  loop_takes : (label : Option Label) {n l : ℕ} {b : ExprSteps} → Takes n l b
       → Takes (label_room 1 0 label + (n + 1)) (label_room 0 1 label + (l + 0)) (loop_form at label b)
   unfolding loop_form
   loop_takes None h = takes_as (omega arith) (omega arith) (takes_then h (λ i. takes_alloc _ (Some at)))
   loop_takes (Some l) h =
       takes_then (takes_open l) (λ n. takes_then h (λ i. takes_begin takes_close (λ u. takes_alloc _ (Some at))))
 
-  call_takes : {n l k j : ℕ} {f : Node} {xs : Lowering (List ExprId)} → Takes n l f → Takes k j xs
+  call_takes : {n l k j : ℕ} {f : ExprSteps} {xs : Lowering (List ExprId)} → Takes n l f → Takes k j xs
       → Takes (n + (k + 1)) (l + (j + 0)) (call_form at f xs)
   unfolding call_form
   call_takes hf hx = takes_then hf (λ i. takes_then hx (λ is. takes_alloc _ (Some at)))
@@ -57,15 +57,15 @@ module _ (at : Pointer) where
   unfolding break_form
   break_takes j h = takes_begin (takes_jump j) (λ n. takes_then h (λ v. takes_alloc _ (Some at)))
 
-  paren_takes : {n l : ℕ} {e : Node} → Takes n l e → Takes n l (paren_form at e)
+  paren_takes : {n l : ℕ} {e : ExprSteps} → Takes n l e → Takes n l (paren_form at e)
   unfolding paren_form
   paren_takes h = takes_end h (λ i. takes_end (takes_point at i) (λ u. takes_pure i))
 
-  operand_takes : (form : ExprId → HirExpr) {n l : ℕ} {e : Node} → Takes n l e → Takes (n + 1) (l + 0) (operand_form at form e)
+  operand_takes : (form : ExprId → HirExpr) {n l : ℕ} {e : ExprSteps} → Takes n l e → Takes (n + 1) (l + 0) (operand_form at form e)
   unfolding operand_form
   operand_takes form h = takes_then h (λ i. takes_alloc _ (Some at))
 
-  operands_take : (form : ExprId → ExprId → HirExpr) {n l k j : ℕ} {a b : Node} → Takes n l a → Takes k j b
+  operands_take : (form : ExprId → ExprId → HirExpr) {n l k j : ℕ} {a b : ExprSteps} → Takes n l a → Takes k j b
       → Takes (n + (k + 1)) (l + (j + 0)) (operands_form at form a b)
   unfolding operands_form
   operands_take form ha hb = takes_then ha (λ i. takes_then hb (λ j. takes_alloc _ (Some at)))
@@ -82,28 +82,28 @@ module _ (at : Pointer) where
   list_takes (tree.tuple_of true) h = takes_then h (λ is. takes_then missing_takes (λ i. takes_alloc _ (Some at)))
   list_takes tree.array_of h = takes_then h (λ is. takes_alloc _ (Some at))
 
-  method_call_takes : (name : Name) {n l k j : ℕ} {e : Node} {xs : Lowering (List ExprId)} → Takes n l e → Takes k j xs
+  method_call_takes : (name : Name) {n l k j : ℕ} {e : ExprSteps} {xs : Lowering (List ExprId)} → Takes n l e → Takes k j xs
       → Takes (n + (k + 1)) (l + (j + 0)) (method_call_form at e name xs)
   unfolding method_call_form
   method_call_takes name he hx = takes_then he (λ i. takes_then hx (λ is. takes_alloc _ (Some at)))
 
-  await_takes : (location : Option AwaitLocation) {n l : ℕ} {e : Node} → Takes n l e → Takes (n + 1) (l + 0) (await_form at location e)
+  await_takes : (location : Option AwaitLocation) {n l : ℕ} {e : ExprSteps} → Takes n l e → Takes (n + 1) (l + 0) (await_form at location e)
   unfolding await_form
   await_takes location h = takes_then h (λ i. takes_begin (takes_report_await at location) (λ u. takes_alloc _ (Some at)))
 
-  block_form_takes : (is_unsafe : Bool) (label : Option LabelId) (number : Option BlockId) {n l : ℕ} {c : Lowering Contents}
+  block_form_takes : (is_unsafe : Bool) (label : Option LabelId) (number : Option BlockId) {n l : ℕ} {c : Lowering StoredContents}
       → Takes n l c → Takes (n + 1) (l + 0) (block_form at is_unsafe label number c)
   unfolding block_form
   block_form_takes is_unsafe label number h = takes_begin (takes_block number) (λ u. takes_then h (λ r. takes_alloc _ (Some at)))
 
-labelled_takes : (label : Option Label) {n l : ℕ} {f : Option LabelId → Node} → ((o : Option LabelId) → Takes n l (f o))
+labelled_takes : (label : Option Label) {n l : ℕ} {f : Option LabelId → ExprSteps} → ((o : Option LabelId) → Takes n l (f o))
     → Takes (label_room 1 0 label + n) (label_room 0 1 label + l) (labelled label f)
 unfolding labelled
 labelled_takes None h = takes_as (omega arith) (omega arith) (h None)
 labelled_takes (Some l) h =
     takes_then (takes_open l) (λ n. takes_end (h (Some n)) (λ i. takes_end takes_close (λ u. takes_pure i)))
 
-kept_takes : (e : Expr) {n l : ℕ} {p : Node} → Takes n l p → Takes (if is_kept e then n else 0) (if is_kept e then l else 0) (kept e p)
+kept_takes : (e : Expr) {n l : ℕ} {p : ExprSteps} → Takes n l p → Takes (if is_kept e then n else 0) (if is_kept e then l else 0) (kept e p)
 kept_takes (tree.disabled_expr at by e) h = takes_end (takes_report _) (λ u. takes_pure None)
 kept_takes e h = some_takes h
 

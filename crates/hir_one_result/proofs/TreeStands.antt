@@ -13,17 +13,18 @@ use Rattle.hir_store.specs.declared.diagnostics.ExpressionStoreDiagnostics.TheVa
 use Rattle.hir_env.specs.Answered as tree
 use Rattle.hir_env.specs.Answered.{Expr, OptionExpr, Exprs, Block, OptionBlock, Stmts}
 use Rattle.hir_meaning.specs.Left.{is_kept, is_left, gives_value}
-use Rattle.hir_meaning.specs.Contents.{HasContents}
+use Rattle.hir_meaning.specs.Contents.{BlockContents}
 use Rattle.hir_lower_form.specs.Lowering.{Lowering, ◌>>=◌, pure}
-use Rattle.hir_lower_form.specs.Lower.{Node, Contents, push_some, block_form, kept, settled, lower, lower_part, present, kept_part}
+use Rattle.hir_lower_form.specs.Lower.{ExprSteps, StoredContents, push_some, block_form, kept, settled, lower, lower_part, present}
+use Rattle.hir_lower_form.specs.Lower.{kept_part}
 use Rattle.hir_lower_form.specs.Lower.{lower_each, lower_block, lower_block_part, lower_stmts}
 use Rattle.hir_steps.proofs.Frames.{ribs, ribs_frames}
 use Rattle.hir_steps.proofs.Steps.{Correct, correct_bind, correct_as, correct_pure, correct_report}
-use Rattle.hir_one_result.specs.Leads.{Ways, From, ◌&◌}
+use Rattle.hir_one_result.specs.Leads.{Ways, OneWay, ◌&◌}
 use Rattle.hir_one_result.specs.Stands.{Open, ThereIf, statement_of, Stands, StandsPart, StandsPresent, StandsKept, StandsEach, StandsBlock}
 use Rattle.hir_one_result.specs.Stands.{StandsBlockPart, StandsContents}
 use Rattle.hir_one_result.specs.Laws.{AllStand}
-use Rattle.hir_one_result.proofs.Lowered.{lowered}
+use Rattle.hir_one_result.proofs.AfterLowering.{after_lowering}
 use Rattle.hir_one_result.proofs.Leading.{Shown, shown_as, shown_none, shown_both, shown_after, shown_before, moved_then}
 use Rattle.hir_one_result.proofs.Standing.{Of, Placed, Shows, moved_pure, moved_fault, missing_stands, path_stands, literal_stands}
 use Rattle.hir_one_result.proofs.Standing.{present_none, present_some, if_stands, loop_stands, call_stands, continue_stands, break_stands}
@@ -32,7 +33,7 @@ use Rattle.hir_one_result.proofs.Standing.{list_stands, method_call_stands, awai
 use Rattle.hir_one_result.proofs.Standing.{paren_stands, block_form_stands, labelled_stands}
 use Rattle.hir_one_result.proofs.Contents.{has_contents}
 
-kept_stands : (e : Expr) {p : Node} {S : Of ExprId} → Correct p (Shows S)
+kept_stands : (e : Expr) {p : ExprSteps} {S : Of ExprId} → Correct p (Shows S)
     → Correct (kept e p) (Shows (λ final rs o. ThereIf (is_kept e) (λ i. S final rs i) o))
 kept_stands (tree.disabled_expr at by e) h = correct_as (correct_bind (correct_report _) (λ u. correct_pure None)) (λ final ps m m' o g row.
     let moved = moved_then (moved_fault (InactiveCode at by) row.first.stored) (moved_pure row.second.still) in
@@ -80,9 +81,9 @@ expr_stmt_stands semi h =
 inside_stands : (at : Pointer) (is_unsafe : Bool) (n : Option LabelId) (number : Option BlockId) (ss : Stmts) (e : OptionExpr)
     → Correct (lower_stmts [] ss (kept_part e)) (Shows (λ final rs r. Behind [] (λ is. contents final rs ss e is r.1) r.0))
     → Correct (block_form at is_unsafe n number (lower_stmts [] ss (kept_part e)))
-    (Shows (λ final rs i ws. (kept : List Statement) × (last : Option ExprId) × (r : Contents)
-    × HasContents (gives_value ss (is_left e)) kept last r × Placed final i (hir.Block is_unsafe n number r.0 r.1) (Some at)
-    × (contents final rs ss e kept last & From at i) ws))
+    (Shows (λ final rs i ws. (kept : List Statement) × (last : Option ExprId) × (r : StoredContents)
+    × BlockContents (gives_value ss (is_left e)) kept last r × Placed final i (hir.Block is_unsafe n number r.0 r.1) (Some at)
+    × (contents final rs ss e kept last & OneWay at i) ws))
 inside_stands at is_unsafe n number ss e h =
     correct_as (block_form_stands at is_unsafe n number {S = λ final rs r. contents final rs ss e r.0 r.1}
     (correct_as h (λ final ps m m' r g row. record { shown = behind_none (λ is. contents final (ribs ps) ss e is r.1) row.shown })))
@@ -189,6 +190,6 @@ mutual
 
 pub all_stand : AllStand
 all_stand e old id new paired is final ext =
-    let x = (lowered (part_stands e) old id new paired is final ext).shown in
+    let x = (after_lowering (part_stands e) old id new paired is final ext).shown in
     let y = subst (λ rs. Shown (part final rs e id) old.stored new.stored) (sym (ribs_frames old.scopes)) x in
     record { ways = y.ways; stands = y.shown; covers = y.moved.covers; led = y.moved.led; labels = y.moved.labels }

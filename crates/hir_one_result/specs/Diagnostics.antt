@@ -9,14 +9,14 @@ use Rattle.hir_store.specs.declared.diagnostics.AwaitLocation.{AwaitLocation}
 use Rattle.hir_store.specs.Pointers.{Pointer}
 use Rattle.hir_env.specs.Answered as tree
 use Rattle.hir_env.specs.Answered.{Jump, Expr, OptionExpr, Exprs, Block, OptionBlock, Stmts}
-use Rattle.hir_scope.specs.Ribs.{Rib, Target, found, unreachable, undeclared, target, map_ribs}
-use Rattle.hir_scope.specs.Scopes.{Scope, loop_scope, ribs, in_block}
+use Rattle.hir_scope.specs.Ribs.{Rib, Target, reachable, unreachable, undeclared, target, map_ribs}
+use Rattle.hir_scope.specs.Scopes.{Scope, loop_scope, ribs, scopes_in_block}
 
 abbrev pub Faults : Type 0
 Faults = List ExpressionStoreDiagnostics
 
 abbrev pub target_faults : {A : Type 0} → Jump → Target A → Faults
-target_faults j (found a) = []
+target_faults j (reachable a) = []
 target_faults j unreachable = UnreachableLabel j.pointer j.name ∷ []
 target_faults j undeclared = UndeclaredLabel j.pointer j.name ∷ []
 
@@ -63,7 +63,7 @@ abbrev mutual
 
   pub block_diagnostics : List Scope → Block → Faults
   block_diagnostics ss (tree.block at is_unsafe label number stmts tail) =
-      contents_diagnostics (in_block label ss) stmts (λ inner. part_diagnostics inner tail)
+      contents_diagnostics (scopes_in_block label ss) stmts (λ inner. part_diagnostics inner tail)
 
   pub block_part_diagnostics : List Scope → OptionBlock → Faults
   block_part_diagnostics ss tree.no_block = []

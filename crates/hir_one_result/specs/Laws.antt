@@ -16,9 +16,9 @@ use Rattle.hir_one_result.specs.Diagnostics.{Faults, part_diagnostics, Around}
 use Rattle.hir_one_result.specs.Blocks.{blocks_of_part}
 use Rattle.hir_one_result.specs.Room.{TooLarge, exprs_of, labels_of}
 
--- what is claimed where the tree is lowered, and what was stored had its sources
-abbrev pub Lowered : (OptionExpr → Builder → ExprId → Builder → Type 0) → Type 0
-Lowered R =
+-- what is claimed where the tree is lowered into a `Paired` store
+abbrev pub WhereLowered : (OptionExpr → Builder → ExprId → Builder → Type 0) → Type 0
+WhereLowered R =
     (e : OptionExpr) (old : Builder) (id : ExprId) (new : Builder) → Paired old.stored → lower_part e old ≡ (Ok id, new) → R e old id new
 
 -- forms, parts and sources, and ways back
@@ -34,7 +34,7 @@ pub record Standing (final : Stored) (e : OptionExpr) (old new : Builder) (id : 
 
 -- so it is in each final store that begins with what is stored by then
 abbrev pub AllStand : Type 0
-AllStand = Lowered (λ e old id new. (final : Stored) → Extends new.stored final → Standing final e old new id)
+AllStand = WhereLowered (λ e old id new. (final : Stored) → Extends new.stored final → Standing final e old new id)
 
 -- diagnostics
 
@@ -46,7 +46,7 @@ pub record Diagnosed (ss : List Scope) (e : OptionExpr) (old new : Builder) : Ty
 
 -- in whatever scopes it is lowered
 abbrev pub DiagnosticsAre : Type 0
-DiagnosticsAre = Lowered (λ e old id new. (ss : List Scope) → Around ss old.scopes → Diagnosed ss e old new)
+DiagnosticsAre = WhereLowered (λ e old id new. (ss : List Scope) → Around ss old.scopes → Diagnosed ss e old new)
 
 -- and there are scopes for whatever is open
 abbrev pub ScopesAround : Type 0
@@ -56,7 +56,7 @@ ScopesAround = (rs : List (Rib LabelId)) → (ss : List Scope) × Around ss rs
 
 -- the numbers of the blocks that it enters come behind those of the blocks entered before
 abbrev pub BlocksAre : Type 0
-BlocksAre = Lowered (λ e old id new. new.stored.block_scopes ≡ old.stored.block_scopes ++ blocks_of_part e)
+BlocksAre = WhereLowered (λ e old id new. new.stored.block_scopes ≡ old.stored.block_scopes ++ blocks_of_part e)
 
 -- numbers
 

@@ -1,10 +1,10 @@
 -- Store, source map and faults of a lowered body are one result of its tree.
 use Rattle.std.specs.Prelude.{◌≡◌, ℕ, List, [], ◌∷◌, ◌++◌, length, Ok, IsPermutation}
 use Rattle.hir_store.specs.Stored.{Stored, Store, SourceMap, store_of, map_of}
-use Rattle.hir_store.specs.Storing.{empty, root_at}
+use Rattle.hir_store.specs.Storing.{root_at, record_root}
 use Rattle.hir_store.specs.declared.ids.ExprId.{ExprId}
 use Rattle.hir_env.specs.Answered.{OptionExpr}
-use Rattle.hir_lower_form.specs.Builder.{Builder}
+use Rattle.hir_lower_form.specs.Builder.{Builder, fresh}
 use Rattle.hir_lower_form.specs.Lower.{lower_part}
 use Rattle.hir_one_result.specs.Leads.{Way, label_ways, Covers, MapLeads}
 use Rattle.hir_one_result.specs.Stands.{StandsPart}
@@ -28,19 +28,20 @@ pub record OneResult (store : Store) (source_map : SourceMap) (owed : Faults) (e
   pub covers : Covers ways 0 (length store.exprs)
   pub leads : MapLeads source_map ways
   pub labels : length store.labels ≡ label_ways ways
-  pub found : Faults
-  pub faults : source_map.diagnostics ≡ owed ++ found
-  pub permuted : IsPermutation (part_diagnostics [] e) found
+  pub more : Faults
+  pub faults : source_map.diagnostics ≡ owed ++ more
+  pub permuted : IsPermutation (part_diagnostics [] e) more
   pub blocks : source_map.block_scopes ≡ blocks_of_part e
 
--- nothing is stored but these faults, and nothing is open
-abbrev pub begun : ℕ → Faults → Builder
-begun limit owed = record { stored = record (empty limit) { diagnostics = owed }; scopes = [] }
+-- fresh, but for these faults
+abbrev pub fresh_owing : ℕ → Faults → Builder
+fresh_owing limit owed = let b = fresh limit in record b { stored = record b.stored { diagnostics = owed } }
 
 abbrev pub with_root : ExprId → Stored → Stored
-with_root root s = record s { roots = s.roots ++ root_at s.exprs.entries root ∷ [] }
+with_root root s = (record_root root s).1
 
 -- so it is where a tree is lowered first, and is the root
 abbrev pub OneResults : Type 0
-OneResults = (limit : ℕ) (owed : Faults) (e : OptionExpr) (id : ExprId) (new : Builder) → lower_part e (begun limit owed) ≡ (Ok id, new)
+OneResults = (limit : ℕ) (owed : Faults) (e : OptionExpr) (id : ExprId) (new : Builder)
+    → lower_part e (fresh_owing limit owed) ≡ (Ok id, new)
     → OneResult (store_of (with_root id new.stored)) (map_of (with_root id new.stored)) owed e

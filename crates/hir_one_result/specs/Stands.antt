@@ -21,9 +21,9 @@ use Rattle.hir_env.specs.Answered as tree
 use Rattle.hir_env.specs.Answered.{Listing, Label, Expr, OptionExpr, Exprs, Block, OptionBlock, Stmts}
 use Rattle.hir_meaning.specs.Data.{PathData, literal_data, literal_read, data_if_written, path_read, lookup_hygiene}
 use Rattle.hir_meaning.specs.Left.{is_kept, is_left, gives_value}
-use Rattle.hir_meaning.specs.Contents.{HasContents}
+use Rattle.hir_meaning.specs.Contents.{BlockContents}
 use Rattle.hir_one_result.specs.Forms.{leaf_form, unary_form, binary_form, lazy_form, leaving_form}
-use Rattle.hir_one_result.specs.Leads.{Ways, No, From, FromNone, FromLabel, ◌&◌}
+use Rattle.hir_one_result.specs.Leads.{Ways, No, OneWay, FromNone, OneLabelWay, ◌&◌}
 
 -- the numbers of the labels that are open, innermost first
 abbrev pub Open : Type 0
@@ -65,15 +65,15 @@ module _ (store : Store) (source_map : SourceMap) where
 
   -- a form that names no part
   abbrev pub StandsAlone : HirExpr → Pointer → ExprId → Ways
-  StandsAlone e at i = λ ws. ExprAt i e (Some at) × From at i ws
+  StandsAlone e at i = λ ws. ExprAt i e (Some at) × OneWay at i ws
 
   -- a node over one part, and over two, of the form that is made of their numbers
   abbrev pub StandsOver : {A : Type 0} → (A → HirExpr) → Pointer → (A → Ways) → ExprId → Ways
-  StandsOver {A = A} form at S i = λ ws. (part : A) × ExprAt i (form part) (Some at) × (S part & From at i) ws
+  StandsOver {A = A} form at S i = λ ws. (part : A) × ExprAt i (form part) (Some at) × (S part & OneWay at i) ws
 
   abbrev pub StandsOverTwo : {A B : Type 0} → (A → B → HirExpr) → Pointer → (A → Ways) → (B → Ways) → ExprId → Ways
   StandsOverTwo {A = A} {B = B} form at S T i = λ ws.
-      (one : A) × (other : B) × ExprAt i (form one other) (Some at) × (S one & T other & From at i) ws
+      (one : A) × (other : B) × ExprAt i (form one other) (Some at) × (S one & T other & OneWay at i) ws
 
   -- in front of a tuple with a leading comma stands a missing element
   abbrev pub StandsList : Pointer → Listing → (List ExprId → Ways) → ExprId → Ways
@@ -92,7 +92,7 @@ module _ (store : Store) (source_map : SourceMap) where
   -- inside the label, where there is one
   abbrev pub InLabel : Open → Option Label → (Open → Option LabelId → Ways) → Ways
   InLabel rs None S = S rs None
-  InLabel rs (Some l) S = λ ws. (n : LabelId) × LabelAt n l × (FromLabel l.pointer n & S (opened l n rs) (Some n)) ws
+  InLabel rs (Some l) S = λ ws. (n : LabelId) × LabelAt n l × (OneLabelWay l.pointer n & S (opened l n rs) (Some n)) ws
 
   abbrev mutual
     pub Stands : Open → Expr → ExprId → Ways
@@ -100,20 +100,20 @@ module _ (store : Store) (source_map : SourceMap) where
     Stands rs (tree.if_expr at c t e) i = λ ws.
         (condition : ExprId) × (then_branch : ExprId) × (else_branch : Option ExprId)
         × ExprAt i (hir.If condition then_branch else_branch) (Some at)
-        × (StandsPart rs c condition & StandsBlockPart rs t then_branch & StandsPresent rs e else_branch & From at i) ws
+        × (StandsPart rs c condition & StandsBlockPart rs t then_branch & StandsPresent rs e else_branch & OneWay at i) ws
     Stands rs (tree.block_expr b) i = StandsBlock rs b i
     Stands rs (tree.loop_expr at label b) i =
         InLabel rs label (λ inner n ws. (body : ExprId) × ExprAt i (hir.Loop body n source.Loop) (Some at)
-        × (StandsBlockPart inner b body & From at i) ws)
+        × (StandsBlockPart inner b body & OneWay at i) ws)
     Stands rs (tree.call_expr at f es) i = λ ws.
         (callee : ExprId) × (arguments : List ExprId) × ExprAt i (hir.Call callee arguments) (Some at)
-        × (StandsPart rs f callee & StandsEach rs es arguments & From at i) ws
+        × (StandsPart rs f callee & StandsEach rs es arguments & OneWay at i) ws
     Stands rs (tree.path_expr at x h) i = StandsPath at (data_if_written x) h i
     Stands rs (tree.continue_expr at jump) i = StandsAlone (hir.Continue (jump_number rs jump)) at i
     Stands rs (tree.break_expr at jump e) i = λ ws.
-        (value : Option ExprId) × ExprAt i (hir.Break (jump_number rs jump) value) (Some at) × (StandsPresent rs e value & From at i) ws
+        (value : Option ExprId) × ExprAt i (hir.Break (jump_number rs jump) value) (Some at) × (StandsPresent rs e value & OneWay at i) ws
     -- the parentheses became what is in them
-    Stands rs (tree.paren_expr at e) i = StandsPart rs e i & From at i
+    Stands rs (tree.paren_expr at e) i = StandsPart rs e i & OneWay at i
     Stands rs (tree.literal_expr at l) i = StandsLiteral at l i
     Stands rs (tree.leaf_expr at form) i = StandsAlone (leaf_form form) at i
     Stands rs (tree.unary_expr at form e) i = StandsOver (unary_form form) at (λ x. StandsPart rs e x) i
@@ -152,9 +152,9 @@ module _ (store : Store) (source_map : SourceMap) where
     pub StandsBlock : Open → Block → ExprId → Ways
     StandsBlock rs (tree.block at is_unsafe label number ss e) i =
         InLabel rs label (λ inner n ws. (kept : List Statement) × (last : Option ExprId) × (contents : List Statement × Option ExprId)
-        × HasContents (gives_value ss (is_left e)) kept last contents
+        × BlockContents (gives_value ss (is_left e)) kept last contents
         × ExprAt i (hir.Block is_unsafe n number contents.0 contents.1) (Some at)
-        × (StandsContents inner ss (λ around o. StandsKept around e o) kept last & From at i) ws)
+        × (StandsContents inner ss (λ around o. StandsKept around e o) kept last & OneWay at i) ws)
 
     pub StandsBlockPart : Open → OptionBlock → ExprId → Ways
     StandsBlockPart rs tree.no_block i = StandsMissing i

@@ -3,9 +3,6 @@ use Rattle.std.specs.Prelude.{Option, ◌≡◌, ℕ, Bool, true, false, List, [
 use Rattle.hir_store.specs.Stored.{Store, SourceMap}
 use Rattle.hir_store.specs.declared.diagnostics.ExpressionStoreDiagnostics.TheVariants.{AwaitOutsideOfAsync, InactiveCode}
 use Rattle.hir_store.specs.declared.diagnostics.ExpressionStoreDiagnostics.TheVariants.{UndeclaredLabel, UnreachableLabel}
-use Rattle.hir_syntax.specs.declared.ast.ArithOp.TheVariants.{Add}
-use Rattle.hir_syntax.specs.declared.ast.BinaryOp.{BinaryOp}
-use Rattle.hir_syntax.specs.declared.ast.BinaryOp.TheVariants.{ArithOp}
 use Rattle.hir_store.specs.declared.diagnostics.AwaitLocation.{AwaitLocation}
 use Rattle.hir_store.specs.declared.hir.Expr.{Expr as HirExpr}
 use Rattle.hir_store.specs.declared.hir.Expr.TheVariants as hir
@@ -17,13 +14,14 @@ use Rattle.hir_store.specs.declared.path.PathKind.TheVariants.{Plain}
 use Rattle.hir_store.specs.declared.ids.BlockId.{BlockId}
 use Rattle.hir_store.specs.declared.ids.CfgId.{CfgId}
 use Rattle.hir_store.specs.declared.ids.ExprId.{ExprId}
-use Rattle.hir_store.specs.declared.ids.HygieneId.{HygieneId}
 use Rattle.hir_store.specs.declared.ids.LabelId.{LabelId}
 use Rattle.hir_scope.specs.Scopes.{loop_scope, barrier}
 use Rattle.hir_env.specs.Answered as tree
 use Rattle.hir_env.specs.Answered.{Expr, OptionExpr, Exprs, Block, Stmts}
-use Rattle.hir_meaning.specs.Small.{at, root, one, two, literal_at, label_of, label_a, jump_a, first, in_braces, loop_of}
+use Rattle.hir_meaning.specs.Small.{at, root, one, two, literal_at, label_with, label_a, jump_a, first, in_braces, loop_of}
 use Rattle.hir_meaning.specs.Small.{stored_one, stored_two}
+pub use Rattle.hir_meaning.specs.Turns.{other}
+use Rattle.hir_meaning.specs.Forms.{plus}
 use Rattle.hir_one_result.specs.Leads.{Way, expr_way}
 use Rattle.hir_one_result.specs.Stands.{Open, opened, Stands}
 use Rattle.hir_one_result.specs.Diagnostics.{diagnostics}
@@ -42,76 +40,72 @@ StoredOver e x = (store : Store) (source_map : SourceMap) (i : ExprId) (ws : Lis
 
 -- jumps
 
--- of a macro's names
-abbrev pub other : HygieneId
-other = record { 0 = 1 }
-
 abbrev pub break_a : Expr
 break_a = tree.break_expr (at 4) (Some jump_a) tree.no_expr
 
 -- `'a: loop { 'a: loop { break 'a } }`, where the inner label is a macro's
-abbrev pub two_labels : Expr
-two_labels = loop_of 0 (Some label_a) (in_braces 2 None (loop_of 3 (Some (label_of other)) (in_braces 5 None break_a)))
+abbrev pub two_loops : Expr
+two_loops = loop_of 0 (Some label_a) (in_braces 2 None (loop_of 3 (Some (label_with other)) (in_braces 5 None break_a)))
 
 -- the inner loop alone
 abbrev pub one_label : Expr
-one_label = loop_of 3 (Some (label_of other)) (in_braces 5 None break_a)
+one_label = loop_of 3 (Some (label_with other)) (in_braces 5 None break_a)
 
 pub record Jumps : Type 0 where
-  pub no_fault : diagnostics [] two_labels ≡ []
+  pub no_fault : diagnostics [] two_loops ≡ []
   pub named : (inner outer : LabelId)
-      → StoredAs (opened (label_of other) inner (opened label_a outer [])) break_a (hir.Break (Some outer) None)
+      → StoredAs (opened (label_with other) inner (opened label_a outer [])) break_a (hir.Break (Some outer) None)
   pub undeclared : diagnostics [] one_label ≡ UndeclaredLabel jump_a.pointer jump_a.name ∷ []
-  pub nearer : diagnostics (barrier ∷ loop_scope (Some label_a) ∷ []) two_labels ≡ []
+  pub nearer : diagnostics (barrier ∷ loop_scope (Some label_a) ∷ []) two_loops ≡ []
   pub unreachable : diagnostics (barrier ∷ loop_scope (Some label_a) ∷ []) break_a ≡ UnreachableLabel jump_a.pointer jump_a.name ∷ []
 
 -- statements
 
 -- a block with a number, in which is a fault, disabled
-abbrev pub disabled : CfgId → Expr
-disabled by =
+abbrev pub disabled_block : CfgId → Expr
+disabled_block by =
     let number : BlockId = record { 0 = 7 } in
     tree.disabled_expr (at 2) by (tree.block_expr (tree.block (at 2) false None (Some number) tree.no_stmts (tree.some_expr break_a)))
 
 -- a literal, with or without a semicolon, and then what is disabled
 abbrev pub literal_first : CfgId → Bool → Stmts
-literal_first by semi = tree.more_stmts (tree.expr_stmt (tree.some_expr (literal_at 1 one)) semi) (first (disabled by) tree.no_stmts)
+literal_first by semi = tree.more_stmts (tree.expr_stmt (tree.some_expr (literal_at 1 one)) semi) (first (disabled_block by) tree.no_stmts)
 
-abbrev pub in_block : CfgId → Bool → OptionExpr → Expr
-in_block by semi tail = tree.block_expr (tree.block (at 0) false None None (literal_first by semi) tail)
+abbrev pub block_with : CfgId → Bool → OptionExpr → Expr
+block_with by semi tail = tree.block_expr (tree.block (at 0) false None None (literal_first by semi) tail)
 
 pub record Statements : Type 0 where
-  pub becomes_tail : (by : CfgId) → StoredOver (in_block by false tree.no_expr) (λ last. hir.Block false None None [] (Some last))
+  pub becomes_tail : (by : CfgId) → StoredOver (block_with by false tree.no_expr) (λ last. hir.Block false None None [] (Some last))
   pub has_semicolon : (by : CfgId)
-      → StoredOver (in_block by true tree.no_expr) (λ v. hir.Block false None None (statement.Expr v true ∷ []) None)
+      → StoredOver (block_with by true tree.no_expr) (λ v. hir.Block false None None (statement.Expr v true ∷ []) None)
   pub disabled_tail : (by : CfgId)
-      → StoredOver (in_block by false (tree.some_expr (disabled by))) (λ last. hir.Block false None None [] (Some last))
-  pub faults : (by : CfgId) (semi : Bool) → diagnostics [] (in_block by semi tree.no_expr) ≡ InactiveCode (at 2) by ∷ []
-  pub blocks : (by : CfgId) (semi : Bool) → blocks_of (in_block by semi tree.no_expr) ≡ []
+      → StoredOver (block_with by false (tree.some_expr (disabled_block by))) (λ last. hir.Block false None None [] (Some last))
+  pub faults : (by : CfgId) (semi : Bool) → diagnostics [] (block_with by semi tree.no_expr) ≡ InactiveCode (at 2) by ∷ []
+  pub blocks : (by : CfgId) (semi : Bool) → blocks_of (block_with by semi tree.no_expr) ≡ []
 
 -- blocks
 
 -- a block with this number, with this in it
-abbrev pub numbered : ℕ → Stmts → OptionExpr → Block
-numbered n ss tail = tree.block (at n) false None (Some (record { 0 = n })) ss tail
+abbrev pub block_numbered : ℕ → Stmts → OptionExpr → Block
+block_numbered n ss tail = tree.block (at n) false None (Some (record { 0 = n })) ss tail
 
 abbrev pub empty_block : ℕ → Block
-empty_block n = numbered n tree.no_stmts tree.no_expr
+empty_block n = block_numbered n tree.no_stmts tree.no_expr
 
 abbrev pub just : ℕ → OptionExpr
 just n = tree.some_expr (tree.block_expr (empty_block n))
 
-abbrev pub block_number : ℕ → BlockId
-block_number n = record { 0 = n }
+abbrev pub block_id : ℕ → BlockId
+block_id n = record { 0 = n }
 
 -- `{ if {} {} else {}; {} }`
 abbrev pub branches : Expr
-branches = tree.block_expr (numbered 1
+branches = tree.block_expr (block_numbered 1
     (first (tree.if_expr (at 2) (just 3) (tree.some_block (empty_block 4)) (just 5)) tree.no_stmts) (just 6))
 
 -- the condition's block is entered after those of the branches
 abbrev pub EntersInOrder : Type 0
-EntersInOrder = blocks_of branches ≡ block_number 1 ∷ block_number 4 ∷ block_number 5 ∷ block_number 3 ∷ block_number 6 ∷ []
+EntersInOrder = blocks_of branches ≡ block_id 1 ∷ block_id 4 ∷ block_id 5 ∷ block_id 3 ∷ block_id 6 ∷ []
 
 -- paths and parentheses
 
@@ -131,15 +125,12 @@ pub record Leaves : Type 0 where
 
 -- plain forms
 
-abbrev pub value : ℕ → OptionExpr
-value n = tree.some_expr (literal_at n one)
-
-abbrev pub plus : Option BinaryOp
-plus = Some (ArithOp Add)
+abbrev pub literal_part : ℕ → OptionExpr
+literal_part n = tree.some_expr (literal_at n one)
 
 -- `1 + 2`
-abbrev pub sum : Expr
-sum = tree.binary_expr (at 0) (tree.operator plus) (value 1) (tree.some_expr (literal_at 2 two))
+abbrev pub sum_expr : Expr
+sum_expr = tree.binary_expr (at 0) (tree.operator plus) (literal_part 1) (tree.some_expr (literal_at 2 two))
 
 -- an expression that names these two
 pub record StoredWith (x : ExprId → ExprId → HirExpr) (left right : HirExpr) (store : Store) (i : ExprId) : Type 0 where
@@ -154,39 +145,39 @@ IsStoredWith e x left right = (store : Store) (source_map : SourceMap) (i : Expr
     → Stands store source_map [] e i ws → StoredWith x left right store i
 
 -- `1.m(2)`
-abbrev pub method_call : Expr
-method_call = tree.method_call_expr (at 0) (value 1) (letter 109) (tree.more_exprs (literal_at 2 two) tree.no_exprs)
+abbrev pub call_m : Expr
+call_m = tree.method_call_expr (at 0) (literal_part 1) (letter 109) (tree.more_exprs (literal_at 2 two) tree.no_exprs)
 
 -- a literal, and then what is disabled
 abbrev pub elements : CfgId → Exprs
-elements by = tree.more_exprs (literal_at 1 one) (tree.more_exprs (disabled by) tree.no_exprs)
+elements by = tree.more_exprs (literal_at 1 one) (tree.more_exprs (disabled_block by) tree.no_exprs)
 
-abbrev pub tuple : CfgId → Bool → Expr
-tuple by leading_comma = tree.list_expr (at 0) (tree.tuple_of leading_comma) (elements by)
+abbrev pub half_tuple : CfgId → Bool → Expr
+half_tuple by leading_comma = tree.list_expr (at 0) (tree.tuple_of leading_comma) (elements by)
 
 -- await of `break 'a`
 abbrev pub await_break : Option AwaitLocation → Expr
 await_break location = tree.await_expr (at 0) location (tree.some_expr break_a)
 
 -- `unsafe {}` with a number
-abbrev pub unsafe_block : Expr
-unsafe_block = tree.block_expr (tree.block (at 0) true None (Some (block_number 7)) tree.no_stmts tree.no_expr)
+abbrev pub unsafe_empty : Expr
+unsafe_empty = tree.block_expr (tree.block (at 0) true None (Some (block_id 7)) tree.no_stmts tree.no_expr)
 
 -- the block and another one
 abbrev pub two_blocks : Expr
-two_blocks = tree.binary_expr (at 1) (tree.operator plus) (tree.some_expr unsafe_block) (just 3)
+two_blocks = tree.binary_expr (at 1) (tree.operator plus) (tree.some_expr unsafe_empty) (just 3)
 
 pub record PlainForms : Type 0 where
-  pub adds : IsStoredWith sum (λ left right. hir.BinaryOp plus left right) stored_one stored_two
-  pub calls : IsStoredWith method_call (λ receiver argument. hir.MethodCall receiver (letter 109) (argument ∷ [])) stored_one stored_two
-  pub disabled_element : (by : CfgId) → StoredOver (tuple by false) (λ v. hir.Tuple (v ∷ []))
-  pub leading_comma : (by : CfgId) → IsStoredWith (tuple by true) (λ front v. hir.Tuple (front ∷ v ∷ [])) hir.Missing stored_one
+  pub adds : IsStoredWith sum_expr (λ left right. hir.BinaryOp plus left right) stored_one stored_two
+  pub calls : IsStoredWith call_m (λ receiver argument. hir.MethodCall receiver (letter 109) (argument ∷ [])) stored_one stored_two
+  pub disabled_element : (by : CfgId) → StoredOver (half_tuple by false) (λ v. hir.Tuple (v ∷ []))
+  pub leading_comma : (by : CfgId) → IsStoredWith (half_tuple by true) (λ front v. hir.Tuple (front ∷ v ∷ [])) hir.Missing stored_one
   pub awaits : (location : AwaitLocation) → diagnostics [] (await_break (Some location))
       ≡ UndeclaredLabel jump_a.pointer jump_a.name ∷ AwaitOutsideOfAsync (at 0) location ∷ []
   pub awaits_in_async : diagnostics [] (await_break None) ≡ UndeclaredLabel jump_a.pointer jump_a.name ∷ []
-  pub is_unsafe : StoredAs [] unsafe_block (hir.Block true None (Some (block_number 7)) [] None)
-  pub left_first : blocks_of two_blocks ≡ block_number 7 ∷ block_number 3 ∷ []
+  pub is_unsafe : StoredAs [] unsafe_empty (hir.Block true None (Some (block_id 7)) [] None)
+  pub left_first : blocks_of two_blocks ≡ block_id 7 ∷ block_id 3 ∷ []
   -- the operand of a prefix without operator has its way, and the form its own
   pub nameless : (store : Store) (source_map : SourceMap) (i : ExprId) (ws : List Way)
-      → Stands store source_map [] (tree.nameless_expr (at 0) (value 1)) i ws
+      → Stands store source_map [] (tree.nameless_expr (at 0) (literal_part 1)) i ws
       → (part : ExprId) × (slice_get store.exprs i.0 ≡ Some hir.Missing) × (ws ≡ expr_way (at 1) part ∷ expr_way (at 0) i ∷ [])

@@ -5,14 +5,14 @@ use Rattle.hir_store.specs.declared.ids.ExprId.{ExprId}
 use Rattle.hir_steps.proofs.Frames.{Frame, scopes, Falls}
 use Rattle.hir_meaning.specs.Run.{Value, Outcome, value, break, continue, leave}
 use Rattle.hir_meaning.specs.Syntax.{SyntaxBody}
-use Rattle.hir_meaning.specs.Store.{Named, run_store, stored_body}
+use Rattle.hir_meaning.specs.Store.{JumpLabel, run_store, stored_body}
 use Rattle.hir_meaning.specs.Jumps.{Enclosed}
 use Rattle.hir_meaning.specs.Same.{SameRun, SameBody, ending, begin}
 use Rattle.hir_same_meaning.specs.Headline.{body_to}
 use Rattle.hir_same_meaning.proofs.Views.{numbers, view}
 use Rattle.hir_same_meaning.proofs.Senses.{Walk, run_in, one, Goes}
 
-ending_view : (ps : List Frame) (o : Outcome Named Value) → ending o ≡ ending (view ps o)
+ending_view : (ps : List Frame) (o : Outcome JumpLabel Value) → ending o ≡ ending (view ps o)
 ending_view ps (value v) = refl
 ending_view ps (break j v) = refl
 ending_view ps (continue j) = refl

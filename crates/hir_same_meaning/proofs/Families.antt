@@ -13,7 +13,7 @@ use Rattle.hir_env.specs.Answered.{Leaf, Unary, Binary, Listing, Leaving}
 use Rattle.hir_env.specs.NodeMap.{Site}
 use Rattle.hir_env.specs.Answering.{site_of}
 use Rattle.hir_lower_form.specs.Lowering.{Lowering, alloc_expr}
-use Rattle.hir_lower_form.specs.Lower.{Node, stored_leaf, stored_unary, stored_binary, stored_lazy, stored_leaving}
+use Rattle.hir_lower_form.specs.Lower.{ExprSteps, stored_leaf, stored_unary, stored_binary, stored_lazy, stored_leaving}
 use Rattle.hir_lower_form.specs.Lower.{operand_form, operands_form, value_form, list_form, method_call_form, await_form}
 use Rattle.hir_meaning.specs.Run.{Value, Operation, array, method_call, yielding, awaiting, leave, became, missing, ends, ◌>>=◌, ask}
 use Rattle.hir_meaning.specs.Syntax.{run_leaf, unary_operation, run_binary, run_lazy, run_list, leaves_with}
@@ -61,7 +61,8 @@ module _ (at : Pointer) where
   leaf_fine tree.include_bytes = event0_fine at (record { runs = λ w. refl; jumps = λ P ls. tt })
   leaf_fine tree.left_out = correct_as (correct_alloc hir.Missing (Some at)) (λ final ps m m' i g a. Nodes.goes_missing a)
 
-  pub operand_fine : {make : ExprId → HirExpr} {f : Finish Value} {p : Node} {x : Walk Value} → Form1 make one f → Correct p (Runs one x)
+  pub operand_fine : {make : ExprId → HirExpr} {f : Finish Value} {p : ExprSteps} {x : Walk Value} → Form1 make one f
+      → Correct p (Runs one x)
       → Correct (operand_form at make p) (Runs one (finished at x f))
   unfolding operand_form
   operand_fine is h = form1_fine at is h
@@ -71,21 +72,21 @@ module _ (at : Pointer) where
   unfolding value_form
   value_fine is h = form1_fine at is h
 
-  pub operands_fine : {make : ExprId → ExprId → HirExpr} {o : Operation} {p q : Node} {x y : Walk Value}
+  pub operands_fine : {make : ExprId → ExprId → HirExpr} {o : Operation} {p q : ExprSteps} {x y : Walk Value}
       → Event2 make one one o (λ v w. v ∷ w ∷ []) → Correct p (Runs one x) → Correct q (Runs one y)
       → Correct (operands_form at make p q)
       (Runs one (λ turns ss. x turns ss >>= (λ v. y turns ss >>= (λ w. ask o (v ∷ w ∷ []) here))))
   unfolding operands_form
   operands_fine is hp hq = event2_fine at is hp hq
 
-  pub lazy_fine : (op : LogicOp) {p q : Node} {x y : Walk Value} → Correct p (Runs one x) → Correct q (Runs one y)
+  pub lazy_fine : (op : LogicOp) {p q : ExprSteps} {x y : Walk Value} → Correct p (Runs one x) → Correct q (Runs one y)
       → Correct (operands_form at (stored_lazy op) p q) (Runs one (λ turns ss. run_lazy op (x turns ss) (y turns ss) here))
   unfolding operands_form
   lazy_fine op hp hq = correct_as (correct_bind hp (λ a. correct_bind hq (λ b. correct_alloc (stored_lazy op a b) (Some at))))
       (λ final ps m m' i g row. let r = row.second in
       Nodes.goes_lazy (goes_within (omega arith) row.first) (goes_within (omega arith) r.first) r.second)
 
-  pub binary_fine : (form : Binary) {p q : Node} {x y : Walk Value} → Correct p (Runs one x) → Correct q (Runs one y)
+  pub binary_fine : (form : Binary) {p q : ExprSteps} {x y : Walk Value} → Correct p (Runs one x) → Correct q (Runs one y)
       → Correct (operands_form at (stored_binary form) p q) (Runs one (λ turns ss. run_binary form (x turns ss) (y turns ss) here))
   binary_fine (tree.operator None) hp hq = operands_fine (record { runs = λ w a b. refl; jumps = λ P ls a b h. h }) hp hq
   binary_fine (tree.operator (Some (ast.LogicOp op))) hp hq = lazy_fine op hp hq
@@ -107,14 +108,14 @@ module _ (at : Pointer) where
       Nodes.goes_front_missing (goes_within (omega arith) r.first) (goes_within (omega arith) row.first) r.second)
   list_fine tree.array_of h = form1_fine at array_is h
 
-  pub method_call_fine : (name : Name) {p : Node} {q : Lowering (List ExprId)} {x : Walk Value} {y : Walk (List Value)}
+  pub method_call_fine : (name : Name) {p : ExprSteps} {q : Lowering (List ExprId)} {x : Walk Value} {y : Walk (List Value)}
       → Correct p (Runs one x) → Correct q (Runs many y)
       → Correct (method_call_form at p name q)
       (Runs one (λ turns ss. x turns ss >>= (λ v. y turns ss >>= (λ vs. ask (method_call name) (v ∷ vs) here))))
   unfolding method_call_form
   method_call_fine name hp hq = event2_fine at (record { runs = λ w a b. refl; jumps = λ P ls a b h. h }) hp hq
 
-  pub await_fine : (location : Option AwaitLocation) {p : Node} {x : Walk Value} → Correct p (Runs one x)
+  pub await_fine : (location : Option AwaitLocation) {p : ExprSteps} {x : Walk Value} → Correct p (Runs one x)
       → Correct (await_form at location p) (Runs one (finished at x (asks awaiting (λ v. v ∷ []))))
   unfolding await_form
   await_fine location h = correct_as
@@ -122,7 +123,7 @@ module _ (at : Pointer) where
       (λ final ps m m' i g row. let r = row.second in goes1 await_is (goes_within (omega arith) row.first) r.second)
 
   -- a prefix without operator: its operand is lowered, and reached by nothing
-  pub nameless_fine : {p : Node} {R : Rel ExprId} → Correct p R
+  pub nameless_fine : {p : ExprSteps} {R : Rel ExprId} → Correct p R
       → Correct (operand_form at (λ i. hir.Missing) p) (Runs one (λ turns ss. ends (leave missing)))
   unfolding operand_form
   nameless_fine h = correct_as (correct_bind h (λ e. correct_alloc hir.Missing (Some at)))

@@ -24,15 +24,16 @@ use Rattle.hir_env.specs.NodeMap.{Site}
 use Rattle.hir_env.specs.Answering.{site_of}
 use Rattle.hir_lower_form.specs.Builder.{Builder}
 use Rattle.hir_lower_form.specs.Lowering.{Checked, Lowering, ◌>>=◌, pure, alloc_expr, report}
-use Rattle.hir_lower_form.specs.Lower.{Node, Contents, push_some, missing, some, if_form, loop_form, call_form, continue_form, break_form}
+use Rattle.hir_lower_form.specs.Lower.{ExprSteps, StoredContents, push_some, missing, some, if_form, loop_form, call_form}
+use Rattle.hir_lower_form.specs.Lower.{continue_form, break_form}
 use Rattle.hir_lower_form.specs.Lower.{paren_form, stored_literal, names_of, path_hygiene, named_path, stored_path, settled}
 use Rattle.hir_lower_form.proofs.Paths.{names_are, long_hygiene}
 use Rattle.hir_lower_form.specs.Lower.{settled_block, block_form, labelled, kept}
-use Rattle.hir_meaning.specs.Data.{literal_data, names_of as segment_names, plain_path, data_if_written, hygiene_for}
+use Rattle.hir_meaning.specs.Data.{literal_data, segment_names, plain_path, data_if_written, hygiene_for}
 use Rattle.hir_meaning.specs.Run.{Value, unit, is_true, literal, call, break, continue, leave, missing as is_missing}
 use Rattle.hir_meaning.specs.Run.{ends, pure as gives, ◌>>=◌ as ◌then◌, ask, tests, entering}
 use Rattle.hir_meaning.specs.Catching.{turn, loop}
-use Rattle.hir_scope.specs.Scopes.{loop_scope, break_target, continue_target, outward, in_block}
+use Rattle.hir_scope.specs.Scopes.{loop_scope, break_target, continue_target, outward, scopes_in_block}
 use Rattle.hir_meaning.specs.Left.{is_kept, is_left}
 use Rattle.hir_meaning.specs.Syntax.{SyntaxRun, run_path, run_stmts, run_tail, catching}
 use Rattle.hir_steps.proofs.Frames.{Frame, plain_loop, loop_at, block_at, Falls}
@@ -53,7 +54,7 @@ missing_fine = correct_as (correct_alloc hir.Missing None) (λ final ps m m' i g
 pub none_fine : Correct (pure None) (Runs optional (λ turns ss. gives unit))
 none_fine = correct_as (correct_pure None) (λ final ps m m' i g r. rw r.is Nodes.goes_none)
 
-pub some_fine : {p : Node} {x : Walk Value} → Correct p (Runs one x) → Correct (some p) (Runs optional x)
+pub some_fine : {p : ExprSteps} {x : Walk Value} → Correct p (Runs one x) → Correct (some p) (Runs optional x)
 some_fine h = correct_as (correct_bind h (λ i. correct_pure (Some i)))
     (λ final ps m m' i g row. rw (row.second.is, row.second.still) (Nodes.goes_some row.first))
 
@@ -85,13 +86,13 @@ module _ (at : Pointer) where
       → Correct (alloc_expr (hir.Literal (stored_literal l)) (Some at)) (Runs one (λ turns ss. ask (literal (literal_data l)) [] here))
   literal_fine l = event0_fine at (record { runs = λ w. refl; jumps = λ P ls. tt })
 
-  pub call_fine : {p : Node} {q : Lowering (List ExprId)} {x : Walk Value} {y : Walk (List Value)} → Correct p (Runs one x)
+  pub call_fine : {p : ExprSteps} {q : Lowering (List ExprId)} {x : Walk Value} {y : Walk (List Value)} → Correct p (Runs one x)
       → Correct q (Runs many y)
       → Correct (call_form at p q) (Runs one (λ turns ss. ◌then◌ (x turns ss) (λ v. ◌then◌ (y turns ss) (λ vs. ask call (v ∷ vs) here))))
   unfolding call_form
   call_fine hf hs = event2_fine at (record { runs = λ w f xs. refl; jumps = λ P ls f xs h. h }) hf hs
 
-  pub if_fine : {c t : Node} {e : Lowering (Option ExprId)} {x y z : Walk Value} → Correct c (Runs one x) → Correct t (Runs one y)
+  pub if_fine : {c t : ExprSteps} {e : Lowering (Option ExprId)} {x y z : Walk Value} → Correct c (Runs one x) → Correct t (Runs one y)
       → Correct e (Runs optional z)
       → Correct (if_form at c t e) (Runs one (λ turns ss.
       ◌then◌ (x turns ss) (λ v. ◌then◌ (tests is_true v here) (λ holds. if holds then y turns ss else z turns ss))))
@@ -101,7 +102,7 @@ module _ (at : Pointer) where
       (λ final ps m m' i g row. let r = row.second in let q = r.second in
       Nodes.goes_if (goes_within (omega arith) q.first) (goes_within (omega arith) row.first) (goes_within (omega arith) r.first) q.second)
 
-  pub loop_fine : (l : Option Label) {p : Node} {x : Walk Value} → Correct p (Runs one x)
+  pub loop_fine : (l : Option Label) {p : ExprSteps} {x : Walk Value} → Correct p (Runs one x)
       → Correct (loop_form at l p) (Runs one (λ turns ss. loop outward turns (turn (x turns (loop_scope l ∷ ss)))))
   unfolding loop_form
   loop_fine None h = correct_as (correct_bind (correct_in_loop h) (λ i. correct_alloc (hir.Loop i None source.Loop) (Some at)))
@@ -124,7 +125,7 @@ module _ (at : Pointer) where
       (λ final ps m m' i g row. let t = row.first in
       Nodes.goes_continue j (λ f. rw t.is (continue_meets m.labels ps j f)) (rw t.is (among ps j)) row.second)
 
-  pub paren_fine : {p : Node} {x : Walk Value} → Correct p (Runs one x) → Correct (paren_form at p) (Runs one x)
+  pub paren_fine : {p : ExprSteps} {x : Walk Value} → Correct p (Runs one x) → Correct (paren_form at p) (Runs one x)
   unfolding paren_form
   paren_fine h = correct_as (correct_bind h (λ i. correct_bind (correct_point at i) (λ _. correct_pure i)))
       (λ final ps m m' i g row. rw row.second.second.is (goes_within (omega arith) row.first))
@@ -156,7 +157,7 @@ path_fine at (Some ss) h = rw (names_of_is ss) (named_fine at (segment_names ss)
 
 -- what is kept
 
-pub kept_fine : (e : Expr) {p : Node} {x : Walk Value} → Correct p (Runs one x)
+pub kept_fine : (e : Expr) {p : ExprSteps} {x : Walk Value} → Correct p (Runs one x)
     → Correct (kept e p) (λ final ps m m' o. KeptIs m.labels m'.nodes final ps (is_kept e) x o)
 kept_fine (tree.disabled_expr at by e) h = correct_as (correct_bind (correct_report (InactiveCode at by)) (λ u. correct_pure None))
     (λ final ps m m' o g row. rw row.second.is tt)
@@ -218,17 +219,18 @@ correct_statement semi h = correct_as (correct_bind h (λ x. correct_pure (optio
     (λ final ps m m' o g row. record { value = row.one; is = row.second.is; rel = rw row.second.still row.first })
 
 -- the statements with the tail behind them
-abbrev pub ContentsRel : Bool → Walk Value → Stmts → Rel Contents
+abbrev pub ContentsRel : Bool → Walk Value → Stmts → Rel StoredContents
 ContentsRel t x ss final ps m m' r =
     (labels nodes : ℕ) → labels ≤ m.labels → m'.nodes ≤ nodes → ContentsAre labels nodes final t x ps ss r.0 r.1
 
 -- the statements are pushed on those that stand
-pub record Filled (done : List Statement) (R : Rel Contents) (final : Stored) (ps : List Frame) (m m' : Mark) (r : Contents) : Type 0 where
+pub record Filled (done : List Statement) (R : Rel StoredContents) (final : Stored) (ps : List Frame) (m m' : Mark)
+    (r : StoredContents) : Type 0 where
   pub new : List Statement
   pub is : r.0 ≡ done ++ new
   pub rel : R final ps m m' (new, r.1)
 
-pub filled_end : {final : Stored} {ps : List Frame} {m m' : Mark} {r : Contents} (t : Bool) (x : Walk Value)
+pub filled_end : {final : Stored} {ps : List Frame} {m m' : Mark} {r : StoredContents} (t : Bool) (x : Walk Value)
     (done : List Statement) (o : Option ExprId) → r ≡ (done, o)
     → KeptIs m.labels m'.nodes final ps t x o → Filled done (ContentsRel t x tree.no_stmts) final ps m m' r
 filled_end {final = final} {ps = ps} t x done o e h = rw e (record {
@@ -237,7 +239,7 @@ filled_end {final = final} {ps = ps} t x done o e h = rw e (record {
   rel = λ labels nodes le le'. (tt, kept_within final ps t x o (omega arith) h);
 })
 
-pub filled_item : {final : Stored} {ps : List Frame} {m m' : Mark} {r : Contents} (t : Bool) (x : Walk Value)
+pub filled_item : {final : Stored} {ps : List Frame} {m m' : Mark} {r : StoredContents} (t : Bool) (x : Walk Value)
     (ss : Stmts) (done : List Statement)
     → Filled (done ++ statement.Item ∷ []) (ContentsRel t x ss) final ps m m' r
     → Filled done (ContentsRel t x (tree.more_stmts tree.item_stmt ss)) final ps m m' r
@@ -247,7 +249,7 @@ filled_item t x ss done p = record {
   rel = λ labels nodes le le'. p.rel labels nodes le le';
 }
 
-pub filled_expr : {final : Stored} {ps : List Frame} {m m1 m' : Mark} {r : Contents} (t : Bool) (x : Walk Value)
+pub filled_expr : {final : Stored} {ps : List Frame} {m m1 m' : Mark} {r : StoredContents} (t : Bool) (x : Walk Value)
     (e : OptionExpr) (semi : Bool) (ss : Stmts) (done : List Statement) (o : Option ExprId)
     → Grows m m1 → Grows m1 m' → KeptIs m.labels m1.nodes final ps (is_left e) (part_walk e) o
     → Filled (push_some done (option_map (λ i. statement.Expr i semi) o)) (ContentsRel t x ss) final ps m1 m' r
@@ -280,11 +282,11 @@ pub record BlockIs (at : Pointer) (is_unsafe : Bool) (label : Option LabelId) (n
 abbrev block_walk : Stmts → OptionExpr → Walk Value
 block_walk ss e turns qs = run_stmts turns ss (is_left e) (run_tail turns e) qs
 
-abbrev pub BlockRel : Stmts → OptionExpr → Rel Contents
+abbrev pub BlockRel : Stmts → OptionExpr → Rel StoredContents
 BlockRel ss e = Filled [] (ContentsRel (is_left e) (part_walk e) ss)
 
 block_form_fine : (at : Pointer) (is_unsafe : Bool) (label : Option LabelId) (number : Option BlockId) (ss : Stmts) (e : OptionExpr)
-    {p : Lowering Contents} → Correct p (BlockRel ss e)
+    {p : Lowering StoredContents} → Correct p (BlockRel ss e)
     → Correct (block_form at is_unsafe label number p) (BlockIs at is_unsafe label number (block_walk ss e))
 unfolding block_form
 block_form_fine at is_unsafe label number ss e hp = correct_as
@@ -298,9 +300,10 @@ block_form_fine at is_unsafe label number ss e hp = correct_as
     })
 
 pub block_fine : (at : Pointer) (is_unsafe : Bool) (label : Option Label) (number : Option BlockId) (ss : Stmts) (e : OptionExpr)
-    {p : Lowering Contents} → Correct p (BlockRel ss e)
+    {p : Lowering StoredContents} → Correct p (BlockRel ss e)
     → Correct (labelled label (λ n. block_form at is_unsafe n number p))
-    (Runs one (λ turns qs. entering is_unsafe number (Some (site_of at)) (catching label (block_walk ss e turns (in_block label qs)))))
+    (Runs one (λ turns qs. entering is_unsafe number (Some (site_of at))
+    (catching label (block_walk ss e turns (scopes_in_block label qs)))))
 unfolding labelled
 block_fine at is_unsafe None number ss e hp = correct_as (block_form_fine at is_unsafe None number ss e hp)
     (λ final ps m m' i g row. Nodes.goes_plain_block is_unsafe number row.goes row.here)

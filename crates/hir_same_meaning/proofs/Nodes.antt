@@ -15,7 +15,7 @@ use Rattle.hir_env.specs.Answering.{site_of}
 use Rattle.hir_meaning.specs.Run.{Value, unit, is_true, break, continue, leave, missing}
 use Rattle.hir_meaning.specs.Run.{ends, pure, ◌>>=◌, tests, entering}
 use Rattle.hir_meaning.specs.Catching.{turn, loop, block}
-use Rattle.hir_scope.specs.Scopes.{block_scope, break_target, continue_target, outward, past_block as past_block_scope}
+use Rattle.hir_scope.specs.Scopes.{block_scope, break_target, continue_target, outward, continue_past_block}
 use Rattle.hir_meaning.specs.Syntax.{run_lazy}
 use Rattle.hir_meaning.specs.Jumps.{NamesAmong}
 use Rattle.hir_steps.proofs.Frames.{Frame, block_at, inside, scopes, Falls}
@@ -94,7 +94,7 @@ module _ {labels : ℕ} {m m' : Mark} {at : Pointer} {final : Stored} {ps qs : L
       → Goes labels' m.nodes contents x final (block_at l n ∷ ps) r
       → Allocated (hir.Block is_unsafe (Some n) number r.0 r.1) (Some at) final qs m m' i
       → Goes labels m'.nodes one (λ turns ss. entering is_unsafe number (Some (site_of at))
-      (block outward past_block_scope (x turns (block_scope l ∷ ss)))) final ps i
+      (block outward continue_past_block (x turns (block_scope l ∷ ss)))) final ps i
   goes_block is_unsafe number l n falls h a = goes_at a
       (λ turns d le f. same_entering is_unsafe number (Some (site_of at))
       (same_block (record { label = l; number = n }) (h.same turns d le (falls f))))

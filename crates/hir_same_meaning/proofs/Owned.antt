@@ -20,8 +20,8 @@ use Rattle.hir_env.specs.Answered as tree
 use Rattle.hir_env.specs.Answered.{Leaf, Unary, Binary, Listing, Leaving}
 use Rattle.hir_env.specs.Answered.{Label, Jump, Segments, Expr, OptionExpr, Exprs, Block, OptionBlock, Stmts, Stmt}
 use Rattle.hir_lower_form.specs.Lowering.{Lowering, ◌>>=◌, pure, alloc_expr, report}
-use Rattle.hir_lower_form.specs.Lower.{Node, push_some, missing, some, if_form, loop_form, call_form, continue_form, break_form}
-use Rattle.hir_lower_form.specs.Lower.{paren_form, names_of, named_path, stored_path, settled, settled_block, Contents, block_form}
+use Rattle.hir_lower_form.specs.Lower.{ExprSteps, push_some, missing, some, if_form, loop_form, call_form, continue_form, break_form}
+use Rattle.hir_lower_form.specs.Lower.{paren_form, names_of, named_path, stored_path, settled, settled_block, StoredContents, block_form}
 use Rattle.hir_lower_form.specs.Lower.{labelled, kept, lower, lower_part, present, kept_part, lower_each, lower_block, lower_block_part}
 use Rattle.hir_lower_form.specs.Lower.{lower_stmts, stored_leaf, stored_unary, stored_binary, stored_lazy, stored_leaving}
 use Rattle.hir_lower_form.specs.Lower.{operand_form, operands_form, value_form, list_form, method_call_form, await_form}
@@ -45,7 +45,7 @@ Owns = OwnsAs (λ f i. f i)
 abbrev OwnsSome : Rel (Option ExprId)
 OwnsSome = OwnsAs of_some
 
-abbrev of_contents : (ExprId → List ℕ) → Contents → List ℕ
+abbrev of_contents : (ExprId → List ℕ) → StoredContents → List ℕ
 of_contents f r = of_statements f r.0 ++ of_some f r.1
 
 owns_none : {A : Type 0} {numbers : (ExprId → List ℕ) → A → List ℕ} {final : Stored} {ps : List Frame} {m m' : Mark} (a : A)
@@ -75,7 +75,7 @@ missing_owns = leaf_owns hir.Missing None (λ f. refl)
 none_owns : Correct (pure None) OwnsSome
 none_owns = correct_as (correct_pure None) (λ final ps m m' o g row. rw row.is (owns_none None (λ f. refl)))
 
-some_owns : {p : Node} → Correct p Owns → Correct (some p) OwnsSome
+some_owns : {p : ExprSteps} → Correct p Owns → Correct (some p) OwnsSome
 some_owns h = correct_as (correct_bind h (λ i. correct_pure (Some i)))
     (λ final ps m m' o g row. rw (row.second.is, row.second.still) (record { spread = row.first.spread }))
 
@@ -116,12 +116,12 @@ leaving_below tree.returning f o = refl
 leaving_below tree.yeeting f o = refl
 
 module _ (at : Pointer) where
-  operand_owns : (make : ExprId → HirExpr) {p : Node} → ((f : ExprId → List ℕ) (i : ExprId) → below f (make i) ≡ f i) → Correct p Owns
+  operand_owns : (make : ExprId → HirExpr) {p : ExprSteps} → ((f : ExprId → List ℕ) (i : ExprId) → below f (make i) ≡ f i) → Correct p Owns
       → Correct (operand_form at make p) Owns
   unfolding operand_form
   operand_owns make is h = owns1 make (Some at) is h
 
-  operands_owns : (make : ExprId → ExprId → HirExpr) {p q : Node}
+  operands_owns : (make : ExprId → ExprId → HirExpr) {p q : ExprSteps}
       → ((f : ExprId → List ℕ) (i j : ExprId) → below f (make i j) ≡ f i ++ f j) → Correct p Owns → Correct q Owns
       → Correct (operands_form at make p q) Owns
   unfolding operands_form
@@ -143,12 +143,12 @@ module _ (at : Pointer) where
       (r.first.spread d le) (row.first.spread d (omega arith))))
   list_owns tree.array_of h = owns1 hir.Array (Some at) (λ f es. refl) h
 
-  method_call_owns : (name : Name) {p : Node} {q : Lowering (List ExprId)} → Correct p Owns → Correct q (OwnsAs of_each)
+  method_call_owns : (name : Name) {p : ExprSteps} {q : Lowering (List ExprId)} → Correct p Owns → Correct q (OwnsAs of_each)
       → Correct (method_call_form at p name q) Owns
   unfolding method_call_form
   method_call_owns name hp hq = owns2 (λ e es. hir.MethodCall e name es) (Some at) (λ f e es. refl) hp hq
 
-  await_owns : (location : Option AwaitLocation) {p : Node} → Correct p Owns → Correct (await_form at location p) Owns
+  await_owns : (location : Option AwaitLocation) {p : ExprSteps} → Correct p Owns → Correct (await_form at location p) Owns
   unfolding await_form
   await_owns location h = correct_as
       (correct_bind h (λ e. correct_bind (correct_report_await at location) (λ u. correct_alloc (hir.Await e) (Some at))))
@@ -157,12 +157,12 @@ module _ (at : Pointer) where
       (row.first.spread d (omega arith))))
 
   -- a prefix without operator reaches nothing
-  nameless_owns : {p : Node} → Correct p Owns → Correct (operand_form at (λ i. hir.Missing) p) Owns
+  nameless_owns : {p : ExprSteps} → Correct p Owns → Correct (operand_form at (λ i. hir.Missing) p) Owns
   unfolding operand_form
   nameless_owns h = correct_as (correct_bind h (λ e. correct_alloc hir.Missing (Some at)))
       (λ final ps m m' i g row. owns_at m row.second (omega arith) (λ d le. spread_none m.nodes row.middle.nodes))
 
-  if_owns : {c t : Node} {e : Lowering (Option ExprId)} → Correct c Owns → Correct t Owns → Correct e OwnsSome
+  if_owns : {c t : ExprSteps} {e : Lowering (Option ExprId)} → Correct c Owns → Correct t Owns → Correct e OwnsSome
       → Correct (if_form at c t e) Owns
   unfolding if_form
   if_owns hc ht he = correct_as
@@ -172,11 +172,11 @@ module _ (at : Pointer) where
       (spread_append m.nodes r.middle.nodes (inl (omega arith)) (omega arith)
       (row.first.spread d (omega arith)) (r.first.spread d (omega arith)))))
 
-  call_owns : {p : Node} {q : Lowering (List ExprId)} → Correct p Owns → Correct q (OwnsAs of_each) → Correct (call_form at p q) Owns
+  call_owns : {p : ExprSteps} {q : Lowering (List ExprId)} → Correct p Owns → Correct q (OwnsAs of_each) → Correct (call_form at p q) Owns
   unfolding call_form
   call_owns hf hs = owns2 hir.Call (Some at) (λ f g xs. refl) hf hs
 
-  loop_owns : (l : Option Label) {p : Node} → Correct p Owns → Correct (loop_form at l p) Owns
+  loop_owns : (l : Option Label) {p : ExprSteps} → Correct p Owns → Correct (loop_form at l p) Owns
   unfolding loop_form
   loop_owns None h = correct_as (correct_bind h (λ i. correct_alloc (hir.Loop i None source.Loop) (Some at)))
       (λ final ps m m' i g row. owns_at m row.second (omega arith) (λ d le. row.first.spread d le))
@@ -196,7 +196,7 @@ module _ (at : Pointer) where
   continue_owns j = correct_as (correct_bind (correct_target j) (λ n. correct_alloc (hir.Continue n) (Some at)))
       (λ final ps m m' i g row. owns_at m row.second (omega arith) (λ d le. spread_none m.nodes row.middle.nodes))
 
-  paren_owns : {p : Node} → Correct p Owns → Correct (paren_form at p) Owns
+  paren_owns : {p : ExprSteps} → Correct p Owns → Correct (paren_form at p) Owns
   unfolding paren_form
   paren_owns h = correct_as (correct_bind h (λ i. correct_bind (correct_point at i) (λ _. correct_pure i)))
       (λ final ps m m' i g row. rw row.second.second.is
@@ -212,7 +212,7 @@ path_below (Some ss) h f = go (names_of ss)
 
 -- what is kept, lists, statements
 
-kept_owns : (e : Expr) {p : Node} → Correct p Owns → Correct (kept e p) OwnsSome
+kept_owns : (e : Expr) {p : ExprSteps} → Correct p Owns → Correct (kept e p) OwnsSome
 kept_owns (tree.disabled_expr at by e) h = correct_as (correct_bind (correct_report (InactiveCode at by)) (λ u. correct_pure None))
     (λ final ps m m' o g row. rw row.second.is (owns_none None (λ f. refl)))
 kept_owns e h = correct_as (correct_bind h (λ i. correct_pure (Some i)))
@@ -240,16 +240,17 @@ each_more {m = m} {m' = m'} done (Some i) g g' h p = record {
 }
 
 -- the statements are pushed on those that stand
-record Filled (done : List Statement) (final : Stored) (ps : List Frame) (m m' : Mark) (r : Contents) : Type 0 where
+record Filled (done : List Statement) (final : Stored) (ps : List Frame) (m m' : Mark) (r : StoredContents) : Type 0 where
   new : List Statement
   is : r.0 ≡ done ++ new
   rel : OwnsAs of_contents final ps m m' (new, r.1)
 
-filled_end : {final : Stored} {ps : List Frame} {m m' : Mark} {r : Contents} (done : List Statement) (o : Option ExprId) → r ≡ (done, o)
+filled_end : {final : Stored} {ps : List Frame} {m m' : Mark} {r : StoredContents} (done : List Statement) (o : Option ExprId)
+    → r ≡ (done, o)
     → OwnsSome final ps m m' o → Filled done final ps m m' r
 filled_end done o e h = rw e (record { new = []; is = sym (append-nil done); rel = record { spread = h.spread } })
 
-filled_silent : {final : Stored} {ps qs : List Frame} {m m' : Mark} {r : Contents} (s : Statement) (done : List Statement)
+filled_silent : {final : Stored} {ps qs : List Frame} {m m' : Mark} {r : StoredContents} (s : Statement) (done : List Statement)
     → ((f : ExprId → List ℕ) → of_statement f s ≡ [])
     → Filled (done ++ s ∷ []) final qs m m' r → Filled done final ps m m' r
 filled_silent {final = final} s done n p = record {
@@ -258,7 +259,8 @@ filled_silent {final = final} s done n p = record {
   rel = record { spread = λ d le. rw (n (reached_to final.exprs.entries d)) (p.rel.spread d le) };
 }
 
-filled_expr : {final : Stored} {ps : List Frame} {m m1 m' : Mark} {r : Contents} (semi : Bool) (done : List Statement) (o : Option ExprId)
+filled_expr : {final : Stored} {ps : List Frame} {m m1 m' : Mark} {r : StoredContents} (semi : Bool) (done : List Statement)
+    (o : Option ExprId)
     → Grows m m1 → Grows m1 m'
     → OwnsSome final ps m m1 o → Filled (push_some done (option_map (λ i. statement.Expr i semi) o)) final ps m1 m' r
     → Filled done final ps m m' r
@@ -296,7 +298,7 @@ settled_below f (statement.Expr i false ∷ []) None = sym (append-nil (f i ++ [
 settled_below f (statement.Expr i false ∷ (s ∷ ss)) None =
     one_below f i (settled (s ∷ ss) None).0 (s ∷ ss) (settled (s ∷ ss) None).1 None (settled_below f (s ∷ ss) None)
 
-block_form_owns : (at : Pointer) (is_unsafe : Bool) (label : Option LabelId) (number : Option BlockId) {p : Lowering Contents}
+block_form_owns : (at : Pointer) (is_unsafe : Bool) (label : Option LabelId) (number : Option BlockId) {p : Lowering StoredContents}
     → Correct p (Filled []) → Correct (block_form at is_unsafe label number p) Owns
 unfolding block_form
 block_form_owns at is_unsafe label number hp = correct_as
@@ -306,7 +308,7 @@ block_form_owns at is_unsafe label number hp = correct_as
     owns_at m r.second (omega arith) (λ d le. rw (settled_below (reached_to final.exprs.entries d) r.one.0 r.one.1, r.first.is)
     (spread_wider m.nodes r.middle.nodes (omega arith) (omega arith) (r.first.rel.spread d (omega arith)))))
 
-block_owns : (at : Pointer) (is_unsafe : Bool) (label : Option Label) (number : Option BlockId) {p : Lowering Contents}
+block_owns : (at : Pointer) (is_unsafe : Bool) (label : Option Label) (number : Option BlockId) {p : Lowering StoredContents}
     → Correct p (Filled []) → Correct (labelled label (λ n. block_form at is_unsafe n number p)) Owns
 unfolding labelled
 block_owns at is_unsafe None number hp = block_form_owns at is_unsafe None number hp

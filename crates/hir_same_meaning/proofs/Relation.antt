@@ -8,13 +8,13 @@ use Rattle.hir_env.specs.NodeMap.{Site}
 use Rattle.hir_meaning.specs.Run.{Value, answered, unit, truth, Operation, enter, tuple, Test, test, Outcome, value, break, continue}
 use Rattle.hir_meaning.specs.Run.{Leave, leave, cut, World, ends, pure, after, ◌>>=◌, event, ask, tests, entering, made_tuple, lazily}
 use Rattle.hir_meaning.specs.Catching.{Step, again, done, Outward, turn_end, goes_on, loop, block, block_end}
-use Rattle.hir_scope.specs.Scopes.{Count, outward, past_block as past_block_scope}
+use Rattle.hir_scope.specs.Scopes.{Count, outward, continue_past_block}
 use Rattle.hir_meaning.specs.Syntax.{SyntaxRun}
-use Rattle.hir_meaning.specs.Store.{Named, StoreRun, past_loop, past_block}
+use Rattle.hir_meaning.specs.Store.{JumpLabel, StoreRun, past_loop, past_block}
 use Rattle.hir_steps.proofs.Frames.{Frame, block_at}
 use Rattle.hir_same_meaning.proofs.Views.{Numbered, number, view, view_step, turn_ends, block_ends, plain_block_ends, loop_frame}
 
-pub record Agrees {A : Type 0} (ps : List Frame) (o : Outcome Named A) (w : World (Unit {0}))
+pub record Agrees {A : Type 0} (ps : List Frame) (o : Outcome JumpLabel A) (w : World (Unit {0}))
     (o' : Outcome Count A) (w' : World (Unit {0})) : Type 0 where
   pub outcome : view ps o ≡ o'
   pub world : w ≡ w'
@@ -23,7 +23,7 @@ pub record Agrees {A : Type 0} (ps : List Frame) (o : Outcome Named A) (w : Worl
 pub record SameWhere {A : Type 0} (ps : List Frame) (m : StoreRun A) (n : SyntaxRun A) : Type 0 where
   pub same : (w : World (Unit {0})) → Agrees ps (m w).0 (m w).1 (n w).0 (n w).1
 
-agrees_as : {A S : Type 0} {ps : List Frame} {o : Outcome Named A} {w : World (Unit {0})}
+agrees_as : {A S : Type 0} {ps : List Frame} {o : Outcome JumpLabel A} {w : World (Unit {0})}
     (k : S → World (Unit {0}) → Outcome Count A × World (Unit {0}))
     {s s' : S} {v v' : World (Unit {0})}
     → s ≡ s' → v ≡ v' → Agrees ps o w (k s v).0 (k s v).1 → Agrees ps o w (k s' v').0 (k s' v').1
@@ -41,7 +41,7 @@ leave_of _ = cut
 -- steps
 
 module _ {ps : List Frame} where
-  pub same_ends : {A : Type 0} (o : Outcome Named A) {o' : Outcome Count A} → view ps o ≡ o' → SameWhere ps (ends o) (ends o')
+  pub same_ends : {A : Type 0} (o : Outcome JumpLabel A) {o' : Outcome Count A} → view ps o ≡ o' → SameWhere ps (ends o) (ends o')
   unfolding ends
   same_ends o e = record { same = λ w. record { outcome = e; world = refl } }
 
@@ -53,7 +53,7 @@ module _ {ps : List Frame} where
   same_event o vs site = record { same = λ w. record { outcome = refl; world = refl } }
 
   after_same : {A B : Type 0} {f : A → StoreRun B} {g : A → SyntaxRun B} → ((a : A) → SameWhere ps (f a) (g a))
-      → (o : Outcome Named A) (w : World (Unit {0}))
+      → (o : Outcome JumpLabel A) (w : World (Unit {0}))
       → Agrees ps (after o w f).0 (after o w f).1 (after (view ps o) w g).0 (after (view ps o) w g).1
   after_same h (value a) w = (h a).same w
   after_same h (break j v) w = record { outcome = refl; world = refl }
@@ -98,7 +98,7 @@ module _ {ps : List Frame} where
   same_lazily logic.Or true h = same_pure (truth true)
   same_lazily logic.Or false h = h
 
-  stopped : {A B : Type 0} (f : A → StoreRun B) (x : Leave) (o : Outcome Named A) (w w' : World (Unit {0})) → view ps o ≡ leave x
+  stopped : {A B : Type 0} (f : A → StoreRun B) (x : Leave) (o : Outcome JumpLabel A) (w w' : World (Unit {0})) → view ps o ≡ leave x
       → w ≡ w' → Agrees ps (after o w f).0 (after o w f).1 (leave x) w'
   stopped f x (value a) w w' e e' = absurd (subst is_leave (sym e) tt)
   stopped f x (break j v) w w' e e' = absurd (subst is_leave (sym e) tt)
@@ -113,12 +113,13 @@ module _ {ps : List Frame} where
 
 -- loops and blocks
 
-pub record TurnsAgree (ps : List Frame) (s : Step Named) (w : World (Unit {0})) (s' : Step Count) (w' : World (Unit {0})) : Type 0 where
+pub record TurnsAgree (ps : List Frame) (s : Step JumpLabel) (w : World (Unit {0})) (s' : Step Count) (w' : World (Unit {0})) : Type 0 where
   pub step : view_step ps s ≡ s'
   pub world : w ≡ w'
 
 -- the turns of a loop that catches what it is to catch
-pub record SameTurns (ps : List Frame) (leaves : Outward Named) (m : StoreRun (Option Value)) (n : SyntaxRun (Option Value)) : Type 0 where
+pub record SameTurns (ps : List Frame) (leaves : Outward JumpLabel) (m : StoreRun (Option Value))
+    (n : SyntaxRun (Option Value)) : Type 0 where
   pub same : (w : World (Unit {0})) → TurnsAgree ps (turn_end leaves (m w).0) (m w).1 (turn_end outward (n w).0) (n w).1
 
 module _ {ps : List Frame} where
@@ -131,12 +132,12 @@ module _ {ps : List Frame} where
     };
   }
 
-  goes_same : {f : StoreRun Value} {g : SyntaxRun Value} → SameWhere ps f g → (s : Step Named) (w : World (Unit {0}))
+  goes_same : {f : StoreRun Value} {g : SyntaxRun Value} → SameWhere ps f g → (s : Step JumpLabel) (w : World (Unit {0}))
       → Agrees ps (goes_on f s w).0 (goes_on f s w).1 (goes_on g (view_step ps s) w).0 (goes_on g (view_step ps s) w).1
   goes_same h again w = h.same w
   goes_same h (done o) w = record { outcome = refl; world = refl }
 
-  pub same_loop : {leaves : Outward Named} {m : StoreRun (Option Value)} {n : SyntaxRun (Option Value)} → SameTurns ps leaves m n
+  pub same_loop : {leaves : Outward JumpLabel} {m : StoreRun (Option Value)} {n : SyntaxRun (Option Value)} → SameTurns ps leaves m n
       → (turns : ℕ) → SameWhere ps (loop leaves turns m) (loop outward turns n)
   unfolding loop
   same_loop h zero = same_ends (leave cut) refl
@@ -147,11 +148,11 @@ module _ {ps : List Frame} where
   }
 
   pub same_block : (n : Numbered) {m : StoreRun Value} {m' : SyntaxRun Value} → SameWhere (block_at n.label n.number ∷ ps) m m'
-      → SameWhere ps (block (past_block (Some n.number)) (λ j. j) m) (block outward past_block_scope m')
+      → SameWhere ps (block (past_block (Some n.number)) (λ j. j) m) (block outward continue_past_block m')
   unfolding block
   same_block n {m = m} h = record {
     same = λ w. let a = h.same w in record {
-      outcome = block_ends n ps (m w).0 ∙ ap (block_end outward past_block_scope) a.outcome;
+      outcome = block_ends n ps (m w).0 ∙ ap (block_end outward continue_past_block) a.outcome;
       world = a.world;
     };
   }

@@ -10,9 +10,9 @@ use Rattle.hir_env.specs.Answering.{site_of}
 use Rattle.hir_meaning.specs.Run.{Value}
 use Rattle.hir_scope.specs.Scopes.{Scope}
 use Rattle.hir_meaning.specs.Syntax.{SyntaxRun}
-use Rattle.hir_meaning.specs.Store.{StoreRun, run_or_unit, run_each, run_statements, run_node, run_to}
+use Rattle.hir_meaning.specs.Store.{StoreRun, run_or_unit, run_each, run_statements, run_stored, run_to}
 use Rattle.hir_scope.specs.Each.{Each, IfPresent}
-use Rattle.hir_meaning.specs.Jumps.{EachStatement, NodeEnclosed, EnclosedTo}
+use Rattle.hir_meaning.specs.Jumps.{EachStatement, StoredEnclosed, EnclosedTo}
 use Rattle.hir_steps.proofs.Frames.{Frame, scopes, Falls, falls_more}
 use Rattle.hir_steps.proofs.Steps.{Mark, Rel, Allocated}
 use Rattle.hir_same_meaning.proofs.Views.{numbers}
@@ -28,7 +28,7 @@ run_in final d turns = run_to (store_of final) (map_of final) d turns
 
 -- the run of a node whose parts are looked into so deep
 abbrev pub node_in : Stored → ℕ → ℕ → Expr → Option Site → StoreRun Value
-node_in final d turns e site = run_node (store_of final) (map_of final) turns (run_in final d turns) e site
+node_in final d turns e site = run_stored (store_of final) (map_of final) turns (run_in final d turns) e site
 
 -- how numbers are read: one, an optional one, a list, the contents of a block
 pub record Reading (A B : Type 0) : Type 1 where
@@ -71,7 +71,7 @@ pub goes_at : {labels : ℕ} {m m' : Mark} {e : Expr} {source : Option Pointer} 
     {i : ExprId} → Allocated e source final qs m m' i
     → ((turns d : ℕ) → m.nodes ≤ d → Falls labels ps
     → SameWhere ps (node_in final d turns e (option_map site_of source)) (x turns (scopes ps)))
-    → ((d : ℕ) → m.nodes ≤ d → NodeEnclosed (EnclosedTo final.exprs.entries d) (numbers ps) e)
+    → ((d : ℕ) → m.nodes ≤ d → StoredEnclosed (EnclosedTo final.exprs.entries d) (numbers ps) e)
     → Goes labels m'.nodes one x final ps i
 unfolding run_to EnclosedTo
 goes_at {labels = labels} {m = m} {m' = m'} {x = x} {final = final} {ps = ps} {i = i} at same jumps =

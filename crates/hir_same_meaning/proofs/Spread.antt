@@ -1,7 +1,7 @@
 -- Lists of numbers, each in a range and each once.
 use Rattle.std.proofs.Common.{◌≢◌, ℕ, suc, ◌<◌, ◌≤◌, ◌⊎◌, inl, inr, List, [], ◌∷◌, ◌++◌, arith}
 use Rattle.hir_scope.specs.Each.{Each}
-use Rattle.hir_same_meaning.specs.Reached.{Distinct, From, Spread}
+use Rattle.hir_same_meaning.specs.Reached.{Distinct, Between, Spread}
 
 pub all_less : {P Q : ℕ → Type 0} (ks : List ℕ) → ((k : ℕ) → P k → Q k) → Each P ks → Each Q ks
 all_less [] f h = tt
@@ -11,7 +11,7 @@ all_append : (P : ℕ → Type 0) (ks js : List ℕ) → Each P ks → Each P js
 all_append P [] js h h' = h'
 all_append P (k ∷ ks) js h h' = (h.0, all_append P ks js h.1 h')
 
-apart : (lo hi lo' hi' k : ℕ) (js : List ℕ) → (hi ≤ lo') ⊎ (hi' ≤ lo) → From lo hi k → Each (From lo' hi') js → Each (λ j. k ≢ j) js
+apart : (lo hi lo' hi' k : ℕ) (js : List ℕ) → (hi ≤ lo') ⊎ (hi' ≤ lo) → Between lo hi k → Each (Between lo' hi') js → Each (λ j. k ≢ j) js
 apart lo hi lo' hi' k js (inl le) h h' = let a : k < hi = h.1 in all_less js (λ j f. let b : lo' ≤ j = f.0 in omega arith) h'
 apart lo hi lo' hi' k js (inr le) h h' = let a : lo ≤ k = h.0 in all_less js (λ j f. let b : j < hi' = f.1 in omega arith) h'
 
@@ -35,7 +35,7 @@ pub spread_append : {lo hi lo' hi' : ℕ} {ks js : List ℕ} (from to : ℕ) →
     → (from ≤ lo) × (from ≤ lo') × (hi ≤ to) × (hi' ≤ to) → Spread lo hi ks → Spread lo' hi' js → Spread from to (ks ++ js)
 spread_append {lo = lo} {hi = hi} {lo' = lo'} {hi' = hi'} {ks = ks} {js = js} from to e in_range h h' =
     let a = spread_wider from to in_range.0 in_range.2 h in let b = spread_wider from to in_range.1 in_range.3 h' in
-    record { within = all_append (From from to) ks js a.within b.within; distinct = distinct_append lo hi lo' hi' ks js e h h' }
+    record { within = all_append (Between from to) ks js a.within b.within; distinct = distinct_append lo hi lo' hi' ks js e h h' }
 
 pub spread_node : (lo n : ℕ) (ks : List ℕ) → lo ≤ n → Spread lo n ks → Spread lo (suc n) (n ∷ ks)
 spread_node lo n ks le h = let w = spread_wider lo (suc n) (omega arith) (omega arith) h in

@@ -12,8 +12,8 @@ use Rattle.hir_steps.proofs.Frames.{Frame}
 use Rattle.hir_steps.proofs.Steps.{Mark, Allocated, Correct, correct_bind, correct_as, correct_alloc}
 use Rattle.hir_meaning.specs.Run.{Value, Operation, Leave, leave, ◌>>=◌, ends, ask, made_tuple}
 use Rattle.hir_meaning.specs.Syntax.{SyntaxRun}
-use Rattle.hir_meaning.specs.Store.{StoreRun, run_node}
-use Rattle.hir_meaning.specs.Jumps.{NodeEnclosed, EnclosedTo}
+use Rattle.hir_meaning.specs.Store.{StoreRun, run_stored}
+use Rattle.hir_meaning.specs.Jumps.{StoredEnclosed, EnclosedTo}
 use Rattle.hir_same_meaning.proofs.Views.{numbers}
 use Rattle.hir_same_meaning.proofs.Relation.{SameWhere, same_ends, same_bind, same_ask, same_made_tuple}
 use Rattle.hir_same_meaning.proofs.Senses.{Walk, Reading, run_in, one, Goes, Runs, goes_within, goes_at}
@@ -27,7 +27,7 @@ pub record Where : Type 0 where
   pub site : Option Site
 
 abbrev pub node_run : Where → Expr → StoreRun Value
-node_run w e = run_node w.store w.source_map w.turns w.part e w.site
+node_run w e = run_stored w.store w.source_map w.turns w.part e w.site
 
 -- in a final store, looked into so deep, from this node
 abbrev looked_into : Stored → ℕ → ℕ → Pointer → Where
@@ -47,7 +47,7 @@ JumpsOf = List LabelId → ExprId → Type 0
 
 pub record Event0 (e : Expr) (o : Operation) : Type 1 where
   pub runs : (w : Where) → node_run w e ≡ ask o [] w.site
-  pub jumps : (P : JumpsOf) (ls : List LabelId) → NodeEnclosed P ls e
+  pub jumps : (P : JumpsOf) (ls : List LabelId) → StoredEnclosed P ls e
 
 pub event0_fine : {e : Expr} {o : Operation} (at : Pointer) → Event0 e o
     → Correct (alloc_expr e (Some at)) (Runs one (λ turns ss. ask o [] (Some (site_of at))))
@@ -88,7 +88,7 @@ makes_tuple = record {
 
 pub record Form1 {A B : Type 0} (e : A → Expr) (r : Reading A B) (f : Finish B) : Type 1 where
   pub runs : (w : Where) (a : A) → node_run w (e a) ≡ r.run w.turns w.part a >>= (λ b. f.stored b w.site)
-  pub jumps : (P : JumpsOf) (ls : List LabelId) (a : A) → r.Jumps (P ls) a → NodeEnclosed P ls (e a)
+  pub jumps : (P : JumpsOf) (ls : List LabelId) (a : A) → r.Jumps (P ls) a → StoredEnclosed P ls (e a)
 
 -- the walk of such a form
 abbrev pub finished : {B : Type 0} → Pointer → Walk B → Finish B → Walk Value
@@ -113,7 +113,7 @@ pub record Event2 {A B C D : Type 0} (e : A → C → Expr) (r : Reading A B) (q
     (values : B → D → List Value) : Type 1 where
   pub runs : (w : Where) (a : A) (c : C)
       → node_run w (e a c) ≡ r.run w.turns w.part a >>= (λ b. q.run w.turns w.part c >>= (λ d. ask o (values b d) w.site))
-  pub jumps : (P : JumpsOf) (ls : List LabelId) (a : A) (c : C) → r.Jumps (P ls) a × q.Jumps (P ls) c → NodeEnclosed P ls (e a c)
+  pub jumps : (P : JumpsOf) (ls : List LabelId) (a : A) (c : C) → r.Jumps (P ls) a × q.Jumps (P ls) c → StoredEnclosed P ls (e a c)
 
 pub event2_fine : {A B C D : Type 0} {e : A → C → Expr} {r : Reading A B} {q : Reading C D} {o : Operation} {values : B → D → List Value}
     {p : Lowering A} {s : Lowering C} {x : Walk B} {y : Walk D} (at : Pointer) → Event2 e r q o values

@@ -4,7 +4,7 @@ use Rattle.std.proofs.lemmas.Bool.Decides.{nat_tests}
 use Rattle.hir_store.specs.declared.ids.LabelId.{LabelId}
 use Rattle.hir_store.specs.declared.ids.MacroDefId.{MacroDefId}
 use Rattle.hir_env.specs.Answered.{Label, Jump}
-use Rattle.hir_scope.specs.Ribs.{Rib, label_rib, macro_rib, barrier_rib, Target, found, unreachable, undeclared, target}
+use Rattle.hir_scope.specs.Ribs.{Rib, label_rib, macro_rib, barrier_rib, Target, reachable, unreachable, undeclared, target}
 use Rattle.hir_scope.specs.Ribs.{number_found, jump_number, map_ribs, map_target}
 use Rattle.hir_scope.specs.Scopes.{further, Bearer, a_loop, a_block, one_out, ribs as scope_ribs, innermost_loop}
 use Rattle.hir_scope.specs.Scopes.{break_found, continue_found, break_target, continue_target}
@@ -180,15 +180,15 @@ all_right (barrier_at ∷ ps) b f = tt
 
 breaks : (b : ℕ) (ps : List Frame) (t : Target Reached) → IfFound (Right b ps) t
     → count_break ps (number_found (map_target number_of t)) ≡ break_found (scopes ps) (map_target bearer_of t)
-breaks b ps (found (n, a_loop k)) h = h.1
-breaks b ps (found (n, a_block k)) h = h.1
+breaks b ps (reachable (n, a_loop k)) h = h.1
+breaks b ps (reachable (n, a_block k)) h = h.1
 breaks b ps unreachable h = (plain_target ps).0
 breaks b ps undeclared h = (plain_target ps).0
 
 continues : (b : ℕ) (ps : List Frame) (t : Target Reached) → IfFound (Right b ps) t
     → count_continue ps (number_found (map_target number_of t)) ≡ continue_found (scopes ps) (map_target bearer_of t)
-continues b ps (found (n, a_loop k)) h = h.2
-continues b ps (found (n, a_block k)) h = h.2
+continues b ps (reachable (n, a_loop k)) h = h.2
+continues b ps (reachable (n, a_block k)) h = h.2
 continues b ps unreachable h = (plain_target ps).1
 continues b ps undeclared h = (plain_target ps).1
 
@@ -231,7 +231,7 @@ all_among (macro_at d ∷ ps) = all_among ps
 all_among (barrier_at ∷ ps) = tt
 
 found_among : (ls : List LabelId) (t : Target Reached) → IfFound (NumberAmong ls) t → NamesAmong ls (number_found (map_target number_of t))
-found_among ls (found x) h = h
+found_among ls (reachable x) h = h
 found_among ls unreachable h = tt
 found_among ls undeclared h = tt
 

@@ -17,7 +17,7 @@ use Rattle.hir_same_meaning.proofs.Induction.{part_fine}
 of_body : {R : Rel ExprId} {e : OptionExpr} {b b' : Builder} {i : ExprId} {final : Stored} → Correct (lower_part e) R → Lowered e b i b'
     → Extends b'.stored final → InStore R final [] (mark b) (mark b') i
 of_body {R = R} {e = e} {b = b} {b' = b'} {i = i} {final = final} c l x =
-    let h = (correct_in_store c).holds final [] b l.fresh in
+    let h = (correct_in_store c).holds final [] b l.none_open in
     let r : Answers (InStore R) final [] b b' i = rw l.is at h in
     r.in_final l.paired x
 

@@ -2,16 +2,16 @@
 use Rattle.std.proofs.Common.{◌≡◌, Bool, true, false, nat_eq, if◌then◌else◌, List, [], ◌∷◌, Option, Some, None, refl, sym, ap, ◌∙◌}
 use Rattle.hir_store.specs.declared.ids.LabelId.{LabelId}
 use Rattle.hir_env.specs.Answered.{Label}
-use Rattle.hir_scope.specs.Scopes.{Count, further, outward, past_block as past_block_scope}
+use Rattle.hir_scope.specs.Scopes.{Count, further, outward, continue_past_block}
 use Rattle.hir_steps.proofs.Frames.{Frame, plain_loop, loop_at, block_at, try_at, macro_at, barrier_at}
 use Rattle.hir_meaning.specs.Run.{Value, Outcome, value, break, continue, leave}
 use Rattle.hir_meaning.specs.Catching.{Step, again, done, turn_end, block_end, broken, continued}
-use Rattle.hir_meaning.specs.Store.{Named, past_loop, past_block}
+use Rattle.hir_meaning.specs.Store.{JumpLabel, past_loop, past_block}
 use Rattle.hir_meaning.specs.Jumps.{and_label}
 
 -- how many scopes a jump by number leaves
 
-abbrev pub count_break : List Frame → Named → Count
+abbrev pub count_break : List Frame → JumpLabel → Count
 count_break [] j = None
 count_break (plain_loop ∷ ps) None = Some 0
 count_break (plain_loop ∷ ps) (Some k) = further (count_break ps (Some k))
@@ -24,7 +24,7 @@ count_break (try_at n ∷ ps) (Some k) = if nat_eq n.0 k.0 then Some 0 else furt
 count_break (macro_at d ∷ ps) j = count_break ps j
 count_break (barrier_at ∷ ps) j = None
 
-abbrev pub count_continue : List Frame → Named → Count
+abbrev pub count_continue : List Frame → JumpLabel → Count
 count_continue [] j = None
 count_continue (plain_loop ∷ ps) None = Some 0
 count_continue (plain_loop ∷ ps) (Some k) = further (count_continue ps (Some k))
@@ -35,13 +35,13 @@ count_continue (try_at n ∷ ps) j = further (count_continue ps j)
 count_continue (macro_at d ∷ ps) j = count_continue ps j
 count_continue (barrier_at ∷ ps) j = None
 
-abbrev pub view : {A : Type 0} → List Frame → Outcome Named A → Outcome Count A
+abbrev pub view : {A : Type 0} → List Frame → Outcome JumpLabel A → Outcome Count A
 view ps (value a) = value a
 view ps (break j v) = break (count_break ps j) v
 view ps (continue j) = continue (count_continue ps j)
 view ps (leave x) = leave x
 
-abbrev pub view_step : List Frame → Step Named → Step Count
+abbrev pub view_step : List Frame → Step JumpLabel → Step Count
 view_step ps again = again
 view_step ps (done o) = done (view ps o)
 
@@ -60,7 +60,7 @@ abbrev pub loop_frame : Option Numbered → Frame
 loop_frame None = plain_loop
 loop_frame (Some n) = loop_at n.label n.number
 
-abbrev pub map_jump : (Named → Count) → Option Named → Option Count
+abbrev pub map_jump : (JumpLabel → Count) → Option JumpLabel → Option Count
 map_jump f None = None
 map_jump f (Some j) = Some (f j)
 
@@ -68,7 +68,7 @@ out_further : (j : Count) → outward (further j) ≡ Some j
 out_further None = refl
 out_further (Some k) = refl
 
-loop_break : (x : Option Numbered) (ps : List Frame) (j : Named)
+loop_break : (x : Option Numbered) (ps : List Frame) (j : JumpLabel)
     → outward (count_break (loop_frame x ∷ ps) j) ≡ map_jump (count_break ps) (past_loop (number x) j)
 loop_break None ps None = refl
 loop_break None ps (Some k) = out_further (count_break ps (Some k))
@@ -80,7 +80,7 @@ loop_break (Some n) ps (Some k) = split (nat_eq n.number.0 k.0)
     split true = refl
     split false = out_further (count_break ps (Some k))
 
-loop_continue : (x : Option Numbered) (ps : List Frame) (j : Named)
+loop_continue : (x : Option Numbered) (ps : List Frame) (j : JumpLabel)
     → outward (count_continue (loop_frame x ∷ ps) j) ≡ map_jump (count_continue ps) (past_loop (number x) j)
 loop_continue None ps None = refl
 loop_continue None ps (Some k) = out_further (count_continue ps (Some k))
@@ -93,17 +93,17 @@ loop_continue (Some n) ps (Some k) = split (nat_eq n.number.0 k.0)
     split true = refl
     split false = out_further (count_continue ps (Some k))
 
-view_broken : (ps : List Frame) (v : Value) (j : Option Named)
+view_broken : (ps : List Frame) (v : Value) (j : Option JumpLabel)
     → view_step ps (broken v j (λ v'. done (value v')) done) ≡ broken v (map_jump (count_break ps) j) (λ v'. done (value v')) done
 view_broken ps v None = refl
 view_broken ps v (Some j) = refl
 
-view_continued : (ps : List Frame) (j : Option Named)
+view_continued : (ps : List Frame) (j : Option JumpLabel)
     → view_step ps (continued j again done) ≡ continued (map_jump (count_continue ps) j) again done
 view_continued ps None = refl
 view_continued ps (Some j) = refl
 
-pub turn_ends : (x : Option Numbered) (ps : List Frame) (o : Outcome Named (Option Value))
+pub turn_ends : (x : Option Numbered) (ps : List Frame) (o : Outcome JumpLabel (Option Value))
     → view_step ps (turn_end (past_loop (number x)) o) ≡ turn_end outward (view (loop_frame x ∷ ps) o)
 turn_ends x ps (value None) = refl
 turn_ends x ps (value (Some v)) = refl
@@ -115,11 +115,11 @@ turn_ends x ps (leave y) = refl
 
 -- going out of a block
 
-abbrev pub in_block : Option Numbered → List Frame → List Frame
-in_block None ps = ps
-in_block (Some n) ps = block_at n.label n.number ∷ ps
+abbrev pub frames_in_block : Option Numbered → List Frame → List Frame
+frames_in_block None ps = ps
+frames_in_block (Some n) ps = block_at n.label n.number ∷ ps
 
-block_break : (n : Numbered) (ps : List Frame) (j : Named)
+block_break : (n : Numbered) (ps : List Frame) (j : JumpLabel)
     → outward (count_break (block_at n.label n.number ∷ ps) j) ≡ map_jump (count_break ps) (past_block (Some n.number) j)
 block_break n ps None = out_further (count_break ps None)
 block_break n ps (Some k) = split (nat_eq n.number.0 k.0)
@@ -129,18 +129,18 @@ block_break n ps (Some k) = split (nat_eq n.number.0 k.0)
     split true = refl
     split false = out_further (count_break ps (Some k))
 
-past_further : (j : Count) → past_block_scope (further j) ≡ j
+past_further : (j : Count) → continue_past_block (further j) ≡ j
 past_further None = refl
 past_further (Some k) = refl
 
-view_block_broken : (ps : List Frame) (v : Value) (j : Option Named)
+view_block_broken : (ps : List Frame) (v : Value) (j : Option JumpLabel)
     → view ps (broken v j value (λ o. o)) ≡ broken v (map_jump (count_break ps) j) value (λ o. o)
 view_block_broken ps v None = refl
 view_block_broken ps v (Some j) = refl
 
-pub block_ends : (n : Numbered) (ps : List Frame) (o : Outcome Named Value)
+pub block_ends : (n : Numbered) (ps : List Frame) (o : Outcome JumpLabel Value)
     → view ps (block_end (past_block (Some n.number)) (λ j. j) o)
-    ≡ block_end outward past_block_scope (view (block_at n.label n.number ∷ ps) o)
+    ≡ block_end outward continue_past_block (view (block_at n.label n.number ∷ ps) o)
 block_ends n ps (value v) = refl
 block_ends n ps (break j v) =
     view_block_broken ps v (past_block (Some n.number) j)
@@ -149,7 +149,7 @@ block_ends n ps (continue j) = ap continue (sym (past_further (count_continue ps
 block_ends n ps (leave x) = refl
 
 -- A block without a label catches nothing.
-pub plain_block_ends : (o : Outcome Named Value) → block_end (past_block None) (λ j. j) o ≡ o
+pub plain_block_ends : (o : Outcome JumpLabel Value) → block_end (past_block None) (λ j. j) o ≡ o
 plain_block_ends (value v) = refl
 plain_block_ends (break None v) = refl
 plain_block_ends (break (Some k) v) = refl
@@ -172,6 +172,6 @@ pub loop_numbers : (x : Option Numbered) (ps : List Frame) → numbers (loop_fra
 loop_numbers None ps = refl
 loop_numbers (Some n) ps = refl
 
-pub block_numbers : (x : Option Numbered) (ps : List Frame) → numbers (in_block x ps) ≡ and_label (number x) (numbers ps)
+pub block_numbers : (x : Option Numbered) (ps : List Frame) → numbers (frames_in_block x ps) ≡ and_label (number x) (numbers ps)
 block_numbers None ps = refl
 block_numbers (Some n) ps = refl

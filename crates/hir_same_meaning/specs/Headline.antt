@@ -11,10 +11,10 @@ use Rattle.hir_meaning.specs.Syntax.{written_body}
 use Rattle.hir_meaning.specs.Store.{StoreBody, new_table, run_to}
 use Rattle.hir_meaning.specs.Same.{SameRun, SameMeaning}
 
--- The body became i: nothing was open, each entry stored before had its source, and lowering was not refused. The store
--- may hold other bodies already.
+-- The body became i: nothing was open, the store was `Paired`, and lowering was not refused. The store may hold other
+-- bodies already.
 pub record Lowered (e : OptionExpr) (b : Builder) (i : ExprId) (b' : Builder) : Type 0 where
-  pub fresh : b.scopes ≡ []
+  pub none_open : b.scopes ≡ []
   pub paired : Paired b.stored
   pub is : lower_part e b ≡ (Ok i, b')
 

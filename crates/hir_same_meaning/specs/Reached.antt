@@ -68,11 +68,11 @@ abbrev pub Distinct : List ℕ → Type 0
 Distinct [] = Unit {0}
 Distinct (k ∷ ks) = Each (λ j. k ≢ j) ks × Distinct ks
 
-abbrev pub From : ℕ → ℕ → ℕ → Type 0
-From lo hi k = (lo ≤ k) × (k < hi)
+abbrev pub Between : ℕ → ℕ → ℕ → Type 0
+Between lo hi k = (lo ≤ k) × (k < hi)
 
 pub record Spread (lo hi : ℕ) (ks : List ℕ) : Type 0 where
-  pub within : Each (From lo hi) ks
+  pub within : Each (Between lo hi) ks
   pub distinct : Distinct ks
 
 -- However deep one looks, each number that the body reaches is reached in one way, so none reaches itself, and is one of

@@ -1,3 +1,3 @@
 pub mod Frames
 pub mod Steps
-pub mod Kept
+pub mod Keeping

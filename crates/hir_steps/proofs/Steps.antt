@@ -23,12 +23,12 @@ use Rattle.hir_store.specs.declared.diagnostics.AwaitLocation.{AwaitLocation}
 use Rattle.hir_store.proofs.Arenas.{continues_refl, continues_entry, prefix_refl}
 use Rattle.hir_store.proofs.Range.{extends_refl, extends_trans, extends_point, extends_report, extends_block}
 use Rattle.hir_env.specs.Answered.{Label, Jump}
-use Rattle.hir_scope.specs.Ribs.{Rib, Target, found, unreachable, undeclared, target, number_found, jump_number}
+use Rattle.hir_scope.specs.Ribs.{Rib, Target, reachable, unreachable, undeclared, target, number_found, jump_number}
 use Rattle.hir_lower_scope.specs.Labels.{rest}
 use Rattle.hir_lower_form.specs.Builder.{Builder}
 use Rattle.hir_lower_form.specs.Lowering.{Checked, go_on, Lowering, ◌>>=◌, pure, alloc_expr, point, report}
 use Rattle.hir_lower_form.specs.Lowering.{report_await, enter_block, open_label, close, jump_target, found_or_fault}
-use Rattle.hir_steps.specs.Keeps.{Paired, Kept}
+use Rattle.hir_steps.specs.Keeps.{Paired, KeepsAll}
 use Rattle.hir_steps.proofs.Frames.{Frame, rib, ribs}
 
 -- how far it has come: how many expressions and labels there are, and all that is stored
@@ -49,7 +49,7 @@ abbrev pub Rel : Type 0 → Type 1
 Rel A = Stored → List Frame → Mark → Mark → A → Type 0
 
 pub record Answers {A : Type 0} (R : Rel A) (final : Stored) (ps : List Frame) (b b' : Builder) (a : A) : Type 0 where
-  pub kept : Kept b b'
+  pub kept : KeepsAll b b'
   pub grows : Grows (mark b) (mark b')
   pub in_final : Paired b.stored → Extends b'.stored final → R final ps (mark b) (mark b') a
 
@@ -76,7 +76,7 @@ grows_trans g h = record { nodes = omega arith; labels = omega arith }
 grows_refl : (m : Mark) → Grows m m
 grows_refl m = record { nodes = omega arith; labels = omega arith }
 
-kept_trans : {a b c : Builder} → Kept a b → Kept b c → Kept a c
+kept_trans : {a b c : Builder} → KeepsAll a b → KeepsAll b c → KeepsAll a c
 kept_trans g h = record {
   scopes = h.scopes ∙ g.scopes;
   roots = h.roots ∙ g.roots;
@@ -486,7 +486,7 @@ correct_opened {A = A} {B = B} at l {p = p} {R = R} {f = f} {Q = Q} frame hp hf 
 
 -- the fault of a jump by name that has no target
 abbrev pub with_target : Jump → {A : Type 0} → Target A → Stored → Stored
-with_target j (found n) s = s
+with_target j (reachable n) s = s
 with_target j unreachable s = with_fault (UnreachableLabel j.pointer j.name) s
 with_target j undeclared s = with_fault (UndeclaredLabel j.pointer j.name) s
 
@@ -513,7 +513,7 @@ correct_target (Some j) = record { holds = λ final ps b r. go final ps b (targe
   where
     go : (final : Stored) (ps : List Frame) (b : Builder) (o : Target LabelId) → o ≡ target j (ribs ps)
         → Holds (Targeted (Some j)) final ps b (found_or_fault j o b).0 (found_or_fault j o b).1
-    go final ps b (found n) e = record {
+    go final ps b (reachable n) e = record {
       kept = record { scopes = refl; roots = refl; paired = λ d. d; stays = extends_refl b.stored };
       grows = grows_refl (mark b);
       in_final = λ d pre. record { is = ap number_found e; nodes = refl; labels = refl; stored = ap (λ t. with_target j t b.stored) e };

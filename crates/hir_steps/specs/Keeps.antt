@@ -11,7 +11,7 @@ pub record Paired (s : Stored) : Type 0 where
   pub exprs : length s.exprs.sources ≡ length s.exprs.entries
   pub labels : length s.labels.sources ≡ length s.labels.entries
 
-pub record Kept (b b' : Builder) : Type 0 where
+pub record KeepsAll (b b' : Builder) : Type 0 where
   pub scopes : b'.scopes ≡ b.scopes
   pub roots : b'.stored.roots ≡ b.stored.roots
   pub paired : Paired b.stored → Paired b'.stored
@@ -19,7 +19,7 @@ pub record Kept (b b' : Builder) : Type 0 where
 
 -- after a refusal something may be open, but nothing is lost
 abbrev pub Keeps : {A : Type 0} → Builder → Checked A → Builder → Type 0
-Keeps b (Ok a) b' = Kept b b'
+Keeps b (Ok a) b' = KeepsAll b b'
 Keeps b (Err e) b' = Extends b.stored b'.stored
 
 abbrev pub Keeping : Type 0

@@ -1,4 +1,4 @@
-use Rattle.hir_steps.proofs.Kept.{keeping}
+use Rattle.hir_steps.proofs.Keeping.{keeping}
 use Rattle.hir_steps.proofs.keeps.Goals as goal
 
 pub returns : goal.returns

@@ -46,7 +46,8 @@ collect_block_inside-block_node-requires-clause-parts g t c =
     let env = g.E.LowerEnv.answers c.args.env.now in
     let inner = rw c.number-found.ensures at c.inside-inner.ensures in
     let node = out-BlockExpr c.args.node.now in
-    let level : Place → ℕ = λ q. suc (count_stmts (stmts_part (spot_at env q) node.stmts) + count_option_expr (expr_part (spot_at env q) node.tail)) in
+    let tail : Place → ℕ = λ q. count_option_expr (expr_part (spot_at env q) node.tail) in
+    let level : Place → ℕ = λ q. suc (count_stmts (stmts_part (spot_at env q) node.stmts) + tail q) in
     let size : count_block (answered_plain (spot_at env c.args.place) c.args.node.now) ≡ level c.inside-inner.result =
     ap count_block (plain_is_level (spot_at env c.args.place) c.args.node.now) ∙ ap level (sym inner) in
     kids_block env (HandlesExpr g.E.LowerEnv.answers _ _ c.args.env.now) (HandlesBlock g.E.LowerEnv.answers _ _ c.args.env.now) t

@@ -2,7 +2,7 @@ use Rattle.std.proofs.Common.{◌≡◌, length, []}
 use Rattle.hir_syntax.specs.declared.ast.StmtKind.{out-StmtKind}
 use Rattle.hir_store.specs.Range.{Grows, HasStatements}
 use Rattle.hir_env.specs.Whole.{stmts_part}
-use Rattle.hir_lower_form.specs.Outcomes.{stmts_alone}
+use Rattle.hir_lower_form.specs.Methods.{stmts_alone}
 use Rattle.hir_lower_form.specs.Nests.{Each, KidsStmt}
 use Rattle.hir_lower_expr.proofs.blocks.collect_stmts.Given as goal
 

@@ -13,7 +13,7 @@ use Rattle.hir_env.specs.Answered as tree
 use Rattle.hir_env.specs.Answered.{Listing, Label, Jump, Expr, OptionExpr, Exprs, Block, OptionBlock, Stmts, Stmt}
 use Rattle.hir_lower_form.specs.Builder.{Builder}
 use Rattle.hir_lower_form.specs.Lowering.{Checked, Lowering, ◌>>=◌, alloc_expr}
-use Rattle.hir_lower_form.specs.Lower.{Node, Contents, missing, some, if_form, loop_form, call_form, continue_form}
+use Rattle.hir_lower_form.specs.Lower.{ExprSteps, StoredContents, missing, some, if_form, loop_form, call_form, continue_form}
 use Rattle.hir_lower_form.specs.Lower.{break_form, paren_form, operand_form, operands_form, value_form, list_form}
 use Rattle.hir_lower_form.specs.Lower.{method_call_form, await_form, block_form, labelled, kept, lower, lower_part}
 use Rattle.hir_lower_form.specs.Lower.{present, kept_part, lower_each, lower_block, lower_block_part, lower_stmts}
@@ -44,16 +44,16 @@ some_any : {A : Type 0} {p : Lowering A} → Correct p Any → Correct (some p) 
 some_any h = then' h (λ a. any (correct_pure (Some a)))
 
 module _ (at : Pointer) where
-  if_any : {c t : Node} {e : Lowering (Option ExprId)} → Correct c Any → Correct t Any → Correct e Any → Correct (if_form at c t e) Any
+  if_any : {c t : ExprSteps} {e : Lowering (Option ExprId)} → Correct c Any → Correct t Any → Correct e Any → Correct (if_form at c t e) Any
   unfolding if_form
   if_any hc ht he = then' ht (λ i. then' he (λ j. then' hc (λ k. stored_any _ at)))
 
-  loop_any : (label : Option Label) {b : Node} → Correct b Any → Correct (loop_form at label b) Any
+  loop_any : (label : Option Label) {b : ExprSteps} → Correct b Any → Correct (loop_form at label b) Any
   unfolding loop_form
   loop_any None h = then' h (λ i. stored_any _ at)
   loop_any (Some l) h = any (correct_opened loop_at l (λ n ps. refl) (λ n. h) (λ n i. stored_any _ at))
 
-  call_any : {f : Node} {xs : Lowering (List ExprId)} → Correct f Any → Correct xs Any → Correct (call_form at f xs) Any
+  call_any : {f : ExprSteps} {xs : Lowering (List ExprId)} → Correct f Any → Correct xs Any → Correct (call_form at f xs) Any
   unfolding call_form
   call_any hf hx = then' hf (λ i. then' hx (λ is. stored_any _ at))
 
@@ -65,15 +65,16 @@ module _ (at : Pointer) where
   unfolding break_form
   break_any j h = then' (any (correct_target j)) (λ n. then' h (λ v. stored_any _ at))
 
-  paren_any : {e : Node} → Correct e Any → Correct (paren_form at e) Any
+  paren_any : {e : ExprSteps} → Correct e Any → Correct (paren_form at e) Any
   unfolding paren_form
   paren_any h = then' h (λ i. then' (any (correct_point at i)) (λ u. any (correct_pure i)))
 
-  operand_any : (form : ExprId → HirExpr) {e : Node} → Correct e Any → Correct (operand_form at form e) Any
+  operand_any : (form : ExprId → HirExpr) {e : ExprSteps} → Correct e Any → Correct (operand_form at form e) Any
   unfolding operand_form
   operand_any form h = then' h (λ i. stored_any _ at)
 
-  operands_any : (form : ExprId → ExprId → HirExpr) {a b : Node} → Correct a Any → Correct b Any → Correct (operands_form at form a b) Any
+  operands_any : (form : ExprId → ExprId → HirExpr) {a b : ExprSteps} → Correct a Any → Correct b Any
+      → Correct (operands_form at form a b) Any
   unfolding operands_form
   operands_any form ha hb = then' ha (λ i. then' hb (λ j. stored_any _ at))
 
@@ -87,27 +88,27 @@ module _ (at : Pointer) where
   list_any (tree.tuple_of true) h = then' h (λ is. then' missing_any (λ i. stored_any _ at))
   list_any tree.array_of h = then' h (λ is. stored_any _ at)
 
-  method_call_any : {e : Node} (name : Name) {xs : Lowering (List ExprId)} → Correct e Any → Correct xs Any
+  method_call_any : {e : ExprSteps} (name : Name) {xs : Lowering (List ExprId)} → Correct e Any → Correct xs Any
       → Correct (method_call_form at e name xs) Any
   unfolding method_call_form
   method_call_any name he hx = then' he (λ i. then' hx (λ is. stored_any _ at))
 
-  await_any : (location : Option AwaitLocation) {e : Node} → Correct e Any → Correct (await_form at location e) Any
+  await_any : (location : Option AwaitLocation) {e : ExprSteps} → Correct e Any → Correct (await_form at location e) Any
   unfolding await_form
   await_any location h = then' h (λ i. then' (any (correct_report_await at location)) (λ u. stored_any _ at))
 
-  block_form_any : (is_unsafe : Bool) (label : Option LabelId) (number : Option BlockId) {c : Lowering Contents} → Correct c Any
+  block_form_any : (is_unsafe : Bool) (label : Option LabelId) (number : Option BlockId) {c : Lowering StoredContents} → Correct c Any
       → Correct (block_form at is_unsafe label number c) Any
   unfolding block_form
   block_form_any is_unsafe label number h = then' (any (correct_enter_block number)) (λ u. then' h (λ r. stored_any _ at))
 
-labelled_any : (label : Option Label) {f : Option LabelId → Node} → ((n : Option LabelId) → Correct (f n) Any)
+labelled_any : (label : Option Label) {f : Option LabelId → ExprSteps} → ((n : Option LabelId) → Correct (f n) Any)
     → Correct (labelled label f) Any
 unfolding labelled
 labelled_any None h = h None
 labelled_any (Some l) h = any (correct_opened block_at l (λ n ps. refl) (λ n. h (Some n)) (λ n i. correct_pure i))
 
-kept_any : (e : Expr) {p : Node} → Correct p Any → Correct (kept e p) Any
+kept_any : (e : Expr) {p : ExprSteps} → Correct p Any → Correct (kept e p) Any
 kept_any (tree.disabled_expr at by e) h = then' (any (correct_report _)) (λ u. any (correct_pure None))
 kept_any e h = some_any h
 

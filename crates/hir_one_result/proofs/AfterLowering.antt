@@ -8,9 +8,9 @@ use Rattle.hir_steps.specs.Keeps.{Paired}
 use Rattle.hir_steps.proofs.Frames.{frames, ribs_frames}
 use Rattle.hir_steps.proofs.Steps.{Rel, Correct, Holds, mark}
 
-pub lowered : {A : Type 0} {p : Lowering A} {R : Rel A} → Correct p R → (old : Builder) (a : A) (new : Builder) → Paired old.stored
+pub after_lowering : {A : Type 0} {p : Lowering A} {R : Rel A} → Correct p R → (old : Builder) (a : A) (new : Builder) → Paired old.stored
     → p old ≡ (Ok a, new) → (final : Stored) → Extends new.stored final → R final (frames old.scopes) (mark old) (mark new) a
-lowered {R = R} h old a new paired is final ext =
+after_lowering {R = R} h old a new paired is final ext =
     let ps = frames old.scopes in
     let g : Holds R final ps old (Ok a) new =
     subst (λ r. Holds R final ps old r.0 r.1) is (h.holds final ps old (ribs_frames old.scopes)) in

@@ -1,4 +1,4 @@
--- What each kind of method does: the outcome of the steps of one part, as it is answered.
+-- What each kind of method does: the steps of one part, and what it answers.
 use Rattle.std.specs.Prelude.{Bool, List, [], Option, Some, None}
 use Rattle.hir_syntax.specs.declared.ast.BlockExpr.{BlockExpr as AstBlockExpr, out-BlockExpr}
 use Rattle.hir_store.specs.Stored.{Stored}
@@ -17,7 +17,7 @@ use Rattle.hir_env.specs.Whole.{expr_part, reader, stmts_part, pointer_at}
 use Rattle.hir_lower_form.specs.Builder.{Builder}
 use Rattle.hir_lower_form.specs.Lowering.{Lowering, Checked, Lowers, ◌>>=◌, pure}
 use Rattle.hir_lower_form.specs.Lower as spec
-use Rattle.hir_lower_form.specs.Lower.{Node, Contents}
+use Rattle.hir_lower_form.specs.Lower.{ExprSteps, StoredContents}
 
 abbrev pub LowersExpr : Expr → Builder → Checked ExprId → Builder → Type 0
 LowersExpr e old result new = Lowers HasExpr (spec.lower e) old result new
@@ -28,7 +28,7 @@ kind_at at s k = expr_at at.answers (reader at.answers) (out-ExprKind k) at.plac
 
 -- none where a condition disables it
 abbrev pub MaybeLowersExpr : Expr → Builder → Checked (Option ExprId) → Builder → Type 0
-MaybeLowersExpr e old result new = Lowers HasExprOption (spec.kept_expr e) old result new
+MaybeLowersExpr e old result new = Lowers HasExprOption (spec.lower_kept e) old result new
 
 -- missing where it is absent
 abbrev pub LowersExprOpt : OptionExpr → Builder → Checked ExprId → Builder → Type 0
@@ -60,7 +60,7 @@ abbrev pub LowersStmt : Stmt → Builder → Checked (Option Statement) → Buil
 LowersStmt s old result new = Lowers HasStatementOption (spec.lower_stmt s) old result new
 
 -- what upstream does to make an expression of one that may be disabled
-abbrev pub or_missing : Option ExprId → Node
+abbrev pub or_missing : Option ExprId → ExprSteps
 or_missing None = spec.missing
 or_missing (Some id) = pure id
 
@@ -74,7 +74,7 @@ stmts_alone done (tree.more_stmts s ss) = do
   stmts_alone (spec.push_some done x) ss
 
 -- the statements one after another, and then the tail
-abbrev pub flat : List Statement → Stmts → Lowering (Option ExprId) → Lowering Contents
+abbrev pub flat : List Statement → Stmts → Lowering (Option ExprId) → Lowering StoredContents
 flat done ss tail = do
   xs ← stmts_alone done ss
   t ← tail
@@ -83,14 +83,14 @@ flat done ss tail = do
 abbrev pub LowersStmts : Stmts → Builder → Checked (List Statement) → Builder → Type 0
 LowersStmts ss old result new = Lowers HasStatements (stmts_alone [] ss) old result new
 
-abbrev pub HasContents : Stored → Contents → Type 0
+abbrev pub HasContents : Stored → StoredContents → Type 0
 HasContents s c = HasStatements s c.0 × HasExprOption s c.1
 
 -- what is in a block that is read at this spot
-abbrev pub contents_at : Spot → AstBlockExpr → Lowering Contents
+abbrev pub contents_at : Spot → AstBlockExpr → Lowering StoredContents
 contents_at at b = let node = out-BlockExpr b in spec.lower_stmts [] (stmts_part at node.stmts) (spec.kept_part (expr_part at node.tail))
 
 -- the block with these contents
-abbrev pub block_at : Spot → Bool → Option LabelId → Option BlockId → AstBlockExpr → Node
-block_at at is_unsafe label number b =
+abbrev pub block_steps_at : Spot → Bool → Option LabelId → Option BlockId → AstBlockExpr → ExprSteps
+block_steps_at at is_unsafe label number b =
     let node = out-BlockExpr b in spec.block_form (pointer_at at node.id node.range) is_unsafe label number (contents_at at b)
