@@ -1,0 +1,8 @@
+use Rattle.std.proofs.Common.{rules}
+use Rattle.hir_lower.proofs.collector.ExprCollector.with_limit.Goals as goal
+
+pub returns-clause-place : goal.returns-clause-place
+returns-clause-place g c = search rules
+
+pub returns-clause-works : goal.returns-clause-works
+returns-clause-works g c = search rules
