@@ -3,3 +3,4 @@ pub mod Pairs
 pub mod Items
 pub mod Using
 pub mod Cells
+pub mod Beside

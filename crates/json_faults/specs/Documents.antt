@@ -44,7 +44,7 @@ has_heading d = word_if_there set.Owners (get (codes "owner") d)
 abbrev pub nodes_in : Data → Option Items
 nodes_in d = option_and_then as_array (get (codes "nodes") d)
 
-abbrev items_or_none : Option Items → Items
+abbrev pub items_or_none : Option Items → Items
 items_or_none (Some ds) = ds
 items_or_none None = no_items
 
@@ -52,9 +52,13 @@ items_or_none None = no_items
 abbrev pub nodes : Data → Items
 nodes d = items_or_none (nodes_in d)
 
--- a heading that is one, a list of nodes, and numbers that are all whole ones of 64 bits
+-- a heading that is one, and a list of nodes
+abbrev pub has_frame : Data → Bool
+has_frame d = has_heading d && is_some (nodes_in d)
+
+-- also numbers that are all whole ones of 64 bits
 abbrev pub is_document : Data → Bool
-is_document d = not (has_float d) && (has_heading d && is_some (nodes_in d))
+is_document d = not (has_float d) && has_frame d
 
 abbrev root_in : Option Data → Option ℕ
 root_in None = Some 0

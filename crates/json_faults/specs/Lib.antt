@@ -1,5 +1,6 @@
 pub mod Literals
 pub mod Values
+pub mod Floats
 pub mod Kinds
 pub mod Faults
 pub mod Levels

@@ -1,7 +1,8 @@
 //! The first fault of a document.
 
-ghost use Rattle.std.specs.Prelude.{◌≡◌, ◌==◌, ◌<◌, length, nat_lt, IfOk, IfErr, OnOk, None, is_some, option_map};
+ghost use Rattle.std.specs.Prelude.{◌≡◌, ◌==◌, ◌<◌, true, not, length, nat_lt, IfOk, IfErr, IfSome, OnOk, None, is_some, option_map};
 ghost use Rattle.serde_json.specs.View.{view, items_view};
+ghost use Rattle.serde_json.specs.Written.{has_float};
 ghost use Rattle.json_faults.specs.Values.{count};
 ghost use Rattle.json_faults.specs.Documents as spec;
 ghost use Rattle.json_faults.specs.Documents.{IsRefusalFor};
@@ -11,8 +12,8 @@ ghost use Rattle.json_faults.specs.Nodes.{Walks};
 
 use crate::env::check_env;
 use crate::fault::Fault;
-use crate::floats::has_float;
-use crate::kinds::{is_of_group, kinds_of};
+use crate::floats::{has_float, has_float_beside};
+use crate::kinds::{is_of_group, whole_kinds_of};
 use crate::levels::use_at;
 use crate::nodes::{check_each, check_levels};
 use crate::refusal::Refusal;
@@ -21,7 +22,7 @@ use json_kinds::group::Group;
 use json_kinds::kind::Kind;
 use json_kinds::words::Words;
 use serde_json::Value;
-use std::alloc::Global;
+use std::alloc::{AllocError, Global};
 
 fn word_if_there(set: Words, value: Option<&Value>) -> bool
     ensures { result ≡ spec.word_if_there set (option_map (λ v. view v.now) value.entry) }
@@ -71,10 +72,11 @@ fn has_nodes(document: &Value) -> bool
     }
 }
 
-fn is_document(document: &Value) -> bool
-    ensures { result ≡ spec.is_document (view document.now) }
+/// Whether the document is one but for its numbers.
+fn has_frame(document: &Value) -> bool
+    ensures { result ≡ spec.has_frame (view document.now) }
 {
-    !has_float(document) && has_heading(document) && has_nodes(document)
+    has_heading(document) && has_nodes(document)
 }
 
 /// The nodes of a document, none where it has no list of them.
@@ -159,9 +161,22 @@ fn are_more(nodes: &[Value], most: usize) -> bool
     nodes.len() > most
 }
 
+/// The kinds of the nodes of a document, none where a number in it is no whole one of 64 bits.
+#[tactic(auto, using(crate::proofs::Beside::float_beside, crate::proofs::Beside::none_beside))]
+fn kinds_in(alloc: Global, document: &Value) -> Result<Option<Vec<Option<Kind>>>, AllocError>
+    requires { is_some (spec.nodes_in (view document.now)) ≡ true }
+    ensures found { IfOk result (λ found. IfSome found (λ kinds. kinds.items ≡ kinds_of (spec.nodes (view document.now)))) }
+    ensures whole { IfOk result (λ found. is_some found ≡ not (has_float (view document.now))) }
+{
+    if has_float_beside("nodes", document) {
+        return Ok(None);
+    }
+    whole_kinds_of(alloc, nodes(document))
+}
+
 /// The kinds of the nodes of a document that has no fault: it has at most so many nodes, and its root is of the group.
 /// Where it has one, the first; `Memory` where memory is refused.
-#[tactic(auto, using(crate::proofs::Items::count_items))]
+#[tactic(auto, using(crate::proofs::Items::count_items, crate::proofs::Beside::frame_nodes))]
 pub fn checked_kinds(
     alloc: Global,
     most: usize,
@@ -172,14 +187,19 @@ pub fn checked_kinds(
     ensures kinds { IfOk result (λ kinds. kinds.items ≡ kinds_of (spec.nodes (view document.now))) }
     ensures fault { IfErr result (λ e. IsRefusalFor (spec.document_fault most wanted (view document.now)) e) }
 {
-    if !is_document(document) {
+    if !has_frame(document) {
         return Err(Refusal::Fault(Fault::NotADocument));
     }
     let nodes = nodes(document);
     if are_more(nodes, most) {
+        if has_float(document) {
+            return Err(Refusal::Fault(Fault::NotADocument));
+        }
         return Err(Refusal::Fault(Fault::TooManyNodes));
     }
-    let kinds = kinds_of(alloc, nodes)?;
+    let Some(kinds) = kinds_in(alloc, document)? else {
+        return Err(Refusal::Fault(Fault::NotADocument));
+    };
     let mut levels = vec![in alloc; 0; nodes.len()]?;
     check_tree(
         kinds.as_slice(),

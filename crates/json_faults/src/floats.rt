@@ -1,8 +1,9 @@
 //! Numbers that are no whole ones of 64 bits.
 
-ghost use Rattle.std.specs.Prelude.{◌≡◌};
+ghost use Rattle.std.specs.Prelude.{◌≡◌, false};
 ghost use Rattle.serde_json.specs.View.{view, items_view, members_view};
 ghost use Rattle.serde_json.specs.Written as written;
+ghost use Rattle.json_faults.specs.Floats as spec;
 
 use serde_json::{Map, Value};
 
@@ -40,4 +41,29 @@ fn members_have_float(members: &Map<String, Value>) -> bool
         }
     }
     false
+}
+
+/// Whether there is one in a member, other than in the first of that name.
+fn others_have_float(name: &str, members: &Map<String, Value>) -> bool
+    ensures { result ≡ spec.others_have_float name.now false (members_view members.now.entries) }
+{
+    let mut met = false;
+    for (key, member) in members.iter() {
+        if !met && name == key.as_str() {
+            met = true;
+        } else if has_float(member) {
+            return true;
+        }
+    }
+    false
+}
+
+/// Whether there is one in the value, other than in its first member of that name.
+pub fn has_float_beside(name: &str, value: &Value) -> bool
+    ensures { result ≡ spec.has_float_beside name.now (view value.now) }
+{
+    match value {
+        Value::Object(members) => others_have_float(name, members),
+        _ => has_float(value),
+    }
 }

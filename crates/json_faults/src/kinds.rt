@@ -1,9 +1,11 @@
 //! The kinds of the nodes of a list.
 
-ghost use Rattle.std.specs.Prelude.{◌≡◌, IfOk};
+ghost use Rattle.std.specs.Prelude.{◌≡◌, not, IfOk, IfSome, is_some};
 ghost use Rattle.serde_json.specs.View.{view, items_view};
+ghost use Rattle.serde_json.specs.Written.{items_have_float};
 ghost use Rattle.json_faults.specs.Kinds as spec;
 
+use crate::floats::has_float;
 use json_kinds::group::Group;
 use json_kinds::kind::Kind;
 use serde_json::Value;
@@ -16,15 +18,23 @@ fn kind_in(node: &Value) -> Option<Kind>
     Kind::from_word(node.get("k")?.as_str()?)
 }
 
-/// The kinds of nodes, in order.
-pub fn kinds_of(alloc: Global, nodes: &[Value]) -> Result<Vec<Option<Kind>>, AllocError>
-    ensures { IfOk result (λ kinds. kinds.items ≡ spec.kinds_of (items_view nodes.now)) }
+/// The kinds of nodes, in order; none where a number in them is no whole one of 64 bits.
+/// Both are seen in one walk, since it takes most of the time that a node comes from memory.
+pub fn whole_kinds_of(
+    alloc: Global,
+    nodes: &[Value],
+) -> Result<Option<Vec<Option<Kind>>>, AllocError>
+    ensures found { IfOk result (λ found. IfSome found (λ kinds. kinds.items ≡ spec.kinds_of (items_view nodes.now))) }
+    ensures whole { IfOk result (λ found. is_some found ≡ not (items_have_float (items_view nodes.now))) }
 {
     let mut kinds = Vec::with_capacity(alloc, nodes.len())?;
     for node in nodes {
+        if has_float(node) {
+            return Ok(None);
+        }
         kinds.push(kind_in(node))?;
     }
-    Ok(kinds)
+    Ok(Some(kinds))
 }
 
 /// Whether a kind serves in a group.

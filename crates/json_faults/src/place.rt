@@ -1,6 +1,6 @@
 //! The fields of one node.
 
-ghost use Rattle.std.specs.Prelude.{◌≡◌, ◌<◌, length, map};
+ghost use Rattle.std.specs.Prelude.{◌≡◌, ◌<◌, length, map, bytes_eq, codes};
 ghost use Rattle.serde_json.specs.View.{view, items_view};
 ghost use Rattle.serde_json.specs.Find.{as_array, as_str};
 ghost use Rattle.json_kinds.specs.Table.{said};
@@ -36,25 +36,25 @@ fn heading() -> &'static [Field]
     ]
 }
 
-/// Whether the field is the text.
-fn says(node: &Value, name: &str, text: &str) -> bool
-    ensures { result ≡ spec.says name.now text.now (view node.now) }
+/// What the text of a literal with that word is.
+fn literal_text(word: &str) -> Sort
+    ensures { result ≡ spec.literal_sort (bytes_eq word.now (codes "int")) (bytes_eq word.now (codes "bool")) }
 {
-    match node.get(name) {
-        Some(Value::String(found)) => found.as_str() == text,
-        _ => false,
+    if word == "int" {
+        Sort::Integer
+    } else if word == "bool" {
+        Sort::Truth
+    } else {
+        Sort::Text
     }
 }
 
 fn literal_sort(node: &Value) -> Sort
     ensures { result ≡ spec.sort_at (view node.now) Sort.LiteralText }
 {
-    if says(node, "lit", "int") {
-        Sort::Integer
-    } else if says(node, "lit", "bool") {
-        Sort::Truth
-    } else {
-        Sort::Text
+    match node.get("lit") {
+        Some(Value::String(word)) => literal_text(word.as_str()),
+        _ => Sort::Text,
     }
 }
 
