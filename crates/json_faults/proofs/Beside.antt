@@ -1,5 +1,6 @@
 -- Numbers that are no whole ones of 64 bits: in the nodes, and beside them.
-use Rattle.std.proofs.Common.{◌≡◌, ℕ, List, Bool, true, false, ◌||◌, Option, Some, None, is_some, option_and_then, codes, refl, sym, ◌∙◌, is_eq, bytes_eq, nat_cmp}
+use Rattle.std.proofs.Common.{◌≡◌, ℕ, List, Bool, true, false, ◌||◌, Option, Some, None, is_some, option_and_then, codes, refl, sym}
+use Rattle.std.proofs.Common.{◌∙◌, is_eq, bytes_eq, nat_cmp}
 use Rattle.std.proofs.Common.{Ordering, Less, Equal, Greater, if◌then◌else◌}
 use Rattle.std.proofs.lemmas.Bool.{false≢true, true≢false, and_parts}
 use Rattle.std.proofs.lemmas.Map.Text.{is_eq-slice_cmp}
@@ -44,7 +45,8 @@ beside name no_members = refl
 beside name (member k d ms) = one_more (slice_cmp nat_cmp name k) (bytes_eq name k) d (get_member name ms) _ _ _
     (is_eq-slice_cmp name k) (others_after name ms) (beside name ms)
 
-in_items : (g : Option Data) → is_some (option_and_then as_array g) ≡ true → found_has g ≡ items_have_float (items_or_none (option_and_then as_array g))
+in_items : (g : Option Data) → is_some (option_and_then as_array g) ≡ true
+    → found_has g ≡ items_have_float (items_or_none (option_and_then as_array g))
 in_items None there = absurd (false≢true there)
 in_items (Some null) there = absurd (false≢true there)
 in_items (Some (boolean b)) there = absurd (false≢true there)
@@ -64,7 +66,8 @@ beside_nodes (object ms) there = rw (beside (codes "nodes") ms) (rw (in_items (g
 pub float_beside : (d : Data) → is_some (nodes_in d) ≡ true → has_float_beside (codes "nodes") d ≡ true → has_float d ≡ true
 float_beside d there h = rw (beside_nodes d there) (rw h refl)
 
-pub none_beside : (d : Data) → is_some (nodes_in d) ≡ true → has_float_beside (codes "nodes") d ≡ false → has_float d ≡ items_have_float (nodes d)
+pub none_beside : (d : Data) → is_some (nodes_in d) ≡ true → has_float_beside (codes "nodes") d ≡ false
+    → has_float d ≡ items_have_float (nodes d)
 none_beside d there h = rw (beside_nodes d there) (rw h refl)
 
 pub frame_nodes : (d : Data) → has_frame d ≡ true → is_some (nodes_in d) ≡ true

@@ -11,14 +11,14 @@ use Rattle.json_faults.specs.Kinds.{kind_at, is_of_group}
 use Rattle.json_faults.specs.Faults.{Fault, fault_of}
 use Rattle.json_faults.specs.Faults as fault
 use Rattle.json_faults.specs.declared.fault.Fault as rust
-use Rattle.json_kinds.specs.Table.{Named, row}
+use Rattle.json_kinds.specs.Table.{NamedSort, row}
 use Rattle.json_kinds.specs.Words.{words}
 use Rattle.json_kinds.specs.declared.field.Sort.{Sort}
 use Rattle.json_kinds.specs.declared.field.Sort.TheVariants as sort
 use Rattle.json_kinds.specs.declared.kind.Kind.{Kind}
 use Rattle.json_kinds.specs.declared.group.Group.{Group}
 use Rattle.json_kinds.specs.declared.group.Group.TheVariants as group
-use Rattle.json_faults.specs.declared.place.Place.{Place}
+use Rattle.json_faults.specs.declared.listed.ListedNode.{ListedNode}
 
 -- one after the other, up to the first fault
 infixl 10 ◌>>=◌
@@ -98,20 +98,20 @@ fits sort.Truth d = text_is is_truth (as_str d)
 fits _ d = false
 
 -- a node of a list, and the kinds of all
-pub record Here : Type 0 where
+pub record InList : Type 0 where
   pub kinds : List (Option Kind)
   pub at : ℕ
   pub node : Data
 
-abbrev pub here : Place → Here
-here p = record { kinds = p.kinds.now; at = p.at; node = view p.node.now }
+abbrev pub in_list : ListedNode → InList
+in_list p = record { kinds = p.kinds.now; at = p.at; node = view p.node.now }
 
 -- the fields of every kind
-abbrev pub heading : List Named
+abbrev pub heading : List NamedSort
 heading = record { name = codes "id"; sort = sort.Number } ∷ record { name = codes "r"; sort = sort.Range } ∷ []
 
 -- the levels of nodes, from those before
-module _ (h : Here) where
+module _ (h : InList) where
   -- of the parts in a field: all by their type, then all by index, then all by use, then all by group
   abbrev pub parts : List ℕ → Group → Bool → Items → List ℕ → Result (List ℕ) Fault
   parts name g nulls ds levels = do
@@ -140,10 +140,10 @@ module _ (h : Here) where
     _ ← wanted (not (is_owed s)) (fault.Field h.at name)
     Ok levels
 
-  abbrev pub field : Named → List ℕ → Result (List ℕ) Fault
+  abbrev pub field : NamedSort → List ℕ → Result (List ℕ) Fault
   field f levels = value_if_there f.name (sort_at h.node f.sort) (get f.name h.node) levels
 
-  abbrev pub fields : List Named → List ℕ → Result (List ℕ) Fault
+  abbrev pub fields : List NamedSort → List ℕ → Result (List ℕ) Fault
   fields [] levels = Ok levels
   fields (f ∷ fs) levels = do
     next ← field f levels

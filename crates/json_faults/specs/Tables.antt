@@ -9,8 +9,8 @@ pub record Table : Type 0 where
   pub name : List ℕ
   pub cells : List Cell
 
-abbrev pub said : rust.Table → Table
-said t = record { name = t.name.now; cells = t.cells.now }
+abbrev pub table_of : rust.Table → Table
+table_of t = record { name = t.name.now; cells = t.cells.now }
 
 infixr 6 ◌∶◌
 abbrev ◌∶◌ : List ℕ → List Cell → Table

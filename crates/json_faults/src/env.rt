@@ -6,7 +6,7 @@ ghost use Rattle.serde_json.specs.Find.{as_array, get, get_item};
 ghost use Rattle.json_faults.specs.Values.{count};
 ghost use Rattle.json_faults.specs.Env as spec;
 ghost use Rattle.json_faults.specs.Env.{Finds};
-ghost use Rattle.json_faults.specs.Tables.{said};
+ghost use Rattle.json_faults.specs.Tables.{table_of};
 
 use crate::fault::Fault;
 use crate::table::{Cell, Table, tables};
@@ -66,7 +66,7 @@ fn entry(wanted: &[Cell], value: &Value) -> bool
 }
 
 fn entries(table: &Table, items: &[Value]) -> Result<(), Fault>
-    ensures { Finds (spec.entries (said table.now) 0 (items_view items.now)) result }
+    ensures { Finds (spec.entries (table_of table.now) 0 (items_view items.now)) result }
 {
     let mut at = 0;
     for item in items {
@@ -82,7 +82,7 @@ fn entries(table: &Table, items: &[Value]) -> Result<(), Fault>
 }
 
 fn list(table: &Table, value: &Value) -> Result<(), Fault>
-    ensures { Finds (spec.list_of (said table.now) (as_array (view value.now))) result }
+    ensures { Finds (spec.list_of (table_of table.now) (as_array (view value.now))) result }
 {
     match value.as_array() {
         Some(items) => entries(table, items.as_slice()),
@@ -94,7 +94,7 @@ fn list(table: &Table, value: &Value) -> Result<(), Fault>
 }
 
 fn list_if_there(table: &Table, env: &Value) -> Result<(), Fault>
-    ensures { Finds (spec.list_if_there (said table.now) (get table.now.name.now (view env.now))) result }
+    ensures { Finds (spec.list_if_there (table_of table.now) (get table.now.name.now (view env.now))) result }
 {
     match env.get(table.name) {
         None => Ok(()),
@@ -103,7 +103,7 @@ fn list_if_there(table: &Table, env: &Value) -> Result<(), Fault>
 }
 
 fn lists(tables: &[Table], env: &Value) -> Result<(), Fault>
-    ensures { Finds (spec.lists (map said tables.now) (view env.now)) result }
+    ensures { Finds (spec.lists (map table_of tables.now) (view env.now)) result }
 {
     for table in tables {
         list_if_there(table, env)?;

@@ -7,7 +7,7 @@ ghost use Rattle.json_faults.specs.Nodes.{Walks};
 
 use crate::fault::Fault;
 use crate::levels::{first_deep, first_unused};
-use crate::place::Place;
+use crate::listed::ListedNode;
 use json_kinds::kind::Kind;
 use serde_json::Value;
 
@@ -19,7 +19,7 @@ pub fn check_each(kinds: &[Option<Kind>], nodes: &[Value], levels: &mut [u16]) -
 {
     let mut at = 0;
     for node in nodes {
-        Place { kinds, at, node }.check(levels)?;
+        ListedNode { kinds, at, node }.check(levels)?;
         at += 1;
     }
     Ok(())

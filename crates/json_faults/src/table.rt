@@ -1,7 +1,7 @@
 //! The tables of an environment.
 
 ghost use Rattle.std.specs.Prelude.{◌≡◌, map};
-ghost use Rattle.json_faults.specs.Tables.{said, tables};
+ghost use Rattle.json_faults.specs.Tables.{table_of, tables};
 
 /// What stands at one place of an entry.
 #[derive(Clone, Copy)]
@@ -21,7 +21,7 @@ pub struct Table {
 
 /// The tables, in order.
 pub fn tables() -> &'static [Table]
-    ensures { map said result.now ≡ tables }
+    ensures { map table_of result.now ≡ tables }
 {
     &[
         Table {

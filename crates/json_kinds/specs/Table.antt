@@ -1,5 +1,6 @@
 -- The table of kinds.
-use Rattle.std.specs.Prelude.{ℕ, List, [], ◌∷◌, Option, Some, None, codes, bytes_eq, find}
+use Rattle.std.specs.Prelude.{ℕ, List, [], ◌∷◌, Option, codes}
+use Rattle.json_kinds.specs.ByWord.{with_word, or_else}
 use Rattle.json_kinds.specs.declared.kind.Kind.{Kind}
 use Rattle.json_kinds.specs.declared.kind.Kind.TheVariants as kind
 use Rattle.json_kinds.specs.declared.group.Group.{Group}
@@ -10,22 +11,22 @@ use Rattle.json_kinds.specs.declared.field.Sort.{Sort}
 use Rattle.json_kinds.specs.declared.field.Sort.TheVariants as sort
 
 -- a field: its name, and what it holds
-pub record Named : Type 0 where
+pub record NamedSort : Type 0 where
   pub name : List ℕ
   pub sort : Sort
 
-abbrev pub said : Field → Named
-said f = record { name = f.name.now; sort = f.sort }
+abbrev pub named_sort : Field → NamedSort
+named_sort f = record { name = f.name.now; sort = f.sort }
 
 infixr 6 ◌∶◌
-abbrev ◌∶◌ : List ℕ → Sort → Named
+abbrev ◌∶◌ : List ℕ → Sort → NamedSort
 n ∶ s = record { name = n; sort = s }
 
 -- a kind: its word, the groups that it serves in, and its fields in order
 pub record Row : Type 0 where
   pub word : List ℕ
   pub groups : List Group
-  pub fields : List Named
+  pub fields : List NamedSort
 
 abbrev pub row : Kind → Row
 row kind.IfExpr = record {
@@ -239,13 +240,9 @@ abbrev pub others : List Kind
 others = kind.ExprStmt ∷ kind.Item ∷ kind.Path ∷ kind.PathSegment ∷ kind.Label ∷ kind.Lifetime ∷ kind.Name ∷ kind.Fn ∷ []
 
 -- the first of some kinds with a word
-abbrev pub named : List Kind → List ℕ → Option Kind
-named ks t = find (λ k. bytes_eq t (row k).word) ks
-
-abbrev pub or_else : Option Kind → Option Kind → Option Kind
-or_else (Some k) o = Some k
-or_else None o = o
+abbrev pub kind_with : List Kind → List ℕ → Option Kind
+kind_with ks t = with_word (λ k. (row k).word) ks t
 
 -- the kind with a word
 abbrev pub kind_of : List ℕ → Option Kind
-kind_of t = or_else (named exprs t) (or_else (named operations t) (or_else (named keywords t) (named others t)))
+kind_of t = or_else (kind_with exprs t) (or_else (kind_with operations t) (or_else (kind_with keywords t) (kind_with others t)))

@@ -1,7 +1,7 @@
 //! The table of kinds: the groups that each serves in, its fields in order, and its word.
 
 ghost use Rattle.std.specs.Prelude.{◌≡◌, map};
-ghost use Rattle.json_kinds.specs.Table.{said, row, kind_of, named};
+ghost use Rattle.json_kinds.specs.Table.{named_sort, row, kind_of, kind_with};
 ghost use Rattle.json_kinds.specs.Table as spec;
 
 use crate::field::Field;
@@ -77,7 +77,7 @@ macro_rules! fields_of {
 }
 
 fn exprs(word: &str) -> Option<Kind>
-    ensures { result ≡ named spec.exprs word.now }
+    ensures { result ≡ kind_with spec.exprs word.now }
 {
     match word {
         "IfExpr" => Some(Kind::IfExpr),
@@ -94,7 +94,7 @@ fn exprs(word: &str) -> Option<Kind>
 }
 
 fn operations(word: &str) -> Option<Kind>
-    ensures { result ≡ named spec.operations word.now }
+    ensures { result ≡ kind_with spec.operations word.now }
 {
     match word {
         "MethodCallExpr" => Some(Kind::MethodCallExpr),
@@ -110,7 +110,7 @@ fn operations(word: &str) -> Option<Kind>
 }
 
 fn keywords(word: &str) -> Option<Kind>
-    ensures { result ≡ named spec.keywords word.now }
+    ensures { result ≡ kind_with spec.keywords word.now }
 {
     match word {
         "ReturnExpr" => Some(Kind::ReturnExpr),
@@ -128,7 +128,7 @@ fn keywords(word: &str) -> Option<Kind>
 }
 
 fn others(word: &str) -> Option<Kind>
-    ensures { result ≡ named spec.others word.now }
+    ensures { result ≡ kind_with spec.others word.now }
 {
     match word {
         "ExprStmt" => Some(Kind::ExprStmt),
@@ -169,7 +169,7 @@ impl Kind {
 
     /// The fields of a kind, in order.
     pub fn fields(self) -> &'static [Field]
-        ensures { map said result.now ≡ (row self).fields }
+        ensures { map named_sort result.now ≡ (row self).fields }
     {
         kinds!(fields_of self)
     }

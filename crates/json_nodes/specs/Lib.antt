@@ -1,5 +1,4 @@
 pub mod Fields
-pub mod Words
 pub mod Literals
 pub mod Groups
 pub mod Parts

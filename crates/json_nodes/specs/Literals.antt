@@ -5,7 +5,7 @@ use Rattle.hir_syntax.specs.declared.ast.Literal.{Literal}
 use Rattle.hir_syntax.specs.declared.ast.LiteralKind.{LiteralKind}
 use Rattle.hir_syntax.specs.declared.ast.LiteralKind.TheVariants as literal
 use Rattle.json_nodes.specs.Fields.{text_in}
-use Rattle.json_nodes.specs.Words.{named}
+use Rattle.json_kinds.specs.ByWord.{with_word}
 
 -- the word of a kind of literals
 abbrev pub literal_word : LiteralKind → List ℕ
@@ -23,7 +23,7 @@ literal_kinds = literal.Str ∷ literal.ByteStr ∷ literal.CStr ∷ literal.Cha
 
 -- the kind of literals whose word it is
 abbrev pub literal_kind_of : List ℕ → Option LiteralKind
-literal_kind_of word = named literal_word literal_kinds word
+literal_kind_of word = with_word literal_word literal_kinds word
 
 -- the kind of the literal that a node writes
 abbrev pub kind_in : Data → Option LiteralKind

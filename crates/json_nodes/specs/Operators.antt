@@ -13,7 +13,7 @@ use Rattle.hir_syntax.specs.declared.ast.Ordering.TheVariants.{Less, Greater}
 use Rattle.hir_syntax.specs.declared.ast.UnaryOp.{UnaryOp}
 use Rattle.hir_syntax.specs.declared.ast.UnaryOp.TheVariants as unary
 use Rattle.json_nodes.specs.Fields.{text_in}
-use Rattle.json_nodes.specs.Words.{named, or_else}
+use Rattle.json_kinds.specs.ByWord.{with_word, or_else}
 
 abbrev unary_word : UnaryOp → List ℕ
 unary_word unary.Deref = codes "*"
@@ -22,7 +22,7 @@ unary_word unary.Neg = codes "-"
 
 -- the operator of a prefix expression that a word is
 abbrev pub unary_op_of : List ℕ → Option UnaryOp
-unary_op_of word = named unary_word (unary.Deref ∷ unary.Not ∷ unary.Neg ∷ []) word
+unary_op_of word = with_word unary_word (unary.Deref ∷ unary.Not ∷ unary.Neg ∷ []) word
 
 abbrev pub logic_word : LogicOp → List ℕ
 logic_word logic.Or = codes "||"
@@ -65,10 +65,10 @@ arith_ops = arith.Add ∷ arith.Mul ∷ arith.Sub ∷ arith.Div ∷ arith.Rem
 
 -- the operator of a binary expression that a word is
 abbrev pub binary_op_of : List ℕ → Option BinaryOp
-binary_op_of word = or_else (option_map binary.LogicOp (named logic_word logic_ops word))
-    (or_else (option_map binary.CmpOp (named cmp_word cmp_ops word))
-    (or_else (option_map binary.ArithOp (named arith_word arith_ops word))
-    (option_map binary.Assignment (named assigned_word arith_ops word))))
+binary_op_of word = or_else (option_map binary.LogicOp (with_word logic_word logic_ops word))
+    (or_else (option_map binary.CmpOp (with_word cmp_word cmp_ops word))
+    (or_else (option_map binary.ArithOp (with_word arith_word arith_ops word))
+    (option_map binary.Assignment (with_word assigned_word arith_ops word))))
 
 abbrev pub unary_op_in : Data → Option UnaryOp
 unary_op_in d = option_and_then unary_op_of (text_in (codes "op") d)

@@ -36,14 +36,14 @@ with_some None xs = xs
 with_some (Some x) xs = x ∷ xs
 
 -- what there is of the items
-abbrev pub kept : {T : Type 0} → (Data → Option T) → Items → List T
-kept f no_items = []
-kept f (item d ds) = with_some (f d) (kept f ds)
+abbrev pub all_read : {T : Type 0} → (Data → Option T) → Items → List T
+all_read f no_items = []
+all_read f (item d ds) = with_some (f d) (all_read f ds)
 
 -- a list, which is empty where it is absent
 abbrev pub listed : {T : Type 0} → (Data → Option T) → Option Items → List T
 listed f None = []
-listed f (Some ds) = kept f ds
+listed f (Some ds) = all_read f ds
 
 module _ (h : Here) where
   -- the part at a node, by its index
@@ -60,7 +60,7 @@ module _ (h : Here) where
   list_in as_group name = listed (child as_group) (items_in name)
 
   abbrev pub list_if_there : {T : Type 0} → (AnyPart → Option T) → List ℕ → Option (List T)
-  list_if_there as_group name = option_map (kept (child as_group)) (items_in name)
+  list_if_there as_group name = option_map (all_read (child as_group)) (items_in name)
 
   abbrev pub list_with_nulls_in : {T : Type 0} → (AnyPart → Option T) → List ℕ → List (Option T)
   list_with_nulls_in as_group name = listed (or_null (child as_group)) (items_in name)

@@ -4,7 +4,7 @@ ghost use Rattle.std.specs.Prelude.{◌≡◌, ℕ, IfOk, Option, option_and_the
 ghost use Rattle.serde_json.specs.View.{view, items_view};
 ghost use Rattle.json_faults.specs.Values.{small_of};
 ghost use Rattle.json_nodes.specs.Parts as spec;
-ghost use Rattle.json_nodes.specs.Parts.{kept, or_null};
+ghost use Rattle.json_nodes.specs.Parts.{all_read, or_null};
 ghost use Rattle.json_nodes.specs.Nodes.{here};
 ghost use Rattle.json_nodes.specs.declared.part.AnyPart.{AnyPart};
 
@@ -96,7 +96,7 @@ impl<P: ReadParts> Node<'_, P> {
     /// The parts at the indices in values.
     fn children<T: Part>(&self, items: &[Value]) -> Result<Seq<T>, AllocError>
         requires { P.can self.now.parts.now }
-        ensures { IfOk result (λ parts. parts ≡ kept (spec.child (here P.parts self.now) T.as_group) (items_view items.now)) }
+        ensures { IfOk result (λ parts. parts ≡ all_read (spec.child (here P.parts self.now) T.as_group) (items_view items.now)) }
     {
         let mut parts = Seq::new(self.alloc);
         for value in items {
@@ -141,7 +141,7 @@ impl<P: ReadParts> Node<'_, P> {
 
     fn children_or_nulls<T: Part>(&self, items: &[Value]) -> Result<Seq<Option<T>>, AllocError>
         requires { P.can self.now.parts.now }
-        ensures { IfOk result (λ parts. parts ≡ kept (or_null (spec.child (here P.parts self.now) T.as_group)) (items_view items.now)) }
+        ensures { IfOk result (λ parts. parts ≡ all_read (or_null (spec.child (here P.parts self.now) T.as_group)) (items_view items.now)) }
     {
         let mut parts = Seq::new(self.alloc);
         for value in items {

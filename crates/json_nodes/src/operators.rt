@@ -4,7 +4,7 @@ ghost use Rattle.std.specs.Prelude.{◌≡◌};
 ghost use Rattle.serde_json.specs.View.{view};
 ghost use Rattle.json_nodes.specs.Operators as spec;
 ghost use Rattle.json_nodes.specs.Operators.{logic_word, logic_ops, cmp_word, cmp_ops, arith_word, assigned_word, arith_ops};
-ghost use Rattle.json_nodes.specs.Words.{named};
+ghost use Rattle.json_kinds.specs.ByWord.{with_word};
 
 use crate::field::text;
 use hir_syntax::ast::{ArithOp, BinaryOp, CmpOp, LogicOp, Ordering, UnaryOp};
@@ -22,7 +22,7 @@ fn unary_op_with(word: &str) -> Option<UnaryOp>
 }
 
 fn logic_op(word: &str) -> Option<LogicOp>
-    ensures { result ≡ named logic_word logic_ops word.now }
+    ensures { result ≡ with_word logic_word logic_ops word.now }
 {
     match word {
         "||" => Some(LogicOp::Or),
@@ -38,7 +38,7 @@ fn order(ordering: Ordering, strict: bool) -> CmpOp
 }
 
 fn cmp_op(word: &str) -> Option<CmpOp>
-    ensures { result ≡ named cmp_word cmp_ops word.now }
+    ensures { result ≡ with_word cmp_word cmp_ops word.now }
 {
     match word {
         "==" => Some(CmpOp::Eq { negated: false }),
@@ -52,7 +52,7 @@ fn cmp_op(word: &str) -> Option<CmpOp>
 }
 
 fn arith_op(word: &str) -> Option<ArithOp>
-    ensures { result ≡ named arith_word arith_ops word.now }
+    ensures { result ≡ with_word arith_word arith_ops word.now }
 {
     match word {
         "+" => Some(ArithOp::Add),
@@ -71,7 +71,7 @@ fn arith_op(word: &str) -> Option<ArithOp>
 
 /// The operator in front of `=`.
 fn assigned_op(word: &str) -> Option<ArithOp>
-    ensures { result ≡ named assigned_word arith_ops word.now }
+    ensures { result ≡ with_word assigned_word arith_ops word.now }
 {
     match word {
         "+=" => Some(ArithOp::Add),

@@ -16,7 +16,7 @@ use Rattle.json_faults.specs.Kinds.{kinds_of}
 use Rattle.json_nodes.specs.Fields.{number_or, flag_of, text_in}
 use Rattle.lower_json.specs.Reading.{tree_at}
 use Rattle.lower_json.specs.Tables.{tables_of}
-use Rattle.json_nodes.specs.Words.{named}
+use Rattle.json_kinds.specs.ByWord.{with_word}
 use Rattle.lower_json.specs.declared.document.Document.{Document}
 
 -- the word of an owner
@@ -35,7 +35,7 @@ owners = owner.FunctionId (record { 0 = 0 })
     ∷ []
 
 abbrev owner_in : Data → Option DefWithBodyId
-owner_in d = option_and_then (named owner_word owners) (text_in (codes "owner") d)
+owner_in d = option_and_then (with_word owner_word owners) (text_in (codes "owner") d)
 
 -- the owner that a document names, a function where it names none
 abbrev pub owner_of : Data → DefWithBodyId
@@ -57,7 +57,7 @@ containers = holder.ModuleId (record { 0 = 0 })
     ∷ []
 
 abbrev container_in : Data → Option ItemContainerId
-container_in d = option_and_then (named container_word containers) (text_in (codes "container") d)
+container_in d = option_and_then (with_word container_word containers) (text_in (codes "container") d)
 
 -- the container that a document names, a module where it names none
 abbrev pub container_of : Data → ItemContainerId

@@ -12,7 +12,7 @@ use Rattle.json_nodes.specs.Exprs.{flow, plain, operation, member, leaving, part
 use Rattle.json_nodes.specs.Fields.{number_or, range_of}
 use Rattle.json_nodes.specs.Others.{statement, other, function}
 use Rattle.json_nodes.specs.Parts.{Here}
-use Rattle.json_nodes.specs.Words.{or_else}
+use Rattle.json_kinds.specs.ByWord.{or_else}
 use Rattle.json_nodes.specs.declared.part.AnyPart.{AnyPart}
 use Rattle.json_nodes.specs.declared.part.AnyPart.TheVariants as part
 

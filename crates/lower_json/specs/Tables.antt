@@ -17,20 +17,16 @@ abbrev pub site_of : Option ℕ → Option ℕ → Option Site
 site_of (Some file) (Some node) = Some (record { file_id = record { 0 = file }; value = record { 0 = node } })
 site_of _ _ = None
 
-abbrev pub said : {T : Type 0} → Option Site → Option T → Option (Site × T)
-said (Some s) (Some t) = Some (s, t)
-said _ _ = None
-
-abbrev pub both : Option ℕ → Option ℕ → Option (ℕ × ℕ)
+abbrev pub both : {A B : Type 0} → Option A → Option B → Option (A × B)
 both (Some a) (Some b) = Some (a, b)
 both _ _ = None
 
 abbrev pub triple_of : Option Items → Option (Site × ℕ)
-triple_of (Some (item f (item n (item x no_items)))) = said (site_of (small_of f) (small_of n)) (small_of x)
+triple_of (Some (item f (item n (item x no_items)))) = both (site_of (small_of f) (small_of n)) (small_of x)
 triple_of _ = None
 
 abbrev pub quadruple_of : Option Items → Option (Site × (ℕ × ℕ))
-quadruple_of (Some (item f (item n (item x (item y no_items))))) = said (site_of (small_of f) (small_of n)) (both (small_of x) (small_of y))
+quadruple_of (Some (item f (item n (item x (item y no_items))))) = both (site_of (small_of f) (small_of n)) (both (small_of x) (small_of y))
 quadruple_of _ = None
 
 -- [file, node, condition]

@@ -3,7 +3,7 @@
 ghost use Rattle.std.specs.Prelude.{◌≡◌};
 ghost use Rattle.serde_json.specs.View.{view};
 ghost use Rattle.lower_json.specs.Documents.{owner_word, owners, owner_of, container_word, containers, container_of};
-ghost use Rattle.json_nodes.specs.Words.{named};
+ghost use Rattle.json_kinds.specs.ByWord.{with_word};
 
 use hir_store::ids::{
     ConstId, DefWithBodyId, ExternBlockId, FunctionId, ImplId, ItemContainerId, ModuleId, StaticId,
@@ -13,7 +13,7 @@ use json_nodes::field::text;
 use serde_json::Value;
 
 fn owner_with(word: &str) -> Option<DefWithBodyId>
-    ensures { result ≡ named owner_word owners word.now }
+    ensures { result ≡ with_word owner_word owners word.now }
 {
     match word {
         "fn" => Some(DefWithBodyId::FunctionId(FunctionId(0))),
@@ -25,7 +25,7 @@ fn owner_with(word: &str) -> Option<DefWithBodyId>
 }
 
 fn container_with(word: &str) -> Option<ItemContainerId>
-    ensures { result ≡ named container_word containers word.now }
+    ensures { result ≡ with_word container_word containers word.now }
 {
     match word {
         "module" => Some(ItemContainerId::ModuleId(ModuleId(0))),

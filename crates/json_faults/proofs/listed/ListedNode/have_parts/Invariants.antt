@@ -2,7 +2,7 @@ use Rattle.std.proofs.Common.{◌≡◌, drop}
 use Rattle.serde_json.specs.View.{items_view}
 use Rattle.json_faults.specs.Values.{all_items}
 use Rattle.json_faults.specs.Nodes.{has_part}
-use Rattle.json_faults.proofs.place.Place.have_parts.Given as goal
+use Rattle.json_faults.proofs.listed.ListedNode.have_parts.Given as goal
 
 abbrev pub invariant-loop-item : goal.invariant-loop-item
 invariant-loop-item l = record {

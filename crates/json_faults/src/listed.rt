@@ -3,11 +3,11 @@
 ghost use Rattle.std.specs.Prelude.{◌≡◌, ◌<◌, length, map, bytes_eq, codes};
 ghost use Rattle.serde_json.specs.View.{view, items_view};
 ghost use Rattle.serde_json.specs.Find.{as_array, as_str};
-ghost use Rattle.json_kinds.specs.Table.{said};
+ghost use Rattle.json_kinds.specs.Table.{named_sort};
 ghost use Rattle.json_faults.specs.Literals as text;
 ghost use Rattle.json_faults.specs.Values.{all_items, is_plain};
 ghost use Rattle.json_faults.specs.Nodes as spec;
-ghost use Rattle.json_faults.specs.Nodes.{here, Walks, text_is};
+ghost use Rattle.json_faults.specs.Nodes.{in_list, Walks, text_is};
 
 use crate::fault::Fault;
 use crate::kinds::{is_of_group, kind_at};
@@ -22,7 +22,7 @@ use std::slice;
 
 /// The fields of every kind.
 fn heading() -> &'static [Field]
-    ensures { map said result.now ≡ spec.heading }
+    ensures { map named_sort result.now ≡ spec.heading }
 {
     &[
         Field {
@@ -135,13 +135,13 @@ fn fits(sort: Sort, value: &Value) -> bool
 
 /// A node of a list, and the kinds of all.
 #[derive(Clone, Copy)]
-pub struct Place<'k, 'n> {
+pub struct ListedNode<'k, 'n> {
     pub kinds: &'k [Option<Kind>],
     pub at: usize,
     pub node: &'n Value,
 }
 
-impl Place<'_, '_> {
+impl ListedNode<'_, '_> {
     /// Whether a number is the index of a node of the group.
     fn has_part(&self, group: Group, value: &Value) -> bool
         ensures { result ≡ spec.has_part self.now.kinds.now group (view value.now) }
@@ -182,7 +182,7 @@ impl Place<'_, '_> {
         items: &[Value],
     ) -> Result<(), Fault>
         requires { self.now.at < length levels.old }
-        ensures walks { Walks (spec.parts (here self.now) name.now group nulls (items_view items.now) levels.old) result levels.new }
+        ensures walks { Walks (spec.parts (in_list self.now) name.now group nulls (items_view items.now) levels.old) result levels.new }
         ensures kept { length levels.new ≡ length levels.old }
     {
         if !are_parts(group, nulls, items) {
@@ -216,7 +216,7 @@ impl Place<'_, '_> {
         value: &Value,
     ) -> Result<(), Fault>
         requires { self.now.at < length levels.old }
-        ensures walks { Walks (spec.list (here self.now) name.now group nulls (as_array (view value.now)) levels.old) result levels.new }
+        ensures walks { Walks (spec.list (in_list self.now) name.now group nulls (as_array (view value.now)) levels.old) result levels.new }
         ensures kept { length levels.new ≡ length levels.old }
     {
         match value.as_array() {
@@ -233,7 +233,7 @@ impl Place<'_, '_> {
         value: &Value,
     ) -> Result<(), Fault>
         requires { self.now.at < length levels.old }
-        ensures walks { Walks (spec.value (here self.now) name.now sort (view value.now) levels.old) result levels.new }
+        ensures walks { Walks (spec.value (in_list self.now) name.now sort (view value.now) levels.old) result levels.new }
         ensures kept { length levels.new ≡ length levels.old }
     {
         match sort {
@@ -252,7 +252,7 @@ impl Place<'_, '_> {
 
     fn field(&self, levels: &mut [u16], field: &Field) -> Result<(), Fault>
         requires { self.now.at < length levels.old }
-        ensures walks { Walks (spec.field (here self.now) (said field.now) levels.old) result levels.new }
+        ensures walks { Walks (spec.field (in_list self.now) (named_sort field.now) levels.old) result levels.new }
         ensures kept { length levels.new ≡ length levels.old }
     {
         let sort = sort_at(self.node, field.sort);
@@ -270,7 +270,7 @@ impl Place<'_, '_> {
 
     fn fields(&self, levels: &mut [u16], fields: &[Field]) -> Result<(), Fault>
         requires { self.now.at < length levels.old }
-        ensures walks { Walks (spec.fields (here self.now) (map said fields.now) levels.old) result levels.new }
+        ensures walks { Walks (spec.fields (in_list self.now) (map named_sort fields.now) levels.old) result levels.new }
         ensures kept { length levels.new ≡ length levels.old }
     {
         for field in fields {
@@ -282,7 +282,7 @@ impl Place<'_, '_> {
     /// Sees that the node has no fault, and uses its parts.
     pub fn check(&self, levels: &mut [u16]) -> Result<(), Fault>
         requires { self.now.at < length levels.old }
-        ensures walks { Walks (spec.node (here self.now) levels.old) result levels.new }
+        ensures walks { Walks (spec.node (in_list self.now) levels.old) result levels.new }
         ensures kept { length levels.new ≡ length levels.old }
     {
         let Value::Object(_) = self.node else {
