@@ -125,6 +125,7 @@ root_rooted e b b' i d h =
             ways = standing.ways;
             stands = standing.stands;
             covers = standing.covers;
+            covers_labels = standing.covers_labels;
             led = standing.led;
             labels = standing.labels;
             reached_once = λ depth le. reached_once e (closed b) p.inner i lowered later ext depth le;

@@ -16,7 +16,7 @@ pub record FailsAgain {A : Type 0} (old : Builder) (result : Result A LowerError
   pub unchanged : new ≡ old
   pub stays : failed ≡ true
 
--- another never answers that it failed, and keeps in mind that it answered an error
+-- another never answers that it failed, and keeps in mind whether it answered an error
 pub record Works {A : Type 0} (result : Result A LowerError) (failed : Bool) : Type 0 where
   pub own : result ≢ Err Failed
   pub kept : failed ≡ is_err result

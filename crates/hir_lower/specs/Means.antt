@@ -24,19 +24,20 @@ use Rattle.hir_same_meaning.specs.Reached.{Spread, reached_to}
 use Rattle.hir_steps.specs.Keeps.{Paired}
 use Rattle.hir_one_result.specs.Blocks.{blocks_of_part}
 use Rattle.hir_one_result.specs.Diagnostics.{Faults, part_diagnostics}
-use Rattle.hir_one_result.specs.Room.{exprs_of}
-use Rattle.hir_one_result.specs.Leads.{Way, label_ways, Covers, Led}
+use Rattle.hir_one_result.specs.Room.{count_of_exprs}
+use Rattle.hir_one_result.specs.Leads.{Way, label_ways, Covers, CoversLabels, Led}
 use Rattle.hir_one_result.specs.Stands.{StandsPart}
 
 -- What is so of a root in a later store. Its expression does what the tree does; it stands for the tree, and each expression
--- that came with it is what a written one became, or a missing one for an absent or disabled part; where the source map led by
--- then it leads still, or by the ways of the tree; each label more has its way; each number that it reaches is reached in one
--- way, and is one that lowering it gave out.
+-- that came with it is what a written one became, or a missing one for an absent or disabled part or in front of a tuple with a
+-- leading comma; where the source map led by then it leads still, or by the ways of the tree; each label more is what a written
+-- one became, and there are as many; each number that it reaches is reached once, and is one that lowering it gave out.
 pub record Lives (old new later : Stored) (i : ExprId) (e : OptionExpr) : Type 0 where
   pub same : SameMeaning (store_of later) (map_of later) i e
   pub ways : List Way
   pub stands : StandsPart (store_of later) (map_of later) [] e i ways
   pub covers : Covers ways (length old.exprs.entries) (length new.exprs.entries)
+  pub covers_labels : CoversLabels ways (length old.labels.entries) (length new.labels.entries)
   pub led : Led (map_of old) (map_of new) ways
   pub labels : length new.labels.entries ≡ length old.labels.entries + label_ways ways
   pub reached_once : (depth : ℕ) → length later.exprs.entries ≤ depth
@@ -47,7 +48,7 @@ pub record Lives (old new later : Stored) (i : ExprId) (e : OptionExpr) : Type 0
 -- of the tree.
 pub record Rooted (old new : Stored) (i : ExprId) (e : OptionExpr) : Type 0 where
   pub lives : (later : Stored) → Extends new later → Lives old new later i e
-  pub exprs : length new.exprs.entries ≡ length old.exprs.entries + exprs_of e
+  pub exprs : length new.exprs.entries ≡ length old.exprs.entries + count_of_exprs e
   pub roots : new.roots ≡ old.roots ++ root_at new.exprs.entries i ∷ []
   pub more : Faults
   pub faults : new.diagnostics ≡ old.diagnostics ++ more
@@ -83,11 +84,12 @@ unless_skipped false e = e
 abbrev pub body_read : Spot → DefWithBodyId → Option AstExpr → OptionExpr
 body_read at owner body = unless_skipped (at.answers.skip owner) (expr_part at body)
 
--- a body that is missing where it must be there, and isn't skipped
+-- a body that is missing where it must be there
 abbrev pub missing_fault : Pointer → Option MissingBodyItemKind → Faults
 missing_fault node None = []
 missing_fault node (Some k) = MissingBody node k ∷ []
 
+-- the fault that an item owes, which is none where it is skipped
 abbrev pub owed_faults : Bool → Pointer → Option MissingBodyItemKind → OptionExpr → Faults
 owed_faults true node k e = []
 owed_faults false node k e = missing_fault node (body_fault k e)

@@ -152,7 +152,7 @@ fn body_steps<E: LowerEnv>(
 /// the one root; the source map leads from each written expression and label to what it became, and from nothing else;
 /// the numbers of blocks come in the order of entering; the diagnostics are those that body and tree owe. Each number in
 /// store and source map is in range. A skipped body is a missing expression and owes no fault. `Memory` where a growth
-/// was refused; `Full` only where the tree becomes more expressions or labels than there are numbers; never `Failed`.
+/// was refused; `Full` only where the tree becomes more expressions or labels than the arenas have room for; never `Failed`.
 /// Until patterns come the caller hands in no parameters, and until inner bodies come neither flag.
 pub fn lower_body<E: LowerEnv>(
     alloc: Global,
@@ -175,7 +175,7 @@ pub fn lower_body<E: LowerEnv>(
         let owed = body_owes at owner syntax_node (option_copied body.entry) in
         IfOk result (λ r. OneResult r.0.store r.1.store owed (body_read at owner (option_copied body.entry))) }
     ensures in_range { IfOk result (λ r. InRange r.0.store r.1.store) }
-    ensures full { let at = body_spot (E.answers db.now) owner current_file_id inside in
+    ensures too_large { let at = body_spot (E.answers db.now) owner current_file_id inside in
         IsErrOf result LowerError.Full → TooLarge (empty 4294967295) (body_read at owner (option_copied body.entry)) }
     ensures own { result ≢ Err LowerError.Failed }
 {

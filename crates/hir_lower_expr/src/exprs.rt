@@ -6,7 +6,7 @@ ghost use Rattle.hir_lower_form.specs.Nests.{KidsExpr};
 ghost use Rattle.hir_lower_form.specs.Methods.{LowersExpr, MaybeLowersExpr};
 
 use crate::families::{
-    control_kind, leaf_kind, leaving_kind, listing_kind, operator_kind, place_kind,
+    control_kind, leaf_kind, leaving_kind, listing_kind, operator_kind, access_kind,
 };
 use hir_lower_form::builder::BodyBuilder;
 use hir_lower_form::parts::{LowerParts, Lowerer, site};
@@ -38,7 +38,7 @@ fn expr_form<P: LowerParts>(
         ast::ExprKind::ParenExpr { .. }
         | ast::ExprKind::FieldExpr { .. }
         | ast::ExprKind::IndexExpr { .. }
-        | ast::ExprKind::RefExpr { .. } => place_kind(lowerer, state, at, &node.kind),
+        | ast::ExprKind::RefExpr { .. } => access_kind(lowerer, state, at, &node.kind),
         ast::ExprKind::PrefixExpr { .. }
         | ast::ExprKind::BinExpr { .. }
         | ast::ExprKind::AwaitExpr { .. } => operator_kind(lowerer, state, at, &node.kind),

@@ -1,4 +1,4 @@
-//! The kinds of expressions by family: a method that takes all kinds apart would be too much for one proof.
+//! The kinds of expressions by family: a function that takes all kinds apart would be too much for one proof.
 
 ghost use Rattle.hir_syntax.specs.declared.ast.ExprKind.{out-ExprKind};
 ghost use Rattle.hir_lower_form.specs.Families.{IsControl, IsLeaf, IsLeaving, IsListing, IsOperator, IsAccess};
@@ -82,7 +82,7 @@ pub(crate) fn listing_kind<P: LowerParts>(
 
 /// What stands for a thing in memory, or refers to one.
 #[tactic(auto, using(crate::proofs::OfFamily::only_access))]
-pub(crate) fn place_kind<P: LowerParts>(
+pub(crate) fn access_kind<P: LowerParts>(
     lowerer: &Lowerer<P>,
     state: &mut BodyBuilder,
     at: InFile<AstPtr>,

@@ -85,7 +85,7 @@ pub fn site(pointer: InFile<AstPtr>) -> InFile<NodeId>
     }
 }
 
-/// The forms, over what lowers their parts.
+/// What each form is handed: the allocator, and what lowers its parts.
 #[derive(Clone, Copy)]
 pub struct Lowerer<P> {
     pub alloc: Global,

@@ -30,7 +30,7 @@ use Rattle.hir_steps.proofs.Steps.{Mark, Rel, Correct, Allocated, Opened, correc
 use Rattle.hir_steps.proofs.Steps.{correct_enter_block, correct_alloc, correct_opened, correct_target, with_fault, with_target, with_jump}
 use Rattle.hir_steps.proofs.Steps.{with_block, with_await, correct_report_await}
 use Rattle.hir_one_result.specs.Forms.{leaf_form, unary_form, binary_form, leaving_form}
-use Rattle.hir_one_result.specs.Leads.{Ways, OneWay, FromNone, OneLabelWay, ◌&◌}
+use Rattle.hir_one_result.specs.Leads.{Ways, OneWay, OneMissing, OneLabelWay, ◌&◌}
 use Rattle.hir_one_result.specs.Stands.{Open, Absent, There, ExprAt, LabelAt, StandsMissing, StandsAlone, StandsPath, StandsLiteral}
 use Rattle.hir_one_result.specs.Stands.{StandsOver, StandsOverTwo, StandsList, InLabel}
 use Rattle.hir_one_result.proofs.Leading.{Shown, shown_as, shown_none, shown_own, shown_label, shown_both, shown_swap, shown_after}
@@ -102,7 +102,7 @@ module _ {e : HirExpr} {final : Stored} {ps : List Frame} {m m' : Mark} {i : Exp
       (ap (λ s. s.labels) row.stored)
       (one_more row)
 
-  unled : Allocated e None final ps m m' i → Shown (FromNone i) m.stored m'.stored
+  unled : Allocated e None final ps m m' i → Shown (OneMissing i) m.stored m'.stored
   unled row = shown_unled i (ap (λ s. s.exprs.map) row.stored) (ap (λ s. s.labels) row.stored) (one_more row)
 
 module _ {A B : Type 0} {at : Label → LabelId → Frame} {l : Label} {R : LabelId → Rel A} {Q : LabelId → A → Rel B}
@@ -120,6 +120,7 @@ module _ {A B : Type 0} {at : Label → LabelId → Frame} {l : Label} {R : Labe
       (ap (λ s. s.labels.map) row.stored
       ∙ ap (λ n. insert_entry same_pointer m.stored.labels.map l.pointer (label_id n)) (sym (row.new ∙ row.last)))
       (ap (λ s. length s.labels.entries) row.stored ∙ length-append m.stored.labels.entries (record { name = l.name } ∷ []))
+      (row.new ∙ row.last)
 
 -- leaves
 

@@ -18,7 +18,7 @@ use Rattle.hir_lower_form.specs.Lower.{break_form, paren_form, operand_form, ope
 use Rattle.hir_lower_form.specs.Lower.{method_call_form, await_form, block_form, labelled, kept, lower, lower_part}
 use Rattle.hir_lower_form.specs.Lower.{present, kept_part, lower_each, lower_block, lower_block_part, lower_stmts, lower_stmt}
 use Rattle.hir_one_result.specs.Room.{label_room, front_room, room, room_present, room_kept, room_each, block_room}
-use Rattle.hir_one_result.specs.Room.{block_part_room, stmts_room, stmt_room, exprs_of, labels_of}
+use Rattle.hir_one_result.specs.Room.{block_part_room, stmts_room, stmt_room, count_of_exprs, count_of_labels}
 use Rattle.hir_one_result.specs.Laws.{FitsUnless, AllFit}
 use Rattle.hir_one_result.proofs.Rooms.{Room, Takes, takes_then, takes_as, takes_end, takes_begin, takes_pure, takes_report, takes_block}
 use Rattle.hir_one_result.proofs.Rooms.{takes_close, takes_point, takes_jump, takes_alloc, takes_open, takes_report_await}
@@ -131,7 +131,7 @@ mutual
   node_takes (tree.await_expr at location e) = await_takes at location (part_takes e)
   node_takes (tree.nameless_expr at e) = operand_takes at _ (part_takes e)
 
-  pub part_takes : (e : OptionExpr) → Takes (exprs_of e) (labels_of e) (lower_part e)
+  pub part_takes : (e : OptionExpr) → Takes (count_of_exprs e) (count_of_labels e) (lower_part e)
   part_takes tree.no_expr = missing_takes
   part_takes (tree.some_expr e) = node_takes e
 
@@ -169,6 +169,6 @@ mutual
 pub all_fit : AllFit
 all_fit e old = by (lower_part e old).0 (lower_part e old).1 ((part_takes e).takes old)
   where
-    by : (o : Checked ExprId) (new : Builder) → Room (exprs_of e) (labels_of e) old o new → FitsUnless e old.stored o new.stored
+    by : (o : Checked ExprId) (new : Builder) → Room (count_of_exprs e) (count_of_labels e) old o new → FitsUnless e old.stored o new.stored
     by (Ok i) new h = record { exprs = h.exprs; labels = h.labels }
     by (Err f) new h = h

@@ -192,4 +192,12 @@ pub all_stand : AllStand
 all_stand e old id new paired is final ext =
     let x = (after_lowering (part_stands e) old id new paired is final ext).shown in
     let y = subst (λ rs. Shown (part final rs e id) old.stored new.stored) (sym (ribs_frames old.scopes)) x in
-    record { ways = y.ways; stands = y.shown; covers = y.moved.covers; led = y.moved.led; labels = y.moved.labels }
+    let m = y.moved in
+    record {
+      ways = y.ways;
+      stands = y.shown;
+      covers = m.covers;
+      covers_labels = m.covers_labels;
+      led = m.led;
+      labels = m.labels;
+    }

@@ -31,6 +31,7 @@ one_results limit owed e id new is =
       ways = standing.ways;
       stands = standing.stands;
       covers = standing.covers;
+      covers_labels = standing.covers_labels;
       leads = standing.led [] (leads_nowhere refl refl);
       labels = let l = standing.labels in omega arith;
       more = faults.more;

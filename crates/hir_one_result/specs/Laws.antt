@@ -10,11 +10,11 @@ use Rattle.hir_scope.specs.Scopes.{Scope}
 use Rattle.hir_lower_form.specs.Builder.{Builder}
 use Rattle.hir_lower_form.specs.Lower.{lower_part}
 use Rattle.hir_steps.specs.Keeps.{Paired}
-use Rattle.hir_one_result.specs.Leads.{Way, label_ways, Covers, Led}
+use Rattle.hir_one_result.specs.Leads.{Way, label_ways, Covers, CoversLabels, Led}
 use Rattle.hir_one_result.specs.Stands.{StandsPart}
 use Rattle.hir_one_result.specs.Diagnostics.{Faults, part_diagnostics, Around}
 use Rattle.hir_one_result.specs.Blocks.{blocks_of_part}
-use Rattle.hir_one_result.specs.Room.{TooLarge, exprs_of, labels_of}
+use Rattle.hir_one_result.specs.Room.{TooLarge, count_of_exprs, count_of_labels}
 
 -- what is claimed where the tree is lowered into a `Paired` store
 abbrev pub WhereLowered : (OptionExpr → Builder → ExprId → Builder → Type 0) → Type 0
@@ -24,11 +24,12 @@ WhereLowered R =
 -- forms, parts and sources, and ways back
 
 -- The expression stands for the tree, and so does each one that is stored with it; what led somewhere before leads there or by
--- the ways of the tree, and each label more has its way.
+-- the ways of the tree, and each label more is the end of one.
 pub record Standing (final : Stored) (e : OptionExpr) (old new : Builder) (id : ExprId) : Type 0 where
   pub ways : List Way
   pub stands : StandsPart (store_of final) (map_of final) old.scopes e id ways
   pub covers : Covers ways (length old.stored.exprs.entries) (length new.stored.exprs.entries)
+  pub covers_labels : CoversLabels ways (length old.stored.labels.entries) (length new.stored.labels.entries)
   pub led : Led (map_of old.stored) (map_of new.stored) ways
   pub labels : length new.stored.labels.entries ≡ length old.stored.labels.entries + label_ways ways
 
@@ -62,8 +63,8 @@ BlocksAre = WhereLowered (λ e old id new. new.stored.block_scopes ≡ old.store
 
 -- so many expressions and labels come behind those that were stored
 pub record Fits (e : OptionExpr) (old new : Stored) : Type 0 where
-  pub exprs : length new.exprs.entries ≡ length old.exprs.entries + exprs_of e
-  pub labels : length new.labels.entries ≡ length old.labels.entries + labels_of e
+  pub exprs : length new.exprs.entries ≡ length old.exprs.entries + count_of_exprs e
+  pub labels : length new.labels.entries ≡ length old.labels.entries + count_of_labels e
 
 -- where lowering is refused there is no room for them
 abbrev pub FitsUnless : OptionExpr → Stored → Checked ExprId → Stored → Type 0

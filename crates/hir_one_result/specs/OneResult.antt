@@ -6,26 +6,27 @@ use Rattle.hir_store.specs.declared.ids.ExprId.{ExprId}
 use Rattle.hir_env.specs.Answered.{OptionExpr}
 use Rattle.hir_lower_form.specs.Builder.{Builder, fresh}
 use Rattle.hir_lower_form.specs.Lower.{lower_part}
-use Rattle.hir_one_result.specs.Leads.{Way, label_ways, Covers, MapLeads}
+use Rattle.hir_one_result.specs.Leads.{Way, label_ways, Covers, CoversLabels, MapLeads}
 use Rattle.hir_one_result.specs.Stands.{StandsPart}
 use Rattle.hir_one_result.specs.Diagnostics.{Faults, part_diagnostics}
 use Rattle.hir_one_result.specs.Blocks.{blocks_of_part}
-use Rattle.hir_one_result.specs.Room.{exprs_of}
+use Rattle.hir_one_result.specs.Room.{count_of_exprs}
 
 -- What is stored where one body was lowered. To the one root belongs all that is stored, each with its source, and as many
 -- expressions as the tree becomes. The root stands for the tree, and each expression is what a written one became, or a missing
--- one for an absent or disabled part. The source map leads from each written expression and label to what it became, and from
--- nowhere else, and each label has its way. Behind the faults that the body owes as a whole come those of what is read of the
--- tree, in some order. The blocks with numbers are those of the tree, in the order of entering.
+-- one for an absent or disabled part, or in front of a tuple with a leading comma; each label is what a written one became, and
+-- there are as many. The source map leads from each written expression and label to what it became, and from nowhere else.
+-- Behind the faults that the body owes as a whole come those of what is read of the tree, in some order. The blocks with numbers are those of the tree, in the order of entering.
 pub record OneResult (store : Store) (source_map : SourceMap) (owed : Faults) (e : OptionExpr) : Type 0 where
   pub root : ExprId
   pub only : store.roots ≡ root_at store.exprs root ∷ []
   pub expr_sources : length source_map.expr_sources ≡ length store.exprs
   pub label_sources : length source_map.label_sources ≡ length store.labels
-  pub exprs : length store.exprs ≡ exprs_of e
+  pub exprs : length store.exprs ≡ count_of_exprs e
   pub ways : List Way
   pub stands : StandsPart store source_map [] e root ways
   pub covers : Covers ways 0 (length store.exprs)
+  pub covers_labels : CoversLabels ways 0 (length store.labels)
   pub leads : MapLeads source_map ways
   pub labels : length store.labels ≡ label_ways ways
   pub more : Faults

@@ -1,6 +1,6 @@
 -- How many expressions and labels a tree becomes. Each written expression becomes one, but parentheses become none besides
--- what is in them. An absent or disabled part is one missing expression, or none where the form knows none. Nothing in a
--- disabled node becomes anything.
+-- what is in them. An absent or disabled part is one missing expression, or none where the form knows none, and so is what
+-- stands in front of a tuple with a leading comma. Nothing in a disabled node becomes anything.
 use Rattle.std.specs.Prelude.{ℕ, ◌+◌, ◌<◌, ◌⊎◌, Option, Some, None, true, false, if◌then◌else◌, length}
 use Rattle.hir_store.specs.Stored.{Stored}
 use Rattle.hir_env.specs.Answered as tree
@@ -76,12 +76,12 @@ module _ (an_expr a_label : ℕ) where
     stmt_room (tree.expr_stmt e semi) = room_kept e
     stmt_room tree.item_stmt = 0
 
-abbrev pub exprs_of : OptionExpr → ℕ
-exprs_of e = room_part 1 0 e
+abbrev pub count_of_exprs : OptionExpr → ℕ
+count_of_exprs e = room_part 1 0 e
 
-abbrev pub labels_of : OptionExpr → ℕ
-labels_of e = room_part 0 1 e
+abbrev pub count_of_labels : OptionExpr → ℕ
+count_of_labels e = room_part 0 1 e
 
--- behind what is stored there is no room for the tree: it becomes more expressions, or more labels, than there are numbers left
+-- behind what is stored there is no room for the tree: it becomes more expressions, or more labels, than the arenas have room for
 abbrev pub TooLarge : Stored → OptionExpr → Type 0
-TooLarge s e = (s.exprs.limit < length s.exprs.entries + exprs_of e) ⊎ (s.labels.limit < length s.labels.entries + labels_of e)
+TooLarge s e = (s.exprs.limit < length s.exprs.entries + count_of_exprs e) ⊎ (s.labels.limit < length s.labels.entries + count_of_labels e)

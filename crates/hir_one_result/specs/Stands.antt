@@ -1,7 +1,7 @@
 -- What stands in a store for a written tree: for each kept expression one stored expression of its form, which came from
 -- its own node and whose parts stand for its parts. An absent or disabled part is a missing expression that came from no
 -- node, or none where the form knows none. With it stand the ways of the tree: from the node of each written expression
--- and label to what it became.
+-- and label to what it became, and to each missing one from no node.
 use Rattle.std.specs.Prelude.{◌≡◌, Bool, true, false, List, [], ◌∷◌, ◌++◌, Option, Some, None, option_map, option_to_list, slice_get}
 use Rattle.hir_syntax.specs.declared.ast.Literal.{Literal as AstLiteral}
 use Rattle.hir_store.specs.Pointers.{Pointer}
@@ -23,7 +23,7 @@ use Rattle.hir_meaning.specs.Data.{PathData, literal_data, literal_read, data_if
 use Rattle.hir_meaning.specs.Left.{is_kept, is_left, gives_value}
 use Rattle.hir_meaning.specs.Contents.{BlockContents}
 use Rattle.hir_one_result.specs.Forms.{leaf_form, unary_form, binary_form, lazy_form, leaving_form}
-use Rattle.hir_one_result.specs.Leads.{Ways, No, OneWay, FromNone, OneLabelWay, ◌&◌}
+use Rattle.hir_one_result.specs.Leads.{Ways, No, OneWay, OneMissing, OneLabelWay, ◌&◌}
 
 -- the numbers of the labels that are open, innermost first
 abbrev pub Open : Type 0
@@ -61,7 +61,7 @@ module _ (store : Store) (source_map : SourceMap) where
     pub source : slice_get source_map.label_sources n.0 ≡ Some (Some l.pointer)
 
   abbrev pub StandsMissing : ExprId → Ways
-  StandsMissing i = λ ws. ExprAt i hir.Missing None × FromNone i ws
+  StandsMissing i = λ ws. ExprAt i hir.Missing None × OneMissing i ws
 
   -- a form that names no part
   abbrev pub StandsAlone : HirExpr → Pointer → ExprId → Ways

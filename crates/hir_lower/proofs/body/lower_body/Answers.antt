@@ -9,5 +9,5 @@ pub returns-clause-one_result : goal.returns-clause-one_result
 returns-clause-one_result g c =
     one_result_if _ _ _ _ 4294967295 (λ r. r.0.store) (λ r. r.1.store) c.body_steps.result c.body_steps.ensures.stores
 
-pub returns-clause-full : goal.returns-clause-full
-returns-clause-full g c = λ is. body_too_large _ _ _ _ 4294967295 (c.body_steps.ensures.full is)
+pub returns-clause-too_large : goal.returns-clause-too_large
+returns-clause-too_large g c = λ is. body_too_large _ _ _ _ 4294967295 (c.body_steps.ensures.full is)
