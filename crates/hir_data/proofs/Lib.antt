@@ -1,1 +1,2 @@
 mod Segments
+mod Worked
