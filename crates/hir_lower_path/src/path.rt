@@ -2,7 +2,7 @@
 
 ghost use Rattle.std.specs.Prelude.{◌≡◌, IfOk, false, true};
 ghost use Rattle.hir_syntax.specs.declared.ast.Path.{out-Path};
-ghost use Rattle.hir_env.specs.Answering.{named_segment};
+ghost use Rattle.hir_env.specs.Paths.{named_segment};
 ghost use Rattle.hir_env.specs.Whole.{first_part, path_level, path_part, rest_part, segment_level, segment_part, segments_part};
 ghost use Rattle.hir_lower_form.specs.Lowering.{Lowers, pure};
 ghost use Rattle.hir_lower_form.specs.Methods.{HasReading, ReadsPath, ReadsSegment};
@@ -92,7 +92,6 @@ fn segment_form<P: LowerParts>(
 }
 
 /// A segment, or the missing name where it is absent.
-#[tactic(auto, using(hir_env::proofs::Levels::segment_is_level))]
 fn segment<P: LowerParts>(
     lowerer: &Lowerer<P>,
     state: &mut BodyBuilder,
