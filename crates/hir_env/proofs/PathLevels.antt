@@ -23,7 +23,7 @@ read_path_is : (env : Answers) (x : AstPath) (p : Place) → read_path env x p �
 unfolding read_path
 read_path_is env x p = (λ j. fold_out-Path (Place → Path) (path_step env (λ y. y)) x j p)
     ∙ (λ j. let level = out-Path x in tree.path level.leading (first_of (read_segment env) level.segs p)
-      (rest_of (read_segment env) level.segs p) (path_is (read_path env) level.use_ p j))
+    (rest_of (read_segment env) level.segs p) (path_is (read_path env) level.use_ p j))
 
 pub path_is_level : (at : Spot) (x : AstPath) → answered_path at x ≡ path_level at x
 path_is_level at x = read_path_is at.answers x at.place
