@@ -112,13 +112,13 @@ names_first at leading (Some s ∷ ss) h =
 
 -- ---- the path
 
+abbrev said : Option PathData → List Name
+said None = []
+said (Some x) = path_names x
+
 named_by_read : (is : List Item) (d : PathData) → data_read is ≡ Some d → path_names d ≡ rule.names is
 named_by_read is d h = by (refused is) h
   where
-    abbrev said : Option PathData → List Name
-    said None = []
-    said (Some x) = path_names x
-
     by : (b : Bool) → (if b then None else Some (data_of is)) ≡ Some d → path_names d ≡ rule.names is
     by false e = sym (ap said e)
     by true e = absurd (clash (sym (ap is_some e)))
