@@ -1,5 +1,5 @@
 -- What each form becomes runs as the form is written, where its parts do.
-use Rattle.std.proofs.Common.{◌≡◌, ℕ, suc, ◌≤◌, Bool, true, false, if◌then◌else◌, List, [], ◌∷◌, ◌++◌, append-nil}
+use Rattle.std.proofs.Common.{◌≡◌, ℕ, suc, ◌≤◌, Bool, true, false, nat_le, if◌then◌else◌, List, [], ◌∷◌, ◌++◌, length, append-nil}
 use Rattle.std.proofs.Common.{append_assoc, Option, Some, None, Ok, Err, option_map, refl, sym, subst, ◌∙◌, arith}
 use Rattle.hir_syntax.specs.declared.ast.Literal.{Literal as AstLiteral}
 use Rattle.hir_store.specs.Pointers.{Pointer}
@@ -31,9 +31,9 @@ use Rattle.hir_lower_form.specs.Lower.{settled_block, block_form, labelled, kept
 use Rattle.hir_data.specs.Data.{PathData}
 use Rattle.hir_data.specs.Reading.{stored_path}
 use Rattle.hir_data.specs.Written.{written_path}
-use Rattle.hir_read_back.specs.Law.{PathLaw}
+use Rattle.hir_read_back.proofs.Walk.{path_law}
 use Rattle.hir_meaning.specs.Data.{literal_data, hygiene_for, lookup_hygiene}
-use Rattle.hir_meaning.specs.Run.{Value, unit, is_true, literal, call, break, continue, leave, missing as is_missing}
+use Rattle.hir_meaning.specs.Run.{Value, unit, is_true, literal, read, call, break, continue, leave, missing as is_missing}
 use Rattle.hir_meaning.specs.Run.{ends, pure as gives, ◌>>=◌ as ◌then◌, ask, tests, entering}
 use Rattle.hir_meaning.specs.Catching.{turn, loop}
 use Rattle.hir_scope.specs.Scopes.{loop_scope, break_target, continue_target, outward, scopes_in_block}
@@ -42,10 +42,11 @@ use Rattle.hir_meaning.specs.Syntax.{SyntaxRun, run_path, run_stmts, run_tail, c
 use Rattle.hir_steps.proofs.Frames.{Frame, plain_loop, loop_at, block_at, Falls}
 use Rattle.hir_steps.proofs.Steps.{Mark, Grows, Rel, Holds, Correct, Allocated, correct_bind, correct_as, correct_pure}
 use Rattle.hir_steps.proofs.Steps.{correct_report, correct_point, correct_enter_block, correct_alloc, correct_opened, correct_target}
-use Rattle.hir_steps.proofs.Steps.{Such, correct_such, correct_both}
-use Rattle.hir_steps.proofs.Aside.{Aside, path_aside}
+use Rattle.hir_steps.proofs.Steps.{correct_such}
+use Rattle.hir_steps.proofs.Aside.{path_aside}
 use Rattle.hir_same_meaning.proofs.Targets.{break_meets, continue_meets, among}
-use Rattle.hir_same_meaning.proofs.Senses.{Walk, one, optional, many, contents, Goes, Runs, Wider, goes_within}
+use Rattle.hir_same_meaning.proofs.Relation.{same_ask}
+use Rattle.hir_same_meaning.proofs.Senses.{Walk, one, optional, many, contents, Goes, Runs, Wider, goes_within, goes_at}
 use Rattle.hir_same_meaning.proofs.Nodes
 use Rattle.hir_same_meaning.proofs.Strict.{event0_fine, event2_fine}
 use Rattle.hir_same_meaning.proofs.Blocks.{part_walk, KeptIs, Stored1, ContentsAre, contents_go}
