@@ -8,7 +8,8 @@ use Rattle.hir_lower_form.specs.declared.walk.PathWalk.{PathWalk}
 use Rattle.hir_lower_form.specs.declared.walk.Reading.{Reading}
 use Rattle.hir_lower_form.specs.declared.walk.Reading.TheVariants.{Refused, Ended, Open}
 use Rattle.hir_lower_form.specs.Lowering.{Lowering, ◌>>=◌, ◌>>◌, pure, count_out}
-use Rattle.hir_lower_form.specs.Walks.{start, at_first, missing_name, self_type_name, named, ended, crate_kind, self_read, super_read, path_read}
+use Rattle.hir_lower_form.specs.Walks.{start, at_first, missing_name, self_type_name, named, ended, crate_kind}
+use Rattle.hir_lower_form.specs.Walks.{self_read, super_read, path_read}
 
 -- goes on with what stands before, unless the path is refused or ends here
 abbrev pub proceed : Reading → (PathWalk → Lowering Reading) → Lowering Reading

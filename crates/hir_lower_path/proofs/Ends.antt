@@ -2,7 +2,7 @@
 use Rattle.std.proofs.Common.{◌≡◌, ◌∙◌, refl, ap, List, [], ◌∷◌, ◌++◌, Option, Ok, Err, false}
 use Rattle.hir_env.specs.declared.place.Place.{Place}
 use Rattle.hir_env.specs.Answered.{Segment}
-use Rattle.hir_env.specs.Answering.{segments_of, segment_or_absent}
+use Rattle.hir_env.specs.Paths.{segments_of, segment_or_absent}
 use Rattle.hir_lower_form.specs.declared.walk.PathWalk.{PathWalk}
 use Rattle.hir_lower_form.specs.declared.walk.Reading.{Reading}
 use Rattle.hir_lower_form.specs.declared.walk.Reading.TheVariants.{Refused, Ended, Open}
@@ -27,8 +27,8 @@ proceed_then f g (Ok (Open w)) b = refl
 proceed_then f g (Err e) b = refl
 
 -- the last is read before those before it
-pub read_each_last : {A : Type 0} (read : A → Place → Segment) (p : Place) (xs : List (Option A)) (x : Option A) (w : PathWalk) (b : Builder)
-    → read_each (segments_of read (xs ++ x ∷ []) p) w b
+pub read_each_last : {A : Type 0} (read : A → Place → Segment) (p : Place) (xs : List (Option A)) (x : Option A)
+    (w : PathWalk) (b : Builder) → read_each (segments_of read (xs ++ x ∷ []) p) w b
     ≡ go_on (read_segment false (segment_or_absent read x p) w b).0 (read_segment false (segment_or_absent read x p) w b).1
         (λ r. proceed r (read_each (segments_of read xs p)))
 read_each_last read p [] x w b =

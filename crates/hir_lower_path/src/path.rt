@@ -2,14 +2,13 @@
 
 ghost use Rattle.std.specs.Prelude.{◌≡◌, IfOk, false, true};
 ghost use Rattle.hir_syntax.specs.declared.ast.Path.{out-Path};
-ghost use Rattle.hir_env.specs.Answering.{named_segment};
-ghost use Rattle.hir_env.specs.Whole.{path_part};
+ghost use Rattle.hir_env.specs.Paths.{named_segment};
+ghost use Rattle.hir_env.specs.Whole.{first_part, path_level, path_part, rest_part, segment_level, segment_part, segments_part};
 ghost use Rattle.hir_lower_form.specs.Lowering.{Lowers, pure};
 ghost use Rattle.hir_lower_form.specs.Methods.{HasReading, ReadsPath, ReadsSegment};
 ghost use Rattle.hir_lower_form.specs.Nests.{IfPresent, KidsPath};
 ghost use Rattle.hir_lower_form.specs.Paths as spec;
 ghost use Rattle.hir_lower_form.specs.Walks.{super_read};
-ghost use Rattle.hir_lower_path.specs.Parts.{first_part, path_level, rest_part, segment_level, segment_part, segments_part};
 
 use hir_lower_form::builder::BodyBuilder;
 use hir_lower_form::parts::{LowerParts, Lowerer};

@@ -1,7 +1,7 @@
 use Rattle.std.proofs.Common.{◌≡◌, length}
 use Rattle.hir_store.specs.Range.{Grows}
 use Rattle.hir_lower_form.specs.Paths.{read_each}
-use Rattle.hir_lower_path.specs.Parts.{segments_part}
+use Rattle.hir_env.specs.Whole.{segments_part}
 use Rattle.hir_lower_path.proofs.path.segments.Given as goal
 
 abbrev pub invariant-loop-last : goal.invariant-loop-last
