@@ -6,7 +6,8 @@ use Rattle.hir_env.specs.Answering.{ptr, numbered}
 use Rattle.hir_env.specs.declared.place.Place.{Place}
 use Rattle.hir_env.specs.Count.{count_block, count_path, count_stmts, count_option_expr}
 use Rattle.hir_env.specs.Whole.{answered_plain, expr_part, pointer_at, stmts_part}
-use Rattle.hir_env.proofs.Levels.{expr_is_level, path_is_level, plain_is_level}
+use Rattle.hir_env.proofs.Levels.{expr_is_level, plain_is_level}
+use Rattle.hir_env.proofs.PathLevels.{path_is_level}
 use Rattle.hir_lower.specs.Nests.{HandlesExpr, HandlesBlock, HandlesPath}
 use Rattle.hir_lower.specs.Roots.{spot_at}
 use Rattle.hir_lower.proofs.Kids.{kids_expr, kids_block, kids_path, expr_below, in_inside}
