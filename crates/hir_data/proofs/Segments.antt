@@ -14,7 +14,7 @@ use Rattle.hir_env.specs.Answered as tree
 use Rattle.hir_env.specs.Answered.{Path, OptionPath, Segments, Segment}
 use Rattle.hir_env.specs.Paths.{crate_root_at, kinded_segment, read_segment}
 use Rattle.hir_env.specs.Whole.{answered_path, path_level, path_part, segments_part, first_part, rest_part}
-use Rattle.hir_env.proofs.Levels.{path_is_level}
+use Rattle.hir_env.proofs.PathLevels.{path_is_level}
 use Rattle.hir_data.specs.Data.{PathData, path_data, path_names}
 use Rattle.hir_data.specs.Rule as rule
 use Rattle.hir_data.specs.Rule.{Item, What, ends, ended, read, refused, names_of, data_of, data_read}
