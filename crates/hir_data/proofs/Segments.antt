@@ -14,7 +14,7 @@ use Rattle.hir_env.specs.Answered as tree
 use Rattle.hir_env.specs.Answered.{Path, OptionPath, Segments, Segment}
 use Rattle.hir_env.specs.Paths.{crate_root_at, kinded_segment, read_segment}
 use Rattle.hir_env.specs.Whole.{answered_path, path_level, path_part, segments_part, first_part, rest_part}
-use Rattle.hir_env.proofs.Levels.{path_is_level}
+use Rattle.hir_env.proofs.PathLevels.{path_is_level}
 use Rattle.hir_data.specs.Data.{PathData, path_data, path_names}
 use Rattle.hir_data.specs.Rule as rule
 use Rattle.hir_data.specs.Rule.{Item, What, ends, ended, read, refused, names_of, data_of, data_read}
@@ -112,13 +112,13 @@ names_first at leading (Some s ∷ ss) h =
 
 -- ---- the path
 
+abbrev said : Option PathData → List Name
+said None = []
+said (Some x) = path_names x
+
 named_by_read : (is : List Item) (d : PathData) → data_read is ≡ Some d → path_names d ≡ rule.names is
 named_by_read is d h = by (refused is) h
   where
-    abbrev said : Option PathData → List Name
-    said None = []
-    said (Some x) = path_names x
-
     by : (b : Bool) → (if b then None else Some (data_of is)) ≡ Some d → path_names d ≡ rule.names is
     by false e = sym (ap said e)
     by true e = absurd (clash (sym (ap is_some e)))

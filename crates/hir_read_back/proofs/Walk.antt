@@ -246,19 +246,20 @@ over_by_one l is w e h n =
     let c : 2 ^ 32 ≤ suc (supers_in is) = omega (a, b, n, arith) in
     rw e c
 
+abbrev counts : PathWalk → Bool → Option PathKind
+counts w c = if c then Some (kind.Super (walks.supers w.kind + 1)) else None
+
+abbrev super_step : PathWalk → Bool → Lowering Reading
+super_step w c = steps.counted (option_map (λ k. Open (record w { kind = k })) (counts w c))
+
 after_super : (l : Bool) (is : List Item) (w : PathWalk) (b : Builder) → ended is ≡ false → refused is ≡ false
     → Reads (kind_at l is) is w
     → After (item l super_ ∷ is) b (steps.counted (super_read w) b).0 (steps.counted (super_read w) b).1
 unfolding count_out
 after_super l is w b e r h = by (nat_lt (walks.supers w.kind + 1) (2 ^ 32)) refl
   where
-    abbrev counts : Bool → Option PathKind
-    counts c = if c then Some (kind.Super (walks.supers w.kind + 1)) else None
-
-    abbrev step : Bool → Lowering Reading
-    step c = steps.counted (option_map (λ k. Open (record w { kind = k })) (counts c))
-
-    by : (c : Bool) → nat_lt (walks.supers w.kind + 1) (2 ^ 32) ≡ c → After (item l super_ ∷ is) b (step c b).0 (step c b).1
+    by : (c : Bool) → nat_lt (walks.supers w.kind + 1) (2 ^ 32) ≡ c
+        → After (item l super_ ∷ is) b (super_step w c b).0 (super_step w c b).1
     by true n = (super_says l is w e r h, refl)
     by false n = (over_by_one l is w e h (ltb-false (walks.supers w.kind + 1) (2 ^ 32) n), refl)
 
