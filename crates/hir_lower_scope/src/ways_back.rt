@@ -26,9 +26,8 @@ fn bears_name(segment: &PathSegment) -> bool
 pub fn hir_segment_to_ast_segment(path: &Path, segment_index: u32) -> Option<&PathSegment>
     ensures { option_copied result ≡ slice_get (named_segments path.now) segment_index }
 {
-    let mut left = path.segs.as_slice();
     let mut before = segment_index;
-    while let [segment, rest @ ..] = left {
+    for segment in path.segs.as_slice() {
         if let Some(segment) = segment
             && bears_name(segment)
         {
@@ -37,7 +36,6 @@ pub fn hir_segment_to_ast_segment(path: &Path, segment_index: u32) -> Option<&Pa
             }
             before -= 1;
         }
-        left = rest;
     }
     None
 }
