@@ -143,7 +143,7 @@ goes_path : {labels : ℕ} {m m' : Mark} {final : Stored} {ps qs : List Frame} {
     (r : Option Path) (d : Option PathData) → option_map stored_path r ≡ d
     → Allocated (path_or_missing h r) (Some at) final qs m m' i
     → Goes labels m'.nodes one (λ turns ss. run_path d h (Some (site_of at))) final ps i
-goes_path {labels = labels} {m' = m'} {final = final} {ps = ps} {i = i} at h r d is a =
+goes_path {labels = labels} {m = m} {m' = m'} {final = final} {ps = ps} {qs = qs} {i = i} at h r d is a =
     subst (λ k. Goes labels m'.nodes one (λ turns ss. run_path k h (Some (site_of at))) final ps i) is (by r a)
   where
     by : (r : Option Path) → Allocated (path_or_missing h r) (Some at) final qs m m' i
