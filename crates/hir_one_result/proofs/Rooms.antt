@@ -230,5 +230,6 @@ takes_path p = record { takes = λ b. by b (lower_path p b).0 (lower_path p b).1
     by : (b : Builder) (o : Checked (Option Path)) (c : Builder) → lower_path p b ≡ (o, c) → Room (a_path p) b o c
     by b (Ok r) c e =
         let same = ap (λ x. x.stored) ((path_stays p b c).0 r e) in
-        took_none b.stored c.stored (ap (λ s. s.exprs.entries) same) (ap (λ s. s.exprs.limit) same) (ap (λ s. s.labels) same)
+        let more : Same nothing (a_path p) = record { exprs = refl; labels = refl; overcounts = λ x. absurd x } in
+        took_as more (took_none b.stored c.stored (ap (λ s. s.exprs.entries) same) (ap (λ s. s.exprs.limit) same) (ap (λ s. s.labels) same))
     by b (Err x) c e = inr (inr ((path_stays p b c).1 x e).0)
