@@ -35,7 +35,7 @@ maybe_collect_expr-expr_node-requires g t c =
     })
     (λ p x h. record {
       callable = λ alloc v old walk b same is. (rw same (rw is h), λ a m. m);
-      reads = λ alloc v old new walk b r same is q. rw (← is) (rw (← same) q.2);
+      reads = λ alloc v old new walk b r same is q. rw (← is) (rw (← same) q.3);
     })
     c.args.place (pointer_at at c.args.node.now.id c.args.node.now.range) (out-ExprKind c.args.node.now.kind) (omega (arith, d, size))
 
@@ -69,7 +69,7 @@ collect_block_inside-block_node-requires-clause-parts g t c =
     })
     (λ p x h. record {
       callable = λ alloc v old walk b same is. (rw same (rw is h), λ a m. m);
-      reads = λ alloc v old new walk b r same is q. rw (← is) (rw (← same) q.2);
+      reads = λ alloc v old new walk b r same is q. rw (← is) (rw (← same) q.3);
     })
     c.inside-inner.result c.args.node.now (omega (arith, d, size))
 
@@ -94,6 +94,6 @@ read_path_segments-path_node-requires g t c =
     })
     (λ p x h. record {
       callable = λ alloc v old walk b same is. (rw same (rw is h), λ a m. m);
-      reads = λ alloc v old new walk b r same is q. rw (← is) (rw (← same) q.2);
+      reads = λ alloc v old new walk b r same is q. rw (← is) (rw (← same) q.3);
     })
     c.args.place (out-Path c.args.node.now) (omega (arith, d, size))
