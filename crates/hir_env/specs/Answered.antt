@@ -1,12 +1,13 @@
 -- A tree with all that the environment says of it written into it. What lowering does, how a body runs and what is
 -- wrong with it are each a recursion over this one family.
-use Rattle.std.specs.Prelude.{List, Option, Bool}
+use Rattle.std.specs.Prelude.{Option, Bool}
 use Rattle.hir_syntax.specs.declared.ast.UnaryOp.{UnaryOp}
 use Rattle.hir_syntax.specs.declared.ast.LogicOp.{LogicOp}
 use Rattle.hir_syntax.specs.declared.ast.BinaryOp.{BinaryOp}
 use Rattle.hir_syntax.specs.declared.ast.Literal.{Literal}
 use Rattle.hir_store.specs.Pointers.{Pointer}
 use Rattle.hir_store.specs.declared.ids.CfgId.{CfgId}
+use Rattle.hir_store.specs.declared.ids.CrateId.{CrateId}
 use Rattle.hir_store.specs.declared.ids.HygieneId.{HygieneId}
 use Rattle.hir_store.specs.declared.ids.BlockId.{BlockId}
 use Rattle.hir_store.specs.declared.name.Name.{Name}
@@ -27,10 +28,6 @@ pub record Jump : Type 0 where
   pub name : Name
   pub hygiene : HygieneId
   pub contexts : Contexts
-
--- the names of a path's segments, none for a segment without a kind
-abbrev pub Segments : Type 0
-Segments = List (Option Name)
 
 -- families of forms, by their operands
 
@@ -62,13 +59,39 @@ pub data Leaving : Type 0 where
   yeeting : Leaving
 
 mutual
+  -- whether `::` stands in front of it, its first segment, those behind it, and the path of the use tree around it
+  pub data Path : Type 0 where
+    path : Bool → Segment → Segments → OptionPath → Path
+
+  pub data OptionPath : Type 0 where
+    no_path : OptionPath
+    some_path : Path → OptionPath
+
+  pub data Segments : Type 0 where
+    no_segments : Segments
+    more_segments : Segment → Segments → Segments
+
+  pub data Segment : Type 0 where
+    -- that a text lacks
+    absent_segment : Segment
+    -- without a kind
+    broken_segment : Segment
+    name_segment : Name → Segment
+    self_type_segment : Segment
+    crate_segment : Segment
+    -- `$crate`, with the root of its context's crate
+    dollar_crate_segment : Option CrateId → Segment
+    self_segment : Segment
+    super_segment : Segment
+
+mutual
   pub data Expr : Type 0 where
     disabled_expr : Pointer → CfgId → Expr → Expr
     if_expr : Pointer → OptionExpr → OptionBlock → OptionExpr → Expr
     block_expr : Block → Expr
     loop_expr : Pointer → Option Label → OptionBlock → Expr
     call_expr : Pointer → OptionExpr → Exprs → Expr
-    path_expr : Pointer → Option Segments → HygieneId → Expr
+    path_expr : Pointer → OptionPath → HygieneId → Expr
     continue_expr : Pointer → Option Jump → Expr
     break_expr : Pointer → Option Jump → OptionExpr → Expr
     paren_expr : Pointer → OptionExpr → Expr

@@ -1,7 +1,15 @@
 -- The size of an answered tree: what lowering it steps down by.
 use Rattle.std.specs.Prelude.{ℕ, suc, ◌+◌}
 use Rattle.hir_env.specs.Answered as tree
-use Rattle.hir_env.specs.Answered.{Expr, OptionExpr, Exprs, Block, OptionBlock, Stmts, Stmt}
+use Rattle.hir_env.specs.Answered.{Path, OptionPath, Expr, OptionExpr, Exprs, Block, OptionBlock, Stmts, Stmt}
+
+abbrev mutual
+  pub count_path : Path → ℕ
+  count_path (tree.path leading first rest use_) = suc (count_option_path use_)
+
+  pub count_option_path : OptionPath → ℕ
+  count_option_path tree.no_path = 0
+  count_option_path (tree.some_path x) = count_path x
 
 abbrev mutual
   pub count_expr : Expr → ℕ
@@ -10,7 +18,7 @@ abbrev mutual
   count_expr (tree.block_expr b) = suc (count_block b)
   count_expr (tree.loop_expr at label b) = suc (count_option_block b)
   count_expr (tree.call_expr at f es) = suc (count_option_expr f + count_exprs es)
-  count_expr (tree.path_expr at x h) = 1
+  count_expr (tree.path_expr at x h) = suc (count_option_path x)
   count_expr (tree.continue_expr at jump) = 1
   count_expr (tree.break_expr at jump e) = suc (count_option_expr e)
   count_expr (tree.paren_expr at e) = suc (count_option_expr e)

@@ -5,11 +5,13 @@ use Rattle.hir_syntax.specs.declared.ast.ExprKind.{ExprKind as AstExprKind, out-
 use Rattle.hir_syntax.specs.declared.ast.StmtKind.{StmtKind as AstStmtKind, out-StmtKind}
 use Rattle.hir_syntax.specs.declared.ast.BlockExpr.{BlockExpr as AstBlockExpr, out-BlockExpr}
 use Rattle.hir_syntax.specs.declared.ast.Expr.{Expr as AstExpr}
+use Rattle.hir_syntax.specs.declared.ast.Path.{Path as AstPath, out-Path}
+use Rattle.hir_syntax.specs.declared.ast.PathSegment.{PathSegment as AstPathSegment, out-PathSegment}
 use Rattle.hir_syntax.specs.declared.ast.Stmt.{Stmt as AstStmt}
 use Rattle.hir_syntax.specs.declared.ast.Label.{Label as AstLabel}
 use Rattle.hir_syntax.specs.declared.ast.Lifetime.{Lifetime as AstLifetime}
 use Rattle.hir_syntax.specs.declared.ast.ElseBranch.TheFolds.{fold-ElseBranch, fold-ExprKind, fold-StmtKind, fold-BlockExpr}
-use Rattle.hir_syntax.specs.declared.ast.ElseBranch.TheFolds.{fold-Expr, fold-Stmt}
+use Rattle.hir_syntax.specs.declared.ast.ElseBranch.TheFolds.{fold-Expr, fold-Path, fold-PathSegment, fold-Stmt}
 use Rattle.hir_syntax.specs.declared.node.NodeId.{NodeId}
 use Rattle.hir_syntax.specs.declared.node.TextRange.{TextRange}
 use Rattle.hir_store.specs.Pointers.{Pointer}
@@ -20,9 +22,11 @@ use Rattle.hir_store.specs.declared.ids.BlockId.{BlockId}
 use Rattle.hir_env.specs.Layers.{BlockReading, StmtReading, Sorts, Reader, readings, itself}
 use Rattle.hir_env.specs.Answering.{in_file, ptr, site_of, label_of, jump_of, modified, expr_or_none, plain_or_none, exprs_of}
 use Rattle.hir_env.specs.Answering.{exprs_or_none, numbered, inside, asked, else_branch, expr_at, expr_kind, expr_step}
-use Rattle.hir_env.specs.Answering.{block_step, stmt_at, stmt_kind, stmt_step}
+use Rattle.hir_env.specs.Answering.{block_step, stmt_at, stmt_kind, stmt_step, path_step, segment_step}
+use Rattle.hir_env.specs.Answering.{path_or_none, segment_or_absent, segments_of, first_of, rest_of}
 use Rattle.hir_env.specs.Answered as tree
-use Rattle.hir_env.specs.Answered.{Label, Jump, Expr, OptionExpr, Exprs, Block, OptionBlock, Stmts, Stmt}
+use Rattle.hir_env.specs.Answered.{Label, Jump, Path, OptionPath, Segments, Segment}
+use Rattle.hir_env.specs.Answered.{Expr, OptionExpr, Exprs, Block, OptionBlock, Stmts, Stmt}
 
 abbrev pub written : Sorts
 written = record {
@@ -31,39 +35,59 @@ written = record {
   StmtKind = AstStmtKind;
   BlockExpr = AstBlockExpr;
   Expr = AstExpr;
+  Path = AstPath;
+  PathSegment = AstPathSegment;
   Stmt = AstStmt;
 }
 
 module _ (env : Answers) where
   unfoldable pub read_else_branch : AstElseBranch → Place → Expr
-  read_else_branch = fold-ElseBranch readings.ElseBranch readings.ExprKind readings.StmtKind readings.BlockExpr readings.Expr readings.Stmt
-      (else_branch env itself) (expr_kind env itself) (stmt_kind env itself)
-      (block_step env itself) (expr_step env itself) (stmt_step env itself)
+  read_else_branch = fold-ElseBranch readings.ElseBranch readings.ExprKind readings.StmtKind readings.BlockExpr readings.Expr
+      readings.Path readings.PathSegment readings.Stmt
+      (else_branch env itself) (expr_kind env itself) (stmt_kind env itself) (block_step env itself) (expr_step env itself)
+      (path_step env itself) (segment_step env itself) (stmt_step env itself)
 
-  unfoldable pub read_block : AstBlockExpr → BlockReading
-  read_block = fold-BlockExpr readings.ElseBranch readings.ExprKind readings.StmtKind readings.BlockExpr readings.Expr readings.Stmt
-      (else_branch env itself) (expr_kind env itself) (stmt_kind env itself)
-      (block_step env itself) (expr_step env itself) (stmt_step env itself)
-
-  unfoldable pub read_expr : AstExpr → Place → Expr
-  read_expr = fold-Expr readings.ElseBranch readings.ExprKind readings.StmtKind readings.BlockExpr readings.Expr readings.Stmt
-      (else_branch env itself) (expr_kind env itself) (stmt_kind env itself)
-      (block_step env itself) (expr_step env itself) (stmt_step env itself)
-
-  unfoldable pub read_stmt : AstStmt → Place → StmtReading
-  read_stmt = fold-Stmt readings.ElseBranch readings.ExprKind readings.StmtKind readings.BlockExpr readings.Expr readings.Stmt
-      (else_branch env itself) (expr_kind env itself) (stmt_kind env itself)
-      (block_step env itself) (expr_step env itself) (stmt_step env itself)
-
-  unfoldable pub read_expr_kind : AstExprKind → readings.ExprKind
-  read_expr_kind = fold-ExprKind readings.ElseBranch readings.ExprKind readings.StmtKind readings.BlockExpr readings.Expr readings.Stmt
-      (else_branch env itself) (expr_kind env itself) (stmt_kind env itself)
-      (block_step env itself) (expr_step env itself) (stmt_step env itself)
+  unfoldable pub read_expr_kind : AstExprKind → AstPtr → Place → Expr
+  read_expr_kind = fold-ExprKind readings.ElseBranch readings.ExprKind readings.StmtKind readings.BlockExpr readings.Expr
+      readings.Path readings.PathSegment readings.Stmt
+      (else_branch env itself) (expr_kind env itself) (stmt_kind env itself) (block_step env itself) (expr_step env itself)
+      (path_step env itself) (segment_step env itself) (stmt_step env itself)
 
   unfoldable pub read_stmt_kind : AstStmtKind → Place → StmtReading
-  read_stmt_kind = fold-StmtKind readings.ElseBranch readings.ExprKind readings.StmtKind readings.BlockExpr readings.Expr readings.Stmt
-      (else_branch env itself) (expr_kind env itself) (stmt_kind env itself)
-      (block_step env itself) (expr_step env itself) (stmt_step env itself)
+  read_stmt_kind = fold-StmtKind readings.ElseBranch readings.ExprKind readings.StmtKind readings.BlockExpr readings.Expr
+      readings.Path readings.PathSegment readings.Stmt
+      (else_branch env itself) (expr_kind env itself) (stmt_kind env itself) (block_step env itself) (expr_step env itself)
+      (path_step env itself) (segment_step env itself) (stmt_step env itself)
+
+  unfoldable pub read_block : AstBlockExpr → BlockReading
+  read_block = fold-BlockExpr readings.ElseBranch readings.ExprKind readings.StmtKind readings.BlockExpr readings.Expr
+      readings.Path readings.PathSegment readings.Stmt
+      (else_branch env itself) (expr_kind env itself) (stmt_kind env itself) (block_step env itself) (expr_step env itself)
+      (path_step env itself) (segment_step env itself) (stmt_step env itself)
+
+  unfoldable pub read_expr : AstExpr → Place → Expr
+  read_expr = fold-Expr readings.ElseBranch readings.ExprKind readings.StmtKind readings.BlockExpr readings.Expr readings.Path
+      readings.PathSegment readings.Stmt
+      (else_branch env itself) (expr_kind env itself) (stmt_kind env itself) (block_step env itself) (expr_step env itself)
+      (path_step env itself) (segment_step env itself) (stmt_step env itself)
+
+  unfoldable pub read_path : AstPath → Place → Path
+  read_path = fold-Path readings.ElseBranch readings.ExprKind readings.StmtKind readings.BlockExpr readings.Expr readings.Path
+      readings.PathSegment readings.Stmt
+      (else_branch env itself) (expr_kind env itself) (stmt_kind env itself) (block_step env itself) (expr_step env itself)
+      (path_step env itself) (segment_step env itself) (stmt_step env itself)
+
+  unfoldable pub read_segment : AstPathSegment → Place → Segment
+  read_segment = fold-PathSegment readings.ElseBranch readings.ExprKind readings.StmtKind readings.BlockExpr readings.Expr
+      readings.Path readings.PathSegment readings.Stmt
+      (else_branch env itself) (expr_kind env itself) (stmt_kind env itself) (block_step env itself) (expr_step env itself)
+      (path_step env itself) (segment_step env itself) (stmt_step env itself)
+
+  unfoldable pub read_stmt : AstStmt → Place → StmtReading
+  read_stmt = fold-Stmt readings.ElseBranch readings.ExprKind readings.StmtKind readings.BlockExpr readings.Expr readings.Path
+      readings.PathSegment readings.Stmt
+      (else_branch env itself) (expr_kind env itself) (stmt_kind env itself) (block_step env itself) (expr_step env itself)
+      (path_step env itself) (segment_step env itself) (stmt_step env itself)
 
   abbrev pub reader : Reader written
   reader = record {
@@ -72,6 +96,8 @@ module _ (env : Answers) where
     stmt_kind = read_stmt_kind;
     block_expr = read_block;
     expr = read_expr;
+    path = read_path;
+    segment = read_segment;
     stmt = read_stmt;
   }
 
@@ -89,6 +115,12 @@ answered_block at b = (read_block at.answers b).own at.place
 abbrev pub answered_else : Spot → AstElseBranch → Expr
 answered_else at e = read_else_branch at.answers e at.place
 
+abbrev pub answered_path : Spot → AstPath → Path
+answered_path at x = read_path at.answers x at.place
+
+abbrev pub answered_segment : Spot → AstPathSegment → Segment
+answered_segment at s = read_segment at.answers s at.place
+
 -- parts that may be absent, and lists
 abbrev pub expr_part : Spot → Option AstExpr → OptionExpr
 expr_part at e = expr_or_none (read_expr at.answers) e at.place
@@ -104,6 +136,22 @@ exprs_part at es = exprs_of (read_expr at.answers) es at.place
 
 abbrev pub args_part : Spot → Option (List AstExpr) → Exprs
 args_part at es = exprs_or_none (read_expr at.answers) es at.place
+
+abbrev pub path_part : Spot → Option AstPath → OptionPath
+path_part at x = path_or_none (read_path at.answers) x at.place
+
+abbrev pub segment_part : Spot → Option AstPathSegment → Segment
+segment_part at s = segment_or_absent (read_segment at.answers) s at.place
+
+abbrev pub segments_part : Spot → List (Option AstPathSegment) → Segments
+segments_part at ss = segments_of (read_segment at.answers) ss at.place
+
+-- the first of a path's segments, which is absent where it has none, and those behind it
+abbrev pub first_part : Spot → List (Option AstPathSegment) → Segment
+first_part at ss = first_of (read_segment at.answers) ss at.place
+
+abbrev pub rest_part : Spot → List (Option AstPathSegment) → Segments
+rest_part at ss = rest_of (read_segment at.answers) ss at.place
 
 abbrev pub label_part : Spot → Option AstLabel → Option Label
 label_part at l = option_map (label_of at.answers at.place) l
@@ -150,3 +198,9 @@ block_level at head b =
 
 abbrev pub else_level : Spot → AstElseBranch → Expr
 else_level at e = else_branch at.answers (reader at.answers) (out-ElseBranch e) at.place
+
+abbrev pub path_level : Spot → AstPath → Path
+path_level at x = path_step at.answers (reader at.answers) (out-Path x) at.place
+
+abbrev pub segment_level : Spot → AstPathSegment → Segment
+segment_level at s = segment_step at.answers (reader at.answers) (out-PathSegment s) at.place

@@ -2,23 +2,37 @@
 
 ghost use Rattle.std.specs.Prelude.{◌≡◌, OnOk, OnErr, false};
 ghost use Rattle.hir_env.specs.Tables as spec;
-ghost use Rattle.hir_env.specs.NodeMap.{with_first, with_first_pred};
+ghost use Rattle.hir_env.specs.NodeMap.{with_first, with_first_pred, with_first_context};
 
 use crate::env::LowerEnv;
 use crate::first_map::FirstMap;
 use hir_store::ids::{
-    BlockId, CfgId, CtxId, DefWithBodyId, HygieneId, ItemContainerId, MacroDefId, ModuleId,
+    BlockId, CfgId, CrateId, CtxId, DefWithBodyId, HygieneId, ItemContainerId, MacroDefId,
+    ModuleId,
 };
 use hir_syntax::node::{InFile, NodeId, PredId};
 use std::alloc::{AllocError, Global};
 use std::marker::Model;
 
+/// What is said of a context: the one that it was made in, the hygiene of a name of it, the definition of the macro that
+/// it came from, and the root of its crate.
+#[derive(Clone, Copy, Debug, PartialEq, Eq)]
+pub struct Context {
+    pub parent: CtxId,
+    pub opaque: HygieneId,
+    pub outer_macro: Option<MacroDefId>,
+    pub crate_root: Option<CrateId>,
+}
+
 /// An environment that answers all from tables. A node that stands in none is enabled, has root hygiene and no
-/// block; of two entries for one node the first counts.
+/// block. A name's context has the number of its hygiene. A context that stands in no table was made in the root, has
+/// the hygiene of its own number, came from no macro, and its crate has no root. Of two entries for one node or one
+/// context the first counts.
 pub struct TableEnv {
     disabled: FirstMap<InFile<NodeId>, CfgId>,
     preds: FirstMap<PredId, Option<bool>>,
     hygiene: FirstMap<InFile<NodeId>, HygieneId>,
+    contexts: FirstMap<CtxId, Context>,
     blocks: FirstMap<InFile<NodeId>, (BlockId, ModuleId)>,
     skip: bool,
     container: ItemContainerId,
@@ -30,6 +44,7 @@ impl Drop for TableEnv {
             disabled: _,
             preds: _,
             hygiene: _,
+            contexts: _,
             blocks: _,
             skip: _,
             container: _,
@@ -46,6 +61,7 @@ impl Model for TableEnv {
       disabled = t.disabled;
       preds = t.preds;
       hygiene = t.hygiene;
+      contexts = t.contexts;
       blocks = t.blocks;
       skip = t.skip;
       container = t.container;
@@ -61,6 +77,7 @@ impl TableEnv {
             disabled: FirstMap::new(alloc),
             preds: FirstMap::new(alloc),
             hygiene: FirstMap::new(alloc),
+            contexts: FirstMap::new(alloc),
             blocks: FirstMap::new(alloc),
             skip: false,
             container,
@@ -93,6 +110,27 @@ impl TableEnv {
         ensures err { OnErr result (self.new ≡ self.old) }
     {
         self.hygiene.insert(node, hygiene)
+    }
+
+    /// Says all that is answered of a context.
+    pub fn set_context(&mut self, context: CtxId, of: Context) -> Result<(), AllocError>
+        ensures ok { OnOk result (self.new ≡ record self.old { contexts = with_first_context self.old.contexts context of }) }
+        ensures err { OnErr result (self.new ≡ self.old) }
+    {
+        self.contexts.insert(context, of)
+    }
+
+    /// What is answered of a context.
+    fn context_of(&self, context: CtxId) -> Context
+        ensures { result ≡ spec.context_in self.now.contexts context }
+    {
+        let unsaid = Context {
+            parent: CtxId(0),
+            opaque: HygieneId(context.0),
+            outer_macro: None,
+            crate_root: None,
+        };
+        self.contexts.get(context).unwrap_or(unsaid)
     }
 
     /// Makes the block at a node a scope of items.
@@ -142,16 +180,24 @@ impl LowerEnv for TableEnv {
         self.hygiene.get(node).unwrap_or(HygieneId::ROOT)
     }
 
-    fn context_parent(&self, _context: CtxId) -> CtxId {
-        CtxId(0)
+    fn context(&self, node: InFile<NodeId>) -> CtxId {
+        CtxId(self.hygiene(node).0)
+    }
+
+    fn crate_root(&self, context: CtxId) -> Option<CrateId> {
+        self.context_of(context).crate_root
+    }
+
+    fn context_parent(&self, context: CtxId) -> CtxId {
+        self.context_of(context).parent
     }
 
     fn opaque(&self, context: CtxId) -> HygieneId {
-        HygieneId(context.0)
+        self.context_of(context).opaque
     }
 
-    fn outer_macro(&self, _context: CtxId) -> Option<MacroDefId> {
-        None
+    fn outer_macro(&self, context: CtxId) -> Option<MacroDefId> {
+        self.context_of(context).outer_macro
     }
 
     fn block(&self, node: InFile<NodeId>, _inside: ModuleId) -> Option<(BlockId, ModuleId)> {
