@@ -2,7 +2,7 @@
 use Rattle.std.specs.Prelude.{codes, ℕ, List, [], ◌∷◌, Option, Some, None, option_and_then}
 use Rattle.serde_json.specs.Find.{get}
 use Rattle.hir_syntax.specs.declared.ast.Path.{Path, roll-Path}
-use Rattle.hir_syntax.specs.declared.ast.PathSegment.{PathSegment, roll-PathSegment}
+use Rattle.hir_syntax.specs.declared.ast.PathSegment.{PathSegment}
 use Rattle.hir_syntax.specs.declared.ast.SegmentKind.{SegmentKind}
 use Rattle.hir_syntax.specs.declared.ast.SegmentKind.TheVariants as segment
 use Rattle.json_kinds.specs.ByWord.{with_word}
@@ -31,12 +31,12 @@ abbrev pub segment_kind_of : List ℕ → Option SegmentKind
 segment_kind_of word = with_word segment_word segment_kinds word
 
 unfoldable pub segment : Here → PathSegment
-segment h = roll-PathSegment (record {
+segment h = record {
   id = h.id;
   range = h.range;
   seg = option_and_then segment_kind_of (text_in (codes "seg") h.value);
   name = name_in h (codes "name");
-})
+}
 
 unfoldable pub path : Here → Path
 path h = roll-Path (record {
