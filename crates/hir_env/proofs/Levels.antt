@@ -8,7 +8,7 @@ use Rattle.hir_syntax.specs.declared.ast.StmtKind.{StmtKind as AstStmtKind, out-
 use Rattle.hir_syntax.specs.declared.ast.BlockExpr.{BlockExpr as AstBlockExpr, out-BlockExpr}
 use Rattle.hir_syntax.specs.declared.ast.Expr.{Expr as AstExpr}
 use Rattle.hir_syntax.specs.declared.ast.Path.{Path as AstPath, out-Path}
-use Rattle.hir_syntax.specs.declared.ast.PathSegment.{PathSegment as AstPathSegment, out-PathSegment}
+use Rattle.hir_syntax.specs.declared.ast.Path.TheFolds.{fold_out-Path, map-Path}
 use Rattle.hir_syntax.specs.declared.ast.Stmt.{Stmt as AstStmt}
 use Rattle.hir_syntax.specs.declared.ast.ElseBranch.TheFolds as folds
 use Rattle.hir_syntax.specs.declared.ast.ElseBranch.TheOpen.{ElseBranch-F, ExprKind-F, StmtKind-F}
@@ -19,33 +19,25 @@ use Rattle.hir_env.specs.declared.place.Place.{Place}
 use Rattle.hir_env.specs.Answers.{Answers}
 use Rattle.hir_env.specs.Spot.{Spot}
 use Rattle.hir_env.specs.Layers.{BlockReading, StmtReading, Reader, ElseBranchLayer, ExprKindLayer, StmtKindLayer, BlockExprLayer}
-use Rattle.hir_env.specs.Layers.{PathLayer, PathSegmentLayer, readings, itself}
+use Rattle.hir_env.specs.Layers.{readings, itself}
 use Rattle.hir_env.specs.Answering as of
+use Rattle.hir_env.specs.Paths.{path_or_none, first_of, rest_of, read_segment, path_step, read_path}
 use Rattle.hir_env.specs.Answered as tree
-use Rattle.hir_env.specs.Answered.{Label, Path, OptionPath, Segments, Segment}
-use Rattle.hir_env.specs.Answered.{Expr, OptionExpr, Exprs, Block, OptionBlock, Stmts, Stmt}
+use Rattle.hir_env.specs.Answered.{Label, Path, OptionPath, Expr, OptionExpr, Exprs, Block, OptionBlock, Stmts, Stmt}
 use Rattle.hir_env.specs.Whole.{written, reader, read_else_branch, read_expr_kind, read_stmt_kind, read_block, read_expr}
 use Rattle.hir_env.specs.Whole.{read_stmt, answered, answered_plain, answered_block, answered_else, block_head, stmts_part}
 use Rattle.hir_env.specs.Whole.{in_block, block_number, pointer_at, asked_expr, block_level, stmt_level, else_level}
-use Rattle.hir_env.specs.Whole.{read_path, read_segment, answered_path, answered_segment, path_level, segment_level}
+use Rattle.hir_env.specs.Whole.{answered_path, path_level}
 
 -- how a fold passes an option and a list on
 abbrev optional : {A B : Type 0} → (A → B) → Option A → Option B
 optional {A} {B} h x = (folds.map-BlockExpr
-    (Unit {0}) (Unit {0}) (Unit {0}) (Unit {0}) A (Unit {0}) (Unit {0}) (Unit {0}) (Unit {0}) (Unit {0}) (Unit {0}) (Unit {0}) B
-    (Unit {0}) (Unit {0}) (Unit {0})
-    (λ x. x) (λ x. x) (λ x. x) (λ x. x) h (λ x. x) (λ x. x) (λ x. x)
+    (Unit {0}) (Unit {0}) (Unit {0}) (Unit {0}) A (Unit {0}) (Unit {0}) (Unit {0}) (Unit {0}) (Unit {0}) B (Unit {0})
+    (λ x. x) (λ x. x) (λ x. x) (λ x. x) h (λ x. x)
     (record { id = record { 0 = 0 }; range = record { start = 0; end = 0 }; mod_ = None; label = None; stmts = []; tail = x })).tail
 
 abbrev listed : {A B : Type 0} → (A → B) → List A → List B
 listed {A} {B} h xs = (seq.the_former (this {0})).map A B h xs
-
-abbrev listed_options : {A B : Type 0} → (A → B) → List (Option A) → List (Option B)
-listed_options {A} {B} h xs = (folds.map-Path
-    (Unit {0}) (Unit {0}) (Unit {0}) (Unit {0}) (Unit {0}) (Unit {0}) A (Unit {0}) (Unit {0}) (Unit {0}) (Unit {0}) (Unit {0})
-    (Unit {0}) (Unit {0}) B (Unit {0})
-    (λ x. x) (λ x. x) (λ x. x) (λ x. x) (λ x. x) (λ x. x) h (λ x. x)
-    (record { id = record { 0 = 0 }; range = record { start = 0; end = 0 }; leading = false; use_ = None; segs = xs })).segs
 
 expr_is : {A : Type 0} (h : A → Place → Expr) (x : Option A) (p : Place) → of.expr_or_none (λ y. y) (optional h x) p ≡ of.expr_or_none h x p
 expr_is h None p = refl
@@ -65,72 +57,29 @@ contents_is : {A : Type 0} (h : A → Place → StmtReading) (xs : List A) (t t'
 contents_is h [] t t' e p = λ j. (tree.no_stmts, e p j)
 contents_is h (x ∷ xs) t t' e p = λ j. let rest = contents_is h xs t t' e (h x p).place j in ((h x p).before rest.0, rest.1)
 
-path_is : {A : Type 0} (h : A → Place → Path) (x : Option A) (p : Place) → of.path_or_none (λ y. y) (optional h x) p ≡ of.path_or_none h x p
-path_is h None p = refl
-path_is h (Some x) p = refl
-
-segments_is : {A : Type 0} (h : A → Place → Segment) (xs : List (Option A)) (p : Place)
-    → of.segments_of (λ y. y) (listed_options h xs) p ≡ of.segments_of h xs p
-segments_is h [] p = refl
-segments_is h (None ∷ xs) p = λ j. tree.more_segments tree.absent_segment (segments_is h xs p j)
-segments_is h (Some x ∷ xs) p = λ j. tree.more_segments (h x p) (segments_is h xs p j)
-
-first_is : {A : Type 0} (h : A → Place → Segment) (xs : List (Option A)) (p : Place)
-    → of.first_of (λ y. y) (listed_options h xs) p ≡ of.first_of h xs p
-first_is h [] p = refl
-first_is h (None ∷ xs) p = refl
-first_is h (Some x ∷ xs) p = refl
-
-rest_is : {A : Type 0} (h : A → Place → Segment) (xs : List (Option A)) (p : Place)
-    → of.rest_of (λ y. y) (listed_options h xs) p ≡ of.rest_of h xs p
-rest_is h [] p = refl
-rest_is h (x ∷ xs) p = segments_is h xs p
-
 module _ (env : Answers) where
   abbrev rd : Reader written
   rd = reader env
 
   abbrev mapped_kind : ExprKindLayer written → ExprKindLayer readings
-  mapped_kind = folds.map-ExprKind written.ElseBranch written.ExprKind written.StmtKind written.BlockExpr written.Expr
-      written.Path written.PathSegment written.Stmt
-      readings.ElseBranch readings.ExprKind readings.StmtKind readings.BlockExpr readings.Expr readings.Path readings.PathSegment
-      readings.Stmt
-      rd.else_branch rd.expr_kind rd.stmt_kind rd.block_expr rd.expr rd.path rd.segment rd.stmt
+  mapped_kind = folds.map-ExprKind written.ElseBranch written.ExprKind written.StmtKind written.BlockExpr written.Expr written.Stmt
+      readings.ElseBranch readings.ExprKind readings.StmtKind readings.BlockExpr readings.Expr readings.Stmt
+      rd.else_branch rd.expr_kind rd.stmt_kind rd.block_expr rd.expr rd.stmt
 
   abbrev mapped_block : BlockExprLayer written → BlockExprLayer readings
-  mapped_block = folds.map-BlockExpr written.ElseBranch written.ExprKind written.StmtKind written.BlockExpr written.Expr
-      written.Path written.PathSegment written.Stmt
-      readings.ElseBranch readings.ExprKind readings.StmtKind readings.BlockExpr readings.Expr readings.Path readings.PathSegment
-      readings.Stmt
-      rd.else_branch rd.expr_kind rd.stmt_kind rd.block_expr rd.expr rd.path rd.segment rd.stmt
+  mapped_block = folds.map-BlockExpr written.ElseBranch written.ExprKind written.StmtKind written.BlockExpr written.Expr written.Stmt
+      readings.ElseBranch readings.ExprKind readings.StmtKind readings.BlockExpr readings.Expr readings.Stmt
+      rd.else_branch rd.expr_kind rd.stmt_kind rd.block_expr rd.expr rd.stmt
 
   abbrev mapped_stmt_kind : StmtKindLayer written → StmtKindLayer readings
-  mapped_stmt_kind = folds.map-StmtKind written.ElseBranch written.ExprKind written.StmtKind written.BlockExpr written.Expr
-      written.Path written.PathSegment written.Stmt
-      readings.ElseBranch readings.ExprKind readings.StmtKind readings.BlockExpr readings.Expr readings.Path readings.PathSegment
-      readings.Stmt
-      rd.else_branch rd.expr_kind rd.stmt_kind rd.block_expr rd.expr rd.path rd.segment rd.stmt
+  mapped_stmt_kind = folds.map-StmtKind written.ElseBranch written.ExprKind written.StmtKind written.BlockExpr written.Expr written.Stmt
+      readings.ElseBranch readings.ExprKind readings.StmtKind readings.BlockExpr readings.Expr readings.Stmt
+      rd.else_branch rd.expr_kind rd.stmt_kind rd.block_expr rd.expr rd.stmt
 
   abbrev mapped_else : ElseBranchLayer written → ElseBranchLayer readings
-  mapped_else = folds.map-ElseBranch written.ElseBranch written.ExprKind written.StmtKind written.BlockExpr written.Expr
-      written.Path written.PathSegment written.Stmt
-      readings.ElseBranch readings.ExprKind readings.StmtKind readings.BlockExpr readings.Expr readings.Path readings.PathSegment
-      readings.Stmt
-      rd.else_branch rd.expr_kind rd.stmt_kind rd.block_expr rd.expr rd.path rd.segment rd.stmt
-
-  abbrev mapped_path : PathLayer written → PathLayer readings
-  mapped_path = folds.map-Path written.ElseBranch written.ExprKind written.StmtKind written.BlockExpr written.Expr written.Path
-      written.PathSegment written.Stmt
-      readings.ElseBranch readings.ExprKind readings.StmtKind readings.BlockExpr readings.Expr readings.Path readings.PathSegment
-      readings.Stmt
-      rd.else_branch rd.expr_kind rd.stmt_kind rd.block_expr rd.expr rd.path rd.segment rd.stmt
-
-  abbrev mapped_segment : PathSegmentLayer written → PathSegmentLayer readings
-  mapped_segment = folds.map-PathSegment written.ElseBranch written.ExprKind written.StmtKind written.BlockExpr written.Expr
-      written.Path written.PathSegment written.Stmt
-      readings.ElseBranch readings.ExprKind readings.StmtKind readings.BlockExpr readings.Expr readings.Path readings.PathSegment
-      readings.Stmt
-      rd.else_branch rd.expr_kind rd.stmt_kind rd.block_expr rd.expr rd.path rd.segment rd.stmt
+  mapped_else = folds.map-ElseBranch written.ElseBranch written.ExprKind written.StmtKind written.BlockExpr written.Expr written.Stmt
+      readings.ElseBranch readings.ExprKind readings.StmtKind readings.BlockExpr readings.Expr readings.Stmt
+      rd.else_branch rd.expr_kind rd.stmt_kind rd.block_expr rd.expr rd.stmt
 
   expr_at_is : (k : ExprKindLayer written) (p : Place) (s : Pointer) → of.expr_at env itself (mapped_kind k) p s ≡ of.expr_at env rd k p s
   expr_at_is (ExprKind-F.IfExpr c t e) p s = λ j.
@@ -139,7 +88,7 @@ module _ (env : Answers) where
   expr_at_is (ExprKind-F.LoopExpr l b) p s = λ j. tree.loop_expr s (option_map (of.label_of env p) l) (plain_is rd.block_expr b p j)
   expr_at_is (ExprKind-F.CallExpr f None) p s = λ j. tree.call_expr s (expr_is rd.expr f p j) tree.no_exprs
   expr_at_is (ExprKind-F.CallExpr f (Some es)) p s = λ j. tree.call_expr s (expr_is rd.expr f p j) (exprs_is rd.expr es p j)
-  expr_at_is (ExprKind-F.PathExpr x) p s = λ j. tree.path_expr s (path_is rd.path x p j) (env.hygiene (of.site_of s))
+  expr_at_is (ExprKind-F.PathExpr x) p s = refl
   expr_at_is (ExprKind-F.ContinueExpr l) p s = refl
   expr_at_is (ExprKind-F.BreakExpr l e) p s = λ j. tree.break_expr s (option_map (of.jump_of env p) l) (expr_is rd.expr e p j)
   expr_at_is (ExprKind-F.ParenExpr e) p s = λ j. tree.paren_expr s (expr_is rd.expr e p j)
@@ -167,9 +116,6 @@ module _ (env : Answers) where
   expr_at_is ExprKind-F.AsmExpr p s = refl
   expr_at_is ExprKind-F.FormatArgsExpr p s = refl
 
-  path_step_is : (x : PathLayer written) (p : Place) → of.path_step env itself (mapped_path x) p ≡ of.path_step env rd x p
-  path_step_is x p = λ j. tree.path x.leading (first_is rd.segment x.segs p j) (rest_is rd.segment x.segs p j) (path_is rd.path x.use_ p j)
-
   expr_kind_is : (k : ExprKindLayer written) (n : AstPtr) (p : Place)
       → of.expr_kind env itself (mapped_kind k) n p ≡ of.expr_kind env rd k n p
   expr_kind_is k n p = λ j. let s = of.in_file p n in of.asked s (env.cfg (of.site_of s)) (expr_at_is k p s j)
@@ -192,30 +138,27 @@ module _ (env : Answers) where
   else_is (ElseBranch-F.ElseIf e) p = refl
 
   read_expr_kind_is : (k : AstExprKind) (n : AstPtr) (p : Place) → read_expr_kind env k n p ≡ of.expr_kind env rd (out-ExprKind k) n p
-  unfolding read_else_branch read_expr_kind read_stmt_kind read_block read_expr read_path read_segment read_stmt
+  unfolding read_else_branch read_expr_kind read_stmt_kind read_block read_expr read_stmt
   read_expr_kind_is k n p = (λ j. folds.fold_out-ExprKind
-      readings.ElseBranch readings.ExprKind readings.StmtKind readings.BlockExpr readings.Expr readings.Path readings.PathSegment
-      readings.Stmt
-      (of.else_branch env itself) (of.expr_kind env itself) (of.stmt_kind env itself) (of.block_step env itself)
-      (of.expr_step env itself) (of.path_step env itself) (of.segment_step env itself) (of.stmt_step env itself) k j n p)
+      readings.ElseBranch readings.ExprKind readings.StmtKind readings.BlockExpr readings.Expr readings.Stmt
+      (of.else_branch env itself) (of.expr_kind env itself) (of.stmt_kind env itself)
+      (of.block_step env itself) (of.expr_step env itself) (of.stmt_step env itself) k j n p)
       ∙ expr_kind_is (out-ExprKind k) n p
 
   read_expr_is : (e : AstExpr) (p : Place) → read_expr env e p ≡ of.expr_kind env rd (out-ExprKind e.kind) (of.ptr e.id e.range) p
-  unfolding read_else_branch read_expr_kind read_stmt_kind read_block read_expr read_path read_segment read_stmt
+  unfolding read_else_branch read_expr_kind read_stmt_kind read_block read_expr read_stmt
   read_expr_is e p = (λ j. folds.fold_out-Expr
-      readings.ElseBranch readings.ExprKind readings.StmtKind readings.BlockExpr readings.Expr readings.Path readings.PathSegment
-      readings.Stmt
-      (of.else_branch env itself) (of.expr_kind env itself) (of.stmt_kind env itself) (of.block_step env itself)
-      (of.expr_step env itself) (of.path_step env itself) (of.segment_step env itself) (of.stmt_step env itself) e j p)
+      readings.ElseBranch readings.ExprKind readings.StmtKind readings.BlockExpr readings.Expr readings.Stmt
+      (of.else_branch env itself) (of.expr_kind env itself) (of.stmt_kind env itself)
+      (of.block_step env itself) (of.expr_step env itself) (of.stmt_step env itself) e j p)
       ∙ read_expr_kind_is e.kind (of.ptr e.id e.range) p
 
   read_plain_is : (b : AstBlockExpr) (p : Place) → (read_block env b).plain p ≡ of.block_at env rd (out-BlockExpr b) (false, None) p
-  unfolding read_else_branch read_expr_kind read_stmt_kind read_block read_expr read_path read_segment read_stmt
+  unfolding read_else_branch read_expr_kind read_stmt_kind read_block read_expr read_stmt
   read_plain_is b p = (λ j. (folds.fold_out-BlockExpr
-      readings.ElseBranch readings.ExprKind readings.StmtKind readings.BlockExpr readings.Expr readings.Path readings.PathSegment
-      readings.Stmt
-      (of.else_branch env itself) (of.expr_kind env itself) (of.stmt_kind env itself) (of.block_step env itself)
-      (of.expr_step env itself) (of.path_step env itself) (of.segment_step env itself) (of.stmt_step env itself) b j).plain p)
+      readings.ElseBranch readings.ExprKind readings.StmtKind readings.BlockExpr readings.Expr readings.Stmt
+      (of.else_branch env itself) (of.expr_kind env itself) (of.stmt_kind env itself)
+      (of.block_step env itself) (of.expr_step env itself) (of.stmt_step env itself) b j).plain p)
       ∙ block_at_is (out-BlockExpr b) (false, None) p
 
   -- what a block's label and its modifiers say of it
@@ -224,57 +167,36 @@ module _ (env : Answers) where
 
   read_own_is : (b : AstBlockExpr) (p : Place) → (read_block env b).own p
       ≡ tree.block_expr (of.block_at env rd (out-BlockExpr b) (own_head (out-BlockExpr b) p) p)
-  unfolding read_else_branch read_expr_kind read_stmt_kind read_block read_expr read_path read_segment read_stmt
+  unfolding read_else_branch read_expr_kind read_stmt_kind read_block read_expr read_stmt
   read_own_is b p = (λ j. (folds.fold_out-BlockExpr
-      readings.ElseBranch readings.ExprKind readings.StmtKind readings.BlockExpr readings.Expr readings.Path readings.PathSegment
-      readings.Stmt
-      (of.else_branch env itself) (of.expr_kind env itself) (of.stmt_kind env itself) (of.block_step env itself)
-      (of.expr_step env itself) (of.path_step env itself) (of.segment_step env itself) (of.stmt_step env itself) b j).own p)
+      readings.ElseBranch readings.ExprKind readings.StmtKind readings.BlockExpr readings.Expr readings.Stmt
+      (of.else_branch env itself) (of.expr_kind env itself) (of.stmt_kind env itself)
+      (of.block_step env itself) (of.expr_step env itself) (of.stmt_step env itself) b j).own p)
       ∙ (λ j. tree.block_expr (block_at_is (out-BlockExpr b) (own_head (out-BlockExpr b) p) p j))
 
   read_stmt_kind_is : (k : AstStmtKind) (p : Place) → read_stmt_kind env k p ≡ of.stmt_kind env rd (out-StmtKind k) p
-  unfolding read_else_branch read_expr_kind read_stmt_kind read_block read_expr read_path read_segment read_stmt
+  unfolding read_else_branch read_expr_kind read_stmt_kind read_block read_expr read_stmt
   read_stmt_kind_is k p = (λ j. folds.fold_out-StmtKind
-      readings.ElseBranch readings.ExprKind readings.StmtKind readings.BlockExpr readings.Expr readings.Path readings.PathSegment
-      readings.Stmt
-      (of.else_branch env itself) (of.expr_kind env itself) (of.stmt_kind env itself) (of.block_step env itself)
-      (of.expr_step env itself) (of.path_step env itself) (of.segment_step env itself) (of.stmt_step env itself) k j p)
+      readings.ElseBranch readings.ExprKind readings.StmtKind readings.BlockExpr readings.Expr readings.Stmt
+      (of.else_branch env itself) (of.expr_kind env itself) (of.stmt_kind env itself)
+      (of.block_step env itself) (of.expr_step env itself) (of.stmt_step env itself) k j p)
       ∙ stmt_kind_is (out-StmtKind k) p
 
   read_stmt_is : (s : AstStmt) (p : Place) → read_stmt env s p ≡ of.stmt_kind env rd (out-StmtKind s.kind) p
-  unfolding read_else_branch read_expr_kind read_stmt_kind read_block read_expr read_path read_segment read_stmt
+  unfolding read_else_branch read_expr_kind read_stmt_kind read_block read_expr read_stmt
   read_stmt_is s p = (λ j. folds.fold_out-Stmt
-      readings.ElseBranch readings.ExprKind readings.StmtKind readings.BlockExpr readings.Expr readings.Path readings.PathSegment
-      readings.Stmt
-      (of.else_branch env itself) (of.expr_kind env itself) (of.stmt_kind env itself) (of.block_step env itself)
-      (of.expr_step env itself) (of.path_step env itself) (of.segment_step env itself) (of.stmt_step env itself) s j p)
+      readings.ElseBranch readings.ExprKind readings.StmtKind readings.BlockExpr readings.Expr readings.Stmt
+      (of.else_branch env itself) (of.expr_kind env itself) (of.stmt_kind env itself)
+      (of.block_step env itself) (of.expr_step env itself) (of.stmt_step env itself) s j p)
       ∙ read_stmt_kind_is s.kind p
 
   read_else_is : (e : AstElseBranch) (p : Place) → read_else_branch env e p ≡ of.else_branch env rd (out-ElseBranch e) p
-  unfolding read_else_branch read_expr_kind read_stmt_kind read_block read_expr read_path read_segment read_stmt
+  unfolding read_else_branch read_expr_kind read_stmt_kind read_block read_expr read_stmt
   read_else_is e p = (λ j. folds.fold_out-ElseBranch
-      readings.ElseBranch readings.ExprKind readings.StmtKind readings.BlockExpr readings.Expr readings.Path readings.PathSegment
-      readings.Stmt
-      (of.else_branch env itself) (of.expr_kind env itself) (of.stmt_kind env itself) (of.block_step env itself)
-      (of.expr_step env itself) (of.path_step env itself) (of.segment_step env itself) (of.stmt_step env itself) e j p)
+      readings.ElseBranch readings.ExprKind readings.StmtKind readings.BlockExpr readings.Expr readings.Stmt
+      (of.else_branch env itself) (of.expr_kind env itself) (of.stmt_kind env itself)
+      (of.block_step env itself) (of.expr_step env itself) (of.stmt_step env itself) e j p)
       ∙ else_is (out-ElseBranch e) p
-
-  read_path_is : (x : AstPath) (p : Place) → read_path env x p ≡ of.path_step env rd (out-Path x) p
-  unfolding read_else_branch read_expr_kind read_stmt_kind read_block read_expr read_path read_segment read_stmt
-  read_path_is x p = (λ j. folds.fold_out-Path
-      readings.ElseBranch readings.ExprKind readings.StmtKind readings.BlockExpr readings.Expr readings.Path readings.PathSegment
-      readings.Stmt
-      (of.else_branch env itself) (of.expr_kind env itself) (of.stmt_kind env itself) (of.block_step env itself)
-      (of.expr_step env itself) (of.path_step env itself) (of.segment_step env itself) (of.stmt_step env itself) x j p)
-      ∙ path_step_is (out-Path x) p
-
-  read_segment_is : (s : AstPathSegment) (p : Place) → read_segment env s p ≡ of.segment_step env rd (out-PathSegment s) p
-  unfolding read_else_branch read_expr_kind read_stmt_kind read_block read_expr read_path read_segment read_stmt
-  read_segment_is s p = λ j. folds.fold_out-PathSegment
-      readings.ElseBranch readings.ExprKind readings.StmtKind readings.BlockExpr readings.Expr readings.Path readings.PathSegment
-      readings.Stmt
-      (of.else_branch env itself) (of.expr_kind env itself) (of.stmt_kind env itself) (of.block_step env itself)
-      (of.expr_step env itself) (of.path_step env itself) (of.segment_step env itself) (of.stmt_step env itself) s j p
 
 -- so far each statement stands for itself alone
 flat : (env : Answers) (ss : List AstStmt) (tail : Place → OptionExpr) (p : Place)
@@ -303,8 +225,21 @@ block_is_level at b = read_own_is at.answers b at.place ∙ ap tree.block_expr (
 pub else_is_level : (at : Spot) (e : AstElseBranch) → answered_else at e ≡ else_level at e
 else_is_level at e = read_else_is at.answers e at.place
 
+-- paths
+
+abbrev optional_path : {A B : Type 0} → (A → B) → Option A → Option B
+optional_path {A} {B} h x = (map-Path A B h
+    (record { id = record { 0 = 0 }; range = record { start = 0; end = 0 }; leading = false; use_ = x; segs = [] })).use_
+
+path_is : {A : Type 0} (h : A → Place → Path) (x : Option A) (p : Place) → path_or_none (λ y. y) (optional_path h x) p ≡ path_or_none h x p
+path_is h None p = refl
+path_is h (Some x) p = refl
+
+read_path_is : (env : Answers) (x : AstPath) (p : Place) → read_path env x p ≡ path_step env (read_path env) (out-Path x) p
+unfolding read_path
+read_path_is env x p = (λ j. fold_out-Path (Place → Path) (path_step env (λ y. y)) x j p)
+    ∙ (λ j. let level = out-Path x in tree.path level.leading (first_of (read_segment env) level.segs p)
+      (rest_of (read_segment env) level.segs p) (path_is (read_path env) level.use_ p j))
+
 pub path_is_level : (at : Spot) (x : AstPath) → answered_path at x ≡ path_level at x
 path_is_level at x = read_path_is at.answers x at.place
-
-pub segment_is_level : (at : Spot) (s : AstPathSegment) → answered_segment at s ≡ segment_level at s
-segment_is_level at s = read_segment_is at.answers s at.place

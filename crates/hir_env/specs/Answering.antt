@@ -1,6 +1,5 @@
 -- How the answers are written into one level of a tree. The steps ask; nothing above them does.
-use Rattle.std.specs.Prelude.{List, [], ◌∷◌, Bool, true, false, if◌then◌else◌, codes, bytes_eq}
-use Rattle.std.specs.Prelude.{Option, Some, None, Result, Ok, Err, option_map}
+use Rattle.std.specs.Prelude.{List, [], ◌∷◌, Bool, true, false, codes, Option, Some, None, Result, Ok, Err, option_map}
 use Rattle.hir_syntax.specs.declared.ast.UnaryOp.{UnaryOp}
 use Rattle.hir_syntax.specs.declared.ast.BinaryOp.{BinaryOp}
 use Rattle.hir_syntax.specs.declared.ast.BinaryOp.TheVariants as op
@@ -13,17 +12,13 @@ use Rattle.hir_store.specs.declared.hir.Rawness.TheVariants as raw
 use Rattle.hir_store.specs.declared.hir.Mutability.{Mutability}
 use Rattle.hir_store.specs.declared.hir.Mutability.TheVariants as mutable
 use Rattle.hir_syntax.specs.declared.node.NodeId.{NodeId}
-use Rattle.hir_syntax.specs.declared.node.TextRange.{TextRange}
 use Rattle.hir_syntax.specs.declared.node.AstPtr.{AstPtr}
 use Rattle.hir_syntax.specs.declared.ast.Name.{Name as AstName}
 use Rattle.hir_syntax.specs.declared.ast.Label.{Label as AstLabel}
 use Rattle.hir_syntax.specs.declared.ast.Lifetime.{Lifetime as AstLifetime}
-use Rattle.hir_syntax.specs.declared.ast.SegmentKind.{SegmentKind}
-use Rattle.hir_syntax.specs.declared.ast.SegmentKind.TheVariants as kind
 use Rattle.hir_syntax.specs.declared.ast.ElseBranch.TheOpen.{ElseBranch-F, ExprKind-F, StmtKind-F}
 use Rattle.hir_store.specs.Pointers.{Pointer}
 use Rattle.hir_store.specs.declared.ids.CfgId.{CfgId}
-use Rattle.hir_store.specs.declared.ids.CrateId.{CrateId}
 use Rattle.hir_store.specs.declared.ids.HygieneId.{HygieneId}
 use Rattle.hir_store.specs.declared.ids.BlockId.{BlockId}
 use Rattle.hir_store.specs.declared.ids.ModuleId.{ModuleId}
@@ -32,22 +27,13 @@ use Rattle.hir_store.specs.declared.name.Name.TheVariants as name
 use Rattle.hir_env.specs.declared.place.Place.{Place}
 use Rattle.hir_env.specs.declared.place.LoweringMode.{LoweringMode}
 use Rattle.hir_env.specs.declared.place.LoweringMode.TheVariants as mode
-use Rattle.hir_env.specs.NodeMap.{Site}
 use Rattle.hir_env.specs.Answers.{Answers}
+pub use Rattle.hir_env.specs.Spot.{in_file, ptr, site_of}
+use Rattle.hir_env.specs.Paths.{path_or_none, read_path}
 use Rattle.hir_env.specs.Layers.{BlockReading, StmtReading, Sorts, Reader, ElseBranchLayer, ExprKindLayer, StmtKindLayer}
-use Rattle.hir_env.specs.Layers.{BlockExprLayer, ExprLayer, PathLayer, PathSegmentLayer, StmtLayer}
+use Rattle.hir_env.specs.Layers.{BlockExprLayer, ExprLayer, StmtLayer}
 use Rattle.hir_env.specs.Answered as tree
-use Rattle.hir_env.specs.Answered.{Label, Jump, Path, OptionPath, Segments, Segment}
-use Rattle.hir_env.specs.Answered.{Expr, OptionExpr, Exprs, Block, OptionBlock, Stmts, Stmt}
-
-abbrev pub in_file : Place → AstPtr → Pointer
-in_file p n = record { file_id = p.file_id; value = n }
-
-abbrev pub ptr : NodeId → TextRange → AstPtr
-ptr id range = record { node = id; range = range }
-
-abbrev pub site_of : Pointer → Site
-site_of s = record { file_id = s.file_id; value = s.value.node }
+use Rattle.hir_env.specs.Answered.{Label, Jump, Expr, OptionExpr, Exprs, Block, OptionBlock, Stmts, Stmt}
 
 -- names and labels
 
@@ -96,26 +82,6 @@ abbrev pub truth : Option Bool → Literal
 truth (Some false) = record { lit = literal.Bool; t = codes "false"; suffix = None }
 truth _ = record { lit = literal.Bool; t = codes "true"; suffix = None }
 
--- paths
-
--- the root of the crate that `$crate` at the node stands for
-abbrev pub crate_root_at : Answers → Place → NodeId → Option CrateId
-crate_root_at env p id = env.crate_root (env.context (record { file_id = p.file_id; value = id }))
-
--- a name, or `$crate`
-abbrev pub named_segment : Answers → Place → Option AstName → Segment
-named_segment env p None = tree.broken_segment
-named_segment env p (Some n) =
-    if bytes_eq n.t (codes "$crate") then tree.dollar_crate_segment (crate_root_at env p n.id) else tree.name_segment (name.Text n.t)
-
-abbrev pub kinded_segment : Answers → Place → Option SegmentKind → Option AstName → Segment
-kinded_segment env p None n = tree.broken_segment
-kinded_segment env p (Some kind.Name) n = named_segment env p n
-kinded_segment env p (Some kind.SelfKw) n = tree.self_segment
-kinded_segment env p (Some kind.CrateKw) n = tree.crate_segment
-kinded_segment env p (Some kind.SuperKw) n = tree.super_segment
-kinded_segment env p (Some kind.SelfTypeKw) n = tree.self_type_segment
-
 -- blocks
 
 -- whether a block is unsafe, and its label, which counts only where no modifier stands
@@ -136,27 +102,6 @@ inside None p = p
 inside (Some n) p = record p { module_id = n.1 }
 
 -- parts that may be absent, and lists
-
-abbrev pub path_or_none : {A : Type 0} → (A → Place → Path) → Option A → Place → OptionPath
-path_or_none read None p = tree.no_path
-path_or_none read (Some x) p = tree.some_path (read x p)
-
-abbrev pub segment_or_absent : {A : Type 0} → (A → Place → Segment) → Option A → Place → Segment
-segment_or_absent read None p = tree.absent_segment
-segment_or_absent read (Some s) p = read s p
-
-abbrev pub segments_of : {A : Type 0} → (A → Place → Segment) → List (Option A) → Place → Segments
-segments_of read [] p = tree.no_segments
-segments_of read (s ∷ ss) p = tree.more_segments (segment_or_absent read s p) (segments_of read ss p)
-
--- a path without segments has one, which is absent
-abbrev pub first_of : {A : Type 0} → (A → Place → Segment) → List (Option A) → Place → Segment
-first_of read [] p = tree.absent_segment
-first_of read (s ∷ ss) p = segment_or_absent read s p
-
-abbrev pub rest_of : {A : Type 0} → (A → Place → Segment) → List (Option A) → Place → Segments
-rest_of read [] p = tree.no_segments
-rest_of read (s ∷ ss) p = segments_of read ss p
 
 abbrev pub expr_or_none : {A : Type 0} → (A → Place → Expr) → Option A → Place → OptionExpr
 expr_or_none read None p = tree.no_expr
@@ -193,12 +138,6 @@ asked s (Ok _) e = e
 asked s (Err by) e = tree.disabled_expr s by e
 
 module _ (env : Answers) {S : Sorts} (part : Reader S) where
-  abbrev pub path_step : PathLayer S → Place → Path
-  path_step x p = tree.path x.leading (first_of part.segment x.segs p) (rest_of part.segment x.segs p) (path_or_none part.path x.use_ p)
-
-  abbrev pub segment_step : PathSegmentLayer S → Place → Segment
-  segment_step s p = kinded_segment env p s.seg s.name
-
   abbrev pub else_branch : ElseBranchLayer S → Place → Expr
   else_branch (ElseBranch-F.ElseBlock b) p = tree.block_expr ((part.block_expr b).plain p)
   else_branch (ElseBranch-F.ElseIf e) p = part.expr e p
@@ -209,7 +148,7 @@ module _ (env : Answers) {S : Sorts} (part : Reader S) where
   expr_at (ExprKind-F.BlockExpr b) p s = (part.block_expr b).own p
   expr_at (ExprKind-F.LoopExpr l b) p s = tree.loop_expr s (option_map (label_of env p) l) (plain_or_none part.block_expr b p)
   expr_at (ExprKind-F.CallExpr f es) p s = tree.call_expr s (expr_or_none part.expr f p) (exprs_or_none part.expr es p)
-  expr_at (ExprKind-F.PathExpr x) p s = tree.path_expr s (path_or_none part.path x p) (env.hygiene (site_of s))
+  expr_at (ExprKind-F.PathExpr x) p s = tree.path_expr s (path_or_none (read_path env) x p) (env.hygiene (site_of s))
   expr_at (ExprKind-F.ContinueExpr l) p s = tree.continue_expr s (option_map (jump_of env p) l)
   expr_at (ExprKind-F.BreakExpr l e) p s = tree.break_expr s (option_map (jump_of env p) l) (expr_or_none part.expr e p)
   expr_at (ExprKind-F.ParenExpr e) p s = tree.paren_expr s (expr_or_none part.expr e p)

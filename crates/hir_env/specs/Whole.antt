@@ -6,12 +6,12 @@ use Rattle.hir_syntax.specs.declared.ast.StmtKind.{StmtKind as AstStmtKind, out-
 use Rattle.hir_syntax.specs.declared.ast.BlockExpr.{BlockExpr as AstBlockExpr, out-BlockExpr}
 use Rattle.hir_syntax.specs.declared.ast.Expr.{Expr as AstExpr}
 use Rattle.hir_syntax.specs.declared.ast.Path.{Path as AstPath, out-Path}
-use Rattle.hir_syntax.specs.declared.ast.PathSegment.{PathSegment as AstPathSegment, out-PathSegment}
+use Rattle.hir_syntax.specs.declared.ast.PathSegment.{PathSegment as AstPathSegment}
 use Rattle.hir_syntax.specs.declared.ast.Stmt.{Stmt as AstStmt}
 use Rattle.hir_syntax.specs.declared.ast.Label.{Label as AstLabel}
 use Rattle.hir_syntax.specs.declared.ast.Lifetime.{Lifetime as AstLifetime}
 use Rattle.hir_syntax.specs.declared.ast.ElseBranch.TheFolds.{fold-ElseBranch, fold-ExprKind, fold-StmtKind, fold-BlockExpr}
-use Rattle.hir_syntax.specs.declared.ast.ElseBranch.TheFolds.{fold-Expr, fold-Path, fold-PathSegment, fold-Stmt}
+use Rattle.hir_syntax.specs.declared.ast.ElseBranch.TheFolds.{fold-Expr, fold-Stmt}
 use Rattle.hir_syntax.specs.declared.node.NodeId.{NodeId}
 use Rattle.hir_syntax.specs.declared.node.TextRange.{TextRange}
 use Rattle.hir_store.specs.Pointers.{Pointer}
@@ -22,8 +22,8 @@ use Rattle.hir_store.specs.declared.ids.BlockId.{BlockId}
 use Rattle.hir_env.specs.Layers.{BlockReading, StmtReading, Sorts, Reader, readings, itself}
 use Rattle.hir_env.specs.Answering.{in_file, ptr, site_of, label_of, jump_of, modified, expr_or_none, plain_or_none, exprs_of}
 use Rattle.hir_env.specs.Answering.{exprs_or_none, numbered, inside, asked, else_branch, expr_at, expr_kind, expr_step}
-use Rattle.hir_env.specs.Answering.{block_step, stmt_at, stmt_kind, stmt_step, path_step, segment_step}
-use Rattle.hir_env.specs.Answering.{path_or_none, segment_or_absent, segments_of, first_of, rest_of}
+use Rattle.hir_env.specs.Answering.{block_step, stmt_at, stmt_kind, stmt_step}
+use Rattle.hir_env.specs.Paths.{path_or_none, segment_or_absent, segments_of, first_of, rest_of, read_segment, path_step, read_path}
 use Rattle.hir_env.specs.Answered as tree
 use Rattle.hir_env.specs.Answered.{Label, Jump, Path, OptionPath, Segments, Segment}
 use Rattle.hir_env.specs.Answered.{Expr, OptionExpr, Exprs, Block, OptionBlock, Stmts, Stmt}
@@ -35,59 +35,39 @@ written = record {
   StmtKind = AstStmtKind;
   BlockExpr = AstBlockExpr;
   Expr = AstExpr;
-  Path = AstPath;
-  PathSegment = AstPathSegment;
   Stmt = AstStmt;
 }
 
 module _ (env : Answers) where
   unfoldable pub read_else_branch : AstElseBranch → Place → Expr
-  read_else_branch = fold-ElseBranch readings.ElseBranch readings.ExprKind readings.StmtKind readings.BlockExpr readings.Expr
-      readings.Path readings.PathSegment readings.Stmt
-      (else_branch env itself) (expr_kind env itself) (stmt_kind env itself) (block_step env itself) (expr_step env itself)
-      (path_step env itself) (segment_step env itself) (stmt_step env itself)
-
-  unfoldable pub read_expr_kind : AstExprKind → AstPtr → Place → Expr
-  read_expr_kind = fold-ExprKind readings.ElseBranch readings.ExprKind readings.StmtKind readings.BlockExpr readings.Expr
-      readings.Path readings.PathSegment readings.Stmt
-      (else_branch env itself) (expr_kind env itself) (stmt_kind env itself) (block_step env itself) (expr_step env itself)
-      (path_step env itself) (segment_step env itself) (stmt_step env itself)
-
-  unfoldable pub read_stmt_kind : AstStmtKind → Place → StmtReading
-  read_stmt_kind = fold-StmtKind readings.ElseBranch readings.ExprKind readings.StmtKind readings.BlockExpr readings.Expr
-      readings.Path readings.PathSegment readings.Stmt
-      (else_branch env itself) (expr_kind env itself) (stmt_kind env itself) (block_step env itself) (expr_step env itself)
-      (path_step env itself) (segment_step env itself) (stmt_step env itself)
+  read_else_branch = fold-ElseBranch readings.ElseBranch readings.ExprKind readings.StmtKind readings.BlockExpr readings.Expr readings.Stmt
+      (else_branch env itself) (expr_kind env itself) (stmt_kind env itself)
+      (block_step env itself) (expr_step env itself) (stmt_step env itself)
 
   unfoldable pub read_block : AstBlockExpr → BlockReading
-  read_block = fold-BlockExpr readings.ElseBranch readings.ExprKind readings.StmtKind readings.BlockExpr readings.Expr
-      readings.Path readings.PathSegment readings.Stmt
-      (else_branch env itself) (expr_kind env itself) (stmt_kind env itself) (block_step env itself) (expr_step env itself)
-      (path_step env itself) (segment_step env itself) (stmt_step env itself)
+  read_block = fold-BlockExpr readings.ElseBranch readings.ExprKind readings.StmtKind readings.BlockExpr readings.Expr readings.Stmt
+      (else_branch env itself) (expr_kind env itself) (stmt_kind env itself)
+      (block_step env itself) (expr_step env itself) (stmt_step env itself)
 
   unfoldable pub read_expr : AstExpr → Place → Expr
-  read_expr = fold-Expr readings.ElseBranch readings.ExprKind readings.StmtKind readings.BlockExpr readings.Expr readings.Path
-      readings.PathSegment readings.Stmt
-      (else_branch env itself) (expr_kind env itself) (stmt_kind env itself) (block_step env itself) (expr_step env itself)
-      (path_step env itself) (segment_step env itself) (stmt_step env itself)
-
-  unfoldable pub read_path : AstPath → Place → Path
-  read_path = fold-Path readings.ElseBranch readings.ExprKind readings.StmtKind readings.BlockExpr readings.Expr readings.Path
-      readings.PathSegment readings.Stmt
-      (else_branch env itself) (expr_kind env itself) (stmt_kind env itself) (block_step env itself) (expr_step env itself)
-      (path_step env itself) (segment_step env itself) (stmt_step env itself)
-
-  unfoldable pub read_segment : AstPathSegment → Place → Segment
-  read_segment = fold-PathSegment readings.ElseBranch readings.ExprKind readings.StmtKind readings.BlockExpr readings.Expr
-      readings.Path readings.PathSegment readings.Stmt
-      (else_branch env itself) (expr_kind env itself) (stmt_kind env itself) (block_step env itself) (expr_step env itself)
-      (path_step env itself) (segment_step env itself) (stmt_step env itself)
+  read_expr = fold-Expr readings.ElseBranch readings.ExprKind readings.StmtKind readings.BlockExpr readings.Expr readings.Stmt
+      (else_branch env itself) (expr_kind env itself) (stmt_kind env itself)
+      (block_step env itself) (expr_step env itself) (stmt_step env itself)
 
   unfoldable pub read_stmt : AstStmt → Place → StmtReading
-  read_stmt = fold-Stmt readings.ElseBranch readings.ExprKind readings.StmtKind readings.BlockExpr readings.Expr readings.Path
-      readings.PathSegment readings.Stmt
-      (else_branch env itself) (expr_kind env itself) (stmt_kind env itself) (block_step env itself) (expr_step env itself)
-      (path_step env itself) (segment_step env itself) (stmt_step env itself)
+  read_stmt = fold-Stmt readings.ElseBranch readings.ExprKind readings.StmtKind readings.BlockExpr readings.Expr readings.Stmt
+      (else_branch env itself) (expr_kind env itself) (stmt_kind env itself)
+      (block_step env itself) (expr_step env itself) (stmt_step env itself)
+
+  unfoldable pub read_expr_kind : AstExprKind → readings.ExprKind
+  read_expr_kind = fold-ExprKind readings.ElseBranch readings.ExprKind readings.StmtKind readings.BlockExpr readings.Expr readings.Stmt
+      (else_branch env itself) (expr_kind env itself) (stmt_kind env itself)
+      (block_step env itself) (expr_step env itself) (stmt_step env itself)
+
+  unfoldable pub read_stmt_kind : AstStmtKind → Place → StmtReading
+  read_stmt_kind = fold-StmtKind readings.ElseBranch readings.ExprKind readings.StmtKind readings.BlockExpr readings.Expr readings.Stmt
+      (else_branch env itself) (expr_kind env itself) (stmt_kind env itself)
+      (block_step env itself) (expr_step env itself) (stmt_step env itself)
 
   abbrev pub reader : Reader written
   reader = record {
@@ -96,8 +76,6 @@ module _ (env : Answers) where
     stmt_kind = read_stmt_kind;
     block_expr = read_block;
     expr = read_expr;
-    path = read_path;
-    segment = read_segment;
     stmt = read_stmt;
   }
 
@@ -117,9 +95,6 @@ answered_else at e = read_else_branch at.answers e at.place
 
 abbrev pub answered_path : Spot → AstPath → Path
 answered_path at x = read_path at.answers x at.place
-
-abbrev pub answered_segment : Spot → AstPathSegment → Segment
-answered_segment at s = read_segment at.answers s at.place
 
 -- parts that may be absent, and lists
 abbrev pub expr_part : Spot → Option AstExpr → OptionExpr
@@ -199,8 +174,8 @@ block_level at head b =
 abbrev pub else_level : Spot → AstElseBranch → Expr
 else_level at e = else_branch at.answers (reader at.answers) (out-ElseBranch e) at.place
 
-abbrev pub path_level : Spot → AstPath → Path
-path_level at x = path_step at.answers (reader at.answers) (out-Path x) at.place
-
 abbrev pub segment_level : Spot → AstPathSegment → Segment
-segment_level at s = segment_step at.answers (reader at.answers) (out-PathSegment s) at.place
+segment_level at s = read_segment at.answers s at.place
+
+abbrev pub path_level : Spot → AstPath → Path
+path_level at x = path_step at.answers (read_path at.answers) (out-Path x) at.place
