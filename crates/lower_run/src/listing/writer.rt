@@ -101,7 +101,7 @@ impl Writer {
     fn mod_path(&mut self, path: &ModPath) -> Result<(), AllocError> {
         self.path_kind(path.kind)?;
         let mut before = match path.kind {
-            PathKind::Plain => "",
+            PathKind::Plain | PathKind::Abs => "",
             _ => "::",
         };
         for name in path.segments.as_slice() {
@@ -112,11 +112,11 @@ impl Writer {
         Ok(())
     }
 
-    /// Adds where a path begins: a keyword, `super` n times, a crate's root by its number. A leading `::` is that of the
-    /// first name.
+    /// Adds where a path begins: nothing or `::`, a keyword, `super` n times, or a crate's root by its number.
     fn path_kind(&mut self, kind: PathKind) -> Result<(), AllocError> {
         match kind {
-            PathKind::Plain | PathKind::Abs => Ok(()),
+            PathKind::Plain => Ok(()),
+            PathKind::Abs => self.word("::"),
             PathKind::Super(0) => self.word("self"),
             PathKind::Super(levels) => self.supers(levels),
             PathKind::Crate => self.word("crate"),
