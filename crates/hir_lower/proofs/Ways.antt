@@ -19,7 +19,7 @@ use Rattle.hir_env.specs.Answered.{Label, Jump}
 use Rattle.hir_scope.specs.Ribs.{Target, reachable, unreachable, undeclared, target}
 use Rattle.hir_lower_form.specs.Builder.{Builder}
 use Rattle.hir_lower_form.specs.Lowering.{Checked, go_on, Lowering, ◌>>=◌, pure, alloc_expr, point, report}
-use Rattle.hir_lower_form.specs.Lowering.{enter_block, open_label, close, jump_target, found_or_fault, open_as, report_await}
+use Rattle.hir_lower_form.specs.Lowering.{enter_block, open_label, close, jump_target, found_or_fault, open_as, report_await, count_out}
 use Rattle.hir_lower.specs.Stays.{LeadsOn}
 
 -- maps
@@ -149,6 +149,10 @@ makes h k = bound since (λ n m x le y. omega arith) h k
 
 pub leading_pure : {A : Type 0} (a : A) → Leading any (pure a)
 leading_pure a = record { goes = λ b. (went_same _ _ refl refl, tt) }
+
+pub leading_count_out : {A : Type 0} → Leading any (count_out {A})
+unfolding count_out
+leading_count_out = record { goes = λ b. went_same _ _ refl refl }
 
 pub leading_report : (d : ExpressionStoreDiagnostics) → Leading any (report d)
 unfolding report storing.report

@@ -1,12 +1,14 @@
 -- What a lowered constant and a lowered body are, in words of meaning.
-use Rattle.std.specs.Prelude.{◌≡◌, ◌≤◌, ◌+◌, ℕ, Bool, true, false, List, [], ◌∷◌, ◌++◌, length, Option, Some, None, IsPermutation}
+use Rattle.std.specs.Prelude.{◌≡◌, ◌≤◌, ◌+◌, ℕ, Bool, true, false, List, [], ◌∷◌, ◌++◌, length, map, Option, Some, None, IsPermutation}
 use Rattle.hir_syntax.specs.declared.node.AstPtr.{AstPtr}
 use Rattle.hir_syntax.specs.declared.ast.Expr.{Expr as AstExpr}
+use Rattle.hir_syntax.specs.declared.ast.Path.{Path as AstPath, out-Path}
 use Rattle.hir_store.specs.Pointers.{Pointer}
 use Rattle.hir_store.specs.Stored.{Store, SourceMap, Stored, store_of, map_of}
 use Rattle.hir_store.specs.Storing.{Extends, root_at}
 use Rattle.hir_store.specs.declared.ids.ExprId.{ExprId}
 use Rattle.hir_store.specs.declared.roots.ExprRoot.{ExprRoot}
+use Rattle.hir_store.specs.declared.path.Path.{Path}
 use Rattle.hir_store.specs.declared.ids.DefWithBodyId.{DefWithBodyId}
 use Rattle.hir_store.specs.declared.ids.DefWithBodyId.TheVariants as owner
 use Rattle.hir_store.specs.declared.ids.ItemContainerId.{ItemContainerId}
@@ -17,8 +19,11 @@ use Rattle.hir_store.specs.declared.diagnostics.ExpressionStoreDiagnostics.TheVa
 use Rattle.hir_env.specs.Spot.{Spot}
 use Rattle.hir_env.specs.Answering.{in_file}
 use Rattle.hir_env.specs.Answered as tree
-use Rattle.hir_env.specs.Answered.{OptionExpr}
-use Rattle.hir_env.specs.Whole.{expr_part}
+use Rattle.hir_env.specs.Answered.{OptionExpr, OptionPath}
+use Rattle.hir_env.specs.Whole.{answered_path, expr_part}
+use Rattle.hir_data.specs.Data.{path_names}
+use Rattle.hir_data.specs.Reading.{stored_path}
+use Rattle.hir_data.specs.Segments.{named_segments, none_missing, segment_name}
 use Rattle.hir_meaning.specs.Same.{SameMeaning}
 use Rattle.hir_same_meaning.specs.Reached.{Spread, reached_to}
 use Rattle.hir_steps.specs.Keeps.{Paired}
@@ -62,6 +67,19 @@ pub record HasBody (store : Store) (source_map : SourceMap) (e : OptionExpr) : T
   pub only : store.roots ≡ root ∷ []
   pub same : SameMeaning store source_map root.root e
   pub reached_once : (depth : ℕ) → length store.exprs ≤ depth → Spread 0 (length store.exprs) (reached_to store.exprs depth root.root)
+
+-- paths
+
+-- a path, with all that the environment says of it
+abbrev pub whole_path : Spot → AstPath → OptionPath
+whole_path at x = tree.some_path (answered_path at x)
+
+-- The names of a lowered path are those of the written segments that bear one, where no use tree stands around it and no
+-- segment is missing.
+abbrev pub BearsNames : AstPath → Option Path → Type 0
+BearsNames x None = Unit {0}
+BearsNames x (Some p) = (out-Path x).use_ ≡ None → none_missing (out-Path x).segs ≡ true
+    → map Some (path_names (stored_path p)) ≡ map segment_name (named_segments x)
 
 -- bodies of items
 

@@ -4,16 +4,20 @@ use Rattle.std.specs.declared.alloc.Global.{Global}
 use denote.Ref.{Bor, MutBor}
 use Rattle.hir_syntax.specs.declared.ast.Expr.{Expr as AstExpr}
 use Rattle.hir_syntax.specs.declared.ast.BlockExpr.{BlockExpr as AstBlockExpr}
+use Rattle.hir_syntax.specs.declared.ast.Path.{Path as AstPath}
 use Rattle.hir_store.specs.Stored.{Stored}
 use Rattle.hir_store.specs.Range.{HasExpr, HasExprOption, HasLabelOption}
 use Rattle.hir_store.specs.declared.ids.ExprId.{ExprId}
 use Rattle.hir_store.specs.declared.ids.LabelId.{LabelId}
 use Rattle.hir_env.specs.declared.place.Place.{Place}
 use Rattle.hir_env.specs.Answers.{Answers}
-use Rattle.hir_env.specs.Whole.{answered, answered_plain}
+use Rattle.hir_env.specs.Whole.{answered, answered_path, answered_plain}
 use Rattle.hir_lower_form.specs.Builder.{Builder}
 use Rattle.hir_lower_form.specs.Lowering.{Lowering, Checked, Lowers}
 use Rattle.hir_lower_form.specs.Lower.{lower_kept, lower_inside}
+use Rattle.hir_lower_form.specs.Methods.{ReadsPath}
+use Rattle.hir_lower_form.specs.declared.walk.PathWalk.{PathWalk}
+use Rattle.hir_lower_form.specs.declared.walk.Reading.{Reading}
 use Rattle.hir_lower.specs.Roots.{spot_at}
 
 -- what such a function requires and ensures, over an environment
@@ -28,6 +32,12 @@ BlockPre E = Global → Bor E → Place → MutBor Builder → Bool → Option L
 
 abbrev pub BlockPost : Type 0 → Type 1
 BlockPost E = Global → Bor E → Place → MutBor Builder → Bool → Option LabelId → Bor AstBlockExpr → Checked ExprId → MutBor Builder → Type 0
+
+abbrev pub PathPre : Type 0 → Type 1
+PathPre E = Global → Bor E → Place → MutBor Builder → PathWalk → Bor AstPath → Type 0
+
+abbrev pub PathPost : Type 0 → Type 1
+PathPost E = Global → Bor E → Place → MutBor Builder → PathWalk → Bor AstPath → Checked Reading → MutBor Builder → Type 0
 
 -- the function may be called on the expression, and then does what `node` says
 pub record Handles {E A : Type 0} (Has : Stored → A → Type 0) (node : Lowering A)
@@ -45,6 +55,14 @@ pub record HandlesBlock {E : Type 0} (answers : E → Answers)
       (n : Bor AstBlockExpr) (r : Checked ExprId)
       → v.now ≡ env → n.now ≡ b → post alloc v p old is_unsafe label n r new
       → Lowers HasExpr (lower_inside is_unsafe label (answered_plain (spot_at (answers env) p) b)) old.now r new.now
+
+pub record HandlesPath {E : Type 0} (answers : E → Answers)
+    (pre : PathPre E) (post : PathPost E) (env : E) (p : Place) (x : AstPath) : Type 0 where
+  pub callable : (alloc : Global) (v : Bor E) (old : MutBor Builder) (walk : PathWalk) (b : Bor AstPath)
+      → v.now ≡ env → b.now ≡ x → pre alloc v p old walk b
+  pub reads : (alloc : Global) (v : Bor E) (old new : MutBor Builder) (walk : PathWalk) (b : Bor AstPath) (r : Checked Reading)
+      → v.now ≡ env → b.now ≡ x → post alloc v p old walk b r new
+      → ReadsPath (answered_path (spot_at (answers env) p) x) walk old.now r new.now
 
 module _ {E : Type 0} (answers : E → Answers) where
   abbrev pub HandlesExpr : Pre E → Post E (Option ExprId) → E → Place → AstExpr → Type 0

@@ -1,7 +1,6 @@
 -- What the entry functions make of a tree.
 use Rattle.std.specs.Prelude.{◌≡◌, ℕ, Bool, true, false, [], Option, Some, None, Ok, Err}
 use Rattle.hir_store.specs.Stored.{Store, SourceMap, store_of, map_of}
-use Rattle.hir_store.specs.Storing.{SomeAtLimit}
 use Rattle.hir_store.specs.declared.fault.StoreFault.TheVariants.{Full}
 use Rattle.hir_lower_form.specs.Builder.{Builder}
 pub use Rattle.hir_lower_form.specs.Builder.{fresh}
@@ -25,7 +24,7 @@ use Rattle.hir_env.specs.Answering.{in_file}
 use Rattle.hir_env.specs.Whole.{expr_part}
 use Rattle.hir_env.specs.Answered as tree
 use Rattle.hir_env.specs.Answered.{OptionExpr}
-use Rattle.hir_lower_form.specs.Lowering.{Lowering, ◌>>=◌, ◌>>◌, pure, close_labels, report, record_root}
+use Rattle.hir_lower_form.specs.Lowering.{Lowering, SomeEnd, ◌>>=◌, ◌>>◌, pure, close_labels, report, record_root}
 use Rattle.hir_lower_form.specs.Lower.{ExprSteps, lower_part}
 use Rattle.hir_lower.specs.Means.{required_body, body_fault}
 
@@ -56,11 +55,11 @@ pub record StoresFromNothing {A : Type 0} (p : Lowering A) (limit : ℕ) (store 
   pub store_is : store ≡ store_of builder.stored
   pub source_map_is : source_map ≡ map_of builder.stored
 
--- the steps find no room in an arena of this limit, which they have filled by then
+-- the steps find no room in an arena of this limit, or no number more in a counter
 pub record RefusedAtLimit {A : Type 0} (p : Lowering A) (limit : ℕ) : Type 0 where
   pub builder : Builder
   pub refused : p (fresh limit) ≡ (Err Full, builder)
-  pub at_limit : SomeAtLimit builder.stored
+  pub at_end : SomeEnd builder
 
 -- read at a place
 

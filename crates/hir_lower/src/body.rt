@@ -152,7 +152,8 @@ fn body_steps<E: LowerEnv>(
 /// the one root; the source map leads from each written expression and label to what it became, and from nothing else;
 /// the numbers of blocks come in the order of entering; the diagnostics are those that body and tree owe. Each number in
 /// store and source map is in range. A skipped body is a missing expression and owes no fault. `Memory` where a growth
-/// was refused; `Full` only where the tree becomes more expressions or labels than the arenas have room for; never `Failed`.
+/// was refused; `Full` only where the tree becomes more expressions or labels than the arenas have room for, or a path in it
+/// has more `super`s than 32 bits count; never `Failed`.
 /// Until patterns come the caller hands in no parameters, and until inner bodies come neither flag.
 pub fn lower_body<E: LowerEnv>(
     alloc: Global,

@@ -1,21 +1,22 @@
 //! The collector, which lowers trees into one store and stops for good after its first error.
 
-ghost use Rattle.std.specs.Prelude.{◌≡◌, ◌≢◌, false, true, Err, IfOk, IsErrOf, IsOkAnd, option_copied};
+ghost use Rattle.std.specs.Prelude.{◌≡◌, ◌≢◌, false, true, Err, IfOk, IsErrOf, IsOkAnd, option_copied, option_map};
 ghost use Rattle.hir_store.specs.Range.{HasExpr, InRange};
 ghost use Rattle.hir_store.specs.Stored.{map_of, store_of};
-ghost use Rattle.hir_store.specs.Storing.{SomeAtLimit};
 ghost use Rattle.hir_env.specs.Whole.{expr_part};
-ghost use Rattle.hir_lower_form.specs.Lowering.{Lowers};
+ghost use Rattle.hir_data.specs.Reading.{stored_path};
+ghost use Rattle.hir_data.specs.Written.{overcounts, written_path};
+ghost use Rattle.hir_lower_form.specs.Lowering.{Lowers, SomeEnd};
 ghost use Rattle.hir_lower_form.specs.Methods.{LowersExprOpt};
 ghost use Rattle.hir_steps.specs.Keeps.{Paired};
 ghost use Rattle.hir_one_result.specs.Room.{TooLarge};
 ghost use Rattle.hir_lower.specs.Calls.{Calls};
-ghost use Rattle.hir_lower.specs.Means.{Rooted};
+ghost use Rattle.hir_lower.specs.Means.{BearsNames, Rooted, whole_path};
 ghost use Rattle.hir_lower.specs.Roots.{fresh, outside_body, root_of, spot_at};
 ghost use Rattle.hir_lower.specs.Stays.{Stays};
 
 use crate::error::LowerError;
-use crate::knot::collect_expr;
+use crate::knot::{collect_expr, lower_path};
 use hir_env::env::LowerEnv;
 use hir_env::place::{LoweringMode, Place};
 use hir_lower_form::builder::BodyBuilder;
@@ -23,6 +24,7 @@ use hir_store::builder::ExpressionStoreBuilder;
 use hir_store::diagnostics::AwaitLocation;
 use hir_store::fault::StoreFault;
 use hir_store::ids::{ExprId, ModuleId};
+use hir_store::path::Path;
 use hir_store::source_map::ExpressionStoreSourceMap;
 use hir_store::store::ExpressionStore;
 use hir_syntax::ast;
@@ -86,6 +88,25 @@ pub(crate) fn lower_root<E: LowerEnv>(
     ensures stays { result ≢ Err StoreFault.Memory → Stays state.old.stored state.new.stored }
 {
     root_steps(alloc, env, place, state, expr)
+}
+
+/// Lowers a path that stands alone.
+fn lower_whole_path<E: LowerEnv>(
+    alloc: Global,
+    env: &E,
+    place: Place,
+    state: &mut BodyBuilder,
+    path: &ast::Path,
+) -> Result<Option<Path>, StoreFault>
+    ensures data { let p = whole_path (spot_at (E.answers env.now) place) path.now in
+        IfOk result (λ r. option_map stored_path r ≡ written_path p) }
+    ensures segments { IfOk result (λ r. BearsNames path.now r) }
+    ensures full { IsErrOf result StoreFault.Full → SomeEnd state.new }
+    ensures too_large { let p = whole_path (spot_at (E.answers env.now) place) path.now in
+        IsErrOf result StoreFault.Full → overcounts p }
+    ensures stays { result ≢ Err StoreFault.Memory → state.new.stored ≡ state.old.stored }
+{
+    lower_path(alloc, env, place, state, path)
 }
 
 /// Lowers trees into one store.
@@ -162,14 +183,14 @@ impl<'db, E: LowerEnv> ExprCollector<'db, E> {
     ///
     /// In each later store its expression does what the constant does, for every answerer and every number of turns
     /// that a loop may take; what is stored stands for the tree, and faults, blocks and ways of the source map come
-    /// behind those of before. `Memory` where a growth was refused, `Full` where an arena has reached its limit and has no
-    /// room for the tree, `Failed` after an error, and then nothing changes. All that was stored is stored still, unless memory was
+    /// behind those of before. `Memory` where a growth was refused, `Full` where an arena has no room for the tree, or one of
+    /// its paths more `super`s than 32 bits count, `Failed` after an error, and then nothing changes. All that was stored is stored still, unless memory was
     /// refused, and a node leads to where it led, or to what came since.
     pub fn lower_const_arg(&mut self, arg: &ast::ConstArg) -> Result<ConstRef, LowerError>
         ensures calls { Calls self.old.failed self.old.state result self.new.state self.new.failed }
         ensures rooted { let e = expr_part (spot_at (E.answers self.old.db.now) self.old.place) arg.now.expr in
             IfOk result (λ c. Rooted self.old.state.stored self.new.state.stored c.expr e) }
-        ensures full { IsErrOf result LowerError.Full → SomeAtLimit self.new.state.stored }
+        ensures full { IsErrOf result LowerError.Full → SomeEnd self.new.state }
         ensures too_large { let e = expr_part (spot_at (E.answers self.old.db.now) self.old.place) arg.now.expr in
             IsErrOf result LowerError.Full → TooLarge self.old.state.stored e }
         ensures stays { result ≢ Err LowerError.Memory → Stays self.old.state.stored self.new.state.stored }
@@ -189,6 +210,34 @@ impl<'db, E: LowerEnv> ExprCollector<'db, E> {
         )?;
         self.failed = false;
         Ok(ConstRef { expr })
+    }
+
+    /// Lowers a path (upstream's function of this name), or answers none where a segment that is read refuses it.
+    ///
+    /// The path is read from its end to the first segment that ends it: its names, where it begins and how many `super`s
+    /// lead there are those of all segments that are read, the ones of use trees around it in front. Where no use tree
+    /// stands around it and no segment is missing, its names are those of the written segments that bear one. `Memory` where
+    /// a growth was refused, `Full` where more `super`s are read than 32 bits count, `Failed` after an error. What is stored
+    /// stays as it is, unless memory was refused.
+    pub fn lower_path(&mut self, path: &ast::Path) -> Result<Option<Path>, LowerError>
+        ensures calls { Calls self.old.failed self.old.state result self.new.state self.new.failed }
+        ensures data { let p = whole_path (spot_at (E.answers self.old.db.now) self.old.place) path.now in
+            IfOk result (λ r. option_map stored_path r ≡ written_path p) }
+        ensures segments { IfOk result (λ r. BearsNames path.now r) }
+        ensures full { IsErrOf result LowerError.Full → SomeEnd self.new.state }
+        ensures too_large { let p = whole_path (spot_at (E.answers self.old.db.now) self.old.place) path.now in
+            IsErrOf result LowerError.Full → overcounts p }
+        ensures stays { result ≢ Err LowerError.Memory → self.new.state.stored ≡ self.old.state.stored }
+        ensures db { self.new.db ≡ self.old.db }
+        ensures place { self.new.place ≡ self.old.place }
+    {
+        if self.failed {
+            return Err(LowerError::Failed);
+        }
+        self.failed = true;
+        let lowered = lower_whole_path(self.alloc, self.db, self.place, &mut self.state, path)?;
+        self.failed = false;
+        Ok(lowered)
     }
 
     /// What is stored so far, after an error too. Each number in it is in range.

@@ -1,0 +1,28 @@
+-- The rule, computed.
+use Rattle.std.proofs.Common.{refl}
+use Rattle.hir_data.specs.Worked.{SuperAfterSelf, KeywordsInside, CrateHidesSupers, DollarCrateIsARoot, SupersInside}
+use Rattle.hir_data.specs.Worked.{SelfAlone, UseTreesStandInFront, AbsentIsMissing}
+
+pub counts_super_after_self : SuperAfterSelf
+counts_super_after_self = refl
+
+pub refuses_keywords_inside : KeywordsInside
+refuses_keywords_inside = (refl, refl, refl)
+
+pub hides_supers_by_crate : CrateHidesSupers
+hides_supers_by_crate = (refl, refl)
+
+pub reads_dollar_crate : DollarCrateIsARoot
+reads_dollar_crate = (λ c. refl, refl)
+
+pub counts_supers_inside : SupersInside
+counts_supers_inside = refl
+
+pub reads_self_alone : SelfAlone
+reads_self_alone = (refl, refl)
+
+pub reads_use_trees_in_front : UseTreesStandInFront
+reads_use_trees_in_front = (refl, refl, refl)
+
+pub names_what_is_absent : AbsentIsMissing
+names_what_is_absent = (refl, refl, refl)

@@ -1,0 +1,6 @@
+pub mod Data
+pub mod Rule
+pub mod Written
+pub mod Reading
+pub mod Worked
+pub mod Segments

@@ -1,0 +1,5 @@
+use Rattle.hir_read_back.proofs.Walk.{path_law as proved}
+use Rattle.hir_read_back.proofs.path_law.Goals as goal
+
+pub returns : goal.returns
+returns c = proved
