@@ -4,7 +4,7 @@ use Rattle.serde_json.specs.Find.{get}
 use Rattle.hir_syntax.specs.declared.ast.Path.{Path, roll-Path}
 use Rattle.hir_syntax.specs.declared.ast.PathSegment.{PathSegment}
 use Rattle.hir_syntax.specs.declared.ast.SegmentKind.{SegmentKind}
-use Rattle.hir_syntax.specs.declared.ast.SegmentKind.TheVariants as segment
+use Rattle.hir_syntax.specs.declared.ast.SegmentKind.TheVariants as written
 use Rattle.json_kinds.specs.ByWord.{with_word}
 use Rattle.json_kinds.specs.declared.kind.Kind.{Kind}
 use Rattle.json_kinds.specs.declared.kind.Kind.TheVariants as kind
@@ -16,15 +16,15 @@ use Rattle.json_nodes.specs.declared.part.AnyPart.TheVariants as part
 
 -- the word of a kind of segments
 abbrev pub segment_word : SegmentKind → List ℕ
-segment_word segment.Name = codes "name"
-segment_word segment.SelfKw = codes "self"
-segment_word segment.CrateKw = codes "crate"
-segment_word segment.SuperKw = codes "super"
-segment_word segment.SelfTypeKw = codes "Self"
+segment_word written.Name = codes "name"
+segment_word written.SelfKw = codes "self"
+segment_word written.CrateKw = codes "crate"
+segment_word written.SuperKw = codes "super"
+segment_word written.SelfTypeKw = codes "Self"
 
 -- all kinds of segments
 abbrev pub segment_kinds : List SegmentKind
-segment_kinds = segment.Name ∷ segment.SelfKw ∷ segment.CrateKw ∷ segment.SuperKw ∷ segment.SelfTypeKw ∷ []
+segment_kinds = written.Name ∷ written.SelfKw ∷ written.CrateKw ∷ written.SuperKw ∷ written.SelfTypeKw ∷ []
 
 -- the kind of segments whose word it is
 abbrev pub segment_kind_of : List ℕ → Option SegmentKind
