@@ -32,7 +32,7 @@ fn segment_name(segment: &Option<PathSegment>) -> Option<&str> {
     }
 }
 
-fn segment(writer: &mut Writer, number: usize, name: &str) -> Result<(), AllocError> {
+fn segment_line(writer: &mut Writer, number: usize, name: &str) -> Result<(), AllocError> {
     writer.numbered("segment ", number)?;
     writer.word(" ")?;
     writer.word(name)?;
@@ -45,11 +45,11 @@ pub fn segments(writer: &mut Writer, segments: &[Option<PathSegment>]) -> Result
     let mut number: usize = 0;
     for segment in segments {
         if let Some(name) = segment_name(segment) {
-            segment(writer, number, name)?;
+            segment_line(writer, number, name)?;
             number += 1;
         }
     }
-    segment(writer, number, "None")
+    segment_line(writer, number, "None")
 }
 
 /// Adds a line for each of these labels, the k-th with the number k.
