@@ -2,12 +2,13 @@
 
 use super::words::{await_word, missing_body_word};
 use super::writer::Writer;
+use hir_lower::segment_name;
 use hir_store::diagnostics::ExpressionStoreDiagnostics;
 use hir_store::ids::{HygieneId, LabelId};
 use hir_store::path::Path;
 use hir_store::source_map::ExpressionStoreSourceMap;
 use hir_store::store::ExpressionStore;
-use hir_syntax::ast::{PathSegment, SegmentKind};
+use hir_syntax::ast::PathSegment;
 use hir_syntax::node::{AstPtr, InFile};
 use std::alloc::AllocError;
 
@@ -18,20 +19,6 @@ pub fn path(writer: &mut Writer, path: &Path) -> Result<(), AllocError> {
     writer.word("\n")
 }
 
-/// The name that a written segment stands for: its own, or `Self`. A keyword, `$crate` and what a text lacks stand for
-/// none.
-fn segment_name(segment: &Option<PathSegment>) -> Option<&str> {
-    let segment = segment.as_ref()?;
-    match segment.seg? {
-        SegmentKind::Name => match segment.name.as_ref()?.t.as_str() {
-            "$crate" => None,
-            name => Some(name),
-        },
-        SegmentKind::SelfTypeKw => Some("Self"),
-        SegmentKind::SelfKw | SegmentKind::CrateKw | SegmentKind::SuperKw => None,
-    }
-}
-
 fn segment_line(writer: &mut Writer, number: usize, name: &str) -> Result<(), AllocError> {
     writer.numbered("segment ", number)?;
     writer.word(" ")?;
@@ -39,12 +26,14 @@ fn segment_line(writer: &mut Writer, number: usize, name: &str) -> Result<(), Al
     writer.word("\n")
 }
 
-/// Adds a line for each written segment that stands for a name, the k-th with the number k, and one that says that there
+/// Adds a line for each written segment that bears a name, the k-th with the number k, and one that says that there
 /// are no more.
 pub fn segments(writer: &mut Writer, segments: &[Option<PathSegment>]) -> Result<(), AllocError> {
     let mut number: usize = 0;
     for segment in segments {
-        if let Some(name) = segment_name(segment) {
+        if let Some(segment) = segment
+            && let Some(name) = segment_name(segment)
+        {
             segment_line(writer, number, name)?;
             number += 1;
         }
