@@ -82,16 +82,9 @@ read_path_segments-path_node-requires g t c =
     let d = c.decreases in
     let env = g.E.LowerEnv.answers c.args.env.now in
     let size = ap count_path (path_is_level (spot_at env c.args.place) c.args.node.now) in
-    kids_path env (HandlesExpr g.E.LowerEnv.answers _ _ c.args.env.now) (HandlesBlock g.E.LowerEnv.answers _ _ c.args.env.now)
+    kids_path env (λ p e. Unit {0}) (λ p b. Unit {0})
     (HandlesPath g.E.LowerEnv.answers _ _ c.args.env.now) t
-    (λ p e h. record {
-      callable = λ alloc v old b same is. (rw same (rw is h), λ a m. m);
-      lowers = λ alloc v old new b r same is q. rw (← is) (rw (← same) q.2);
-    })
-    (λ p b h. record {
-      callable = λ alloc v old is_unsafe label n same is has. (rw same (rw is h), ((λ a m. m), has));
-      lowers = λ alloc v old new is_unsafe label n r same is q. rw (← is) (rw (← same) q.3);
-    })
+    (λ p e h. tt) (λ p b h. tt)
     (λ p x h. record {
       callable = λ alloc v old walk b same is. (rw same (rw is h), λ a m. m);
       reads = λ alloc v old new walk b r same is q. rw (← is) (rw (← same) q.3);
