@@ -63,7 +63,8 @@ read_segment env s p = kinded_segment env p s.seg s.name
 
 module _ (env : Answers) where
   abbrev pub path_step : {A : Type 0} → (A → Place → Path) → Path-F A → Place → Path
-  path_step read x p = tree.path x.leading (first_of (read_segment env) x.segs p) (rest_of (read_segment env) x.segs p) (path_or_none read x.use_ p)
+  path_step read x p = let segment = read_segment env in
+      tree.path x.leading (first_of segment x.segs p) (rest_of segment x.segs p) (path_or_none read x.use_ p)
 
   unfoldable pub read_path : AstPath → Place → Path
   read_path = fold-Path (Place → Path) (path_step (λ x. x))

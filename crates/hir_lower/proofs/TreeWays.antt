@@ -23,7 +23,8 @@ use Rattle.hir_lower_form.specs.Walks.{at_first}
 use Rattle.hir_lower_form.specs.Paths.{proceed, whole, counted, read_segment, read_each, read_path, read_option, lower_path}
 use Rattle.hir_lower_form.specs.Lower.{path_form, method_call_form, await_form, block_form, labelled, kept, lower, lower_part}
 use Rattle.hir_lower_form.specs.Lower.{present, kept_part, lower_each, lower_block, lower_block_part, lower_stmts, lower_stmt}
-use Rattle.hir_lower.proofs.Ways.{Leading, any, since, then', makes, leading_pure, leading_report, leading_block, leading_close, leading_count_out}
+use Rattle.hir_lower.proofs.Ways.{Leading, any, since, then', makes, leading_pure, leading_report, leading_block, leading_close}
+use Rattle.hir_lower.proofs.Ways.{leading_count_out}
 use Rattle.hir_lower.proofs.Ways.{leading_jump, leading_alloc, leading_open, leading_point, leading_closed, leading_report_await}
 
 missing_leads : Leading since missing

@@ -340,7 +340,7 @@ says_dollar l is c w h =
     (says_root l is (walks.crate_kind c) w h)
 
 first_says : (l : Bool) (s : Segment) (is : List Item) (w : PathWalk) (b : Builder) → Says is (Open w)
-    → After (item l (written.what true s) ∷ is) b (steps.read_segment true s (at_first l w) b).0 (steps.read_segment true s (at_first l w) b).1
+    → let o = steps.read_segment true s (at_first l w) b in After (item l (written.what true s) ∷ is) b o.0 o.1
 first_says l tree.absent_segment is w b h = (says_named l is missing_name w h, refl)
 first_says l tree.broken_segment is w b h = (says_refused (item l broken) is w refl h, refl)
 first_says l (tree.name_segment n) is w b h = (says_named l is n w h, refl)

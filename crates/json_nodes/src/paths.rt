@@ -63,10 +63,7 @@ pub fn path<P: ReadParts>(node: &Node<'_, P>) -> Result<Path, AllocError>
 }
 
 /// A path or a segment.
-pub fn of_path<P: ReadParts>(
-    node: &Node<'_, P>,
-    kind: Kind,
-) -> Result<Option<AnyPart>, AllocError>
+pub fn of_path<P: ReadParts>(node: &Node<'_, P>, kind: Kind) -> Result<Option<AnyPart>, AllocError>
     requires { P.can node.now.parts.now }
     ensures { IfOk result (λ part. part ≡ spec.of_path (here P.parts node.now) kind) }
 {
