@@ -1,7 +1,7 @@
 -- Without use trees only the first segment of a path can end its reading.
 use Rattle.std.proofs.Common.{◌≡◌, ◌∙◌, refl, sym, ap, subst, List, [], ◌∷◌, ◌++◌}
 use Rattle.std.proofs.Common.{Option, Some, None, Bool, true, false}
-use Rattle.std.specs.Prelude.{◌&&◌, ◌||◌, if◌then◌else◌, map, is_some, bytes_eq, codes}
+use Rattle.std.specs.Prelude.{◌&&◌, if◌then◌else◌, map, is_some, bytes_eq, codes}
 use Rattle.hir_syntax.specs.declared.ast.Name.{Name as AstName}
 use Rattle.hir_syntax.specs.declared.ast.Path.{Path as AstPath, out-Path}
 use Rattle.hir_syntax.specs.declared.ast.PathSegment.{PathSegment as AstSegment}
@@ -14,8 +14,8 @@ use Rattle.hir_env.specs.Answered as tree
 use Rattle.hir_env.specs.Answered.{Path, OptionPath, Segments, Segment}
 use Rattle.hir_env.specs.Paths.{crate_root_at, kinded_segment, read_segment}
 use Rattle.hir_env.specs.Whole.{answered_path, path_level, path_part, segments_part, first_part, rest_part}
-use Rattle.hir_env.proofs.Levels.{path_is_level}
-use Rattle.hir_data.specs.Data.{PathData, path_data, path_names}
+use Rattle.hir_env.proofs.PathLevels.{path_is_level}
+use Rattle.hir_data.specs.Data.{PathData, path_names}
 use Rattle.hir_data.specs.Rule as rule
 use Rattle.hir_data.specs.Rule.{Item, What, ends, ended, read, refused, names_of, data_of, data_read}
 use Rattle.hir_data.specs.Written.{what, items, segments, written_path}
@@ -81,6 +81,9 @@ segment_borne at first s = kinded_borne at first s.seg s.name
 
 -- ---- the names of all
 
+abbrev front : Bool → Segment → Item
+front leading s = record { leading = leading; what = what true s }
+
 one_more : (ns : List Name) (s : AstSegment) (ss : List AstSegment) → map Some ns ≡ map segment_name ss
     → map Some (borne (segment_name s) ++ ns) ≡ map segment_name (if is_some (segment_name s) then s ∷ ss else ss)
 one_more ns s ss e = by (segment_name s) refl
@@ -102,8 +105,7 @@ names_behind at (Some s ∷ ss) h =
     ∙ one_more (rule.names (items (segments_part at ss) [])) s (named_among ss) (names_behind at ss h)
 
 names_first : (at : Spot) (leading : Bool) (ss : List (Option AstSegment)) → none_missing ss ≡ true
-    → let i = record { leading = leading; what = what true (first_part at ss) } in
-    map Some (rule.names (i ∷ items (rest_part at ss) [])) ≡ map segment_name (named_among ss)
+    → map Some (rule.names (front leading (first_part at ss) ∷ items (rest_part at ss) [])) ≡ map segment_name (named_among ss)
 names_first at leading [] h = absurd (clash (sym h))
 names_first at leading (None ∷ ss) h = absurd (clash (sym h))
 names_first at leading (Some s ∷ ss) h =
@@ -112,24 +114,24 @@ names_first at leading (Some s ∷ ss) h =
 
 -- ---- the path
 
+abbrev said : Option PathData → List Name
+said None = []
+said (Some x) = path_names x
+
 named_by_read : (is : List Item) (d : PathData) → data_read is ≡ Some d → path_names d ≡ rule.names is
 named_by_read is d h = by (refused is) h
   where
-    abbrev said : Option PathData → List Name
-    said None = []
-    said (Some x) = path_names x
-
     by : (b : Bool) → (if b then None else Some (data_of is)) ≡ Some d → path_names d ≡ rule.names is
     by false e = sym (ap said e)
     by true e = absurd (clash (sym (ap is_some e)))
 
 level_named : (leading : Bool) (first : Segment) (rest : Segments) (use_ : OptionPath) (d : PathData) → use_ ≡ tree.no_path
     → written_path (tree.some_path (tree.path leading first rest use_)) ≡ Some d
-    → path_names d ≡ rule.names (record { leading = leading; what = what true first } ∷ items rest [])
+    → path_names d ≡ rule.names (front leading first ∷ items rest [])
 level_named leading first rest use_ d u e =
-    let i = record { leading = leading; what = what true first } in
-    let whole : read (segments (tree.path leading first rest use_) []) ≡ i ∷ items rest [] = rw u (read_all i rest) in
-    named_by_read (i ∷ items rest []) d (ap data_read (sym whole) ∙ e)
+    let is = front leading first ∷ items rest [] in
+    let whole : read (segments (tree.path leading first rest use_) []) ≡ is = rw u (read_all (front leading first) rest) in
+    named_by_read is d (ap data_read (sym whole) ∙ e)
 
 no_use : (at : Spot) (x : Option AstPath) → x ≡ None → path_part at x ≡ tree.no_path
 no_use at x h = ap (path_part at) h
@@ -139,7 +141,7 @@ pub segment_law : (at : Spot) (p : AstPath) (d : PathData) → (out-Path p).use_
 segment_law at p d u m e =
     let x = out-Path p in
     let level : written_path (tree.some_path (path_level at p)) ≡ Some d =
-        ap (λ y. written_path (tree.some_path y)) (sym (path_is_level at p)) ∙ e in
+    ap (λ y. written_path (tree.some_path y)) (sym (path_is_level at p)) ∙ e in
     ap (map Some) (level_named x.leading (first_part at x.segs) (rest_part at x.segs) (path_part at x.use_) d
-        (no_use at x.use_ u) level)
+    (no_use at x.use_ u) level)
     ∙ names_first at x.leading x.segs m

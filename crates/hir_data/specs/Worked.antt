@@ -1,5 +1,5 @@
 -- Worked paths.
-use Rattle.std.specs.Prelude.{◌≡◌, ℕ, codes, false, true, List, [], ◌∷◌, Option, Some, None}
+use Rattle.std.specs.Prelude.{◌≡◌, ℕ, codes, false, true, List, [], ◌∷◌, Some, None}
 use Rattle.hir_store.specs.declared.ids.CrateId.{CrateId}
 use Rattle.hir_store.specs.declared.name.Name.{Name}
 use Rattle.hir_store.specs.declared.name.Name.TheVariants as name
@@ -60,7 +60,7 @@ CrateHidesSupers =
 abbrev pub DollarCrateIsARoot : Type 0
 DollarCrateIsARoot =
     ((c : CrateId)
-        → becomes (whole (tree.dollar_crate_segment (Some c)) (word (codes "A") ∷ [])) (kind.DollarCrate c) (text (codes "A") ∷ []))
+    → becomes (whole (tree.dollar_crate_segment (Some c)) (word (codes "A") ∷ [])) (kind.DollarCrate c) (text (codes "A") ∷ []))
     × becomes (whole (tree.dollar_crate_segment None) (word (codes "A") ∷ [])) kind.Crate (text (codes "A") ∷ [])
 
 -- `A::super::B::super::super::C`

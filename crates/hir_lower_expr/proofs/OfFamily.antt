@@ -16,7 +16,7 @@ use Rattle.hir_syntax.specs.declared.ast.UnaryOp.{UnaryOp}
 use Rattle.hir_syntax.specs.declared.node.PredId.{PredId}
 use Rattle.hir_env.specs.Layers.{ExprKindLayer}
 use Rattle.hir_env.specs.Whole.{written}
-use Rattle.hir_lower_form.specs.Families.{IsControl, IsListing, IsAccess, IsOperator, IsLeaving, IsLeaf}
+use Rattle.hir_lower_form.specs.Families.{IsControl, IsListing, IsAccess, IsOperator, IsLeaving, IsTyped, IsLeaf}
 
 made : (k : AstExprKind) (l : ExprKindLayer written) → out-ExprKind k ≡ l → k ≡ roll-ExprKind l
 made k l h = sym (roll-out-ExprKind k) ∙ ap roll-ExprKind h
@@ -91,18 +91,23 @@ only_leaving k is no_return no_become no_yield no_yeet = by (out-ExprKind k) ref
     by (ExprKind-F.YeetExpr e) h is = no_yeet e (made k _ h ∙ kind.rolls-YeetExpr e)
     by _ h is = is
 
+pub only_typed : (k : AstExprKind) → IsTyped (out-ExprKind k) → ((x : Option AstPath) → k ≡ kind.PathExpr x → ⊥) → ⊥
+only_typed k is no_path = by (out-ExprKind k) refl is
+  where
+    by : (l : ExprKindLayer written) → out-ExprKind k ≡ l → IsTyped l → ⊥
+    by (ExprKind-F.PathExpr x) h is = no_path x (made k _ h ∙ kind.rolls-PathExpr x)
+    by _ h is = is
+
 pub only_leaf : (k : AstExprKind) → IsLeaf (out-ExprKind k)
-    → ((x : Option AstPath) → k ≡ kind.PathExpr x → ⊥)
     → ((l : AstLiteral) → k ≡ kind.Literal l → ⊥)
     → ((pred : Option PredId) → k ≡ kind.CfgPredExpr pred → ⊥)
     → (k ≡ kind.UnderscoreExpr → ⊥)
     → (k ≡ kind.IncludeBytesExpr → ⊥)
     → (k ≡ kind.AsmExpr → ⊥)
     → (k ≡ kind.FormatArgsExpr → ⊥) → ⊥
-only_leaf k is no_path no_literal no_cfgpred no_underscore no_includebytes no_asm no_formatargs = by (out-ExprKind k) refl is
+only_leaf k is no_literal no_cfgpred no_underscore no_includebytes no_asm no_formatargs = by (out-ExprKind k) refl is
   where
     by : (l : ExprKindLayer written) → out-ExprKind k ≡ l → IsLeaf l → ⊥
-    by (ExprKind-F.PathExpr x) h is = no_path x (made k _ h ∙ kind.rolls-PathExpr x)
     by (ExprKind-F.Literal l) h is = no_literal l (made k _ h ∙ kind.rolls-Literal l)
     by (ExprKind-F.CfgPredExpr pred) h is = no_cfgpred pred (made k _ h ∙ kind.rolls-CfgPredExpr pred)
     by ExprKind-F.UnderscoreExpr h is = no_underscore (made k _ h ∙ kind.rolls-UnderscoreExpr)

@@ -56,7 +56,7 @@ fn collect_stmt<P: LowerParts>(
     state: &mut BodyBuilder,
     node: &ast::Stmt,
 ) -> Result<Option<Statement>, StoreFault>
-    requires { KidsStmt (P.can lowerer.now.parts) (out-StmtKind node.now.kind) }
+    requires { KidsStmt (P.can lowerer.now.parts) (P.spot lowerer.now.parts).place (out-StmtKind node.now.kind) }
     ensures { LowersStmt (stmt_level (P.spot lowerer.now.parts) node.now) state.old result state.new }
 {
     match &node.kind {
@@ -78,7 +78,7 @@ fn collect_stmts<P: LowerParts>(
     state: &mut BodyBuilder,
     mut all: &[ast::Stmt],
 ) -> Result<Seq<Statement>, StoreFault>
-    requires { Each (λ s. KidsStmt (P.can lowerer.now.parts) (out-StmtKind s.kind)) all.now }
+    requires { Each (λ s. KidsStmt (P.can lowerer.now.parts) (P.spot lowerer.now.parts).place (out-StmtKind s.kind)) all.now }
     ensures { LowersStmts (stmts_part (P.spot lowerer.now.parts) all.entry.now) state.old result state.new }
 {
     let mut done = Seq::new(lowerer.alloc);
@@ -97,7 +97,7 @@ fn flat_contents<P: LowerParts>(
     state: &mut BodyBuilder,
     node: &ast::BlockExpr,
 ) -> Result<(Seq<Statement>, Option<ExprId>), StoreFault>
-    requires { KidsBlock (P.can lowerer.now.parts) (out-BlockExpr node.now) }
+    requires { KidsBlock (P.can lowerer.now.parts) (P.spot lowerer.now.parts).place (out-BlockExpr node.now) }
     ensures { let block = out-BlockExpr node.now in
         let spot = P.spot lowerer.now.parts in
         let tail = spec.kept_part (expr_part spot block.tail) in
@@ -114,7 +114,7 @@ fn contents<P: LowerParts>(
     state: &mut BodyBuilder,
     node: &ast::BlockExpr,
 ) -> Result<(Seq<Statement>, Option<ExprId>), StoreFault>
-    requires { KidsBlock (P.can lowerer.now.parts) (out-BlockExpr node.now) }
+    requires { KidsBlock (P.can lowerer.now.parts) (P.spot lowerer.now.parts).place (out-BlockExpr node.now) }
     ensures { Lowers HasContents (contents_at (P.spot lowerer.now.parts) node.now) state.old result state.new }
 {
     flat_contents(lowerer, state, node)
@@ -130,7 +130,7 @@ pub fn block_node<P: LowerParts>(
     number: Option<BlockId>,
     node: &ast::BlockExpr,
 ) -> Result<ExprId, StoreFault>
-    requires parts { KidsBlock (P.can lowerer.now.parts) (out-BlockExpr node.now) }
+    requires parts { KidsBlock (P.can lowerer.now.parts) (P.spot lowerer.now.parts).place (out-BlockExpr node.now) }
     requires label { HasLabelOption state.old.stored label }
     ensures { Lowers HasExpr (block_steps_at (P.spot lowerer.now.parts) is_unsafe label number node.now) state.old result state.new }
 {

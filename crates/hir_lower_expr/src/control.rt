@@ -19,7 +19,7 @@ fn else_node<P: LowerParts>(
     state: &mut BodyBuilder,
     part: &ast::ElseBranch,
 ) -> Result<ExprId, StoreFault>
-    requires { KidsElse (P.can lowerer.now.parts) (out-ElseBranch part.now) }
+    requires { KidsElse (P.can lowerer.now.parts) (P.spot lowerer.now.parts).place (out-ElseBranch part.now) }
     ensures { LowersExpr (else_level (P.spot lowerer.now.parts) part.now) state.old result state.new }
 {
     match part {
@@ -33,7 +33,7 @@ fn else_branch<P: LowerParts>(
     state: &mut BodyBuilder,
     part: &ast::ElseBranch,
 ) -> Result<ExprId, StoreFault>
-    requires { KidsElse (P.can lowerer.now.parts) (out-ElseBranch part.now) }
+    requires { KidsElse (P.can lowerer.now.parts) (P.spot lowerer.now.parts).place (out-ElseBranch part.now) }
     ensures { LowersExpr (answered_else (P.spot lowerer.now.parts) part.now) state.old result state.new }
 {
     else_node(lowerer, state, part)
@@ -44,7 +44,7 @@ fn else_if_present<P: LowerParts>(
     state: &mut BodyBuilder,
     part: &Option<ast::ElseBranch>,
 ) -> Result<Option<ExprId>, StoreFault>
-    requires { IfPresent (λ e. KidsElse (P.can lowerer.now.parts) (out-ElseBranch e)) part.now }
+    requires { IfPresent (λ e. KidsElse (P.can lowerer.now.parts) (P.spot lowerer.now.parts).place (out-ElseBranch e)) part.now }
     ensures { LowersIfPresent (else_part (P.spot lowerer.now.parts) part.now) state.old result state.new }
 {
     match part {
@@ -65,7 +65,7 @@ pub(crate) fn if_form<P: LowerParts>(
 ) -> Result<ExprId, StoreFault>
     requires condition { IfPresent (P.can lowerer.now.parts).expr condition.now }
     requires then { IfPresent (P.can lowerer.now.parts).block then.now }
-    requires else_ { IfPresent (λ e. KidsElse (P.can lowerer.now.parts) (out-ElseBranch e)) else_.now }
+    requires else_ { IfPresent (λ e. KidsElse (P.can lowerer.now.parts) (P.spot lowerer.now.parts).place (out-ElseBranch e)) else_.now }
     ensures { LowersExpr (tree.if_expr at
         (expr_part (P.spot lowerer.now.parts) condition.now)
         (block_part (P.spot lowerer.now.parts) then.now)

@@ -7,6 +7,7 @@ ghost use Rattle.hir_lower_form.specs.Methods.{LowersExpr, MaybeLowersExpr};
 
 use crate::families::{
     access_kind, control_kind, leaf_kind, leaving_kind, listing_kind, operator_kind,
+    typed_kind,
 };
 use hir_lower_form::builder::BodyBuilder;
 use hir_lower_form::parts::{LowerParts, Lowerer, site};
@@ -21,7 +22,7 @@ fn expr_form<P: LowerParts>(
     state: &mut BodyBuilder,
     node: &ast::Expr,
 ) -> Result<ExprId, StoreFault>
-    requires { KidsExpr (P.can lowerer.now.parts) (out-ExprKind node.now.kind) }
+    requires { KidsExpr (P.can lowerer.now.parts) (P.spot lowerer.now.parts).place (out-ExprKind node.now.kind) }
     ensures { LowersExpr (kept_expr (P.spot lowerer.now.parts) node.now) state.old result state.new }
 {
     let at = lowerer.pointer(node.id, node.range);
@@ -46,8 +47,8 @@ fn expr_form<P: LowerParts>(
         | ast::ExprKind::BecomeExpr { .. }
         | ast::ExprKind::YieldExpr { .. }
         | ast::ExprKind::YeetExpr { .. } => leaving_kind(lowerer, state, at, &node.kind),
-        ast::ExprKind::PathExpr { .. }
-        | ast::ExprKind::Literal(_)
+        ast::ExprKind::PathExpr { .. } => typed_kind(lowerer, state, at, &node.kind),
+        ast::ExprKind::Literal(_)
         | ast::ExprKind::CfgPredExpr { .. }
         | ast::ExprKind::UnderscoreExpr
         | ast::ExprKind::IncludeBytesExpr
@@ -63,7 +64,7 @@ pub fn expr_node<P: LowerParts>(
     state: &mut BodyBuilder,
     node: &ast::Expr,
 ) -> Result<Option<ExprId>, StoreFault>
-    requires { KidsExpr (P.can lowerer.now.parts) (out-ExprKind node.now.kind) }
+    requires { KidsExpr (P.can lowerer.now.parts) (P.spot lowerer.now.parts).place (out-ExprKind node.now.kind) }
     ensures { MaybeLowersExpr (asked_expr (P.spot lowerer.now.parts) node.now) state.old result state.new }
 {
     let at = lowerer.pointer(node.id, node.range);

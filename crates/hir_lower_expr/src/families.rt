@@ -1,7 +1,7 @@
 //! The kinds of expressions by family: a function that takes all kinds apart would be too much for one proof.
 
 ghost use Rattle.hir_syntax.specs.declared.ast.ExprKind.{out-ExprKind};
-ghost use Rattle.hir_lower_form.specs.Families.{IsControl, IsLeaf, IsLeaving, IsListing, IsOperator, IsAccess};
+ghost use Rattle.hir_lower_form.specs.Families.{IsAccess, IsControl, IsLeaf, IsLeaving, IsListing, IsOperator, IsTyped};
 ghost use Rattle.hir_lower_form.specs.Nests.{KidsExpr};
 ghost use Rattle.hir_lower_form.specs.Methods.{LowersExpr, kind_at};
 
@@ -10,13 +10,14 @@ use crate::calls::{call_form, method_call_form, paren_form};
 use crate::control::{if_form, loop_form};
 use crate::jumps::{break_form, continue_form};
 use crate::leaves::{
-    include_bytes_form, left_out_form, literal_form, path_form, predicate_form, underscore_form,
+    include_bytes_form, left_out_form, literal_form, predicate_form, underscore_form,
 };
 use crate::leaving::{become_form, return_form, yeet_form, yield_form};
 use crate::lists::{array_form, tuple_form};
 use crate::operators::{
     await_form, binary_form, field_form, index_form, prefix_form, reference_form,
 };
+use crate::typed::path_form;
 use hir_lower_form::builder::BodyBuilder;
 use hir_lower_form::parts::{LowerParts, Lowerer};
 use hir_store::fault::StoreFault;
@@ -33,7 +34,7 @@ pub(crate) fn control_kind<P: LowerParts>(
     kind: &ast::ExprKind,
 ) -> Result<ExprId, StoreFault>
     requires family { IsControl (out-ExprKind kind.now) }
-    requires parts { KidsExpr (P.can lowerer.now.parts) (out-ExprKind kind.now) }
+    requires parts { KidsExpr (P.can lowerer.now.parts) (P.spot lowerer.now.parts).place (out-ExprKind kind.now) }
     ensures { LowersExpr (kind_at (P.spot lowerer.now.parts) at kind.now) state.old result state.new }
 {
     match kind {
@@ -61,7 +62,7 @@ pub(crate) fn listing_kind<P: LowerParts>(
     kind: &ast::ExprKind,
 ) -> Result<ExprId, StoreFault>
     requires family { IsListing (out-ExprKind kind.now) }
-    requires parts { KidsExpr (P.can lowerer.now.parts) (out-ExprKind kind.now) }
+    requires parts { KidsExpr (P.can lowerer.now.parts) (P.spot lowerer.now.parts).place (out-ExprKind kind.now) }
     ensures { LowersExpr (kind_at (P.spot lowerer.now.parts) at kind.now) state.old result state.new }
 {
     match kind {
@@ -89,7 +90,7 @@ pub(crate) fn access_kind<P: LowerParts>(
     kind: &ast::ExprKind,
 ) -> Result<ExprId, StoreFault>
     requires family { IsAccess (out-ExprKind kind.now) }
-    requires parts { KidsExpr (P.can lowerer.now.parts) (out-ExprKind kind.now) }
+    requires parts { KidsExpr (P.can lowerer.now.parts) (P.spot lowerer.now.parts).place (out-ExprKind kind.now) }
     ensures { LowersExpr (kind_at (P.spot lowerer.now.parts) at kind.now) state.old result state.new }
 {
     match kind {
@@ -112,7 +113,7 @@ pub(crate) fn operator_kind<P: LowerParts>(
     kind: &ast::ExprKind,
 ) -> Result<ExprId, StoreFault>
     requires family { IsOperator (out-ExprKind kind.now) }
-    requires parts { KidsExpr (P.can lowerer.now.parts) (out-ExprKind kind.now) }
+    requires parts { KidsExpr (P.can lowerer.now.parts) (P.spot lowerer.now.parts).place (out-ExprKind kind.now) }
     ensures { LowersExpr (kind_at (P.spot lowerer.now.parts) at kind.now) state.old result state.new }
 {
     match kind {
@@ -132,7 +133,7 @@ pub(crate) fn leaving_kind<P: LowerParts>(
     kind: &ast::ExprKind,
 ) -> Result<ExprId, StoreFault>
     requires family { IsLeaving (out-ExprKind kind.now) }
-    requires parts { KidsExpr (P.can lowerer.now.parts) (out-ExprKind kind.now) }
+    requires parts { KidsExpr (P.can lowerer.now.parts) (P.spot lowerer.now.parts).place (out-ExprKind kind.now) }
     ensures { LowersExpr (kind_at (P.spot lowerer.now.parts) at kind.now) state.old result state.new }
 {
     match kind {
@@ -140,6 +141,24 @@ pub(crate) fn leaving_kind<P: LowerParts>(
         ast::ExprKind::BecomeExpr { expr } => become_form(lowerer, state, at, expr),
         ast::ExprKind::YieldExpr { expr } => yield_form(lowerer, state, at, expr),
         ast::ExprKind::YeetExpr { expr } => yeet_form(lowerer, state, at, expr),
+        _ => unreachable!(),
+    }
+}
+
+/// What has a path.
+#[tactic(auto, using(crate::proofs::OfFamily::only_typed))]
+pub(crate) fn typed_kind<P: LowerParts>(
+    lowerer: &Lowerer<P>,
+    state: &mut BodyBuilder,
+    at: InFile<AstPtr>,
+    kind: &ast::ExprKind,
+) -> Result<ExprId, StoreFault>
+    requires family { IsTyped (out-ExprKind kind.now) }
+    requires parts { KidsExpr (P.can lowerer.now.parts) (P.spot lowerer.now.parts).place (out-ExprKind kind.now) }
+    ensures { LowersExpr (kind_at (P.spot lowerer.now.parts) at kind.now) state.old result state.new }
+{
+    match kind {
+        ast::ExprKind::PathExpr { path } => path_form(lowerer, state, at, path),
         _ => unreachable!(),
     }
 }
@@ -153,11 +172,10 @@ pub(crate) fn leaf_kind<P: LowerParts>(
     kind: &ast::ExprKind,
 ) -> Result<ExprId, StoreFault>
     requires family { IsLeaf (out-ExprKind kind.now) }
-    requires parts { KidsExpr (P.can lowerer.now.parts) (out-ExprKind kind.now) }
+    requires parts { KidsExpr (P.can lowerer.now.parts) (P.spot lowerer.now.parts).place (out-ExprKind kind.now) }
     ensures { LowersExpr (kind_at (P.spot lowerer.now.parts) at kind.now) state.old result state.new }
 {
     match kind {
-        ast::ExprKind::PathExpr { path } => path_form(lowerer, state, at, path),
         ast::ExprKind::Literal(written) => literal_form(lowerer, state, at, written),
         ast::ExprKind::CfgPredExpr { pred } => predicate_form(lowerer, state, at, *pred),
         ast::ExprKind::UnderscoreExpr => underscore_form(lowerer, state, at),

@@ -1,32 +1,17 @@
 //! Expressions without parts.
 
-ghost use Rattle.std.specs.Prelude.{option_map};
 ghost use Rattle.hir_env.specs.Answered as tree;
-ghost use Rattle.hir_env.specs.Answering.{path_of, site_of, truth};
+ghost use Rattle.hir_env.specs.Answering.{truth};
 ghost use Rattle.hir_lower_form.specs.Methods.{LowersExpr};
 
 use hir_lower_form::builder::BodyBuilder;
-use hir_lower_form::names::{literal, path_expr, truth_literal};
-use hir_lower_form::parts::{LowerParts, Lowerer, site};
+use hir_lower_form::names::{literal, truth_literal};
+use hir_lower_form::parts::{LowerParts, Lowerer};
 use hir_store::fault::StoreFault;
 use hir_store::hir::Expr;
 use hir_store::ids::ExprId;
 use hir_syntax::ast;
 use hir_syntax::node::{AstPtr, InFile, PredId};
-
-pub(crate) fn path_form<P: LowerParts>(
-    lowerer: &Lowerer<P>,
-    state: &mut BodyBuilder,
-    at: InFile<AstPtr>,
-    path: &Option<ast::Path>,
-) -> Result<ExprId, StoreFault>
-    ensures { let hygiene = (P.spot lowerer.now.parts).answers.hygiene (site_of at) in
-        LowersExpr (tree.path_expr at (option_map path_of path.now) hygiene) state.old result state.new }
-{
-    let hygiene = lowerer.parts.hygiene(site(at));
-    let expr = path_expr(lowerer.alloc, path, hygiene)?;
-    state.alloc_expr(expr, Some(at))
-}
 
 pub(crate) fn literal_form<P: LowerParts>(
     lowerer: &Lowerer<P>,

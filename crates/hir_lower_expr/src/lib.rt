@@ -12,3 +12,4 @@ mod leaves;
 mod leaving;
 mod lists;
 mod operators;
+mod typed;

@@ -1,18 +1,19 @@
 -- What lowering works on.
-use Rattle.std.specs.Prelude.{ℕ, suc, ◌≤◌, max, List, [], ◌∷◌, length}
+use Rattle.std.specs.Prelude.{Bool, false, ℕ, suc, ◌≤◌, max, List, [], ◌∷◌, length}
 use Rattle.hir_store.specs.Stored.{Stored}
 use Rattle.hir_store.specs.Storing.{empty}
 use Rattle.hir_store.specs.declared.ids.LabelId.{LabelId}
 use Rattle.hir_scope.specs.Ribs.{Rib, label_rib, macro_rib, barrier_rib}
 
--- what is stored, and what is open, innermost first
+-- what is stored, what is open, innermost first, and whether a counter came to its end
 pub record Builder : Type 0 where
   pub stored : Stored
   pub scopes : List (Rib LabelId)
+  pub counted_out : Bool
 
--- nothing is stored and no label is open
+-- nothing is stored, no label is open and no counter is at its end
 abbrev pub fresh : ℕ → Builder
-fresh limit = record { stored = empty limit; scopes = [] }
+fresh limit = record { stored = empty limit; scopes = []; counted_out = false }
 
 -- the least number above those of the labels
 abbrev pub past_ribs : List (Rib LabelId) → ℕ

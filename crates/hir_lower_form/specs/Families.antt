@@ -43,9 +43,13 @@ IsLeaving (ExprKind-F.YieldExpr e) = Unit {0}
 IsLeaving (ExprKind-F.YeetExpr e) = Unit {0}
 IsLeaving _ = ⊥
 
+-- with a path
+abbrev pub IsTyped : ExprKindLayer written → Type 0
+IsTyped (ExprKind-F.PathExpr x) = Unit {0}
+IsTyped _ = ⊥
+
 -- without a part
 abbrev pub IsLeaf : ExprKindLayer written → Type 0
-IsLeaf (ExprKind-F.PathExpr x) = Unit {0}
 IsLeaf (ExprKind-F.Literal l) = Unit {0}
 IsLeaf (ExprKind-F.CfgPredExpr pred) = Unit {0}
 IsLeaf ExprKind-F.UnderscoreExpr = Unit {0}

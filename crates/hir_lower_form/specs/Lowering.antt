@@ -1,12 +1,12 @@
 -- The steps of lowering: each answers a value, or is refused because an arena is full, and leaves what is stored by then.
-use Rattle.std.specs.Prelude.{◌≡◌, ◌≢◌, [], ◌∷◌, Option, Some, None, Ok, Err}
+use Rattle.std.specs.Prelude.{◌≡◌, ◌≢◌, ◌⊎◌, true, [], ◌∷◌, Option, Some, None, Ok, Err}
 use Rattle.hir_store.specs.Pointers.{Pointer}
 use Rattle.hir_store.specs.Stored.{Stored}
 use Rattle.hir_store.specs.Range.{Grows}
 use Rattle.hir_store.specs.Storing as storing
 use Rattle.hir_store.specs.Storing.{Storing, SomeAtLimit}
 pub use Rattle.hir_store.specs.Storing.{Checked}
-use Rattle.hir_store.specs.declared.fault.StoreFault.TheVariants.{Memory}
+use Rattle.hir_store.specs.declared.fault.StoreFault.TheVariants.{Memory, Full}
 use Rattle.hir_store.specs.declared.hir.Expr.{Expr}
 use Rattle.hir_store.specs.declared.ids.ExprId.{ExprId}
 use Rattle.hir_store.specs.declared.ids.LabelId.{LabelId}
@@ -63,6 +63,10 @@ enter_block (Some b) = stored (storing.enter_block b)
 unfoldable pub record_root : ExprId → Lowering (Unit {0})
 record_root root = stored (storing.record_root root)
 
+-- a counter is at its end
+unfoldable pub count_out : {A : Type 0} → Lowering A
+count_out = λ b. (Err Full, record b { counted_out = true })
+
 abbrev pub open_as : Label → LabelId → Lowering (Unit {0})
 open_as l id = λ b. (Ok tt, record b { scopes = label_rib l.name l.hygiene id ∷ b.scopes })
 
@@ -95,8 +99,12 @@ unfoldable pub jump_target : Option Jump → Lowering (Option LabelId)
 jump_target None = pure None
 jump_target (Some j) = λ b. found_or_fault j (target j b.scopes) b
 
+-- an arena has reached its limit, or a counter its end
+abbrev pub SomeEnd : Builder → Type 0
+SomeEnd b = SomeAtLimit b.stored ⊎ (b.counted_out ≡ true)
+
 -- What the steps answer and leave, unless memory was refused. What is answered exists, and no arena is shorter than it
--- was; where there is no room an arena has reached its limit.
+-- was; where there is no room some end is reached.
 abbrev pub Lowers : {A : Type 0} → (Stored → A → Type 0) → Lowering A → Builder → Checked A → Builder → Type 0
 Lowers Has p old (Ok a) new = (p old ≡ (Ok a, new)) × Grows old.stored new.stored × Has new.stored a
-Lowers Has p old (Err e) new = e ≢ Memory → (p old ≡ (Err e, new)) × SomeAtLimit new.stored
+Lowers Has p old (Err e) new = e ≢ Memory → (p old ≡ (Err e, new)) × SomeEnd new

@@ -12,9 +12,14 @@ use Rattle.hir_store.specs.Pointers.{Pointer}
 use Rattle.hir_env.specs.Spot.{Spot}
 use Rattle.hir_env.specs.Answering.{expr_at}
 use Rattle.hir_env.specs.Answered as tree
-use Rattle.hir_env.specs.Answered.{Expr, OptionExpr, Exprs, Block, OptionBlock, Stmts, Stmt}
+use Rattle.hir_env.specs.declared.place.Place.{Place}
+use Rattle.hir_env.specs.Answered.{Path, OptionPath, Segment, Expr, OptionExpr, Exprs, Block, OptionBlock, Stmts, Stmt}
 use Rattle.hir_env.specs.Whole.{expr_part, reader, stmts_part, pointer_at}
+use Rattle.hir_store.specs.declared.path.Path.{Path as HirPath}
 use Rattle.hir_lower_form.specs.Builder.{Builder}
+use Rattle.hir_lower_form.specs.Paths.{read_segment, read_path, lower_path}
+use Rattle.hir_lower_form.specs.declared.walk.PathWalk.{PathWalk}
+use Rattle.hir_lower_form.specs.declared.walk.Reading.{Reading}
 use Rattle.hir_lower_form.specs.Lowering.{Lowering, Checked, Lowers, ◌>>=◌, pure}
 use Rattle.hir_lower_form.specs.Lower as spec
 use Rattle.hir_lower_form.specs.Lower.{ExprSteps, StoredContents}
@@ -58,6 +63,29 @@ LowersBlockOpt b old result new = Lowers HasExpr (spec.lower_block_part b) old r
 
 abbrev pub LowersStmt : Stmt → Builder → Checked (Option Statement) → Builder → Type 0
 LowersStmt s old result new = Lowers HasStatementOption (spec.lower_stmt s) old result new
+
+-- paths
+
+-- the spot with another place
+abbrev pub at_place : Spot → Place → Spot
+at_place at p = record at { place = p }
+
+-- what is read of a path names no entry
+abbrev pub HasReading : Stored → Reading → Type 0
+HasReading s r = Unit {0}
+
+abbrev pub HasPathOption : Stored → Option HirPath → Type 0
+HasPathOption s p = Unit {0}
+
+abbrev pub ReadsSegment : Bool → Segment → PathWalk → Builder → Checked Reading → Builder → Type 0
+ReadsSegment first s w old result new = Lowers HasReading (read_segment first s w) old result new
+
+abbrev pub ReadsPath : Path → PathWalk → Builder → Checked Reading → Builder → Type 0
+ReadsPath p w old result new = Lowers HasReading (read_path p w) old result new
+
+-- none where it is absent or refused
+abbrev pub LowersPath : OptionPath → Builder → Checked (Option HirPath) → Builder → Type 0
+LowersPath p old result new = Lowers HasPathOption (lower_path p) old result new
 
 -- what upstream does to make an expression of one that may be disabled
 abbrev pub or_missing : Option ExprId → ExprSteps

@@ -1,9 +1,10 @@
 //! What lowering works on.
 
-ghost use Rattle.std.specs.Prelude.{◌≡◌, [], Ok, Some};
+ghost use Rattle.std.specs.Prelude.{◌≡◌, Ok, Some, true};
 ghost use Rattle.hir_store.specs.Range.{HasExpr, HasLabel, HasLabelOption, HasNone, HasParts};
-ghost use Rattle.hir_store.specs.Storing.{empty};
+ghost use Rattle.hir_store.specs.declared.fault.StoreFault.TheVariants.{Full};
 ghost use Rattle.hir_env.specs.Answering.{jump};
+ghost use Rattle.hir_lower_form.specs.Builder.{fresh};
 ghost use Rattle.hir_lower_form.specs.Lowering as spec;
 ghost use Rattle.hir_lower_form.specs.Lowering.{Lowers};
 ghost use Rattle.hir_lower_form.specs.Lower.{missing};
@@ -22,11 +23,12 @@ use std::marker::Model;
 
 /// What is stored so far, and the labels that are open. Each number in it is in range, whatever happens.
 ///
-/// Each call answers `Full` exactly where the arena that it adds to has reached its limit, and `Memory` where a growth
-/// was refused.
+/// Each call answers `Full` exactly where the arena that it adds to has reached its limit, or the counter its end, and
+/// `Memory` where a growth was refused.
 pub struct BodyBuilder {
     store: ExpressionStoreBuilder,
     scopes: LabelScopes,
+    counted_out: bool,
 }
 
 impl Drop for BodyBuilder {
@@ -34,6 +36,7 @@ impl Drop for BodyBuilder {
         let BodyBuilder {
             store: _,
             scopes: _,
+            counted_out: _,
         } = self;
     }
 }
@@ -43,19 +46,20 @@ impl Model for BodyBuilder {
 
     ghost Value = { Builder };
 
-    ghost view = { λ b. record { stored = b.store; scopes = b.scopes } };
+    ghost view = { λ b. record { stored = b.store; scopes = b.scopes; counted_out = b.counted_out } };
 
-    ghost invariant = { λ b. RibsExist (record { stored = b.store; scopes = b.scopes }) };
+    ghost invariant = { λ b. RibsExist (record { stored = b.store; scopes = b.scopes; counted_out = b.counted_out }) };
 }
 
 impl BodyBuilder {
     /// A builder that has stored nothing, with this limit for each arena. It takes no memory.
     pub fn new(alloc: Global, limit: u32) -> BodyBuilder
-        ensures { result ≡ record { stored = empty limit; scopes = [] } }
+        ensures { result ≡ fresh limit }
     {
         BodyBuilder {
             store: ExpressionStoreBuilder::new(alloc, limit),
             scopes: LabelScopes::new(alloc),
+            counted_out: false,
         }
     }
 
@@ -133,6 +137,15 @@ impl BodyBuilder {
         self.store.record_root(root)
     }
 
+    /// Notes that a counter is at its end, and answers `Full`.
+    pub fn count_out(&mut self) -> StoreFault
+        ensures fault { result ≡ Full }
+        ensures noted { self.new ≡ record self.old { counted_out = true } }
+    {
+        self.counted_out = true;
+        StoreFault::Full
+    }
+
     /// Stores a label and opens it inside all that are open.
     #[tactic(auto, unfolding(crate::specs::Lowering::open_label))]
     pub fn open_label(
@@ -202,7 +215,11 @@ impl BodyBuilder {
     pub fn into_store(self) -> ExpressionStoreBuilder
         ensures { result ≡ self.stored }
     {
-        let BodyBuilder { store, scopes: _ } = self;
+        let BodyBuilder {
+            store,
+            scopes: _,
+            counted_out: _,
+        } = self;
         store
     }
 }

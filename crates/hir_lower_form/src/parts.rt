@@ -5,19 +5,21 @@ ghost use Rattle.std.specs.Prelude.{◌≡◌};
 ghost use Rattle.hir_store.specs.Range.{HasLabelOption};
 ghost use Rattle.hir_env.specs.Answering.{site_of};
 ghost use Rattle.hir_env.specs.Spot.{Spot};
-ghost use Rattle.hir_env.specs.Whole.{answered, answered_plain, block_part, expr_part, pointer_at};
+ghost use Rattle.hir_env.specs.Whole.{answered, answered_path, answered_plain, block_part, expr_part, path_part, pointer_at};
 ghost use Rattle.hir_scope.specs.Ribs.{search, sought_first};
 ghost use Rattle.hir_lower_scope.specs.Labels.{answer};
 ghost use Rattle.hir_lower_form.specs.Nests.{Claims, IfPresent};
 ghost use Rattle.hir_lower_form.specs.Methods.{LowersBlock, LowersBlockOpt, LowersExpr, LowersExprOpt, LowersIfPresent, LowersInside};
-ghost use Rattle.hir_lower_form.specs.Methods.{MaybeLowersExpr, MaybeLowersExprOpt};
+ghost use Rattle.hir_lower_form.specs.Methods.{LowersPath, MaybeLowersExpr, MaybeLowersExprOpt, ReadsPath, at_place};
 
 use crate::builder::BodyBuilder;
+use crate::walk::{PathWalk, Reading, path_read};
 use hir_env::place::Place;
 use hir_lower_scope::labels::{LabelScopes, NoTarget};
 use hir_store::fault::StoreFault;
-use hir_store::ids::{CfgId, ExprId, HygieneId, LabelId};
+use hir_store::ids::{CfgId, CrateId, ExprId, HygieneId, LabelId};
 use hir_store::name::Name;
+use hir_store::path::Path;
 use hir_syntax::node::{AstPtr, InFile, NodeId, PredId, TextRange};
 use hir_syntax::{Boxed, ast};
 use std::alloc::Global;
@@ -43,6 +45,10 @@ pub trait LowerParts {
     /// The hygiene of the name at the node.
     fn hygiene(&self, node: InFile<NodeId>) -> HygieneId
         ensures { result ≡ (spot self.now).answers.hygiene node };
+
+    /// The root of the crate that `$crate` at the name stands for.
+    fn crate_root(&self, name: InFile<NodeId>) -> Option<CrateId>
+        ensures { let answers = (spot self.now).answers in result ≡ answers.crate_root (answers.context name) };
 
     /// The label that a jump of this name and this hygiene is for. It asks about contexts.
     fn find_label(
@@ -73,6 +79,17 @@ pub trait LowerParts {
         requires part { (can self.now).block node.now }
         requires label { HasLabelOption state.old.stored label }
         ensures { LowersInside is_unsafe label (answered_plain (spot self.now) node.now) state.old result state.new };
+
+    /// Goes on with the segments of the path, at this place, and then with those of the use tree around it.
+    fn read_path(
+        &self,
+        state: &mut BodyBuilder,
+        place: Place,
+        walk: PathWalk,
+        node: &ast::Path,
+    ) -> Result<Reading, StoreFault>
+        requires { (can self.now).path place node.now }
+        ensures { ReadsPath (answered_path (at_place (spot self.now) place) node.now) walk state.old result state.new };
 }
 
 /// The node that a pointer leads to, as it is asked about.
@@ -187,6 +204,26 @@ impl<P: LowerParts> Lowerer<P> {
         match part {
             None => state.missing_expr(),
             Some(part) => self.collect_block(state, part.get()),
+        }
+    }
+
+    /// The path, read at this place, or none where it is absent or refused.
+    pub fn path_if_present(
+        &self,
+        state: &mut BodyBuilder,
+        place: Place,
+        part: &Option<Boxed<ast::Path>>,
+    ) -> Result<Option<Path>, StoreFault>
+        requires { IfPresent ((P.can self.now.parts).path place) part.now }
+        ensures { LowersPath (path_part (at_place (P.spot self.now.parts) place) part.now) state.old result state.new }
+    {
+        match part {
+            None => Ok(None),
+            Some(part) => {
+                let walk = PathWalk::new(self.alloc);
+                let reading = self.parts.read_path(state, place, walk, part.get())?;
+                Ok(path_read(reading))
+            }
         }
     }
 }

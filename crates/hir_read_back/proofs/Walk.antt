@@ -21,7 +21,7 @@ use Rattle.hir_lower_form.specs.Walks as walks
 use Rattle.hir_lower_form.specs.Walks.{start, at_first, add_name, self_read, super_read, finished, path_read, missing_name, self_type_name}
 use Rattle.hir_lower_form.specs.Paths as steps
 use Rattle.hir_lower_form.specs.Paths.{proceed, whole, lower_path}
-use Rattle.hir_data.specs.Data.{PathData, path_data}
+use Rattle.hir_data.specs.Data.{path_data}
 use Rattle.hir_data.specs.Rule as rule
 use Rattle.hir_data.specs.Rule.{What, Item, broken, named, root, self_, super_, empty_list, plain_kind, supers}
 use Rattle.hir_data.specs.Rule.{ends, ended, read, refuses, refused, set_kind, one_more, supers_left, counted, open_kind}
@@ -148,10 +148,14 @@ self_says l is w e r h = by (walks.no_names w.names) (walk_empty (kind_at l is) 
     by : (b : Bool) → b ≡ empty_list (rule.names is)
         → Says (item l self_ ∷ is) (if b then Open w else Ended (record w { kind = walks.self_kind w.kind }))
     by true m = (rw (← m) e, r, record { kind = h.kind ∙ sym (kind_self l is); names = h.names })
-    by false m = (rw (← m) refl, rw e r, rw e (rw (← m) (rw (kind_self l is) (record {
-      kind = ap kind.Super (same_supers w.kind ∙ ap supers h.kind);
-      names = h.names;
-    }))))
+    by false m = (
+      rw (← m) refl,
+      rw e r,
+      rw e (rw (← m) (rw (kind_self l is) (record {
+        kind = ap kind.Super (same_supers w.kind ∙ ap supers h.kind);
+        names = h.names;
+      }))),
+    )
 
 says_self : (l : Bool) (is : List Item) (w : PathWalk) → Says is (Open w) → Says (item l self_ ∷ is) (self_read (at_first l w))
 says_self l is w h = self_says l is (at_first l w) h.0 h.1 (at_first_reads l is w h.2)
@@ -167,31 +171,37 @@ kind_super true is = refl
 
 super_says : (l : Bool) (is : List Item) (w : PathWalk) → ended is ≡ false → refused is ≡ false → Reads (kind_at l is) is w
     → Says (item l super_ ∷ is) (Open (record w { kind = kind.Super (walks.supers w.kind + 1) }))
-super_says l is w e r h = (e, r, record {
-  kind = ap (λ n. kind.Super (n + 1)) (same_supers w.kind ∙ ap supers h.kind) ∙ kind_super l is;
-  names = h.names;
-})
+super_says l is w e r h = (
+  e,
+  r,
+  record {
+    kind = ap (λ n. kind.Super (n + 1)) (same_supers w.kind ∙ ap supers h.kind) ∙ kind_super l is;
+    names = h.names;
+  },
+)
 
 -- no more are counted than are read
 
+second_false : (a b : Bool) → (a || b) ≡ false → b ≡ false
+second_false false b h = h
+second_false true b h = absurd (clash h)
+
 nothing_set : (is : List Item) → ended is ≡ false → supers (set_kind is) ≡ 0
 nothing_set [] h = refl
-nothing_set (i ∷ is) h = by i.leading i.what h
+nothing_set (i ∷ is) h = by (λ e. nothing_set is e) i.leading i.what h
   where
-    last : (l : Bool) → ended is ≡ false → supers (rule.kind_or (if l then Some kind.Abs else None) (set_kind is)) ≡ 0
-    last false h = nothing_set is h
-    last true h = refl
+    last : (ended is ≡ false → supers (set_kind is) ≡ 0) → (l : Bool) → ended is ≡ false
+        → supers (rule.kind_or (if l then Some kind.Abs else None) (set_kind is)) ≡ 0
+    last k false h = k h
+    last k true h = refl
 
-    second : (a b : Bool) → (a || b) ≡ false → b ≡ false
-    second false b h = h
-    second true b h = absurd (clash h)
-
-    by : (l : Bool) (x : What) → (ends x (rule.names is) || ended is) ≡ false → supers (rule.kind_or (rule.sets l x) (set_kind is)) ≡ 0
-    by l broken h = last l h
-    by l (named n) h = last l h
-    by l (root k) h = absurd (clash h)
-    by l self_ h = last l (second (not (empty_list (rule.names is))) (ended is) h)
-    by l super_ h = last l h
+    by : (ended is ≡ false → supers (set_kind is) ≡ 0) → (l : Bool) (x : What) → (ends x (rule.names is) || ended is) ≡ false
+        → supers (rule.kind_or (rule.sets l x) (set_kind is)) ≡ 0
+    by k l broken h = last k l h
+    by k l (named n) h = last k l h
+    by k l (root r) h = absurd (clash h)
+    by k l self_ h = last k l (second_false (not (empty_list (rule.names is))) (ended is) h)
+    by k l super_ h = last k l h
 
 more_left : (x : What) (m n : ℕ) → m ≤ n → one_more x m ≤ one_more x n
 more_left broken m n h = h
@@ -204,11 +214,11 @@ left_read : (is : List Item) → supers_left is ≤ supers_in is
 left_read [] = omega arith
 left_read (i ∷ is) =
     let sets = is_some (rule.sets i.leading i.what) in
-    more_left i.what (if sets then 0 else supers_left is) (supers_in is) (by sets)
+    more_left i.what (if sets then 0 else supers_left is) (supers_in is) (by sets (left_read is))
   where
-    by : (b : Bool) → (if b then 0 else supers_left is) ≤ supers_in is
-    by true = omega arith
-    by false = left_read is
+    by : (b : Bool) → supers_left is ≤ supers_in is → (if b then 0 else supers_left is) ≤ supers_in is
+    by true h = omega arith
+    by false h = h
 
 supers_open : (k : PathKind) (n : ℕ) → supers k ≡ 0 → supers (counted k n) ≤ n
 supers_open k zero h = rw h (omega arith)
@@ -246,19 +256,20 @@ over_by_one l is w e h n =
     let c : 2 ^ 32 ≤ suc (supers_in is) = omega (a, b, n, arith) in
     rw e c
 
+abbrev counts : PathWalk → Bool → Option PathKind
+counts w c = if c then Some (kind.Super (walks.supers w.kind + 1)) else None
+
+abbrev super_step : PathWalk → Bool → Lowering Reading
+super_step w c = steps.counted (option_map (λ k. Open (record w { kind = k })) (counts w c))
+
 after_super : (l : Bool) (is : List Item) (w : PathWalk) (b : Builder) → ended is ≡ false → refused is ≡ false
     → Reads (kind_at l is) is w
     → After (item l super_ ∷ is) b (steps.counted (super_read w) b).0 (steps.counted (super_read w) b).1
 unfolding count_out
 after_super l is w b e r h = by (nat_lt (walks.supers w.kind + 1) (2 ^ 32)) refl
   where
-    abbrev counts : Bool → Option PathKind
-    counts c = if c then Some (kind.Super (walks.supers w.kind + 1)) else None
-
-    abbrev step : Bool → Lowering Reading
-    step c = steps.counted (option_map (λ k. Open (record w { kind = k })) (counts c))
-
-    by : (c : Bool) → nat_lt (walks.supers w.kind + 1) (2 ^ 32) ≡ c → After (item l super_ ∷ is) b (step c b).0 (step c b).1
+    by : (c : Bool) → nat_lt (walks.supers w.kind + 1) (2 ^ 32) ≡ c
+        → After (item l super_ ∷ is) b (super_step w c b).0 (super_step w c b).1
     by true n = (super_says l is w e r h, refl)
     by false n = (over_by_one l is w e h (ltb-false (walks.supers w.kind + 1) (2 ^ 32) n), refl)
 
@@ -369,6 +380,7 @@ own_says leading first rest is w b h =
 
 mutual
   unfolding whole
+
   path_says : (p : Path) (is : List Item) (w : PathWalk) (b : Builder) → Says is (Open w)
       → After (written.segments p is) b (steps.read_path p w b).0 (steps.read_path p w b).1
   path_says (tree.path leading first rest use_) is w b h =
@@ -435,6 +447,7 @@ path_law p o o' r e = (subst (λ x. Told p o x.0 x.1) e (lowered p o)).0
 pub path_stays : (p : OptionPath) (o o' : Builder)
     → ((r : Option HirPath) → lower_path p o ≡ (Ok r, o') → o' ≡ o)
     × ((e : StoreFault) → lower_path p o ≡ (Err e, o') → overcounts p × (o'.stored ≡ o.stored))
-path_stays p o o' =
-    ( λ r e. (subst (λ x. Told p o x.0 x.1) e (lowered p o)).1
-    , λ x e. let t : Told p o (Err x) o' = subst (λ y. Told p o y.0 y.1) e (lowered p o) in (t.0, ap (λ b. b.stored) t.1))
+path_stays p o o' = (
+  λ r e. (subst (λ x. Told p o x.0 x.1) e (lowered p o)).1,
+  λ x e. let t : Told p o (Err x) o' = subst (λ y. Told p o y.0 y.1) e (lowered p o) in (t.0, ap (λ b. b.stored) t.1),
+)

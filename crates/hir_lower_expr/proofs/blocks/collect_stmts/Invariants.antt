@@ -9,7 +9,7 @@ use Rattle.hir_lower_expr.proofs.blocks.collect_stmts.Given as goal
 abbrev pub invariant-loop-all : goal.invariant-loop-all
 invariant-loop-all g l = let at = g.P.LowerParts.spot l.lowerer.parts in record {
   so_far : stmts_alone [] (stmts_part at l.fn.all) l.fn.state ≡ stmts_alone l.done (stmts_part at l.all) l.state;
-  may : Each (λ s. KidsStmt (g.P.LowerParts.can l.lowerer.parts) (out-StmtKind s.kind)) l.all;
+  may : Each (λ s. KidsStmt (g.P.LowerParts.can l.lowerer.parts) at.place (out-StmtKind s.kind)) l.all;
   placed : Grows l.fn.state.stored l.state.stored × HasStatements l.state.stored l.done;
 }
 

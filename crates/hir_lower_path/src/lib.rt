@@ -1,0 +1,4 @@
+//! How a path is read, segment by segment, with what lowers its parts handed in.
+#![tactic(auto)]
+
+pub mod path;
