@@ -7,8 +7,6 @@ use Rattle.hir_syntax.specs.declared.ast.ExprKind.{ExprKind as AstExprKind, out-
 use Rattle.hir_syntax.specs.declared.ast.StmtKind.{StmtKind as AstStmtKind, out-StmtKind}
 use Rattle.hir_syntax.specs.declared.ast.BlockExpr.{BlockExpr as AstBlockExpr, out-BlockExpr}
 use Rattle.hir_syntax.specs.declared.ast.Expr.{Expr as AstExpr}
-use Rattle.hir_syntax.specs.declared.ast.Path.{Path as AstPath, out-Path}
-use Rattle.hir_syntax.specs.declared.ast.Path.TheFolds.{fold_out-Path, map-Path}
 use Rattle.hir_syntax.specs.declared.ast.Stmt.{Stmt as AstStmt}
 use Rattle.hir_syntax.specs.declared.ast.ElseBranch.TheFolds as folds
 use Rattle.hir_syntax.specs.declared.ast.ElseBranch.TheOpen.{ElseBranch-F, ExprKind-F, StmtKind-F}
@@ -21,13 +19,11 @@ use Rattle.hir_env.specs.Spot.{Spot}
 use Rattle.hir_env.specs.Layers.{BlockReading, StmtReading, Reader, ElseBranchLayer, ExprKindLayer, StmtKindLayer, BlockExprLayer}
 use Rattle.hir_env.specs.Layers.{readings, itself}
 use Rattle.hir_env.specs.Answering as of
-use Rattle.hir_env.specs.Paths.{path_or_none, first_of, rest_of, read_segment, path_step, read_path}
 use Rattle.hir_env.specs.Answered as tree
-use Rattle.hir_env.specs.Answered.{Label, Path, OptionPath, Expr, OptionExpr, Exprs, Block, OptionBlock, Stmts, Stmt}
+use Rattle.hir_env.specs.Answered.{Label, Expr, OptionExpr, Exprs, Block, OptionBlock, Stmts, Stmt}
 use Rattle.hir_env.specs.Whole.{written, reader, read_else_branch, read_expr_kind, read_stmt_kind, read_block, read_expr}
 use Rattle.hir_env.specs.Whole.{read_stmt, answered, answered_plain, answered_block, answered_else, block_head, stmts_part}
 use Rattle.hir_env.specs.Whole.{in_block, block_number, pointer_at, asked_expr, block_level, stmt_level, else_level}
-use Rattle.hir_env.specs.Whole.{answered_path, path_level}
 
 -- how a fold passes an option and a list on
 abbrev optional : {A B : Type 0} → (A → B) → Option A → Option B
@@ -224,22 +220,3 @@ block_is_level at b = read_own_is at.answers b at.place ∙ ap tree.block_expr (
 
 pub else_is_level : (at : Spot) (e : AstElseBranch) → answered_else at e ≡ else_level at e
 else_is_level at e = read_else_is at.answers e at.place
-
--- paths
-
-abbrev optional_path : {A B : Type 0} → (A → B) → Option A → Option B
-optional_path {A} {B} h x = (map-Path A B h
-    (record { id = record { 0 = 0 }; range = record { start = 0; end = 0 }; leading = false; use_ = x; segs = [] })).use_
-
-path_is : {A : Type 0} (h : A → Place → Path) (x : Option A) (p : Place) → path_or_none (λ y. y) (optional_path h x) p ≡ path_or_none h x p
-path_is h None p = refl
-path_is h (Some x) p = refl
-
-read_path_is : (env : Answers) (x : AstPath) (p : Place) → read_path env x p ≡ path_step env (read_path env) (out-Path x) p
-unfolding read_path
-read_path_is env x p = (λ j. fold_out-Path (Place → Path) (path_step env (λ y. y)) x j p)
-    ∙ (λ j. let level = out-Path x in tree.path level.leading (first_of (read_segment env) level.segs p)
-      (rest_of (read_segment env) level.segs p) (path_is (read_path env) level.use_ p j))
-
-pub path_is_level : (at : Spot) (x : AstPath) → answered_path at x ≡ path_level at x
-path_is_level at x = read_path_is at.answers x at.place

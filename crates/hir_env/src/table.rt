@@ -7,8 +7,7 @@ ghost use Rattle.hir_env.specs.NodeMap.{with_first, with_first_pred, with_first_
 use crate::env::LowerEnv;
 use crate::first_map::FirstMap;
 use hir_store::ids::{
-    BlockId, CfgId, CrateId, CtxId, DefWithBodyId, HygieneId, ItemContainerId, MacroDefId,
-    ModuleId,
+    BlockId, CfgId, CrateId, CtxId, DefWithBodyId, HygieneId, ItemContainerId, MacroDefId, ModuleId,
 };
 use hir_syntax::node::{InFile, NodeId, PredId};
 use std::alloc::{AllocError, Global};
