@@ -1,6 +1,7 @@
 -- Where nodes lead once one more does.
-use Rattle.std.proofs.Common.{arith, ◌≡◌, ◌∙◌, refl, sym, ap, subst, ℕ, suc, ◌≤◌, length, Bool, true, false, ◌&&◌, if◌then◌else◌, nat_eq}
-use Rattle.std.proofs.Common.{List, [], ◌∷◌, ◌++◌, length-append, Option, Some, None, ◌⊎◌, inl, inr, ⊎_elim, true≢false, is_some}
+use Rattle.std.proofs.Common.{arith, ◌≡◌, ◌∙◌, refl, sym, ap, subst, ℕ, suc, ◌≤◌, length, List, [], ◌∷◌, ◌++◌}
+use Rattle.std.proofs.Common.{Bool, true, false, ◌&&◌, if◌then◌else◌, nat_eq, Option, Some, None, is_some}
+use Rattle.std.proofs.Common.{◌⊎◌, inl, inr, ⊎_elim, true≢false}
 use Rattle.std.specs.Prelude.{zero, slice_get}
 use Rattle.std.proofs.lemmas.Bool.{eqb-true, eq-eqb}
 use Rattle.std.proofs.lemmas.Option.{slice_get_within}
@@ -117,7 +118,10 @@ module _ {T I : Type 0} (place : I → ℕ) where
     from_nothing : MapsBack place (with_entry number a x None)
     from_nothing = record {
       to_source = λ p id f. push_old a.sources None (Some p) (place id) (h.to_source p id f);
-      to_entry = λ n p g. ⊎_elim (λ l. old n p (h.to_entry n p l)) (λ e. absurd (true≢false (sym (ap is_some e.1)))) (push_cases a.sources None (Some p) n g);
+      to_entry = λ n p g. ⊎_elim
+          (λ l. old n p (h.to_entry n p l))
+          (λ e. absurd (true≢false (ap is_some (sym e.1))))
+          (push_cases a.sources None (Some p) n g);
     }
       where
         old : (n : ℕ) (p : Pointer) → Leads place a p n → Leads place (with_entry number a x None) p n
