@@ -50,9 +50,10 @@ module _ (store : Store) (source_map : SourceMap) where
   -- ---- one entry
 
   module _ (r : Readers) where
-    abbrev pub types_layer : List TypeRefId → TypesData
-    types_layer [] = data.no_types
-    types_layer (t ∷ ts) = data.more_types (r.type t) (types_layer ts)
+    -- types before others
+    abbrev pub types_layer : List TypeRefId → TypesData → TypesData
+    types_layer [] behind = behind
+    types_layer (t ∷ ts) behind = data.more_types (r.type t) (types_layer ts behind)
 
     abbrev pub present_layer : Option TypeRefId → OptionTypeData
     present_layer None = data.no_type
@@ -73,9 +74,9 @@ module _ (store : Store) (source_map : SourceMap) where
     argument_layer (arg.Type_ t) = data.type_argument (r.type t)
     argument_layer (arg.Lifetime l) = data.lifetime_argument (stored_lifetime l)
 
-    abbrev pub arguments_layer : List GenericArg → ArgumentsData
-    arguments_layer [] = data.no_arguments
-    arguments_layer (a ∷ as') = data.more_arguments (argument_layer a) (arguments_layer as')
+    abbrev pub arguments_layer : List GenericArg → ArgumentsData → ArgumentsData
+    arguments_layer [] behind = behind
+    arguments_layer (a ∷ as') behind = data.more_arguments (argument_layer a) (arguments_layer as' behind)
 
     -- arguments hold bindings, which hold arguments
 
@@ -91,13 +92,17 @@ module _ (store : Store) (source_map : SourceMap) where
     binding_step b = data.binding_data b.name (listed b.args) (present_layer b.type_ref) (bounds_layer b.bounds)
 
     abbrev pub args_step : GenericArgs-F BindingData ArgsData → ArgsData
-    args_step a = args_data (arguments_layer a.args) a.has_self_type (bindings_listed a.bindings) a.parenthesized
+    args_step a = args_data (arguments_layer a.args data.no_arguments) a.has_self_type (bindings_listed a.bindings) a.parenthesized
 
     unfoldable pub args_layer : GenericArgs → ArgsData
     args_layer = fold-GenericArgs BindingData ArgsData binding_step args_step
 
     unfoldable pub binding_layer : AssociatedTypeBinding → BindingData
     binding_layer = fold-AssociatedTypeBinding BindingData ArgsData binding_step args_step
+
+    abbrev pub bindings_layer : List AssociatedTypeBinding → BindingsData → BindingsData
+    bindings_layer [] behind = behind
+    bindings_layer (b ∷ bs) behind = data.more_bindings (binding_layer b) (bindings_layer bs behind)
 
     abbrev pub list_layer : Option GenericArgs → OptionArgsData
     list_layer None = no_args
@@ -114,13 +119,13 @@ module _ (store : Store) (source_map : SourceMap) where
         data.path_data p.mod_path.kind (present_layer p.type_anchor) (names_layer p.mod_path.segments p.generic_args) false
 
     abbrev pub fn_layer : FnType → Shape
-    fn_layer f = data.fn_shape (record { is_unsafe = f.is_unsafe; abi = f.abi; is_varargs = f.is_varargs }) f.binder (types_layer f.params)
+    fn_layer f = data.fn_shape (record { is_unsafe = f.is_unsafe; abi = f.abi; is_varargs = f.is_varargs }) f.binder (types_layer f.params data.no_types)
 
     abbrev pub shape_layer : TypeRef → Shape
     shape_layer ty.Never = data.never_shape
     shape_layer ty.Placeholder = data.infer_shape
     shape_layer ty.Error = data.error_shape
-    shape_layer (ty.Tuple ts) = data.tuple_shape (types_layer ts)
+    shape_layer (ty.Tuple ts) = data.tuple_shape (types_layer ts data.no_types)
     shape_layer (ty.Path p) = data.path_shape (path_layer p)
     shape_layer (ty.RawPtr t m) = data.pointer_shape m (r.type t)
     shape_layer (ty.Reference x) = data.reference_shape (r.type x.ty) (option_map stored_lifetime x.lifetime) x.mutability

@@ -26,8 +26,8 @@ abbrev pub lifetime_data : Lifetime → LifetimeData
 lifetime_data l = record { lifetime = l.lifetime; from = Some l.pointer }
 
 abbrev pub use_data : UseRead → UseData
-use_data (tree.use_name n) = data.name_used n
-use_data (tree.use_lifetime l) = data.lifetime_used (lifetime_data l)
+use_data (tree.used_name n) = data.name_used n
+use_data (tree.used_lifetime l) = data.lifetime_used (lifetime_data l)
 
 -- `$crate` is the root of the context's crate, or `crate` where there is none
 abbrev pub crate_kind : Option CrateId → PathKind
@@ -150,23 +150,28 @@ abbrev mutual
   list_data tree.no_arg_list = no_args
   list_data (tree.some_arg_list as') = yielded (arguments_of as') (bindings_of as')
 
-  -- the arguments of a list, without a lifetime argument that has no lifetime
   pub arguments_of : Args → ArgumentsData
   arguments_of tree.no_args = data.no_arguments
-  arguments_of (tree.more_args (tree.type_arg t) as') = data.more_arguments (data.type_argument (part_data None t)) (arguments_of as')
-  arguments_of (tree.more_args (tree.lifetime_arg None) as') = arguments_of as'
-  arguments_of (tree.more_args (tree.lifetime_arg (Some l)) as') = data.more_arguments (data.lifetime_argument (lifetime_data l)) (arguments_of as')
-  arguments_of (tree.more_args tree.skipped_arg as') = arguments_of as'
-  arguments_of (tree.more_args (tree.assoc_arg n a dots t bs) as') = arguments_of as'
+  arguments_of (tree.more_args a as') = argument_before a (arguments_of as')
 
-  -- its bindings
+  -- what is an argument, before others
+  pub argument_before : Arg → ArgumentsData → ArgumentsData
+  argument_before (tree.type_arg t) behind = data.more_arguments (data.type_argument (part_data None t)) behind
+  argument_before (tree.lifetime_arg l) behind = data.more_arguments (data.lifetime_argument (lifetime_data l)) behind
+  argument_before tree.skipped_arg behind = behind
+  argument_before (tree.assoc_arg n a dots t bs) behind = behind
+
   pub bindings_of : Args → BindingsData
   bindings_of tree.no_args = data.no_bindings
-  bindings_of (tree.more_args (tree.type_arg t) as') = bindings_of as'
-  bindings_of (tree.more_args (tree.lifetime_arg l) as') = bindings_of as'
-  bindings_of (tree.more_args tree.skipped_arg as') = bindings_of as'
-  bindings_of (tree.more_args (tree.assoc_arg n a dots t bs) as') =
-      data.more_bindings (data.binding_data n (first_list (list_data a) (notation dots)) (present_data t) (bounds_data bs)) (bindings_of as')
+  bindings_of (tree.more_args a as') = binding_before a (bindings_of as')
+
+  -- what is a binding, before others
+  pub binding_before : Arg → BindingsData → BindingsData
+  binding_before (tree.assoc_arg n a dots t bs) behind =
+      data.more_bindings (data.binding_data n (first_list (list_data a) (notation dots)) (present_data t) (bounds_data bs)) behind
+  binding_before (tree.type_arg t) behind = behind
+  binding_before (tree.lifetime_arg l) behind = behind
+  binding_before tree.skipped_arg behind = behind
 
   pub parens_data : OptionParens → OptionArgsData
   parens_data tree.no_parens = no_args
