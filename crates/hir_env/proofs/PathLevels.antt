@@ -113,7 +113,8 @@ bounds_is : {A : Type 0} (h : A → Place → Bound) (xs : List A) (p : Place)
 bounds_is h [] p = refl
 bounds_is h (x ∷ xs) p = λ j. tree.more_bounds (h x p) (bounds_is h xs p j)
 
-params_is : {A : Type 0} (h : A → Place → ParamReading) (xs : List A) (p : Place) → of.params_of (λ y. y) (listed h xs) p ≡ of.params_of h xs p
+params_is : {A : Type 0} (h : A → Place → ParamReading) (xs : List A) (p : Place)
+    → of.params_of (λ y. y) (listed h xs) p ≡ of.params_of h xs p
 params_is h [] p = refl
 params_is h (x ∷ xs) p = λ j. let r = h x p in if r.variadic then params_is h xs p j else tree.more_parts r.ty (params_is h xs p j)
 
@@ -286,7 +287,8 @@ module _ (env : Answers) where
   type_at_is (TypeKind-F.RefType l m t) p s = λ j.
       tree.ref_type s (option_map (of.lifetime_of p) l) (of.mutability m) (type_is rd.type_ t p j)
   type_at_is (TypeKind-F.FnPtrType is_unsafe text None r) p s = λ j.
-      tree.fn_type s (record { is_unsafe = is_unsafe; abi = of.abi_of text; is_varargs = false }) tree.no_parts (answer_is rd.ret_type r p j)
+      tree.fn_type s (record { is_unsafe = is_unsafe; abi = of.abi_of text; is_varargs = false }) tree.no_parts
+      (answer_is rd.ret_type r p j)
   type_at_is (TypeKind-F.FnPtrType is_unsafe text (Some ps) r) p s = λ j.
       tree.fn_type s (record { is_unsafe = is_unsafe; abi = of.abi_of text; is_varargs = last_is rd.param false ps p j })
       (params_is rd.param ps p j) (answer_is rd.ret_type r p j)
@@ -470,7 +472,8 @@ module _ (env : Answers) where
       (of.type_step env type_itself) x j p)
       ∙ paren_args_step_is (out-ParenArgs x) p
 
-  read_generic_arg_list_is : (x : AstGenericArgList) (p : Place) → read_generic_arg_list env x p ≡ of.generic_arg_list_step env rd (out-GenericArgList x) p
+  read_generic_arg_list_is : (x : AstGenericArgList) (p : Place)
+      → read_generic_arg_list env x p ≡ of.generic_arg_list_step env rd (out-GenericArgList x) p
   unfolding read_generic_arg read_type_kind read_assoc_type_arg read_generic_arg_list read_param read_paren_args read_path
       read_segment read_path_type read_ret_type read_type_arg read_type_bound read_type
   read_generic_arg_list_is x p = (λ j. folds.fold_out-GenericArgList
@@ -512,7 +515,8 @@ module _ (env : Answers) where
       (of.type_step env type_itself) x j p)
       ∙ type_arg_step_is (out-TypeArg x) p
 
-  read_assoc_type_arg_is : (x : AstAssocTypeArg) (p : Place) → read_assoc_type_arg env x p ≡ of.assoc_type_arg_step env rd (out-AssocTypeArg x) p
+  read_assoc_type_arg_is : (x : AstAssocTypeArg) (p : Place)
+      → read_assoc_type_arg env x p ≡ of.assoc_type_arg_step env rd (out-AssocTypeArg x) p
   unfolding read_generic_arg read_type_kind read_assoc_type_arg read_generic_arg_list read_param read_paren_args read_path
       read_segment read_path_type read_ret_type read_type_arg read_type_bound read_type
   read_assoc_type_arg_is x p = (λ j. folds.fold_out-AssocTypeArg
