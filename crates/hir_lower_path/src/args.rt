@@ -1,15 +1,16 @@
 //! What stands behind the name of a segment: `<..>`, `(A) -> C` or `(..)`.
 
-ghost use Rattle.std.specs.Prelude.{◌≡◌, ◌∷◌, [], IfOk, None, Some, false};
+ghost use Rattle.std.specs.Prelude.{◌≡◌, IfOk, None};
 ghost use Rattle.hir_syntax.specs.declared.ast.PathSegment.{out-PathSegment};
+ghost use Rattle.hir_syntax.specs.declared.types.ParenArgs.{out-ParenArgs};
 ghost use Rattle.hir_store.specs.Range.{HasArgsOption, HasType};
-ghost use Rattle.hir_env.specs.Whole.{answered_paren_args, parens_part, paren_args_level, ret_level, ret_part, type_args_part};
+ghost use Rattle.hir_env.specs.Whole.{answered_paren_args, parens_part, paren_args_level, ret_level, ret_part, segment_args_level};
+ghost use Rattle.hir_env.specs.Whole.{type_args_part};
 ghost use Rattle.hir_lower_form.specs.Lowering.{Lowers};
 ghost use Rattle.hir_lower_form.specs.Lower as spec;
 ghost use Rattle.hir_lower_form.specs.Paths as forms;
 ghost use Rattle.hir_lower_form.specs.Methods.{LowersParts, LowersTypeOpt};
 ghost use Rattle.hir_lower_form.specs.Nests.{Each, IfPresent, KidsParens, KidsRet, KidsSegmentArgs, KidsTypeArg};
-ghost use Rattle.hir_lower_path.specs.Named.{segment_args_at};
 
 use hir_lower_form::args::or_notation;
 use hir_lower_form::builder::BodyBuilder;
@@ -144,7 +145,7 @@ pub(crate) fn segment_args<P: LowerParts>(
     node: &ast::PathSegment,
 ) -> Result<Option<GenericArgs>, StoreFault>
     requires { KidsSegmentArgs (P.can lowerer.now.parts) (P.spot lowerer.now.parts).place (out-PathSegment node.now) }
-    ensures { Lowers HasArgsOption (spec.lower_segment_args (segment_args_at (P.spot lowerer.now.parts) node.now)) state.old result state.new }
+    ensures { Lowers HasArgsOption (spec.lower_segment_args (segment_args_level (P.spot lowerer.now.parts) node.now)) state.old result state.new }
 {
     let place = lowerer.parts.place();
     let found = match lowerer.args_if_present(state, place, &node.generics)? {

@@ -4,16 +4,15 @@ ghost use Rattle.std.specs.Prelude.{◌≡◌, IfOk, None, false, true};
 ghost use Rattle.hir_syntax.specs.declared.ast.Path.{out-Path};
 ghost use Rattle.hir_syntax.specs.declared.ast.PathSegment.{out-PathSegment};
 ghost use Rattle.hir_store.specs.Range.{HasType};
-ghost use Rattle.hir_env.specs.Paths.{qualified_segment};
+ghost use Rattle.hir_env.specs.Paths.{named_segment, qualified_segment};
 ghost use Rattle.hir_env.specs.Whole.{first_part, path_level, path_part, path_type_level, path_type_part, rest_part};
-ghost use Rattle.hir_env.specs.Whole.{segment_level, segment_part, segments_part, type_part};
+ghost use Rattle.hir_env.specs.Whole.{segment_args_level, segment_level, segment_part, segments_part, type_part};
 ghost use Rattle.hir_lower_form.specs.Lowering.{Lowers};
 ghost use Rattle.hir_lower_form.specs.Methods.{HasReading, HasWalk, LowersPath, ReadsPath, ReadsSegment};
 ghost use Rattle.hir_lower_form.specs.Nests.{IfPresent, KidsName, KidsPath, KidsPresent, KidsQualified, KidsSegment, KidsSegments, KidsTrait};
 ghost use Rattle.hir_lower_form.specs.Lower as spec;
 ghost use Rattle.hir_lower_form.specs.Paths as forms;
 ghost use Rattle.hir_lower_form.specs.Walks.{super_read};
-ghost use Rattle.hir_lower_path.specs.Named.{named_level};
 
 use crate::args::segment_args;
 use hir_lower_form::builder::BodyBuilder;
@@ -37,9 +36,12 @@ fn name_form<P: LowerParts>(
     first: bool,
     node: &ast::PathSegment,
 ) -> Result<Reading, StoreFault>
-    requires parts { KidsName (P.can lowerer.now.parts) (P.spot lowerer.now.parts).place (out-PathSegment node.now).name (out-PathSegment node.now) }
+    requires parts { let level = out-PathSegment node.now in
+        KidsName (P.can lowerer.now.parts) (P.spot lowerer.now.parts).place level.name level }
     requires walk { HasWalk state.old.stored walk }
-    ensures { ReadsSegment first (named_level (P.spot lowerer.now.parts) node.now) walk state.old result state.new }
+    ensures { let spot = P.spot lowerer.now.parts in
+        let level = named_segment spot.answers spot.place (out-PathSegment node.now).name (segment_args_level spot node.now) in
+        ReadsSegment first level walk state.old result state.new }
 {
     let Some(name) = &node.name else {
         return Ok(Reading::Refused);
@@ -229,12 +231,12 @@ fn own_segments<P: LowerParts>(
         let own = spec.read_own leading (first_part spot all.now) (rest_part spot all.now) in
         Lowers HasReading (own walk) state.old result state.new }
 {
-    match all {
-        [] => Ok(walk.at_first(leading).named(Name::Missing, None)?),
-        [first, rest @ ..] => match segments(lowerer, state, walk, rest)? {
-            Reading::Open(walk) => segment(lowerer, state, walk.at_first(leading), true, first),
-            other => Ok(other),
-        },
+    let Some((first, rest)) = all.split_first() else {
+        return Ok(walk.at_first(leading).named(Name::Missing, None)?);
+    };
+    match segments(lowerer, state, walk, rest)? {
+        Reading::Open(walk) => segment(lowerer, state, walk.at_first(leading), true, first),
+        other => Ok(other),
     }
 }
 
