@@ -4,3 +4,4 @@ pub mod Written
 pub mod Reading
 pub mod Worked
 pub mod Segments
+pub mod Arguments
