@@ -1,7 +1,7 @@
 -- Without use trees only the first segment of a path can end its reading.
 use Rattle.std.proofs.Common.{◌≡◌, ◌∙◌, refl, sym, ap, subst, List, [], ◌∷◌, ◌++◌}
 use Rattle.std.proofs.Common.{Option, Some, None, Bool, true, false}
-use Rattle.std.specs.Prelude.{◌&&◌, ◌||◌, if◌then◌else◌, map, is_some, bytes_eq, codes}
+use Rattle.std.specs.Prelude.{◌&&◌, if◌then◌else◌, map, is_some, bytes_eq, codes}
 use Rattle.hir_syntax.specs.declared.ast.Name.{Name as AstName}
 use Rattle.hir_syntax.specs.declared.ast.Path.{Path as AstPath, out-Path}
 use Rattle.hir_syntax.specs.declared.ast.PathSegment.{PathSegment as AstSegment}
@@ -15,7 +15,7 @@ use Rattle.hir_env.specs.Answered.{Path, OptionPath, Segments, Segment}
 use Rattle.hir_env.specs.Paths.{crate_root_at, kinded_segment, read_segment}
 use Rattle.hir_env.specs.Whole.{answered_path, path_level, path_part, segments_part, first_part, rest_part}
 use Rattle.hir_env.proofs.PathLevels.{path_is_level}
-use Rattle.hir_data.specs.Data.{PathData, path_data, path_names}
+use Rattle.hir_data.specs.Data.{PathData, path_names}
 use Rattle.hir_data.specs.Rule as rule
 use Rattle.hir_data.specs.Rule.{Item, What, ends, ended, read, refused, names_of, data_of, data_read}
 use Rattle.hir_data.specs.Written.{what, items, segments, written_path}
@@ -81,6 +81,9 @@ segment_borne at first s = kinded_borne at first s.seg s.name
 
 -- ---- the names of all
 
+abbrev front : Bool → Segment → Item
+front leading s = record { leading = leading; what = what true s }
+
 one_more : (ns : List Name) (s : AstSegment) (ss : List AstSegment) → map Some ns ≡ map segment_name ss
     → map Some (borne (segment_name s) ++ ns) ≡ map segment_name (if is_some (segment_name s) then s ∷ ss else ss)
 one_more ns s ss e = by (segment_name s) refl
@@ -102,8 +105,7 @@ names_behind at (Some s ∷ ss) h =
     ∙ one_more (rule.names (items (segments_part at ss) [])) s (named_among ss) (names_behind at ss h)
 
 names_first : (at : Spot) (leading : Bool) (ss : List (Option AstSegment)) → none_missing ss ≡ true
-    → let i = record { leading = leading; what = what true (first_part at ss) } in
-    map Some (rule.names (i ∷ items (rest_part at ss) [])) ≡ map segment_name (named_among ss)
+    → map Some (rule.names (front leading (first_part at ss) ∷ items (rest_part at ss) [])) ≡ map segment_name (named_among ss)
 names_first at leading [] h = absurd (clash (sym h))
 names_first at leading (None ∷ ss) h = absurd (clash (sym h))
 names_first at leading (Some s ∷ ss) h =
@@ -125,11 +127,11 @@ named_by_read is d h = by (refused is) h
 
 level_named : (leading : Bool) (first : Segment) (rest : Segments) (use_ : OptionPath) (d : PathData) → use_ ≡ tree.no_path
     → written_path (tree.some_path (tree.path leading first rest use_)) ≡ Some d
-    → path_names d ≡ rule.names (record { leading = leading; what = what true first } ∷ items rest [])
+    → path_names d ≡ rule.names (front leading first ∷ items rest [])
 level_named leading first rest use_ d u e =
-    let i = record { leading = leading; what = what true first } in
-    let whole : read (segments (tree.path leading first rest use_) []) ≡ i ∷ items rest [] = rw u (read_all i rest) in
-    named_by_read (i ∷ items rest []) d (ap data_read (sym whole) ∙ e)
+    let is = front leading first ∷ items rest [] in
+    let whole : read (segments (tree.path leading first rest use_) []) ≡ is = rw u (read_all (front leading first) rest) in
+    named_by_read is d (ap data_read (sym whole) ∙ e)
 
 no_use : (at : Spot) (x : Option AstPath) → x ≡ None → path_part at x ≡ tree.no_path
 no_use at x h = ap (path_part at) h

@@ -18,7 +18,8 @@ use Rattle.hir_meaning.specs.Catching.{turn, loop, block}
 use Rattle.hir_scope.specs.Scopes.{Scope, loop_scope, Count, break_target, continue_target, outward, continue_past_block, scopes_in_block}
 use Rattle.hir_data.specs.Data.{PathData}
 use Rattle.hir_data.specs.Written.{written_path}
-use Rattle.hir_meaning.specs.Data.{literal_data, lookup_hygiene}
+use Rattle.hir_data.specs.Lookup.{lookup_hygiene}
+use Rattle.hir_meaning.specs.Data.{literal_data}
 use Rattle.hir_meaning.specs.Left.{is_kept, is_left, is_last}
 
 -- it keeps nothing besides

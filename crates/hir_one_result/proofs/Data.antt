@@ -1,23 +1,14 @@
 -- The expression that is stored for a path stands for the path that was written.
-use Rattle.std.proofs.Common.{◌≡◌, refl, ap, subst, List, [], ◌∷◌, Option, Some, None, option_map, length, nat_le, if◌then◌else◌}
+use Rattle.std.proofs.Common.{◌≡◌, refl, ap, subst, Option, Some, None, option_map}
 use Rattle.hir_store.specs.declared.hir.Expr.{Expr as HirExpr}
 use Rattle.hir_store.specs.declared.hir.Expr.TheVariants as hir
-use Rattle.hir_store.specs.declared.name.Name.{Name}
 use Rattle.hir_store.specs.declared.path.Path.{Path}
-use Rattle.hir_store.specs.declared.path.Path.TheVariants.{BarePath}
 use Rattle.hir_store.specs.declared.ids.HygieneId.{HygieneId}
 use Rattle.hir_data.specs.Data.{PathData}
+use Rattle.hir_data.specs.Lookup.{lookup_hygiene}
 use Rattle.hir_data.specs.Reading.{stored_path}
-use Rattle.hir_meaning.specs.Data.{hygiene_for, lookup_hygiene}
-use Rattle.hir_lower_form.specs.Lower.{path_hygiene, path_or_missing}
-
-hygiene_is : (ns : List Name) (h : HygieneId) → (if nat_le (length ns) 1 then h else record { 0 = 0 }) ≡ hygiene_for ns h
-hygiene_is [] h = refl
-hygiene_is (n ∷ []) h = refl
-hygiene_is (n ∷ (m ∷ ns)) h = refl
-
-looked_up : (p : Path) (h : HygieneId) → path_hygiene p h ≡ lookup_hygiene (stored_path p) h
-looked_up (BarePath p) h = hygiene_is p.segments h
+use Rattle.hir_lower_form.specs.Lower.{path_or_missing}
+use Rattle.hir_read_back.proofs.Lookup.{looked_up}
 
 -- the expression that stands for what is known of a path
 abbrev pub PathIs : Option PathData → HygieneId → HirExpr → Type 0

@@ -52,8 +52,8 @@ pub record Same (n k : Size) : Type 0 where
   pub labels : n.labels ≡ k.labels
   pub overcounts : n.overcounts → k.overcounts
 
-short_first : {n : Size} (k : Size) (s : Stored) → Short n s → Short (n ∪ k) s
-short_first k s h = ⊎_elim (λ x. inl (omega arith)) (λ y. inr (⊎_elim (λ x. inl (omega arith)) (λ o. inr (inl o)) y)) h
+short_first : (n k : Size) (s : Stored) → Short n s → Short (n ∪ k) s
+short_first n k s h = ⊎_elim (λ x. inl (omega arith)) (λ y. inr (⊎_elim (λ x. inl (omega arith)) (λ o. inr (inl o)) y)) h
 
 short_then : {n : Size} (k : Size) (a b : Stored) → Took n a b → Short k b → Short (n ∪ k) a
 short_then k a b t h =
@@ -108,7 +108,7 @@ takes_then {A = A} {B = B} {n = n} {k = k} {p = p} {f = f} h more = record { tak
 
     first : (b : Builder) (o : Checked A) (c : Builder) → Room n b o c → Room (n ∪ k) b (go_on o c f).0 (go_on o c f).1
     first b (Ok a) c x = second b c x (f a c).0 (f a c).1 ((more a).takes c)
-    first b (Err e) c x = short_first k b.stored x
+    first b (Err e) c x = short_first n k b.stored x
 
 pub takes_as : {A : Type 0} {n k : Size} {p : Lowering A} → Same n k → Takes n p → Takes k p
 takes_as {A = A} {n = n} {k = k} {p = p} same h = record { takes = λ b. by b (p b).0 (p b).1 (h.takes b) }
@@ -230,5 +230,6 @@ takes_path p = record { takes = λ b. by b (lower_path p b).0 (lower_path p b).1
     by : (b : Builder) (o : Checked (Option Path)) (c : Builder) → lower_path p b ≡ (o, c) → Room (a_path p) b o c
     by b (Ok r) c e =
         let same = ap (λ x. x.stored) ((path_stays p b c).0 r e) in
-        took_none b.stored c.stored (ap (λ s. s.exprs.entries) same) (ap (λ s. s.exprs.limit) same) (ap (λ s. s.labels) same)
+        let more : Same nothing (a_path p) = record { exprs = refl; labels = refl; overcounts = λ x. absurd x } in
+        took_as more (took_none b.stored c.stored (ap (λ s. s.exprs.entries) same) (ap (λ s. s.exprs.limit) same) (ap (λ s. s.labels) same))
     by b (Err x) c e = inr (inr ((path_stays p b c).1 x e).0)

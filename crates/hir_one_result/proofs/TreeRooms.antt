@@ -164,17 +164,17 @@ mutual
   block_takes : (b : Block) → Takes (block_size b) (lower_block b)
   block_takes (tree.block at is_unsafe label number ss e) =
       labelled_takes label (λ n. takes_as (moved_out (stmts_size ss) (size_kept e) an_expr)
-      (block_form_takes at is_unsafe n number (stmts_take [] ss (kept_part_takes e))))
+      (block_form_takes at is_unsafe n number (stmts_take [] ss e (kept_part_takes e))))
 
   block_part_takes : (b : OptionBlock) → Takes (block_part_size b) (lower_block_part b)
   block_part_takes tree.no_block = missing_takes
   block_part_takes (tree.some_block b) = block_takes b
 
-  stmts_take : (done : List Statement) (ss : Stmts) {n : Size} {tail : Lowering (Option ExprId)} → Takes n tail
-      → Takes (stmts_size ss ∪ n) (lower_stmts done ss tail)
-  stmts_take done tree.no_stmts h = takes_as (nothing_first _) (takes_end h (λ t. takes_pure (done, t)))
-  stmts_take done (tree.more_stmts s ss) {n = n} h =
-      takes_as (moved_in (stmt_size s) (stmts_size ss) n) (takes_then (stmt_takes s) (λ x. stmts_take _ ss h))
+  stmts_take : (done : List Statement) (ss : Stmts) (e : OptionExpr) → Takes (size_kept e) (kept_part e)
+      → Takes (stmts_size ss ∪ size_kept e) (lower_stmts done ss (kept_part e))
+  stmts_take done tree.no_stmts e h = takes_as (nothing_first _) (takes_end h (λ t. takes_pure (done, t)))
+  stmts_take done (tree.more_stmts s ss) e h =
+      takes_as (moved_in (stmt_size s) (stmts_size ss) (size_kept e)) (takes_then (stmt_takes s) (λ x. stmts_take _ ss e h))
 
   stmt_takes : (s : Stmt) → Takes (stmt_size s) (lower_stmt s)
   stmt_takes (tree.expr_stmt e semi) = takes_end (kept_part_takes e) (λ x. takes_pure _)

@@ -174,24 +174,26 @@ super_says l is w e r h = (e, r, record {
 
 -- no more are counted than are read
 
+second_false : (a b : Bool) → (a || b) ≡ false → b ≡ false
+second_false false b h = h
+second_false true b h = absurd (clash h)
+
 nothing_set : (is : List Item) → ended is ≡ false → supers (set_kind is) ≡ 0
 nothing_set [] h = refl
-nothing_set (i ∷ is) h = by i.leading i.what h
+nothing_set (i ∷ is) h = by (λ e. nothing_set is e) i.leading i.what h
   where
-    last : (l : Bool) → ended is ≡ false → supers (rule.kind_or (if l then Some kind.Abs else None) (set_kind is)) ≡ 0
-    last false h = nothing_set is h
-    last true h = refl
+    last : (ended is ≡ false → supers (set_kind is) ≡ 0) → (l : Bool) → ended is ≡ false
+        → supers (rule.kind_or (if l then Some kind.Abs else None) (set_kind is)) ≡ 0
+    last k false h = k h
+    last k true h = refl
 
-    second : (a b : Bool) → (a || b) ≡ false → b ≡ false
-    second false b h = h
-    second true b h = absurd (clash h)
-
-    by : (l : Bool) (x : What) → (ends x (rule.names is) || ended is) ≡ false → supers (rule.kind_or (rule.sets l x) (set_kind is)) ≡ 0
-    by l broken h = last l h
-    by l (named n) h = last l h
-    by l (root k) h = absurd (clash h)
-    by l self_ h = last l (second (not (empty_list (rule.names is))) (ended is) h)
-    by l super_ h = last l h
+    by : (ended is ≡ false → supers (set_kind is) ≡ 0) → (l : Bool) (x : What) → (ends x (rule.names is) || ended is) ≡ false
+        → supers (rule.kind_or (rule.sets l x) (set_kind is)) ≡ 0
+    by k l broken h = last k l h
+    by k l (named n) h = last k l h
+    by k l (root r) h = absurd (clash h)
+    by k l self_ h = last k l (second_false (not (empty_list (rule.names is))) (ended is) h)
+    by k l super_ h = last k l h
 
 more_left : (x : What) (m n : ℕ) → m ≤ n → one_more x m ≤ one_more x n
 more_left broken m n h = h
@@ -204,11 +206,11 @@ left_read : (is : List Item) → supers_left is ≤ supers_in is
 left_read [] = omega arith
 left_read (i ∷ is) =
     let sets = is_some (rule.sets i.leading i.what) in
-    more_left i.what (if sets then 0 else supers_left is) (supers_in is) (by sets)
+    more_left i.what (if sets then 0 else supers_left is) (supers_in is) (by sets (left_read is))
   where
-    by : (b : Bool) → (if b then 0 else supers_left is) ≤ supers_in is
-    by true = omega arith
-    by false = left_read is
+    by : (b : Bool) → supers_left is ≤ supers_in is → (if b then 0 else supers_left is) ≤ supers_in is
+    by true h = omega arith
+    by false h = h
 
 supers_open : (k : PathKind) (n : ℕ) → supers k ≡ 0 → supers (counted k n) ≤ n
 supers_open k zero h = rw h (omega arith)

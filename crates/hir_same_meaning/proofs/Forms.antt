@@ -1,5 +1,5 @@
 -- What each form becomes runs as the form is written, where its parts do.
-use Rattle.std.proofs.Common.{◌≡◌, ℕ, suc, ◌≤◌, Bool, true, false, nat_le, if◌then◌else◌, List, [], ◌∷◌, ◌++◌, length, append-nil}
+use Rattle.std.proofs.Common.{◌≡◌, ℕ, suc, ◌≤◌, Bool, true, false, if◌then◌else◌, List, [], ◌∷◌, ◌++◌, append-nil}
 use Rattle.std.proofs.Common.{append_assoc, Option, Some, None, Ok, Err, option_map, refl, sym, subst, ◌∙◌, arith}
 use Rattle.hir_syntax.specs.declared.ast.Literal.{Literal as AstLiteral}
 use Rattle.hir_store.specs.Pointers.{Pointer}
@@ -9,8 +9,6 @@ use Rattle.hir_store.specs.declared.hir.LoopSource.TheVariants as source
 use Rattle.hir_store.specs.declared.hir.Statement.{Statement}
 use Rattle.hir_store.specs.declared.hir.Statement.TheVariants as statement
 use Rattle.hir_store.specs.declared.path.Path.{Path}
-use Rattle.hir_store.specs.declared.path.Path.TheVariants.{BarePath}
-use Rattle.hir_store.specs.declared.name.Name.{Name}
 use Rattle.hir_store.specs.declared.ids.ExprId.{ExprId}
 use Rattle.hir_store.specs.declared.ids.LabelId.{LabelId}
 use Rattle.hir_store.specs.declared.ids.BlockId.{BlockId}
@@ -25,14 +23,16 @@ use Rattle.hir_lower_form.specs.Builder.{Builder}
 use Rattle.hir_lower_form.specs.Lowering.{Checked, Lowering, ◌>>=◌, pure, alloc_expr, report}
 use Rattle.hir_lower_form.specs.Lower.{ExprSteps, StoredContents, push_some, missing, some, if_form, loop_form, call_form}
 use Rattle.hir_lower_form.specs.Lower.{continue_form, break_form}
-use Rattle.hir_lower_form.specs.Lower.{paren_form, stored_literal, path_hygiene, path_or_missing, path_form, settled}
+use Rattle.hir_lower_form.specs.Lower.{paren_form, stored_literal, path_or_missing, path_form, settled}
 use Rattle.hir_lower_form.specs.Paths.{lower_path}
 use Rattle.hir_lower_form.specs.Lower.{settled_block, block_form, labelled, kept}
 use Rattle.hir_data.specs.Data.{PathData}
 use Rattle.hir_data.specs.Reading.{stored_path}
 use Rattle.hir_data.specs.Written.{written_path}
 use Rattle.hir_read_back.proofs.Walk.{path_law}
-use Rattle.hir_meaning.specs.Data.{literal_data, hygiene_for, lookup_hygiene}
+use Rattle.hir_read_back.proofs.Lookup.{looked_up}
+use Rattle.hir_data.specs.Lookup.{lookup_hygiene}
+use Rattle.hir_meaning.specs.Data.{literal_data}
 use Rattle.hir_meaning.specs.Run.{Value, unit, is_true, literal, read, call, break, continue, leave, missing as is_missing}
 use Rattle.hir_meaning.specs.Run.{ends, pure as gives, ◌>>=◌ as ◌then◌, ask, tests, entering}
 use Rattle.hir_meaning.specs.Catching.{turn, loop}
@@ -138,21 +138,12 @@ module _ (at : Pointer) where
 
 -- paths
 
--- a path of more than one name
-hygiene_is : (ns : List Name) (h : HygieneId) → (if nat_le (length ns) 1 then h else record { 0 = 0 }) ≡ hygiene_for ns h
-hygiene_is [] h = refl
-hygiene_is (n ∷ []) h = refl
-hygiene_is (n ∷ (m ∷ ns)) h = refl
-
-pub looked_up : (p : Path) (h : HygieneId) → path_hygiene p h ≡ lookup_hygiene (stored_path p) h
-looked_up (BarePath p) h = hygiene_is p.segments h
-
 -- what is stored for a path is read as this
 goes_path : {labels : ℕ} {m m' : Mark} {final : Stored} {ps qs : List Frame} {i : ExprId} (at : Pointer) (h : HygieneId)
     (r : Option Path) (d : Option PathData) → option_map stored_path r ≡ d
     → Allocated (path_or_missing h r) (Some at) final qs m m' i
     → Goes labels m'.nodes one (λ turns ss. run_path d h (Some (site_of at))) final ps i
-goes_path {labels = labels} {m' = m'} {final = final} {ps = ps} {i = i} at h r d is a =
+goes_path {labels = labels} {m = m} {m' = m'} {final = final} {ps = ps} {qs = qs} {i = i} at h r d is a =
     subst (λ k. Goes labels m'.nodes one (λ turns ss. run_path k h (Some (site_of at))) final ps i) is (by r a)
   where
     by : (r : Option Path) → Allocated (path_or_missing h r) (Some at) final qs m m' i
