@@ -1,4 +1,5 @@
 pub mod Frames
 pub mod Steps
+pub mod TypeSteps
 pub mod Aside
 pub mod Keeping

@@ -28,21 +28,31 @@ use Rattle.hir_lower_scope.specs.Labels.{rest}
 use Rattle.hir_lower_form.specs.Builder.{Builder}
 use Rattle.hir_lower_form.specs.Lowering.{Checked, go_on, Lowering, ◌>>=◌, pure, alloc_expr, point, report}
 use Rattle.hir_lower_form.specs.Lowering.{report_await, enter_block, open_label, close, jump_target, found_or_fault, count_out}
-use Rattle.hir_steps.specs.Keeps.{Paired, KeepsAll}
+use Rattle.hir_steps.specs.Keeps.{Paired, Mapped, KeepsAll}
 use Rattle.hir_steps.proofs.Frames.{Frame, rib, ribs}
 
--- how far it has come: how many expressions and labels there are, and all that is stored
+-- how far it has come: how many expressions, labels, types and lifetimes there are, and all that is stored
 pub record Mark : Type 0 where
   pub nodes : ℕ
   pub labels : ℕ
+  pub types : ℕ
+  pub lifetimes : ℕ
   pub stored : Stored
 
 abbrev pub mark : Builder → Mark
-mark b = record { nodes = length b.stored.exprs.entries; labels = length b.stored.labels.entries; stored = b.stored }
+mark b = record {
+  nodes = length b.stored.exprs.entries;
+  labels = length b.stored.labels.entries;
+  types = length b.stored.types.entries;
+  lifetimes = length b.stored.lifetimes.entries;
+  stored = b.stored;
+}
 
 pub record Grows (m m' : Mark) : Type 0 where
   pub nodes : m.nodes ≤ m'.nodes
   pub labels : m.labels ≤ m'.labels
+  pub types : m.types ≤ m'.types
+  pub lifetimes : m.lifetimes ≤ m'.lifetimes
 
 -- of a final store, the frames around, the marks before and after, and what was answered
 abbrev pub Rel : Type 0 → Type 1
@@ -71,16 +81,20 @@ pub record Seq {A B : Type 0} (R : Rel A) (Q : A → Rel B) (final : Stored) (ps
   pub second : Q one final ps middle m' b
 
 grows_trans : {m m' m'' : Mark} → Grows m m' → Grows m' m'' → Grows m m''
-grows_trans g h = record { nodes = omega arith; labels = omega arith }
+grows_trans g h = record { nodes = omega arith; labels = omega arith; types = omega arith; lifetimes = omega arith }
 
 grows_refl : (m : Mark) → Grows m m
-grows_refl m = record { nodes = omega arith; labels = omega arith }
+grows_refl m = record { nodes = omega arith; labels = omega arith; types = omega arith; lifetimes = omega arith }
+
+pub kept_still : (b : Builder) → KeepsAll b b
+kept_still b = record { scopes = refl; roots = refl; paired = λ d. d; mapped = λ d w. w; stays = extends_refl b.stored }
 
 kept_trans : {a b c : Builder} → KeepsAll a b → KeepsAll b c → KeepsAll a c
 kept_trans g h = record {
   scopes = h.scopes ∙ g.scopes;
   roots = h.roots ∙ g.roots;
   paired = λ d. h.paired (g.paired d);
+  mapped = λ d w. h.mapped (g.paired d) (g.mapped d w);
   stays = extends_trans g.stays h.stays;
 }
 
@@ -163,6 +177,8 @@ pub record InStore {A : Type 0} (R : Rel A) (final : Stored) (ps : List Frame) (
   pub rel : R final ps m m' a
   pub nodes : m'.nodes ≤ length final.exprs.entries
   pub labels : m'.labels ≤ length final.labels.entries
+  pub types : m'.types ≤ length final.types.entries
+  pub lifetimes : m'.lifetimes ≤ length final.lifetimes.entries
 
 pub correct_in_store : {A : Type 0} {p : Lowering A} {R : Rel A} → Correct p R → Correct p (InStore R)
 correct_in_store {A = A} {p = p} {R = R} h = record { holds = λ final ps b r. go final ps b (p b).0 (p b).1 (h.holds final ps b r) }
@@ -172,7 +188,13 @@ correct_in_store {A = A} {p = p} {R = R} h = record { holds = λ final ps b r. g
     go final ps b (Ok a) c y = record {
       kept = y.kept;
       grows = y.grows;
-      in_final = λ d pre. record { rel = y.in_final d pre; nodes = longer pre.exprs.entries; labels = longer pre.labels.entries };
+      in_final = λ d pre. record {
+        rel = y.in_final d pre;
+        nodes = longer pre.exprs.entries;
+        labels = longer pre.labels.entries;
+        types = longer pre.types.entries;
+        lifetimes = longer pre.lifetimes.entries;
+      };
     }
     go final ps b (Err e) c y = y
 
@@ -185,7 +207,7 @@ pub record IsPure {A : Type 0} (a : A) (final : Stored) (ps : List Frame) (m m' 
 pub correct_pure : {A : Type 0} (a : A) → Correct (pure a) (IsPure a)
 correct_pure a = record {
   holds = λ final ps b r. record {
-    kept = record { scopes = refl; roots = refl; paired = λ d. d; stays = extends_refl b.stored };
+    kept = kept_still b;
     grows = grows_refl (mark b);
     in_final = λ d pre. record { is = refl; still = refl };
   };
@@ -196,7 +218,7 @@ pub correct_count_out : {A : Type 0} (R : Rel A) → Correct {A = A} count_out R
 unfolding count_out
 correct_count_out R = record { holds = λ final ps b r. extends_refl b.stored }
 
--- it writes, as f says, and stores no expression and no label
+-- it writes, as f says, and stores no expression, label, type or lifetime
 pub record Writes {A : Type 0} (a : A) (f : Stored → Stored) (final : Stored) (ps : List Frame) (m m' : Mark) (b : A) : Type 0 where
   pub is : b ≡ a
   pub nodes : m'.nodes ≡ m.nodes
@@ -225,10 +247,11 @@ correct_report fault = record {
     kept = record {
       scopes = refl;
       roots = refl;
-      paired = λ d. record { exprs = d.exprs; labels = d.labels };
+      paired = λ d. record { exprs = d.exprs; labels = d.labels; types = d.types; lifetimes = d.lifetimes };
+      mapped = λ d w. record { types = w.types; lifetimes = w.lifetimes };
       stays = extends_report b.stored fault;
     };
-    grows = record { nodes = omega arith; labels = omega arith };
+    grows = record { nodes = omega arith; labels = omega arith; types = omega arith; lifetimes = omega arith };
     in_final = λ d pre. record { is = refl; nodes = refl; labels = refl; stored = refl };
   };
 }
@@ -255,10 +278,11 @@ correct_point node id = record {
     kept = record {
       scopes = refl;
       roots = refl;
-      paired = λ d. record { exprs = d.exprs; labels = d.labels };
+      paired = λ d. record { exprs = d.exprs; labels = d.labels; types = d.types; lifetimes = d.lifetimes };
+      mapped = λ d w. record { types = w.types; lifetimes = w.lifetimes };
       stays = extends_point b.stored node id;
     };
-    grows = record { nodes = omega arith; labels = omega arith };
+    grows = record { nodes = omega arith; labels = omega arith; types = omega arith; lifetimes = omega arith };
     in_final = λ d pre. record { is = refl; nodes = refl; labels = refl; stored = refl };
   };
 }
@@ -271,10 +295,11 @@ correct_enter_block (Some n) = record {
     kept = record {
       scopes = refl;
       roots = refl;
-      paired = λ d. record { exprs = d.exprs; labels = d.labels };
+      paired = λ d. record { exprs = d.exprs; labels = d.labels; types = d.types; lifetimes = d.lifetimes };
+      mapped = λ d w. record { types = w.types; lifetimes = w.lifetimes };
       stays = extends_block b.stored n;
     };
-    grows = record { nodes = omega arith; labels = omega arith };
+    grows = record { nodes = omega arith; labels = omega arith; types = omega arith; lifetimes = omega arith };
     in_final = λ d pre. record { is = refl; nodes = refl; labels = refl; stored = refl };
   };
 }
@@ -300,12 +325,12 @@ at_end xs x more =
     let lt : length xs < length (xs ++ x ∷ more) = omega arith in
     rw e (slice_get-get_or (xs ++ x ∷ more) (length xs) x lt ∙ ap Some (get_or-append_seam xs x more x))
 
-in_prefix : {A : Type 0} (xs : List A) (x : A) {final : List A} (n : ℕ) → n ≡ length xs → Prefix (xs ++ x ∷ []) final
+pub in_prefix : {A : Type 0} (xs : List A) (x : A) {final : List A} (n : ℕ) → n ≡ length xs → Prefix (xs ++ x ∷ []) final
     → slice_get final n ≡ Some x
 in_prefix xs x {final = final} n e p =
     ap (λ f. slice_get f n) p.is ∙ (ap (λ k. slice_get ((xs ++ x ∷ []) ++ p.more) k) e ∙ at_end xs x p.more)
 
-one_more : {A B : Type 0} (xs : List A) (x : A) (ys : List B) (y : B) → length ys ≡ length xs
+pub one_more : {A B : Type 0} (xs : List A) (x : A) (ys : List B) (y : B) → length ys ≡ length xs
     → length (ys ++ y ∷ []) ≡ length (xs ++ x ∷ [])
 one_more xs x ys y e = length-append ys (y ∷ []) ∙ ap (λ n. n + 1) e ∙ sym (length-append xs (x ∷ []))
 
@@ -328,16 +353,19 @@ correct_alloc e source = record { holds = λ final ps b r. go final ps b (nat_lt
           kept = record {
             scopes = refl;
             roots = refl;
-            paired = λ d. record { exprs = one_more xs e ss source d.exprs; labels = d.labels };
+            paired = λ d. record { exprs = one_more xs e ss source d.exprs; labels = d.labels; types = d.types; lifetimes = d.lifetimes };
+            mapped = λ d w. record { types = w.types; lifetimes = w.lifetimes };
             stays = record {
               exprs = continues_entry expr_id s.exprs e source;
               labels = continues_refl s.labels;
+              types = continues_refl s.types;
+              lifetimes = continues_refl s.lifetimes;
               roots = prefix_refl s.roots;
               block_scopes = prefix_refl s.block_scopes;
               diagnostics = prefix_refl s.diagnostics;
             };
           };
-          grows = record { nodes = omega arith; labels = omega arith };
+          grows = record { nodes = omega arith; labels = omega arith; types = omega arith; lifetimes = omega arith };
           in_final = λ d pre. record {
             number = refl;
             here = in_prefix xs e (length xs) refl pre.exprs.entries;
@@ -379,10 +407,13 @@ record Opening (l : Label) (b : Builder) (n : LabelId) (b' : Builder) : Type 0 w
   scopes : b'.scopes ≡ rib l n ∷ b.scopes
   roots : b'.stored.roots ≡ b.stored.roots
   paired : Paired b.stored → Paired b'.stored
+  mapped : Paired b.stored → Mapped b.stored → Mapped b'.stored
   stays : Extends b.stored b'.stored
   number : n.0 ≡ length b.stored.labels.entries
   labels : length b'.stored.labels.entries ≡ suc (length b.stored.labels.entries)
   nodes : length b'.stored.exprs.entries ≡ length b.stored.exprs.entries
+  types : length b'.stored.types.entries ≡ length b.stored.types.entries
+  lifetimes : length b'.stored.lifetimes.entries ≡ length b.stored.lifetimes.entries
   stored : b'.stored ≡ with_label l b.stored
   here : (final : Stored) → Extends b'.stored final
       → slice_get final.labels.entries (length b.stored.labels.entries) ≡ Some (record { name = l.name })
@@ -415,10 +446,18 @@ opens l b = go (nat_lt (length b.stored.labels.entries) b.stored.labels.limit)
         let grown = length-append xs (x ∷ []) in record {
           scopes = refl;
           roots = refl;
-          paired = λ d. record { exprs = d.exprs; labels = one_more xs x ss (Some l.pointer) d.labels };
+          paired = λ d. record {
+            exprs = d.exprs;
+            labels = one_more xs x ss (Some l.pointer) d.labels;
+            types = d.types;
+            lifetimes = d.lifetimes;
+          };
+          mapped = λ d w. record { types = w.types; lifetimes = w.lifetimes };
           stays = record {
             exprs = continues_refl s.exprs;
             labels = continues_entry label_id s.labels x (Some l.pointer);
+            types = continues_refl s.types;
+            lifetimes = continues_refl s.lifetimes;
             roots = prefix_refl s.roots;
             block_scopes = prefix_refl s.block_scopes;
             diagnostics = prefix_refl s.diagnostics;
@@ -426,6 +465,8 @@ opens l b = go (nat_lt (length b.stored.labels.entries) b.stored.labels.limit)
           number = refl;
           labels = omega arith;
           nodes = refl;
+          types = refl;
+          lifetimes = refl;
           stored = refl;
           here = λ final e. in_prefix xs x (length xs) refl e.labels.entries;
           from = λ d final e. in_prefix ss (Some l.pointer) (length xs) (sym d.labels) e.labels.sources;
@@ -455,6 +496,7 @@ correct_opened {A = A} {B = B} at l {p = p} {R = R} {f = f} {Q = Q} frame hp hf 
         scopes = y.kept.scopes ∙ ap rest (x.kept.scopes ∙ h.scopes);
         roots = y.kept.roots ∙ (x.kept.roots ∙ h.roots);
         paired = λ d. y.kept.paired (x.kept.paired (h.paired d));
+      mapped = λ d w. y.kept.mapped (x.kept.paired (h.paired d)) (x.kept.mapped (h.paired d) (h.mapped d w));
         stays = extends_trans h.stays (extends_trans x.kept.stays y.kept.stays);
       };
       grows =
@@ -462,7 +504,9 @@ correct_opened {A = A} {B = B} at l {p = p} {R = R} {f = f} {Q = Q} frame hp hf 
           let g' = y.grows in
           let e' = h.labels in
           let e'' = h.nodes in
-          record { nodes = omega arith; labels = omega arith };
+          let t = h.types in
+          let f = h.lifetimes in
+          record { nodes = omega arith; labels = omega arith; types = omega arith; lifetimes = omega arith };
       in_final = λ d pre.
           let past : Extends b2.stored final = extends_trans y.kept.stays pre in
           let open' : Extends b1.stored final = extends_trans x.kept.stays past in
@@ -523,7 +567,7 @@ pub correct_target : (j : Option Jump) → Correct (jump_target j) (Targeted j)
 unfolding jump_target report storing.report
 correct_target None = record {
   holds = λ final ps b r. record {
-    kept = record { scopes = refl; roots = refl; paired = λ d. d; stays = extends_refl b.stored };
+    kept = kept_still b;
     grows = grows_refl (mark b);
     in_final = λ d pre. record { is = refl; nodes = refl; labels = refl; stored = refl };
   };
@@ -533,7 +577,7 @@ correct_target (Some j) = record { holds = λ final ps b r. go final ps b (targe
     go : (final : Stored) (ps : List Frame) (b : Builder) (o : Target LabelId) → o ≡ target j (ribs ps)
         → Holds (Targeted (Some j)) final ps b (found_or_fault j o b).0 (found_or_fault j o b).1
     go final ps b (reachable n) e = record {
-      kept = record { scopes = refl; roots = refl; paired = λ d. d; stays = extends_refl b.stored };
+      kept = kept_still b;
       grows = grows_refl (mark b);
       in_final = λ d pre. record { is = ap number_found e; nodes = refl; labels = refl; stored = ap (λ t. with_target j t b.stored) e };
     }
@@ -541,19 +585,21 @@ correct_target (Some j) = record { holds = λ final ps b r. go final ps b (targe
       kept = record {
         scopes = refl;
         roots = refl;
-        paired = λ d. record { exprs = d.exprs; labels = d.labels };
+        paired = λ d. record { exprs = d.exprs; labels = d.labels; types = d.types; lifetimes = d.lifetimes };
+        mapped = λ d w. record { types = w.types; lifetimes = w.lifetimes };
         stays = extends_report b.stored (UnreachableLabel j.pointer j.name);
       };
-      grows = record { nodes = omega arith; labels = omega arith };
+      grows = record { nodes = omega arith; labels = omega arith; types = omega arith; lifetimes = omega arith };
       in_final = λ d pre. record { is = ap number_found e; nodes = refl; labels = refl; stored = ap (λ t. with_target j t b.stored) e };
     }
     go final ps b undeclared e = record {
       kept = record {
         scopes = refl;
         roots = refl;
-        paired = λ d. record { exprs = d.exprs; labels = d.labels };
+        paired = λ d. record { exprs = d.exprs; labels = d.labels; types = d.types; lifetimes = d.lifetimes };
+        mapped = λ d w. record { types = w.types; lifetimes = w.lifetimes };
         stays = extends_report b.stored (UndeclaredLabel j.pointer j.name);
       };
-      grows = record { nodes = omega arith; labels = omega arith };
+      grows = record { nodes = omega arith; labels = omega arith; types = omega arith; lifetimes = omega arith };
       in_final = λ d pre. record { is = ap number_found e; nodes = refl; labels = refl; stored = ap (λ t. with_target j t b.stored) e };
     }

@@ -1,5 +1,6 @@
 -- What lowering leaves as it was.
 use Rattle.std.specs.Prelude.{◌≡◌, length, Ok, Err}
+use Rattle.hir_store.specs.Arenas.{MapsBack}
 use Rattle.hir_store.specs.Stored.{Stored}
 use Rattle.hir_store.specs.Storing.{Checked, Extends}
 use Rattle.hir_env.specs.Answered.{OptionExpr}
@@ -10,11 +11,19 @@ use Rattle.hir_lower_form.specs.Lower.{lower_part}
 pub record Paired (s : Stored) : Type 0 where
   pub exprs : length s.exprs.sources ≡ length s.exprs.entries
   pub labels : length s.labels.sources ≡ length s.labels.entries
+  pub types : length s.types.sources ≡ length s.types.entries
+  pub lifetimes : length s.lifetimes.sources ≡ length s.lifetimes.entries
+
+-- the nodes of types and lifetimes lead to them, and no other node does: so it is in an empty store, and stays
+pub record Mapped (s : Stored) : Type 0 where
+  pub types : MapsBack (λ i. i.0) s.types
+  pub lifetimes : MapsBack (λ i. i.0) s.lifetimes
 
 pub record KeepsAll (b b' : Builder) : Type 0 where
   pub scopes : b'.scopes ≡ b.scopes
   pub roots : b'.stored.roots ≡ b.stored.roots
   pub paired : Paired b.stored → Paired b'.stored
+  pub mapped : Paired b.stored → Mapped b.stored → Mapped b'.stored
   pub stays : Extends b.stored b'.stored
 
 -- after a refusal something may be open, but nothing is lost
