@@ -53,8 +53,8 @@ lower_lifetime_option (Some l) = do
 
 -- what a `use<..>` names
 abbrev pub lower_use : UseRead → Lowering UseArgRef
-lower_use (tree.use_name n) = pure (use_arg.Name n)
-lower_use (tree.use_lifetime l) = do
+lower_use (tree.used_name n) = pure (use_arg.Name n)
+lower_use (tree.used_lifetime l) = do
   id ← lower_lifetime l
   pure (use_arg.Lifetime id)
 

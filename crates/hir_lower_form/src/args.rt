@@ -4,9 +4,8 @@ ghost use Rattle.std.specs.Prelude.{◌≡◌, IfOk};
 ghost use Rattle.hir_store.specs.Past.{join, past_arg, past_binding, past_generic, past_present};
 ghost use Rattle.hir_lower_form.specs.Types as spec;
 
-use hir_store::path::{
-    AssociatedTypeBinding, GenericArg, GenericArgs, GenericArgsParentheses, push_arg, push_binding,
-};
+use hir_store::lists::{push_arg, push_binding};
+use hir_store::path::{AssociatedTypeBinding, GenericArg, GenericArgs, GenericArgsParentheses};
 use hir_syntax::Seq;
 use std::alloc::{AllocError, Global};
 

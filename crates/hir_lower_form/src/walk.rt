@@ -1,12 +1,11 @@
 //! What is read of a path so far.
 
 ghost use Rattle.std.specs.Prelude.{◌≡◌, map, reverse, IfOk, None};
-ghost use Rattle.hir_store.specs.Past.{join, past_arg_lists, past_path, past_present, past_generic, past_type_id};
 ghost use Rattle.hir_lower_form.specs.Walks as spec;
 
 use hir_store::ids::{CrateId, TypeRefId};
 use hir_store::name::Name;
-use hir_store::path::{GenericArgs, ModPath, NormalPath, Path, PathKind, push_args};
+use hir_store::path::{GenericArgs, ModPath, NormalPath, Path, PathKind};
 use hir_syntax::Seq;
 use std::alloc::{AllocError, Global};
 
@@ -53,7 +52,7 @@ fn one_more_super(kind: PathKind) -> Option<PathKind>
     }
 }
 
-#[tactic(auto, using(crate::proofs::Walked::no_args_push, crate::proofs::Walked::no_args_past))]
+#[tactic(auto, using(crate::proofs::Walked::no_args_push))]
 fn absent_args(alloc: Global, names: &Seq<Name>) -> Result<Seq<Option<GenericArgs>>, AllocError>
     ensures { IfOk result (λ args. args ≡ map (λ n. None) names.now) }
 {
@@ -138,12 +137,11 @@ impl PathWalk {
 
     /// A further name, before those that are read, with what stands beside it.
     pub fn named(mut self, name: Name, args: Option<GenericArgs>) -> Result<Reading, AllocError>
-        ensures value { IfOk result (λ r. r ≡ spec.named name args self) }
-        ensures past { IfOk result (λ r. spec.past_reading r ≡ join (spec.past_walk self) (past_present past_generic args)) }
+        ensures { IfOk result (λ r. r ≡ spec.named name args self) }
     {
         self.found_args = self.found_args || args.is_some();
         self.names.push(name)?;
-        push_args(&mut self.args, args)?;
+        self.args.push(args)?;
         Ok(Reading::Open(self))
     }
 
@@ -156,8 +154,7 @@ impl PathWalk {
 
     /// `self` as a first segment: it ends the path where a name was read.
     pub fn self_read(self) -> Reading
-        ensures value { result ≡ spec.self_read self }
-        ensures past { spec.past_reading result ≡ spec.past_walk self }
+        ensures { result ≡ spec.self_read self }
     {
         if self.names.is_empty() {
             return Reading::Open(self);
@@ -171,8 +168,7 @@ impl PathWalk {
 
     /// One `super` more, or none where there are as many as are counted.
     pub fn super_read(self) -> Option<Reading>
-        ensures value { result ≡ spec.super_read self }
-        ensures past { OnSome result (λ r. spec.past_reading r ≡ spec.past_walk self) }
+        ensures { result ≡ spec.super_read self }
     {
         match one_more_super(self.kind) {
             Some(kind) => Some(Reading::Open(PathWalk { kind, ..self })),
