@@ -14,7 +14,7 @@ use Rattle.hir_one_result.specs.Leads.{Way, label_ways, Covers, CoversLabels, Le
 use Rattle.hir_one_result.specs.Stands.{StandsPart}
 use Rattle.hir_one_result.specs.Diagnostics.{Faults, part_diagnostics, Around}
 use Rattle.hir_one_result.specs.Blocks.{blocks_of_part}
-use Rattle.hir_one_result.specs.Room.{TooLarge, count_of_exprs, count_of_labels}
+use Rattle.hir_one_result.specs.Room.{TooLarge, count_of_exprs, count_of_labels, count_of_types, count_of_lifetimes}
 
 -- what is claimed where the tree is lowered into a `Paired` store
 abbrev pub WhereLowered : (OptionExpr → Builder → ExprId → Builder → Type 0) → Type 0
@@ -61,10 +61,12 @@ BlocksAre = WhereLowered (λ e old id new. new.stored.block_scopes ≡ old.store
 
 -- numbers
 
--- so many expressions and labels come behind those that were stored
+-- so many expressions, labels, types and lifetimes come behind those that were stored
 pub record Fits (e : OptionExpr) (old new : Stored) : Type 0 where
   pub exprs : length new.exprs.entries ≡ length old.exprs.entries + count_of_exprs e
   pub labels : length new.labels.entries ≡ length old.labels.entries + count_of_labels e
+  pub types : length new.types.entries ≡ length old.types.entries + count_of_types e
+  pub lifetimes : length new.lifetimes.entries ≡ length old.lifetimes.entries + count_of_lifetimes e
 
 -- where lowering is refused there is no room for them
 abbrev pub FitsUnless : OptionExpr → Stored → Checked ExprId → Stored → Type 0

@@ -102,8 +102,8 @@ lifetime_option_aside None = aside_pure None
 lifetime_option_aside (Some l) = aside_then (lifetime_aside l) (λ i. aside_pure (Some i))
 
 use_aside : (u : UseRead) → Correct (lower_use u) Aside
-use_aside (tree.use_name n) = aside_pure _
-use_aside (tree.use_lifetime l) = aside_then (lifetime_aside l) (λ i. aside_pure _)
+use_aside (tree.used_name n) = aside_pure _
+use_aside (tree.used_lifetime l) = aside_then (lifetime_aside l) (λ i. aside_pure _)
 
 uses_aside : (done : List UseArgRef) (us : List UseRead) → Correct (lower_uses done us) Aside
 uses_aside done [] = aside_pure done
