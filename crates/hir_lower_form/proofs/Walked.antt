@@ -1,6 +1,7 @@
 -- What a walk names after each of its steps exists.
 use Rattle.std.proofs.Common.{arith, ◌≡◌, ◌∙◌, refl, ap, sym, subst, Bool, true, false, not, ◌&&◌, List, [], ◌∷◌, ◌++◌, Option, Some, None}
-use Rattle.std.specs.Prelude.{map, reverse, is_none, if◌then◌else◌}
+use Rattle.std.specs.Prelude.{map, reverse, is_none, if◌then◌else◌, option_map}
+use Rattle.hir_store.specs.declared.path.PathKind.{PathKind}
 use Rattle.std.proofs.lemmas.List.{reverse-append}
 use Rattle.hir_store.specs.Stored.{Stored}
 use Rattle.hir_store.specs.Range.{Has, HasType, HasArgsOption, HasPath, HasPathOption}
@@ -14,7 +15,7 @@ use Rattle.hir_store.specs.declared.path.Path.{Path}
 use Rattle.hir_store.specs.declared.path.Path.TheVariants.{BarePath, Normal}
 use Rattle.hir_lower_form.specs.Methods.{HasWalk, HasReading}
 use Rattle.hir_lower_form.specs.Walks.{with_self, args_of, without_last_self, has_self, finished, path_read, own_path, normal_path, past_reading}
-use Rattle.hir_lower_form.specs.Walks.{at_first, named, self_read, super_read, self_kind, anchored, projected, add_trait, no_names, mod_path}
+use Rattle.hir_lower_form.specs.Walks.{at_first, named, self_read, super_read, self_kind, anchored, projected, add_trait, no_names, mod_path, one_more_super}
 use Rattle.hir_lower_form.specs.declared.walk.PathWalk.{PathWalk}
 use Rattle.hir_lower_form.specs.declared.walk.Reading.{Reading}
 use Rattle.hir_lower_form.specs.declared.walk.Reading.TheVariants.{Refused, Ended, Open}
@@ -94,6 +95,10 @@ module _ (s : Stored) where
 
   -- the steps of a walk
 
+  abbrev IfRead : Option Reading → Type 0
+  IfRead None = Unit {0}
+  IfRead (Some r) = HasReading s r
+
   pub at_first_has : (leading : Bool) (w : PathWalk) → HasWalk s w → HasWalk s (at_first leading w)
   at_first_has true w h = h
   at_first_has false w h = h
@@ -111,6 +116,13 @@ module _ (s : Stored) where
       by : (b : Bool) → HasReading s (if b then Open w else Ended (record w { kind = self_kind w.kind }))
       by true = h
       by false = h
+
+  pub super_has : (w : PathWalk) (r : Reading) → super_read w ≡ Some r → HasWalk s w → HasReading s r
+  super_has w r e h = by (one_more_super w.kind) e
+    where
+      by : (k : Option PathKind) → option_map (λ k. Open (record w { kind = k })) k ≡ Some r → HasReading s r
+      by (Some k) e = subst IfRead e h
+      by None e = cc
 
   pub anchored_has : (t : TypeRefId) (w : PathWalk) → HasWalk s w → HasType s t → HasReading s (anchored t w)
   anchored_has t w h k =
