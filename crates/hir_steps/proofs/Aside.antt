@@ -31,8 +31,8 @@ use Rattle.hir_lower_form.specs.Lower.{lower_type, type_part, present_type, type
 use Rattle.hir_lower_form.specs.Lower.{read_option, lower_path, lower_segment_args, parens_part, output_part, args_part, lower_args, lower_arg}
 use Rattle.hir_lower_form.specs.Lower.{lower_bounds, lower_bound}
 use Rattle.hir_steps.proofs.Frames.{Frame}
-use Rattle.hir_steps.proofs.Steps.{Mark, Correct, correct_bind, correct_as, correct_pure, correct_count_out}
-use Rattle.hir_steps.proofs.TypeSteps.{correct_alloc_type, correct_alloc_lifetime}
+use Rattle.hir_steps.proofs.Steps.{Mark, Correct, correct_bind, correct_as, correct_pure, correct_count_out, correct_alloc_type}
+use Rattle.hir_steps.proofs.Steps.{correct_alloc_lifetime}
 
 pub record Aside {A : Type 0} (final : Stored) (ps : List Frame) (m m' : Mark) (a : A) : Type 0 where
   pub nodes : m'.nodes ≡ m.nodes

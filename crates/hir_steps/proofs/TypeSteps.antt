@@ -17,7 +17,7 @@ use Rattle.hir_store.proofs.Range.{extends_refl}
 use Rattle.hir_lower_form.specs.Builder.{Builder}
 use Rattle.hir_lower_form.specs.Lowering.{Checked, alloc_type, alloc_lifetime}
 use Rattle.hir_steps.proofs.Frames.{Frame}
-use Rattle.hir_steps.proofs.Steps.{Mark, Holds, Correct, in_prefix, one_more}
+use Rattle.hir_steps.proofs.Logic.{Mark, Holds, Correct, in_prefix, one_more}
 
 -- a type
 
