@@ -12,7 +12,7 @@ use Rattle.hir_store.specs.declared.ids.ExprId.{ExprId}
 use Rattle.hir_syntax.specs.declared.ast.Literal.{Literal as AstLiteral}
 use Rattle.hir_store.specs.Pointers.{Pointer}
 use Rattle.hir_store.specs.declared.hir.Literal.{Literal}
-use Rattle.hir_data.specs.Data.{PathData, path_data}
+use Rattle.hir_data.specs.Data.{PathData, path_data, no_type, names_in, NamesData}
 use Rattle.hir_data.specs.Reading.{stored_path}
 use Rattle.hir_meaning.specs.Data.{LiteralData, literal_data}
 use Rattle.hir_meaning.specs.Contents.{BlockContents}
