@@ -132,8 +132,8 @@ module _ (s : Stored) where
   pub projected_has : (t : TypeRefId) (p : Path) (w : PathWalk) → HasWalk s w → HasType s t → HasPath s p → HasReading s (projected t p w)
   projected_has t p w h k m = by (no_names (mod_path p).segments)
     where
-      open : HasReading s (Open (add_trait t p w))
-      open =
+      opened : HasReading s (Open (add_trait t p w))
+      opened =
           let anchor = past_present past_type_id w.type_anchor in
           let own = lists_with_self t (reverse (args_of p)) (omega arith, k, omega arith) (each_reverse s (past_present past_generic) (args_of p) (lists_of p m)) in
           let old = join_right s anchor (past_arg_lists w.args) h in
@@ -142,7 +142,7 @@ module _ (s : Stored) where
 
       by : (b : Bool) → HasReading s (if b then Refused else Open (add_trait t p w))
       by true = has_nothing s
-      by false = open
+      by false = opened
 
   finished_has : (w : PathWalk) → HasWalk s w → HasPath s (finished w)
   finished_has w h = by (is_none w.type_anchor && not w.found_args)

@@ -53,7 +53,6 @@ fn types_inside<P: LowerParts>(
 }
 
 /// The types in `(A, B)`.
-#[tactic(auto, using(hir_env::proofs::PathLevels::paren_args_is_level))]
 fn paren_types<P: LowerParts>(
     lowerer: &Lowerer<P>,
     state: &mut BodyBuilder,

@@ -78,7 +78,6 @@ fn assoc_form<P: LowerParts>(
     Ok(lists.with_binding(binding)?)
 }
 
-#[tactic(auto, using(hir_env::proofs::PathLevels::assoc_arg_is_level))]
 fn assoc_arg<P: LowerParts>(
     lowerer: &Lowerer<P>,
     state: &mut BodyBuilder,
@@ -118,7 +117,6 @@ fn arg_form<P: LowerParts>(
     }
 }
 
-#[tactic(auto, using(hir_env::proofs::PathLevels::arg_is_level))]
 fn arg<P: LowerParts>(
     lowerer: &Lowerer<P>,
     state: &mut BodyBuilder,

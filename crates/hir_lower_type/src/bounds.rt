@@ -133,7 +133,6 @@ fn bound_form<P: LowerParts>(
     }
 }
 
-#[tactic(auto, using(hir_env::proofs::PathLevels::bound_is_level))]
 fn bound<P: LowerParts>(
     lowerer: &Lowerer<P>,
     state: &mut BodyBuilder,

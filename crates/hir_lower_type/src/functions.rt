@@ -87,7 +87,6 @@ fn param_form<P: LowerParts>(
 }
 
 /// The type of a parameter, none where it is variadic.
-#[tactic(auto, using(hir_env::proofs::PathLevels::param_is_level))]
 fn param<P: LowerParts>(
     lowerer: &Lowerer<P>,
     state: &mut BodyBuilder,

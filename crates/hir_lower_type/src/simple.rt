@@ -160,7 +160,7 @@ pub(crate) fn impl_form<P: LowerParts>(
     at: InFile<AstPtr>,
     written: &Seq<ast::TypeBound>,
 ) -> Result<TypeRefId, StoreFault>
-    requires { KidsImpl (P.can lowerer.now.parts) (P.spot lowerer.now.parts).place.in_impl (P.spot lowerer.now.parts).place written.now }
+    requires { KidsImpl (P.can lowerer.now.parts) (P.spot lowerer.now.parts).place written.now }
     ensures { let spot = P.spot lowerer.now.parts in
         let read = bounds_part (at_place spot (of.inside_impl spot.place)) written.now in
         LowersType None (impl_at spot.place.in_impl spot.place.impl_trait at read) state.old result state.new }
