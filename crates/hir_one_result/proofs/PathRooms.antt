@@ -317,12 +317,10 @@ unfolding segment_args_form
 beside_takes {b = b} h m dots =
     takes_of (tells_then h (λ a e. tells_any (takes_end (or_else_takes a b e m) (λ p. takes_pure _))))
 
-binding_tells : (l : ArgLists) (name : Name) (dots : Bool) {n k j : Size} {a : Lowering (Option GenericArgs)}
-    {t : Lowering (Option TypeRefId)} {bs : Lowering (List TypeBound)} → Takes n a → Takes k t → Takes j bs
-    → Tells (n ∪ (k ∪ j)) (Fills true) (binding_form l name dots a t bs)
+binding_takes : (name : Name) (dots : Bool) {n k j : Size} {a : Lowering (Option GenericArgs)} {t : Lowering (Option TypeRefId)}
+    {bs : Lowering (List TypeBound)} → Takes n a → Takes k t → Takes j bs → Takes (n ∪ (k ∪ j)) (binding_form name dots a t bs)
 unfolding binding_form
-binding_tells l name dots ha ht hb = tells_then (tells_any ha) (λ a u. tells_then (tells_any ht) (λ t v.
-    tells_end (tells_any hb) (λ bs x. tells_pure _ _ (full_binding l _))))
+binding_takes name dots ha ht hb = takes_then ha (λ a. takes_then ht (λ t. takes_end hb (λ bs. takes_pure _)))
 
 or_true : (b : Bool) → (b || true) ≡ true
 or_true true = refl
@@ -455,7 +453,8 @@ mutual
   arg_fills l (tree.type_arg t) h = tells_end (tells_any (type_part_takes None t)) (λ i u. tells_pure _ _ (full_arg l _))
   arg_fills l (tree.lifetime_arg x) h = tells_end (tells_any (lifetime_takes x)) (λ i u. tells_pure _ _ (full_arg l _))
   arg_fills l (tree.assoc_arg n a dots t bs) h =
-      binding_tells l n dots (takes_of (args_tell a)) (present_type_takes t) (bounds_take [] bs)
+      tells_end (tells_any (binding_takes n dots (takes_of (args_tell a)) (present_type_takes t) (bounds_take [] bs)))
+      (λ b u. tells_pure _ _ (full_binding l b))
 
   bounds_take : (done : List TypeBound) (bs : Bounds) → Takes (bounds_size bs) (lower_bounds done bs)
   bounds_take done tree.no_bounds = takes_pure done

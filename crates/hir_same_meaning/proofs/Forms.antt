@@ -28,7 +28,7 @@ use Rattle.hir_lower_form.specs.Lower.{settled_block, block_form, labelled, kept
 use Rattle.hir_data.specs.Data.{PathData}
 use Rattle.hir_data.specs.Reading.{stored_path}
 use Rattle.hir_data.specs.Written.{written_path}
-use Rattle.hir_read_back.proofs.Laws.{path_law}
+use Rattle.hir_read_back.proofs.Now.{path_now}
 use Rattle.hir_read_back.proofs.Lookup.{looked_up}
 use Rattle.hir_data.specs.Lookup.{lookup_hygiene}
 use Rattle.hir_meaning.specs.Data.{literal_data}
@@ -41,8 +41,6 @@ use Rattle.hir_meaning.specs.Syntax.{SyntaxRun, run_path, run_stmts, run_tail, c
 use Rattle.hir_steps.proofs.Frames.{Frame, plain_loop, loop_at, block_at, Falls}
 use Rattle.hir_steps.proofs.Steps.{Mark, Grows, Rel, Holds, Correct, Allocated, correct_bind, correct_as, correct_pure}
 use Rattle.hir_steps.proofs.Steps.{correct_report, correct_point, correct_enter_block, correct_alloc, correct_opened, correct_target}
-use Rattle.hir_steps.proofs.Steps.{correct_such}
-use Rattle.hir_steps.proofs.Aside.{path_aside}
 use Rattle.hir_same_meaning.proofs.Targets.{break_meets, continue_meets, among}
 use Rattle.hir_same_meaning.proofs.Relation.{same_ask}
 use Rattle.hir_same_meaning.proofs.Senses.{Walk, one, optional, many, contents, Goes, Runs, Wider, goes_within, goes_at}
@@ -161,8 +159,7 @@ pub path_fine : (at : Pointer) (p : OptionPath) (h : HygieneId)
     → Correct (path_form at h (lower_path p)) (Runs one (λ turns ss. run_path (written_path p) h (Some (site_of at))))
 unfolding path_form
 path_fine at p h = correct_as
-    (correct_bind (correct_such {P = λ final r. option_map (path_in final) r ≡ written_path p} (path_aside p) (path_law p))
-    (λ r. correct_alloc (path_or_missing h r) (Some at)))
+    (correct_bind (path_now p) (λ r. correct_alloc (path_or_missing h r) (Some at)))
     (λ final ps m m' i g row. goes_path at h row.one (written_path p) row.first.is row.second)
 
 -- what is kept

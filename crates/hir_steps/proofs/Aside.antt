@@ -189,10 +189,10 @@ args_form_aside : {as' ps : Lowering (Option GenericArgs)} → Correct as' Aside
 unfolding segment_args_form
 args_form_aside h k dots = aside_then h (λ a. aside_then (or_else_aside a k) (λ p. aside_pure _))
 
-binding_aside : (l : ArgLists) (name : Name) (dots : Bool) {a : Lowering (Option GenericArgs)} {t : Lowering (Option TypeRefId)}
-    {bs : Lowering (List TypeBound)} → Correct a Aside → Correct t Aside → Correct bs Aside → Correct (binding_form l name dots a t bs) Aside
+binding_aside : (name : Name) (dots : Bool) {a : Lowering (Option GenericArgs)} {t : Lowering (Option TypeRefId)}
+    {bs : Lowering (List TypeBound)} → Correct a Aside → Correct t Aside → Correct bs Aside → Correct (binding_form name dots a t bs) Aside
 unfolding binding_form
-binding_aside l name dots ha ht hb = aside_then ha (λ a. aside_then ht (λ t. aside_then hb (λ bs. aside_pure _)))
+binding_aside name dots ha ht hb = aside_then ha (λ a. aside_then ht (λ t. aside_then hb (λ bs. aside_pure _)))
 
 -- a tree
 
@@ -283,7 +283,8 @@ mutual
   arg_aside l tree.skipped_arg = aside_pure l
   arg_aside l (tree.type_arg t) = aside_then (part_aside None t) (λ i. aside_pure _)
   arg_aside l (tree.lifetime_arg lifetime) = aside_then (lifetime_aside lifetime) (λ i. aside_pure _)
-  arg_aside l (tree.assoc_arg name as' dots t bs) = binding_aside l name dots (args_aside as') (present_aside t) (bounds_aside [] bs)
+  arg_aside l (tree.assoc_arg name as' dots t bs) =
+      aside_then (binding_aside name dots (args_aside as') (present_aside t) (bounds_aside [] bs)) (λ b. aside_pure _)
 
   bounds_aside : (done : List TypeBound) (bs : Bounds) → Correct (lower_bounds done bs) Aside
   bounds_aside done tree.no_bounds = aside_pure done

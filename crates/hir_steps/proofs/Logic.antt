@@ -137,25 +137,6 @@ correct_both {A = A} {p = p} {R = R} {Q = Q} h k =
     }
     go final ps b (Err e) c y z = y
 
--- what every answer is, in a final store
-pub record Such {A : Type 0} (P : Stored → A → Type 0) (final : Stored) (ps : List Frame) (m m' : Mark) (a : A) : Type 0 where
-  pub is : P final a
-
-pub correct_such : {A : Type 0} {p : Lowering A} {R : Rel A} {P : Stored → A → Type 0} → Correct p R
-    → ((b b' : Builder) (a : A) → Paired b.stored → p b ≡ (Ok a, b') → (final : Stored) → Extends b'.stored final → P final a)
-    → Correct p (Such P)
-correct_such {A = A} {p = p} {R = R} {P = P} h each =
-    record { holds = λ final ps b r. go final ps b (p b).0 (p b).1 refl (h.holds final ps b r) }
-  where
-    go : (final : Stored) (ps : List Frame) (b : Builder) (o : Checked A) (c : Builder) → p b ≡ (o, c) → Holds R final ps b o c
-        → Holds (Such P) final ps b o c
-    go final ps b (Ok a) c e y = record {
-      kept = y.kept;
-      grows = y.grows;
-      in_final = λ d pre. record { is = each b c a d e final pre };
-    }
-    go final ps b (Err f) c e y = y
-
 longer : {A : Type 0} {xs ys : List A} → Prefix xs ys → length xs ≤ length ys
 longer {xs = xs} p = let e = ap length p.is in let n = length-append xs p.more in omega arith
 

@@ -30,8 +30,8 @@ use Rattle.hir_lower_form.specs.Lowering.{Checked, go_on, Lowering, ◌>>=◌, p
 use Rattle.hir_lower_form.specs.Lowering.{report_await, enter_block, open_label, close, jump_target, found_or_fault, count_out}
 use Rattle.hir_steps.specs.Keeps.{Paired, Mapped, KeepsAll}
 use Rattle.hir_steps.proofs.Frames.{Frame, rib, ribs}
-pub use Rattle.hir_steps.proofs.Logic.{Mark, mark, Grows, Rel, Answers, Holds, Correct, Seq, Both, Such, InStore, IsPure, kept_still}
-pub use Rattle.hir_steps.proofs.Logic.{correct_bind, correct_as, correct_both, correct_such, correct_in_store, correct_pure}
+pub use Rattle.hir_steps.proofs.Logic.{Mark, mark, Grows, Rel, Answers, Holds, Correct, Seq, Both, InStore, IsPure, kept_still}
+pub use Rattle.hir_steps.proofs.Logic.{correct_bind, correct_as, correct_both, correct_in_store, correct_pure}
 pub use Rattle.hir_steps.proofs.TypeSteps.{AllocatedType, AllocatedLifetime, with_type, with_lifetime, correct_alloc_type}
 pub use Rattle.hir_steps.proofs.TypeSteps.{correct_alloc_lifetime}
 use Rattle.hir_steps.proofs.Logic.{grows_refl, in_prefix, one_more}
