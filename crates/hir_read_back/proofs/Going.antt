@@ -24,8 +24,8 @@ use Rattle.hir_lower_form.specs.Walks.{start, at_first, super_read, path_read, p
 use Rattle.hir_lower_form.specs.Paths.{proceed, counted, with_trait, read_trait}
 use Rattle.hir_lower_form.specs.Types.{path_type_form, path_or_error, path_bound_form, path_bound_of, stored_path_bound, stored_modifier}
 use Rattle.hir_steps.proofs.Frames.{Frame}
-use Rattle.hir_steps.proofs.Steps.{Mark, Grows, Rel, Correct, correct_bind, correct_as, correct_pure, correct_alloc_type, correct_count_out}
-use Rattle.hir_steps.proofs.Steps.{AllocatedType}
+use Rattle.hir_steps.proofs.Steps.{Mark, Grows, Rel, Correct, correct_bind, correct_as, correct_pure, correct_count_out}
+use Rattle.hir_steps.proofs.TypeSteps.{correct_alloc_type, AllocatedType}
 use Rattle.hir_data.specs.Data as data
 use Rattle.hir_data.specs.Data.{TypeData, typed, OptionArgsData, BoundData}
 use Rattle.hir_data.specs.Rule as rule

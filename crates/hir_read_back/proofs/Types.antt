@@ -29,7 +29,8 @@ use Rattle.hir_lower_form.specs.Types.{error_type, unit_type, lower_lifetime, lo
 use Rattle.hir_lower_form.specs.Types.{stored_leaf_type, stored_over_type, over_form, tuple_type_form, ref_type_form, stored_fn, fn_type_form}
 use Rattle.hir_lower_form.specs.Types.{stored_impl, impl_type_form, dyn_type_form, yielded, binding_form, add_arg, add_binding, no_lists}
 use Rattle.hir_steps.proofs.Frames.{Frame}
-use Rattle.hir_steps.proofs.Steps.{Mark, Grows, Rel, Correct, correct_bind, correct_as, correct_pure, correct_alloc_type, correct_alloc_lifetime}
+use Rattle.hir_steps.proofs.Steps.{Mark, Grows, Rel, Correct, correct_bind, correct_as, correct_pure}
+use Rattle.hir_steps.proofs.TypeSteps.{correct_alloc_type, correct_alloc_lifetime}
 use Rattle.hir_data.specs.Data as data
 use Rattle.hir_data.specs.Data.{LifetimeData, UseData, TypeData, typed, Shape, OptionTypeData, TypesData, OptionArgsData, no_args, some_args}
 use Rattle.hir_data.specs.Data.{args_data, ArgumentsData, BindingData, BindingsData, BoundsData}
