@@ -186,7 +186,7 @@ counted_tells w = by (nat_lt (supers w.kind + 1) (2 ^ 32)) refl
 trait_tells : {n : Size} {x : Option Seen} {p : Lowering (Option HirPath)} → Tells n (GivesPath x) p → (t : TypeRefId) (at : Pointer)
     (w : PathWalk) → Tells (n ∪ if_so (is_some x) a_type) (Gives (projected x)) (with_trait p t at w)
 unfolding with_trait
-trait_tells h t at w = tells_then h (λ p e. by p e)
+trait_tells {x = x} h t at w = tells_then h (λ p e. by p e)
   where
     of_path : (p : Option HirPath)
         → Tells (if_so (is_some (option_seen p)) a_type) (Gives (projected (option_seen p))) (steps.read_trait t at w p)
@@ -256,7 +256,7 @@ module _ (at : Pointer) where
   path_bound_takes : (maybe : Bool) (binder : Binder) {n : Size} {x : Option Seen} {p : Lowering (Option HirPath)}
       → Tells n (GivesPath x) p → Takes (n ∪ if_so (is_some x) a_type) (path_bound_form at maybe binder p)
   unfolding path_bound_form
-  path_bound_takes maybe binder h = takes_of (tells_then h (λ p e. by p e))
+  path_bound_takes maybe binder {x = x} h = takes_of (tells_then h (λ p e. by p e))
     where
       of_path : (p : Option HirPath) → Takes (if_so (is_some (option_seen p)) a_type) (path_bound_of at maybe binder p)
       of_path None = takes_pure _
