@@ -1,5 +1,5 @@
 -- The data of what is stored, read back from numbers.
-use Rattle.std.specs.Prelude.{ℕ, zero, suc, List, [], ◌∷◌, length, map, slice_get, Option, Some, None, option_map}
+use Rattle.std.specs.Prelude.{ℕ, zero, suc, true, false, List, [], ◌∷◌, length, map, slice_get, Option, Some, None, option_map}
 use Rattle.hir_store.specs.Pointers.{Pointer, flattened}
 use Rattle.hir_store.specs.Stored.{Store, SourceMap}
 use Rattle.hir_store.specs.declared.ids.TypeRefId.{TypeRefId}

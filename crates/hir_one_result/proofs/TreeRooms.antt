@@ -12,8 +12,7 @@ use Rattle.hir_store.specs.declared.ids.HygieneId.{HygieneId}
 use Rattle.hir_env.specs.Answered as tree
 use Rattle.hir_env.specs.Answered.{OptionPath, Listing, Label, Jump, Expr, OptionExpr, Exprs, Block, OptionBlock, Stmts, Stmt}
 use Rattle.hir_meaning.specs.Left.{is_kept}
-use Rattle.hir_lower_form.specs.Builder.{Builder}
-use Rattle.hir_lower_form.specs.Lowering.{Checked, Lowering}
+use Rattle.hir_lower_form.specs.Lowering.{Lowering}
 use Rattle.hir_lower_form.specs.Lower.{ExprSteps, StoredContents, missing, some, if_form, loop_form, call_form, continue_form}
 use Rattle.hir_lower_form.specs.Lower.{break_form, paren_form, path_form, operand_form, operands_form, value_form, list_form}
 use Rattle.hir_lower_form.specs.Lower.{method_call_form, await_form, block_form, labelled, kept, lower, lower_part}
@@ -22,8 +21,7 @@ use Rattle.hir_one_result.specs.Size.{Size, nothing, an_expr, ◌∪◌, if_so}
 use Rattle.hir_one_result.specs.PathRoom.{whole_size}
 use Rattle.hir_one_result.specs.Room.{label_size, front_size, size, size_part, size_present, size_kept, size_each, block_size}
 use Rattle.hir_one_result.specs.Room.{block_part_size, stmts_size, stmt_size}
-use Rattle.hir_one_result.specs.Laws.{FitsUnless, AllFit}
-use Rattle.hir_one_result.proofs.Rooms.{Room, Takes, Same, takes_then, takes_as, takes_end, takes_begin, takes_pure, takes_report}
+use Rattle.hir_one_result.proofs.Rooms.{Takes, Same, takes_then, takes_as, takes_end, takes_begin, takes_pure, takes_report}
 use Rattle.hir_one_result.proofs.Rooms.{takes_block, takes_close, takes_point, takes_jump, takes_alloc, takes_open, takes_report_await}
 use Rattle.hir_one_result.proofs.Tellings.{takes_of}
 use Rattle.hir_one_result.proofs.PathRooms.{path_tells}
@@ -186,10 +184,3 @@ mutual
   stmt_takes : (s : Stmt) → Takes (stmt_size s) (lower_stmt s)
   stmt_takes (tree.expr_stmt e semi) = takes_end (kept_part_takes e) (λ x. takes_pure _)
   stmt_takes tree.item_stmt = takes_pure _
-
-pub all_fit : AllFit
-all_fit e old = by (lower_part e old).0 (lower_part e old).1 ((part_takes e).takes old)
-  where
-    by : (o : Checked ExprId) (new : Builder) → Room (size_part e) old o new → FitsUnless e old.stored o new.stored
-    by (Ok i) new h = record { exprs = h.exprs; labels = h.labels; types = h.types; lifetimes = h.lifetimes }
-    by (Err f) new h = h

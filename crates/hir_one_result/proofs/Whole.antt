@@ -13,7 +13,7 @@ use Rattle.hir_one_result.proofs.Leading.{leads_nowhere}
 use Rattle.hir_one_result.proofs.TreeStands.{all_stand}
 use Rattle.hir_one_result.proofs.TreeFaults.{diagnostics_are}
 use Rattle.hir_one_result.proofs.TreeBlocks.{blocks_are}
-use Rattle.hir_one_result.proofs.TreeRooms.{all_fit}
+use Rattle.hir_one_result.proofs.Fits.{all_fit}
 
 -- as it is said of a source map
 lead_back : {T I : Type 0} (place : I → ℕ) (a : Sourced T I) → MapsBack place a → LeadBack place a.map a.sources

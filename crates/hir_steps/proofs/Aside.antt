@@ -1,8 +1,9 @@
 -- Steps that store beside expressions and labels at most: they report nothing and enter no block. Those of types, paths,
 -- arguments and bounds are such.
-use Rattle.std.proofs.Common.{◌≡◌, ◌∙◌, ap, Bool, true, false, List, [], ◌∷◌, ◌++◌, Option, Some, None}
+use Rattle.std.proofs.Common.{◌≡◌, ◌∙◌, ap, Bool, true, false, List, [], ◌∷◌, ◌++◌, Option, Some, None, Ok, Err}
 use Rattle.hir_store.specs.Pointers.{Pointer}
 use Rattle.hir_store.specs.Stored.{Stored}
+use Rattle.hir_store.proofs.Range.{extends_refl}
 use Rattle.hir_store.specs.declared.hir.Mutability.{Mutability}
 use Rattle.hir_store.specs.declared.ids.TypeRefId.{TypeRefId}
 use Rattle.hir_store.specs.declared.ids.LifetimeRefId.{LifetimeRefId}
@@ -21,7 +22,8 @@ use Rattle.hir_lower_form.specs.declared.args.ArgLists.{ArgLists}
 use Rattle.hir_lower_form.specs.declared.walk.PathWalk.{PathWalk}
 use Rattle.hir_lower_form.specs.declared.walk.Reading.{Reading}
 use Rattle.hir_lower_form.specs.declared.walk.Reading.TheVariants.{Refused, Ended, Open}
-use Rattle.hir_lower_form.specs.Lowering.{Lowering, ◌>>=◌, pure, alloc_type, alloc_lifetime}
+use Rattle.hir_lower_form.specs.Builder.{Builder}
+use Rattle.hir_lower_form.specs.Lowering.{Checked, Lowering, ◌>>=◌, pure, alloc_type, alloc_lifetime}
 use Rattle.hir_lower_form.specs.Walks.{start, at_first, super_read, path_read}
 use Rattle.hir_lower_form.specs.Paths.{proceed, whole, counted, read_trait, with_trait, parens_form, or_else, segment_args_form}
 use Rattle.hir_lower_form.specs.Types.{TypeSteps, error_type, unit_type, lower_lifetime, lower_lifetime_option, lower_use, lower_uses, over_form}
@@ -30,8 +32,9 @@ use Rattle.hir_lower_form.specs.Types.{no_lists, binding_form, path_bound_of, pa
 use Rattle.hir_lower_form.specs.Lower.{lower_type, type_part, present_type, type_or_unit, lower_parts, read_segment, read_each, read_path}
 use Rattle.hir_lower_form.specs.Lower.{read_option, lower_path, lower_segment_args, parens_part, output_part, args_part, lower_args, lower_arg}
 use Rattle.hir_lower_form.specs.Lower.{lower_bounds, lower_bound}
-use Rattle.hir_steps.proofs.Frames.{Frame}
-use Rattle.hir_steps.proofs.Steps.{Mark, Correct, correct_bind, correct_as, correct_pure, correct_count_out, correct_alloc_type}
+use Rattle.hir_steps.specs.Keeps.{Paired, KeepsAside, TypesKeep, PathsKeep}
+use Rattle.hir_steps.proofs.Frames.{Frame, frames, ribs_frames}
+use Rattle.hir_steps.proofs.Steps.{Mark, Holds, Correct, correct_bind, correct_as, correct_pure, correct_count_out, correct_alloc_type}
 use Rattle.hir_steps.proofs.Steps.{correct_alloc_lifetime}
 
 pub record Aside {A : Type 0} (final : Stored) (ps : List Frame) (m m' : Mark) (a : A) : Type 0 where
@@ -295,3 +298,20 @@ mutual
   bound_aside (tree.path_bound at p maybe binder) = path_bound_aside at maybe binder (path_aside p)
   bound_aside (tree.lifetime_bound l) = aside_then (lifetime_aside l) (λ i. aside_pure _)
   bound_aside (tree.use_bound us) = aside_then (uses_aside [] us) (λ xs. aside_pure _)
+
+-- what is so of each of them, in what is stored by then
+
+aside_kept : {A : Type 0} {p : Lowering A} → Correct p Aside → (b : Builder) → Paired b.stored → KeepsAside b (p b).0 (p b).1
+aside_kept {A = A} {p = p} h b d = by (p b).0 (p b).1 (λ final. h.holds final (frames b.scopes) b (ribs_frames b.scopes))
+  where
+    by : (o : Checked A) (c : Builder) → ((final : Stored) → Holds Aside final (frames b.scopes) b o c) → KeepsAside b o c
+    by (Ok a) c y =
+        let x = (y c.stored).in_final d (extends_refl c.stored) in
+        ((y c.stored).kept, record { exprs = x.exprs_are; labels = x.labels_are; diagnostics = x.diagnostics; block_scopes = x.block_scopes })
+    by (Err e) c y = y c.stored
+
+pub types_keep : TypesKeep
+types_keep binder t b d = aside_kept (part_aside binder t) b d
+
+pub paths_keep : PathsKeep
+paths_keep p b d = aside_kept (path_aside p) b d
