@@ -340,6 +340,14 @@ abbrev IsThere : Arg → Type 0
 IsThere tree.skipped_arg = ⊥
 IsThere _ = Unit {0}
 
+-- the first segment, with the `::` in front of it
+first_tells : (leading : Bool) (s : Segment) (w : PathWalk)
+    → ((v : PathWalk) → Tells (segment_size true s (seen v)) (Gives (segment_read true s (seen v))) (read_segment true s v))
+    → Tells (segment_size true s (at_first leading (seen w))) (Gives (segment_read true s (at_first leading (seen w))))
+    (read_segment true s (walks.at_first leading w))
+first_tells true s w h = h (walks.at_first true w)
+first_tells false s w h = h w
+
 -- a tree
 
 mutual
@@ -399,18 +407,12 @@ mutual
       proceed_tells r (segments_read ss (seen w)) (λ y. segment_size false s y) (λ y. segment_read false s y) e
       (λ v. segment_tells false s v))
 
-  first_tells : (leading : Bool) (s : Segment) (w : PathWalk)
-      → Tells (segment_size true s (at_first leading (seen w))) (Gives (segment_read true s (at_first leading (seen w))))
-      (read_segment true s (walks.at_first leading w))
-  first_tells true s w = segment_tells true s (walks.at_first true w)
-  first_tells false s w = segment_tells true s w
-
   reading_tells : (p : Path) (w : PathWalk) → Tells (path_size p (seen w)) (Gives (path_read p (seen w))) (read_path p w)
   reading_tells (tree.path leading first rest use_) w =
       whole_tells (λ y. outer_size use_ y) (λ y. outer_read use_ y)
       (tells_then (each_tells rest w) (λ r e.
       proceed_tells r (segments_read rest (seen w)) (λ y. segment_size true first (at_first leading y))
-      (λ y. segment_read true first (at_first leading y)) e (λ v. first_tells leading first v)))
+      (λ y. segment_read true first (at_first leading y)) e (λ v. first_tells leading first v (λ u. segment_tells true first u))))
       (λ v. outer_tells use_ v)
 
   outer_tells : (p : OptionPath) (w : PathWalk) → Tells (outer_size p (seen w)) (Gives (outer_read p (seen w))) (read_option p w)
