@@ -1,2 +1,3 @@
 mod Segments
+mod Arguments
 mod Worked

@@ -16,7 +16,8 @@ use Rattle.hir_env.specs.Answered.{Lifetime, Binder, UseRead, TypeLeaf, TypeUnar
 use Rattle.hir_env.specs.Answered.{Segments, Segment, SegmentArgs, OptionParens, OptionRet, OptionArgs, Args, Arg, Bounds, Bound}
 use Rattle.hir_data.specs.Data as datum
 use Rattle.hir_data.specs.Data.{LifetimeData, UseData, TypeData, typed, Shape, OptionTypeData, TypesData, PathData}
-use Rattle.hir_data.specs.Data.{OptionArgsData, no_args, some_args, args_data, ArgumentsData, BindingsData, BoundsData, BoundData}
+use Rattle.hir_data.specs.Data.{OptionArgsData, no_args, some_args, args_data, ArgumentData, ArgumentsData}
+use Rattle.hir_data.specs.Data.{BindingData, BindingsData, BoundsData, BoundData}
 use Rattle.hir_data.specs.Rule.{Named, PathRead, What, broken, named, root, self_, super_, anchor, projection, Item}
 use Rattle.hir_data.specs.Rule.{read, path_read, data_of}
 
@@ -74,6 +75,14 @@ bound_of_path at binder maybe None = datum.error_bound
 bound_of_path at binder maybe (Some p) = bound_behind binder (modifier_of maybe) (typed (Some at) (datum.path_shape (data_of p)))
 
 -- ---- lists of arguments
+
+abbrev pub put_argument : Option ArgumentData → ArgumentsData → ArgumentsData
+put_argument None behind = behind
+put_argument (Some a) behind = datum.more_arguments a behind
+
+abbrev pub put_binding : Option BindingData → BindingsData → BindingsData
+put_binding None behind = behind
+put_binding (Some b) behind = datum.more_bindings b behind
 
 -- neither arguments nor bindings are none
 abbrev pub yielded : ArgumentsData → BindingsData → OptionArgsData
@@ -152,26 +161,26 @@ abbrev mutual
 
   pub arguments_of : Args → ArgumentsData
   arguments_of tree.no_args = datum.no_arguments
-  arguments_of (tree.more_args a as') = argument_before a (arguments_of as')
+  arguments_of (tree.more_args a as') = put_argument (argument_of a) (arguments_of as')
 
-  -- what is an argument, before others
-  pub argument_before : Arg → ArgumentsData → ArgumentsData
-  argument_before (tree.type_arg t) behind = datum.more_arguments (datum.type_argument (part_data None t)) behind
-  argument_before (tree.lifetime_arg l) behind = datum.more_arguments (datum.lifetime_argument (lifetime_data l)) behind
-  argument_before tree.skipped_arg behind = behind
-  argument_before (tree.assoc_arg n a dots t bs) behind = behind
+  -- none of what is no argument
+  pub argument_of : Arg → Option ArgumentData
+  argument_of (tree.type_arg t) = Some (datum.type_argument (part_data None t))
+  argument_of (tree.lifetime_arg l) = Some (datum.lifetime_argument (lifetime_data l))
+  argument_of tree.skipped_arg = None
+  argument_of (tree.assoc_arg n a dots t bs) = None
 
   pub bindings_of : Args → BindingsData
   bindings_of tree.no_args = datum.no_bindings
-  bindings_of (tree.more_args a as') = binding_before a (bindings_of as')
+  bindings_of (tree.more_args a as') = put_binding (binding_of a) (bindings_of as')
 
-  -- what is a binding, before others
-  pub binding_before : Arg → BindingsData → BindingsData
-  binding_before (tree.assoc_arg n a dots t bs) behind =
-      datum.more_bindings (datum.binding_data n (first_list (list_data a) (notation dots)) (present_data t) (bounds_data bs)) behind
-  binding_before (tree.type_arg t) behind = behind
-  binding_before (tree.lifetime_arg l) behind = behind
-  binding_before tree.skipped_arg behind = behind
+  -- none of what is no binding
+  pub binding_of : Arg → Option BindingData
+  binding_of (tree.assoc_arg n a dots t bs) =
+      Some (datum.binding_data n (first_list (list_data a) (notation dots)) (present_data t) (bounds_data bs))
+  binding_of (tree.type_arg t) = None
+  binding_of (tree.lifetime_arg l) = None
+  binding_of tree.skipped_arg = None
 
   pub parens_data : OptionParens → OptionArgsData
   parens_data tree.no_parens = no_args

@@ -99,7 +99,8 @@ mutual
   args_listed tree.no_args l = kinds.none_listed l
   args_listed (tree.more_args a as') l = kinds.more_listed l (arg_grown a l) (args_listed as')
 
-  arg_grown : (a : Arg) (l : ArgLists) → Correct (lower.lower_arg l a) (Grown l (written.argument_before a) (written.binding_before a))
+  arg_grown : (a : Arg) (l : ArgLists) → Correct (lower.lower_arg l a) 
+      (Grown l (written.put_argument (written.argument_of a)) (written.put_binding (written.binding_of a)))
   arg_grown tree.skipped_arg l = kinds.skipped_grown l
   arg_grown (tree.type_arg t) l = kinds.argument_grown l arg.Type_ datum.type_argument (part_reads None t) (λ final r a. refl)
   arg_grown (tree.lifetime_arg l') l = kinds.argument_grown l arg.Lifetime datum.lifetime_argument (kinds.lifetime_reads l') (λ final r a. refl)
