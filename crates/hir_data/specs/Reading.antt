@@ -22,6 +22,7 @@ use Rattle.hir_store.specs.declared.type_ref.TypeBound.TheVariants as bound
 use Rattle.hir_store.specs.declared.type_ref.TypeRef.{TypeRef}
 use Rattle.hir_store.specs.declared.type_ref.TypeRef.TheVariants as ty
 use Rattle.hir_store.specs.declared.type_ref.FnType.{FnType}
+use Rattle.hir_env.specs.Answered.{FnHead}
 use Rattle.hir_data.specs.Data as datum
 use Rattle.hir_data.specs.Data.{LifetimeData, UseData, TypeData, typed, Shape, OptionTypeData, TypesData, PathData, NamesData}
 use Rattle.hir_data.specs.Data.{OptionArgsData, no_args, some_args, ArgsData, args_data, ArgumentData, ArgumentsData}
@@ -122,7 +123,7 @@ module _ (store : Store) (source_map : SourceMap) where
 
     abbrev pub fn_layer : FnType → Shape
     fn_layer f =
-        let head = record { is_unsafe = f.is_unsafe; abi = f.abi; is_varargs = f.is_varargs } in
+        let head : FnHead = record { is_unsafe = f.is_unsafe; abi = f.abi; is_varargs = f.is_varargs } in
         datum.fn_shape head f.binder (types_layer f.params datum.no_types)
 
     abbrev pub shape_layer : TypeRef → Shape
