@@ -141,7 +141,7 @@ pub segment_law : (at : Spot) (p : AstPath) (d : PathData) → (out-Path p).use_
 segment_law at p d u m e =
     let x = out-Path p in
     let level : written_path (tree.some_path (path_level at p)) ≡ Some d =
-        ap (λ y. written_path (tree.some_path y)) (sym (path_is_level at p)) ∙ e in
+    ap (λ y. written_path (tree.some_path y)) (sym (path_is_level at p)) ∙ e in
     ap (map Some) (level_named x.leading (first_part at x.segs) (rest_part at x.segs) (path_part at x.use_) d
-        (no_use at x.use_ u) level)
+    (no_use at x.use_ u) level)
     ∙ names_first at x.leading x.segs m

@@ -60,7 +60,7 @@ CrateHidesSupers =
 abbrev pub DollarCrateIsARoot : Type 0
 DollarCrateIsARoot =
     ((c : CrateId)
-        → becomes (whole (tree.dollar_crate_segment (Some c)) (word (codes "A") ∷ [])) (kind.DollarCrate c) (text (codes "A") ∷ []))
+    → becomes (whole (tree.dollar_crate_segment (Some c)) (word (codes "A") ∷ [])) (kind.DollarCrate c) (text (codes "A") ∷ []))
     × becomes (whole (tree.dollar_crate_segment None) (word (codes "A") ∷ [])) kind.Crate (text (codes "A") ∷ [])
 
 -- `A::super::B::super::super::C`

@@ -21,7 +21,7 @@ use Rattle.hir_lower_form.specs.Walks as walks
 use Rattle.hir_lower_form.specs.Walks.{start, at_first, add_name, self_read, super_read, finished, path_read, missing_name, self_type_name}
 use Rattle.hir_lower_form.specs.Paths as steps
 use Rattle.hir_lower_form.specs.Paths.{proceed, whole, lower_path}
-use Rattle.hir_data.specs.Data.{PathData, path_data}
+use Rattle.hir_data.specs.Data.{path_data}
 use Rattle.hir_data.specs.Rule as rule
 use Rattle.hir_data.specs.Rule.{What, Item, broken, named, root, self_, super_, empty_list, plain_kind, supers}
 use Rattle.hir_data.specs.Rule.{ends, ended, read, refuses, refused, set_kind, one_more, supers_left, counted, open_kind}
@@ -148,10 +148,14 @@ self_says l is w e r h = by (walks.no_names w.names) (walk_empty (kind_at l is) 
     by : (b : Bool) → b ≡ empty_list (rule.names is)
         → Says (item l self_ ∷ is) (if b then Open w else Ended (record w { kind = walks.self_kind w.kind }))
     by true m = (rw (← m) e, r, record { kind = h.kind ∙ sym (kind_self l is); names = h.names })
-    by false m = (rw (← m) refl, rw e r, rw e (rw (← m) (rw (kind_self l is) (record {
-      kind = ap kind.Super (same_supers w.kind ∙ ap supers h.kind);
-      names = h.names;
-    }))))
+    by false m = (
+      rw (← m) refl,
+      rw e r,
+      rw e (rw (← m) (rw (kind_self l is) (record {
+        kind = ap kind.Super (same_supers w.kind ∙ ap supers h.kind);
+        names = h.names;
+      }))),
+    )
 
 says_self : (l : Bool) (is : List Item) (w : PathWalk) → Says is (Open w) → Says (item l self_ ∷ is) (self_read (at_first l w))
 says_self l is w h = self_says l is (at_first l w) h.0 h.1 (at_first_reads l is w h.2)
@@ -167,10 +171,14 @@ kind_super true is = refl
 
 super_says : (l : Bool) (is : List Item) (w : PathWalk) → ended is ≡ false → refused is ≡ false → Reads (kind_at l is) is w
     → Says (item l super_ ∷ is) (Open (record w { kind = kind.Super (walks.supers w.kind + 1) }))
-super_says l is w e r h = (e, r, record {
-  kind = ap (λ n. kind.Super (n + 1)) (same_supers w.kind ∙ ap supers h.kind) ∙ kind_super l is;
-  names = h.names;
-})
+super_says l is w e r h = (
+  e,
+  r,
+  record {
+    kind = ap (λ n. kind.Super (n + 1)) (same_supers w.kind ∙ ap supers h.kind) ∙ kind_super l is;
+    names = h.names;
+  },
+)
 
 -- no more are counted than are read
 
@@ -372,6 +380,7 @@ own_says leading first rest is w b h =
 
 mutual
   unfolding whole
+
   path_says : (p : Path) (is : List Item) (w : PathWalk) (b : Builder) → Says is (Open w)
       → After (written.segments p is) b (steps.read_path p w b).0 (steps.read_path p w b).1
   path_says (tree.path leading first rest use_) is w b h =
@@ -438,6 +447,7 @@ path_law p o o' r e = (subst (λ x. Told p o x.0 x.1) e (lowered p o)).0
 pub path_stays : (p : OptionPath) (o o' : Builder)
     → ((r : Option HirPath) → lower_path p o ≡ (Ok r, o') → o' ≡ o)
     × ((e : StoreFault) → lower_path p o ≡ (Err e, o') → overcounts p × (o'.stored ≡ o.stored))
-path_stays p o o' =
-    ( λ r e. (subst (λ x. Told p o x.0 x.1) e (lowered p o)).1
-    , λ x e. let t : Told p o (Err x) o' = subst (λ y. Told p o y.0 y.1) e (lowered p o) in (t.0, ap (λ b. b.stored) t.1))
+path_stays p o o' = (
+  λ r e. (subst (λ x. Told p o x.0 x.1) e (lowered p o)).1,
+  λ x e. let t : Told p o (Err x) o' = subst (λ y. Told p o y.0 y.1) e (lowered p o) in (t.0, ap (λ b. b.stored) t.1),
+)
