@@ -55,7 +55,7 @@ recorded_stays b (Ok i) c h = extends_trans h.stays (extends_root c.stored (root
 recorded_stays b (Err x) c h = h
 
 recorded_went : (b : Builder) (o : Checked ExprId) (c : Builder) → Went b.stored c.stored → Went b.stored (go_on o c recorded).1.stored
-recorded_went b (Ok i) c h = record { nodes = h.nodes; labels = h.labels; expr_ways = h.expr_ways; label_ways = h.label_ways }
+recorded_went b (Ok i) c h = record { exprs = h.exprs; labels = h.labels; types = h.types; lifetimes = h.lifetimes }
 recorded_went b (Err x) c h = h
 
 root_stays : (e : OptionExpr) (b : Builder) → Stays b.stored (root_of e b).1.stored
@@ -64,7 +64,13 @@ root_stays e b =
     let c = (lower_part e (closed b)).1 in
     let ways : Went b.stored (go_on o c recorded).1.stored = recorded_went b o c (went (part_leads e) (closed b)) in
     rw (root_steps e b)
-    (record { extends = recorded_stays b o c (keeping e (closed b)); exprs = ways.expr_ways; labels = ways.label_ways })
+    (record {
+      extends = recorded_stays b o c (keeping e (closed b));
+      exprs = ways.exprs.ways;
+      labels = ways.labels.ways;
+      types = ways.types.ways;
+      lifetimes = ways.lifetimes.ways;
+    })
 
 pub stays_unless : (e : OptionExpr) (b b' : Builder) (r : Checked ExprId) → Lowers HasExpr (root_of e) b r b'
     → r ≢ Err Memory → Stays b.stored b'.stored

@@ -166,7 +166,8 @@ leaf_stands at form = correct_as (alone_stands (stored_leaf form) at) (λ final 
 moved_aside : {A : Type 0} {final : Stored} {ps : List Frame} {m m' : Mark} {a : A} → Aside final ps m m' a → Moved m.stored m'.stored []
 moved_aside {m' = m'} row = moved_same _ m'.stored refl row.exprs_are row.labels_are
 
-path_shown : {final : Stored} {qs : List Frame} {m m' : Mark} {i : ExprId} (at : Pointer) (h : HygieneId) (d : Option PathData) (e : HirExpr)
+path_shown : {final : Stored} {qs : List Frame} {m m' : Mark} {i : ExprId} (at : Pointer) (h : HygieneId) (d : Option PathData)
+    (e : HirExpr)
     → PathIs d h e → Allocated e (Some at) final qs m m' i
     → Shown (StandsPath (store_of final) (map_of final) at d h i) m.stored m'.stored
 path_shown {final = final} {i = i} at h None e is row =

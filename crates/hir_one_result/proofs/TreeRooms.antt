@@ -18,8 +18,8 @@ use Rattle.hir_lower_form.specs.Lower.{ExprSteps, StoredContents, missing, some,
 use Rattle.hir_lower_form.specs.Lower.{break_form, paren_form, path_form, operand_form, operands_form, value_form, list_form}
 use Rattle.hir_lower_form.specs.Lower.{method_call_form, await_form, block_form, labelled, kept, lower, lower_part}
 use Rattle.hir_lower_form.specs.Lower.{present, kept_part, lower_each, lower_block, lower_block_part, lower_stmts, lower_stmt}
-use Rattle.hir_one_result.specs.Room.{Size, nothing, an_expr, a_path, ◌∪◌, if_kept, label_size, front_size, size, size_part, size_present, size_kept}
-use Rattle.hir_one_result.specs.Room.{size_each, block_size, block_part_size, stmts_size, stmt_size}
+use Rattle.hir_one_result.specs.Room.{Size, nothing, an_expr, a_path, ◌∪◌, if_kept, label_size, front_size, size}
+use Rattle.hir_one_result.specs.Room.{size_part, size_present, size_kept, size_each, block_size, block_part_size, stmts_size, stmt_size}
 use Rattle.hir_lower_form.specs.Paths.{lower_path}
 use Rattle.hir_one_result.specs.Laws.{FitsUnless, AllFit}
 use Rattle.hir_one_result.proofs.Rooms.{Room, Takes, Same, takes_then, takes_as, takes_end, takes_begin, takes_pure, takes_report}
@@ -38,7 +38,8 @@ condition_last : (n k m j : Size) → Same (k ∪ (m ∪ (n ∪ j))) (n ∪ (k �
 condition_last n k m j = record {
   exprs = omega arith;
   labels = omega arith;
-  overcounts = λ h. ⊎_elim (λ x. inr (inl x)) (λ y. ⊎_elim (λ x. inr (inr (inl x))) (λ z. ⊎_elim (λ x. inl x) (λ x. inr (inr (inr x))) z) y) h;
+  overcounts = λ h. ⊎_elim (λ x. inr (inl x))
+      (λ y. ⊎_elim (λ x. inr (inr (inl x))) (λ z. ⊎_elim (λ x. inl x) (λ x. inr (inr (inr x))) z) y) h;
 }
 
 module _ (at : Pointer) where
@@ -48,7 +49,8 @@ module _ (at : Pointer) where
   if_takes hc ht he = takes_as (condition_last _ _ _ an_expr)
       (takes_then ht (λ x. takes_then he (λ y. takes_then hc (λ z. takes_alloc _ (Some at)))))
 
-  loop_takes : (label : Option Label) {n : Size} {b : ExprSteps} → Takes n b → Takes (label_size label ∪ (n ∪ an_expr)) (loop_form at label b)
+  loop_takes : (label : Option Label) {n : Size} {b : ExprSteps} → Takes n b
+      → Takes (label_size label ∪ (n ∪ an_expr)) (loop_form at label b)
   unfolding loop_form
   loop_takes None h = takes_as (nothing_first _) (takes_then h (λ i. takes_alloc _ (Some at)))
   loop_takes (Some l) h =

@@ -22,24 +22,24 @@ pub record Aside {A : Type 0} (final : Stored) (ps : List Frame) (m m' : Mark) (
 
 pub aside_pure : {A : Type 0} (a : A) → Correct (pure a) Aside
 aside_pure a = correct_as (correct_pure a) (λ final ps m m' b g row. record {
-    nodes = ap (λ x. x.nodes) row.still;
-    labels = ap (λ x. x.labels) row.still;
-    exprs_are = ap (λ x. x.stored.exprs) row.still;
-    labels_are = ap (λ x. x.stored.labels) row.still;
-    diagnostics = ap (λ x. x.stored.diagnostics) row.still;
-    block_scopes = ap (λ x. x.stored.block_scopes) row.still;
-  })
+  nodes = ap (λ x. x.nodes) row.still;
+  labels = ap (λ x. x.labels) row.still;
+  exprs_are = ap (λ x. x.stored.exprs) row.still;
+  labels_are = ap (λ x. x.stored.labels) row.still;
+  diagnostics = ap (λ x. x.stored.diagnostics) row.still;
+  block_scopes = ap (λ x. x.stored.block_scopes) row.still;
+})
 
 pub aside_then : {A B : Type 0} {p : Lowering A} {f : A → Lowering B} → Correct p Aside → ((a : A) → Correct (f a) Aside)
     → Correct (p >>= f) Aside
 aside_then h k = correct_as (correct_bind h k) (λ final ps m m' a g row. let one = row.first in let two = row.second in record {
-    nodes = two.nodes ∙ one.nodes;
-    labels = two.labels ∙ one.labels;
-    exprs_are = two.exprs_are ∙ one.exprs_are;
-    labels_are = two.labels_are ∙ one.labels_are;
-    diagnostics = two.diagnostics ∙ one.diagnostics;
-    block_scopes = two.block_scopes ∙ one.block_scopes;
-  })
+  nodes = two.nodes ∙ one.nodes;
+  labels = two.labels ∙ one.labels;
+  exprs_are = two.exprs_are ∙ one.exprs_are;
+  labels_are = two.labels_are ∙ one.labels_are;
+  diagnostics = two.diagnostics ∙ one.diagnostics;
+  block_scopes = two.block_scopes ∙ one.block_scopes;
+})
 
 -- paths
 
