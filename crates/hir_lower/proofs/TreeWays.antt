@@ -11,19 +11,14 @@ use Rattle.hir_store.specs.declared.ids.HygieneId.{HygieneId}
 use Rattle.hir_store.specs.declared.ids.LabelId.{LabelId}
 use Rattle.hir_store.specs.declared.ids.BlockId.{BlockId}
 use Rattle.hir_env.specs.Answered as tree
-use Rattle.hir_env.specs.Answered.{Path, OptionPath, Segments, Segment}
 use Rattle.hir_env.specs.Answered.{Listing, Label, Jump, Expr, OptionExpr, Exprs, Block, OptionBlock, Stmts, Stmt}
 use Rattle.hir_lower_form.specs.Lowering.{Lowering}
 use Rattle.hir_lower_form.specs.Lower.{ExprSteps, StoredContents, missing, some, if_form, loop_form, call_form, continue_form}
 use Rattle.hir_lower_form.specs.Lower.{break_form, paren_form, operand_form, operands_form, value_form, list_form}
-use Rattle.hir_lower_form.specs.declared.walk.PathWalk.{PathWalk}
-use Rattle.hir_lower_form.specs.declared.walk.Reading.{Reading}
-use Rattle.hir_lower_form.specs.declared.walk.Reading.TheVariants.{Refused, Ended, Open}
-use Rattle.hir_lower_form.specs.Walks.{at_first}
-use Rattle.hir_lower_form.specs.Paths.{proceed, whole, counted, read_segment, read_each, read_path, read_option, lower_path}
 use Rattle.hir_lower_form.specs.Lower.{path_form, method_call_form, await_form, block_form, labelled, kept, lower, lower_part}
 use Rattle.hir_lower_form.specs.Lower.{present, kept_part, lower_each, lower_block, lower_block_part, lower_stmts, lower_stmt}
-use Rattle.hir_lower.proofs.Ways.{Leading, any, since, then', makes, leading_pure, leading_report, leading_block, leading_close, leading_count_out}
+use Rattle.hir_lower.proofs.TypeWays.{option_path_leads}
+use Rattle.hir_lower.proofs.Ways.{Leading, any, since, then', makes, leading_pure, leading_report, leading_block, leading_close}
 use Rattle.hir_lower.proofs.Ways.{leading_jump, leading_alloc, leading_open, leading_point, leading_closed, leading_report_await}
 
 missing_leads : Leading since missing
@@ -106,51 +101,6 @@ labelled_leads (Some l) h = makes (leading_open l) (λ n. leading_closed (h (Som
 kept_leads : (e : Expr) {p : ExprSteps} → Leading since p → Leading any (kept e p)
 kept_leads (tree.disabled_expr at by e) h = then' (leading_report _) (λ u. leading_pure None)
 kept_leads e h = some_leads h
-
-counted_leads : (r : Option Reading) → Leading any (counted r)
-counted_leads (Some r) = leading_pure r
-counted_leads None = leading_count_out
-
-proceed_leads : (r : Reading) {f : PathWalk → Lowering Reading} → ((w : PathWalk) → Leading any (f w)) → Leading any (proceed r f)
-proceed_leads Refused h = leading_pure Refused
-proceed_leads (Ended w) h = leading_pure (Ended w)
-proceed_leads (Open w) h = h w
-
-whole_leads : {own : Lowering Reading} {outer : PathWalk → Lowering Reading} → Leading any own
-    → ((w : PathWalk) → Leading any (outer w)) → Leading any (whole own outer)
-unfolding whole
-whole_leads h k = then' h (λ r. proceed_leads r k)
-
-segment_leads : (first : Bool) (s : Segment) (w : PathWalk) → Leading any (read_segment first s w)
-segment_leads first tree.absent_segment w = leading_pure _
-segment_leads first tree.broken_segment w = leading_pure _
-segment_leads first (tree.name_segment n) w = leading_pure _
-segment_leads first tree.self_type_segment w = leading_pure _
-segment_leads false tree.crate_segment w = leading_pure _
-segment_leads true tree.crate_segment w = leading_pure _
-segment_leads false (tree.dollar_crate_segment root) w = leading_pure _
-segment_leads true (tree.dollar_crate_segment root) w = leading_pure _
-segment_leads false tree.self_segment w = leading_pure _
-segment_leads true tree.self_segment w = leading_pure _
-segment_leads first tree.super_segment w = counted_leads _
-
-segments_lead : (ss : Segments) (w : PathWalk) → Leading any (read_each ss w)
-segments_lead tree.no_segments w = leading_pure _
-segments_lead (tree.more_segments s ss) w = then' (segments_lead ss w) (λ r. proceed_leads r (λ v. segment_leads false s v))
-
-mutual
-  reading_leads : (p : Path) (w : PathWalk) → Leading any (read_path p w)
-  reading_leads (tree.path leading first rest use_) w = whole_leads
-      (then' (segments_lead rest w) (λ r. proceed_leads r (λ v. segment_leads true first (at_first leading v))))
-      (λ v. outer_leads use_ v)
-
-  outer_leads : (p : OptionPath) (w : PathWalk) → Leading any (read_option p w)
-  outer_leads tree.no_path w = leading_pure _
-  outer_leads (tree.some_path p) w = reading_leads p w
-
-option_path_leads : (p : OptionPath) → Leading any (lower_path p)
-option_path_leads tree.no_path = leading_pure None
-option_path_leads (tree.some_path p) = then' (reading_leads p _) (λ r. leading_pure _)
 
 mutual
   node_leads : (e : Expr) → Leading since (lower e)
