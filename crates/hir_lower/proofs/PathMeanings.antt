@@ -23,7 +23,8 @@ data_if p b b' (Err e) l = tt
 pub names_if : (at : Spot) (x : AstPath) (b b' : Builder) (r : Checked (Option Path)) → LowersPath (whole_path at x) b r b'
     → IfOk r (λ y. BearsNames x y)
 names_if at x b b' (Ok None) l = tt
-names_if at x b b' (Ok (Some y)) l = λ alone present. segment_law at x (stored_path y) alone present (sym (path_law (whole_path at x) b b' (Some y) l.0))
+names_if at x b b' (Ok (Some y)) l =
+    λ alone present. segment_law at x (stored_path y) alone present (sym (path_law (whole_path at x) b b' (Some y) l.0))
 names_if at x b b' (Err e) l = tt
 
 pub ends_if : (p : OptionPath) (b b' : Builder) (r : Checked (Option Path)) → LowersPath p b r b' → IsErrOf r Full → SomeEnd b'
