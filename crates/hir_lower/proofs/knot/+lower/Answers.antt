@@ -26,13 +26,8 @@ maybe_collect_expr-expr_node-requires g t c =
     let env = g.E.LowerEnv.answers c.args.env.now in
     let at = spot_at env c.args.place in
     let size = expr_below at c.args.node.now in
-    kids_expr env (λ p. record {
-      expr = HandlesExpr g.E.LowerEnv.answers _ _ c.args.env.now p;
-      block = HandlesBlock g.E.LowerEnv.answers _ _ c.args.env.now p;
-      path = HandlesPath g.E.LowerEnv.answers _ _ c.args.env.now;
-      type_ = λ p t. Unit {0};
-      args = λ p l. Unit {0};
-    }) t
+    kids_expr env (HandlesExpr g.E.LowerEnv.answers _ _ c.args.env.now) (HandlesBlock g.E.LowerEnv.answers _ _ c.args.env.now)
+    (HandlesPath g.E.LowerEnv.answers _ _ c.args.env.now) t
     (λ p e h. record {
       callable = λ alloc v old b same is. (rw same (rw is h), λ a m. m);
       lowers = λ alloc v old new b r same is q. rw (← is) (rw (← same) q.2);
@@ -65,13 +60,8 @@ collect_block_inside-block_node-requires-clause-parts g t c =
     let level : Place → ℕ = λ q. suc (count_stmts (stmts_part (spot_at env q) node.stmts) + tail q) in
     let size : count_block (answered_plain (spot_at env c.args.place) c.args.node.now) ≡ level c.inside-inner.result =
     ap count_block (plain_is_level (spot_at env c.args.place) c.args.node.now) ∙ ap level (sym inner) in
-    kids_block env (λ p. record {
-      expr = HandlesExpr g.E.LowerEnv.answers _ _ c.args.env.now p;
-      block = HandlesBlock g.E.LowerEnv.answers _ _ c.args.env.now p;
-      path = HandlesPath g.E.LowerEnv.answers _ _ c.args.env.now;
-      type_ = λ p t. Unit {0};
-      args = λ p l. Unit {0};
-    }) t
+    kids_block env (HandlesExpr g.E.LowerEnv.answers _ _ c.args.env.now) (HandlesBlock g.E.LowerEnv.answers _ _ c.args.env.now)
+    (HandlesPath g.E.LowerEnv.answers _ _ c.args.env.now) t
     (λ p e h. record {
       callable = λ alloc v old b same is. (rw same (rw is h), λ a m. m);
       lowers = λ alloc v old new b r same is q. rw (← is) (rw (← same) q.2);
