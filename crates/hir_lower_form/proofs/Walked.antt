@@ -1,6 +1,7 @@
 -- What a walk names after each of its steps exists.
 use Rattle.std.proofs.Common.{arith, ◌≡◌, ◌∙◌, refl, ap, sym, subst, Bool, true, false, not, ◌&&◌, List, [], ◌∷◌, ◌++◌, Option, Some, None}
-use Rattle.std.specs.Prelude.{map, reverse, is_none, if◌then◌else◌}
+use Rattle.std.specs.Prelude.{map, reverse, is_none, if◌then◌else◌, option_map}
+use Rattle.hir_store.specs.declared.path.PathKind.{PathKind}
 use Rattle.std.proofs.lemmas.List.{reverse-append}
 use Rattle.hir_store.specs.Stored.{Stored}
 use Rattle.hir_store.specs.Range.{Has, HasType, HasArgsOption, HasPath, HasPathOption}
@@ -13,8 +14,9 @@ use Rattle.hir_store.specs.declared.path.GenericArgs.{GenericArgs}
 use Rattle.hir_store.specs.declared.path.Path.{Path}
 use Rattle.hir_store.specs.declared.path.Path.TheVariants.{BarePath, Normal}
 use Rattle.hir_lower_form.specs.Methods.{HasWalk, HasReading}
-use Rattle.hir_lower_form.specs.Walks.{with_self, args_of, without_last_self, has_self, finished, path_read, own_path, normal_path, past_reading}
-use Rattle.hir_lower_form.specs.Walks.{at_first, named, self_read, super_read, self_kind, anchored, projected, add_trait, no_names, mod_path}
+use Rattle.hir_lower_form.specs.Walks.{with_self, args_of, without_last_self, has_self, finished, path_read, own_path}
+use Rattle.hir_lower_form.specs.Walks.{normal_path, at_first, named, self_read, super_read, self_kind, anchored, projected}
+use Rattle.hir_lower_form.specs.Walks.{add_trait, no_names, mod_path, one_more_super}
 use Rattle.hir_lower_form.specs.declared.walk.PathWalk.{PathWalk}
 use Rattle.hir_lower_form.specs.declared.walk.Reading.{Reading}
 use Rattle.hir_lower_form.specs.declared.walk.Reading.TheVariants.{Refused, Ended, Open}
@@ -33,13 +35,13 @@ with_self_last t xs a = ap (with_self t) (reverse-append xs (a ∷ []))
 -- joined
 
 has_join : (s : Stored) (p q : Past) → Has s p → Has s q → Has s (join p q)
-has_join s p q h k = (omega (arith, h.0, k.0), omega (arith, h.1.0, k.1.0), omega (arith, h.1.1, k.1.1))
+has_join s p q h k = (omega (arith, h.0, k.0), omega (arith, h.1, k.1), omega (arith, h.2, k.2))
 
 join_left : (s : Stored) (p q : Past) → Has s (join p q) → Has s p
-join_left s p q h = (omega (arith, h.0), omega (arith, h.1.0), omega (arith, h.1.1))
+join_left s p q h = (omega (arith, h.0), omega (arith, h.1), omega (arith, h.2))
 
 join_right : (s : Stored) (p q : Past) → Has s (join p q) → Has s q
-join_right s p q h = (omega (arith, h.0), omega (arith, h.1.0), omega (arith, h.1.1))
+join_right s p q h = (omega (arith, h.0), omega (arith, h.1), omega (arith, h.2))
 
 has_nothing : (s : Stored) → Has s nothing
 has_nothing s = (omega arith, omega arith, omega arith)
@@ -72,7 +74,8 @@ module _ (s : Stored) where
   lists_of (BarePath p) h = absent_lists p.segments
   lists_of (Normal p) h = join_right s (past_present past_type_id p.type_anchor) (past_arg_lists p.generic_args) h
 
-  has_self_first : (t : TypeRefId) (a : Option GenericArgs) → Has s (past_type_id t) → HasArgsOption s a → Has s (past_generic (self_first t a))
+  has_self_first : (t : TypeRefId) (a : Option GenericArgs) → Has s (past_type_id t) → HasArgsOption s a
+      → Has s (past_generic (self_first t a))
   has_self_first t None h k = subst (Has s) (sym (self_alone_past t)) (has_join s (past_type_id t) nothing h k)
   has_self_first t (Some a) h k = subst (Has s) (sym (self_before_past t a)) (has_join s (past_type_id t) (past_generic a) h k)
 
@@ -94,6 +97,10 @@ module _ (s : Stored) where
 
   -- the steps of a walk
 
+  abbrev IfRead : Option Reading → Type 0
+  IfRead None = Unit {0}
+  IfRead (Some r) = HasReading s r
+
   pub at_first_has : (leading : Bool) (w : PathWalk) → HasWalk s w → HasWalk s (at_first leading w)
   at_first_has true w h = h
   at_first_has false w h = h
@@ -112,6 +119,13 @@ module _ (s : Stored) where
       by true = h
       by false = h
 
+  pub super_has : (w : PathWalk) (r : Reading) → super_read w ≡ Some r → HasWalk s w → HasReading s r
+  super_has w r e h = by (one_more_super w.kind) e
+    where
+      by : (k : Option PathKind) → option_map (λ k. Open (record w { kind = k })) k ≡ Some r → HasReading s r
+      by (Some k) e = subst IfRead e h
+      by None e = cc
+
   pub anchored_has : (t : TypeRefId) (w : PathWalk) → HasWalk s w → HasType s t → HasReading s (anchored t w)
   anchored_has t w h k =
       let old = past_present past_type_id w.type_anchor in
@@ -120,17 +134,19 @@ module _ (s : Stored) where
   pub projected_has : (t : TypeRefId) (p : Path) (w : PathWalk) → HasWalk s w → HasType s t → HasPath s p → HasReading s (projected t p w)
   projected_has t p w h k m = by (no_names (mod_path p).segments)
     where
-      open : HasReading s (Open (add_trait t p w))
-      open =
+      opened : HasReading s (Open (add_trait t p w))
+      opened =
           let anchor = past_present past_type_id w.type_anchor in
-          let own = lists_with_self t (reverse (args_of p)) (omega arith, k, omega arith) (each_reverse s (past_present past_generic) (args_of p) (lists_of p m)) in
+          let turned = each_reverse s (past_present past_generic) (args_of p) (lists_of p m) in
+          let own = lists_with_self t (reverse (args_of p)) (omega arith, k, omega arith) turned in
           let old = join_right s anchor (past_arg_lists w.args) h in
+          let both = w.args ++ with_self t (reverse (args_of p)) in
           let all = each_append s (past_present past_generic) w.args (with_self t (reverse (args_of p))) old own in
-          has_join s anchor (past_arg_lists (w.args ++ with_self t (reverse (args_of p)))) (join_left s anchor (past_arg_lists w.args) h) all
+          has_join s anchor (past_arg_lists both) (join_left s anchor (past_arg_lists w.args) h) all
 
       by : (b : Bool) → HasReading s (if b then Refused else Open (add_trait t p w))
       by true = has_nothing s
-      by false = open
+      by false = opened
 
   finished_has : (w : PathWalk) → HasWalk s w → HasPath s (finished w)
   finished_has w h = by (is_none w.type_anchor && not w.found_args)

@@ -7,6 +7,8 @@ use Rattle.hir_store.specs.Range.{Has, HasType, HasTypeOption, HasTypes, HasArgs
 use Rattle.hir_store.specs.declared.ids.TypeRefId.{TypeRefId}
 use Rattle.hir_store.specs.declared.path.GenericArgs.{GenericArgs}
 use Rattle.hir_store.specs.declared.type_ref.TypeBound.{TypeBound}
+use Rattle.hir_store.specs.declared.type_ref.UseArgRef.{UseArgRef}
+use Rattle.hir_store.specs.Past.{past_use_arg}
 use Rattle.hir_store.specs.declared.hir.Statement.{Statement}
 use Rattle.hir_store.specs.declared.ids.ExprId.{ExprId}
 use Rattle.hir_store.specs.declared.ids.LabelId.{LabelId}
@@ -85,6 +87,9 @@ HasReading s r = Has s (past_reading r)
 
 abbrev pub HasLists : Stored → ArgLists → Type 0
 HasLists s l = Has s (past_lists l)
+
+abbrev pub HasUseArg : Stored → UseArgRef → Type 0
+HasUseArg s a = Has s (past_use_arg a)
 
 abbrev pub LowersType : Option Binder → Type_ → Builder → Checked TypeRefId → Builder → Type 0
 LowersType binder t old result new = Lowers HasType (spec.lower_type binder t) old result new

@@ -156,13 +156,13 @@ abbrev pub past_lists : ArgLists → Past
 past_lists l = join (past_args l.args) (past_bindings l.bindings)
 
 -- a binding: its arguments, its type, its bounds
-unfoldable pub binding_form :
-    ArgLists → Name → Bool → Lowering (Option GenericArgs) → Lowering (Option TypeRefId) → Lowering (List TypeBound) → Lowering ArgLists
-binding_form l name dots args type_ref bounds = do
+unfoldable pub binding_form : Name → Bool → Lowering (Option GenericArgs) → Lowering (Option TypeRefId) → Lowering (List TypeBound)
+    → Lowering AssociatedTypeBinding
+binding_form name dots args type_ref bounds = do
   a ← args
   t ← type_ref
   bs ← bounds
-  pure (add_binding l (of_binding name (or_notation a dots) t bs))
+  pure (of_binding name (or_notation a dots) t bs)
 
 -- ---- bounds
 

@@ -2,6 +2,7 @@
 
 ghost use Rattle.std.specs.Prelude.{◌≡◌, IfOk};
 ghost use Rattle.hir_store.specs.Past.{join, past_arg, past_binding, past_generic, past_present};
+ghost use Rattle.hir_lower_form.specs.Paths as paths;
 ghost use Rattle.hir_lower_form.specs.Types as spec;
 
 use hir_store::lists::{push_arg, push_binding};
@@ -57,6 +58,26 @@ impl ArgLists {
                 args,
                 bindings,
                 GenericArgsParentheses::No,
+            ))
+        }
+    }
+}
+
+/// `(..)`, where it is written and nothing else was found.
+pub fn or_notation(alloc: Global, found: Option<GenericArgs>, written: bool) -> Option<GenericArgs>
+    ensures value { result ≡ paths.or_notation found written }
+    ensures past { past_present past_generic result ≡ past_present past_generic found }
+{
+    match found {
+        Some(args) => Some(args),
+        None => {
+            if !written {
+                return None;
+            }
+            Some(GenericArgs::new(
+                Seq::new(alloc),
+                Seq::new(alloc),
+                GenericArgsParentheses::ReturnTypeNotation,
             ))
         }
     }

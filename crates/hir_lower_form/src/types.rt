@@ -62,7 +62,6 @@ impl<P: LowerParts> Lowerer<P> {
     }
 
     /// The type of an argument, read at this place.
-    #[tactic(auto, using(hir_env::proofs::PathLevels::type_arg_is_level))]
     pub fn type_arg(
         &self,
         state: &mut BodyBuilder,
