@@ -2,6 +2,7 @@
 use Rattle.std.proofs.Common.{refl}
 use Rattle.hir_data.specs.Worked.{SuperAfterSelf, KeywordsInside, CrateHidesSupers, DollarCrateIsARoot, SupersInside}
 use Rattle.hir_data.specs.Worked.{SelfAlone, UseTreesStandInFront, AbsentIsMissing}
+use Rattle.hir_data.specs.Worked.{TraitInPlace, TypeInFront, OutputIsBound, BinderOfFunctions}
 
 pub counts_super_after_self : SuperAfterSelf
 counts_super_after_self = refl
@@ -26,3 +27,15 @@ reads_use_trees_in_front = (refl, refl, refl)
 
 pub names_what_is_absent : AbsentIsMissing
 names_what_is_absent = (refl, refl, refl)
+
+pub puts_traits_in_place : TraitInPlace
+puts_traits_in_place t at = (refl, refl, refl)
+
+pub reads_types_in_front : TypeInFront
+reads_types_in_front t = refl
+
+pub binds_output : OutputIsBound
+binds_output a b = (refl, refl, refl)
+
+pub hands_binders_on : BinderOfFunctions
+hands_binders_on at h b t = (refl, refl)

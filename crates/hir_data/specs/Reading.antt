@@ -31,6 +31,12 @@ use Rattle.hir_data.specs.Data.{BindingData, BindingsData, BoundData, BoundsData
 pub record Readers : Type 0 where
   pub type : TypeRefId → TypeData
 
+-- names, each with what stands beside it
+abbrev pub names_beside : List Name → List OptionArgsData → NamesData
+names_beside [] as' = data.no_names
+names_beside (n ∷ ns) [] = data.more_names n no_args (names_beside ns [])
+names_beside (n ∷ ns) (a ∷ as') = data.more_names n a (names_beside ns as')
+
 module _ (store : Store) (source_map : SourceMap) where
   abbrev pub lifetime_found : Option LifetimeRef → LifetimeRef
   lifetime_found None = lifetime.Error
@@ -108,15 +114,10 @@ module _ (store : Store) (source_map : SourceMap) where
     list_layer None = no_args
     list_layer (Some a) = some_args (args_layer a)
 
-    abbrev pub names_layer : List Name → List (Option GenericArgs) → NamesData
-    names_layer [] as' = data.no_names
-    names_layer (n ∷ ns) [] = data.more_names n no_args (names_layer ns [])
-    names_layer (n ∷ ns) (a ∷ as') = data.more_names n (list_layer a) (names_layer ns as')
-
     abbrev pub path_layer : Path → PathData
-    path_layer (BarePath p) = data.path_data p.kind data.no_type (names_layer p.segments []) true
+    path_layer (BarePath p) = data.path_data p.kind data.no_type (names_beside p.segments []) true
     path_layer (Normal p) =
-        data.path_data p.mod_path.kind (present_layer p.type_anchor) (names_layer p.mod_path.segments p.generic_args) false
+        data.path_data p.mod_path.kind (present_layer p.type_anchor) (names_beside p.mod_path.segments (map list_layer p.generic_args)) false
 
     abbrev pub fn_layer : FnType → Shape
     fn_layer f = data.fn_shape (record { is_unsafe = f.is_unsafe; abi = f.abi; is_varargs = f.is_varargs }) f.binder (types_layer f.params data.no_types)

@@ -221,15 +221,3 @@ names_data (n ∷ ns) = data.more_names n.name n.args (names_data ns)
 
 abbrev pub data_of : PathRead → data.PathData
 data_of p = data.path_data p.kind (anchor_data p.anchor) (names_data p.names) p.bare
-
--- ---- how many `super`s are read
-
--- those of a trait's path come before
-abbrev pub supers_of : What → ℕ → ℕ
-supers_of super_ n = suc n
-supers_of (projection t (Some p)) n = supers p.kind + n
-supers_of _ n = n
-
-abbrev pub supers_in : List Item → ℕ
-supers_in [] = 0
-supers_in (i ∷ is) = supers_of i.what (supers_in is)

@@ -1,14 +1,17 @@
 -- Worked paths.
-use Rattle.std.specs.Prelude.{◌≡◌, ℕ, codes, false, true, List, [], ◌∷◌, Some, None}
+use Rattle.std.specs.Prelude.{◌≡◌, ℕ, codes, false, true, List, [], ◌∷◌, Option, Some, None}
+use Rattle.hir_store.specs.Pointers.{Pointer}
 use Rattle.hir_store.specs.declared.ids.CrateId.{CrateId}
 use Rattle.hir_store.specs.declared.name.Name.{Name}
 use Rattle.hir_store.specs.declared.name.Name.TheVariants as name
 use Rattle.hir_store.specs.declared.path.PathKind.{PathKind}
 use Rattle.hir_store.specs.declared.path.PathKind.TheVariants as kind
+use Rattle.hir_store.specs.declared.path.GenericArgsParentheses.TheVariants as parens
 use Rattle.hir_env.specs.Answered as tree
-use Rattle.hir_env.specs.Answered.{OptionPath, Segments, Segment}
-use Rattle.hir_data.specs.Data.{path_data}
-use Rattle.hir_data.specs.Written.{written_path}
+use Rattle.hir_env.specs.Answered.{Binder, FnHead, Type_, OptionPath, OptionRet, Segments, Segment}
+use Rattle.hir_data.specs.Data as data
+use Rattle.hir_data.specs.Data.{TypeData, NamesData, OptionArgsData, path_data}
+use Rattle.hir_data.specs.Written.{type_data, written_path}
 
 abbrev pub behind : List Segment → Segments
 behind [] = tree.no_segments
@@ -29,10 +32,14 @@ abbrev pub text : List ℕ → Name
 text t = name.Text t
 
 abbrev pub word : List ℕ → Segment
-word t = tree.name_segment (text t)
+word t = tree.name_segment (text t) (tree.segment_args tree.no_arg_list tree.no_parens false)
+
+abbrev pub alone : List Name → NamesData
+alone [] = data.no_names
+alone (n ∷ ns) = data.more_names n data.no_args (alone ns)
 
 abbrev pub becomes : OptionPath → PathKind → List Name → Type 0
-becomes p k ns = written_path p ≡ Some (path_data k ns)
+becomes p k ns = written_path p ≡ Some (path_data k data.no_type (alone ns) true)
 
 abbrev pub is_refused : OptionPath → Type 0
 is_refused p = written_path p ≡ None
@@ -87,3 +94,60 @@ AbsentIsMissing =
     becomes (whole (word (codes "A")) (tree.absent_segment ∷ [])) kind.Plain (text (codes "A") ∷ name.Missing ∷ [])
     × becomes (leading tree.absent_segment []) kind.Abs (name.Missing ∷ [])
     × becomes (leading tree.super_segment (word (codes "A") ∷ [])) (kind.Super 1) (text (codes "A") ∷ [])
+
+-- ---- arguments, with any types
+
+-- the arguments with a type for `Self` alone
+abbrev pub self_alone : Type_ → OptionArgsData
+self_alone t = data.some_args
+    (data.args_data (data.more_arguments (data.type_argument (type_data None t)) data.no_arguments) true data.no_bindings parens.No)
+
+-- `<T as Trait>` in front
+abbrev pub projected : Type_ → Pointer → OptionPath → List Segment → OptionPath
+projected t at trait ss = whole (tree.trait_segment t at trait) ss
+
+-- `<T as B::D>::E`, `<T as B>`, and `<T as crate>::E`
+abbrev pub TraitInPlace : Type 0
+TraitInPlace = (t : Type_) (at : Pointer)
+    → (written_path (projected t at (whole (word (codes "B")) (word (codes "D") ∷ [])) (word (codes "E") ∷ []))
+      ≡ Some (path_data kind.Plain data.no_type
+          (data.more_names (text (codes "B")) data.no_args (data.more_names (text (codes "D")) (self_alone t) (alone (text (codes "E") ∷ [])))) false))
+    × (written_path (projected t at (whole (word (codes "B")) []) [])
+      ≡ Some (path_data kind.Plain data.no_type (alone (text (codes "B") ∷ [])) false))
+    × is_refused (projected t at (whole tree.crate_segment []) (word (codes "E") ∷ []))
+
+-- `<T>::E`
+abbrev pub TypeInFront : Type 0
+TypeInFront = (t : Type_) → written_path (whole (tree.type_segment t) (word (codes "E") ∷ []))
+    ≡ Some (path_data kind.Plain (data.some_type (type_data None t)) (alone (text (codes "E") ∷ [])) false)
+
+abbrev pub sugared : TypeData → TypeData → OptionArgsData
+sugared from to =
+    let tuple = data.typed None (data.tuple_shape (data.more_types from data.no_types)) in
+    let output = data.binding_data (text (codes "Output")) data.no_args (data.some_type to) data.no_bounds in
+    data.some_args (data.args_data (data.more_arguments (data.type_argument tuple) data.no_arguments) false
+        (data.more_bindings output data.no_bindings) parens.ParenSugar)
+
+abbrev pub fn_behind : Type_ → OptionRet → OptionPath
+fn_behind a r = whole (tree.name_segment (text (codes "Fn")) (tree.segment_args tree.no_arg_list
+    (tree.some_parens (tree.more_parts (tree.some_type a) tree.no_parts) r) false)) []
+
+abbrev pub reads_fn : OptionPath → TypeData → TypeData → Type 0
+reads_fn p from to =
+    written_path p ≡ Some (path_data kind.Plain data.no_type (data.more_names (text (codes "Fn")) (sugared from to) data.no_names) false)
+
+-- `Fn(A) -> B`, `Fn(A)`, and `Fn(A) ->`
+abbrev pub OutputIsBound : Type 0
+OutputIsBound = (a b : Type_)
+    → reads_fn (fn_behind a (tree.some_ret (tree.some_type b))) (type_data None a) (type_data None b)
+    × reads_fn (fn_behind a tree.no_ret) (type_data None a) (data.typed None (data.tuple_shape data.no_types))
+    × reads_fn (fn_behind a (tree.some_ret tree.no_type)) (type_data None a) (data.typed None data.error_shape)
+
+-- `for<'a> (fn())` has the binder, and `for<'a> [T]` has none
+abbrev pub BinderOfFunctions : Type 0
+BinderOfFunctions = (at : Pointer) (h : FnHead) (b : Binder) (t : Type_)
+    → (type_data None (tree.for_type b (tree.some_type (tree.paren_type (tree.some_type (tree.fn_type at h tree.no_parts tree.no_type)))))
+      ≡ data.typed (Some at) (data.fn_shape h (Some b)
+          (data.more_types (data.typed None (data.tuple_shape data.no_types)) data.no_types)))
+    × (type_data None (tree.for_type b (tree.some_type (tree.over_type at tree.slice_of (tree.some_type t))))
+      ≡ data.typed (Some at) (data.slice_shape (type_data None t)))

@@ -1,10 +1,11 @@
-//! What is written and what is stored as data, the same on both sides: paths so far. A law is a function whose contract is
+//! What is written and what is stored as data, the same on both sides: lifetimes, types, paths, arguments and bounds. A law is a function whose contract is
 //! the law; those of single paths are computed.
 #![tactic(auto)]
 
 ghost use Rattle.hir_data.specs.Segments.{SegmentLaw};
 ghost use Rattle.hir_data.specs.Worked.{SuperAfterSelf, KeywordsInside, CrateHidesSupers, DollarCrateIsARoot, SupersInside};
 ghost use Rattle.hir_data.specs.Worked.{SelfAlone, UseTreesStandInFront, AbsentIsMissing};
+ghost use Rattle.hir_data.specs.Worked.{TraitInPlace, TypeInFront, OutputIsBound, BinderOfFunctions};
 
 /// The names of a path are those of its named segments, where no use tree stands around it and no segment is missing.
 pub fn segment_law()
@@ -49,4 +50,24 @@ pub fn reads_use_trees_in_front()
 /// `A::` ends with the missing name.
 pub fn names_what_is_absent()
     ensures { AbsentIsMissing }
+{}
+
+/// `<T as B::D>::E` is `B::D::E` with `T` before D's arguments, `<T as B>` is `B`, and a trait without names refuses.
+pub fn puts_traits_in_place()
+    ensures { TraitInPlace }
+{}
+
+/// `<T>::E` is `E` relative to `T`.
+pub fn reads_types_in_front()
+    ensures { TypeInFront }
+{}
+
+/// `Fn(A) -> B` binds `Output` to `B`, `Fn(A)` to `()`, and `Fn(A) ->` to an error.
+pub fn binds_output()
+    ensures { OutputIsBound }
+{}
+
+/// A `for` reaches a function pointer through parentheses, and no other type.
+pub fn hands_binders_on()
+    ensures { BinderOfFunctions }
 {}
