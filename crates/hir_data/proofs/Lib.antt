@@ -1,2 +1,7 @@
+<<<<<<< HEAD
 pub mod Segments
+=======
+mod Segments
+mod Arguments
+>>>>>>> theories2
 mod Worked
