@@ -1,7 +1,3 @@
-<<<<<<< HEAD
 pub mod Segments
-=======
-mod Segments
 mod Arguments
->>>>>>> theories2
 mod Worked
