@@ -6,7 +6,12 @@ use Rattle.hir_syntax.specs.declared.ast.Path.{Path as AstPath, out-Path}
 use Rattle.hir_syntax.specs.declared.types.Type_.{Type_ as AstType_}
 use Rattle.hir_store.specs.Pointers.{Pointer}
 use Rattle.hir_store.specs.Stored.{Store, SourceMap, Stored, store_of, map_of}
-use Rattle.hir_store.specs.Storing.{Extends, root_at}
+use Rattle.hir_store.specs.Arenas.{with_entry}
+use Rattle.hir_store.specs.Storing.{Extends, root_at, type_id}
+use Rattle.hir_store.specs.declared.ids.TypeRefId.{TypeRefId}
+use Rattle.hir_store.specs.declared.type_ref.TypeBound.{TypeBound}
+use Rattle.hir_store.specs.declared.type_ref.TypeRef.{TypeRef}
+use Rattle.hir_store.specs.declared.type_ref.TypeRef.TheVariants as ty
 use Rattle.hir_store.specs.declared.ids.ExprId.{ExprId}
 use Rattle.hir_store.specs.declared.roots.ExprRoot.{ExprRoot}
 use Rattle.hir_store.specs.declared.path.Path.{Path}
@@ -18,6 +23,8 @@ use Rattle.hir_store.specs.declared.diagnostics.MissingBodyItemKind.{MissingBody
 use Rattle.hir_store.specs.declared.diagnostics.MissingBodyItemKind.TheVariants as kind
 use Rattle.hir_store.specs.declared.diagnostics.ExpressionStoreDiagnostics.TheVariants.{MissingBody}
 use Rattle.hir_env.specs.Spot.{Spot}
+use Rattle.hir_env.specs.declared.place.ImplTrait.{ImplTrait}
+use Rattle.hir_env.specs.declared.place.ImplTrait.TheVariants as mode
 use Rattle.hir_env.specs.Answering.{in_file}
 use Rattle.hir_env.specs.Answered as tree
 use Rattle.hir_env.specs.Answered.{OptionExpr, OptionPath, OptionType}
@@ -94,6 +101,19 @@ abbrev pub BearsNames : Stored → AstPath → Option Path → Type 0
 BearsNames new x None = Unit {0}
 BearsNames new x (Some p) = (later : Stored) → Extends new later → Whole x → PlainTrait (first_trait (out-Path x).segs)
     → map Some (path_names (stored_path (store_of later) (map_of later) p)) ≡ map segment_name (named_segments x)
+
+-- one type more, to which its node leads from now on
+pub record AddsType (old new : Stored) (i : TypeRefId) (ty : TypeRef) (at : Pointer) : Type 0 where
+  pub number : i ≡ type_id (length old.types.entries)
+  pub added : new ≡ record old { types = with_entry type_id old.types ty (Some at) }
+
+abbrev pub NoRoomForType : Stored → Type 0
+NoRoomForType old = old.types.limit ≤ length old.types.entries
+
+-- what an `impl` with these bounds becomes
+abbrev pub becomes : ImplTrait → List TypeBound → TypeRef
+becomes mode.Error bounds = ty.Error
+becomes mode.Opaque bounds = ty.ImplTrait bounds
 
 -- What lowering a path leaves: as many types and lifetimes as it becomes, and all else as it was.
 pub record PathRooted (old new : Stored) (p : OptionPath) : Type 0 where
