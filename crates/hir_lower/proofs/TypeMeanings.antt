@@ -24,3 +24,40 @@ alloc_is : (b : Builder) (ty : TypeRef) (at : Pointer)
     → alloc_type ty (Some at) b ≡ after (nat_lt (length b.stored.types.entries) b.stored.types.limit) b ty at
 unfolding alloc_type storing.alloc_type
 alloc_is b ty at = refl
+
+module _ (b b' : Builder) (ty : TypeRef) (at : Pointer) where
+  abbrev Alone : Checked TypeRefId → Type 0
+  Alone r = Lowers HasType (alloc_type ty (Some at)) b r b'
+
+  added : (t : Bool) (i : TypeRefId) → after t b ty at ≡ (Ok i, b') → AddsType b.stored b'.stored i ty at
+  added true i e =
+      let ok = ap (λ (q : Checked TypeRefId × Builder). q.0) e in
+      let same : type_id (length b.stored.types.entries) ≡ i = cc in
+      record { number = sym same; added = sym (ap (λ (q : Checked TypeRefId × Builder). q.1.stored) e) }
+  added false i e = let no = ap (λ (q : Checked TypeRefId × Builder). q.0) e in cc
+
+  pub adds_if : (r : Checked TypeRefId) → Alone r → IfOk r (λ i. AddsType b.stored b'.stored i ty at)
+  adds_if (Ok i) l = added (nat_lt (length b.stored.types.entries) b.stored.types.limit) i (sym (alloc_is b ty at) ∙ l.0)
+  adds_if (Err e) l = tt
+
+  record Refused : Type 0 where
+    room : NoRoomForType b.stored
+    same : b'.stored ≡ b.stored
+
+  refused : (t : Bool) → nat_lt (length b.stored.types.entries) b.stored.types.limit ≡ t → after t b ty at ≡ (Err Full, b') → Refused
+  refused true is e = let no = ap (λ (q : Checked TypeRefId × Builder). q.0) e in cc
+  refused false is e = record { room = omega (arith, is); same = sym (ap (λ (q : Checked TypeRefId × Builder). q.1.stored) e) }
+
+  refused_if : (r : Checked TypeRefId) → Alone r → IsErrOf r Full → Refused
+  refused_if (Ok i) l is = cc
+  refused_if (Err e) l is =
+      let other : e ≢ Memory = λ m. cc in
+      let full : e ≡ Full = cc in
+      refused (nat_lt (length b.stored.types.entries) b.stored.types.limit) refl
+      (sym (alloc_is b ty at) ∙ subst (λ x. alloc_type ty (Some at) b ≡ (Err x, b')) full (l other).0)
+
+  pub no_room_if : (r : Checked TypeRefId) → Alone r → IsErrOf r Full → NoRoomForType b.stored
+  no_room_if r l is = (refused_if r l is).room
+
+  pub unchanged_if : (r : Checked TypeRefId) → Alone r → IsErrOf r Full → b'.stored ≡ b.stored
+  unchanged_if r l is = (refused_if r l is).same
