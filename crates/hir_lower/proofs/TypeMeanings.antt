@@ -1,18 +1,23 @@
 -- What is stored as a type is one more.
 use Rattle.std.proofs.Common.{arith, ◌≡◌, ◌≢◌, ◌∙◌, refl, sym, ap, subst, ℕ, ◌≤◌, Bool, true, false, nat_lt, length, Option, Some, None, Ok, Err}
-use Rattle.std.specs.Prelude.{IfOk, IsErrOf}
+use Rattle.std.specs.Prelude.{IfOk, IsErrOf, Result}
 use Rattle.hir_store.specs.Pointers.{Pointer}
-use Rattle.hir_store.specs.Stored.{Stored}
+use Rattle.hir_syntax.specs.declared.types.Type_.{Type_ as AstType_}
+use Rattle.hir_store.specs.Stored.{Stored, Store, SourceMap, store_of, map_of}
 use Rattle.hir_store.specs.Storing as storing
 use Rattle.hir_store.specs.Storing.{type_id}
 use Rattle.hir_store.specs.Range.{HasType}
 use Rattle.hir_store.specs.declared.fault.StoreFault.TheVariants.{Memory, Full}
 use Rattle.hir_store.specs.declared.ids.TypeRefId.{TypeRefId}
 use Rattle.hir_store.specs.declared.type_ref.TypeRef.{TypeRef}
+use Rattle.hir_env.specs.Spot.{Spot}
 use Rattle.hir_lower_form.specs.Builder.{Builder}
+use Rattle.hir_lower_form.specs.Lower.{type_part}
 use Rattle.hir_lower_form.specs.Lowering.{Checked, Lowers, alloc_type}
-use Rattle.hir_steps.specs.Keeps.{Mapped, Paired}
-use Rattle.hir_lower.specs.Means.{AddsType, NoRoomForType}
+use Rattle.hir_type_result.specs.TypeResult.{TypeResult, TypeTooLarge}
+use Rattle.hir_type_result.proofs.Whole.{refused_types, type_results}
+use Rattle.hir_lower.specs.Means.{AddsType, NoRoomForType, whole_type}
+use Rattle.hir_lower.specs.Roots.{AnswersFromNothing, RefusedAtEnd}
 use Rattle.hir_lower.proofs.Ways.{made}
 
 -- what the step does
@@ -61,3 +66,22 @@ module _ (b b' : Builder) (ty : TypeRef) (at : Pointer) where
 
   pub unchanged_if : (r : Checked TypeRefId) → Alone r → IsErrOf r Full → b'.stored ≡ b.stored
   unchanged_if r l is = (refused_if r l is).same
+
+-- a type that stands alone, lowered from nothing
+module _ (at : Spot) (x : Option AstType_) (limit : ℕ) where
+  type_result : (i : TypeRefId) (store : Store) (source_map : SourceMap)
+      → AnswersFromNothing (type_part None (whole_type at x)) limit i store source_map → TypeResult store source_map i (whole_type at x)
+  type_result i store source_map s =
+      let w = type_results limit (whole_type at x) i s.builder s.done in
+      let P : Store → Type 0 = λ y. TypeResult y source_map i (whole_type at x) in
+      let Q : SourceMap → Type 0 = λ m. TypeResult (store_of s.builder.stored) m i (whole_type at x) in
+      subst P (sym s.store_is) (subst Q (sym s.source_map_is) w)
+
+  pub type_result_if : {A E : Type 0} (store : A → Store) (source_map : A → SourceMap) (id : A → TypeRefId) (r : Result A E)
+      → IfOk r (λ a. AnswersFromNothing (type_part None (whole_type at x)) limit (id a) (store a) (source_map a))
+      → IfOk r (λ a. TypeResult (store a) (source_map a) (id a) (whole_type at x))
+  type_result_if store source_map id (Ok a) h = type_result (id a) (store a) (source_map a) h
+  type_result_if store source_map id (Err e) h = tt
+
+  pub type_too_large : RefusedAtEnd (type_part None (whole_type at x)) limit → TypeTooLarge limit (whole_type at x)
+  type_too_large r = refused_types limit (whole_type at x) Full r.builder r.refused

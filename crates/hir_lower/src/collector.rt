@@ -113,6 +113,18 @@ fn lower_whole_path<E: LowerEnv>(
     lower_path(alloc, env, place, state, path)
 }
 
+/// Stores a type from this node, and changes nothing else.
+#[tactic(auto, using(crate::proofs::TypeMeanings::adds_if, crate::proofs::TypeMeanings::no_room_if, crate::proofs::TypeMeanings::unchanged_if))]
+fn add_type(state: &mut BodyBuilder, ty: TypeRef, source: InFile<AstPtr>) -> Result<TypeRefId, StoreFault>
+    requires { HasTypeParts state.old.stored ty }
+    ensures adds { IfOk result (λ i. AddsType state.old.stored state.new.stored i ty source) }
+    ensures full { IsErrOf result StoreFault.Full → SomeEnd state.new }
+    ensures no_room { IsErrOf result StoreFault.Full → NoRoomForType state.old.stored }
+    ensures unchanged { IsErrOf result StoreFault.Full → state.new.stored ≡ state.old.stored }
+{
+    state.alloc_type(ty, Some(source))
+}
+
 /// Lowers trees into one store.
 ///
 /// After an error, and only then, each later lowering call and `into_store` answer `Failed`; the store stays readable,
@@ -258,12 +270,12 @@ impl<'db, E: LowerEnv> ExprCollector<'db, E> {
         Ok(lowered)
     }
 
-    /// Stores a type that a caller's `impl` becomes, from this node.
+    /// Stores a type from this node.
     pub(crate) fn add_type(&mut self, ty: TypeRef, ptr: AstPtr) -> Result<TypeRefId, LowerError>
         requires { HasTypeParts self.old.state.stored ty }
         ensures calls { Calls self.old.failed self.old.state result self.new.state self.new.failed }
         ensures adds { IfOk result (λ i. AddsType self.old.state.stored self.new.state.stored i ty (in_file self.old.place ptr)) }
-        ensures full { IsErrOf result LowerError.Full → SomeEnd self.new.state × NoRoomForType self.old.state.stored }
+        ensures full { IsErrOf result LowerError.Full → NoRoomForType self.old.state.stored }
         ensures unchanged { IsErrOf result LowerError.Full → self.new.state.stored ≡ self.old.state.stored }
         ensures db { self.new.db ≡ self.old.db }
         ensures place { self.new.place ≡ self.old.place }
@@ -276,7 +288,7 @@ impl<'db, E: LowerEnv> ExprCollector<'db, E> {
             file_id: self.place.file_id,
             value: ptr,
         };
-        let id = self.state.alloc_type(ty, Some(source))?;
+        let id = add_type(&mut self.state, ty, source)?;
         self.failed = false;
         Ok(id)
     }

@@ -2,12 +2,9 @@
 
 ghost use Rattle.std.specs.Prelude.{◌≡◌, ◌≢◌, None, IfOk, IsErrOf, option_copied};
 ghost use Rattle.hir_store.specs.Range.{HasType, InRange};
-ghost use Rattle.hir_store.specs.Storing.{empty};
 ghost use Rattle.hir_lower_form.specs.Lower.{type_part};
 ghost use Rattle.hir_lower_form.specs.Lowering.{Lowers};
-ghost use Rattle.hir_one_result.specs.PathRoom.{type_part_size};
-ghost use Rattle.hir_one_result.specs.Room.{Short};
-ghost use Rattle.hir_type_result.specs.TypeResult.{TypeResult};
+ghost use Rattle.hir_type_result.specs.TypeResult.{TypeResult, TypeTooLarge};
 ghost use Rattle.hir_lower.specs.Means.{whole_type};
 ghost use Rattle.hir_lower.specs.Roots.{AnswersFromNothing, RefusedAtEnd, spot_at, type_spot};
 
@@ -96,7 +93,7 @@ pub fn lower_type_ref<E: LowerEnv>(
         IfOk result (λ r. TypeResult r.0 r.1 r.2 (whole_type at (option_copied type_ref.value))) }
     ensures in_range { IfOk result (λ r. InRange r.0 r.1) }
     ensures too_large { let at = type_spot (E.answers db.now) type_ref.file_id module in
-        IsErrOf result LowerError.Full → Short (type_part_size (whole_type at (option_copied type_ref.value))) (empty 4294967295) }
+        IsErrOf result LowerError.Full → TypeTooLarge 4294967295 (whole_type at (option_copied type_ref.value)) }
     ensures own { result ≢ Err LowerError.Failed }
 {
     type_steps(alloc, db, module, type_ref)
