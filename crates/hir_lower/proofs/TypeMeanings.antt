@@ -67,6 +67,19 @@ module _ (b b' : Builder) (ty : TypeRef) (at : Pointer) where
   pub unchanged_if : (r : Checked TypeRefId) → Alone r → IsErrOf r Full → b'.stored ≡ b.stored
   unchanged_if r l is = (refused_if r l is).same
 
+  still : (t : Bool) → (after t b ty at).1.scopes ≡ b.scopes
+  still true = refl
+  still false = refl
+
+  after_is : (after (nat_lt (length b.stored.types.entries) b.stored.types.limit) b ty at).1.scopes ≡ b.scopes
+  after_is = still (nat_lt (length b.stored.types.entries) b.stored.types.limit)
+
+  pub scopes_if : (r : Checked TypeRefId) → Alone r → r ≢ Err Memory → b'.scopes ≡ b.scopes
+  scopes_if (Ok i) l n = sym (ap (λ (q : Checked TypeRefId × Builder). q.1.scopes) (sym (alloc_is b ty at) ∙ l.0)) ∙ after_is
+  scopes_if (Err e) l n =
+      let other : e ≢ Memory = λ is. n (ap Err is) in
+      sym (ap (λ (q : Checked TypeRefId × Builder). q.1.scopes) (sym (alloc_is b ty at) ∙ (l other).0)) ∙ after_is
+
 -- a type that stands alone, lowered from nothing
 module _ (at : Spot) (x : Option AstType_) (limit : ℕ) where
   type_result : (i : TypeRefId) (store : Store) (source_map : SourceMap)

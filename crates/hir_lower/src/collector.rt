@@ -114,13 +114,14 @@ fn lower_whole_path<E: LowerEnv>(
 }
 
 /// Stores a type from this node, and changes nothing else.
-#[tactic(auto, using(crate::proofs::TypeMeanings::adds_if, crate::proofs::TypeMeanings::no_room_if, crate::proofs::TypeMeanings::unchanged_if))]
+#[tactic(auto, using(crate::proofs::TypeMeanings::adds_if, crate::proofs::TypeMeanings::no_room_if, crate::proofs::TypeMeanings::unchanged_if, crate::proofs::TypeMeanings::scopes_if))]
 fn add_type(state: &mut BodyBuilder, ty: TypeRef, source: InFile<AstPtr>) -> Result<TypeRefId, StoreFault>
     requires { HasTypeParts state.old.stored ty }
     ensures adds { IfOk result (λ i. AddsType state.old.stored state.new.stored i ty source) }
     ensures full { IsErrOf result StoreFault.Full → SomeEnd state.new }
     ensures no_room { IsErrOf result StoreFault.Full → NoRoomForType state.old.stored }
     ensures unchanged { IsErrOf result StoreFault.Full → state.new.stored ≡ state.old.stored }
+    ensures scopes { result ≢ Err StoreFault.Memory → state.new.scopes ≡ state.old.scopes }
 {
     state.alloc_type(ty, Some(source))
 }
@@ -254,6 +255,7 @@ impl<'db, E: LowerEnv> ExprCollector<'db, E> {
         ensures too_large { let at = spot_at (E.answers self.old.db.now) (becoming self.old.place (I.mode impl_trait.old)) in
             IsErrOf result LowerError.Full → Short (whole_size (whole_path at path.now)) self.old.state.stored }
         ensures stays { result ≢ Err LowerError.Memory → Stays self.old.state.stored self.new.state.stored }
+        ensures impl_trait { impl_trait.new ≡ impl_trait.old }
         ensures db { self.new.db ≡ self.old.db }
         ensures place { self.new.place ≡ self.old.place }
     {
@@ -277,6 +279,7 @@ impl<'db, E: LowerEnv> ExprCollector<'db, E> {
         ensures adds { IfOk result (λ i. AddsType self.old.state.stored self.new.state.stored i ty (in_file self.old.place ptr)) }
         ensures full { IsErrOf result LowerError.Full → NoRoomForType self.old.state.stored }
         ensures unchanged { IsErrOf result LowerError.Full → self.new.state.stored ≡ self.old.state.stored }
+        ensures scopes { result ≢ Err LowerError.Memory → self.new.state.scopes ≡ self.old.state.scopes }
         ensures db { self.new.db ≡ self.old.db }
         ensures place { self.new.place ≡ self.old.place }
     {

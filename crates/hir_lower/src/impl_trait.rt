@@ -1,6 +1,6 @@
 //! What becomes of an `impl` in a path that is lowered by itself.
 
-ghost use Rattle.std.specs.Prelude.{◌≡◌, IfOk, IsErrOf};
+ghost use Rattle.std.specs.Prelude.{◌≡◌, ◌≢◌, Err, IfOk, IsErrOf};
 ghost use Rattle.hir_store.specs.Range.{HasBounds};
 ghost use Rattle.hir_env.specs.Spot.{in_file};
 ghost use Rattle.hir_env.specs.declared.place.ImplTrait.{ImplTrait as Mode};
@@ -35,7 +35,12 @@ pub trait ImplTraitLower {
         requires { HasBounds collector.old.state.stored bounds.entry }
         ensures calls { Calls collector.old.failed collector.old.state result collector.new.state collector.new.failed }
         ensures adds { let at = in_file collector.old.place ptr in
-            IfOk result (λ i. AddsType collector.old.state.stored collector.new.state.stored i (becomes (mode self.old) bounds.entry) at) };
+            IfOk result (λ i. AddsType collector.old.state.stored collector.new.state.stored i (becomes (mode self.old) bounds.entry) at) }
+        ensures full { IsErrOf result LowerError.Full → NoRoomForType collector.old.state.stored }
+        ensures unchanged { IsErrOf result LowerError.Full → collector.new.state.stored ≡ collector.old.state.stored }
+        ensures scopes { result ≢ Err LowerError.Memory → collector.new.state.scopes ≡ collector.old.state.scopes }
+        ensures db { collector.new.db ≡ collector.old.db }
+        ensures place { collector.new.place ≡ collector.old.place };
 }
 
 /// An `impl` becomes an error.
@@ -92,6 +97,9 @@ pub fn impl_trait_error_allocator<E: LowerEnv>(
         IfOk result (λ i. AddsType collector.old.state.stored collector.new.state.stored i TypeRef.Error at) }
     ensures full { IsErrOf result LowerError.Full → NoRoomForType collector.old.state.stored }
     ensures unchanged { IsErrOf result LowerError.Full → collector.new.state.stored ≡ collector.old.state.stored }
+    ensures scopes { result ≢ Err LowerError.Memory → collector.new.state.scopes ≡ collector.old.state.scopes }
+    ensures db { collector.new.db ≡ collector.old.db }
+    ensures place { collector.new.place ≡ collector.old.place }
 {
     drop(bounds);
     collector.add_type(TypeRef::Error, ptr)
