@@ -1,2 +1,3 @@
 pub mod Segments
+mod Arguments
 mod Worked

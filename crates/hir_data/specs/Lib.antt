@@ -5,3 +5,4 @@ pub mod Reading
 pub mod Lookup
 pub mod Worked
 pub mod Segments
+pub mod Arguments

@@ -1,5 +1,5 @@
 -- The data of what is stored, read back from numbers.
-use Rattle.std.specs.Prelude.{ℕ, zero, suc, List, [], ◌∷◌, length, map, slice_get, Option, Some, None, option_map}
+use Rattle.std.specs.Prelude.{ℕ, zero, suc, true, false, List, [], ◌∷◌, length, map, slice_get, Option, Some, None, option_map}
 use Rattle.hir_store.specs.Pointers.{Pointer, flattened}
 use Rattle.hir_store.specs.Stored.{Store, SourceMap}
 use Rattle.hir_store.specs.declared.ids.TypeRefId.{TypeRefId}
@@ -22,7 +22,7 @@ use Rattle.hir_store.specs.declared.type_ref.TypeBound.TheVariants as bound
 use Rattle.hir_store.specs.declared.type_ref.TypeRef.{TypeRef}
 use Rattle.hir_store.specs.declared.type_ref.TypeRef.TheVariants as ty
 use Rattle.hir_store.specs.declared.type_ref.FnType.{FnType}
-use Rattle.hir_data.specs.Data as data
+use Rattle.hir_data.specs.Data as datum
 use Rattle.hir_data.specs.Data.{LifetimeData, UseData, TypeData, typed, Shape, OptionTypeData, TypesData, PathData, NamesData}
 use Rattle.hir_data.specs.Data.{OptionArgsData, no_args, some_args, ArgsData, args_data, ArgumentData, ArgumentsData}
 use Rattle.hir_data.specs.Data.{BindingData, BindingsData, BoundData, BoundsData}
@@ -33,9 +33,9 @@ pub record Readers : Type 0 where
 
 -- names, each with what stands beside it
 abbrev pub names_beside : List Name → List OptionArgsData → NamesData
-names_beside [] as' = data.no_names
-names_beside (n ∷ ns) [] = data.more_names n no_args (names_beside ns [])
-names_beside (n ∷ ns) (a ∷ as') = data.more_names n a (names_beside ns as')
+names_beside [] as' = datum.no_names
+names_beside (n ∷ ns) [] = datum.more_names n no_args (names_beside ns [])
+names_beside (n ∷ ns) (a ∷ as') = datum.more_names n a (names_beside ns as')
 
 module _ (store : Store) (source_map : SourceMap) where
   abbrev pub lifetime_found : Option LifetimeRef → LifetimeRef
@@ -50,8 +50,8 @@ module _ (store : Store) (source_map : SourceMap) where
   }
 
   abbrev pub use_layer : UseArgRef → UseData
-  use_layer (use_arg.Name n) = data.name_used n
-  use_layer (use_arg.Lifetime l) = data.lifetime_used (stored_lifetime l)
+  use_layer (use_arg.Name n) = datum.name_used n
+  use_layer (use_arg.Lifetime l) = datum.lifetime_used (stored_lifetime l)
 
   -- ---- one entry
 
@@ -59,30 +59,30 @@ module _ (store : Store) (source_map : SourceMap) where
     -- types before others
     abbrev pub types_layer : List TypeRefId → TypesData → TypesData
     types_layer [] behind = behind
-    types_layer (t ∷ ts) behind = data.more_types (r.type t) (types_layer ts behind)
+    types_layer (t ∷ ts) behind = datum.more_types (r.type t) (types_layer ts behind)
 
     abbrev pub present_layer : Option TypeRefId → OptionTypeData
-    present_layer None = data.no_type
-    present_layer (Some t) = data.some_type (r.type t)
+    present_layer None = datum.no_type
+    present_layer (Some t) = datum.some_type (r.type t)
 
     abbrev pub bound_layer : TypeBound → BoundData
-    bound_layer (bound.Path t m) = data.path_bound (r.type t) m
-    bound_layer (bound.ForLifetime ns t) = data.for_bound ns (r.type t)
-    bound_layer (bound.Lifetime l) = data.lifetime_bound (stored_lifetime l)
-    bound_layer (bound.Use us) = data.use_bound (map use_layer us)
-    bound_layer bound.Error = data.error_bound
+    bound_layer (bound.Path t m) = datum.path_bound (r.type t) m
+    bound_layer (bound.ForLifetime ns t) = datum.for_bound ns (r.type t)
+    bound_layer (bound.Lifetime l) = datum.lifetime_bound (stored_lifetime l)
+    bound_layer (bound.Use us) = datum.use_bound (map use_layer us)
+    bound_layer bound.Error = datum.error_bound
 
     abbrev pub bounds_layer : List TypeBound → BoundsData
-    bounds_layer [] = data.no_bounds
-    bounds_layer (b ∷ bs) = data.more_bounds (bound_layer b) (bounds_layer bs)
+    bounds_layer [] = datum.no_bounds
+    bounds_layer (b ∷ bs) = datum.more_bounds (bound_layer b) (bounds_layer bs)
 
     abbrev pub argument_layer : GenericArg → ArgumentData
-    argument_layer (arg.Type_ t) = data.type_argument (r.type t)
-    argument_layer (arg.Lifetime l) = data.lifetime_argument (stored_lifetime l)
+    argument_layer (arg.Type_ t) = datum.type_argument (r.type t)
+    argument_layer (arg.Lifetime l) = datum.lifetime_argument (stored_lifetime l)
 
     abbrev pub arguments_layer : List GenericArg → ArgumentsData → ArgumentsData
     arguments_layer [] behind = behind
-    arguments_layer (a ∷ as') behind = data.more_arguments (argument_layer a) (arguments_layer as' behind)
+    arguments_layer (a ∷ as') behind = datum.more_arguments (argument_layer a) (arguments_layer as' behind)
 
     -- arguments hold bindings, which hold arguments
 
@@ -91,14 +91,14 @@ module _ (store : Store) (source_map : SourceMap) where
     listed (Some a) = some_args a
 
     abbrev pub bindings_listed : List BindingData → BindingsData
-    bindings_listed [] = data.no_bindings
-    bindings_listed (b ∷ bs) = data.more_bindings b (bindings_listed bs)
+    bindings_listed [] = datum.no_bindings
+    bindings_listed (b ∷ bs) = datum.more_bindings b (bindings_listed bs)
 
     abbrev pub binding_step : AssociatedTypeBinding-F BindingData ArgsData → BindingData
-    binding_step b = data.binding_data b.name (listed b.args) (present_layer b.type_ref) (bounds_layer b.bounds)
+    binding_step b = datum.binding_data b.name (listed b.args) (present_layer b.type_ref) (bounds_layer b.bounds)
 
     abbrev pub args_step : GenericArgs-F BindingData ArgsData → ArgsData
-    args_step a = args_data (arguments_layer a.args data.no_arguments) a.has_self_type (bindings_listed a.bindings) a.parenthesized
+    args_step a = args_data (arguments_layer a.args datum.no_arguments) a.has_self_type (bindings_listed a.bindings) a.parenthesized
 
     unfoldable pub args_layer : GenericArgs → ArgsData
     args_layer = fold-GenericArgs BindingData ArgsData binding_step args_step
@@ -108,35 +108,35 @@ module _ (store : Store) (source_map : SourceMap) where
 
     abbrev pub bindings_layer : List AssociatedTypeBinding → BindingsData → BindingsData
     bindings_layer [] behind = behind
-    bindings_layer (b ∷ bs) behind = data.more_bindings (binding_layer b) (bindings_layer bs behind)
+    bindings_layer (b ∷ bs) behind = datum.more_bindings (binding_layer b) (bindings_layer bs behind)
 
     abbrev pub list_layer : Option GenericArgs → OptionArgsData
     list_layer None = no_args
     list_layer (Some a) = some_args (args_layer a)
 
     abbrev pub path_layer : Path → PathData
-    path_layer (BarePath p) = data.path_data p.kind data.no_type (names_beside p.segments []) true
+    path_layer (BarePath p) = datum.path_data p.kind datum.no_type (names_beside p.segments []) true
     path_layer (Normal p) =
-        data.path_data p.mod_path.kind (present_layer p.type_anchor) (names_beside p.mod_path.segments (map list_layer p.generic_args)) false
+        datum.path_data p.mod_path.kind (present_layer p.type_anchor) (names_beside p.mod_path.segments (map list_layer p.generic_args)) false
 
     abbrev pub fn_layer : FnType → Shape
-    fn_layer f = data.fn_shape (record { is_unsafe = f.is_unsafe; abi = f.abi; is_varargs = f.is_varargs }) f.binder (types_layer f.params data.no_types)
+    fn_layer f = datum.fn_shape (record { is_unsafe = f.is_unsafe; abi = f.abi; is_varargs = f.is_varargs }) f.binder (types_layer f.params datum.no_types)
 
     abbrev pub shape_layer : TypeRef → Shape
-    shape_layer ty.Never = data.never_shape
-    shape_layer ty.Placeholder = data.infer_shape
-    shape_layer ty.Error = data.error_shape
-    shape_layer (ty.Tuple ts) = data.tuple_shape (types_layer ts data.no_types)
-    shape_layer (ty.Path p) = data.path_shape (path_layer p)
-    shape_layer (ty.RawPtr t m) = data.pointer_shape m (r.type t)
-    shape_layer (ty.Reference x) = data.reference_shape (r.type x.ty) (option_map stored_lifetime x.lifetime) x.mutability
-    shape_layer (ty.Slice t) = data.slice_shape (r.type t)
+    shape_layer ty.Never = datum.never_shape
+    shape_layer ty.Placeholder = datum.infer_shape
+    shape_layer ty.Error = datum.error_shape
+    shape_layer (ty.Tuple ts) = datum.tuple_shape (types_layer ts datum.no_types)
+    shape_layer (ty.Path p) = datum.path_shape (path_layer p)
+    shape_layer (ty.RawPtr t m) = datum.pointer_shape m (r.type t)
+    shape_layer (ty.Reference x) = datum.reference_shape (r.type x.ty) (option_map stored_lifetime x.lifetime) x.mutability
+    shape_layer (ty.Slice t) = datum.slice_shape (r.type t)
     shape_layer (ty.Fn f) = fn_layer f
-    shape_layer (ty.ImplTrait bs) = data.impl_shape (bounds_layer bs)
-    shape_layer (ty.DynTrait bs) = data.dyn_shape (bounds_layer bs)
+    shape_layer (ty.ImplTrait bs) = datum.impl_shape (bounds_layer bs)
+    shape_layer (ty.DynTrait bs) = datum.dyn_shape (bounds_layer bs)
 
     abbrev pub shape_found : Option TypeRef → Shape
-    shape_found None = data.error_shape
+    shape_found None = datum.error_shape
     shape_found (Some t) = shape_layer t
 
   -- ---- all
@@ -146,7 +146,7 @@ module _ (store : Store) (source_map : SourceMap) where
 
   -- with at most so many types inside one another
   unfoldable pub readers : ℕ → Readers
-  readers zero = record { type = λ i. typed None data.error_shape }
+  readers zero = record { type = λ i. typed None datum.error_shape }
   readers (suc d) = record { type = λ i. typed (type_source i) (shape_found (readers d) (slice_get store.types i.0)) }
 
   -- no more than there are can be inside one another

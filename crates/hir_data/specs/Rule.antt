@@ -6,7 +6,7 @@ use Rattle.hir_store.specs.declared.name.Name.{Name}
 use Rattle.hir_store.specs.declared.path.PathKind.{PathKind}
 use Rattle.hir_store.specs.declared.path.PathKind.TheVariants as kind
 use Rattle.hir_store.specs.declared.path.GenericArgsParentheses.TheVariants as parens
-use Rattle.hir_data.specs.Data as data
+use Rattle.hir_data.specs.Data as datum
 use Rattle.hir_data.specs.Data.{TypeData, OptionArgsData, no_args, some_args, ArgsData, args_data}
 
 -- a name, and what stands beside it
@@ -46,10 +46,10 @@ empty_list (x ∷ xs) = false
 -- ---- the type before a trait's arguments
 
 abbrev pub behind_self : TypeData → ArgsData → ArgsData
-behind_self t (args_data as' has_self bs ps) = args_data (data.more_arguments (data.type_argument t) as') true bs ps
+behind_self t (args_data as' has_self bs ps) = args_data (datum.more_arguments (datum.type_argument t) as') true bs ps
 
 abbrev pub self_first : TypeData → OptionArgsData → OptionArgsData
-self_first t no_args = some_args (args_data (data.more_arguments (data.type_argument t) data.no_arguments) true data.no_bindings parens.No)
+self_first t no_args = some_args (args_data (datum.more_arguments (datum.type_argument t) datum.no_arguments) true datum.no_bindings parens.No)
 self_first t (some_args as') = some_args (behind_self t as')
 
 abbrev pub has_self : ArgsData → Bool
@@ -211,13 +211,13 @@ path_read is = if refused is then None else Some (read_of is)
 
 -- ---- as data
 
-abbrev pub anchor_data : Option TypeData → data.OptionTypeData
-anchor_data None = data.no_type
-anchor_data (Some t) = data.some_type t
+abbrev pub anchor_data : Option TypeData → datum.OptionTypeData
+anchor_data None = datum.no_type
+anchor_data (Some t) = datum.some_type t
 
-abbrev pub names_data : List Named → data.NamesData
-names_data [] = data.no_names
-names_data (n ∷ ns) = data.more_names n.name n.args (names_data ns)
+abbrev pub names_data : List Named → datum.NamesData
+names_data [] = datum.no_names
+names_data (n ∷ ns) = datum.more_names n.name n.args (names_data ns)
 
-abbrev pub data_of : PathRead → data.PathData
-data_of p = data.path_data p.kind (anchor_data p.anchor) (names_data p.names) p.bare
+abbrev pub data_of : PathRead → datum.PathData
+data_of p = datum.path_data p.kind (anchor_data p.anchor) (names_data p.names) p.bare

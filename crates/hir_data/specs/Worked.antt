@@ -9,7 +9,7 @@ use Rattle.hir_store.specs.declared.path.PathKind.TheVariants as kind
 use Rattle.hir_store.specs.declared.path.GenericArgsParentheses.TheVariants as parens
 use Rattle.hir_env.specs.Answered as tree
 use Rattle.hir_env.specs.Answered.{Binder, FnHead, Type_, OptionPath, OptionRet, Segments, Segment}
-use Rattle.hir_data.specs.Data as data
+use Rattle.hir_data.specs.Data as datum
 use Rattle.hir_data.specs.Data.{TypeData, NamesData, OptionArgsData, path_data}
 use Rattle.hir_data.specs.Written.{type_data, written_path}
 
@@ -35,11 +35,11 @@ abbrev pub word : List ℕ → Segment
 word t = tree.name_segment (text t) (tree.segment_args tree.no_arg_list tree.no_parens false)
 
 abbrev pub alone : List Name → NamesData
-alone [] = data.no_names
-alone (n ∷ ns) = data.more_names n data.no_args (alone ns)
+alone [] = datum.no_names
+alone (n ∷ ns) = datum.more_names n datum.no_args (alone ns)
 
 abbrev pub becomes : OptionPath → PathKind → List Name → Type 0
-becomes p k ns = written_path p ≡ Some (path_data k data.no_type (alone ns) true)
+becomes p k ns = written_path p ≡ Some (path_data k datum.no_type (alone ns) true)
 
 abbrev pub is_refused : OptionPath → Type 0
 is_refused p = written_path p ≡ None
@@ -99,8 +99,8 @@ AbsentIsMissing =
 
 -- the arguments with a type for `Self` alone
 abbrev pub self_alone : Type_ → OptionArgsData
-self_alone t = data.some_args
-    (data.args_data (data.more_arguments (data.type_argument (type_data None t)) data.no_arguments) true data.no_bindings parens.No)
+self_alone t = datum.some_args
+    (datum.args_data (datum.more_arguments (datum.type_argument (type_data None t)) datum.no_arguments) true datum.no_bindings parens.No)
 
 -- `<T as Trait>` in front
 abbrev pub projected : Type_ → Pointer → OptionPath → List Segment → OptionPath
@@ -110,23 +110,23 @@ projected t at trait ss = whole (tree.trait_segment t at trait) ss
 abbrev pub TraitInPlace : Type 0
 TraitInPlace = (t : Type_) (at : Pointer)
     → (written_path (projected t at (whole (word (codes "B")) (word (codes "D") ∷ [])) (word (codes "E") ∷ []))
-      ≡ Some (path_data kind.Plain data.no_type
-          (data.more_names (text (codes "B")) data.no_args (data.more_names (text (codes "D")) (self_alone t) (alone (text (codes "E") ∷ [])))) false))
+      ≡ Some (path_data kind.Plain datum.no_type
+          (datum.more_names (text (codes "B")) datum.no_args (datum.more_names (text (codes "D")) (self_alone t) (alone (text (codes "E") ∷ [])))) false))
     × (written_path (projected t at (whole (word (codes "B")) []) [])
-      ≡ Some (path_data kind.Plain data.no_type (alone (text (codes "B") ∷ [])) false))
+      ≡ Some (path_data kind.Plain datum.no_type (alone (text (codes "B") ∷ [])) false))
     × is_refused (projected t at (whole tree.crate_segment []) (word (codes "E") ∷ []))
 
 -- `<T>::E`
 abbrev pub TypeInFront : Type 0
 TypeInFront = (t : Type_) → written_path (whole (tree.type_segment t) (word (codes "E") ∷ []))
-    ≡ Some (path_data kind.Plain (data.some_type (type_data None t)) (alone (text (codes "E") ∷ [])) false)
+    ≡ Some (path_data kind.Plain (datum.some_type (type_data None t)) (alone (text (codes "E") ∷ [])) false)
 
 abbrev pub sugared : TypeData → TypeData → OptionArgsData
 sugared from to =
-    let tuple = data.typed None (data.tuple_shape (data.more_types from data.no_types)) in
-    let output = data.binding_data (text (codes "Output")) data.no_args (data.some_type to) data.no_bounds in
-    data.some_args (data.args_data (data.more_arguments (data.type_argument tuple) data.no_arguments) false
-        (data.more_bindings output data.no_bindings) parens.ParenSugar)
+    let tuple = datum.typed None (datum.tuple_shape (datum.more_types from datum.no_types)) in
+    let output = datum.binding_data (text (codes "Output")) datum.no_args (datum.some_type to) datum.no_bounds in
+    datum.some_args (datum.args_data (datum.more_arguments (datum.type_argument tuple) datum.no_arguments) false
+        (datum.more_bindings output datum.no_bindings) parens.ParenSugar)
 
 abbrev pub fn_behind : Type_ → OptionRet → OptionPath
 fn_behind a r = whole (tree.name_segment (text (codes "Fn")) (tree.segment_args tree.no_arg_list
@@ -134,20 +134,20 @@ fn_behind a r = whole (tree.name_segment (text (codes "Fn")) (tree.segment_args 
 
 abbrev pub reads_fn : OptionPath → TypeData → TypeData → Type 0
 reads_fn p from to =
-    written_path p ≡ Some (path_data kind.Plain data.no_type (data.more_names (text (codes "Fn")) (sugared from to) data.no_names) false)
+    written_path p ≡ Some (path_data kind.Plain datum.no_type (datum.more_names (text (codes "Fn")) (sugared from to) datum.no_names) false)
 
 -- `Fn(A) -> B`, `Fn(A)`, and `Fn(A) ->`
 abbrev pub OutputIsBound : Type 0
 OutputIsBound = (a b : Type_)
     → reads_fn (fn_behind a (tree.some_ret (tree.some_type b))) (type_data None a) (type_data None b)
-    × reads_fn (fn_behind a tree.no_ret) (type_data None a) (data.typed None (data.tuple_shape data.no_types))
-    × reads_fn (fn_behind a (tree.some_ret tree.no_type)) (type_data None a) (data.typed None data.error_shape)
+    × reads_fn (fn_behind a tree.no_ret) (type_data None a) (datum.typed None (datum.tuple_shape datum.no_types))
+    × reads_fn (fn_behind a (tree.some_ret tree.no_type)) (type_data None a) (datum.typed None datum.error_shape)
 
 -- `for<'a> (fn())` has the binder, and `for<'a> [T]` has none
 abbrev pub BinderOfFunctions : Type 0
 BinderOfFunctions = (at : Pointer) (h : FnHead) (b : Binder) (t : Type_)
     → (type_data None (tree.for_type b (tree.some_type (tree.paren_type (tree.some_type (tree.fn_type at h tree.no_parts tree.no_type)))))
-      ≡ data.typed (Some at) (data.fn_shape h (Some b)
-          (data.more_types (data.typed None (data.tuple_shape data.no_types)) data.no_types)))
+      ≡ datum.typed (Some at) (datum.fn_shape h (Some b)
+          (datum.more_types (datum.typed None (datum.tuple_shape datum.no_types)) datum.no_types)))
     × (type_data None (tree.for_type b (tree.some_type (tree.over_type at tree.slice_of (tree.some_type t))))
-      ≡ data.typed (Some at) (data.slice_shape (type_data None t)))
+      ≡ datum.typed (Some at) (datum.slice_shape (type_data None t)))

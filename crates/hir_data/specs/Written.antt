@@ -14,9 +14,10 @@ use Rattle.hir_env.specs.declared.place.ImplTrait.TheVariants.{Error, Opaque}
 use Rattle.hir_env.specs.Answered as tree
 use Rattle.hir_env.specs.Answered.{Lifetime, Binder, UseRead, TypeLeaf, TypeUnary, Type_, OptionType, Parts, Path, OptionPath}
 use Rattle.hir_env.specs.Answered.{Segments, Segment, SegmentArgs, OptionParens, OptionRet, OptionArgs, Args, Arg, Bounds, Bound}
-use Rattle.hir_data.specs.Data as data
+use Rattle.hir_data.specs.Data as datum
 use Rattle.hir_data.specs.Data.{LifetimeData, UseData, TypeData, typed, Shape, OptionTypeData, TypesData, PathData}
-use Rattle.hir_data.specs.Data.{OptionArgsData, no_args, some_args, args_data, ArgumentsData, BindingsData, BoundsData, BoundData}
+use Rattle.hir_data.specs.Data.{OptionArgsData, no_args, some_args, args_data, ArgumentData, ArgumentsData}
+use Rattle.hir_data.specs.Data.{BindingData, BindingsData, BoundsData, BoundData}
 use Rattle.hir_data.specs.Rule.{Named, PathRead, What, broken, named, root, self_, super_, anchor, projection, Item}
 use Rattle.hir_data.specs.Rule.{read, path_read, data_of}
 
@@ -26,8 +27,8 @@ abbrev pub lifetime_data : Lifetime → LifetimeData
 lifetime_data l = record { lifetime = l.lifetime; from = Some l.pointer }
 
 abbrev pub use_data : UseRead → UseData
-use_data (tree.used_name n) = data.name_used n
-use_data (tree.used_lifetime l) = data.lifetime_used (lifetime_data l)
+use_data (tree.used_name n) = datum.name_used n
+use_data (tree.used_lifetime l) = datum.lifetime_used (lifetime_data l)
 
 -- `$crate` is the root of the context's crate, or `crate` where there is none
 abbrev pub crate_kind : Option CrateId → PathKind
@@ -39,45 +40,53 @@ modifier_of false = modifier.None
 modifier_of true = modifier.Maybe
 
 abbrev pub leaf_shape : TypeLeaf → Shape
-leaf_shape tree.never_leaf = data.never_shape
-leaf_shape tree.infer_leaf = data.infer_shape
+leaf_shape tree.never_leaf = datum.never_shape
+leaf_shape tree.infer_leaf = datum.infer_shape
 
 abbrev pub unary_shape : TypeUnary → TypeData → Shape
-unary_shape (tree.pointer_to m) t = data.pointer_shape m t
-unary_shape tree.slice_of t = data.slice_shape t
+unary_shape (tree.pointer_to m) t = datum.pointer_shape m t
+unary_shape tree.slice_of t = datum.slice_shape t
 
 -- `()`, and a type that is absent
 abbrev pub unit_data : TypeData
-unit_data = typed None (data.tuple_shape data.no_types)
+unit_data = typed None (datum.tuple_shape datum.no_types)
 
 abbrev pub absent_data : TypeData
-absent_data = typed None data.error_shape
+absent_data = typed None datum.error_shape
 
 -- ---- what is absent or refused
 
 abbrev pub shape_of_path : Option PathRead → Shape
-shape_of_path None = data.error_shape
-shape_of_path (Some p) = data.path_shape (data_of p)
+shape_of_path None = datum.error_shape
+shape_of_path (Some p) = datum.path_shape (data_of p)
 
 -- an `impl` where none is allowed is an error
 abbrev pub impl_shape_of : ImplTrait → BoundsData → Shape
-impl_shape_of Error bs = data.error_shape
-impl_shape_of Opaque bs = data.impl_shape bs
+impl_shape_of Error bs = datum.error_shape
+impl_shape_of Opaque bs = datum.impl_shape bs
 
 -- one behind an empty binder is a plain one
 abbrev pub bound_behind : Binder → TraitBoundModifier → TypeData → BoundData
-bound_behind [] m t = data.path_bound t m
-bound_behind (n ∷ ns) m t = data.for_bound (n ∷ ns) t
+bound_behind [] m t = datum.path_bound t m
+bound_behind (n ∷ ns) m t = datum.for_bound (n ∷ ns) t
 
 abbrev pub bound_of_path : Pointer → Binder → Bool → Option PathRead → BoundData
-bound_of_path at binder maybe None = data.error_bound
-bound_of_path at binder maybe (Some p) = bound_behind binder (modifier_of maybe) (typed (Some at) (data.path_shape (data_of p)))
+bound_of_path at binder maybe None = datum.error_bound
+bound_of_path at binder maybe (Some p) = bound_behind binder (modifier_of maybe) (typed (Some at) (datum.path_shape (data_of p)))
 
 -- ---- lists of arguments
 
+abbrev pub put_argument : Option ArgumentData → ArgumentsData → ArgumentsData
+put_argument None behind = behind
+put_argument (Some a) behind = datum.more_arguments a behind
+
+abbrev pub put_binding : Option BindingData → BindingsData → BindingsData
+put_binding None behind = behind
+put_binding (Some b) behind = datum.more_bindings b behind
+
 -- neither arguments nor bindings are none
 abbrev pub yielded : ArgumentsData → BindingsData → OptionArgsData
-yielded data.no_arguments data.no_bindings = no_args
+yielded datum.no_arguments datum.no_bindings = no_args
 yielded as' bs = some_args (args_data as' false bs parens.No)
 
 abbrev pub first_list : OptionArgsData → OptionArgsData → OptionArgsData
@@ -87,16 +96,16 @@ first_list no_args behind = behind
 -- `(..)`
 abbrev pub notation : Bool → OptionArgsData
 notation false = no_args
-notation true = some_args (args_data data.no_arguments false data.no_bindings parens.ReturnTypeNotation)
+notation true = some_args (args_data datum.no_arguments false datum.no_bindings parens.ReturnTypeNotation)
 
 -- `(A, B) -> C` is one tuple and the binding `Output = C`
 abbrev pub output_is : TypeData → BindingsData
-output_is t = data.more_bindings (data.binding_data (name.Text (codes "Output")) no_args (data.some_type t) data.no_bounds) data.no_bindings
+output_is t = datum.more_bindings (datum.binding_data (name.Text (codes "Output")) no_args (datum.some_type t) datum.no_bounds) datum.no_bindings
 
 abbrev pub function_args : TypesData → TypeData → OptionArgsData
 function_args ts output =
-    let tuple = typed None (data.tuple_shape ts) in
-    some_args (args_data (data.more_arguments (data.type_argument tuple) data.no_arguments) false (output_is output) parens.ParenSugar)
+    let tuple = typed None (datum.tuple_shape ts) in
+    some_args (args_data (datum.more_arguments (datum.type_argument tuple) datum.no_arguments) false (output_is output) parens.ParenSugar)
 
 abbrev mutual
   -- ---- types
@@ -107,13 +116,13 @@ abbrev mutual
   type_data b (tree.for_type binder t) = part_data (Some binder) t
   type_data b (tree.leaf_type at l) = typed (Some at) (leaf_shape l)
   type_data b (tree.over_type at u t) = typed (Some at) (unary_shape u (part_data None t))
-  type_data b (tree.tuple_type at ps) = typed (Some at) (data.tuple_shape (parts_data ps data.no_types))
+  type_data b (tree.tuple_type at ps) = typed (Some at) (datum.tuple_shape (parts_data ps datum.no_types))
   type_data b (tree.path_type at p) = typed (Some at) (shape_of_path (path_of p))
-  type_data b (tree.ref_type at l m t) = typed (Some at) (data.reference_shape (part_data None t) (option_map lifetime_data l) m)
-  type_data b (tree.fn_type at h ps r) = typed (Some at) (data.fn_shape h b (parts_data ps (data.more_types (ret_data r) data.no_types)))
+  type_data b (tree.ref_type at l m t) = typed (Some at) (datum.reference_shape (part_data None t) (option_map lifetime_data l) m)
+  type_data b (tree.fn_type at h ps r) = typed (Some at) (datum.fn_shape h b (parts_data ps (datum.more_types (ret_data r) datum.no_types)))
   type_data b (tree.impl_type at mode bs) = typed (Some at) (impl_shape_of mode (bounds_data bs))
-  type_data b (tree.nested_impl at) = typed (Some at) data.error_shape
-  type_data b (tree.dyn_type at bs) = typed (Some at) (data.dyn_shape (bounds_data bs))
+  type_data b (tree.nested_impl at) = typed (Some at) datum.error_shape
+  type_data b (tree.dyn_type at bs) = typed (Some at) (datum.dyn_shape (bounds_data bs))
 
   pub part_data : Option Binder → OptionType → TypeData
   part_data b tree.no_type = absent_data
@@ -125,24 +134,24 @@ abbrev mutual
   ret_data (tree.some_type t) = type_data None t
 
   pub present_data : OptionType → OptionTypeData
-  present_data tree.no_type = data.no_type
-  present_data (tree.some_type t) = data.some_type (type_data None t)
+  present_data tree.no_type = datum.no_type
+  present_data (tree.some_type t) = datum.some_type (type_data None t)
 
   pub parts_data : Parts → TypesData → TypesData
   parts_data tree.no_parts behind = behind
-  parts_data (tree.more_parts p ps) behind = data.more_types (part_data None p) (parts_data ps behind)
+  parts_data (tree.more_parts p ps) behind = datum.more_types (part_data None p) (parts_data ps behind)
 
   -- ---- bounds
 
   pub bounds_data : Bounds → BoundsData
-  bounds_data tree.no_bounds = data.no_bounds
-  bounds_data (tree.more_bounds b bs) = data.more_bounds (bound_data b) (bounds_data bs)
+  bounds_data tree.no_bounds = datum.no_bounds
+  bounds_data (tree.more_bounds b bs) = datum.more_bounds (bound_data b) (bounds_data bs)
 
   pub bound_data : Bound → BoundData
-  bound_data tree.error_bound = data.error_bound
+  bound_data tree.error_bound = datum.error_bound
   bound_data (tree.path_bound at p maybe binder) = bound_of_path at binder maybe (path_of p)
-  bound_data (tree.lifetime_bound l) = data.lifetime_bound (lifetime_data l)
-  bound_data (tree.use_bound us) = data.use_bound (map use_data us)
+  bound_data (tree.lifetime_bound l) = datum.lifetime_bound (lifetime_data l)
+  bound_data (tree.use_bound us) = datum.use_bound (map use_data us)
 
   -- ---- arguments
 
@@ -151,31 +160,31 @@ abbrev mutual
   list_data (tree.some_arg_list as') = yielded (arguments_of as') (bindings_of as')
 
   pub arguments_of : Args → ArgumentsData
-  arguments_of tree.no_args = data.no_arguments
-  arguments_of (tree.more_args a as') = argument_before a (arguments_of as')
+  arguments_of tree.no_args = datum.no_arguments
+  arguments_of (tree.more_args a as') = put_argument (argument_of a) (arguments_of as')
 
-  -- what is an argument, before others
-  pub argument_before : Arg → ArgumentsData → ArgumentsData
-  argument_before (tree.type_arg t) behind = data.more_arguments (data.type_argument (part_data None t)) behind
-  argument_before (tree.lifetime_arg l) behind = data.more_arguments (data.lifetime_argument (lifetime_data l)) behind
-  argument_before tree.skipped_arg behind = behind
-  argument_before (tree.assoc_arg n a dots t bs) behind = behind
+  -- none of what is no argument
+  pub argument_of : Arg → Option ArgumentData
+  argument_of (tree.type_arg t) = Some (datum.type_argument (part_data None t))
+  argument_of (tree.lifetime_arg l) = Some (datum.lifetime_argument (lifetime_data l))
+  argument_of tree.skipped_arg = None
+  argument_of (tree.assoc_arg n a dots t bs) = None
 
   pub bindings_of : Args → BindingsData
-  bindings_of tree.no_args = data.no_bindings
-  bindings_of (tree.more_args a as') = binding_before a (bindings_of as')
+  bindings_of tree.no_args = datum.no_bindings
+  bindings_of (tree.more_args a as') = put_binding (binding_of a) (bindings_of as')
 
-  -- what is a binding, before others
-  pub binding_before : Arg → BindingsData → BindingsData
-  binding_before (tree.assoc_arg n a dots t bs) behind =
-      data.more_bindings (data.binding_data n (first_list (list_data a) (notation dots)) (present_data t) (bounds_data bs)) behind
-  binding_before (tree.type_arg t) behind = behind
-  binding_before (tree.lifetime_arg l) behind = behind
-  binding_before tree.skipped_arg behind = behind
+  -- none of what is no binding
+  pub binding_of : Arg → Option BindingData
+  binding_of (tree.assoc_arg n a dots t bs) =
+      Some (datum.binding_data n (first_list (list_data a) (notation dots)) (present_data t) (bounds_data bs))
+  binding_of (tree.type_arg t) = None
+  binding_of (tree.lifetime_arg l) = None
+  binding_of tree.skipped_arg = None
 
   pub parens_data : OptionParens → OptionArgsData
   parens_data tree.no_parens = no_args
-  parens_data (tree.some_parens ps r) = function_args (parts_data ps data.no_types) (output_data r)
+  parens_data (tree.some_parens ps r) = function_args (parts_data ps datum.no_types) (output_data r)
 
   -- what `Fn(A) -> C` returns
   pub output_data : OptionRet → TypeData

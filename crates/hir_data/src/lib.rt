@@ -1,7 +1,8 @@
-//! What is written and what is stored as data, the same on both sides: lifetimes, types, paths, arguments and bounds. A law is a function whose contract is
-//! the law; those of single paths are computed.
+//! What is written and what is stored as data, the same on both sides: lifetimes, types, paths, arguments and bounds. A
+//! law is a function whose contract is the law; those of single paths and types are computed.
 #![tactic(auto)]
 
+ghost use Rattle.hir_data.specs.Arguments.{ArgumentLaw};
 ghost use Rattle.hir_data.specs.Segments.{SegmentLaw};
 ghost use Rattle.hir_data.specs.Worked.{SuperAfterSelf, KeywordsInside, CrateHidesSupers, DollarCrateIsARoot, SupersInside};
 ghost use Rattle.hir_data.specs.Worked.{SelfAlone, UseTreesStandInFront, AbsentIsMissing};
@@ -10,6 +11,11 @@ ghost use Rattle.hir_data.specs.Worked.{TraitInPlace, TypeInFront, OutputIsBound
 /// The names of a path are those of its named segments, where no use tree stands around it and no segment is missing.
 pub fn segment_law()
     ensures { SegmentLaw }
+{}
+
+/// The arguments of a list are those of its kept arguments, and its bindings are those of its kept bindings.
+pub fn argument_law()
+    ensures { ArgumentLaw }
 {}
 
 /// `self::super::A` is `super::A`.

@@ -97,7 +97,7 @@ module _ (store : Store) (source_map : SourceMap) where
     abbrev pub run_stored : Expr → Option Site → StoreRun Value
     run_stored hir.Missing site = ends (leave missing)
     run_stored (hir.Literal l) site = ask (literal (literal_read l)) [] site
-    run_stored (hir.Path p h) site = ask (read (stored_path p) h) [] site
+    run_stored (hir.Path p h) site = ask (read (stored_path store source_map p) h) [] site
     run_stored (hir.Call f xs) site = do
       v ← part f
       vs ← run_each turns part xs

@@ -1,19 +1,20 @@
 -- Small trees, worked out.
 use Rattle.std.proofs.Common.{slice_get, ◌≡◌, ◌∙◌, refl, sym, ap, Bool, true, false, List, [], ◌∷◌, ◌++◌, option_to_list, Option, Some}
-use Rattle.std.proofs.Common.{None}
+use Rattle.std.proofs.Common.{None, length, true≢false}
 use Rattle.hir_store.specs.Stored.{Store, SourceMap}
 use Rattle.hir_store.specs.declared.hir.Expr.{Expr as HirExpr}
 use Rattle.hir_store.specs.declared.hir.Expr.TheVariants as hir
 use Rattle.hir_store.specs.declared.hir.Statement.{Statement}
 use Rattle.hir_store.specs.declared.hir.Statement.TheVariants as statement
 use Rattle.hir_store.specs.declared.path.Path.{Path}
-use Rattle.hir_store.specs.declared.path.Path.TheVariants.{BarePath}
+use Rattle.hir_store.specs.declared.path.Path.TheVariants.{BarePath, Normal}
 use Rattle.hir_store.specs.declared.ids.ExprId.{ExprId}
 use Rattle.hir_syntax.specs.declared.ast.Literal.{Literal as AstLiteral}
 use Rattle.hir_store.specs.Pointers.{Pointer}
 use Rattle.hir_store.specs.declared.hir.Literal.{Literal}
-use Rattle.hir_data.specs.Data.{PathData, path_data}
-use Rattle.hir_data.specs.Reading.{stored_path}
+use Rattle.hir_data.specs.Data.{PathData, path_data, names_in}
+use Rattle.hir_data.specs.Reading.{readers, stored_path}
+use Rattle.hir_read_back.proofs.Lookup.{names_read}
 use Rattle.hir_meaning.specs.Data.{LiteralData, literal_data}
 use Rattle.hir_meaning.specs.Contents.{BlockContents}
 use Rattle.hir_store.specs.declared.ids.CfgId.{CfgId}
@@ -23,12 +24,21 @@ use Rattle.hir_one_result.specs.Stands.{Absent, statement_of, StandsLiteral, Sta
 use Rattle.hir_one_result.specs.Worked.{Jumps, other, literal_first, Statements, EntersInOrder, Leaves, letter, block_id}
 use Rattle.hir_one_result.specs.Worked.{elements, PlainForms}
 
+-- the bare path of this data
 abbrev bare_path : PathData → Path
-bare_path (path_data k ns) = BarePath (record { kind = k; segments = ns })
+bare_path (path_data k t ns bare) = BarePath (record { kind = k; segments = names_in ns })
 
--- a path is what is read of it
-is_read : (path : Path) (p : PathData) → stored_path path ≡ p → path ≡ bare_path p
-is_read (BarePath m) p e = ap bare_path e
+abbrev bareness : PathData → Bool
+bareness (path_data k t ns bare) = bare
+
+-- a path whose data is bare is what is read of it
+is_read : (store : Store) (source_map : SourceMap) (path : Path) (p : PathData) → bareness p ≡ true
+    → stored_path store source_map path ≡ p → path ≡ bare_path p
+unfolding stored_path
+is_read store source_map (BarePath m) p b e =
+    let r = readers store source_map (length store.types) in
+    ap (λ ns. BarePath (record { kind = m.kind; segments = ns })) (sym (names_read store source_map r m.segments)) ∙ ap bare_path e
+is_read store source_map (Normal n) p b e = absurd (true≢false (sym b ∙ ap bareness (sym e)))
 
 pub jumps : Jumps
 jumps = record {
@@ -93,10 +103,10 @@ enters_in_order = refl
 
 pub leaves : Leaves
 leaves = record {
-  one_name = λ store source_map i ws h. h.2.0.stored ∙ ap (λ q. Some (hir.Path q other)) (is_read h.0 _ h.1);
-  two_names = λ store source_map i ws h. h.2.0.stored ∙ ap (λ q. Some (hir.Path q root)) (is_read h.0 _ h.1);
-  from_crate = λ store source_map i ws h. h.2.0.stored ∙ ap (λ q. Some (hir.Path q other)) (is_read h.0 _ h.1);
-  self_alone = λ store source_map i ws h. h.2.0.stored ∙ ap (λ q. Some (hir.Path q other)) (is_read h.0 _ h.1);
+  one_name = λ store source_map i ws h. h.2.0.stored ∙ ap (λ q. Some (hir.Path q other)) (is_read store source_map h.0 _ refl h.1);
+  two_names = λ store source_map i ws h. h.2.0.stored ∙ ap (λ q. Some (hir.Path q root)) (is_read store source_map h.0 _ refl h.1);
+  from_crate = λ store source_map i ws h. h.2.0.stored ∙ ap (λ q. Some (hir.Path q other)) (is_read store source_map h.0 _ refl h.1);
+  self_alone = λ store source_map i ws h. h.2.0.stored ∙ ap (λ q. Some (hir.Path q other)) (is_read store source_map h.0 _ refl h.1);
   refused = λ store source_map i ws h. h.0.stored;
   parentheses = λ store source_map i ws h. h.is ∙ (ap (λ l. l ++ h.right) h.first.2.1 ∙ ap (λ r. expr_way (at 1) i ∷ r) h.second);
 }

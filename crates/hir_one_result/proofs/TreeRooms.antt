@@ -12,19 +12,20 @@ use Rattle.hir_store.specs.declared.ids.HygieneId.{HygieneId}
 use Rattle.hir_env.specs.Answered as tree
 use Rattle.hir_env.specs.Answered.{OptionPath, Listing, Label, Jump, Expr, OptionExpr, Exprs, Block, OptionBlock, Stmts, Stmt}
 use Rattle.hir_meaning.specs.Left.{is_kept}
-use Rattle.hir_lower_form.specs.Builder.{Builder}
-use Rattle.hir_lower_form.specs.Lowering.{Checked, Lowering}
+use Rattle.hir_lower_form.specs.Lowering.{Lowering}
 use Rattle.hir_lower_form.specs.Lower.{ExprSteps, StoredContents, missing, some, if_form, loop_form, call_form, continue_form}
 use Rattle.hir_lower_form.specs.Lower.{break_form, paren_form, path_form, operand_form, operands_form, value_form, list_form}
 use Rattle.hir_lower_form.specs.Lower.{method_call_form, await_form, block_form, labelled, kept, lower, lower_part}
-use Rattle.hir_lower_form.specs.Lower.{present, kept_part, lower_each, lower_block, lower_block_part, lower_stmts, lower_stmt}
-use Rattle.hir_one_result.specs.Room.{Size, nothing, an_expr, a_path, ◌∪◌, if_kept, label_size, front_size, size}
-use Rattle.hir_one_result.specs.Room.{size_part, size_present, size_kept, size_each, block_size, block_part_size, stmts_size, stmt_size}
-use Rattle.hir_lower_form.specs.Paths.{lower_path}
-use Rattle.hir_one_result.specs.Laws.{FitsUnless, AllFit}
-use Rattle.hir_one_result.proofs.Rooms.{Room, Takes, Same, takes_then, takes_as, takes_end, takes_begin, takes_pure, takes_report}
+use Rattle.hir_lower_form.specs.Lower.{lower_path, present, kept_part, lower_each, lower_block, lower_block_part, lower_stmts, lower_stmt}
+use Rattle.hir_one_result.specs.Size.{Size, nothing, an_expr, ◌∪◌, if_so}
+use Rattle.hir_one_result.specs.PathRoom.{whole_size}
+use Rattle.hir_one_result.specs.Room.{label_size, front_size, size, size_part, size_present, size_kept, size_each, block_size}
+use Rattle.hir_one_result.specs.Room.{block_part_size, stmts_size, stmt_size}
+use Rattle.hir_one_result.proofs.Rooms.{Takes, Same, takes_then, takes_as, takes_end, takes_begin, takes_pure, takes_report}
 use Rattle.hir_one_result.proofs.Rooms.{takes_block, takes_close, takes_point, takes_jump, takes_alloc, takes_open, takes_report_await}
-use Rattle.hir_one_result.proofs.Rooms.{takes_path, nothing_first, moved_in, moved_out}
+use Rattle.hir_one_result.proofs.Tellings.{takes_of}
+use Rattle.hir_one_result.proofs.PathRooms.{path_tells}
+use Rattle.hir_one_result.proofs.Rooms.{nothing_first, moved_in, moved_out}
 
 missing_takes : Takes an_expr missing
 unfolding missing
@@ -38,6 +39,8 @@ condition_last : (n k m j : Size) → Same (k ∪ (m ∪ (n ∪ j))) (n ∪ (k �
 condition_last n k m j = record {
   exprs = omega arith;
   labels = omega arith;
+  types = omega arith;
+  lifetimes = omega arith;
   overcounts = λ h. ⊎_elim (λ x. inr (inl x))
       (λ y. ⊎_elim (λ x. inr (inr (inl x))) (λ z. ⊎_elim (λ x. inl x) (λ x. inr (inr (inr x))) z) y) h;
 }
@@ -73,9 +76,9 @@ module _ (at : Pointer) where
   unfolding paren_form
   paren_takes h = takes_end h (λ i. takes_end (takes_point at i) (λ u. takes_pure i))
 
-  path_takes : (p : OptionPath) (h : HygieneId) → Takes (a_path p ∪ an_expr) (path_form at h (lower_path p))
+  path_takes : (p : OptionPath) (h : HygieneId) → Takes (whole_size p ∪ an_expr) (path_form at h (lower_path p))
   unfolding path_form
-  path_takes p h = takes_then (takes_path p) (λ r. takes_alloc _ (Some at))
+  path_takes p h = takes_then (takes_of (path_tells p)) (λ r. takes_alloc _ (Some at))
 
   operand_takes : (form : ExprId → HirExpr) {n : Size} {e : ExprSteps} → Takes n e → Takes (n ∪ an_expr) (operand_form at form e)
   unfolding operand_form
@@ -119,7 +122,7 @@ labelled_takes None h = takes_as (nothing_first _) (h None)
 labelled_takes (Some l) h =
     takes_then (takes_open l) (λ n. takes_end (h (Some n)) (λ i. takes_end takes_close (λ u. takes_pure i)))
 
-kept_takes : (e : Expr) {n : Size} {p : ExprSteps} → Takes n p → Takes (if_kept (is_kept e) n) (kept e p)
+kept_takes : (e : Expr) {n : Size} {p : ExprSteps} → Takes n p → Takes (if_so (is_kept e) n) (kept e p)
 kept_takes (tree.disabled_expr at by e) h = takes_end (takes_report _) (λ u. takes_pure None)
 kept_takes e h = some_takes h
 
@@ -181,10 +184,3 @@ mutual
   stmt_takes : (s : Stmt) → Takes (stmt_size s) (lower_stmt s)
   stmt_takes (tree.expr_stmt e semi) = takes_end (kept_part_takes e) (λ x. takes_pure _)
   stmt_takes tree.item_stmt = takes_pure _
-
-pub all_fit : AllFit
-all_fit e old = by (lower_part e old).0 (lower_part e old).1 ((part_takes e).takes old)
-  where
-    by : (o : Checked ExprId) (new : Builder) → Room (size_part e) old o new → FitsUnless e old.stored o new.stored
-    by (Ok i) new h = record { exprs = h.exprs; labels = h.labels }
-    by (Err f) new h = h

@@ -1,38 +1,13 @@
 -- How large a tree is: how many expressions and labels it becomes. Each written expression becomes one, but parentheses become
 -- none besides what is in them. An absent or disabled part is one missing expression, or none where the form knows none, and
 -- so is what stands in front of a tuple with a leading comma. Nothing in a disabled node becomes anything.
-use Rattle.std.specs.Prelude.{ℕ, ◌+◌, ◌<◌, ◌⊎◌, Bool, Option, Some, None, true, false, length}
+use Rattle.std.specs.Prelude.{ℕ, ◌+◌, ◌<◌, ◌⊎◌, Option, Some, None, true, false, length}
 use Rattle.hir_store.specs.Stored.{Stored}
 use Rattle.hir_env.specs.Answered as tree
-use Rattle.hir_env.specs.Answered.{OptionPath, Listing, Label, Expr, OptionExpr, Exprs, Block, OptionBlock, Stmts, Stmt}
-use Rattle.hir_data.specs.Written.{overcounts}
+use Rattle.hir_env.specs.Answered.{Listing, Label, Expr, OptionExpr, Exprs, Block, OptionBlock, Stmts, Stmt}
 use Rattle.hir_meaning.specs.Left.{is_kept}
-
-pub record Size : Type 1 where
-  pub exprs : ℕ
-  pub labels : ℕ
-  -- some path that is read has more `super`s than are counted
-  pub overcounts : Type 0
-
-abbrev pub nothing : Size
-nothing = record { exprs = 0; labels = 0; overcounts = ⊥ }
-
-abbrev pub an_expr : Size
-an_expr = record { exprs = 1; labels = 0; overcounts = ⊥ }
-
-abbrev pub a_label : Size
-a_label = record { exprs = 0; labels = 1; overcounts = ⊥ }
-
-abbrev pub a_path : OptionPath → Size
-a_path p = record { exprs = 0; labels = 0; overcounts = overcounts p }
-
-infixr 20 ◌∪◌
-abbrev pub ◌∪◌ : Size → Size → Size
-a ∪ b = record { exprs = a.exprs + b.exprs; labels = a.labels + b.labels; overcounts = a.overcounts ⊎ b.overcounts }
-
-abbrev pub if_kept : Bool → Size → Size
-if_kept true a = a
-if_kept false a = nothing
+use Rattle.hir_one_result.specs.Size.{Size, nothing, an_expr, a_label, ◌∪◌, if_so}
+use Rattle.hir_one_result.specs.PathRoom.{whole_size}
 
 abbrev pub label_size : Option Label → Size
 label_size None = nothing
@@ -51,7 +26,7 @@ abbrev mutual
   size (tree.block_expr b) = block_size b
   size (tree.loop_expr at label b) = label_size label ∪ block_part_size b ∪ an_expr
   size (tree.call_expr at f es) = size_part f ∪ size_each es ∪ an_expr
-  size (tree.path_expr at p h) = a_path p ∪ an_expr
+  size (tree.path_expr at p h) = whole_size p ∪ an_expr
   size (tree.continue_expr at jump) = an_expr
   size (tree.break_expr at jump e) = size_present e ∪ an_expr
   size (tree.paren_expr at e) = size_part e
@@ -80,11 +55,11 @@ abbrev mutual
   -- of a part that is left out where it is absent or disabled
   pub size_kept : OptionExpr → Size
   size_kept tree.no_expr = nothing
-  size_kept (tree.some_expr e) = if_kept (is_kept e) (size e)
+  size_kept (tree.some_expr e) = if_so (is_kept e) (size e)
 
   pub size_each : Exprs → Size
   size_each tree.no_exprs = nothing
-  size_each (tree.more_exprs e es) = if_kept (is_kept e) (size e) ∪ size_each es
+  size_each (tree.more_exprs e es) = if_so (is_kept e) (size e) ∪ size_each es
 
   pub block_size : Block → Size
   block_size (tree.block at is_unsafe label number ss e) = label_size label ∪ stmts_size ss ∪ size_kept e ∪ an_expr
@@ -107,13 +82,20 @@ count_of_exprs e = (size_part e).exprs
 abbrev pub count_of_labels : OptionExpr → ℕ
 count_of_labels e = (size_part e).labels
 
--- some path of the tree that is read has more `super`s than are counted
-abbrev pub Overcounts : OptionExpr → Type 0
-Overcounts e = (size_part e).overcounts
+abbrev pub count_of_types : OptionExpr → ℕ
+count_of_types e = (size_part e).types
 
--- There is no room for the tree behind what is stored: it becomes more expressions, or more labels, than the arenas have room for,
--- or a path in it counts too far.
+abbrev pub count_of_lifetimes : OptionExpr → ℕ
+count_of_lifetimes e = (size_part e).lifetimes
+
+-- There is no room for so much behind what is stored: some arena would hold more than it may, or a path counts too far.
+abbrev pub Short : Size → Stored → Type 0
+Short n s =
+    (s.exprs.limit < length s.exprs.entries + n.exprs)
+    ⊎ ((s.labels.limit < length s.labels.entries + n.labels)
+    ⊎ ((s.types.limit < length s.types.entries + n.types)
+    ⊎ ((s.lifetimes.limit < length s.lifetimes.entries + n.lifetimes) ⊎ n.overcounts)))
+
+-- behind what is stored there is no room for the tree
 abbrev pub TooLarge : Stored → OptionExpr → Type 0
-TooLarge s e =
-    (s.exprs.limit < length s.exprs.entries + count_of_exprs e)
-    ⊎ ((s.labels.limit < length s.labels.entries + count_of_labels e) ⊎ Overcounts e)
+TooLarge s e = Short (size_part e) s

@@ -20,7 +20,7 @@ use Rattle.hir_env.specs.Answered as tree
 use Rattle.hir_env.specs.Answered.{Segment, Expr, OptionExpr, Exprs, Block, Stmts}
 use Rattle.hir_data.specs.Worked.{whole}
 use Rattle.hir_meaning.specs.Small.{at, root, one, two, literal_at, label_with, label_a, jump_a, first, in_braces, loop_of}
-use Rattle.hir_meaning.specs.Small.{stored_one, stored_two}
+use Rattle.hir_meaning.specs.Small.{stored_one, stored_two, none_beside}
 pub use Rattle.hir_meaning.specs.Turns.{other}
 use Rattle.hir_meaning.specs.Forms.{plus}
 use Rattle.hir_one_result.specs.Leads.{Way, expr_way}
@@ -114,7 +114,7 @@ abbrev pub letter : ℕ → Name
 letter c = name.Text (c ∷ [])
 
 abbrev pub named : ℕ → Segment
-named c = tree.name_segment (letter c)
+named c = tree.name_segment (letter c) none_beside
 
 pub record Leaves : Type 0 where
   pub one_name : StoredAs [] (tree.path_expr (at 0) (whole (named 97) []) other)

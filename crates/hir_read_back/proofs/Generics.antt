@@ -14,7 +14,7 @@ use Rattle.hir_store.specs.declared.path.GenericArgs.{GenericArgs}
 use Rattle.hir_store.specs.declared.path.AssociatedTypeBinding.{AssociatedTypeBinding}
 use Rattle.hir_store.specs.declared.path.AssociatedTypeBinding.TheFolds as folds
 use Rattle.hir_store.specs.declared.path.AssociatedTypeBinding.TheViews.{out-GenericArgs}
-use Rattle.hir_data.specs.Data as data
+use Rattle.hir_data.specs.Data as datum
 use Rattle.hir_data.specs.Data.{ArgsData, args_data, BindingData, binding_data, BindingsData, OptionArgsData}
 use Rattle.hir_data.specs.Reading as reading
 use Rattle.hir_data.specs.Reading.{Readers, args_layer, binding_layer}
@@ -30,16 +30,16 @@ one_mapped {A} {B} {C} {D} f g x =
     (folds.map-AssociatedTypeBinding A B C D f g (record { name = Missing; args = x; type_ref = None; bounds = [] })).args
 
 module _ (store : Store) (source_map : SourceMap) (r : Readers) where
-  abbrev arguments : List GenericArg → data.ArgumentsData
-  arguments as' = reading.arguments_layer store source_map r as' data.no_arguments
+  abbrev arguments : List GenericArg → datum.ArgumentsData
+  arguments as' = reading.arguments_layer store source_map r as' datum.no_arguments
 
   abbrev bindings : List AssociatedTypeBinding → BindingsData
-  bindings bs = reading.bindings_layer store source_map r bs data.no_bindings
+  bindings bs = reading.bindings_layer store source_map r bs datum.no_bindings
 
   listed_is : (xs : List AssociatedTypeBinding)
       → reading.bindings_listed store source_map r (mapped (binding_layer store source_map r) (args_layer store source_map r) xs) ≡ bindings xs
   listed_is [] = refl
-  listed_is (x ∷ xs) = ap (data.more_bindings (binding_layer store source_map r x)) (listed_is xs)
+  listed_is (x ∷ xs) = ap (datum.more_bindings (binding_layer store source_map r x)) (listed_is xs)
 
   present_is : (x : Option GenericArgs)
       → reading.listed store source_map r (one_mapped (binding_layer store source_map r) (args_layer store source_map r) x)
@@ -76,10 +76,10 @@ module _ (store : Store) (source_map : SourceMap) (r : Readers) where
   -- a type for `Self` in front
   pub self_first_read : (t : TypeRefId) (a : Option GenericArgs)
       → reading.list_layer store source_map r (Some (self_first t a)) ≡ rule.self_first (r.type t) (reading.list_layer store source_map r a)
-  self_first_read t None = ap data.some_args (args_roll (arg.Type_ t ∷ []) true [] No)
+  self_first_read t None = ap datum.some_args (args_roll (arg.Type_ t ∷ []) true [] No)
   self_first_read t (Some a) =
       let o = out-GenericArgs a in
-      ap data.some_args (args_roll (arg.Type_ t ∷ o.args) true o.bindings o.parenthesized
+      ap datum.some_args (args_roll (arg.Type_ t ∷ o.args) true o.bindings o.parenthesized
           ∙ ap (rule.behind_self (r.type t)) (sym (args_out a)))
 
   -- whether one stands in front

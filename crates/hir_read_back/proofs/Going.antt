@@ -26,7 +26,7 @@ use Rattle.hir_lower_form.specs.Types.{path_type_form, path_or_error, path_bound
 use Rattle.hir_steps.proofs.Frames.{Frame}
 use Rattle.hir_steps.proofs.Steps.{Mark, Grows, Rel, Correct, correct_bind, correct_as, correct_pure, correct_count_out}
 use Rattle.hir_steps.proofs.TypeSteps.{correct_alloc_type, AllocatedType}
-use Rattle.hir_data.specs.Data as data
+use Rattle.hir_data.specs.Data as datum
 use Rattle.hir_data.specs.Data.{TypeData, typed, OptionArgsData, BoundData}
 use Rattle.hir_data.specs.Rule as rule
 use Rattle.hir_data.specs.Rule.{PathRead, What, Item, named, root, self_, super_, anchor, projection, data_of}
@@ -116,7 +116,7 @@ answers_later final n n' (Some x) (Some p) le h = record {
   bare = h.bare;
 }
 
-abbrev shape_of : Stored → ℕ → TypeRef → data.Shape
+abbrev shape_of : Stored → ℕ → TypeRef → datum.Shape
 shape_of final d t = a_shape final (within final d) t
 
 -- a path that is absent or refused is an error
@@ -131,7 +131,7 @@ path_type_reads y at h = correct_as (correct_bind h (λ o. correct_alloc_type (p
     go final n None None h d le = refl
     go final n None (Some p) h d le = absurd h
     go final n (Some x) None h d le = absurd h
-    go final n (Some x) (Some p) h d le = ap data.path_shape (matches_read final n x p h d le)
+    go final n (Some x) (Some p) h d le = ap datum.path_shape (matches_read final n x p h d le)
 
 -- what a bound is made of its path
 record PathStored (at : Pointer) (maybe : Bool) (binder : Binder) (p : HirPath) (final : Stored) (ps : List Frame) (m m' : Mark) (b : TypeBound) : Type 0 where
@@ -157,7 +157,7 @@ same_modifier true = refl
 bound_read : (final : Stored) (d : ℕ) (binder : Binder) (maybe : Bool) (i : TypeRefId)
     → a_bound final (within final d) (stored_path_bound maybe binder i)
     ≡ written.bound_behind binder (written.modifier_of maybe) ((within final d).type i)
-bound_read final d [] maybe i = ap (data.path_bound ((within final d).type i)) (same_modifier maybe)
+bound_read final d [] maybe i = ap (datum.path_bound ((within final d).type i)) (same_modifier maybe)
 bound_read final d (n ∷ ns) maybe i = refl
 
 pub path_bound_reads : (y : Option PathRead) {p : Lowering (Option HirPath)} (at : Pointer) (maybe : Bool) (binder : Binder)
@@ -173,7 +173,7 @@ path_bound_reads y at maybe binder h = correct_as (correct_bind h (λ o. bound_s
     go final ps m m' None (Some p) b h row d le = absurd h
     go final ps m m' (Some x) None b h row d le = absurd h
     go final ps m m' (Some x) (Some p) b h row d le =
-        let t = type_at {m0 = m} row.at (λ n ge. ap data.path_shape (matches_read final m.types x p h n ge)) in
+        let t = type_at {m0 = m} row.at (λ n ge. ap datum.path_shape (matches_read final m.types x p h n ge)) in
         ap (a_bound final (within final d)) row.is ∙ (bound_read final d binder maybe row.number
         ∙ ap (written.bound_behind binder (written.modifier_of maybe)) (t.is d le))
 

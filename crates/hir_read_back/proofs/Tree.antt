@@ -20,7 +20,7 @@ use Rattle.hir_lower_form.specs.Paths.{proceed, whole}
 use Rattle.hir_lower_form.specs.Types.{no_lists}
 use Rattle.hir_lower_form.specs.Lower as lower
 use Rattle.hir_steps.proofs.Steps.{Correct}
-use Rattle.hir_data.specs.Data as data
+use Rattle.hir_data.specs.Data as datum
 use Rattle.hir_data.specs.Data.{TypesData, no_args}
 use Rattle.hir_data.specs.Rule.{Item, broken, named}
 use Rattle.hir_data.specs.Written as written
@@ -51,11 +51,11 @@ mutual
   type_reads b (tree.for_type binder t) = part_reads (Some binder) t
   type_reads b (tree.leaf_type at l) = kinds.leaf_reads at l
   type_reads b (tree.over_type at u t) = kinds.over_reads at u (part_reads None t)
-  type_reads b (tree.tuple_type at ps) = kinds.tuple_reads at (pushed_all (parts_read ps data.no_types []))
+  type_reads b (tree.tuple_type at ps) = kinds.tuple_reads at (pushed_all (parts_read ps datum.no_types []))
   type_reads b (tree.path_type at p) = path_type_reads (written.path_of p) at (path_reads p)
   type_reads b (tree.ref_type at l m t) = kinds.ref_reads at m (part_reads None t) (kinds.lifetime_option_reads l)
   type_reads b (tree.fn_type at h ps r) =
-      kinds.fn_reads at b h (ret_reads r) (pushed_all (parts_read ps (data.more_types (written.ret_data r) data.no_types) []))
+      kinds.fn_reads at b h (ret_reads r) (pushed_all (parts_read ps (datum.more_types (written.ret_data r) datum.no_types) []))
   type_reads b (tree.impl_type at mode bs) = kinds.impl_reads at mode (pushed_all (bounds_read bs []))
   type_reads b (tree.nested_impl at) = type0 ty.Error (Some at) (λ final r. refl)
   type_reads b (tree.dyn_type at bs) = kinds.dyn_reads at (pushed_all (bounds_read bs []))
@@ -99,15 +99,16 @@ mutual
   args_listed tree.no_args l = kinds.none_listed l
   args_listed (tree.more_args a as') l = kinds.more_listed l (arg_grown a l) (args_listed as')
 
-  arg_grown : (a : Arg) (l : ArgLists) → Correct (lower.lower_arg l a) (Grown l (written.argument_before a) (written.binding_before a))
+  arg_grown : (a : Arg) (l : ArgLists) → Correct (lower.lower_arg l a) 
+      (Grown l (written.put_argument (written.argument_of a)) (written.put_binding (written.binding_of a)))
   arg_grown tree.skipped_arg l = kinds.skipped_grown l
-  arg_grown (tree.type_arg t) l = kinds.argument_grown l arg.Type_ data.type_argument (part_reads None t) (λ final r a. refl)
-  arg_grown (tree.lifetime_arg l') l = kinds.argument_grown l arg.Lifetime data.lifetime_argument (kinds.lifetime_reads l') (λ final r a. refl)
+  arg_grown (tree.type_arg t) l = kinds.argument_grown l arg.Type_ datum.type_argument (part_reads None t) (λ final r a. refl)
+  arg_grown (tree.lifetime_arg l') l = kinds.argument_grown l arg.Lifetime datum.lifetime_argument (kinds.lifetime_reads l') (λ final r a. refl)
   arg_grown (tree.assoc_arg n as' dots t bs) l = kinds.binding_grown l n dots (list_reads as') (present_reads t) (pushed_all (bounds_read bs []))
 
   parens_reads : (p : OptionParens) → Correct (lower.parens_part p) (Reads a_list (written.parens_data p))
   parens_reads tree.no_parens = value0 {l = a_list} None (λ final r. refl)
-  parens_reads (tree.some_parens ps r) = kinds.parens_reads (pushed_all (parts_read ps data.no_types [])) (output_reads r)
+  parens_reads (tree.some_parens ps r) = kinds.parens_reads (pushed_all (parts_read ps datum.no_types [])) (output_reads r)
 
   output_reads : (r : OptionRet) → Correct (lower.output_part r) (Reads a_type (written.output_data r))
   output_reads tree.no_ret = kinds.unit_type_reads

@@ -31,7 +31,7 @@ use Rattle.hir_lower_form.specs.Types.{stored_impl, impl_type_form, dyn_type_for
 use Rattle.hir_steps.proofs.Frames.{Frame}
 use Rattle.hir_steps.proofs.Steps.{Mark, Grows, Rel, Correct, correct_bind, correct_as, correct_pure}
 use Rattle.hir_steps.proofs.TypeSteps.{correct_alloc_type, correct_alloc_lifetime}
-use Rattle.hir_data.specs.Data as data
+use Rattle.hir_data.specs.Data as datum
 use Rattle.hir_data.specs.Data.{LifetimeData, UseData, TypeData, typed, Shape, OptionTypeData, TypesData, OptionArgsData, no_args, some_args}
 use Rattle.hir_data.specs.Data.{args_data, ArgumentsData, BindingData, BindingsData, BoundsData}
 use Rattle.hir_data.specs.Written as written
@@ -55,15 +55,15 @@ lifetime_option_reads (Some l) = value1 {k = maybe_lifetime} Some Some (lifetime
 
 use_reads : (u : UseRead) → Correct (lower_use u) (Reads a_use (written.use_data u))
 use_reads (tree.used_name n) = value0 {l = a_use} (use_arg.Name n) (λ final r. refl)
-use_reads (tree.used_lifetime l) = value1 {k = a_use} use_arg.Lifetime data.lifetime_used (lifetime_reads l) (λ final r a. refl)
+use_reads (tree.used_lifetime l) = value1 {k = a_use} use_arg.Lifetime datum.lifetime_used (lifetime_reads l) (λ final r a. refl)
 
 uses_pushed : (us : List UseRead) (done : List UseArgRef) → Correct (lower_uses done us) (Pushed done (Reads many_uses (map written.use_data us)))
 uses_pushed [] done = none_read many_uses (λ final r. refl) done
 uses_pushed (u ∷ us) done = more_read {l = a_use} {ls = many_uses} (λ x xs. x ∷ xs) (λ final r a as'. refl) (use_reads u) (uses_pushed us) done
 
 pub uses_bound_reads : (us : List UseRead)
-    → Correct (lower_uses [] us >>= (λ xs. pure (bound.Use xs))) (Reads a_bound (data.use_bound (map written.use_data us)))
-uses_bound_reads us = value1 {k = a_bound} bound.Use data.use_bound (pushed_all (uses_pushed us [])) (λ final r a. refl)
+    → Correct (lower_uses [] us >>= (λ xs. pure (bound.Use xs))) (Reads a_bound (datum.use_bound (map written.use_data us)))
+uses_bound_reads us = value1 {k = a_bound} bound.Use datum.use_bound (pushed_all (uses_pushed us [])) (λ final r a. refl)
 
 -- ---- types
 
@@ -83,54 +83,54 @@ leaf_reads at tree.infer_leaf = type0 ty.Placeholder (Some at) (λ final r. refl
 pub over_reads : {x : TypeData} {p : Lowering TypeRefId} (at : Pointer) (u : TypeUnary) → Correct p (Reads a_type x)
     → Correct (over_form at u p) (Reads a_type (typed (Some at) (written.unary_shape u x)))
 unfolding over_form
-over_reads at (tree.pointer_to m) h = type1 (Some at) (λ t. ty.RawPtr t m) (data.pointer_shape m) h (λ final r a. refl)
-over_reads at tree.slice_of h = type1 (Some at) ty.Slice data.slice_shape h (λ final r a. refl)
+over_reads at (tree.pointer_to m) h = type1 (Some at) (λ t. ty.RawPtr t m) (datum.pointer_shape m) h (λ final r a. refl)
+over_reads at tree.slice_of h = type1 (Some at) ty.Slice datum.slice_shape h (λ final r a. refl)
 
-pub tuple_reads : {x : TypesData} {p : Lowering (List TypeRefId)} (at : Pointer) → Correct p (Reads (types_before data.no_types) x)
-    → Correct (tuple_type_form at p) (Reads a_type (typed (Some at) (data.tuple_shape x)))
+pub tuple_reads : {x : TypesData} {p : Lowering (List TypeRefId)} (at : Pointer) → Correct p (Reads (types_before datum.no_types) x)
+    → Correct (tuple_type_form at p) (Reads a_type (typed (Some at) (datum.tuple_shape x)))
 unfolding tuple_type_form
-tuple_reads at h = type1 (Some at) ty.Tuple data.tuple_shape h (λ final r a. refl)
+tuple_reads at h = type1 (Some at) ty.Tuple datum.tuple_shape h (λ final r a. refl)
 
 pub ref_reads : {x : TypeData} {y : Option LifetimeData} {p : Lowering TypeRefId} {q : Lowering (Option LifetimeRefId)} (at : Pointer)
     (m : Mutability) → Correct p (Reads a_type x) → Correct q (Reads maybe_lifetime y)
-    → Correct (ref_type_form at m p q) (Reads a_type (typed (Some at) (data.reference_shape x y m)))
+    → Correct (ref_type_form at m p q) (Reads a_type (typed (Some at) (datum.reference_shape x y m)))
 unfolding ref_type_form
 ref_reads at m h k = type2 (Some at) (λ t l. ty.Reference (record { ty = t; lifetime = l; mutability = m }))
-    (λ x y. data.reference_shape x y m) h k (λ final r a b. refl)
+    (λ x y. datum.reference_shape x y m) h k (λ final r a b. refl)
 
 -- what it answers stands behind its parameters, and is lowered before them
 types_append : (final : Stored) (r : Readers) (ts us : List TypeRefId) (behind : TypesData)
     → types_before behind final r (ts ++ us) ≡ types_before (types_before behind final r us) final r ts
 types_append final r [] us behind = refl
-types_append final r (t ∷ ts) us behind = ap (data.more_types (r.type t)) (types_append final r ts us behind)
+types_append final r (t ∷ ts) us behind = ap (datum.more_types (r.type t)) (types_append final r ts us behind)
 
 pub fn_reads : {x : TypeData} {y : TypesData} {p : Lowering (List TypeRefId)} {q : Lowering TypeRefId} (at : Pointer) (b : Option Binder) (h : FnHead)
-    → Correct q (Reads a_type x) → Correct p (Reads (types_before (data.more_types x data.no_types)) y)
-    → Correct (fn_type_form at b h p q) (Reads a_type (typed (Some at) (data.fn_shape h b y)))
+    → Correct q (Reads a_type x) → Correct p (Reads (types_before (datum.more_types x datum.no_types)) y)
+    → Correct (fn_type_form at b h p q) (Reads a_type (typed (Some at) (datum.fn_shape h b y)))
 unfolding fn_type_form
 fn_reads {x = x} at b h ret params =
     correct_as (correct_bind ret (λ t. correct_bind params (λ ts. correct_alloc_type (stored_fn b h (ts ++ t ∷ [])) (Some at))))
     (λ final ps m m' i g row. let s = row.second in
-    type_at s.second (λ d le. ap (data.fn_shape h b)
-        (types_append final (within final d) s.one (row.one ∷ []) data.no_types
-        ∙ (ap (λ t. types_before (data.more_types t data.no_types) final (within final d) s.one)
+    type_at s.second (λ d le. ap (datum.fn_shape h b)
+        (types_append final (within final d) s.one (row.one ∷ []) datum.no_types
+        ∙ (ap (λ t. types_before (datum.more_types t datum.no_types) final (within final d) s.one)
             (row.first.is d (omega (le, s.before.types, arith)))
         ∙ s.first.is d le))))
 
 pub impl_reads : {x : BoundsData} {p : Lowering (List TypeBound)} (at : Pointer) (mode : ImplTrait) → Correct p (Reads many_bounds x)
     → Correct (impl_type_form at mode p) (Reads a_type (typed (Some at) (written.impl_shape_of mode x)))
 unfolding impl_type_form
-impl_reads at becomes.Error h = type1 (Some at) (λ bs. ty.Error) (λ x. data.error_shape) h (λ final r a. refl)
-impl_reads at becomes.Opaque h = type1 (Some at) ty.ImplTrait data.impl_shape h (λ final r a. refl)
+impl_reads at becomes.Error h = type1 (Some at) (λ bs. ty.Error) (λ x. datum.error_shape) h (λ final r a. refl)
+impl_reads at becomes.Opaque h = type1 (Some at) ty.ImplTrait datum.impl_shape h (λ final r a. refl)
 
 pub dyn_reads : {x : BoundsData} {p : Lowering (List TypeBound)} (at : Pointer) → Correct p (Reads many_bounds x)
-    → Correct (dyn_type_form at p) (Reads a_type (typed (Some at) (data.dyn_shape x)))
+    → Correct (dyn_type_form at p) (Reads a_type (typed (Some at) (datum.dyn_shape x)))
 unfolding dyn_type_form
-dyn_reads at h = type1 (Some at) ty.DynTrait data.dyn_shape h (λ final r a. refl)
+dyn_reads at h = type1 (Some at) ty.DynTrait datum.dyn_shape h (λ final r a. refl)
 
 pub present_reads : {x : TypeData} {p : Lowering TypeRefId} → Correct p (Reads a_type x)
-    → Correct (p >>= (λ t. pure (Some t))) (Reads maybe_type (data.some_type x))
-present_reads h = value1 {k = maybe_type} Some data.some_type h (λ final r a. refl)
+    → Correct (p >>= (λ t. pure (Some t))) (Reads maybe_type (datum.some_type x))
+present_reads h = value1 {k = maybe_type} Some datum.some_type h (λ final r a. refl)
 
 pub types_none : (behind : TypesData) (done : List TypeRefId) → Correct (pure done) (Pushed done (Reads (types_before behind) behind))
 types_none behind done = none_read (types_before behind) (λ final r. refl) done
@@ -138,22 +138,22 @@ types_none behind done = none_read (types_before behind) (λ final r. refl) done
 pub types_more : {x : TypeData} {y : TypesData} {p : Lowering TypeRefId} {q : List TypeRefId → Lowering (List TypeRefId)} (behind : TypesData)
     → Correct p (Reads a_type x) → ((done : List TypeRefId) → Correct (q done) (Pushed done (Reads (types_before behind) y)))
     → (done : List TypeRefId)
-    → Correct (p >>= (λ t. q (done ++ t ∷ []))) (Pushed done (Reads (types_before behind) (data.more_types x y)))
-types_more behind h k done = more_read {l = a_type} {ls = types_before behind} data.more_types (λ final r a as'. refl) h k done
+    → Correct (p >>= (λ t. q (done ++ t ∷ []))) (Pushed done (Reads (types_before behind) (datum.more_types x y)))
+types_more behind h k done = more_read {l = a_type} {ls = types_before behind} datum.more_types (λ final r a as'. refl) h k done
 
 -- ---- bounds
 
 pub lifetime_bound_reads : (l : Lifetime)
-    → Correct (lower_lifetime l >>= (λ i. pure (bound.Lifetime i))) (Reads a_bound (data.lifetime_bound (written.lifetime_data l)))
-lifetime_bound_reads l = value1 {k = a_bound} bound.Lifetime data.lifetime_bound (lifetime_reads l) (λ final r a. refl)
+    → Correct (lower_lifetime l >>= (λ i. pure (bound.Lifetime i))) (Reads a_bound (datum.lifetime_bound (written.lifetime_data l)))
+lifetime_bound_reads l = value1 {k = a_bound} bound.Lifetime datum.lifetime_bound (lifetime_reads l) (λ final r a. refl)
 
-pub bounds_none : (done : List TypeBound) → Correct (pure done) (Pushed done (Reads many_bounds data.no_bounds))
+pub bounds_none : (done : List TypeBound) → Correct (pure done) (Pushed done (Reads many_bounds datum.no_bounds))
 bounds_none done = none_read many_bounds (λ final r. refl) done
 
-pub bounds_more : {x : data.BoundData} {y : BoundsData} {p : Lowering TypeBound} {q : List TypeBound → Lowering (List TypeBound)}
+pub bounds_more : {x : datum.BoundData} {y : BoundsData} {p : Lowering TypeBound} {q : List TypeBound → Lowering (List TypeBound)}
     → Correct p (Reads a_bound x) → ((done : List TypeBound) → Correct (q done) (Pushed done (Reads many_bounds y)))
-    → (done : List TypeBound) → Correct (p >>= (λ b. q (done ++ b ∷ []))) (Pushed done (Reads many_bounds (data.more_bounds x y)))
-bounds_more h k done = more_read {l = a_bound} {ls = many_bounds} data.more_bounds (λ final r a as'. refl) h k done
+    → (done : List TypeBound) → Correct (p >>= (λ b. q (done ++ b ∷ []))) (Pushed done (Reads many_bounds (datum.more_bounds x y)))
+bounds_more h k done = more_read {l = a_bound} {ls = many_bounds} datum.more_bounds (λ final r a as'. refl) h k done
 
 -- ---- lists of arguments, which grow in two
 
@@ -177,17 +177,17 @@ skipped_grown l = correct_as (correct_pure l) (λ final ps m m' r g row. rw row.
 }))
 
 -- an argument of one part
-pub argument_grown : {A D : Type 0} {k : Layer A D} {x : D} {p : Lowering A} (l : ArgLists) (con : A → GenericArg) (f : D → data.ArgumentData)
+pub argument_grown : {A D : Type 0} {k : Layer A D} {x : D} {p : Lowering A} (l : ArgLists) (con : A → GenericArg) (f : D → datum.ArgumentData)
     → Correct p (Reads k x)
     → ((final : Stored) (r : Readers) (a : A) → reading.argument_layer (store_of final) (map_of final) r (con a) ≡ f (k final r a))
-    → Correct (p >>= (λ a. pure (add_arg l (con a)))) (Grown l (λ y. data.more_arguments (f x) y) (λ y. y))
+    → Correct (p >>= (λ a. pure (add_arg l (con a)))) (Grown l (λ y. datum.more_arguments (f x) y) (λ y. y))
 argument_grown l con f h e = correct_as (correct_bind h (λ a. correct_pure (add_arg l (con a))))
     (λ final ps m m' r g row. rw (row.second.is, row.second.still) (record {
       args = con row.one ∷ [];
       bindings = [];
       args_are = refl;
       bindings_are = sym (append-nil l.bindings);
-      args_read = λ d le y. ap (λ z. data.more_arguments z y) (e final (within final d) row.one ∙ ap f (row.first.is d le));
+      args_read = λ d le y. ap (λ z. datum.more_arguments z y) (e final (within final d) row.one ∙ ap f (row.first.is d le));
       bindings_read = λ d le y. refl;
     }))
 
@@ -201,7 +201,7 @@ pub binding_grown : {x : OptionArgsData} {y : OptionTypeData} {z : BoundsData} {
     {q : Lowering (Option TypeRefId)} {s : Lowering (List TypeBound)} (l : ArgLists) (n : Name) (dots : Bool)
     → Correct p (Reads a_list x) → Correct q (Reads maybe_type y) → Correct s (Reads many_bounds z)
     → Correct (binding_form l n dots p q s)
-        (Grown l (λ w. w) (λ w. data.more_bindings (data.binding_data n (written.first_list x (written.notation dots)) y z) w))
+        (Grown l (λ w. w) (λ w. datum.more_bindings (datum.binding_data n (written.first_list x (written.notation dots)) y z) w))
 unfolding binding_form
 binding_grown {x = x} {y = y} {z = z} l n dots hp hq hs =
     correct_as (correct_bind hp (λ a. correct_bind hq (λ t. correct_bind hs
@@ -212,9 +212,9 @@ binding_grown {x = x} {y = y} {z = z} l n dots hp hq hs =
       args_are = sym (append-nil l.args);
       bindings_are = refl;
       args_read = λ d le w. refl;
-      bindings_read = λ d le w. ap (λ b. data.more_bindings b w)
+      bindings_read = λ d le w. ap (λ b. datum.more_bindings b w)
           (binding_roll (store_of final) (map_of final) (within final d) n (or_notation row.one dots) s.one u.one
-          ∙ (λ j. data.binding_data n
+          ∙ (λ j. datum.binding_data n
               ((or_notation_read final (within final d) row.one dots
                 ∙ ap (λ v. written.first_list v (written.notation dots)) (row.first.is d (omega (le, s.before.types, u.before.types, arith)))) j)
               (s.first.is d (omega (le, u.before.types, arith)) j) (u.first.is d le j)));
@@ -226,30 +226,30 @@ pub record Listed (l : ArgLists) (x : ArgumentsData) (y : BindingsData) (final :
   pub bindings : List AssociatedTypeBinding
   pub args_are : r.args ≡ l.args ++ args
   pub bindings_are : r.bindings ≡ l.bindings ++ bindings
-  pub args_read : (d : ℕ) → m'.types ≤ d → arguments_before data.no_arguments final (within final d) args ≡ x
-  pub bindings_read : (d : ℕ) → m'.types ≤ d → bindings_before data.no_bindings final (within final d) bindings ≡ y
+  pub args_read : (d : ℕ) → m'.types ≤ d → arguments_before datum.no_arguments final (within final d) args ≡ x
+  pub bindings_read : (d : ℕ) → m'.types ≤ d → bindings_before datum.no_bindings final (within final d) bindings ≡ y
 
-pub none_listed : (l : ArgLists) → Correct (pure l) (Listed l data.no_arguments data.no_bindings)
+pub none_listed : (l : ArgLists) → Correct (pure l) (Listed l datum.no_arguments datum.no_bindings)
 none_listed l = correct_as (skipped_grown l) (λ final ps m m' r g row. record {
   args = row.args;
   bindings = row.bindings;
   args_are = row.args_are;
   bindings_are = row.bindings_are;
-  args_read = λ d le. row.args_read d le data.no_arguments;
-  bindings_read = λ d le. row.bindings_read d le data.no_bindings;
+  args_read = λ d le. row.args_read d le datum.no_arguments;
+  bindings_read = λ d le. row.bindings_read d le datum.no_bindings;
 })
 
 arguments_append : (final : Stored) (r : Readers) (as' bs : List GenericArg) (behind : ArgumentsData)
     → arguments_before behind final r (as' ++ bs) ≡ arguments_before (arguments_before behind final r bs) final r as'
 arguments_append final r [] bs behind = refl
 arguments_append final r (a ∷ as') bs behind =
-    ap (data.more_arguments (reading.argument_layer (store_of final) (map_of final) r a)) (arguments_append final r as' bs behind)
+    ap (datum.more_arguments (reading.argument_layer (store_of final) (map_of final) r a)) (arguments_append final r as' bs behind)
 
 bindings_append : (final : Stored) (r : Readers) (as' bs : List AssociatedTypeBinding) (behind : BindingsData)
     → bindings_before behind final r (as' ++ bs) ≡ bindings_before (bindings_before behind final r bs) final r as'
 bindings_append final r [] bs behind = refl
 bindings_append final r (a ∷ as') bs behind =
-    ap (data.more_bindings (reading.binding_layer (store_of final) (map_of final) r a)) (bindings_append final r as' bs behind)
+    ap (datum.more_bindings (reading.binding_layer (store_of final) (map_of final) r a)) (bindings_append final r as' bs behind)
 
 pub more_listed : {f : ArgumentsData → ArgumentsData} {g : BindingsData → BindingsData} {x : ArgumentsData} {y : BindingsData}
     {p : Lowering ArgLists} {q : ArgLists → Lowering ArgLists} (l : ArgLists)
@@ -260,15 +260,15 @@ more_listed {f = f} {g = g} l h k = correct_as (correct_bind h k) (λ final ps m
       bindings = one.bindings ++ rest.bindings;
       args_are = rest.args_are ∙ (ap (λ as'. as' ++ rest.args) one.args_are ∙ append_assoc l.args one.args rest.args);
       bindings_are = rest.bindings_are ∙ (ap (λ bs. bs ++ rest.bindings) one.bindings_are ∙ append_assoc l.bindings one.bindings rest.bindings);
-      args_read = λ d le. arguments_append final (within final d) one.args rest.args data.no_arguments
+      args_read = λ d le. arguments_append final (within final d) one.args rest.args datum.no_arguments
           ∙ (one.args_read d (omega (le, row.after.types, arith)) _ ∙ ap f (rest.args_read d le));
-      bindings_read = λ d le. bindings_append final (within final d) one.bindings rest.bindings data.no_bindings
+      bindings_read = λ d le. bindings_append final (within final d) one.bindings rest.bindings datum.no_bindings
           ∙ (one.bindings_read d (omega (le, row.after.types, arith)) _ ∙ ap g (rest.bindings_read d le));
     })
 
 yielded_read : (final : Stored) (r : Readers) (as' : List GenericArg) (bs : List AssociatedTypeBinding)
     → a_list final r (yielded (record { args = as'; bindings = bs }))
-    ≡ written.yielded (arguments_before data.no_arguments final r as') (bindings_before data.no_bindings final r bs)
+    ≡ written.yielded (arguments_before datum.no_arguments final r as') (bindings_before datum.no_bindings final r bs)
 yielded_read final r [] [] = refl
 yielded_read final r [] (b ∷ bs) = ap some_args (args_roll (store_of final) (map_of final) r [] false (b ∷ bs) parens.No)
 yielded_read final r (a ∷ as') [] = ap some_args (args_roll (store_of final) (map_of final) r (a ∷ as') false [] parens.No)
@@ -286,7 +286,7 @@ list_reads h = correct_as (correct_bind h (λ l. correct_pure (yielded l)))
 -- ---- what stands behind a name
 
 pub parens_reads : {x : TypesData} {y : TypeData} {p : Lowering (List TypeRefId)} {q : Lowering TypeRefId}
-    → Correct p (Reads (types_before data.no_types) x) → Correct q (Reads a_type y)
+    → Correct p (Reads (types_before datum.no_types) x) → Correct q (Reads a_type y)
     → Correct (parens_form p q) (Reads a_list (written.function_args x y))
 unfolding parens_form
 parens_reads {x = x} {y = y} hp hq =
@@ -294,12 +294,12 @@ parens_reads {x = x} {y = y} hp hq =
         (λ o. correct_pure (Some (sugared_args t o))))))
     (λ final ps m m' r g row. let s = row.second in let u = s.second in rw (u.second.is, u.second.still) (record {
       is = λ d le.
-          let tuple = type_at {m0 = m} s.first (λ n ge. ap data.tuple_shape (row.first.is n ge)) in
+          let tuple = type_at {m0 = m} s.first (λ n ge. ap datum.tuple_shape (row.first.is n ge)) in
           ap some_args (args_roll (store_of final) (map_of final) (within final d) (arg.Type_ s.one ∷ []) false
               (of_binding output_name None (Some u.one) [] ∷ []) parens.ParenSugar
-          ∙ ( λ j. args_data (data.more_arguments (data.type_argument (tuple.is d (omega (le, u.before.types, arith)) j)) data.no_arguments) false
-                (data.more_bindings ((binding_roll (store_of final) (map_of final) (within final d) output_name None (Some u.one) []
-                    ∙ ap (λ t. data.binding_data output_name no_args (data.some_type t) data.no_bounds) (u.first.is d le)) j) data.no_bindings)
+          ∙ ( λ j. args_data (datum.more_arguments (datum.type_argument (tuple.is d (omega (le, u.before.types, arith)) j)) datum.no_arguments) false
+                (datum.more_bindings ((binding_roll (store_of final) (map_of final) (within final d) output_name None (Some u.one) []
+                    ∙ ap (λ t. datum.binding_data output_name no_args (datum.some_type t) datum.no_bounds) (u.first.is d le)) j) datum.no_bindings)
                 parens.ParenSugar));
     }))
 

@@ -22,7 +22,7 @@ use Rattle.hir_lower_form.specs.declared.walk.Reading.TheVariants.{Refused, Ende
 use Rattle.hir_lower_form.specs.Walks as walks
 use Rattle.hir_lower_form.specs.Walks.{start, at_first, add_name, self_read, anchored, add_trait, projected, mod_path, args_of}
 use Rattle.hir_lower_form.specs.Walks.{with_self, without_last_self, finished, own_path}
-use Rattle.hir_data.specs.Data as data
+use Rattle.hir_data.specs.Data as datum
 use Rattle.hir_data.specs.Data.{TypeData, OptionArgsData, no_args, some_args, PathData, NamesData}
 use Rattle.hir_data.specs.Rule as rule
 use Rattle.hir_data.specs.Rule.{Named, PathRead, What, Item, broken, named, root, self_, super_, anchor, projection, empty_list, plain_kind, supers}
@@ -512,11 +512,11 @@ module _ (final : Stored) (n : ℕ) where
 
   beside_none : (d : ℕ) (xs : List Name) → names_beside xs (lists final d (none_beside xs)) ≡ names_beside xs []
   beside_none d [] = refl
-  beside_none d (x ∷ xs) = ap (data.more_names x no_args) (beside_none d xs)
+  beside_none d (x ∷ xs) = ap (datum.more_names x no_args) (beside_none d xs)
 
   beside_data : (ns : List Named) → names_beside (map name_at ns) (map args_at ns) ≡ names_data ns
   beside_data [] = refl
-  beside_data (x ∷ ns) = ap (data.more_names x.name x.args) (beside_data ns)
+  beside_data (x ∷ ns) = ap (datum.more_names x.name x.args) (beside_data ns)
 
   present_data : (d : ℕ) (t : Option TypeRefId)
       → present_layer (store_of final) (map_of final) (within final d) t ≡ anchor_data (anchor_read final d t)
@@ -524,9 +524,9 @@ module _ (final : Stored) (n : ℕ) where
   present_data d (Some t) = refl
 
   pub matches_read : (x : PathRead) (p : HirPath) → Matches x p → (d : ℕ) → n ≤ d → a_path final (within final d) p ≡ data_of x
-  matches_read x (BarePath p) m d le = λ j. data.path_data (m.kind j) (anchor_data (m.anchor d le j))
+  matches_read x (BarePath p) m d le = λ j. datum.path_data (m.kind j) (anchor_data (m.anchor d le j))
       ((sym (beside_none d p.segments) ∙ ((λ i. names_beside (m.names i) (m.args d le i)) ∙ beside_data x.names)) j) (m.bare j)
-  matches_read x (Normal p) m d le = λ j. data.path_data (m.kind j)
+  matches_read x (Normal p) m d le = λ j. datum.path_data (m.kind j)
       ((present_data d p.type_anchor ∙ ap anchor_data (m.anchor d le)) j)
       (((λ i. names_beside (m.names i) (m.args d le i)) ∙ beside_data x.names) j) (m.bare j)
 
