@@ -105,13 +105,6 @@ module _ (s : Stored) where
   at_first_has true w h = h
   at_first_has false w h = h
 
-  pub named_has : (n : Name) (a : Option GenericArgs) (w : PathWalk) → HasWalk s w → HasArgsOption s a → HasReading s (named n a w)
-  named_has n a w h k =
-      let anchor = past_present past_type_id w.type_anchor in
-      let one = has_join s (past_present past_generic a) nothing k (has_nothing s) in
-      let lists = each_append s (past_present past_generic) w.args (a ∷ []) (join_right s anchor (past_arg_lists w.args) h) one in
-      has_join s anchor (past_arg_lists (w.args ++ a ∷ [])) (join_left s anchor (past_arg_lists w.args) h) lists
-
   pub self_has : (w : PathWalk) → HasWalk s w → HasReading s (self_read w)
   self_has w h = by (no_names w.names)
     where
