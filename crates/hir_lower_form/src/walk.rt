@@ -125,7 +125,8 @@ impl PathWalk {
 
     /// The walk at a first segment, which may bear a `::`.
     pub fn at_first(self, leading: bool) -> PathWalk
-        ensures { result ≡ spec.at_first leading self }
+        ensures value { result ≡ spec.at_first leading self }
+        ensures past { spec.past_walk result ≡ spec.past_walk self }
     {
         if leading {
             PathWalk {

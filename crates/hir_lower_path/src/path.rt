@@ -217,7 +217,6 @@ fn segments<P: LowerParts>(
 }
 
 /// The segments of a path, without those of the use tree around it.
-#[tactic(auto, using(hir_lower_form::proofs::Walked::at_first_has))]
 fn own_segments<P: LowerParts>(
     lowerer: &Lowerer<P>,
     state: &mut BodyBuilder,
