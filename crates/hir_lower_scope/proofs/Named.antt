@@ -7,11 +7,11 @@ use Rattle.hir_data.specs.Segments.{named_among, segment_name}
 both : (xs ys : List (Option AstSegment)) → named_among (xs ++ ys) ≡ named_among xs ++ named_among ys
 both [] ys = refl
 both (None ∷ xs) ys = both xs ys
-both (Some s ∷ xs) ys = by (is_some (segment_name s)) (both xs ys)
+both (Some s ∷ xs) ys = by (is_some (segment_name s)) (named_among (xs ++ ys)) (named_among xs) (named_among ys) (both xs ys)
   where
-    by : (b : Bool) {us vs ws : List AstSegment} → us ≡ vs ++ ws → (if b then s ∷ us else us) ≡ (if b then s ∷ vs else vs) ++ ws
-    by true e = ap (λ l. s ∷ l) e
-    by false e = e
+    by : (b : Bool) (us vs ws : List AstSegment) → us ≡ vs ++ ws → (if b then s ∷ us else us) ≡ (if b then s ∷ vs else vs) ++ ws
+    by true us vs ws e = ap (λ l. s ∷ l) e
+    by false us vs ws e = e
 
 in_front : {A : Type 0} (xs ys : List A) (n : ℕ) → n < length xs → slice_get (xs ++ ys) n ≡ slice_get xs n
 in_front [] ys n h = absurd (omega (arith, h))
@@ -19,9 +19,11 @@ in_front (x ∷ xs) ys zero h = refl
 in_front (x ∷ xs) ys (suc n) h = in_front xs ys n (omega (arith, h))
 
 in_rest : {A : Type 0} (xs ys : List A) (n : ℕ) → length xs ≤ n → slice_get (xs ++ ys) n ≡ slice_get ys (n - length xs)
-in_rest [] ys n h = refl
+in_rest [] ys n h = let same : n ≡ n - 0 = omega arith in ap (λ k. slice_get ys k) same
 in_rest (x ∷ xs) ys zero h = absurd (omega (arith, h))
-in_rest (x ∷ xs) ys (suc n) h = in_rest xs ys n (omega (arith, h))
+in_rest (x ∷ xs) ys (suc n) h =
+    let same : n - length xs ≡ suc n - suc (length xs) = omega arith in
+    in_rest xs ys n (omega (arith, h)) ∙ ap (λ k. slice_get ys k) same
 
 pub nth_of_front : (xs ys : List (Option AstSegment)) (all : List AstSegment) (n : ℕ) → named_among (xs ++ ys) ≡ all
     → n < length (named_among xs) → slice_get (named_among xs) n ≡ slice_get all n
