@@ -278,5 +278,12 @@ pub fn path_node<P: LowerParts>(
     requires walk { HasWalk state.old.stored walk }
     ensures { ReadsPath (path_level (P.spot lowerer.now.parts) node.now) walk state.old result state.new }
 {
-    whole_path(lowerer, state, walk, node.leading, node.segs.as_slice(), &node.use_)
+    whole_path(
+        lowerer,
+        state,
+        walk,
+        node.leading,
+        node.segs.as_slice(),
+        &node.use_,
+    )
 }

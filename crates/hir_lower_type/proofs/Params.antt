@@ -21,7 +21,7 @@ typed done rest (Err e) c = refl
 one : (done : List TypeRefId) (rest : Parts) (t : OptionType) (variadic : Bool) (b : Builder)
     → lower_parts done (if variadic then rest else tree.more_parts t rest) b
     ≡ go_on ((if variadic then pure None else some (type_part None t)) b).0 ((if variadic then pure None else some (type_part None t)) b).1
-      (λ x. lower_parts (push_some done x) rest)
+    (λ x. lower_parts (push_some done x) rest)
 one done rest t true b = refl
 one done rest t false b = typed done rest (type_part None t b).0 (type_part None t b).1
 
