@@ -1,9 +1,9 @@
 -- What the arguments `(A) -> C` name exists.
-use Rattle.std.proofs.Common.{arith, ◌≡◌, ◌∙◌, sym, ap, subst, [], ◌∷◌, Some, None, false}
+use Rattle.std.proofs.Common.{arith, ◌∙◌, sym, ap, subst, [], ◌∷◌, Some, None, false}
 use Rattle.hir_store.specs.Stored.{Stored}
 use Rattle.hir_store.specs.Range.{Has, HasType, HasArgsOption}
 use Rattle.hir_store.specs.Generics.{of_binding}
-use Rattle.hir_store.specs.Past.{join, nothing, past_args, past_generic, past_type_id}
+use Rattle.hir_store.specs.Past.{join, nothing, past_args}
 use Rattle.hir_store.specs.declared.ids.TypeRefId.{TypeRefId}
 use Rattle.hir_store.specs.declared.path.GenericArg.TheVariants as arg
 use Rattle.hir_store.specs.declared.path.GenericArgsParentheses.TheVariants.{ParenSugar}

@@ -1,6 +1,6 @@
 //! A path is read from its last segment to its first, then the path of the use tree around it.
 
-ghost use Rattle.std.specs.Prelude.{◌≡◌, IfOk, None, false, true};
+ghost use Rattle.std.specs.Prelude.{None, false, true};
 ghost use Rattle.hir_syntax.specs.declared.ast.Path.{out-Path};
 ghost use Rattle.hir_syntax.specs.declared.ast.PathSegment.{out-PathSegment};
 ghost use Rattle.hir_store.specs.Range.{HasType};

@@ -1,5 +1,5 @@
 -- The parameters of a function pointer one after another: what a loop over them does.
-use Rattle.std.proofs.Common.{◌≡◌, refl, Bool, true, false, List, ◌∷◌, Option, Some, None, Ok, Err}
+use Rattle.std.proofs.Common.{◌≡◌, refl, Bool, true, false, List, ◌∷◌, Some, None, Ok, Err}
 use Rattle.std.specs.Prelude.{if◌then◌else◌}
 use Rattle.hir_store.specs.declared.ids.TypeRefId.{TypeRefId}
 use Rattle.hir_env.specs.declared.place.Place.{Place}
@@ -8,7 +8,7 @@ use Rattle.hir_env.specs.Answered.{Parts, OptionType}
 use Rattle.hir_env.specs.TypeLayers.{ParamReading}
 use Rattle.hir_env.specs.Paths.{params_of}
 use Rattle.hir_lower_form.specs.Builder.{Builder}
-use Rattle.hir_lower_form.specs.Lowering.{Checked, Lowering, go_on, pure}
+use Rattle.hir_lower_form.specs.Lowering.{Checked, go_on, pure}
 use Rattle.hir_lower_form.specs.Lower.{lower_parts, push_some, some, type_part}
 use Rattle.hir_lower_type.specs.Params.{lower_param}
 

@@ -4,7 +4,7 @@ ghost use Rattle.std.specs.Prelude.{◌≡◌, [], map};
 ghost use Rattle.hir_syntax.specs.declared.types.TypeBound.{out-TypeBound};
 ghost use Rattle.hir_store.specs.Range.{HasBound, HasUseArgs};
 ghost use Rattle.hir_env.specs.Paths.{binder_of, use_of};
-ghost use Rattle.hir_env.specs.Whole.{answered_bound, answered_path_type, bound_level, bounds_part, path_type_level};
+ghost use Rattle.hir_env.specs.Whole.{answered_bound, bound_level, bounds_part, path_type_level};
 ghost use Rattle.hir_lower_form.specs.Lowering.{Lowers};
 ghost use Rattle.hir_lower_form.specs.Lower as spec;
 ghost use Rattle.hir_lower_form.specs.Types as forms;
