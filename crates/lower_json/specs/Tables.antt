@@ -8,6 +8,8 @@ use Rattle.hir_env.specs.declared.table.Context.{Context}
 use Rattle.hir_store.specs.declared.ids.CfgId.{CfgId}
 use Rattle.hir_store.specs.declared.ids.HygieneId.{HygieneId}
 use Rattle.hir_store.specs.declared.ids.CtxId.{CtxId}
+use Rattle.hir_store.specs.declared.ids.MacroDefId.{MacroDefId}
+use Rattle.hir_store.specs.declared.ids.CrateId.{CrateId}
 use Rattle.hir_store.specs.declared.ids.BlockId.{BlockId}
 use Rattle.hir_store.specs.declared.ids.ModuleId.{ModuleId}
 use Rattle.hir_store.specs.declared.ids.ItemContainerId.{ItemContainerId}
@@ -67,22 +69,28 @@ number_or_null (string s) = None
 number_or_null (array ds) = None
 number_or_null (object ms) = None
 
-abbrev context_said : Option ℕ → Option ℕ → Option ℕ → Option (Option ℕ) → Option (Option ℕ) → Option (CtxId × Context)
-context_said (Some context) (Some parent) (Some opaque) (Some outer) (Some root) = Some (
-  record { 0 = context },
-  record {
-    parent = record { 0 = parent };
-    opaque = record { 0 = opaque };
-    outer_macro = option_map (λ n. record { 0 = n }) outer;
-    crate_root = option_map (λ n. record { 0 = n }) root;
-  },
-)
-context_said _ _ _ _ _ = None
+abbrev pub context_id_of : Option ℕ → Option CtxId
+context_id_of n = option_map (λ n. record { 0 = n }) n
+
+abbrev pub outer_macro_of : Option (Option ℕ) → Option (Option MacroDefId)
+outer_macro_of n = option_map (λ m. option_map (λ n. record { 0 = n }) m) n
+
+abbrev pub crate_root_of : Option (Option ℕ) → Option (Option CrateId)
+crate_root_of n = option_map (λ m. option_map (λ n. record { 0 = n }) m) n
+
+abbrev pub frame_of : Option ℕ → Option ℕ → Option (Option MacroDefId) → Option (Option CrateId) → Option Context
+frame_of (Some parent) (Some opaque) (Some outer) (Some root) = Some (record {
+  parent = record { 0 = parent };
+  opaque = record { 0 = opaque };
+  outer_macro = outer;
+  crate_root = root;
+})
+frame_of _ _ _ _ = None
 
 -- [context, parent, opaque, macro or null, whether its names are local to the macro, crate or null]
 abbrev pub context_of : Option Items → Option (CtxId × Context)
-context_of (Some (item c (item p (item o (item m (item _ (item r no_items)))))))
-    = context_said (small_of c) (small_of p) (small_of o) (number_or_null m) (number_or_null r)
+context_of (Some (item c (item p (item o (item m (item l (item r no_items))))))) = both (context_id_of (small_of c))
+    (frame_of (small_of p) (small_of o) (outer_macro_of (number_or_null m)) (crate_root_of (number_or_null r)))
 context_of _ = None
 
 abbrev pub with_entry : {K T : Type 0} → (List (K × T) → K → T → List (K × T)) → Option (K × T) → List (K × T) → List (K × T)

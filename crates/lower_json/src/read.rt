@@ -35,7 +35,7 @@ fn group(root: Root) -> Group
 fn parse(alloc: Global, text: &[u8]) -> Result<Value, ReadError>
     ensures utf8 { OnOk result (IsUtf8 text.now) }
     ensures value { IfOk result (λ v. read text.now ≡ Some (view v)) }
-    ensures fault { IfErr result (λ e. IsTextError text.now e) }
+    ensures fault { IfErr result (λ e. (want : Root) → IsTextError want text.now e) }
 {
     let Ok(text) = str::from_utf8(text) else {
         return Err(ReadError::Fault(Fault::NotJson));

@@ -6,7 +6,8 @@ ghost use Rattle.serde_json.specs.Find.{as_array, get};
 ghost use Rattle.json_faults.specs.Values.{small_of};
 ghost use Rattle.hir_env.specs.NodeMap.{with_first, with_first_pred, with_first_context};
 ghost use Rattle.lower_json.specs.Tables.{site_of, triple_of, quadruple_of, both, disabled_of, named_of, numbered_of};
-ghost use Rattle.lower_json.specs.Tables.{decision_of, decided_of, number_or_null, context_of, with_all, rows, with_tables, tables_of};
+ghost use Rattle.lower_json.specs.Tables.{decision_of, decided_of, number_or_null, with_all, rows, with_tables, tables_of};
+ghost use Rattle.lower_json.specs.Tables.{context_id_of, outer_macro_of, crate_root_of, frame_of, context_of};
 
 use hir_env::table::{Context, TableEnv};
 use hir_store::ids::{
@@ -109,20 +110,51 @@ fn number_or_null(value: &Value) -> Option<Option<u32>>
     }
 }
 
+fn context_id(value: &Value) -> Option<CtxId>
+    ensures { result ≡ context_id_of (small_of (view value.now)) }
+{
+    Some(CtxId(small(value)?))
+}
+
+fn outer_macro(value: &Value) -> Option<Option<MacroDefId>>
+    ensures { result ≡ outer_macro_of (number_or_null (view value.now)) }
+{
+    match number_or_null(value)? {
+        Some(number) => Some(Some(MacroDefId(number))),
+        None => Some(None),
+    }
+}
+
+fn crate_root(value: &Value) -> Option<Option<CrateId>>
+    ensures { result ≡ crate_root_of (number_or_null (view value.now)) }
+{
+    match number_or_null(value)? {
+        Some(number) => Some(Some(CrateId(number))),
+        None => Some(None),
+    }
+}
+
+fn frame(parent: &Value, opaque: &Value, outer: &Value, root: &Value) -> Option<Context>
+    ensures { result ≡ frame_of (small_of (view parent.now)) (small_of (view opaque.now))
+        (outer_macro_of (number_or_null (view outer.now))) (crate_root_of (number_or_null (view root.now))) }
+{
+    Some(Context {
+        parent: CtxId(small(parent)?),
+        opaque: HygieneId(small(opaque)?),
+        outer_macro: outer_macro(outer)?,
+        crate_root: crate_root(root)?,
+    })
+}
+
 /// What an entry says of a context. Whether its macro's names are local to the macro isn't asked yet.
 #[tactic(auto, using(crate::proofs::Tuples::under_six, crate::proofs::Tuples::over_six))]
 fn context_with(items: &[Value]) -> Option<(CtxId, Context)>
     ensures { result ≡ context_of (Some (items_view items.now)) }
 {
     match items {
-        [context, parent, opaque, outer_macro, _, crate_root] => Some((
-            CtxId(small(context)?),
-            Context {
-                parent: CtxId(small(parent)?),
-                opaque: HygieneId(small(opaque)?),
-                outer_macro: number_or_null(outer_macro)?.map(MacroDefId),
-                crate_root: number_or_null(crate_root)?.map(CrateId),
-            },
+        [context, parent, opaque, outer, _, root] => Some((
+            context_id(context)?,
+            frame(parent, opaque, outer, root)?,
         )),
         _ => None,
     }
