@@ -9,8 +9,6 @@ use Rattle.hir_syntax.specs.declared.ast.Literal.{Literal}
 use Rattle.hir_syntax.specs.declared.ast.LiteralKind.TheVariants as literal
 use Rattle.hir_store.specs.declared.hir.Rawness.{Rawness}
 use Rattle.hir_store.specs.declared.hir.Rawness.TheVariants as raw
-use Rattle.hir_store.specs.declared.hir.Mutability.{Mutability}
-use Rattle.hir_store.specs.declared.hir.Mutability.TheVariants as mutable
 use Rattle.hir_syntax.specs.declared.node.NodeId.{NodeId}
 use Rattle.hir_syntax.specs.declared.node.AstPtr.{AstPtr}
 use Rattle.hir_syntax.specs.declared.ast.Name.{Name as AstName}
@@ -29,6 +27,7 @@ use Rattle.hir_env.specs.declared.place.LoweringMode.{LoweringMode}
 use Rattle.hir_env.specs.declared.place.LoweringMode.TheVariants as mode
 use Rattle.hir_env.specs.Answers.{Answers}
 pub use Rattle.hir_env.specs.Spot.{in_file, ptr, site_of}
+pub use Rattle.hir_env.specs.Paths.{mutability}
 use Rattle.hir_env.specs.Paths.{path_or_none, read_path}
 use Rattle.hir_env.specs.Layers.{BlockReading, StmtReading, Sorts, Reader, ElseBranchLayer, ExprKindLayer, StmtKindLayer}
 use Rattle.hir_env.specs.Layers.{BlockExprLayer, ExprLayer, StmtLayer}
@@ -72,10 +71,6 @@ prefix_expr s (Some o) e = tree.unary_expr s (tree.prefix_of o) e
 abbrev pub rawness : Bool → Rawness
 rawness true = raw.RawPtr
 rawness false = raw.Ref
-
-abbrev pub mutability : Bool → Mutability
-mutability true = mutable.Mut
-mutability false = mutable.Shared
 
 -- a predicate is true unless it is known not to be
 abbrev pub truth : Option Bool → Literal

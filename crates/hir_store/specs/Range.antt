@@ -1,7 +1,9 @@
 -- Which entries an entry names, and that they exist.
 use Rattle.std.specs.Prelude.{◌≡◌, ℕ, suc, ◌≤◌, max, List, length, Option}
 use Rattle.hir_store.specs.Arenas.{past, past_option}
-use Rattle.hir_store.specs.Stored.{Stored, Store, SourceMap}
+use Rattle.hir_store.specs.Stored.{Stored, Store, SourceMap, store_of}
+use Rattle.hir_store.specs.Past.{Past, Within, past_arg, past_binding, past_bound, past_bounds, past_each, past_generic}
+use Rattle.hir_store.specs.Past.{past_lifetime_id, past_path, past_present, past_type, past_type_id, past_type_ids, past_use_args}
 use Rattle.hir_store.specs.declared.hir.Expr.{Expr}
 use Rattle.hir_store.specs.declared.hir.Expr.TheVariants as hir
 use Rattle.hir_store.specs.declared.hir.Statement.{Statement}
@@ -9,6 +11,15 @@ use Rattle.hir_store.specs.declared.hir.Statement.TheVariants as statement
 use Rattle.hir_store.specs.declared.roots.ExprRoot.{ExprRoot}
 use Rattle.hir_store.specs.declared.ids.ExprId.{ExprId}
 use Rattle.hir_store.specs.declared.ids.LabelId.{LabelId}
+use Rattle.hir_store.specs.declared.ids.TypeRefId.{TypeRefId}
+use Rattle.hir_store.specs.declared.ids.LifetimeRefId.{LifetimeRefId}
+use Rattle.hir_store.specs.declared.path.Path.{Path}
+use Rattle.hir_store.specs.declared.path.GenericArg.{GenericArg}
+use Rattle.hir_store.specs.declared.path.GenericArgs.{GenericArgs}
+use Rattle.hir_store.specs.declared.path.AssociatedTypeBinding.{AssociatedTypeBinding}
+use Rattle.hir_store.specs.declared.type_ref.UseArgRef.{UseArgRef}
+use Rattle.hir_store.specs.declared.type_ref.TypeBound.{TypeBound}
+use Rattle.hir_store.specs.declared.type_ref.TypeRef.{TypeRef}
 
 -- ---- the least number above those that are named, for each arena
 
@@ -27,6 +38,7 @@ past_root r = max (suc r.root.0) r.exprs_end.0
 
 -- the expressions that an expression names
 abbrev pub exprs_in : Expr → ℕ
+exprs_in (hir.Path p hygiene) = (past_path p).exprs
 exprs_in (hir.If c t e) = max (suc c.0) (max (suc t.0) (past_option past_expr e))
 exprs_in (hir.Block is_unsafe label id ss tail) = max (past past_statement ss) (past_option past_expr tail)
 exprs_in (hir.Loop b label source) = suc b.0
@@ -55,6 +67,15 @@ labels_in (hir.Continue label) = past_option past_label label
 labels_in (hir.Break label e) = past_option past_label label
 labels_in _ = 0
 
+-- the types and the lifetimes that it names
+abbrev pub types_in : Expr → ℕ
+types_in (hir.Path p hygiene) = (past_path p).types
+types_in _ = 0
+
+abbrev pub lifetimes_in : Expr → ℕ
+lifetimes_in (hir.Path p hygiene) = (past_path p).lifetimes
+lifetimes_in _ = 0
+
 -- ---- what is named exists
 
 abbrev pub HasNone : Stored → Unit {0} → Type 0
@@ -81,22 +102,81 @@ HasLabel s id = suc id.0 ≤ length s.labels.entries
 abbrev pub HasLabelOption : Stored → Option LabelId → Type 0
 HasLabelOption s o = past_option past_label o ≤ length s.labels.entries
 
+-- what this lies past exists
+abbrev pub Has : Stored → Past → Type 0
+Has s p = Within (store_of s) p
+
+abbrev pub HasType : Stored → TypeRefId → Type 0
+HasType s id = suc id.0 ≤ length s.types.entries
+
+abbrev pub HasTypeOption : Stored → Option TypeRefId → Type 0
+HasTypeOption s o = Has s (past_present past_type_id o)
+
+abbrev pub HasTypes : Stored → List TypeRefId → Type 0
+HasTypes s ids = Has s (past_type_ids ids)
+
+abbrev pub HasLifetime : Stored → LifetimeRefId → Type 0
+HasLifetime s id = suc id.0 ≤ length s.lifetimes.entries
+
+abbrev pub HasLifetimeOption : Stored → Option LifetimeRefId → Type 0
+HasLifetimeOption s o = Has s (past_present past_lifetime_id o)
+
+abbrev pub HasArg : Stored → GenericArg → Type 0
+HasArg s a = Has s (past_arg a)
+
+abbrev pub HasArgs : Stored → GenericArgs → Type 0
+HasArgs s a = Has s (past_generic a)
+
+abbrev pub HasArgsOption : Stored → Option GenericArgs → Type 0
+HasArgsOption s o = Has s (past_present past_generic o)
+
+abbrev pub HasBinding : Stored → AssociatedTypeBinding → Type 0
+HasBinding s b = Has s (past_binding b)
+
+abbrev pub HasBound : Stored → TypeBound → Type 0
+HasBound s b = Has s (past_bound b)
+
+abbrev pub HasBounds : Stored → List TypeBound → Type 0
+HasBounds s bs = Has s (past_bounds bs)
+
+abbrev pub HasUseArgs : Stored → List UseArgRef → Type 0
+HasUseArgs s as' = Has s (past_use_args as')
+
+abbrev pub HasPath : Stored → Path → Type 0
+HasPath s p = Has s (past_path p)
+
+abbrev pub HasPathOption : Stored → Option Path → Type 0
+HasPathOption s o = Has s (past_present past_path o)
+
+-- the parts of a type
+abbrev pub HasTypeParts : Stored → TypeRef → Type 0
+HasTypeParts s t = Has s (past_type t)
+
 -- the parts of an expression
 abbrev pub HasParts : Stored → Expr → Type 0
-HasParts s e = (exprs_in e ≤ length s.exprs.entries) × (labels_in e ≤ length s.labels.entries)
+HasParts s e =
+    (exprs_in e ≤ length s.exprs.entries) × (labels_in e ≤ length s.labels.entries)
+    × (types_in e ≤ length s.types.entries) × (lifetimes_in e ≤ length s.lifetimes.entries)
 
 -- every number in the store is in range
 pub record StoreInRange (s : Store) : Type 0 where
   pub exprs : past exprs_in s.exprs ≤ length s.exprs
   pub labels : past labels_in s.exprs ≤ length s.labels
+  pub types : past types_in s.exprs ≤ length s.types
+  pub lifetimes : past lifetimes_in s.exprs ≤ length s.lifetimes
+  pub of_types : Within s (past_each past_type s.types)
   pub roots : past past_root s.roots ≤ length s.exprs
 
 -- every number in the source map is one of the store, and each entry has its source
 pub record MapInRange (s : Store) (m : SourceMap) : Type 0 where
   pub expr_sources : length m.expr_sources ≡ length s.exprs
   pub label_sources : length m.label_sources ≡ length s.labels
+  pub type_sources : length m.type_sources ≡ length s.types
+  pub lifetime_sources : length m.lifetime_sources ≡ length s.lifetimes
   pub exprs : past (λ way. past_expr way.1) m.expr_map ≤ length s.exprs
   pub labels : past (λ way. past_label way.1) m.label_map ≤ length s.labels
+  pub types : past (λ way. suc way.1.0) m.types_map ≤ length s.types
+  pub lifetimes : past (λ way. suc way.1.0) m.lifetime_map ≤ length s.lifetimes
 
 pub record InRange (s : Store) (m : SourceMap) : Type 0 where
   pub store : StoreInRange s
@@ -104,4 +184,6 @@ pub record InRange (s : Store) (m : SourceMap) : Type 0 where
 
 -- no arena is shorter in `new` than in `old`
 abbrev pub Grows : Stored → Stored → Type 0
-Grows old new = (length old.exprs.entries ≤ length new.exprs.entries) × (length old.labels.entries ≤ length new.labels.entries)
+Grows old new =
+    (length old.exprs.entries ≤ length new.exprs.entries) × (length old.labels.entries ≤ length new.labels.entries)
+    × (length old.types.entries ≤ length new.types.entries) × (length old.lifetimes.entries ≤ length new.lifetimes.entries)
