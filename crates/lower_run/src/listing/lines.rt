@@ -32,21 +32,24 @@ fn segment_name(segment: &Option<PathSegment>) -> Option<&str> {
     }
 }
 
+fn segment_line(writer: &mut Writer, number: usize, name: &str) -> Result<(), AllocError> {
+    writer.numbered("segment ", number)?;
+    writer.word(" ")?;
+    writer.word(name)?;
+    writer.word("\n")
+}
+
 /// Adds a line for each written segment that stands for a name, the k-th with the number k, and one that says that there
 /// are no more.
 pub fn segments(writer: &mut Writer, segments: &[Option<PathSegment>]) -> Result<(), AllocError> {
     let mut number: usize = 0;
     for segment in segments {
         if let Some(name) = segment_name(segment) {
-            writer.numbered("segment ", number)?;
-            writer.word(" ")?;
-            writer.word(name)?;
-            writer.word("\n")?;
+            segment_line(writer, number, name)?;
             number += 1;
         }
     }
-    writer.numbered("segment ", number)?;
-    writer.word(" None\n")
+    segment_line(writer, number, "None")
 }
 
 /// Adds a line for each of these labels, the k-th with the number k.
