@@ -1,22 +1,14 @@
-//! The lines of paths and segments, labels and diagnostics.
+//! The lines of segments, labels and diagnostics.
 
 use super::words::{await_word, missing_body_word};
 use super::writer::Writer;
 use hir_store::diagnostics::ExpressionStoreDiagnostics;
-use hir_store::ids::{HygieneId, LabelId};
-use hir_store::path::Path;
+use hir_store::ids::LabelId;
 use hir_store::source_map::ExpressionStoreSourceMap;
 use hir_store::store::ExpressionStore;
-use hir_syntax::ast::{PathSegment, SegmentKind};
+use hir_syntax::ast::{Path, PathSegment, SegmentKind};
 use hir_syntax::node::{AstPtr, InFile};
 use std::alloc::AllocError;
-
-/// Adds the line of a path.
-pub fn path(writer: &mut Writer, path: &Path) -> Result<(), AllocError> {
-    writer.word("path ")?;
-    writer.path(path, HygieneId::ROOT)?;
-    writer.word("\n")
-}
 
 /// The name that a written segment stands for: its own, or `Self`. A keyword, `$crate` and what a text lacks stand for
 /// none.
@@ -28,27 +20,63 @@ fn segment_name(segment: &Option<PathSegment>) -> Option<&str> {
             name => Some(name),
         },
         SegmentKind::SelfTypeKw => Some("Self"),
-        SegmentKind::SelfKw | SegmentKind::CrateKw | SegmentKind::SuperKw => None,
+        SegmentKind::SelfKw
+        | SegmentKind::CrateKw
+        | SegmentKind::SuperKw
+        | SegmentKind::Qualified => None,
     }
 }
 
-fn segment_line(writer: &mut Writer, number: usize, name: &str) -> Result<(), AllocError> {
+fn segment_line(writer: &mut Writer, number: u32, name: &str) -> Result<(), AllocError> {
     writer.numbered("segment ", number)?;
     writer.word(" ")?;
     writer.word(name)?;
     writer.word("\n")
 }
 
-/// Adds a line for each written segment that stands for a name, the k-th with the number k, and one that says that there
-/// are no more.
-pub fn segments(writer: &mut Writer, segments: &[Option<PathSegment>]) -> Result<(), AllocError> {
-    let mut number: usize = 0;
+/// Adds a line for each of these segments that stands for a name, numbered from a number on, and answers the next one.
+/// A document has far fewer segments than there are numbers.
+fn segment_lines(
+    writer: &mut Writer,
+    first: u32,
+    segments: &[Option<PathSegment>],
+) -> Result<u32, AllocError> {
+    let mut number = first;
     for segment in segments {
         if let Some(name) = segment_name(segment) {
             segment_line(writer, number, name)?;
-            number += 1;
+            number = number.saturating_add(1);
         }
     }
+    Ok(number)
+}
+
+/// The segments of the trait's path in a qualified segment, and those behind it; no segments and all of them where the
+/// first one isn't qualified by a trait.
+fn trait_and_rest(path: &Path) -> (&[Option<PathSegment>], &[Option<PathSegment>]) {
+    let segments = path.segs.as_slice();
+    match segments {
+        [Some(first), rest @ ..] => match qualifying_path(first) {
+            Some(of_trait) => (of_trait.segs.as_slice(), rest),
+            None => (&[], segments),
+        },
+        _ => (&[], segments),
+    }
+}
+
+fn qualifying_path(segment: &PathSegment) -> Option<&Path> {
+    match segment.seg? {
+        SegmentKind::Qualified => segment.trait_.as_ref()?.path.as_deref(),
+        _ => None,
+    }
+}
+
+/// Adds a line for each written segment that stands for a name, the k-th with the number k, and one that says that there
+/// are no more. The segments of a trait stand in place of the one that it qualifies.
+pub fn segments(writer: &mut Writer, path: &Path) -> Result<(), AllocError> {
+    let (of_trait, rest) = trait_and_rest(path);
+    let number = segment_lines(writer, 0, of_trait)?;
+    let number = segment_lines(writer, number, rest)?;
     segment_line(writer, number, "None")
 }
 
