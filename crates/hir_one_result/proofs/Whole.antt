@@ -16,7 +16,7 @@ use Rattle.hir_one_result.proofs.TreeBlocks.{blocks_are}
 use Rattle.hir_one_result.proofs.Fits.{all_fit}
 
 -- as it is said of a source map
-lead_back : {T I : Type 0} (place : I → ℕ) (a : Sourced T I) → MapsBack place a → LeadBack place a.map a.sources
+pub lead_back : {T I : Type 0} (place : I → ℕ) (a : Sourced T I) → MapsBack place a → LeadBack place a.map a.sources
 lead_back place a h = record {
   to_source = h.to_source;
   to_entry = λ n p e. let l = h.to_entry n p e in (l.id, l.is, l.from);

@@ -1,0 +1,6 @@
+mod Counted
+mod Numbers
+mod Adding
+mod Owned
+mod Refused
+mod Whole
