@@ -26,7 +26,7 @@ abbrev pub ◌⊑◌ : List ℕ → List ℕ → Type 0
 ks ⊑ js = (k : ℕ) → times k ks ≤ times k js
 
 pub times_append : (k : ℕ) (ks js : List ℕ) → times k (ks ++ js) ≡ times k ks + times k js
-times_append k [] js = refl
+times_append k [] js = omega arith
 times_append k (i ∷ ks) js = let e = times_append k ks js in omega arith
 
 pub one_past : (k n : ℕ) → less k (suc n) ≡ same k n + less k n

@@ -1,6 +1,7 @@
-mod Counted
-mod Numbers
-mod Adding
-mod Owned
-mod Refused
-mod Whole
+pub mod Counted
+pub mod Numbers
+pub mod Adding
+pub mod Owned
+pub mod Once
+pub mod Refused
+pub mod Whole

@@ -13,6 +13,7 @@ use Rattle.hir_store.specs.declared.path.GenericArg.{GenericArg}
 use Rattle.hir_store.specs.declared.path.GenericArg.TheVariants as arg
 use Rattle.hir_store.specs.declared.path.GenericArgsParentheses.{GenericArgsParentheses}
 use Rattle.hir_store.specs.declared.path.GenericArgsParentheses.TheVariants.{No}
+use Rattle.hir_store.specs.declared.path.GenericArgsParentheses.TheVariants as parens
 use Rattle.hir_store.specs.declared.path.GenericArgs.{GenericArgs}
 use Rattle.hir_store.specs.declared.path.AssociatedTypeBinding.{AssociatedTypeBinding}
 use Rattle.hir_store.specs.declared.path.AssociatedTypeBinding.TheFolds as folds
@@ -44,7 +45,7 @@ each_push f (y ∷ xs) x k =
 
 pub each_append : {A : Type 0} (f : A → List ℕ) (xs ys : List A) (k : ℕ)
     → times k (of_each f (xs ++ ys)) ≡ times k (of_each f xs) + times k (of_each f ys)
-each_append f [] ys k = refl
+each_append f [] ys k = omega arith
 each_append f (x ∷ xs) ys k =
     let a = times_append k (f x) (of_each f xs) in
     let b = times_append k (f x) (of_each f (xs ++ ys)) in
@@ -150,14 +151,14 @@ yielded_less f l k = either (λ a. times k (of_present (of_args f) a) ≤ times 
 
 pub notation_less : (f : TypeRefId → List ℕ) (a : Option GenericArgs) (dots : Bool)
     → of_present (of_args f) (or_notation a dots) ⊑ of_present (of_args f) a
-notation_less f None true k = let e = ap (times k) (args_roll f [] false [] _) in omega arith
+notation_less f None true k = let e = ap (times k) (args_roll f [] false [] parens.ReturnTypeNotation) in omega arith
 notation_less f None false k = omega arith
 notation_less f (Some a) dots k = omega arith
 
 pub sugared_less : (f : TypeRefId → List ℕ) (t o : TypeRefId) → of_args f (sugared_args t o) ⊑ f t ++ f o
 sugared_less f t o k =
     let b = binding_of_parts output_name None (Some o) [] in
-    let e = ap (times k) (args_roll f (arg.Type_ t ∷ []) false (b ∷ []) _) in
+    let e = ap (times k) (args_roll f (arg.Type_ t ∷ []) false (b ∷ []) parens.ParenSugar) in
     let e' = ap (times k) (binding_roll f output_name None (Some o) []) in
     let x = times_append k (f t ++ []) (of_binding f b ++ []) in
     let y = times_append k (f t) [] in

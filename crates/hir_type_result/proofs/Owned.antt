@@ -186,6 +186,10 @@ super_adds w = go (one_more_super w.kind)
 self_adds : (w : PathWalk) → Correct (pure (self_read w)) (Adds (walk w) reading)
 self_adds w = adds_pure _ (λ f k. either (λ r. times k (of_reading f r) ≤ times k (of_walk f w)) (no_names w.names) (omega arith) (omega arith))
 
+at_first_adds : {p : Lowering Reading} (leading : Bool) (w : PathWalk) → Correct p (Adds (walk (at_first leading w)) reading)
+    → Correct p (Adds (walk w) reading)
+at_first_adds leading w h = adds_from (λ f. numbers.at_first_less f leading w) h
+
 bare_adds : (n : Name) (w : PathWalk) → Correct (pure (named n None w)) (Adds (walk w) reading)
 bare_adds n w = adds_pure _ (λ f. numbers.bare_less f n w)
 
@@ -194,10 +198,7 @@ trait_adds : (t : TypeRefId) (at : Pointer) (w : PathWalk) (p : Option HirPath)
 trait_adds t at w None = adds_pure Refused (λ f k. omega arith)
 trait_adds t at w (Some p) = adds_then (adds_unnamed (ty.Path p) (Some at)) (λ i. adds_pure _ (λ f. numbers.projected_less f t p w))
 
-with_bare_adds : (n : Name) (w : PathWalk) → Correct (pure (named n None w)) (Adds (walk w) reading)
-bare_adds n w = adds_pure _ (λ f. numbers.bare_less f n w)
-
-trait_adds : (t : TypeRefId) (at : Pointer) (w : PathWalk) {p : Lowering (Option HirPath)} → Correct p (Adds none maybe_path)
+with_trait_adds : (t : TypeRefId) (at : Pointer) (w : PathWalk) {p : Lowering (Option HirPath)} → Correct p (Adds none maybe_path)
     → Correct (with_trait p t at w) (Adds (beside (walk w) (a_type t)) reading)
 unfolding with_trait
 with_trait_adds t at w h = adds_then (adds_beside (beside (walk w) (a_type t)) h) (λ p. trait_adds t at w p)
@@ -298,10 +299,8 @@ mutual
 
   reading_adds : (p : Path) (w : PathWalk) → Correct (read_path p w) (Adds (walk w) reading)
   reading_adds (tree.path leading first rest use_) w =
-      whole_adds (adds_then (each_adds rest w) (λ r. proceed_adds r (λ v. first_adds leading first v))) (λ v. option_adds use_ v)
-
-  first_adds : (leading : Bool) (s : Segment) (w : PathWalk) → Correct (read_segment true s (at_first leading w)) (Adds (walk w) reading)
-  first_adds leading s w = adds_from (λ f. numbers.at_first_less f leading w) (segment_adds true s (at_first leading w))
+      whole_adds (adds_then (each_adds rest w) (λ r. proceed_adds r (λ v. at_first_adds leading v (segment_adds true first (at_first leading v)))))
+      (λ v. option_adds use_ v)
 
   option_adds : (p : OptionPath) (w : PathWalk) → Correct (read_option p w) (Adds (walk w) reading)
   option_adds tree.no_path w = adds_pure (Open w) (λ f k. omega arith)

@@ -6,25 +6,14 @@ use Rattle.hir_lower_form.specs.Builder.{fresh}
 use Rattle.hir_read_back.proofs.Now.{type_law}
 use Rattle.hir_steps.specs.Keeps.{Paired, Mapped, KeepsAll, StaysAside, KeepsAside}
 use Rattle.hir_steps.proofs.Aside.{types_keep}
-use Rattle.hir_steps.proofs.Steps.{correct_in_store}
 use Rattle.hir_one_result.specs.Laws.{Grown, GrownUnless}
 use Rattle.hir_one_result.specs.PathRoom.{type_part_size}
 use Rattle.hir_one_result.specs.Room.{Short}
-use Rattle.hir_one_result.proofs.AfterLowering.{after_lowering}
 use Rattle.hir_one_result.proofs.Fits.{types_fit}
 use Rattle.hir_one_result.proofs.Whole.{lead_back}
-use Rattle.hir_type_result.specs.Reached.{TypesReachedOnce}
 use Rattle.hir_type_result.specs.TypeResult.{TypeResults, RefusedTypes, TypeTooLarge}
-use Rattle.hir_type_result.proofs.Counted.{counted_spread}
-use Rattle.hir_type_result.proofs.Owned.{part_adds}
+use Rattle.hir_type_result.proofs.Once.{reached_once}
 use Rattle.hir_type_result.proofs.Refused.{part_aside}
-
-pub reached_once : TypesReachedOnce
-reached_once binder t b b' i paired is final stays depth le =
-    let r = after_lowering (correct_in_store (part_adds binder t)) b i b' paired is final stays in
-    let n = r.types in
-    let e = r.rel.earlier depth (omega arith) in
-    counted_spread _ _ _ (λ k. let c = e.counted k in omega arith)
 
 nothing_paired : (limit : ℕ) → Paired (fresh limit).stored
 nothing_paired limit = record { exprs = refl; labels = refl; types = refl; lifetimes = refl }
@@ -73,6 +62,6 @@ refused_types limit t fault new is =
     by : Short (type_part_size t) (fresh limit).stored → TypeTooLarge limit t
     by (inl exprs) = let none = (part_aside t).exprs in absurd (omega arith)
     by (inr (inl labels)) = let none = (part_aside t).labels in absurd (omega arith)
-    by (inr (inr (inl types))) = inl types
-    by (inr (inr (inr (inl lifetimes)))) = inr (inl lifetimes)
+    by (inr (inr (inl types))) = inl (omega (arith, types))
+    by (inr (inr (inr (inl lifetimes)))) = inr (inl (omega (arith, lifetimes)))
     by (inr (inr (inr (inr over)))) = inr (inr over)
