@@ -137,12 +137,15 @@ root_rooted e b b' i d h =
             reached_once = λ depth le. reached_once e (closed b) p.inner i lowered later ext depth le;
           };
       exprs = fits.exprs;
+      types = fits.types;
+      lifetimes = fits.lifetimes;
       roots = ap (λ rs. rs ++ root_at p.inner.stored.exprs.entries i ∷ []) kept.roots;
       more = faults.more;
       faults = faults.is;
       permuted = faults.permuted;
       blocks = blocks_are e (closed b) i p.inner paired p.is;
-      paired = record { exprs = after.exprs; labels = after.labels };
+      paired = record { exprs = after.exprs; labels = after.labels; types = after.types; lifetimes = after.lifetimes };
+      mapped = λ m. let x = kept.mapped paired m in record { types = x.types; lifetimes = x.lifetimes };
     })
 
 pub rooted_if : (e : OptionExpr) (b b' : Builder) (r : Checked ExprId) → Lowers HasExpr (root_of e) b r b' → Paired b.stored
@@ -162,7 +165,7 @@ unfolding storing.record_root
 root_whole e limit owed b' i h =
     let b = fresh_owing limit owed in
     let p = parts e b b' i h in
-    let done = root_rooted e b b' i (record { exprs = refl; labels = refl }) h in
+    let done = root_rooted e b b' i (record { exprs = refl; labels = refl; types = refl; lifetimes = refl }) h in
     let live = done.lives b'.stored (extends_refl b'.stored) in
     let P : Builder → Type 0 = λ x. OneResult (store_of x.stored) (map_of x.stored) owed e in record {
       result = subst P p.left (one_results limit owed e i p.inner p.is);

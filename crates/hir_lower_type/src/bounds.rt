@@ -4,7 +4,7 @@ ghost use Rattle.std.specs.Prelude.{◌≡◌, [], map};
 ghost use Rattle.hir_syntax.specs.declared.types.TypeBound.{out-TypeBound};
 ghost use Rattle.hir_store.specs.Range.{HasBound, HasUseArgs};
 ghost use Rattle.hir_env.specs.Paths.{binder_of, use_of};
-ghost use Rattle.hir_env.specs.Whole.{answered_bound, answered_path_type, bound_level, bounds_part, path_type_level};
+ghost use Rattle.hir_env.specs.Whole.{answered_bound, bound_level, bounds_part, path_type_level};
 ghost use Rattle.hir_lower_form.specs.Lowering.{Lowers};
 ghost use Rattle.hir_lower_form.specs.Lower as spec;
 ghost use Rattle.hir_lower_form.specs.Types as forms;
@@ -50,7 +50,7 @@ fn stored_path_bound(maybe: bool, names: Seq<Name>, ty: TypeRefId) -> TypeBound
 }
 
 /// A bound by a trait, and an error where its path is absent or refused.
-#[tactic(auto, using(crate::proofs::Bounds::path_bound_has), unfolding(hir_lower_form::specs::Types::path_bound_form))]
+#[tactic(auto, using(crate::proofs::BoundsExist::path_bound_has), unfolding(hir_lower_form::specs::Types::path_bound_form))]
 fn path_bound<P: LowerParts>(
     lowerer: &Lowerer<P>,
     state: &mut BodyBuilder,
@@ -62,7 +62,7 @@ fn path_bound<P: LowerParts>(
     requires { KidsTrait (P.can lowerer.now.parts) place node.now }
     ensures { let level = path_type_level (at_place (P.spot lowerer.now.parts) place) node.now in
         Lowers HasBound (forms.path_bound_form level.pointer maybe (binder_of written.now) (spec.lower_path level.path))
-            state.old result state.new }
+        state.old result state.new }
 {
     let Some(path) = trait_path(lowerer, state, place, node)? else {
         return Ok(TypeBound::Error);
@@ -83,9 +83,7 @@ fn use_arg(
 {
     match written {
         ast::UseArg::Name(name) => Ok(UseArgRef::Name(Name::Text(name.t.clone()?))),
-        ast::UseArg::Lifetime(written) => Ok(UseArgRef::Lifetime(lifetime(
-            state, place, written,
-        )?)),
+        ast::UseArg::Lifetime(written) => Ok(UseArgRef::Lifetime(lifetime(state, place, written)?)),
     }
 }
 

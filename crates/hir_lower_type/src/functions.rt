@@ -5,7 +5,7 @@ ghost use Rattle.hir_syntax.specs.declared.types.Param.{out-Param};
 ghost use Rattle.hir_store.specs.Range.{HasType, HasTypeOption};
 ghost use Rattle.hir_env.specs.Answered as tree;
 ghost use Rattle.hir_env.specs.Paths as of;
-ghost use Rattle.hir_env.specs.Whole.{answer_part, answered_param, answered_ret, param_level, params_part, ret_level, varargs_part};
+ghost use Rattle.hir_env.specs.Whole.{answer_part, answered_param, param_level, params_part, ret_level, varargs_part};
 ghost use Rattle.hir_lower_form.specs.Lowering.{Lowers};
 ghost use Rattle.hir_lower_form.specs.Lower as spec;
 ghost use Rattle.hir_lower_form.specs.Methods.{LowersParts, LowersType};

@@ -89,7 +89,7 @@ pub(crate) fn ref_form<P: LowerParts>(
     requires { IfPresent ((P.can lowerer.now.parts).type_ (P.spot lowerer.now.parts).place) ty.now }
     ensures { let spot = P.spot lowerer.now.parts in
         LowersType None (tree.ref_type at (option_map (lifetime_of spot.place) written.now) (mutability mut_) (type_part spot ty.now))
-            state.old result state.new }
+        state.old result state.new }
 {
     let place = lowerer.parts.place();
     let ty = lowerer.type_or_error(state, place, &None, ty)?;

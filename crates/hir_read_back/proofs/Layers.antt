@@ -17,7 +17,7 @@ use Rattle.hir_steps.proofs.Frames.{Frame}
 use Rattle.hir_steps.proofs.Steps.{Mark, Grows, Rel, Correct, correct_bind, correct_as, correct_pure}
 use Rattle.hir_steps.proofs.TypeSteps.{correct_alloc_type, AllocatedType}
 use Rattle.hir_data.specs.Data.{LifetimeData, UseData, TypeData, typed, Shape, OptionTypeData, TypesData, PathData, OptionArgsData}
-use Rattle.hir_data.specs.Data.{ArgumentsData, BindingsData, BoundData, BoundsData}
+use Rattle.hir_data.specs.Data.{ArgumentsData, BindingData, BindingsData, BoundData, BoundsData}
 use Rattle.hir_data.specs.Reading as reading
 use Rattle.hir_data.specs.Reading.{Readers, readers}
 
@@ -59,6 +59,9 @@ many_bounds final r bs = reading.bounds_layer (store_of final) (map_of final) r 
 abbrev pub arguments_before : ArgumentsData → Layer (List GenericArg) ArgumentsData
 arguments_before behind final r as' = reading.arguments_layer (store_of final) (map_of final) r as' behind
 
+abbrev pub a_binding : Layer AssociatedTypeBinding BindingData
+a_binding final r b = reading.binding_layer (store_of final) (map_of final) r b
+
 abbrev pub bindings_before : BindingsData → Layer (List AssociatedTypeBinding) BindingsData
 bindings_before behind final r bs = reading.bindings_layer (store_of final) (map_of final) r bs behind
 
@@ -79,7 +82,8 @@ pub record Reads {A D : Type 0} (layer : Layer A D) (x : D) (final : Stored) (ps
 -- ---- values
 
 -- without parts
-pub value0 : {A D : Type 0} {l : Layer A D} {x : D} (a : A) → ((final : Stored) (r : Readers) → l final r a ≡ x) → Correct (pure a) (Reads l x)
+pub value0 : {A D : Type 0} {l : Layer A D} {x : D} (a : A) → ((final : Stored) (r : Readers) → l final r a ≡ x)
+    → Correct (pure a) (Reads l x)
 value0 a e = correct_as (correct_pure a) (λ final ps m m' b g row. rw row.is (record { is = λ d le. e final (within final d) }))
 
 -- of one part
@@ -94,7 +98,8 @@ value1 con f h e = correct_as (correct_bind h (λ a. correct_pure (con a)))
 -- ---- lists
 
 -- what is pushed on a list that grows
-pub record Pushed {A : Type 0} (done : List A) (R : Rel (List A)) (final : Stored) (ps : List Frame) (m m' : Mark) (r : List A) : Type 0 where
+pub record Pushed {A : Type 0} (done : List A) (R : Rel (List A))
+    (final : Stored) (ps : List Frame) (m m' : Mark) (r : List A) : Type 0 where
   pub new : List A
   pub is : r ≡ done ++ new
   pub rel : R final ps m m' new
