@@ -1,0 +1,7 @@
+pub mod Counted
+pub mod Numbers
+pub mod Adding
+pub mod Owned
+pub mod Once
+pub mod Refused
+pub mod Whole
