@@ -1,6 +1,6 @@
 //! Types of one form.
 
-ghost use Rattle.std.specs.Prelude.{None, Some, option_map};
+ghost use Rattle.std.specs.Prelude.{◌≡◌, None, Some, option_map};
 ghost use Rattle.hir_env.specs.Answered as tree;
 ghost use Rattle.hir_env.specs.Paths.{binder_of, impl_at, lifetime_of, mutability};
 ghost use Rattle.hir_env.specs.Paths as of;
