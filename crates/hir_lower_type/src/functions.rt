@@ -4,6 +4,7 @@ ghost use Rattle.std.specs.Prelude.{◌≡◌, IfOk, false};
 ghost use Rattle.hir_syntax.specs.declared.types.Param.{out-Param};
 ghost use Rattle.hir_store.specs.Range.{HasType, HasTypeOption};
 ghost use Rattle.hir_env.specs.Answered as tree;
+ghost use Rattle.hir_env.specs.Answered.{FnHead};
 ghost use Rattle.hir_env.specs.Paths as of;
 ghost use Rattle.hir_env.specs.Whole.{answer_part, answered_param, param_level, params_part, ret_level, varargs_part};
 ghost use Rattle.hir_lower_form.specs.Lowering.{Lowers};
@@ -132,7 +133,7 @@ fn params_if_present<P: LowerParts>(
     }
 }
 
-#[tactic(auto, using(hir_env::proofs::PathLevels::param_is_level))]
+#[tactic(auto, using(crate::proofs::Params::variadic_more))]
 fn last_variadic<P: LowerParts>(lowerer: &Lowerer<P>, mut left: &[ast::Param]) -> bool
     ensures { result ≡ variadic_at (P.spot lowerer.now.parts) false left.entry.now }
 {
@@ -211,7 +212,7 @@ pub(crate) fn fn_form<P: LowerParts>(
     requires params { IfPresent (Each (λ x. KidsParam (P.can lowerer.now.parts) (P.spot lowerer.now.parts).place (out-Param x))) all.now }
     requires ret { IfPresent (KidsRet (P.can lowerer.now.parts) (P.spot lowerer.now.parts).place) ret.now }
     ensures { let spot = P.spot lowerer.now.parts in
-        let head = record { is_unsafe = is_unsafe; abi = of.abi_of written.now; is_varargs = varargs_part spot all.now } in
+        let head : FnHead = record { is_unsafe = is_unsafe; abi = of.abi_of written.now; is_varargs = varargs_part spot all.now } in
         LowersType binder.now (tree.fn_type at head (params_part spot all.now) (answer_part spot ret.now)) state.old result state.new }
 {
     let output = answer(lowerer, state, ret)?;
