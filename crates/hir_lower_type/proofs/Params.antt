@@ -1,7 +1,10 @@
 -- The parameters of a function pointer one after another: what a loop over them does.
-use Rattle.std.proofs.Common.{◌≡◌, refl, Bool, true, false, List, ◌∷◌, Some, None, Ok, Err}
+use Rattle.std.proofs.Common.{◌≡◌, ap, refl, Bool, true, false, List, ◌∷◌, Some, None, Ok, Err}
 use Rattle.std.specs.Prelude.{if◌then◌else◌}
+use Rattle.hir_syntax.specs.declared.types.Param.{Param as AstParam, out-Param}
 use Rattle.hir_store.specs.declared.ids.TypeRefId.{TypeRefId}
+use Rattle.hir_env.specs.Spot.{Spot}
+use Rattle.hir_env.proofs.PathLevels.{param_is_level}
 use Rattle.hir_env.specs.declared.place.Place.{Place}
 use Rattle.hir_env.specs.Answered as tree
 use Rattle.hir_env.specs.Answered.{Parts, OptionType}
@@ -10,7 +13,12 @@ use Rattle.hir_env.specs.Paths.{params_of}
 use Rattle.hir_lower_form.specs.Builder.{Builder}
 use Rattle.hir_lower_form.specs.Lowering.{Checked, go_on, pure}
 use Rattle.hir_lower_form.specs.Lower.{lower_parts, push_some, some, type_part}
-use Rattle.hir_lower_type.specs.Params.{lower_param}
+use Rattle.hir_lower_type.specs.Params.{lower_param, variadic_at}
+
+-- whether the last is variadic
+pub variadic_more : (at : Spot) (b : Bool) (x : AstParam) (xs : List AstParam)
+    → variadic_at at b (x ∷ xs) ≡ variadic_at at (out-Param x).variadic xs
+variadic_more at b x xs = ap (λ r. variadic_at at r.variadic xs) (param_is_level at x)
 
 typed : (done : List TypeRefId) (rest : Parts) (o : Checked TypeRefId) (c : Builder)
     → go_on o c (λ id. lower_parts (push_some done (Some id)) rest)

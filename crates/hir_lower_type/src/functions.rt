@@ -133,7 +133,7 @@ fn params_if_present<P: LowerParts>(
     }
 }
 
-#[tactic(auto, using(hir_env::proofs::PathLevels::param_is_level))]
+#[tactic(auto, using(crate::proofs::Params::variadic_more))]
 fn last_variadic<P: LowerParts>(lowerer: &Lowerer<P>, mut left: &[ast::Param]) -> bool
     ensures { result ≡ variadic_at (P.spot lowerer.now.parts) false left.entry.now }
 {
