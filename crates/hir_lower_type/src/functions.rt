@@ -11,7 +11,7 @@ ghost use Rattle.hir_lower_form.specs.Lowering.{Lowers};
 ghost use Rattle.hir_lower_form.specs.Lower as spec;
 ghost use Rattle.hir_lower_form.specs.Methods.{LowersParts, LowersType};
 ghost use Rattle.hir_lower_form.specs.Nests.{Each, IfPresent, KidsParam, KidsRet};
-ghost use Rattle.hir_lower_type.specs.Params.{lower_param, params_at, variadic_at};
+ghost use Rattle.hir_lower_type.specs.Params.{lower_param, params_at, variadic_last};
 
 use hir_lower_form::builder::BodyBuilder;
 use hir_lower_form::parts::{LowerParts, Lowerer};
@@ -133,11 +133,11 @@ fn params_if_present<P: LowerParts>(
     }
 }
 
-#[tactic(auto, using(crate::proofs::Params::variadic_more))]
-fn last_variadic<P: LowerParts>(lowerer: &Lowerer<P>, mut left: &[ast::Param]) -> bool
-    ensures { result ≡ variadic_at (P.spot lowerer.now.parts) false left.entry.now }
+fn last_variadic(all: &Seq<ast::Param>) -> bool
+    ensures { result ≡ variadic_last false all.now }
 {
     let mut variadic = false;
+    let mut left = all.as_slice();
     while let [one, rest @ ..] = left {
         variadic = one.variadic;
         left = rest;
@@ -146,12 +146,13 @@ fn last_variadic<P: LowerParts>(lowerer: &Lowerer<P>, mut left: &[ast::Param]) -
 }
 
 /// Whether the last of the parameters is variadic.
+#[tactic(auto, using(crate::proofs::Params::variadic_is))]
 fn is_varargs<P: LowerParts>(lowerer: &Lowerer<P>, all: &Option<Seq<ast::Param>>) -> bool
     ensures { result ≡ varargs_part (P.spot lowerer.now.parts) all.now }
 {
     match all {
         None => false,
-        Some(all) => last_variadic(lowerer, all.as_slice()),
+        Some(all) => last_variadic(all),
     }
 }
 
