@@ -9,7 +9,7 @@ use Rattle.hir_syntax.specs.declared.types.Type_.{Type_ as AstType_}
 use Rattle.hir_syntax.specs.declared.types.GenericArgList.{GenericArgList as AstGenericArgList}
 use Rattle.hir_store.specs.Stored.{Stored}
 use Rattle.hir_store.specs.Range.{HasExpr, HasExprOption, HasLabelOption}
-use Rattle.hir_store.specs.declared.path.AssociatedTypeBinding.{GenericArgs}
+use Rattle.hir_store.specs.declared.path.GenericArgs.{GenericArgs}
 use Rattle.hir_store.specs.declared.ids.ExprId.{ExprId}
 use Rattle.hir_store.specs.declared.ids.LabelId.{LabelId}
 use Rattle.hir_store.specs.declared.ids.TypeRefId.{TypeRefId}

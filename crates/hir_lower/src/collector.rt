@@ -7,7 +7,7 @@ ghost use Rattle.hir_env.specs.Spot.{in_file};
 ghost use Rattle.hir_env.specs.Whole.{expr_part};
 ghost use Rattle.hir_lower_form.specs.Lowering.{Lowers, SomeEnd};
 ghost use Rattle.hir_lower_form.specs.Methods.{LowersExprOpt};
-ghost use Rattle.hir_steps.specs.Keeps.{Mapped, Paired};
+ghost use Rattle.hir_steps.specs.Keeps.{Paired};
 ghost use Rattle.hir_one_result.specs.PathRoom.{whole_size};
 ghost use Rattle.hir_one_result.specs.Room.{Short, TooLarge};
 ghost use Rattle.hir_lower.specs.Calls.{Calls};
@@ -136,7 +136,7 @@ pub struct ExprCollector<'db, E: LowerEnv> {
     place: Place,
     state: BodyBuilder,
     failed: bool,
-    ghost paired: { failed ≡ false → Paired state.stored × Mapped state.stored },
+    ghost paired: { failed ≡ false → Paired state.stored },
 }
 
 impl<'db, E: LowerEnv> Drop for ExprCollector<'db, E> {
