@@ -95,8 +95,8 @@ whole_type at t = type_part at t
 abbrev pub ReadsBack : Stored → Option Path → OptionPath → Type 0
 ReadsBack new r p = (later : Stored) → Extends new later → option_map (stored_path (store_of later) (map_of later)) r ≡ written_path p
 
--- Its names are those of the written segments that bear one, where no use tree stands around it and no segment is missing, and
--- none in its trait, which has no qualified type in turn.
+-- Its names are those of the written segments that bear one, where no use tree stands around it or its trait, no segment of
+-- either is missing, and its trait has no qualified type.
 abbrev pub BearsNames : Stored → AstPath → Option Path → Type 0
 BearsNames new x None = Unit {0}
 BearsNames new x (Some p) = (later : Stored) → Extends new later → Whole x → PlainTrait (first_trait (out-Path x).segs)
