@@ -32,10 +32,10 @@ pub trait ImplTraitLower {
         ptr: AstPtr,
         bounds: Seq<TypeBound>,
     ) -> Result<TypeRefId, LowerError>
-        requires { HasBounds collector.old.state.stored bounds.entry }
+        requires { HasBounds collector.old.state.stored bounds }
         ensures calls { Calls collector.old.failed collector.old.state result collector.new.state collector.new.failed }
         ensures adds { let at = in_file collector.old.place ptr in
-            IfOk result (λ i. AddsType collector.old.state.stored collector.new.state.stored i (becomes (mode self.old) bounds.entry) at) }
+            IfOk result (λ i. AddsType collector.old.state.stored collector.new.state.stored i (becomes (mode self.old) bounds) at) }
         ensures full { IsErrOf result LowerError.Full → NoRoomForType collector.old.state.stored }
         ensures unchanged { IsErrOf result LowerError.Full → collector.new.state.stored ≡ collector.old.state.stored }
         ensures scopes { result ≢ Err LowerError.Memory → collector.new.state.scopes ≡ collector.old.state.scopes }

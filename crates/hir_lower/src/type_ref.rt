@@ -46,12 +46,12 @@ fn type_steps<E: LowerEnv>(
     inside: ModuleId,
     type_ref: InFile<Option<&ast::Type_>>,
 ) -> Result<(ExpressionStore, ExpressionStoreSourceMap, TypeRefId), LowerError>
-    ensures stores { let at = type_spot (E.answers db.now) type_ref.file_id inside in
-        let t = type_part None (whole_type at (option_copied type_ref.value)) in
+    ensures stores { let at = type_spot (E.answers db.now) type_ref.entry.file_id inside in
+        let t = type_part None (whole_type at (option_copied type_ref.entry.value)) in
         IfOk result (λ r. AnswersFromNothing t 4294967295 r.2 r.0 r.1) }
     ensures in_range { IfOk result (λ r. InRange r.0 r.1) }
-    ensures full { let at = type_spot (E.answers db.now) type_ref.file_id inside in
-        let t = type_part None (whole_type at (option_copied type_ref.value)) in
+    ensures full { let at = type_spot (E.answers db.now) type_ref.entry.file_id inside in
+        let t = type_part None (whole_type at (option_copied type_ref.entry.value)) in
         IsErrOf result LowerError.Full → RefusedAtEnd t 4294967295 }
     ensures own { result ≢ Err LowerError.Failed }
 {
@@ -89,11 +89,11 @@ pub fn lower_type_ref<E: LowerEnv>(
     inside: ModuleId,
     type_ref: InFile<Option<&ast::Type_>>,
 ) -> Result<(ExpressionStore, ExpressionStoreSourceMap, TypeRefId), LowerError>
-    ensures type_result { let at = type_spot (E.answers db.now) type_ref.file_id inside in
-        IfOk result (λ r. TypeResult r.0 r.1 r.2 (whole_type at (option_copied type_ref.value))) }
+    ensures type_result { let at = type_spot (E.answers db.now) type_ref.entry.file_id inside in
+        IfOk result (λ r. TypeResult r.0 r.1 r.2 (whole_type at (option_copied type_ref.entry.value))) }
     ensures in_range { IfOk result (λ r. InRange r.0 r.1) }
-    ensures too_large { let at = type_spot (E.answers db.now) type_ref.file_id inside in
-        IsErrOf result LowerError.Full → TypeTooLarge 4294967295 (whole_type at (option_copied type_ref.value)) }
+    ensures too_large { let at = type_spot (E.answers db.now) type_ref.entry.file_id inside in
+        IsErrOf result LowerError.Full → TypeTooLarge 4294967295 (whole_type at (option_copied type_ref.entry.value)) }
     ensures own { result ≢ Err LowerError.Failed }
 {
     type_steps(alloc, db, inside, type_ref)
