@@ -11,6 +11,7 @@ ghost use Rattle.hir_lower_form.specs.Lowering.{Lowers};
 ghost use Rattle.hir_lower_form.specs.Lower as spec;
 ghost use Rattle.hir_lower_form.specs.Methods.{LowersParts, LowersType};
 ghost use Rattle.hir_lower_form.specs.Nests.{Each, IfPresent, KidsParam, KidsRet};
+ghost use Rattle.hir_lower_type.specs.Abis.{abi_later};
 ghost use Rattle.hir_lower_type.specs.Params.{lower_param, params_at, variadic_last};
 
 use hir_lower_form::builder::BodyBuilder;
@@ -24,26 +25,12 @@ use hir_syntax::node::{AstPtr, InFile};
 use hir_syntax::{Seq, Text, ast};
 use std::alloc::AllocError;
 
-/// The ABI of this text; any other is `C`.
-fn named_abi(text: &Text) -> ExternAbi
-    ensures { result ≡ of.abi_named text.now }
+/// The ABI of this text, where it is one of the later half; any other is `C`.
+fn later_abi(text: &Text) -> ExternAbi
+    ensures { result ≡ abi_later text.now }
 {
     let text = text.as_str();
-    if text == "Rust" {
-        ExternAbi::Rust
-    } else if text == "C-unwind" {
-        ExternAbi::CUnwind
-    } else if text == "system" {
-        ExternAbi::System
-    } else if text == "system-unwind" {
-        ExternAbi::SystemUnwind
-    } else if text == "cdecl" {
-        ExternAbi::Cdecl
-    } else if text == "stdcall" {
-        ExternAbi::Stdcall
-    } else if text == "fastcall" {
-        ExternAbi::Fastcall
-    } else if text == "vectorcall" {
+    if text == "vectorcall" {
         ExternAbi::Vectorcall
     } else if text == "thiscall" {
         ExternAbi::Thiscall
@@ -59,6 +46,30 @@ fn named_abi(text: &Text) -> ExternAbi
         ExternAbi::RustCall
     } else {
         ExternAbi::C
+    }
+}
+
+/// The ABI of this text; any other is `C`.
+fn named_abi(written: &Text) -> ExternAbi
+    ensures { result ≡ of.abi_named written.now }
+{
+    let text = written.as_str();
+    if text == "Rust" {
+        ExternAbi::Rust
+    } else if text == "C-unwind" {
+        ExternAbi::CUnwind
+    } else if text == "system" {
+        ExternAbi::System
+    } else if text == "system-unwind" {
+        ExternAbi::SystemUnwind
+    } else if text == "cdecl" {
+        ExternAbi::Cdecl
+    } else if text == "stdcall" {
+        ExternAbi::Stdcall
+    } else if text == "fastcall" {
+        ExternAbi::Fastcall
+    } else {
+        later_abi(written)
     }
 }
 
