@@ -12,7 +12,7 @@ ghost use Rattle.hir_lower.specs.Roots.{RefusedAtEnd, StoresFromNothing, await_l
 use crate::collector::lower_root;
 use crate::error::LowerError;
 use hir_env::env::LowerEnv;
-use hir_env::place::{LoweringMode, Place};
+use hir_env::place::{ImplTrait, LoweringMode, Place};
 use hir_lower_form::builder::BodyBuilder;
 use hir_store::diagnostics::{AwaitLocation, ExpressionStoreDiagnostics, MissingBodyItemKind};
 use hir_store::fault::StoreFault;
@@ -130,6 +130,8 @@ fn body_steps<E: LowerEnv>(
         module_id: inside,
         mode: LoweringMode::Analysis,
         await_location: Some(await_location_of(owner)),
+        impl_trait: ImplTrait::Error,
+        in_impl: false,
     };
     let mut state = BodyBuilder::new(alloc, u32::MAX);
     match lower_item(alloc, db, place, &mut state, owner, syntax_node, body) {

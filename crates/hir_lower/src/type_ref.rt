@@ -43,21 +43,21 @@ fn lower_type_opt<E: LowerEnv>(
 fn type_steps<E: LowerEnv>(
     alloc: Global,
     db: &E,
-    module: ModuleId,
+    inside: ModuleId,
     type_ref: InFile<Option<&ast::Type_>>,
 ) -> Result<(ExpressionStore, ExpressionStoreSourceMap, TypeRefId), LowerError>
-    ensures stores { let at = type_spot (E.answers db.now) type_ref.file_id module in
+    ensures stores { let at = type_spot (E.answers db.now) type_ref.file_id inside in
         let t = type_part None (whole_type at (option_copied type_ref.value)) in
         IfOk result (λ r. AnswersFromNothing t 4294967295 r.2 r.0 r.1) }
     ensures in_range { IfOk result (λ r. InRange r.0 r.1) }
-    ensures full { let at = type_spot (E.answers db.now) type_ref.file_id module in
+    ensures full { let at = type_spot (E.answers db.now) type_ref.file_id inside in
         let t = type_part None (whole_type at (option_copied type_ref.value)) in
         IsErrOf result LowerError.Full → RefusedAtEnd t 4294967295 }
     ensures own { result ≢ Err LowerError.Failed }
 {
     let place = Place {
         file_id: type_ref.file_id,
-        module_id: module,
+        module_id: inside,
         mode: LoweringMode::Analysis,
         await_location: Some(AwaitLocation::Unknown),
         impl_trait: ImplTrait::Opaque,
@@ -86,15 +86,15 @@ fn type_steps<E: LowerEnv>(
 pub fn lower_type_ref<E: LowerEnv>(
     alloc: Global,
     db: &E,
-    module: ModuleId,
+    inside: ModuleId,
     type_ref: InFile<Option<&ast::Type_>>,
 ) -> Result<(ExpressionStore, ExpressionStoreSourceMap, TypeRefId), LowerError>
-    ensures type_result { let at = type_spot (E.answers db.now) type_ref.file_id module in
+    ensures type_result { let at = type_spot (E.answers db.now) type_ref.file_id inside in
         IfOk result (λ r. TypeResult r.0 r.1 r.2 (whole_type at (option_copied type_ref.value))) }
     ensures in_range { IfOk result (λ r. InRange r.0 r.1) }
-    ensures too_large { let at = type_spot (E.answers db.now) type_ref.file_id module in
+    ensures too_large { let at = type_spot (E.answers db.now) type_ref.file_id inside in
         IsErrOf result LowerError.Full → TypeTooLarge 4294967295 (whole_type at (option_copied type_ref.value)) }
     ensures own { result ≢ Err LowerError.Failed }
 {
-    type_steps(alloc, db, module, type_ref)
+    type_steps(alloc, db, inside, type_ref)
 }

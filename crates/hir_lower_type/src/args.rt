@@ -47,7 +47,7 @@ fn binding_form<P: LowerParts>(
     let args = lowerer.args_if_present(state, place, &node.generics)?;
     let args = or_notation(lowerer.alloc, args, node.rtn);
     let ty = lowerer.type_if_present(state, place, &node.ty)?;
-    let bounds = bounds(lowerer, state, place, node.bounds.as_slice())?;
+    let bounds = bounds(lowerer, state, place, &node.bounds)?;
     Ok(AssociatedTypeBinding::new(Name::Text(written.t.clone()?), args, ty, bounds))
 }
 

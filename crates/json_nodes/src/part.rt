@@ -2,11 +2,16 @@
 
 ghost use Rattle.std.specs.Prelude.{◌≡◌, IfOk, Option};
 ghost use Rattle.json_nodes.specs.Groups.{as_expr, as_block, as_else, as_stmt, as_path, as_segment, as_label, as_lifetime, as_name};
+ghost use Rattle.json_nodes.specs.Groups.{as_type, as_path_type, as_generic_args, as_generic_arg, as_type_arg, as_paren_args};
+ghost use Rattle.json_nodes.specs.Groups.{as_bound, as_use_arg, as_binder, as_ret, as_param, is_quoted};
 
-use hir_syntax::Boxed;
 use hir_syntax::ast::{
-    BlockExpr, ElseBranch, Expr, ExprKind, Label, Lifetime, Name, Path, PathSegment, Stmt,
+    BlockExpr, ElseBranch, Expr, ExprKind, ForBinder, GenericArg, GenericArgList, Label, Lifetime,
+    Name, Param, ParenArgs, Path, PathSegment, PathType, RetType, Stmt, Type_, TypeArg, TypeBound,
+    TypeKind, UseArg,
 };
+use hir_syntax::node::{NodeId, TextRange};
+use hir_syntax::{Boxed, Text};
 use std::alloc::{AllocError, Global};
 
 /// A part of a tree.
@@ -18,9 +23,23 @@ pub enum AnyPart {
     Stmt(Stmt),
     Path(Path),
     Segment(PathSegment),
+    Type_(Type_),
+    /// A path as a type, which may also name a trait.
+    PathType(PathType),
+    GenericArgs(GenericArgList),
+    /// A type as an argument, which may also stand in parentheses.
+    TypeArg(TypeArg),
+    GenericArg(GenericArg),
+    ParenArgs(ParenArgs),
+    Bound(TypeBound),
+    Binder(ForBinder),
+    Ret(RetType),
+    Param(Param),
     Label(Label),
     Lifetime(Lifetime),
     Name(Name),
+    /// A text in place of a lifetime or a name, with the number and the range of the node that holds it.
+    Text(NodeId, TextRange, Text),
 }
 
 impl Drop for AnyPart {
@@ -32,10 +51,31 @@ impl Drop for AnyPart {
             AnyPart::Stmt(_) => {}
             AnyPart::Path(_) => {}
             AnyPart::Segment(_) => {}
+            AnyPart::Type_(_) => {}
+            AnyPart::PathType(_) => {}
+            AnyPart::GenericArgs(_) => {}
+            AnyPart::TypeArg(_) => {}
+            AnyPart::GenericArg(_) => {}
+            AnyPart::ParenArgs(_) => {}
+            AnyPart::Bound(_) => {}
+            AnyPart::Binder(_) => {}
+            AnyPart::Ret(_) => {}
+            AnyPart::Param(_) => {}
             AnyPart::Label(_) => {}
             AnyPart::Lifetime(_) => {}
             AnyPart::Name(_) => {}
+            AnyPart::Text(_, _, _) => {}
         }
+    }
+}
+
+/// Whether a text begins with a quote, as a lifetime does.
+fn is_quoted(text: &Text) -> bool
+    ensures { result ≡ is_quoted text.now }
+{
+    match text.as_str().as_bytes() {
+        [first, ..] => *first == 39,
+        [] => false,
     }
 }
 
@@ -120,6 +160,152 @@ impl AnyPart {
         }
     }
 
+    fn into_type(self) -> Option<Type_>
+        ensures { result ≡ as_type self }
+    {
+        match self {
+            AnyPart::Type_(ty) => Some(ty),
+            AnyPart::PathType(mut ty) => Some(Type_ {
+                id: ty.id,
+                range: ty.range,
+                kind: TypeKind::PathType {
+                    path: ty.path.take(),
+                },
+            }),
+            other => {
+                drop(other);
+                None
+            }
+        }
+    }
+
+    fn into_path_type(self) -> Option<PathType>
+        ensures { result ≡ as_path_type self }
+    {
+        match self {
+            AnyPart::PathType(path_type) => Some(path_type),
+            other => {
+                drop(other);
+                None
+            }
+        }
+    }
+
+    fn into_generic_args(self) -> Option<GenericArgList>
+        ensures { result ≡ as_generic_args self }
+    {
+        match self {
+            AnyPart::GenericArgs(generic_args) => Some(generic_args),
+            other => {
+                drop(other);
+                None
+            }
+        }
+    }
+
+    fn into_type_arg(self) -> Option<TypeArg>
+        ensures { result ≡ as_type_arg self }
+    {
+        match self {
+            AnyPart::TypeArg(type_arg) => Some(type_arg),
+            other => {
+                drop(other);
+                None
+            }
+        }
+    }
+
+    fn into_generic_arg(self) -> Option<GenericArg>
+        ensures { result ≡ as_generic_arg self }
+    {
+        match self {
+            AnyPart::GenericArg(arg) => Some(arg),
+            AnyPart::TypeArg(arg) => Some(GenericArg::TypeArg(arg)),
+            other => {
+                drop(other);
+                None
+            }
+        }
+    }
+
+    fn into_paren_args(self) -> Option<ParenArgs>
+        ensures { result ≡ as_paren_args self }
+    {
+        match self {
+            AnyPart::ParenArgs(paren_args) => Some(paren_args),
+            other => {
+                drop(other);
+                None
+            }
+        }
+    }
+
+    fn into_bound(self) -> Option<TypeBound>
+        ensures { result ≡ as_bound self }
+    {
+        match self {
+            AnyPart::Bound(bound) => Some(bound),
+            other => {
+                drop(other);
+                None
+            }
+        }
+    }
+
+    fn into_binder(self) -> Option<ForBinder>
+        ensures { result ≡ as_binder self }
+    {
+        match self {
+            AnyPart::Binder(binder) => Some(binder),
+            other => {
+                drop(other);
+                None
+            }
+        }
+    }
+
+    fn into_ret(self) -> Option<RetType>
+        ensures { result ≡ as_ret self }
+    {
+        match self {
+            AnyPart::Ret(ret) => Some(ret),
+            other => {
+                drop(other);
+                None
+            }
+        }
+    }
+
+    fn into_param(self) -> Option<Param>
+        ensures { result ≡ as_param self }
+    {
+        match self {
+            AnyPart::Param(param) => Some(param),
+            other => {
+                drop(other);
+                None
+            }
+        }
+    }
+
+    fn into_use_arg(self) -> Option<UseArg>
+        ensures { result ≡ as_use_arg self }
+    {
+        match self {
+            AnyPart::Lifetime(lifetime) => Some(UseArg::Lifetime(lifetime)),
+            AnyPart::Name(name) => Some(UseArg::Name(name)),
+            AnyPart::Text(id, range, t) => Some(if is_quoted(&t) {
+                UseArg::Lifetime(Lifetime { id, range, t })
+            } else {
+                UseArg::Name(Name { id, range, t })
+            }),
+            other => {
+                drop(other);
+                None
+            }
+        }
+    }
+
     fn into_label(self) -> Option<Label>
         ensures { result ≡ as_label self }
     {
@@ -137,6 +323,7 @@ impl AnyPart {
     {
         match self {
             AnyPart::Lifetime(lifetime) => Some(lifetime),
+            AnyPart::Text(id, range, t) => Some(Lifetime { id, range, t }),
             other => {
                 drop(other);
                 None
@@ -149,6 +336,7 @@ impl AnyPart {
     {
         match self {
             AnyPart::Name(name) => Some(name),
+            AnyPart::Text(id, range, t) => Some(Name { id, range, t }),
             other => {
                 drop(other);
                 None
@@ -214,6 +402,94 @@ impl Part for PathSegment {
 
     fn from_part(_alloc: Global, part: AnyPart) -> Result<Option<PathSegment>, AllocError> {
         Ok(part.into_segment())
+    }
+}
+
+impl Part for Type_ {
+    ghost as_group = { as_type };
+
+    fn from_part(_alloc: Global, part: AnyPart) -> Result<Option<Type_>, AllocError> {
+        Ok(part.into_type())
+    }
+}
+
+impl Part for PathType {
+    ghost as_group = { as_path_type };
+
+    fn from_part(_alloc: Global, part: AnyPart) -> Result<Option<PathType>, AllocError> {
+        Ok(part.into_path_type())
+    }
+}
+
+impl Part for GenericArgList {
+    ghost as_group = { as_generic_args };
+
+    fn from_part(_alloc: Global, part: AnyPart) -> Result<Option<GenericArgList>, AllocError> {
+        Ok(part.into_generic_args())
+    }
+}
+
+impl Part for TypeArg {
+    ghost as_group = { as_type_arg };
+
+    fn from_part(_alloc: Global, part: AnyPart) -> Result<Option<TypeArg>, AllocError> {
+        Ok(part.into_type_arg())
+    }
+}
+
+impl Part for GenericArg {
+    ghost as_group = { as_generic_arg };
+
+    fn from_part(_alloc: Global, part: AnyPart) -> Result<Option<GenericArg>, AllocError> {
+        Ok(part.into_generic_arg())
+    }
+}
+
+impl Part for ParenArgs {
+    ghost as_group = { as_paren_args };
+
+    fn from_part(_alloc: Global, part: AnyPart) -> Result<Option<ParenArgs>, AllocError> {
+        Ok(part.into_paren_args())
+    }
+}
+
+impl Part for TypeBound {
+    ghost as_group = { as_bound };
+
+    fn from_part(_alloc: Global, part: AnyPart) -> Result<Option<TypeBound>, AllocError> {
+        Ok(part.into_bound())
+    }
+}
+
+impl Part for ForBinder {
+    ghost as_group = { as_binder };
+
+    fn from_part(_alloc: Global, part: AnyPart) -> Result<Option<ForBinder>, AllocError> {
+        Ok(part.into_binder())
+    }
+}
+
+impl Part for RetType {
+    ghost as_group = { as_ret };
+
+    fn from_part(_alloc: Global, part: AnyPart) -> Result<Option<RetType>, AllocError> {
+        Ok(part.into_ret())
+    }
+}
+
+impl Part for Param {
+    ghost as_group = { as_param };
+
+    fn from_part(_alloc: Global, part: AnyPart) -> Result<Option<Param>, AllocError> {
+        Ok(part.into_param())
+    }
+}
+
+impl Part for UseArg {
+    ghost as_group = { as_use_arg };
+
+    fn from_part(_alloc: Global, part: AnyPart) -> Result<Option<UseArg>, AllocError> {
+        Ok(part.into_use_arg())
     }
 }
 

@@ -9,7 +9,9 @@ ghost use Rattle.json_nodes.specs.Paths as spec;
 use crate::field::{flag, text};
 use crate::node::{Node, ReadParts};
 use crate::part::AnyPart;
-use hir_syntax::ast::{Path, PathSegment, SegmentKind};
+use hir_syntax::ast::{
+    GenericArgList, Name, ParenArgs, Path, PathSegment, PathType, RetType, SegmentKind, Type_,
+};
 use json_kinds::kind::Kind;
 use serde_json::Value;
 use std::alloc::AllocError;
@@ -24,6 +26,7 @@ fn segment_kind_of(word: &str) -> Option<SegmentKind>
         "crate" => Some(SegmentKind::CrateKw),
         "super" => Some(SegmentKind::SuperKw),
         "Self" => Some(SegmentKind::SelfTypeKw),
+        "type" => Some(SegmentKind::Qualified),
         _ => None,
     }
 }
@@ -43,7 +46,13 @@ fn segment<P: ReadParts>(node: &Node<'_, P>) -> Result<PathSegment, AllocError>
         id: node.id,
         range: node.range,
         seg: segment_kind(node.value),
-        name: node.name("name")?,
+        name: node.part::<Name>("name")?,
+        generics: node.part::<GenericArgList>("generics")?,
+        parens: node.part::<ParenArgs>("parens")?,
+        ret: node.part::<RetType>("ret")?,
+        rtn: flag(node.value, "rtn"),
+        ty: node.boxed::<Type_>("ty")?,
+        trait_: node.part::<PathType>("trait")?,
     })
 }
 
@@ -63,10 +72,7 @@ pub fn path<P: ReadParts>(node: &Node<'_, P>) -> Result<Path, AllocError>
 }
 
 /// A path or a segment.
-pub fn of_path<P: ReadParts>(
-    node: &Node<'_, P>,
-    kind: Kind,
-) -> Result<Option<AnyPart>, AllocError>
+pub fn of_path<P: ReadParts>(node: &Node<'_, P>, kind: Kind) -> Result<Option<AnyPart>, AllocError>
     requires { P.can node.now.parts.now }
     ensures { IfOk result (λ part. part ≡ spec.of_path (here P.parts node.now) kind) }
 {

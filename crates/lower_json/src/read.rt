@@ -5,7 +5,7 @@ ghost use Rattle.serde_json.specs.Read.{read};
 ghost use Rattle.serde_json.specs.View.{view};
 ghost use Rattle.json_faults.specs.Documents.{nodes};
 ghost use Rattle.json_faults.specs.Kinds.{kinds_of};
-ghost use Rattle.lower_json.specs.Documents.{group_of, document_of, first_fault, tree_of, IsDocument};
+ghost use Rattle.lower_json.specs.Documents.{group_of, is_optional, document_of, first_fault, tree_of, IsDocument};
 ghost use Rattle.lower_json.specs.Faults.{IsErrorOf, IsTextError};
 
 use crate::document::{Document, Root, Tree};
@@ -29,7 +29,15 @@ fn group(root: Root) -> Group
     match root {
         Root::Fn => Group::Fn,
         Root::Path => Group::Path,
+        Root::Type_ => Group::Type_,
     }
+}
+
+/// Whether a document may lack the root.
+fn is_optional(root: Root) -> bool
+    ensures { result ≡ is_optional root }
+{
+    matches!(root, Root::Type_)
 }
 
 fn parse(alloc: Global, text: &[u8]) -> Result<Value, ReadError>
@@ -95,7 +103,7 @@ fn read_value(alloc: Global, want: Root, document: &Value) -> Result<Document, R
     ensures document { IfOk result (λ d. d ≡ document_of want (view document.now)) }
     ensures fault { IfErr result (λ e. IsErrorOf want (view document.now) e) }
 {
-    let kinds = checked_kinds(alloc, MOST_NODES, group(want), document)?;
+    let kinds = checked_kinds(alloc, MOST_NODES, group(want), is_optional(want), document)?;
     Ok(read_document(alloc, want, kinds.as_slice(), document)?)
 }
 

@@ -4,9 +4,10 @@ use super::words::{
     binary_word, loop_word, mutability_word, rawness_word, unary_word, unsafe_word,
 };
 use hir_store::hir::{Expr, Literal, Statement};
-use hir_store::ids::{BlockId, ExprId, HygieneId, LabelId};
+use hir_store::ids::{BlockId, ExprId, HygieneId, LabelId, LifetimeRefId, TypeRefId};
 use hir_store::name::Name;
-use hir_store::path::Path;
+use hir_store::path::{AssociatedTypeBinding, GenericArg, GenericArgs, ModPath, Path, PathKind};
+use hir_store::type_ref::{TypeBound, UseArgRef};
 use std::alloc::{AllocError, Global};
 
 /// A piece of a listing.
@@ -27,6 +28,25 @@ pub enum Piece<'a> {
     Name(&'a Name),
     Path(&'a Path, HygieneId),
     Literal(&'a Literal),
+    Hygiene(HygieneId),
+    PathKind(PathKind),
+    /// A path without arguments.
+    ModPath(&'a ModPath),
+    /// What stands before the first of these names, the names, and the arguments of each.
+    Segments(&'static str, &'a [Name], &'a [Option<GenericArgs>]),
+    GenericArgs(&'a GenericArgs),
+    /// What stands before the first of these, and they; likewise below.
+    Args(&'static str, &'a [GenericArg]),
+    Bindings(&'static str, &'a [AssociatedTypeBinding]),
+    Binding(&'a AssociatedTypeBinding),
+    Type_(TypeRefId),
+    Types(&'static str, &'a [TypeRefId]),
+    Lifetime(LifetimeRefId),
+    Bounds(&'static str, &'a [TypeBound]),
+    Bound(&'a TypeBound),
+    UseArgs(&'static str, &'a [UseArgRef]),
+    /// The names of the lifetimes of a `for<..>`.
+    Binder(&'a [Name]),
 }
 
 const ABSENT: Piece<'static> = Piece::Word("-");
@@ -73,6 +93,14 @@ impl<'a> Waiting<'a> {
     /// Lets a piece wait before all others.
     pub fn push(&mut self, piece: Piece<'a>) -> Result<(), AllocError> {
         self.pieces.push(piece)?;
+        Ok(())
+    }
+
+    /// Lets these wait before all others, in their order.
+    pub fn push_all(&mut self, pieces: &[Piece<'a>]) -> Result<(), AllocError> {
+        for piece in pieces.iter().rev() {
+            self.push(*piece)?;
+        }
         Ok(())
     }
 
