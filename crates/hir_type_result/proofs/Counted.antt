@@ -1,7 +1,8 @@
 -- How often a number stands in a list.
-use Rattle.std.proofs.Common.{◌≡◌, ◌≢◌, ◌∙◌, refl, sym, ap, ℕ, zero, suc, ◌+◌, ◌<◌, ◌≤◌, Bool, true, false, if◌then◌else◌, List, [], ◌∷◌, ◌++◌, arith}
+use Rattle.std.proofs.Common.{◌≡◌, ◌≢◌, ◌∙◌, refl, sym, ap, ℕ, zero, suc, ◌+◌, ◌<◌, ◌≤◌, Bool, true, false, if◌then◌else◌, List, [], ◌∷◌}
+use Rattle.std.proofs.Common.{◌++◌, arith}
 use Rattle.hir_scope.specs.Each.{Each}
-use Rattle.hir_same_meaning.specs.Reached.{Distinct, Between, Spread}
+use Rattle.hir_same_meaning.specs.Reached.{Spread}
 
 -- 1 where they are one number
 abbrev pub same : ℕ → ℕ → ℕ

@@ -1,5 +1,5 @@
 -- The types that lists, arguments and paths name.
-use Rattle.std.proofs.Common.{◌≡◌, ◌∙◌, refl, sym, ap, ℕ, ◌+◌, ◌≤◌, Bool, true, false, if◌then◌else◌, List, [], ◌∷◌, ◌++◌, Option, Some, None, arith}
+use Rattle.std.proofs.Common.{◌≡◌, ◌∙◌, refl, ap, ℕ, ◌+◌, ◌≤◌, Bool, true, false, List, [], ◌∷◌, ◌++◌, Option, Some, None, arith}
 use Rattle.std.proofs.lemmas.List.{reverse-append}
 use Rattle.std.specs.Prelude.{reverse, map, is_none, ◌&&◌, not}
 use Rattle.hir_store.specs.Generics.{of_args as args_of_parts, of_binding as binding_of_parts, self_first}
@@ -8,7 +8,6 @@ use Rattle.hir_store.specs.declared.ids.LifetimeRefId.{LifetimeRefId}
 use Rattle.hir_store.specs.declared.name.Name.{Name}
 use Rattle.hir_store.specs.declared.name.Name.TheVariants.{Missing}
 use Rattle.hir_store.specs.declared.type_ref.TypeBound.{TypeBound}
-use Rattle.hir_store.specs.declared.type_ref.TypeBound.TheVariants as bound
 use Rattle.hir_store.specs.declared.path.GenericArg.{GenericArg}
 use Rattle.hir_store.specs.declared.path.GenericArg.TheVariants as arg
 use Rattle.hir_store.specs.declared.path.GenericArgsParentheses.{GenericArgsParentheses}
@@ -25,11 +24,13 @@ use Rattle.hir_lower_form.specs.declared.args.ArgLists.{ArgLists}
 use Rattle.hir_lower_form.specs.declared.walk.PathWalk.{PathWalk}
 use Rattle.hir_lower_form.specs.declared.walk.Reading.{Reading}
 use Rattle.hir_lower_form.specs.declared.walk.Reading.TheVariants.{Refused, Ended, Open}
-use Rattle.hir_lower_form.specs.Walks.{args_of, with_self, without_last_self, has_self, no_names, mod_path, add_trait, projected, add_name}
-use Rattle.hir_lower_form.specs.Walks.{own_path, normal_path, finished, path_read, at_first}
-use Rattle.hir_lower_form.specs.Paths.{or_notation, notation, sugared_args, output_name}
+use Rattle.hir_lower_form.specs.Walks.{args_of, with_self, without_last_self, has_self, no_names, mod_path, add_trait, projected}
+use Rattle.hir_lower_form.specs.Walks.{add_name}
+use Rattle.hir_lower_form.specs.Walks.{finished, path_read, at_first}
+use Rattle.hir_lower_form.specs.Paths.{or_notation, sugared_args, output_name}
 use Rattle.hir_lower_form.specs.Types.{add_arg, add_binding, yielded, is_none_of, stored_path_bound}
-use Rattle.hir_type_result.specs.Reached.{of_present, of_each, joined, of_arg, of_bound, binding_step, args_step, of_args, of_binding, of_lists}
+use Rattle.hir_type_result.specs.Reached.{of_present, of_each, joined, of_arg, of_bound, binding_step, args_step, of_args, of_binding}
+use Rattle.hir_type_result.specs.Reached.{of_lists}
 use Rattle.hir_type_result.specs.Reached.{of_path}
 use Rattle.hir_type_result.proofs.Counted.{times, ◌⊑◌, times_append, either}
 

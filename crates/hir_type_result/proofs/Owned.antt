@@ -1,25 +1,22 @@
 -- What is answered for a tree names types that its lowering stored, each once: by induction, a line for each kind.
-use Rattle.std.proofs.Common.{◌≡◌, refl, ap, ℕ, ◌+◌, ◌≤◌, Bool, true, false, List, [], ◌∷◌, ◌++◌, Option, Some, None, if◌then◌else◌, arith}
+use Rattle.std.proofs.Common.{ℕ, ◌≤◌, Bool, true, false, List, [], ◌∷◌, ◌++◌, Option, Some, None, arith}
 use Rattle.std.specs.Prelude.{option_map}
 use Rattle.hir_store.specs.Pointers.{Pointer}
 use Rattle.hir_store.specs.declared.hir.Mutability.{Mutability}
 use Rattle.hir_store.specs.declared.ids.TypeRefId.{TypeRefId}
-use Rattle.hir_store.specs.declared.ids.LifetimeRefId.{LifetimeRefId}
 use Rattle.hir_store.specs.declared.name.Name.{Name}
 use Rattle.hir_store.specs.declared.path.Path.{Path as HirPath}
 use Rattle.hir_store.specs.declared.path.PathKind.{PathKind}
 use Rattle.hir_store.specs.declared.path.GenericArg.TheVariants as arg
 use Rattle.hir_store.specs.declared.path.GenericArgs.{GenericArgs}
-use Rattle.hir_store.specs.declared.path.AssociatedTypeBinding.{AssociatedTypeBinding}
-use Rattle.hir_store.specs.declared.type_ref.TypeRef.{TypeRef}
 use Rattle.hir_store.specs.declared.type_ref.TypeRef.TheVariants as ty
 use Rattle.hir_store.specs.declared.type_ref.TypeBound.{TypeBound}
-use Rattle.hir_store.specs.declared.type_ref.TypeBound.TheVariants as bound
 use Rattle.hir_store.specs.declared.type_ref.UseArgRef.{UseArgRef}
 use Rattle.hir_env.specs.declared.place.ImplTrait.{ImplTrait}
 use Rattle.hir_env.specs.declared.place.ImplTrait.TheVariants as becomes
 use Rattle.hir_env.specs.Answered as tree
-use Rattle.hir_env.specs.Answered.{Binder, FnHead, Lifetime, TypeLeaf, TypeUnary, UseRead, Type_, OptionType, Parts, Path, OptionPath, Segments}
+use Rattle.hir_env.specs.Answered.{Binder, FnHead, Lifetime, TypeLeaf, TypeUnary, UseRead, Type_, OptionType, Parts, Path, OptionPath}
+use Rattle.hir_env.specs.Answered.{Segments}
 use Rattle.hir_env.specs.Answered.{Segment, SegmentArgs, OptionParens, OptionRet, OptionArgs, Args, Arg, Bounds, Bound}
 use Rattle.hir_lower_form.specs.declared.args.ArgLists.{ArgLists}
 use Rattle.hir_lower_form.specs.declared.walk.PathWalk.{PathWalk}
@@ -28,19 +25,22 @@ use Rattle.hir_lower_form.specs.declared.walk.Reading.TheVariants.{Refused, Ende
 use Rattle.hir_lower_form.specs.Lowering.{Lowering, ◌>>=◌, pure}
 use Rattle.hir_lower_form.specs.Walks.{start, at_first, no_names, self_read, super_read, one_more_super, named, path_read}
 use Rattle.hir_lower_form.specs.Paths.{proceed, whole, counted, read_trait, with_trait, parens_form, or_else, segment_args_form}
-use Rattle.hir_lower_form.specs.Types.{TypeSteps, error_type, unit_type, lower_lifetime, lower_lifetime_option, lower_use, lower_uses, over_form}
+use Rattle.hir_lower_form.specs.Types.{TypeSteps, error_type, unit_type, lower_lifetime, lower_lifetime_option, lower_use, lower_uses}
+use Rattle.hir_lower_form.specs.Types.{over_form}
 use Rattle.hir_lower_form.specs.Types.{tuple_type_form, path_type_form, ref_type_form, fn_type_form, impl_type_form, dyn_type_form}
-use Rattle.hir_lower_form.specs.Types.{stored_leaf_type, stored_over_type, path_or_error, stored_fn, stored_impl}
-use Rattle.hir_lower_form.specs.Types.{no_lists, add_arg, add_binding, yielded, binding_form, path_bound_of, path_bound_form}
+use Rattle.hir_lower_form.specs.Types.{stored_leaf_type, stored_over_type, path_or_error, stored_impl}
+use Rattle.hir_lower_form.specs.Types.{no_lists, binding_form, path_bound_of, path_bound_form}
 use Rattle.hir_lower_form.specs.Lower.{lower_type, type_part, present_type, type_or_unit, lower_parts, read_segment, read_each, read_path}
-use Rattle.hir_lower_form.specs.Lower.{read_option, lower_path, lower_segment_args, parens_part, output_part, args_part, lower_args, lower_arg}
+use Rattle.hir_lower_form.specs.Lower.{read_option, lower_path, lower_segment_args, parens_part, output_part, args_part, lower_args}
+use Rattle.hir_lower_form.specs.Lower.{lower_arg}
 use Rattle.hir_lower_form.specs.Lower.{lower_bounds, lower_bound}
 use Rattle.hir_steps.proofs.Steps.{Correct, correct_count_out}
-use Rattle.hir_type_result.specs.Reached.{of_present, of_each, of_bound, of_args, of_binding, of_path, below}
+use Rattle.hir_type_result.specs.Reached.{of_present, of_each, of_bound, of_args, of_binding, below}
 use Rattle.hir_type_result.proofs.Counted.{times, ◌⊑◌, times_append, either}
 use Rattle.hir_type_result.proofs.Numbers as numbers
 use Rattle.hir_type_result.proofs.Numbers.{of_arg_lists, of_walk, of_reading, of_read}
-use Rattle.hir_type_result.proofs.Adding.{Numbers, none, Adds, adds_pure, adds_then, adds_beside, adds_from, adds_type, adds_unnamed, adds_lifetime}
+use Rattle.hir_type_result.proofs.Adding.{Numbers, none, Adds, adds_pure, adds_then, adds_beside, adds_from, adds_type, adds_unnamed}
+use Rattle.hir_type_result.proofs.Adding.{adds_lifetime}
 
 -- what each kind of answer names
 

@@ -4,9 +4,10 @@ use Rattle.std.specs.Prelude.{is_some, not}
 use Rattle.hir_env.specs.Answered as tree
 use Rattle.hir_env.specs.Answered.{Lifetime, UseRead, Type_, OptionType, Parts, Path, OptionPath, Segments, Segment, SegmentArgs}
 use Rattle.hir_env.specs.Answered.{OptionParens, OptionRet, OptionArgs, Args, Arg, Bounds, Bound}
-use Rattle.hir_one_result.specs.Size.{Size, nothing, ◌∪◌, if_so}
+use Rattle.hir_one_result.specs.Size.{Size, ◌∪◌, if_so}
 use Rattle.hir_one_result.specs.PathRoom as room
-use Rattle.hir_one_result.specs.PathRoom.{Seen, Read, refused, ended, goes_on, before, at_first, nothing_seen, segments_read, own_read, whole_read, yields}
+use Rattle.hir_one_result.specs.PathRoom.{Seen, Read, refused, ended, goes_on, before, at_first, nothing_seen, segments_read, own_read}
+use Rattle.hir_one_result.specs.PathRoom.{whole_read, yields}
 
 pub record Aside (s : Size) : Type 0 where
   pub exprs : s.exprs ≡ 0

@@ -1,5 +1,5 @@
 -- What is stored where one type was lowered is one result of its tree.
-use Rattle.std.proofs.Common.{arith, refl, ap, subst, ℕ, None, Ok, Err, inl, inr, ◌⊎◌}
+use Rattle.std.proofs.Common.{arith, refl, ap, subst, ℕ, None, Ok, inl, inr}
 use Rattle.hir_store.proofs.Maps.{maps_back_none}
 use Rattle.hir_store.proofs.Range.{extends_refl}
 use Rattle.hir_lower_form.specs.Builder.{fresh}
