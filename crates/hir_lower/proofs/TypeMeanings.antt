@@ -13,7 +13,7 @@ use Rattle.hir_store.specs.declared.type_ref.TypeRef.{TypeRef}
 use Rattle.hir_env.specs.Spot.{Spot}
 use Rattle.hir_lower_form.specs.Builder.{Builder}
 use Rattle.hir_lower_form.specs.Lower.{type_part}
-use Rattle.hir_lower_form.specs.Lowering.{Checked, Lowers, alloc_type}
+use Rattle.hir_lower_form.specs.Lowering.{Checked, Lowers, SomeEnd, alloc_type}
 use Rattle.hir_type_result.specs.TypeResult.{TypeResult, TypeTooLarge}
 use Rattle.hir_type_result.proofs.Whole.{refused_types, type_results}
 use Rattle.hir_lower.specs.Means.{AddsType, NoRoomForType, whole_type}
@@ -60,6 +60,10 @@ module _ (b b' : Builder) (ty : TypeRef) (at : Pointer) where
       let full : e ≡ Full = cc in
       refused (nat_lt (length b.stored.types.entries) b.stored.types.limit) refl
       (sym (alloc_is b ty at) ∙ subst (λ x. alloc_type ty (Some at) b ≡ (Err x, b')) full (l other).0)
+
+  pub ends_of_type_if : (r : Checked TypeRefId) → Alone r → IsErrOf r Full → SomeEnd b'
+  ends_of_type_if (Ok i) l is = cc
+  ends_of_type_if (Err e) l is = let other : e ≢ Memory = λ m. cc in (l other).1
 
   pub no_room_if : (r : Checked TypeRefId) → Alone r → IsErrOf r Full → NoRoomForType b.stored
   no_room_if r l is = (refused_if r l is).room

@@ -114,7 +114,6 @@ fn lower_whole_path<E: LowerEnv>(
 }
 
 /// Stores a type from this node, and changes nothing else.
-#[tactic(auto, using(crate::proofs::TypeMeanings::adds_if, crate::proofs::TypeMeanings::no_room_if, crate::proofs::TypeMeanings::unchanged_if, crate::proofs::TypeMeanings::scopes_if))]
 fn add_type(state: &mut BodyBuilder, ty: TypeRef, source: InFile<AstPtr>) -> Result<TypeRefId, StoreFault>
     requires { HasTypeParts state.old.stored ty }
     ensures adds { IfOk result (λ i. AddsType state.old.stored state.new.stored i ty source) }

@@ -44,9 +44,11 @@ pub trait ImplTraitLower {
 }
 
 /// An `impl` becomes an error.
+#[derive(Clone, Copy, Debug)]
 pub struct ErrorImplTrait;
 
 /// An `impl` stays one.
+#[derive(Clone, Copy, Debug)]
 pub struct OpaqueImplTrait;
 
 impl ImplTraitLower for ErrorImplTrait {
