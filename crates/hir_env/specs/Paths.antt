@@ -287,7 +287,7 @@ module _ (env : Answers) {S : TypeSorts} (part : TypeReader S) where
   abbrev pub segment_step : PathSegmentLayer S → Place → Segment
   segment_step s p = kinded_segment env p s.seg s.name
       (tree.segment_args (arg_list_or_none part.generic_arg_list s.generics p)
-        (parens_or_none part.paren_args s.parens (ret_or_none part.ret_type s.ret p) p) s.rtn)
+      (parens_or_none part.paren_args s.parens (ret_or_none part.ret_type s.ret p) p) s.rtn)
       (type_or_none part.type_ s.ty p) (path_type_or_none part.path_type s.trait_ p)
 
   abbrev pub path_type_step : PathTypeLayer S → Place → PathTypeReading
