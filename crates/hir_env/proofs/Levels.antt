@@ -82,42 +82,42 @@ module _ (env : Answers) where
       written.RecordExprField written.RecordExprFieldList written.Stmt
       readings.ElseBranch readings.ExprKind readings.StmtKind readings.BlockExpr readings.Expr readings.RecordExprField
       readings.RecordExprFieldList readings.Stmt
-      rd.else_branch rd.expr_kind rd.stmt_kind rd.block_expr rd.expr rd.field rd.record rd.stmt
+      rd.else_branch rd.expr_kind rd.stmt_kind rd.block_expr rd.expr rd.field rd.field_list rd.stmt
 
   abbrev mapped_block : BlockExprLayer written → BlockExprLayer readings
   mapped_block = folds.map-BlockExpr written.ElseBranch written.ExprKind written.StmtKind written.BlockExpr written.Expr
       written.RecordExprField written.RecordExprFieldList written.Stmt
       readings.ElseBranch readings.ExprKind readings.StmtKind readings.BlockExpr readings.Expr readings.RecordExprField
       readings.RecordExprFieldList readings.Stmt
-      rd.else_branch rd.expr_kind rd.stmt_kind rd.block_expr rd.expr rd.field rd.record rd.stmt
+      rd.else_branch rd.expr_kind rd.stmt_kind rd.block_expr rd.expr rd.field rd.field_list rd.stmt
 
   abbrev mapped_stmt_kind : StmtKindLayer written → StmtKindLayer readings
   mapped_stmt_kind = folds.map-StmtKind written.ElseBranch written.ExprKind written.StmtKind written.BlockExpr written.Expr
       written.RecordExprField written.RecordExprFieldList written.Stmt
       readings.ElseBranch readings.ExprKind readings.StmtKind readings.BlockExpr readings.Expr readings.RecordExprField
       readings.RecordExprFieldList readings.Stmt
-      rd.else_branch rd.expr_kind rd.stmt_kind rd.block_expr rd.expr rd.field rd.record rd.stmt
+      rd.else_branch rd.expr_kind rd.stmt_kind rd.block_expr rd.expr rd.field rd.field_list rd.stmt
 
   abbrev mapped_else : ElseBranchLayer written → ElseBranchLayer readings
   mapped_else = folds.map-ElseBranch written.ElseBranch written.ExprKind written.StmtKind written.BlockExpr written.Expr
       written.RecordExprField written.RecordExprFieldList written.Stmt
       readings.ElseBranch readings.ExprKind readings.StmtKind readings.BlockExpr readings.Expr readings.RecordExprField
       readings.RecordExprFieldList readings.Stmt
-      rd.else_branch rd.expr_kind rd.stmt_kind rd.block_expr rd.expr rd.field rd.record rd.stmt
+      rd.else_branch rd.expr_kind rd.stmt_kind rd.block_expr rd.expr rd.field rd.field_list rd.stmt
 
   abbrev mapped_field : RecordExprFieldLayer written → RecordExprFieldLayer readings
   mapped_field = folds.map-RecordExprField written.ElseBranch written.ExprKind written.StmtKind written.BlockExpr written.Expr
       written.RecordExprField written.RecordExprFieldList written.Stmt
       readings.ElseBranch readings.ExprKind readings.StmtKind readings.BlockExpr readings.Expr readings.RecordExprField
       readings.RecordExprFieldList readings.Stmt
-      rd.else_branch rd.expr_kind rd.stmt_kind rd.block_expr rd.expr rd.field rd.record rd.stmt
+      rd.else_branch rd.expr_kind rd.stmt_kind rd.block_expr rd.expr rd.field rd.field_list rd.stmt
 
   abbrev mapped_record : RecordExprFieldListLayer written → RecordExprFieldListLayer readings
   mapped_record = folds.map-RecordExprFieldList written.ElseBranch written.ExprKind written.StmtKind written.BlockExpr
       written.Expr written.RecordExprField written.RecordExprFieldList written.Stmt
       readings.ElseBranch readings.ExprKind readings.StmtKind readings.BlockExpr readings.Expr readings.RecordExprField
       readings.RecordExprFieldList readings.Stmt
-      rd.else_branch rd.expr_kind rd.stmt_kind rd.block_expr rd.expr rd.field rd.record rd.stmt
+      rd.else_branch rd.expr_kind rd.stmt_kind rd.block_expr rd.expr rd.field rd.field_list rd.stmt
 
   expr_at_is : (k : ExprKindLayer written) (p : Place) (s : Pointer) → of.expr_at env itself (mapped_kind k) p s ≡ of.expr_at env rd k p s
   expr_at_is (ExprKind-F.IfExpr c t e) p s = λ j.
@@ -151,7 +151,7 @@ module _ (env : Answers) where
   expr_at_is (ExprKind-F.YeetExpr e) p s = λ j. tree.leaving_expr s tree.yeeting (expr_is rd.expr e p j)
   expr_at_is (ExprKind-F.AwaitExpr e) p s = λ j. tree.await_expr s p.await_location (expr_is rd.expr e p j)
   expr_at_is (ExprKind-F.CastExpr e t) p s = λ j. tree.cast_expr s (expr_is rd.expr e p j) (type_or_none (read_type env) t p)
-  expr_at_is (ExprKind-F.RecordExpr x l) p s = λ j. let r = record_is rd.record l p j in
+  expr_at_is (ExprKind-F.RecordExpr x l) p s = λ j. let r = record_is rd.field_list l p j in
       tree.record_expr s (path_or_none (read_path env) x p) r.fields r.spread
   expr_at_is (ExprKind-F.OffsetOfExpr t ns) p s = refl
   expr_at_is (ExprKind-F.CfgPredExpr pred) p s = refl

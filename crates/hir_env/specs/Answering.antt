@@ -190,7 +190,7 @@ module _ (env : Answers) {S : Sorts} (part : Reader S) where
   expr_at (ExprKind-F.YeetExpr e) p s = tree.leaving_expr s tree.yeeting (expr_or_none part.expr e p)
   expr_at (ExprKind-F.AwaitExpr e) p s = tree.await_expr s p.await_location (expr_or_none part.expr e p)
   expr_at (ExprKind-F.CastExpr e t) p s = tree.cast_expr s (expr_or_none part.expr e p) (type_or_none (read_type env) t p)
-  expr_at (ExprKind-F.RecordExpr x l) p s = let r = record_or_empty part.record l p in
+  expr_at (ExprKind-F.RecordExpr x l) p s = let r = record_or_empty part.field_list l p in
       tree.record_expr s (path_or_none (read_path env) x p) r.fields r.spread
   expr_at (ExprKind-F.OffsetOfExpr t ns) p s = tree.offset_of_expr s (type_or_none (read_type env) t p) (names_of ns)
   expr_at (ExprKind-F.CfgPredExpr pred) p s = tree.literal_expr s (truth (env.cfg_pred pred))

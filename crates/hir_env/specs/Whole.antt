@@ -120,7 +120,7 @@ module _ (env : Answers) where
     block_expr = read_block;
     expr = read_expr;
     field = read_field;
-    record = read_record;
+    field_list = read_record;
     stmt = read_stmt;
   }
 
