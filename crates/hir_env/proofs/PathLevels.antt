@@ -4,12 +4,12 @@ use Rattle.std.specs.Prelude.{option_map, map, if◌then◌else◌}
 use Rattle.hir_syntax.specs.declared.node.AstPtr.{AstPtr}
 use Rattle.hir_syntax.specs.declared.types.GenericArg.{GenericArg as AstGenericArg, out-GenericArg}
 use Rattle.hir_syntax.specs.declared.types.TypeKind.{TypeKind as AstTypeKind, out-TypeKind}
+use Rattle.hir_syntax.specs.declared.ast.Path.{Path as AstPath, out-Path}
+use Rattle.hir_syntax.specs.declared.ast.PathSegment.{PathSegment as AstPathSegment, out-PathSegment}
 use Rattle.hir_syntax.specs.declared.types.AssocTypeArg.{AssocTypeArg as AstAssocTypeArg, out-AssocTypeArg}
 use Rattle.hir_syntax.specs.declared.types.GenericArgList.{GenericArgList as AstGenericArgList, out-GenericArgList}
 use Rattle.hir_syntax.specs.declared.types.Param.{Param as AstParam, out-Param}
 use Rattle.hir_syntax.specs.declared.types.ParenArgs.{ParenArgs as AstParenArgs, out-ParenArgs}
-use Rattle.hir_syntax.specs.declared.ast.Path.{Path as AstPath, out-Path}
-use Rattle.hir_syntax.specs.declared.ast.PathSegment.{PathSegment as AstPathSegment, out-PathSegment}
 use Rattle.hir_syntax.specs.declared.types.PathType.{PathType as AstPathType, out-PathType}
 use Rattle.hir_syntax.specs.declared.types.RetType.{RetType as AstRetType, out-RetType}
 use Rattle.hir_syntax.specs.declared.types.TypeArg.{TypeArg as AstTypeArg, out-TypeArg}
@@ -23,13 +23,13 @@ use Rattle.hir_store.specs.Pointers.{Pointer}
 use Rattle.hir_env.specs.declared.place.Place.{Place}
 use Rattle.hir_env.specs.Answers.{Answers}
 use Rattle.hir_env.specs.Spot.{Spot, in_file, ptr}
-use Rattle.hir_env.specs.TypeLayers.{ParamReading, PathTypeReading, TypeReader, GenericArgLayer, TypeKindLayer, AssocTypeArgLayer}
-use Rattle.hir_env.specs.TypeLayers.{GenericArgListLayer, ParamLayer, ParenArgsLayer, PathLayer, PathSegmentLayer, PathTypeLayer}
-use Rattle.hir_env.specs.TypeLayers.{RetTypeLayer, TypeArgLayer, TypeBoundLayer, type_readings, type_itself}
+use Rattle.hir_env.specs.TypeLayers.{ParamReading, PathTypeReading, TypeReader, GenericArgLayer, TypeKindLayer, PathLayer}
+use Rattle.hir_env.specs.TypeLayers.{PathSegmentLayer, AssocTypeArgLayer, GenericArgListLayer, ParamLayer, ParenArgsLayer}
+use Rattle.hir_env.specs.TypeLayers.{PathTypeLayer, RetTypeLayer, TypeArgLayer, TypeBoundLayer, type_readings, type_itself}
 use Rattle.hir_env.specs.Paths as of
-use Rattle.hir_env.specs.Paths.{written_types, read_generic_arg, read_type_kind, read_assoc_type_arg, read_generic_arg_list}
-use Rattle.hir_env.specs.Paths.{read_param, read_paren_args, read_path, read_segment, read_path_type, read_ret_type}
-use Rattle.hir_env.specs.Paths.{read_type_arg, read_type_bound, read_type, type_reader}
+use Rattle.hir_env.specs.Paths.{written_types, read_generic_arg, read_type_kind, read_path, read_segment, read_assoc_type_arg}
+use Rattle.hir_env.specs.Paths.{read_generic_arg_list, read_param, read_paren_args, read_path_type, read_ret_type, read_type_arg}
+use Rattle.hir_env.specs.Paths.{read_type_bound, read_type, type_reader}
 use Rattle.hir_env.specs.Answered as tree
 use Rattle.hir_env.specs.Answered.{Type_, OptionType, Parts, Path, OptionPath, Segments, Segment}
 use Rattle.hir_env.specs.Answered.{OptionParens, OptionRet, OptionArgs, Args, Arg, Bounds, Bound}
@@ -53,10 +53,10 @@ listed {A} {B} h xs = (seq.the_former (this {0})).map A B h xs
 
 abbrev listed_options : {A B : Type 0} → (A → B) → List (Option A) → List (Option B)
 listed_options {A} {B} h xs = (folds.map-Path
-    (Unit {0}) (Unit {0}) (Unit {0}) (Unit {0}) (Unit {0}) (Unit {0}) (Unit {0}) A (Unit {0}) (Unit {0}) (Unit {0}) (Unit {0})
-    (Unit {0}) (Unit {0}) (Unit {0}) (Unit {0}) (Unit {0}) (Unit {0}) (Unit {0}) (Unit {0}) B (Unit {0}) (Unit {0}) (Unit {0})
+    (Unit {0}) (Unit {0}) (Unit {0}) A (Unit {0}) (Unit {0}) (Unit {0}) (Unit {0}) (Unit {0}) (Unit {0}) (Unit {0}) (Unit {0})
+    (Unit {0}) (Unit {0}) (Unit {0}) (Unit {0}) B (Unit {0}) (Unit {0}) (Unit {0}) (Unit {0}) (Unit {0}) (Unit {0}) (Unit {0})
     (Unit {0}) (Unit {0})
-    (λ x. x) (λ x. x) (λ x. x) (λ x. x) (λ x. x) (λ x. x) (λ x. x) h (λ x. x) (λ x. x) (λ x. x) (λ x. x) (λ x. x)
+    (λ x. x) (λ x. x) (λ x. x) h (λ x. x) (λ x. x) (λ x. x) (λ x. x) (λ x. x) (λ x. x) (λ x. x) (λ x. x) (λ x. x)
     (record { id = record { 0 = 0 }; range = record { start = 0; end = 0 }; leading = false; use_ = None; segs = xs })).segs
 
 type_is : {A : Type 0} (h : A → Place → Type_) (x : Option A) (p : Place)
@@ -147,134 +147,134 @@ module _ (env : Answers) where
 
   abbrev mapped_generic_arg : GenericArgLayer written_types → GenericArgLayer type_readings
   mapped_generic_arg = folds.map-GenericArg
-      written_types.GenericArg written_types.TypeKind written_types.AssocTypeArg written_types.GenericArgList written_types.Param
-      written_types.ParenArgs written_types.Path written_types.PathSegment written_types.PathType written_types.RetType
+      written_types.GenericArg written_types.TypeKind written_types.Path written_types.PathSegment written_types.AssocTypeArg
+      written_types.GenericArgList written_types.Param written_types.ParenArgs written_types.PathType written_types.RetType
       written_types.TypeArg written_types.TypeBound written_types.Type_
-      type_readings.GenericArg type_readings.TypeKind type_readings.AssocTypeArg type_readings.GenericArgList type_readings.Param
-      type_readings.ParenArgs type_readings.Path type_readings.PathSegment type_readings.PathType type_readings.RetType
+      type_readings.GenericArg type_readings.TypeKind type_readings.Path type_readings.PathSegment type_readings.AssocTypeArg
+      type_readings.GenericArgList type_readings.Param type_readings.ParenArgs type_readings.PathType type_readings.RetType
       type_readings.TypeArg type_readings.TypeBound type_readings.Type_
-      rd.generic_arg rd.type_kind rd.assoc_type_arg rd.generic_arg_list rd.param rd.paren_args rd.path rd.segment rd.path_type
+      rd.generic_arg rd.type_kind rd.path rd.segment rd.assoc_type_arg rd.generic_arg_list rd.param rd.paren_args rd.path_type
       rd.ret_type rd.type_arg rd.type_bound rd.type_
 
   abbrev mapped_type_kind : TypeKindLayer written_types → TypeKindLayer type_readings
   mapped_type_kind = folds.map-TypeKind
-      written_types.GenericArg written_types.TypeKind written_types.AssocTypeArg written_types.GenericArgList written_types.Param
-      written_types.ParenArgs written_types.Path written_types.PathSegment written_types.PathType written_types.RetType
+      written_types.GenericArg written_types.TypeKind written_types.Path written_types.PathSegment written_types.AssocTypeArg
+      written_types.GenericArgList written_types.Param written_types.ParenArgs written_types.PathType written_types.RetType
       written_types.TypeArg written_types.TypeBound written_types.Type_
-      type_readings.GenericArg type_readings.TypeKind type_readings.AssocTypeArg type_readings.GenericArgList type_readings.Param
-      type_readings.ParenArgs type_readings.Path type_readings.PathSegment type_readings.PathType type_readings.RetType
+      type_readings.GenericArg type_readings.TypeKind type_readings.Path type_readings.PathSegment type_readings.AssocTypeArg
+      type_readings.GenericArgList type_readings.Param type_readings.ParenArgs type_readings.PathType type_readings.RetType
       type_readings.TypeArg type_readings.TypeBound type_readings.Type_
-      rd.generic_arg rd.type_kind rd.assoc_type_arg rd.generic_arg_list rd.param rd.paren_args rd.path rd.segment rd.path_type
-      rd.ret_type rd.type_arg rd.type_bound rd.type_
-
-  abbrev mapped_assoc_type_arg : AssocTypeArgLayer written_types → AssocTypeArgLayer type_readings
-  mapped_assoc_type_arg = folds.map-AssocTypeArg
-      written_types.GenericArg written_types.TypeKind written_types.AssocTypeArg written_types.GenericArgList written_types.Param
-      written_types.ParenArgs written_types.Path written_types.PathSegment written_types.PathType written_types.RetType
-      written_types.TypeArg written_types.TypeBound written_types.Type_
-      type_readings.GenericArg type_readings.TypeKind type_readings.AssocTypeArg type_readings.GenericArgList type_readings.Param
-      type_readings.ParenArgs type_readings.Path type_readings.PathSegment type_readings.PathType type_readings.RetType
-      type_readings.TypeArg type_readings.TypeBound type_readings.Type_
-      rd.generic_arg rd.type_kind rd.assoc_type_arg rd.generic_arg_list rd.param rd.paren_args rd.path rd.segment rd.path_type
-      rd.ret_type rd.type_arg rd.type_bound rd.type_
-
-  abbrev mapped_generic_arg_list : GenericArgListLayer written_types → GenericArgListLayer type_readings
-  mapped_generic_arg_list = folds.map-GenericArgList
-      written_types.GenericArg written_types.TypeKind written_types.AssocTypeArg written_types.GenericArgList written_types.Param
-      written_types.ParenArgs written_types.Path written_types.PathSegment written_types.PathType written_types.RetType
-      written_types.TypeArg written_types.TypeBound written_types.Type_
-      type_readings.GenericArg type_readings.TypeKind type_readings.AssocTypeArg type_readings.GenericArgList type_readings.Param
-      type_readings.ParenArgs type_readings.Path type_readings.PathSegment type_readings.PathType type_readings.RetType
-      type_readings.TypeArg type_readings.TypeBound type_readings.Type_
-      rd.generic_arg rd.type_kind rd.assoc_type_arg rd.generic_arg_list rd.param rd.paren_args rd.path rd.segment rd.path_type
-      rd.ret_type rd.type_arg rd.type_bound rd.type_
-
-  abbrev mapped_param : ParamLayer written_types → ParamLayer type_readings
-  mapped_param = folds.map-Param
-      written_types.GenericArg written_types.TypeKind written_types.AssocTypeArg written_types.GenericArgList written_types.Param
-      written_types.ParenArgs written_types.Path written_types.PathSegment written_types.PathType written_types.RetType
-      written_types.TypeArg written_types.TypeBound written_types.Type_
-      type_readings.GenericArg type_readings.TypeKind type_readings.AssocTypeArg type_readings.GenericArgList type_readings.Param
-      type_readings.ParenArgs type_readings.Path type_readings.PathSegment type_readings.PathType type_readings.RetType
-      type_readings.TypeArg type_readings.TypeBound type_readings.Type_
-      rd.generic_arg rd.type_kind rd.assoc_type_arg rd.generic_arg_list rd.param rd.paren_args rd.path rd.segment rd.path_type
-      rd.ret_type rd.type_arg rd.type_bound rd.type_
-
-  abbrev mapped_paren_args : ParenArgsLayer written_types → ParenArgsLayer type_readings
-  mapped_paren_args = folds.map-ParenArgs
-      written_types.GenericArg written_types.TypeKind written_types.AssocTypeArg written_types.GenericArgList written_types.Param
-      written_types.ParenArgs written_types.Path written_types.PathSegment written_types.PathType written_types.RetType
-      written_types.TypeArg written_types.TypeBound written_types.Type_
-      type_readings.GenericArg type_readings.TypeKind type_readings.AssocTypeArg type_readings.GenericArgList type_readings.Param
-      type_readings.ParenArgs type_readings.Path type_readings.PathSegment type_readings.PathType type_readings.RetType
-      type_readings.TypeArg type_readings.TypeBound type_readings.Type_
-      rd.generic_arg rd.type_kind rd.assoc_type_arg rd.generic_arg_list rd.param rd.paren_args rd.path rd.segment rd.path_type
+      rd.generic_arg rd.type_kind rd.path rd.segment rd.assoc_type_arg rd.generic_arg_list rd.param rd.paren_args rd.path_type
       rd.ret_type rd.type_arg rd.type_bound rd.type_
 
   abbrev mapped_path : PathLayer written_types → PathLayer type_readings
   mapped_path = folds.map-Path
-      written_types.GenericArg written_types.TypeKind written_types.AssocTypeArg written_types.GenericArgList written_types.Param
-      written_types.ParenArgs written_types.Path written_types.PathSegment written_types.PathType written_types.RetType
+      written_types.GenericArg written_types.TypeKind written_types.Path written_types.PathSegment written_types.AssocTypeArg
+      written_types.GenericArgList written_types.Param written_types.ParenArgs written_types.PathType written_types.RetType
       written_types.TypeArg written_types.TypeBound written_types.Type_
-      type_readings.GenericArg type_readings.TypeKind type_readings.AssocTypeArg type_readings.GenericArgList type_readings.Param
-      type_readings.ParenArgs type_readings.Path type_readings.PathSegment type_readings.PathType type_readings.RetType
+      type_readings.GenericArg type_readings.TypeKind type_readings.Path type_readings.PathSegment type_readings.AssocTypeArg
+      type_readings.GenericArgList type_readings.Param type_readings.ParenArgs type_readings.PathType type_readings.RetType
       type_readings.TypeArg type_readings.TypeBound type_readings.Type_
-      rd.generic_arg rd.type_kind rd.assoc_type_arg rd.generic_arg_list rd.param rd.paren_args rd.path rd.segment rd.path_type
+      rd.generic_arg rd.type_kind rd.path rd.segment rd.assoc_type_arg rd.generic_arg_list rd.param rd.paren_args rd.path_type
       rd.ret_type rd.type_arg rd.type_bound rd.type_
 
   abbrev mapped_segment : PathSegmentLayer written_types → PathSegmentLayer type_readings
   mapped_segment = folds.map-PathSegment
-      written_types.GenericArg written_types.TypeKind written_types.AssocTypeArg written_types.GenericArgList written_types.Param
-      written_types.ParenArgs written_types.Path written_types.PathSegment written_types.PathType written_types.RetType
+      written_types.GenericArg written_types.TypeKind written_types.Path written_types.PathSegment written_types.AssocTypeArg
+      written_types.GenericArgList written_types.Param written_types.ParenArgs written_types.PathType written_types.RetType
       written_types.TypeArg written_types.TypeBound written_types.Type_
-      type_readings.GenericArg type_readings.TypeKind type_readings.AssocTypeArg type_readings.GenericArgList type_readings.Param
-      type_readings.ParenArgs type_readings.Path type_readings.PathSegment type_readings.PathType type_readings.RetType
+      type_readings.GenericArg type_readings.TypeKind type_readings.Path type_readings.PathSegment type_readings.AssocTypeArg
+      type_readings.GenericArgList type_readings.Param type_readings.ParenArgs type_readings.PathType type_readings.RetType
       type_readings.TypeArg type_readings.TypeBound type_readings.Type_
-      rd.generic_arg rd.type_kind rd.assoc_type_arg rd.generic_arg_list rd.param rd.paren_args rd.path rd.segment rd.path_type
+      rd.generic_arg rd.type_kind rd.path rd.segment rd.assoc_type_arg rd.generic_arg_list rd.param rd.paren_args rd.path_type
+      rd.ret_type rd.type_arg rd.type_bound rd.type_
+
+  abbrev mapped_assoc_type_arg : AssocTypeArgLayer written_types → AssocTypeArgLayer type_readings
+  mapped_assoc_type_arg = folds.map-AssocTypeArg
+      written_types.GenericArg written_types.TypeKind written_types.Path written_types.PathSegment written_types.AssocTypeArg
+      written_types.GenericArgList written_types.Param written_types.ParenArgs written_types.PathType written_types.RetType
+      written_types.TypeArg written_types.TypeBound written_types.Type_
+      type_readings.GenericArg type_readings.TypeKind type_readings.Path type_readings.PathSegment type_readings.AssocTypeArg
+      type_readings.GenericArgList type_readings.Param type_readings.ParenArgs type_readings.PathType type_readings.RetType
+      type_readings.TypeArg type_readings.TypeBound type_readings.Type_
+      rd.generic_arg rd.type_kind rd.path rd.segment rd.assoc_type_arg rd.generic_arg_list rd.param rd.paren_args rd.path_type
+      rd.ret_type rd.type_arg rd.type_bound rd.type_
+
+  abbrev mapped_generic_arg_list : GenericArgListLayer written_types → GenericArgListLayer type_readings
+  mapped_generic_arg_list = folds.map-GenericArgList
+      written_types.GenericArg written_types.TypeKind written_types.Path written_types.PathSegment written_types.AssocTypeArg
+      written_types.GenericArgList written_types.Param written_types.ParenArgs written_types.PathType written_types.RetType
+      written_types.TypeArg written_types.TypeBound written_types.Type_
+      type_readings.GenericArg type_readings.TypeKind type_readings.Path type_readings.PathSegment type_readings.AssocTypeArg
+      type_readings.GenericArgList type_readings.Param type_readings.ParenArgs type_readings.PathType type_readings.RetType
+      type_readings.TypeArg type_readings.TypeBound type_readings.Type_
+      rd.generic_arg rd.type_kind rd.path rd.segment rd.assoc_type_arg rd.generic_arg_list rd.param rd.paren_args rd.path_type
+      rd.ret_type rd.type_arg rd.type_bound rd.type_
+
+  abbrev mapped_param : ParamLayer written_types → ParamLayer type_readings
+  mapped_param = folds.map-Param
+      written_types.GenericArg written_types.TypeKind written_types.Path written_types.PathSegment written_types.AssocTypeArg
+      written_types.GenericArgList written_types.Param written_types.ParenArgs written_types.PathType written_types.RetType
+      written_types.TypeArg written_types.TypeBound written_types.Type_
+      type_readings.GenericArg type_readings.TypeKind type_readings.Path type_readings.PathSegment type_readings.AssocTypeArg
+      type_readings.GenericArgList type_readings.Param type_readings.ParenArgs type_readings.PathType type_readings.RetType
+      type_readings.TypeArg type_readings.TypeBound type_readings.Type_
+      rd.generic_arg rd.type_kind rd.path rd.segment rd.assoc_type_arg rd.generic_arg_list rd.param rd.paren_args rd.path_type
+      rd.ret_type rd.type_arg rd.type_bound rd.type_
+
+  abbrev mapped_paren_args : ParenArgsLayer written_types → ParenArgsLayer type_readings
+  mapped_paren_args = folds.map-ParenArgs
+      written_types.GenericArg written_types.TypeKind written_types.Path written_types.PathSegment written_types.AssocTypeArg
+      written_types.GenericArgList written_types.Param written_types.ParenArgs written_types.PathType written_types.RetType
+      written_types.TypeArg written_types.TypeBound written_types.Type_
+      type_readings.GenericArg type_readings.TypeKind type_readings.Path type_readings.PathSegment type_readings.AssocTypeArg
+      type_readings.GenericArgList type_readings.Param type_readings.ParenArgs type_readings.PathType type_readings.RetType
+      type_readings.TypeArg type_readings.TypeBound type_readings.Type_
+      rd.generic_arg rd.type_kind rd.path rd.segment rd.assoc_type_arg rd.generic_arg_list rd.param rd.paren_args rd.path_type
       rd.ret_type rd.type_arg rd.type_bound rd.type_
 
   abbrev mapped_path_type : PathTypeLayer written_types → PathTypeLayer type_readings
   mapped_path_type = folds.map-PathType
-      written_types.GenericArg written_types.TypeKind written_types.AssocTypeArg written_types.GenericArgList written_types.Param
-      written_types.ParenArgs written_types.Path written_types.PathSegment written_types.PathType written_types.RetType
+      written_types.GenericArg written_types.TypeKind written_types.Path written_types.PathSegment written_types.AssocTypeArg
+      written_types.GenericArgList written_types.Param written_types.ParenArgs written_types.PathType written_types.RetType
       written_types.TypeArg written_types.TypeBound written_types.Type_
-      type_readings.GenericArg type_readings.TypeKind type_readings.AssocTypeArg type_readings.GenericArgList type_readings.Param
-      type_readings.ParenArgs type_readings.Path type_readings.PathSegment type_readings.PathType type_readings.RetType
+      type_readings.GenericArg type_readings.TypeKind type_readings.Path type_readings.PathSegment type_readings.AssocTypeArg
+      type_readings.GenericArgList type_readings.Param type_readings.ParenArgs type_readings.PathType type_readings.RetType
       type_readings.TypeArg type_readings.TypeBound type_readings.Type_
-      rd.generic_arg rd.type_kind rd.assoc_type_arg rd.generic_arg_list rd.param rd.paren_args rd.path rd.segment rd.path_type
+      rd.generic_arg rd.type_kind rd.path rd.segment rd.assoc_type_arg rd.generic_arg_list rd.param rd.paren_args rd.path_type
       rd.ret_type rd.type_arg rd.type_bound rd.type_
 
   abbrev mapped_ret_type : RetTypeLayer written_types → RetTypeLayer type_readings
   mapped_ret_type = folds.map-RetType
-      written_types.GenericArg written_types.TypeKind written_types.AssocTypeArg written_types.GenericArgList written_types.Param
-      written_types.ParenArgs written_types.Path written_types.PathSegment written_types.PathType written_types.RetType
+      written_types.GenericArg written_types.TypeKind written_types.Path written_types.PathSegment written_types.AssocTypeArg
+      written_types.GenericArgList written_types.Param written_types.ParenArgs written_types.PathType written_types.RetType
       written_types.TypeArg written_types.TypeBound written_types.Type_
-      type_readings.GenericArg type_readings.TypeKind type_readings.AssocTypeArg type_readings.GenericArgList type_readings.Param
-      type_readings.ParenArgs type_readings.Path type_readings.PathSegment type_readings.PathType type_readings.RetType
+      type_readings.GenericArg type_readings.TypeKind type_readings.Path type_readings.PathSegment type_readings.AssocTypeArg
+      type_readings.GenericArgList type_readings.Param type_readings.ParenArgs type_readings.PathType type_readings.RetType
       type_readings.TypeArg type_readings.TypeBound type_readings.Type_
-      rd.generic_arg rd.type_kind rd.assoc_type_arg rd.generic_arg_list rd.param rd.paren_args rd.path rd.segment rd.path_type
+      rd.generic_arg rd.type_kind rd.path rd.segment rd.assoc_type_arg rd.generic_arg_list rd.param rd.paren_args rd.path_type
       rd.ret_type rd.type_arg rd.type_bound rd.type_
 
   abbrev mapped_type_arg : TypeArgLayer written_types → TypeArgLayer type_readings
   mapped_type_arg = folds.map-TypeArg
-      written_types.GenericArg written_types.TypeKind written_types.AssocTypeArg written_types.GenericArgList written_types.Param
-      written_types.ParenArgs written_types.Path written_types.PathSegment written_types.PathType written_types.RetType
+      written_types.GenericArg written_types.TypeKind written_types.Path written_types.PathSegment written_types.AssocTypeArg
+      written_types.GenericArgList written_types.Param written_types.ParenArgs written_types.PathType written_types.RetType
       written_types.TypeArg written_types.TypeBound written_types.Type_
-      type_readings.GenericArg type_readings.TypeKind type_readings.AssocTypeArg type_readings.GenericArgList type_readings.Param
-      type_readings.ParenArgs type_readings.Path type_readings.PathSegment type_readings.PathType type_readings.RetType
+      type_readings.GenericArg type_readings.TypeKind type_readings.Path type_readings.PathSegment type_readings.AssocTypeArg
+      type_readings.GenericArgList type_readings.Param type_readings.ParenArgs type_readings.PathType type_readings.RetType
       type_readings.TypeArg type_readings.TypeBound type_readings.Type_
-      rd.generic_arg rd.type_kind rd.assoc_type_arg rd.generic_arg_list rd.param rd.paren_args rd.path rd.segment rd.path_type
+      rd.generic_arg rd.type_kind rd.path rd.segment rd.assoc_type_arg rd.generic_arg_list rd.param rd.paren_args rd.path_type
       rd.ret_type rd.type_arg rd.type_bound rd.type_
 
   abbrev mapped_type_bound : TypeBoundLayer written_types → TypeBoundLayer type_readings
   mapped_type_bound = folds.map-TypeBound
-      written_types.GenericArg written_types.TypeKind written_types.AssocTypeArg written_types.GenericArgList written_types.Param
-      written_types.ParenArgs written_types.Path written_types.PathSegment written_types.PathType written_types.RetType
+      written_types.GenericArg written_types.TypeKind written_types.Path written_types.PathSegment written_types.AssocTypeArg
+      written_types.GenericArgList written_types.Param written_types.ParenArgs written_types.PathType written_types.RetType
       written_types.TypeArg written_types.TypeBound written_types.Type_
-      type_readings.GenericArg type_readings.TypeKind type_readings.AssocTypeArg type_readings.GenericArgList type_readings.Param
-      type_readings.ParenArgs type_readings.Path type_readings.PathSegment type_readings.PathType type_readings.RetType
+      type_readings.GenericArg type_readings.TypeKind type_readings.Path type_readings.PathSegment type_readings.AssocTypeArg
+      type_readings.GenericArgList type_readings.Param type_readings.ParenArgs type_readings.PathType type_readings.RetType
       type_readings.TypeArg type_readings.TypeBound type_readings.Type_
-      rd.generic_arg rd.type_kind rd.assoc_type_arg rd.generic_arg_list rd.param rd.paren_args rd.path rd.segment rd.path_type
+      rd.generic_arg rd.type_kind rd.path rd.segment rd.assoc_type_arg rd.generic_arg_list rd.param rd.paren_args rd.path_type
       rd.ret_type rd.type_arg rd.type_bound rd.type_
 
   type_at_is : (k : TypeKindLayer written_types) (p : Place) (s : Pointer)
@@ -361,185 +361,185 @@ module _ (env : Answers) where
       (option_map (of.lifetime_of p) x.lifetime) (map (of.use_of p) x.uses)
 
   read_type_kind_is : (k : AstTypeKind) (n : AstPtr) (p : Place) → read_type_kind env k n p ≡ of.type_kind_step env rd (out-TypeKind k) n p
-  unfolding read_generic_arg read_type_kind read_assoc_type_arg read_generic_arg_list read_param read_paren_args read_path
-      read_segment read_path_type read_ret_type read_type_arg read_type_bound read_type
+  unfolding read_generic_arg read_type_kind read_path read_segment read_assoc_type_arg read_generic_arg_list read_param
+      read_paren_args read_path_type read_ret_type read_type_arg read_type_bound read_type
   read_type_kind_is k n p = (λ j. folds.fold_out-TypeKind
-      type_readings.GenericArg type_readings.TypeKind type_readings.AssocTypeArg type_readings.GenericArgList type_readings.Param
-      type_readings.ParenArgs type_readings.Path type_readings.PathSegment type_readings.PathType type_readings.RetType
+      type_readings.GenericArg type_readings.TypeKind type_readings.Path type_readings.PathSegment type_readings.AssocTypeArg
+      type_readings.GenericArgList type_readings.Param type_readings.ParenArgs type_readings.PathType type_readings.RetType
       type_readings.TypeArg type_readings.TypeBound type_readings.Type_
-      (of.generic_arg_step env type_itself) (of.type_kind_step env type_itself) (of.assoc_type_arg_step env type_itself)
-      (of.generic_arg_list_step env type_itself) (of.param_step env type_itself) (of.paren_args_step env type_itself)
-      (of.path_step env type_itself) (of.segment_step env type_itself) (of.path_type_step env type_itself)
+      (of.generic_arg_step env type_itself) (of.type_kind_step env type_itself) (of.path_step env type_itself)
+      (of.segment_step env type_itself) (of.assoc_type_arg_step env type_itself) (of.generic_arg_list_step env type_itself)
+      (of.param_step env type_itself) (of.paren_args_step env type_itself) (of.path_type_step env type_itself)
       (of.ret_type_step env type_itself) (of.type_arg_step env type_itself) (of.type_bound_step env type_itself)
       (of.type_step env type_itself) k j n p)
       ∙ type_kind_step_is (out-TypeKind k) n p
 
   read_type_is : (x : AstType_) (p : Place) → read_type env x p ≡ of.type_kind_step env rd (out-TypeKind x.kind) (ptr x.id x.range) p
-  unfolding read_generic_arg read_type_kind read_assoc_type_arg read_generic_arg_list read_param read_paren_args read_path
-      read_segment read_path_type read_ret_type read_type_arg read_type_bound read_type
+  unfolding read_generic_arg read_type_kind read_path read_segment read_assoc_type_arg read_generic_arg_list read_param
+      read_paren_args read_path_type read_ret_type read_type_arg read_type_bound read_type
   read_type_is x p = (λ j. folds.fold_out-Type_
-      type_readings.GenericArg type_readings.TypeKind type_readings.AssocTypeArg type_readings.GenericArgList type_readings.Param
-      type_readings.ParenArgs type_readings.Path type_readings.PathSegment type_readings.PathType type_readings.RetType
+      type_readings.GenericArg type_readings.TypeKind type_readings.Path type_readings.PathSegment type_readings.AssocTypeArg
+      type_readings.GenericArgList type_readings.Param type_readings.ParenArgs type_readings.PathType type_readings.RetType
       type_readings.TypeArg type_readings.TypeBound type_readings.Type_
-      (of.generic_arg_step env type_itself) (of.type_kind_step env type_itself) (of.assoc_type_arg_step env type_itself)
-      (of.generic_arg_list_step env type_itself) (of.param_step env type_itself) (of.paren_args_step env type_itself)
-      (of.path_step env type_itself) (of.segment_step env type_itself) (of.path_type_step env type_itself)
+      (of.generic_arg_step env type_itself) (of.type_kind_step env type_itself) (of.path_step env type_itself)
+      (of.segment_step env type_itself) (of.assoc_type_arg_step env type_itself) (of.generic_arg_list_step env type_itself)
+      (of.param_step env type_itself) (of.paren_args_step env type_itself) (of.path_type_step env type_itself)
       (of.ret_type_step env type_itself) (of.type_arg_step env type_itself) (of.type_bound_step env type_itself)
       (of.type_step env type_itself) x j p)
       ∙ read_type_kind_is x.kind (ptr x.id x.range) p
 
   read_param_is : (x : AstParam) (p : Place) → read_param env x p ≡ of.param_step env rd (out-Param x) p
-  unfolding read_generic_arg read_type_kind read_assoc_type_arg read_generic_arg_list read_param read_paren_args read_path
-      read_segment read_path_type read_ret_type read_type_arg read_type_bound read_type
+  unfolding read_generic_arg read_type_kind read_path read_segment read_assoc_type_arg read_generic_arg_list read_param
+      read_paren_args read_path_type read_ret_type read_type_arg read_type_bound read_type
   read_param_is x p = (λ j. folds.fold_out-Param
-      type_readings.GenericArg type_readings.TypeKind type_readings.AssocTypeArg type_readings.GenericArgList type_readings.Param
-      type_readings.ParenArgs type_readings.Path type_readings.PathSegment type_readings.PathType type_readings.RetType
+      type_readings.GenericArg type_readings.TypeKind type_readings.Path type_readings.PathSegment type_readings.AssocTypeArg
+      type_readings.GenericArgList type_readings.Param type_readings.ParenArgs type_readings.PathType type_readings.RetType
       type_readings.TypeArg type_readings.TypeBound type_readings.Type_
-      (of.generic_arg_step env type_itself) (of.type_kind_step env type_itself) (of.assoc_type_arg_step env type_itself)
-      (of.generic_arg_list_step env type_itself) (of.param_step env type_itself) (of.paren_args_step env type_itself)
-      (of.path_step env type_itself) (of.segment_step env type_itself) (of.path_type_step env type_itself)
+      (of.generic_arg_step env type_itself) (of.type_kind_step env type_itself) (of.path_step env type_itself)
+      (of.segment_step env type_itself) (of.assoc_type_arg_step env type_itself) (of.generic_arg_list_step env type_itself)
+      (of.param_step env type_itself) (of.paren_args_step env type_itself) (of.path_type_step env type_itself)
       (of.ret_type_step env type_itself) (of.type_arg_step env type_itself) (of.type_bound_step env type_itself)
       (of.type_step env type_itself) x j p)
       ∙ param_step_is (out-Param x) p
 
   read_ret_type_is : (x : AstRetType) (p : Place) → read_ret_type env x p ≡ of.ret_type_step env rd (out-RetType x) p
-  unfolding read_generic_arg read_type_kind read_assoc_type_arg read_generic_arg_list read_param read_paren_args read_path
-      read_segment read_path_type read_ret_type read_type_arg read_type_bound read_type
+  unfolding read_generic_arg read_type_kind read_path read_segment read_assoc_type_arg read_generic_arg_list read_param
+      read_paren_args read_path_type read_ret_type read_type_arg read_type_bound read_type
   read_ret_type_is x p = (λ j. folds.fold_out-RetType
-      type_readings.GenericArg type_readings.TypeKind type_readings.AssocTypeArg type_readings.GenericArgList type_readings.Param
-      type_readings.ParenArgs type_readings.Path type_readings.PathSegment type_readings.PathType type_readings.RetType
+      type_readings.GenericArg type_readings.TypeKind type_readings.Path type_readings.PathSegment type_readings.AssocTypeArg
+      type_readings.GenericArgList type_readings.Param type_readings.ParenArgs type_readings.PathType type_readings.RetType
       type_readings.TypeArg type_readings.TypeBound type_readings.Type_
-      (of.generic_arg_step env type_itself) (of.type_kind_step env type_itself) (of.assoc_type_arg_step env type_itself)
-      (of.generic_arg_list_step env type_itself) (of.param_step env type_itself) (of.paren_args_step env type_itself)
-      (of.path_step env type_itself) (of.segment_step env type_itself) (of.path_type_step env type_itself)
+      (of.generic_arg_step env type_itself) (of.type_kind_step env type_itself) (of.path_step env type_itself)
+      (of.segment_step env type_itself) (of.assoc_type_arg_step env type_itself) (of.generic_arg_list_step env type_itself)
+      (of.param_step env type_itself) (of.paren_args_step env type_itself) (of.path_type_step env type_itself)
       (of.ret_type_step env type_itself) (of.type_arg_step env type_itself) (of.type_bound_step env type_itself)
       (of.type_step env type_itself) x j p)
       ∙ ret_type_step_is (out-RetType x) p
 
   read_path_is : (x : AstPath) (p : Place) → read_path env x p ≡ of.path_step env rd (out-Path x) p
-  unfolding read_generic_arg read_type_kind read_assoc_type_arg read_generic_arg_list read_param read_paren_args read_path
-      read_segment read_path_type read_ret_type read_type_arg read_type_bound read_type
+  unfolding read_generic_arg read_type_kind read_path read_segment read_assoc_type_arg read_generic_arg_list read_param
+      read_paren_args read_path_type read_ret_type read_type_arg read_type_bound read_type
   read_path_is x p = (λ j. folds.fold_out-Path
-      type_readings.GenericArg type_readings.TypeKind type_readings.AssocTypeArg type_readings.GenericArgList type_readings.Param
-      type_readings.ParenArgs type_readings.Path type_readings.PathSegment type_readings.PathType type_readings.RetType
+      type_readings.GenericArg type_readings.TypeKind type_readings.Path type_readings.PathSegment type_readings.AssocTypeArg
+      type_readings.GenericArgList type_readings.Param type_readings.ParenArgs type_readings.PathType type_readings.RetType
       type_readings.TypeArg type_readings.TypeBound type_readings.Type_
-      (of.generic_arg_step env type_itself) (of.type_kind_step env type_itself) (of.assoc_type_arg_step env type_itself)
-      (of.generic_arg_list_step env type_itself) (of.param_step env type_itself) (of.paren_args_step env type_itself)
-      (of.path_step env type_itself) (of.segment_step env type_itself) (of.path_type_step env type_itself)
+      (of.generic_arg_step env type_itself) (of.type_kind_step env type_itself) (of.path_step env type_itself)
+      (of.segment_step env type_itself) (of.assoc_type_arg_step env type_itself) (of.generic_arg_list_step env type_itself)
+      (of.param_step env type_itself) (of.paren_args_step env type_itself) (of.path_type_step env type_itself)
       (of.ret_type_step env type_itself) (of.type_arg_step env type_itself) (of.type_bound_step env type_itself)
       (of.type_step env type_itself) x j p)
       ∙ path_step_is (out-Path x) p
 
   read_segment_is : (x : AstPathSegment) (p : Place) → read_segment env x p ≡ of.segment_step env rd (out-PathSegment x) p
-  unfolding read_generic_arg read_type_kind read_assoc_type_arg read_generic_arg_list read_param read_paren_args read_path
-      read_segment read_path_type read_ret_type read_type_arg read_type_bound read_type
+  unfolding read_generic_arg read_type_kind read_path read_segment read_assoc_type_arg read_generic_arg_list read_param
+      read_paren_args read_path_type read_ret_type read_type_arg read_type_bound read_type
   read_segment_is x p = (λ j. folds.fold_out-PathSegment
-      type_readings.GenericArg type_readings.TypeKind type_readings.AssocTypeArg type_readings.GenericArgList type_readings.Param
-      type_readings.ParenArgs type_readings.Path type_readings.PathSegment type_readings.PathType type_readings.RetType
+      type_readings.GenericArg type_readings.TypeKind type_readings.Path type_readings.PathSegment type_readings.AssocTypeArg
+      type_readings.GenericArgList type_readings.Param type_readings.ParenArgs type_readings.PathType type_readings.RetType
       type_readings.TypeArg type_readings.TypeBound type_readings.Type_
-      (of.generic_arg_step env type_itself) (of.type_kind_step env type_itself) (of.assoc_type_arg_step env type_itself)
-      (of.generic_arg_list_step env type_itself) (of.param_step env type_itself) (of.paren_args_step env type_itself)
-      (of.path_step env type_itself) (of.segment_step env type_itself) (of.path_type_step env type_itself)
+      (of.generic_arg_step env type_itself) (of.type_kind_step env type_itself) (of.path_step env type_itself)
+      (of.segment_step env type_itself) (of.assoc_type_arg_step env type_itself) (of.generic_arg_list_step env type_itself)
+      (of.param_step env type_itself) (of.paren_args_step env type_itself) (of.path_type_step env type_itself)
       (of.ret_type_step env type_itself) (of.type_arg_step env type_itself) (of.type_bound_step env type_itself)
       (of.type_step env type_itself) x j p)
       ∙ segment_step_is (out-PathSegment x) p
 
   read_path_type_is : (x : AstPathType) (p : Place) → read_path_type env x p ≡ of.path_type_step env rd (out-PathType x) p
-  unfolding read_generic_arg read_type_kind read_assoc_type_arg read_generic_arg_list read_param read_paren_args read_path
-      read_segment read_path_type read_ret_type read_type_arg read_type_bound read_type
+  unfolding read_generic_arg read_type_kind read_path read_segment read_assoc_type_arg read_generic_arg_list read_param
+      read_paren_args read_path_type read_ret_type read_type_arg read_type_bound read_type
   read_path_type_is x p = (λ j. folds.fold_out-PathType
-      type_readings.GenericArg type_readings.TypeKind type_readings.AssocTypeArg type_readings.GenericArgList type_readings.Param
-      type_readings.ParenArgs type_readings.Path type_readings.PathSegment type_readings.PathType type_readings.RetType
+      type_readings.GenericArg type_readings.TypeKind type_readings.Path type_readings.PathSegment type_readings.AssocTypeArg
+      type_readings.GenericArgList type_readings.Param type_readings.ParenArgs type_readings.PathType type_readings.RetType
       type_readings.TypeArg type_readings.TypeBound type_readings.Type_
-      (of.generic_arg_step env type_itself) (of.type_kind_step env type_itself) (of.assoc_type_arg_step env type_itself)
-      (of.generic_arg_list_step env type_itself) (of.param_step env type_itself) (of.paren_args_step env type_itself)
-      (of.path_step env type_itself) (of.segment_step env type_itself) (of.path_type_step env type_itself)
+      (of.generic_arg_step env type_itself) (of.type_kind_step env type_itself) (of.path_step env type_itself)
+      (of.segment_step env type_itself) (of.assoc_type_arg_step env type_itself) (of.generic_arg_list_step env type_itself)
+      (of.param_step env type_itself) (of.paren_args_step env type_itself) (of.path_type_step env type_itself)
       (of.ret_type_step env type_itself) (of.type_arg_step env type_itself) (of.type_bound_step env type_itself)
       (of.type_step env type_itself) x j p)
       ∙ path_type_step_is (out-PathType x) p
 
   read_paren_args_is : (x : AstParenArgs) (p : Place) → read_paren_args env x p ≡ of.paren_args_step env rd (out-ParenArgs x) p
-  unfolding read_generic_arg read_type_kind read_assoc_type_arg read_generic_arg_list read_param read_paren_args read_path
-      read_segment read_path_type read_ret_type read_type_arg read_type_bound read_type
+  unfolding read_generic_arg read_type_kind read_path read_segment read_assoc_type_arg read_generic_arg_list read_param
+      read_paren_args read_path_type read_ret_type read_type_arg read_type_bound read_type
   read_paren_args_is x p = (λ j. folds.fold_out-ParenArgs
-      type_readings.GenericArg type_readings.TypeKind type_readings.AssocTypeArg type_readings.GenericArgList type_readings.Param
-      type_readings.ParenArgs type_readings.Path type_readings.PathSegment type_readings.PathType type_readings.RetType
+      type_readings.GenericArg type_readings.TypeKind type_readings.Path type_readings.PathSegment type_readings.AssocTypeArg
+      type_readings.GenericArgList type_readings.Param type_readings.ParenArgs type_readings.PathType type_readings.RetType
       type_readings.TypeArg type_readings.TypeBound type_readings.Type_
-      (of.generic_arg_step env type_itself) (of.type_kind_step env type_itself) (of.assoc_type_arg_step env type_itself)
-      (of.generic_arg_list_step env type_itself) (of.param_step env type_itself) (of.paren_args_step env type_itself)
-      (of.path_step env type_itself) (of.segment_step env type_itself) (of.path_type_step env type_itself)
+      (of.generic_arg_step env type_itself) (of.type_kind_step env type_itself) (of.path_step env type_itself)
+      (of.segment_step env type_itself) (of.assoc_type_arg_step env type_itself) (of.generic_arg_list_step env type_itself)
+      (of.param_step env type_itself) (of.paren_args_step env type_itself) (of.path_type_step env type_itself)
       (of.ret_type_step env type_itself) (of.type_arg_step env type_itself) (of.type_bound_step env type_itself)
       (of.type_step env type_itself) x j p)
       ∙ paren_args_step_is (out-ParenArgs x) p
 
   read_generic_arg_list_is : (x : AstGenericArgList) (p : Place)
       → read_generic_arg_list env x p ≡ of.generic_arg_list_step env rd (out-GenericArgList x) p
-  unfolding read_generic_arg read_type_kind read_assoc_type_arg read_generic_arg_list read_param read_paren_args read_path
-      read_segment read_path_type read_ret_type read_type_arg read_type_bound read_type
+  unfolding read_generic_arg read_type_kind read_path read_segment read_assoc_type_arg read_generic_arg_list read_param
+      read_paren_args read_path_type read_ret_type read_type_arg read_type_bound read_type
   read_generic_arg_list_is x p = (λ j. folds.fold_out-GenericArgList
-      type_readings.GenericArg type_readings.TypeKind type_readings.AssocTypeArg type_readings.GenericArgList type_readings.Param
-      type_readings.ParenArgs type_readings.Path type_readings.PathSegment type_readings.PathType type_readings.RetType
+      type_readings.GenericArg type_readings.TypeKind type_readings.Path type_readings.PathSegment type_readings.AssocTypeArg
+      type_readings.GenericArgList type_readings.Param type_readings.ParenArgs type_readings.PathType type_readings.RetType
       type_readings.TypeArg type_readings.TypeBound type_readings.Type_
-      (of.generic_arg_step env type_itself) (of.type_kind_step env type_itself) (of.assoc_type_arg_step env type_itself)
-      (of.generic_arg_list_step env type_itself) (of.param_step env type_itself) (of.paren_args_step env type_itself)
-      (of.path_step env type_itself) (of.segment_step env type_itself) (of.path_type_step env type_itself)
+      (of.generic_arg_step env type_itself) (of.type_kind_step env type_itself) (of.path_step env type_itself)
+      (of.segment_step env type_itself) (of.assoc_type_arg_step env type_itself) (of.generic_arg_list_step env type_itself)
+      (of.param_step env type_itself) (of.paren_args_step env type_itself) (of.path_type_step env type_itself)
       (of.ret_type_step env type_itself) (of.type_arg_step env type_itself) (of.type_bound_step env type_itself)
       (of.type_step env type_itself) x j p)
       ∙ generic_arg_list_step_is (out-GenericArgList x) p
 
   read_generic_arg_is : (x : AstGenericArg) (p : Place) → read_generic_arg env x p ≡ of.generic_arg_step env rd (out-GenericArg x) p
-  unfolding read_generic_arg read_type_kind read_assoc_type_arg read_generic_arg_list read_param read_paren_args read_path
-      read_segment read_path_type read_ret_type read_type_arg read_type_bound read_type
+  unfolding read_generic_arg read_type_kind read_path read_segment read_assoc_type_arg read_generic_arg_list read_param
+      read_paren_args read_path_type read_ret_type read_type_arg read_type_bound read_type
   read_generic_arg_is x p = (λ j. folds.fold_out-GenericArg
-      type_readings.GenericArg type_readings.TypeKind type_readings.AssocTypeArg type_readings.GenericArgList type_readings.Param
-      type_readings.ParenArgs type_readings.Path type_readings.PathSegment type_readings.PathType type_readings.RetType
+      type_readings.GenericArg type_readings.TypeKind type_readings.Path type_readings.PathSegment type_readings.AssocTypeArg
+      type_readings.GenericArgList type_readings.Param type_readings.ParenArgs type_readings.PathType type_readings.RetType
       type_readings.TypeArg type_readings.TypeBound type_readings.Type_
-      (of.generic_arg_step env type_itself) (of.type_kind_step env type_itself) (of.assoc_type_arg_step env type_itself)
-      (of.generic_arg_list_step env type_itself) (of.param_step env type_itself) (of.paren_args_step env type_itself)
-      (of.path_step env type_itself) (of.segment_step env type_itself) (of.path_type_step env type_itself)
+      (of.generic_arg_step env type_itself) (of.type_kind_step env type_itself) (of.path_step env type_itself)
+      (of.segment_step env type_itself) (of.assoc_type_arg_step env type_itself) (of.generic_arg_list_step env type_itself)
+      (of.param_step env type_itself) (of.paren_args_step env type_itself) (of.path_type_step env type_itself)
       (of.ret_type_step env type_itself) (of.type_arg_step env type_itself) (of.type_bound_step env type_itself)
       (of.type_step env type_itself) x j p)
       ∙ generic_arg_step_is (out-GenericArg x) p
 
   read_type_arg_is : (x : AstTypeArg) (p : Place) → read_type_arg env x p ≡ of.type_arg_step env rd (out-TypeArg x) p
-  unfolding read_generic_arg read_type_kind read_assoc_type_arg read_generic_arg_list read_param read_paren_args read_path
-      read_segment read_path_type read_ret_type read_type_arg read_type_bound read_type
+  unfolding read_generic_arg read_type_kind read_path read_segment read_assoc_type_arg read_generic_arg_list read_param
+      read_paren_args read_path_type read_ret_type read_type_arg read_type_bound read_type
   read_type_arg_is x p = (λ j. folds.fold_out-TypeArg
-      type_readings.GenericArg type_readings.TypeKind type_readings.AssocTypeArg type_readings.GenericArgList type_readings.Param
-      type_readings.ParenArgs type_readings.Path type_readings.PathSegment type_readings.PathType type_readings.RetType
+      type_readings.GenericArg type_readings.TypeKind type_readings.Path type_readings.PathSegment type_readings.AssocTypeArg
+      type_readings.GenericArgList type_readings.Param type_readings.ParenArgs type_readings.PathType type_readings.RetType
       type_readings.TypeArg type_readings.TypeBound type_readings.Type_
-      (of.generic_arg_step env type_itself) (of.type_kind_step env type_itself) (of.assoc_type_arg_step env type_itself)
-      (of.generic_arg_list_step env type_itself) (of.param_step env type_itself) (of.paren_args_step env type_itself)
-      (of.path_step env type_itself) (of.segment_step env type_itself) (of.path_type_step env type_itself)
+      (of.generic_arg_step env type_itself) (of.type_kind_step env type_itself) (of.path_step env type_itself)
+      (of.segment_step env type_itself) (of.assoc_type_arg_step env type_itself) (of.generic_arg_list_step env type_itself)
+      (of.param_step env type_itself) (of.paren_args_step env type_itself) (of.path_type_step env type_itself)
       (of.ret_type_step env type_itself) (of.type_arg_step env type_itself) (of.type_bound_step env type_itself)
       (of.type_step env type_itself) x j p)
       ∙ type_arg_step_is (out-TypeArg x) p
 
   read_assoc_type_arg_is : (x : AstAssocTypeArg) (p : Place)
       → read_assoc_type_arg env x p ≡ of.assoc_type_arg_step env rd (out-AssocTypeArg x) p
-  unfolding read_generic_arg read_type_kind read_assoc_type_arg read_generic_arg_list read_param read_paren_args read_path
-      read_segment read_path_type read_ret_type read_type_arg read_type_bound read_type
+  unfolding read_generic_arg read_type_kind read_path read_segment read_assoc_type_arg read_generic_arg_list read_param
+      read_paren_args read_path_type read_ret_type read_type_arg read_type_bound read_type
   read_assoc_type_arg_is x p = (λ j. folds.fold_out-AssocTypeArg
-      type_readings.GenericArg type_readings.TypeKind type_readings.AssocTypeArg type_readings.GenericArgList type_readings.Param
-      type_readings.ParenArgs type_readings.Path type_readings.PathSegment type_readings.PathType type_readings.RetType
+      type_readings.GenericArg type_readings.TypeKind type_readings.Path type_readings.PathSegment type_readings.AssocTypeArg
+      type_readings.GenericArgList type_readings.Param type_readings.ParenArgs type_readings.PathType type_readings.RetType
       type_readings.TypeArg type_readings.TypeBound type_readings.Type_
-      (of.generic_arg_step env type_itself) (of.type_kind_step env type_itself) (of.assoc_type_arg_step env type_itself)
-      (of.generic_arg_list_step env type_itself) (of.param_step env type_itself) (of.paren_args_step env type_itself)
-      (of.path_step env type_itself) (of.segment_step env type_itself) (of.path_type_step env type_itself)
+      (of.generic_arg_step env type_itself) (of.type_kind_step env type_itself) (of.path_step env type_itself)
+      (of.segment_step env type_itself) (of.assoc_type_arg_step env type_itself) (of.generic_arg_list_step env type_itself)
+      (of.param_step env type_itself) (of.paren_args_step env type_itself) (of.path_type_step env type_itself)
       (of.ret_type_step env type_itself) (of.type_arg_step env type_itself) (of.type_bound_step env type_itself)
       (of.type_step env type_itself) x j p)
       ∙ assoc_type_arg_step_is (out-AssocTypeArg x) p
 
   read_type_bound_is : (x : AstTypeBound) (p : Place) → read_type_bound env x p ≡ of.type_bound_step env rd (out-TypeBound x) p
-  unfolding read_generic_arg read_type_kind read_assoc_type_arg read_generic_arg_list read_param read_paren_args read_path
-      read_segment read_path_type read_ret_type read_type_arg read_type_bound read_type
+  unfolding read_generic_arg read_type_kind read_path read_segment read_assoc_type_arg read_generic_arg_list read_param
+      read_paren_args read_path_type read_ret_type read_type_arg read_type_bound read_type
   read_type_bound_is x p = (λ j. folds.fold_out-TypeBound
-      type_readings.GenericArg type_readings.TypeKind type_readings.AssocTypeArg type_readings.GenericArgList type_readings.Param
-      type_readings.ParenArgs type_readings.Path type_readings.PathSegment type_readings.PathType type_readings.RetType
+      type_readings.GenericArg type_readings.TypeKind type_readings.Path type_readings.PathSegment type_readings.AssocTypeArg
+      type_readings.GenericArgList type_readings.Param type_readings.ParenArgs type_readings.PathType type_readings.RetType
       type_readings.TypeArg type_readings.TypeBound type_readings.Type_
-      (of.generic_arg_step env type_itself) (of.type_kind_step env type_itself) (of.assoc_type_arg_step env type_itself)
-      (of.generic_arg_list_step env type_itself) (of.param_step env type_itself) (of.paren_args_step env type_itself)
-      (of.path_step env type_itself) (of.segment_step env type_itself) (of.path_type_step env type_itself)
+      (of.generic_arg_step env type_itself) (of.type_kind_step env type_itself) (of.path_step env type_itself)
+      (of.segment_step env type_itself) (of.assoc_type_arg_step env type_itself) (of.generic_arg_list_step env type_itself)
+      (of.param_step env type_itself) (of.paren_args_step env type_itself) (of.path_type_step env type_itself)
       (of.ret_type_step env type_itself) (of.type_arg_step env type_itself) (of.type_bound_step env type_itself)
       (of.type_step env type_itself) x j p)
       ∙ type_bound_step_is (out-TypeBound x) p

@@ -14,20 +14,20 @@ use Rattle.hir_syntax.specs.declared.types.UseArg.{UseArg as AstUseArg}
 use Rattle.hir_syntax.specs.declared.types.UseArg.TheVariants as used
 use Rattle.hir_syntax.specs.declared.types.GenericArg.{GenericArg as AstGenericArg}
 use Rattle.hir_syntax.specs.declared.types.TypeKind.{TypeKind as AstTypeKind}
+use Rattle.hir_syntax.specs.declared.ast.Path.{Path as AstPath}
+use Rattle.hir_syntax.specs.declared.ast.PathSegment.{PathSegment as AstPathSegment}
 use Rattle.hir_syntax.specs.declared.types.AssocTypeArg.{AssocTypeArg as AstAssocTypeArg}
 use Rattle.hir_syntax.specs.declared.types.GenericArgList.{GenericArgList as AstGenericArgList}
 use Rattle.hir_syntax.specs.declared.types.Param.{Param as AstParam}
 use Rattle.hir_syntax.specs.declared.types.ParenArgs.{ParenArgs as AstParenArgs}
-use Rattle.hir_syntax.specs.declared.ast.Path.{Path as AstPath}
-use Rattle.hir_syntax.specs.declared.ast.PathSegment.{PathSegment as AstPathSegment}
 use Rattle.hir_syntax.specs.declared.types.PathType.{PathType as AstPathType}
 use Rattle.hir_syntax.specs.declared.types.RetType.{RetType as AstRetType}
 use Rattle.hir_syntax.specs.declared.types.TypeArg.{TypeArg as AstTypeArg}
 use Rattle.hir_syntax.specs.declared.types.TypeBound.{TypeBound as AstTypeBound}
 use Rattle.hir_syntax.specs.declared.types.Type_.{Type_ as AstType_}
-use Rattle.hir_syntax.specs.declared.types.GenericArg.TheFolds.{fold-GenericArg, fold-TypeKind, fold-AssocTypeArg}
-use Rattle.hir_syntax.specs.declared.types.GenericArg.TheFolds.{fold-GenericArgList, fold-Param, fold-ParenArgs, fold-Path}
-use Rattle.hir_syntax.specs.declared.types.GenericArg.TheFolds.{fold-PathSegment, fold-PathType, fold-RetType, fold-TypeArg}
+use Rattle.hir_syntax.specs.declared.types.GenericArg.TheFolds.{fold-GenericArg, fold-TypeKind, fold-Path, fold-PathSegment}
+use Rattle.hir_syntax.specs.declared.types.GenericArg.TheFolds.{fold-AssocTypeArg, fold-GenericArgList, fold-Param}
+use Rattle.hir_syntax.specs.declared.types.GenericArg.TheFolds.{fold-ParenArgs, fold-PathType, fold-RetType, fold-TypeArg}
 use Rattle.hir_syntax.specs.declared.types.GenericArg.TheFolds.{fold-TypeBound, fold-Type_}
 use Rattle.hir_syntax.specs.declared.types.GenericArg.TheOpen.{GenericArg-F, TypeKind-F}
 use Rattle.hir_store.specs.Pointers.{Pointer}
@@ -45,8 +45,8 @@ use Rattle.hir_env.specs.declared.place.ImplTrait.{ImplTrait}
 use Rattle.hir_env.specs.Answers.{Answers}
 use Rattle.hir_env.specs.Spot.{in_file, ptr}
 use Rattle.hir_env.specs.TypeLayers.{ParamReading, PathTypeReading, TypeSorts, TypeReader, GenericArgLayer, TypeKindLayer}
-use Rattle.hir_env.specs.TypeLayers.{AssocTypeArgLayer, GenericArgListLayer, ParamLayer, ParenArgsLayer, PathLayer}
-use Rattle.hir_env.specs.TypeLayers.{PathSegmentLayer, PathTypeLayer, RetTypeLayer, TypeArgLayer, TypeBoundLayer, Type_Layer}
+use Rattle.hir_env.specs.TypeLayers.{PathLayer, PathSegmentLayer, AssocTypeArgLayer, GenericArgListLayer, ParamLayer}
+use Rattle.hir_env.specs.TypeLayers.{ParenArgsLayer, PathTypeLayer, RetTypeLayer, TypeArgLayer, TypeBoundLayer, Type_Layer}
 use Rattle.hir_env.specs.TypeLayers.{type_readings, type_itself}
 use Rattle.hir_env.specs.Answered as tree
 use Rattle.hir_env.specs.Answered.{Lifetime, Binder, UseRead, Type_, OptionType, Parts, Path, OptionPath, Segments, Segment}
@@ -322,12 +322,12 @@ abbrev pub written_types : TypeSorts
 written_types = record {
   GenericArg = AstGenericArg;
   TypeKind = AstTypeKind;
+  Path = AstPath;
+  PathSegment = AstPathSegment;
   AssocTypeArg = AstAssocTypeArg;
   GenericArgList = AstGenericArgList;
   Param = AstParam;
   ParenArgs = AstParenArgs;
-  Path = AstPath;
-  PathSegment = AstPathSegment;
   PathType = AstPathType;
   RetType = AstRetType;
   TypeArg = AstTypeArg;
@@ -338,144 +338,157 @@ written_types = record {
 module _ (env : Answers) where
   unfoldable pub read_generic_arg : AstGenericArg → Place → Arg
   read_generic_arg = fold-GenericArg
-      type_readings.GenericArg type_readings.TypeKind type_readings.AssocTypeArg type_readings.GenericArgList type_readings.Param
-      type_readings.ParenArgs type_readings.Path type_readings.PathSegment type_readings.PathType type_readings.RetType
+      type_readings.GenericArg type_readings.TypeKind type_readings.Path type_readings.PathSegment type_readings.AssocTypeArg
+      type_readings.GenericArgList type_readings.Param type_readings.ParenArgs type_readings.PathType type_readings.RetType
       type_readings.TypeArg type_readings.TypeBound type_readings.Type_
-      (generic_arg_step env type_itself) (type_kind_step env type_itself) (assoc_type_arg_step env type_itself)
-      (generic_arg_list_step env type_itself) (param_step env type_itself) (paren_args_step env type_itself)
-      (path_step env type_itself) (segment_step env type_itself) (path_type_step env type_itself) (ret_type_step env type_itself)
-      (type_arg_step env type_itself) (type_bound_step env type_itself) (type_step env type_itself)
+      (generic_arg_step env type_itself) (type_kind_step env type_itself) (path_step env type_itself)
+      (segment_step env type_itself) (assoc_type_arg_step env type_itself) (generic_arg_list_step env type_itself)
+      (param_step env type_itself) (paren_args_step env type_itself) (path_type_step env type_itself)
+      (ret_type_step env type_itself) (type_arg_step env type_itself) (type_bound_step env type_itself)
+      (type_step env type_itself)
 
   unfoldable pub read_type_kind : AstTypeKind → AstPtr → Place → Type_
   read_type_kind = fold-TypeKind
-      type_readings.GenericArg type_readings.TypeKind type_readings.AssocTypeArg type_readings.GenericArgList type_readings.Param
-      type_readings.ParenArgs type_readings.Path type_readings.PathSegment type_readings.PathType type_readings.RetType
+      type_readings.GenericArg type_readings.TypeKind type_readings.Path type_readings.PathSegment type_readings.AssocTypeArg
+      type_readings.GenericArgList type_readings.Param type_readings.ParenArgs type_readings.PathType type_readings.RetType
       type_readings.TypeArg type_readings.TypeBound type_readings.Type_
-      (generic_arg_step env type_itself) (type_kind_step env type_itself) (assoc_type_arg_step env type_itself)
-      (generic_arg_list_step env type_itself) (param_step env type_itself) (paren_args_step env type_itself)
-      (path_step env type_itself) (segment_step env type_itself) (path_type_step env type_itself) (ret_type_step env type_itself)
-      (type_arg_step env type_itself) (type_bound_step env type_itself) (type_step env type_itself)
-
-  unfoldable pub read_assoc_type_arg : AstAssocTypeArg → Place → Arg
-  read_assoc_type_arg = fold-AssocTypeArg
-      type_readings.GenericArg type_readings.TypeKind type_readings.AssocTypeArg type_readings.GenericArgList type_readings.Param
-      type_readings.ParenArgs type_readings.Path type_readings.PathSegment type_readings.PathType type_readings.RetType
-      type_readings.TypeArg type_readings.TypeBound type_readings.Type_
-      (generic_arg_step env type_itself) (type_kind_step env type_itself) (assoc_type_arg_step env type_itself)
-      (generic_arg_list_step env type_itself) (param_step env type_itself) (paren_args_step env type_itself)
-      (path_step env type_itself) (segment_step env type_itself) (path_type_step env type_itself) (ret_type_step env type_itself)
-      (type_arg_step env type_itself) (type_bound_step env type_itself) (type_step env type_itself)
-
-  unfoldable pub read_generic_arg_list : AstGenericArgList → Place → Args
-  read_generic_arg_list = fold-GenericArgList
-      type_readings.GenericArg type_readings.TypeKind type_readings.AssocTypeArg type_readings.GenericArgList type_readings.Param
-      type_readings.ParenArgs type_readings.Path type_readings.PathSegment type_readings.PathType type_readings.RetType
-      type_readings.TypeArg type_readings.TypeBound type_readings.Type_
-      (generic_arg_step env type_itself) (type_kind_step env type_itself) (assoc_type_arg_step env type_itself)
-      (generic_arg_list_step env type_itself) (param_step env type_itself) (paren_args_step env type_itself)
-      (path_step env type_itself) (segment_step env type_itself) (path_type_step env type_itself) (ret_type_step env type_itself)
-      (type_arg_step env type_itself) (type_bound_step env type_itself) (type_step env type_itself)
-
-  unfoldable pub read_param : AstParam → Place → ParamReading
-  read_param = fold-Param
-      type_readings.GenericArg type_readings.TypeKind type_readings.AssocTypeArg type_readings.GenericArgList type_readings.Param
-      type_readings.ParenArgs type_readings.Path type_readings.PathSegment type_readings.PathType type_readings.RetType
-      type_readings.TypeArg type_readings.TypeBound type_readings.Type_
-      (generic_arg_step env type_itself) (type_kind_step env type_itself) (assoc_type_arg_step env type_itself)
-      (generic_arg_list_step env type_itself) (param_step env type_itself) (paren_args_step env type_itself)
-      (path_step env type_itself) (segment_step env type_itself) (path_type_step env type_itself) (ret_type_step env type_itself)
-      (type_arg_step env type_itself) (type_bound_step env type_itself) (type_step env type_itself)
-
-  unfoldable pub read_paren_args : AstParenArgs → Place → Parts
-  read_paren_args = fold-ParenArgs
-      type_readings.GenericArg type_readings.TypeKind type_readings.AssocTypeArg type_readings.GenericArgList type_readings.Param
-      type_readings.ParenArgs type_readings.Path type_readings.PathSegment type_readings.PathType type_readings.RetType
-      type_readings.TypeArg type_readings.TypeBound type_readings.Type_
-      (generic_arg_step env type_itself) (type_kind_step env type_itself) (assoc_type_arg_step env type_itself)
-      (generic_arg_list_step env type_itself) (param_step env type_itself) (paren_args_step env type_itself)
-      (path_step env type_itself) (segment_step env type_itself) (path_type_step env type_itself) (ret_type_step env type_itself)
-      (type_arg_step env type_itself) (type_bound_step env type_itself) (type_step env type_itself)
+      (generic_arg_step env type_itself) (type_kind_step env type_itself) (path_step env type_itself)
+      (segment_step env type_itself) (assoc_type_arg_step env type_itself) (generic_arg_list_step env type_itself)
+      (param_step env type_itself) (paren_args_step env type_itself) (path_type_step env type_itself)
+      (ret_type_step env type_itself) (type_arg_step env type_itself) (type_bound_step env type_itself)
+      (type_step env type_itself)
 
   unfoldable pub read_path : AstPath → Place → Path
   read_path = fold-Path
-      type_readings.GenericArg type_readings.TypeKind type_readings.AssocTypeArg type_readings.GenericArgList type_readings.Param
-      type_readings.ParenArgs type_readings.Path type_readings.PathSegment type_readings.PathType type_readings.RetType
+      type_readings.GenericArg type_readings.TypeKind type_readings.Path type_readings.PathSegment type_readings.AssocTypeArg
+      type_readings.GenericArgList type_readings.Param type_readings.ParenArgs type_readings.PathType type_readings.RetType
       type_readings.TypeArg type_readings.TypeBound type_readings.Type_
-      (generic_arg_step env type_itself) (type_kind_step env type_itself) (assoc_type_arg_step env type_itself)
-      (generic_arg_list_step env type_itself) (param_step env type_itself) (paren_args_step env type_itself)
-      (path_step env type_itself) (segment_step env type_itself) (path_type_step env type_itself) (ret_type_step env type_itself)
-      (type_arg_step env type_itself) (type_bound_step env type_itself) (type_step env type_itself)
+      (generic_arg_step env type_itself) (type_kind_step env type_itself) (path_step env type_itself)
+      (segment_step env type_itself) (assoc_type_arg_step env type_itself) (generic_arg_list_step env type_itself)
+      (param_step env type_itself) (paren_args_step env type_itself) (path_type_step env type_itself)
+      (ret_type_step env type_itself) (type_arg_step env type_itself) (type_bound_step env type_itself)
+      (type_step env type_itself)
 
   unfoldable pub read_segment : AstPathSegment → Place → Segment
   read_segment = fold-PathSegment
-      type_readings.GenericArg type_readings.TypeKind type_readings.AssocTypeArg type_readings.GenericArgList type_readings.Param
-      type_readings.ParenArgs type_readings.Path type_readings.PathSegment type_readings.PathType type_readings.RetType
+      type_readings.GenericArg type_readings.TypeKind type_readings.Path type_readings.PathSegment type_readings.AssocTypeArg
+      type_readings.GenericArgList type_readings.Param type_readings.ParenArgs type_readings.PathType type_readings.RetType
       type_readings.TypeArg type_readings.TypeBound type_readings.Type_
-      (generic_arg_step env type_itself) (type_kind_step env type_itself) (assoc_type_arg_step env type_itself)
-      (generic_arg_list_step env type_itself) (param_step env type_itself) (paren_args_step env type_itself)
-      (path_step env type_itself) (segment_step env type_itself) (path_type_step env type_itself) (ret_type_step env type_itself)
-      (type_arg_step env type_itself) (type_bound_step env type_itself) (type_step env type_itself)
+      (generic_arg_step env type_itself) (type_kind_step env type_itself) (path_step env type_itself)
+      (segment_step env type_itself) (assoc_type_arg_step env type_itself) (generic_arg_list_step env type_itself)
+      (param_step env type_itself) (paren_args_step env type_itself) (path_type_step env type_itself)
+      (ret_type_step env type_itself) (type_arg_step env type_itself) (type_bound_step env type_itself)
+      (type_step env type_itself)
+
+  unfoldable pub read_assoc_type_arg : AstAssocTypeArg → Place → Arg
+  read_assoc_type_arg = fold-AssocTypeArg
+      type_readings.GenericArg type_readings.TypeKind type_readings.Path type_readings.PathSegment type_readings.AssocTypeArg
+      type_readings.GenericArgList type_readings.Param type_readings.ParenArgs type_readings.PathType type_readings.RetType
+      type_readings.TypeArg type_readings.TypeBound type_readings.Type_
+      (generic_arg_step env type_itself) (type_kind_step env type_itself) (path_step env type_itself)
+      (segment_step env type_itself) (assoc_type_arg_step env type_itself) (generic_arg_list_step env type_itself)
+      (param_step env type_itself) (paren_args_step env type_itself) (path_type_step env type_itself)
+      (ret_type_step env type_itself) (type_arg_step env type_itself) (type_bound_step env type_itself)
+      (type_step env type_itself)
+
+  unfoldable pub read_generic_arg_list : AstGenericArgList → Place → Args
+  read_generic_arg_list = fold-GenericArgList
+      type_readings.GenericArg type_readings.TypeKind type_readings.Path type_readings.PathSegment type_readings.AssocTypeArg
+      type_readings.GenericArgList type_readings.Param type_readings.ParenArgs type_readings.PathType type_readings.RetType
+      type_readings.TypeArg type_readings.TypeBound type_readings.Type_
+      (generic_arg_step env type_itself) (type_kind_step env type_itself) (path_step env type_itself)
+      (segment_step env type_itself) (assoc_type_arg_step env type_itself) (generic_arg_list_step env type_itself)
+      (param_step env type_itself) (paren_args_step env type_itself) (path_type_step env type_itself)
+      (ret_type_step env type_itself) (type_arg_step env type_itself) (type_bound_step env type_itself)
+      (type_step env type_itself)
+
+  unfoldable pub read_param : AstParam → Place → ParamReading
+  read_param = fold-Param
+      type_readings.GenericArg type_readings.TypeKind type_readings.Path type_readings.PathSegment type_readings.AssocTypeArg
+      type_readings.GenericArgList type_readings.Param type_readings.ParenArgs type_readings.PathType type_readings.RetType
+      type_readings.TypeArg type_readings.TypeBound type_readings.Type_
+      (generic_arg_step env type_itself) (type_kind_step env type_itself) (path_step env type_itself)
+      (segment_step env type_itself) (assoc_type_arg_step env type_itself) (generic_arg_list_step env type_itself)
+      (param_step env type_itself) (paren_args_step env type_itself) (path_type_step env type_itself)
+      (ret_type_step env type_itself) (type_arg_step env type_itself) (type_bound_step env type_itself)
+      (type_step env type_itself)
+
+  unfoldable pub read_paren_args : AstParenArgs → Place → Parts
+  read_paren_args = fold-ParenArgs
+      type_readings.GenericArg type_readings.TypeKind type_readings.Path type_readings.PathSegment type_readings.AssocTypeArg
+      type_readings.GenericArgList type_readings.Param type_readings.ParenArgs type_readings.PathType type_readings.RetType
+      type_readings.TypeArg type_readings.TypeBound type_readings.Type_
+      (generic_arg_step env type_itself) (type_kind_step env type_itself) (path_step env type_itself)
+      (segment_step env type_itself) (assoc_type_arg_step env type_itself) (generic_arg_list_step env type_itself)
+      (param_step env type_itself) (paren_args_step env type_itself) (path_type_step env type_itself)
+      (ret_type_step env type_itself) (type_arg_step env type_itself) (type_bound_step env type_itself)
+      (type_step env type_itself)
 
   unfoldable pub read_path_type : AstPathType → Place → PathTypeReading
   read_path_type = fold-PathType
-      type_readings.GenericArg type_readings.TypeKind type_readings.AssocTypeArg type_readings.GenericArgList type_readings.Param
-      type_readings.ParenArgs type_readings.Path type_readings.PathSegment type_readings.PathType type_readings.RetType
+      type_readings.GenericArg type_readings.TypeKind type_readings.Path type_readings.PathSegment type_readings.AssocTypeArg
+      type_readings.GenericArgList type_readings.Param type_readings.ParenArgs type_readings.PathType type_readings.RetType
       type_readings.TypeArg type_readings.TypeBound type_readings.Type_
-      (generic_arg_step env type_itself) (type_kind_step env type_itself) (assoc_type_arg_step env type_itself)
-      (generic_arg_list_step env type_itself) (param_step env type_itself) (paren_args_step env type_itself)
-      (path_step env type_itself) (segment_step env type_itself) (path_type_step env type_itself) (ret_type_step env type_itself)
-      (type_arg_step env type_itself) (type_bound_step env type_itself) (type_step env type_itself)
+      (generic_arg_step env type_itself) (type_kind_step env type_itself) (path_step env type_itself)
+      (segment_step env type_itself) (assoc_type_arg_step env type_itself) (generic_arg_list_step env type_itself)
+      (param_step env type_itself) (paren_args_step env type_itself) (path_type_step env type_itself)
+      (ret_type_step env type_itself) (type_arg_step env type_itself) (type_bound_step env type_itself)
+      (type_step env type_itself)
 
   unfoldable pub read_ret_type : AstRetType → Place → OptionType
   read_ret_type = fold-RetType
-      type_readings.GenericArg type_readings.TypeKind type_readings.AssocTypeArg type_readings.GenericArgList type_readings.Param
-      type_readings.ParenArgs type_readings.Path type_readings.PathSegment type_readings.PathType type_readings.RetType
+      type_readings.GenericArg type_readings.TypeKind type_readings.Path type_readings.PathSegment type_readings.AssocTypeArg
+      type_readings.GenericArgList type_readings.Param type_readings.ParenArgs type_readings.PathType type_readings.RetType
       type_readings.TypeArg type_readings.TypeBound type_readings.Type_
-      (generic_arg_step env type_itself) (type_kind_step env type_itself) (assoc_type_arg_step env type_itself)
-      (generic_arg_list_step env type_itself) (param_step env type_itself) (paren_args_step env type_itself)
-      (path_step env type_itself) (segment_step env type_itself) (path_type_step env type_itself) (ret_type_step env type_itself)
-      (type_arg_step env type_itself) (type_bound_step env type_itself) (type_step env type_itself)
+      (generic_arg_step env type_itself) (type_kind_step env type_itself) (path_step env type_itself)
+      (segment_step env type_itself) (assoc_type_arg_step env type_itself) (generic_arg_list_step env type_itself)
+      (param_step env type_itself) (paren_args_step env type_itself) (path_type_step env type_itself)
+      (ret_type_step env type_itself) (type_arg_step env type_itself) (type_bound_step env type_itself)
+      (type_step env type_itself)
 
   unfoldable pub read_type_arg : AstTypeArg → Place → OptionType
   read_type_arg = fold-TypeArg
-      type_readings.GenericArg type_readings.TypeKind type_readings.AssocTypeArg type_readings.GenericArgList type_readings.Param
-      type_readings.ParenArgs type_readings.Path type_readings.PathSegment type_readings.PathType type_readings.RetType
+      type_readings.GenericArg type_readings.TypeKind type_readings.Path type_readings.PathSegment type_readings.AssocTypeArg
+      type_readings.GenericArgList type_readings.Param type_readings.ParenArgs type_readings.PathType type_readings.RetType
       type_readings.TypeArg type_readings.TypeBound type_readings.Type_
-      (generic_arg_step env type_itself) (type_kind_step env type_itself) (assoc_type_arg_step env type_itself)
-      (generic_arg_list_step env type_itself) (param_step env type_itself) (paren_args_step env type_itself)
-      (path_step env type_itself) (segment_step env type_itself) (path_type_step env type_itself) (ret_type_step env type_itself)
-      (type_arg_step env type_itself) (type_bound_step env type_itself) (type_step env type_itself)
+      (generic_arg_step env type_itself) (type_kind_step env type_itself) (path_step env type_itself)
+      (segment_step env type_itself) (assoc_type_arg_step env type_itself) (generic_arg_list_step env type_itself)
+      (param_step env type_itself) (paren_args_step env type_itself) (path_type_step env type_itself)
+      (ret_type_step env type_itself) (type_arg_step env type_itself) (type_bound_step env type_itself)
+      (type_step env type_itself)
 
   unfoldable pub read_type_bound : AstTypeBound → Place → Bound
   read_type_bound = fold-TypeBound
-      type_readings.GenericArg type_readings.TypeKind type_readings.AssocTypeArg type_readings.GenericArgList type_readings.Param
-      type_readings.ParenArgs type_readings.Path type_readings.PathSegment type_readings.PathType type_readings.RetType
+      type_readings.GenericArg type_readings.TypeKind type_readings.Path type_readings.PathSegment type_readings.AssocTypeArg
+      type_readings.GenericArgList type_readings.Param type_readings.ParenArgs type_readings.PathType type_readings.RetType
       type_readings.TypeArg type_readings.TypeBound type_readings.Type_
-      (generic_arg_step env type_itself) (type_kind_step env type_itself) (assoc_type_arg_step env type_itself)
-      (generic_arg_list_step env type_itself) (param_step env type_itself) (paren_args_step env type_itself)
-      (path_step env type_itself) (segment_step env type_itself) (path_type_step env type_itself) (ret_type_step env type_itself)
-      (type_arg_step env type_itself) (type_bound_step env type_itself) (type_step env type_itself)
+      (generic_arg_step env type_itself) (type_kind_step env type_itself) (path_step env type_itself)
+      (segment_step env type_itself) (assoc_type_arg_step env type_itself) (generic_arg_list_step env type_itself)
+      (param_step env type_itself) (paren_args_step env type_itself) (path_type_step env type_itself)
+      (ret_type_step env type_itself) (type_arg_step env type_itself) (type_bound_step env type_itself)
+      (type_step env type_itself)
 
   unfoldable pub read_type : AstType_ → Place → Type_
   read_type = fold-Type_
-      type_readings.GenericArg type_readings.TypeKind type_readings.AssocTypeArg type_readings.GenericArgList type_readings.Param
-      type_readings.ParenArgs type_readings.Path type_readings.PathSegment type_readings.PathType type_readings.RetType
+      type_readings.GenericArg type_readings.TypeKind type_readings.Path type_readings.PathSegment type_readings.AssocTypeArg
+      type_readings.GenericArgList type_readings.Param type_readings.ParenArgs type_readings.PathType type_readings.RetType
       type_readings.TypeArg type_readings.TypeBound type_readings.Type_
-      (generic_arg_step env type_itself) (type_kind_step env type_itself) (assoc_type_arg_step env type_itself)
-      (generic_arg_list_step env type_itself) (param_step env type_itself) (paren_args_step env type_itself)
-      (path_step env type_itself) (segment_step env type_itself) (path_type_step env type_itself) (ret_type_step env type_itself)
-      (type_arg_step env type_itself) (type_bound_step env type_itself) (type_step env type_itself)
+      (generic_arg_step env type_itself) (type_kind_step env type_itself) (path_step env type_itself)
+      (segment_step env type_itself) (assoc_type_arg_step env type_itself) (generic_arg_list_step env type_itself)
+      (param_step env type_itself) (paren_args_step env type_itself) (path_type_step env type_itself)
+      (ret_type_step env type_itself) (type_arg_step env type_itself) (type_bound_step env type_itself)
+      (type_step env type_itself)
 
   abbrev pub type_reader : TypeReader written_types
   type_reader = record {
     generic_arg = read_generic_arg;
     type_kind = read_type_kind;
+    path = read_path;
+    segment = read_segment;
     assoc_type_arg = read_assoc_type_arg;
     generic_arg_list = read_generic_arg_list;
     param = read_param;
     paren_args = read_paren_args;
-    path = read_path;
-    segment = read_segment;
     path_type = read_path_type;
     ret_type = read_ret_type;
     type_arg = read_type_arg;

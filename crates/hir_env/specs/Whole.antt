@@ -7,12 +7,12 @@ use Rattle.hir_syntax.specs.declared.ast.BlockExpr.{BlockExpr as AstBlockExpr, o
 use Rattle.hir_syntax.specs.declared.ast.Expr.{Expr as AstExpr}
 use Rattle.hir_syntax.specs.declared.types.GenericArg.{GenericArg as AstGenericArg, out-GenericArg}
 use Rattle.hir_syntax.specs.declared.types.TypeKind.{TypeKind as AstTypeKind, out-TypeKind}
+use Rattle.hir_syntax.specs.declared.ast.Path.{Path as AstPath, out-Path}
+use Rattle.hir_syntax.specs.declared.ast.PathSegment.{PathSegment as AstPathSegment, out-PathSegment}
 use Rattle.hir_syntax.specs.declared.types.AssocTypeArg.{AssocTypeArg as AstAssocTypeArg, out-AssocTypeArg}
 use Rattle.hir_syntax.specs.declared.types.GenericArgList.{GenericArgList as AstGenericArgList, out-GenericArgList}
 use Rattle.hir_syntax.specs.declared.types.Param.{Param as AstParam, out-Param}
 use Rattle.hir_syntax.specs.declared.types.ParenArgs.{ParenArgs as AstParenArgs, out-ParenArgs}
-use Rattle.hir_syntax.specs.declared.ast.Path.{Path as AstPath, out-Path}
-use Rattle.hir_syntax.specs.declared.ast.PathSegment.{PathSegment as AstPathSegment, out-PathSegment}
 use Rattle.hir_syntax.specs.declared.types.PathType.{PathType as AstPathType, out-PathType}
 use Rattle.hir_syntax.specs.declared.types.RetType.{RetType as AstRetType, out-RetType}
 use Rattle.hir_syntax.specs.declared.types.TypeArg.{TypeArg as AstTypeArg, out-TypeArg}
@@ -40,10 +40,10 @@ use Rattle.hir_env.specs.Answering.{fields_of, spread_or_none, record_or_empty}
 use Rattle.hir_env.specs.Paths.{inside_impl, outside_impl}
 use Rattle.hir_env.specs.Paths.{path_or_none, segment_or_absent, segments_of, first_of, rest_of, type_or_none, types_of, parts_of}
 use Rattle.hir_env.specs.Paths.{params_or_none, is_varargs, answer_or_none, ret_or_none, parens_or_none, path_type_or_none}
-use Rattle.hir_env.specs.Paths.{arg_list_or_none, generic_args_of, bounds_of, type_at, generic_arg_step, assoc_type_arg_step}
-use Rattle.hir_env.specs.Paths.{generic_arg_list_step, param_step, paren_args_step, path_step, segment_step, path_type_step}
-use Rattle.hir_env.specs.Paths.{ret_type_step, type_arg_step, type_bound_step, read_generic_arg, read_assoc_type_arg}
-use Rattle.hir_env.specs.Paths.{read_generic_arg_list, read_param, read_paren_args, read_path, read_segment, read_path_type}
+use Rattle.hir_env.specs.Paths.{arg_list_or_none, generic_args_of, bounds_of, type_at, generic_arg_step, path_step, segment_step}
+use Rattle.hir_env.specs.Paths.{assoc_type_arg_step, generic_arg_list_step, param_step, paren_args_step, path_type_step}
+use Rattle.hir_env.specs.Paths.{ret_type_step, type_arg_step, type_bound_step, read_generic_arg, read_path, read_segment}
+use Rattle.hir_env.specs.Paths.{read_assoc_type_arg, read_generic_arg_list, read_param, read_paren_args, read_path_type}
 use Rattle.hir_env.specs.Paths.{read_ret_type, read_type_arg, read_type_bound, read_type, type_reader}
 use Rattle.hir_env.specs.TypeLayers.{ParamReading, PathTypeReading}
 use Rattle.hir_env.specs.Answered as tree
