@@ -1,9 +1,10 @@
 -- Where nodes lead once one more does.
-use Rattle.std.proofs.Common.{arith, ◌≡◌, ◌∙◌, refl, sym, ap, subst, ℕ, suc, ◌≤◌, length, Bool, true, false, ◌&&◌, if◌then◌else◌, nat_eq}
-use Rattle.std.proofs.Common.{List, [], ◌∷◌, ◌++◌, length-append, Option, Some, None, ◌⊎◌, inl, inr, ⊎_elim, true≢false, is_some}
+use Rattle.std.proofs.Common.{arith, ◌≡◌, ◌∙◌, refl, sym, ap, subst, ℕ, suc, ◌≤◌, length, List, [], ◌∷◌, ◌++◌}
+use Rattle.std.proofs.Common.{Bool, true, false, ◌&&◌, if◌then◌else◌, nat_eq, Option, Some, None, is_some}
+use Rattle.std.proofs.Common.{◌⊎◌, inl, inr, ⊎_elim, true≢false}
 use Rattle.std.specs.Prelude.{zero, slice_get}
 use Rattle.std.proofs.lemmas.Bool.{eqb-true, eq-eqb}
-use Rattle.std.proofs.lemmas.Option.{slice_get_within}
+use Rattle.std.proofs.lemmas.Option.{slice_get_within, same_Some}
 use Rattle.std.specs.Cmp.Derive.{both_true}
 use Rattle.indexmap.specs.IndexMap.{insert_entry}
 use Rattle.hir_store.specs.Pointers.{Pointer, same_pointer, found}
@@ -50,13 +51,14 @@ module _ {T : Type 0} (p : Pointer) (t : T) where
       → (found es q ≡ Some u) ⊎ ((p ≡ q) × (t ≡ u))
   found_split [] q u h = by (same_pointer q p) refl h
     where
-      by : (b : Bool) → same_pointer q p ≡ b → (if b then Some t else None) ≡ Some u → (found {T = T} [] q ≡ Some u) ⊎ ((p ≡ q) × (t ≡ u))
+      by : (b : Bool) → same_pointer q p ≡ b → (if b then Some t else None) ≡ Some u
+          → (found {T = T} [] q ≡ Some u) ⊎ ((p ≡ q) × (t ≡ u))
       by true e k = inr (sym (pointer_is q p e), cc)
       by false e k = inl k
   found_split (e ∷ es) q u h = by (found_split es q u) (same_pointer p e.0) refl (same_pointer q e.0) refl h
     where
-      by : (found (entered es) q ≡ Some u → (found es q ≡ Some u) ⊎ ((p ≡ q) × (t ≡ u))) → (b : Bool) → same_pointer p e.0 ≡ b
-          → (c : Bool) → same_pointer q e.0 ≡ c → found (if b then (e.0, t) ∷ es else e ∷ entered es) q ≡ Some u
+      by : (found (entered es) q ≡ Some u → (found es q ≡ Some u) ⊎ ((p ≡ q) × (t ≡ u)))
+          → (b : Bool) → same_pointer p e.0 ≡ b → (c : Bool) → same_pointer q e.0 ≡ c → found (if b then (e.0, t) ∷ es else e ∷ entered es) q ≡ Some u
           → (found (e ∷ es) q ≡ Some u) ⊎ ((p ≡ q) × (t ≡ u))
       by others true m true n k =
           let w : Some t ≡ Some u = sym (ap (λ b. if b then Some t else found es q) n) ∙ k in
@@ -98,12 +100,18 @@ push_old (z ∷ xs) x y (suc n) h = push_old xs x y n h
 
 push_cases : {A : Type 0} (xs : List A) (x y : A) (n : ℕ) → slice_get (xs ++ x ∷ []) n ≡ Some y
     → (slice_get xs n ≡ Some y) ⊎ ((n ≡ length xs) × (x ≡ y))
-push_cases [] x y zero h = inr (refl, cc)
+push_cases [] x y zero h = inr (refl, same_Some x y h)
 push_cases [] x y (suc n) h = inl h
 push_cases (z ∷ xs) x y zero h = inl h
 push_cases (z ∷ xs) x y (suc n) h = ⊎_elim (λ l. inl l) (λ e. inr (ap suc e.0, e.1)) (push_cases xs x y n h)
 
 -- ---- sources and ways
+
+abbrev new_id : {T I : Type 0} → (ℕ → I) → Sourced T I → I
+new_id number a = number (length a.entries)
+
+abbrev led : {T I : Type 0} → (ℕ → I) → Sourced T I → Pointer → List (Pointer × I)
+led number a s = insert_entry same_pointer a.map s (new_id number a)
 
 module _ {T I : Type 0} (place : I → ℕ) where
   pub maps_back_none : (limit : ℕ) → MapsBack place (none_yet {T = T} limit)
@@ -117,7 +125,10 @@ module _ {T I : Type 0} (place : I → ℕ) where
     from_nothing : MapsBack place (with_entry number a x None)
     from_nothing = record {
       to_source = λ p id f. push_old a.sources None (Some p) (place id) (h.to_source p id f);
-      to_entry = λ n p g. ⊎_elim (λ l. old n p (h.to_entry n p l)) (λ e. absurd (true≢false (sym (ap is_some e.1)))) (push_cases a.sources None (Some p) n g);
+      to_entry = λ n p g. ⊎_elim
+          (λ l. old n p (h.to_entry n p l))
+          (λ e. absurd (true≢false (ap is_some (sym e.1))))
+          (push_cases a.sources None (Some p) n g);
     }
       where
         old : (n : ℕ) (p : Pointer) → Leads place a p n → Leads place (with_entry number a x None) p n
@@ -128,38 +139,38 @@ module _ {T I : Type 0} (place : I → ℕ) where
       to_source = λ p id f. ⊎_elim
           (λ o. push_old a.sources (Some s) (Some p) (place id) (h.to_source p id o))
           (λ e. subst (λ i. slice_get (a.sources ++ Some s ∷ []) (place i) ≡ Some (Some p)) e.1 (newest p e.0))
-          (found_split s new a.map p id f);
+          (found_split s (new_id number a) a.map p id f);
       to_entry = λ n p g. ⊎_elim
           (λ o. still n p (h.to_entry n p o) (same_pointer s p) refl)
-          (λ e. last n p e.0 cc)
+          (λ e. last n p e.0 (same_Some s p e.1))
           (push_cases a.sources (Some s) (Some p) n g);
     }
       where
-        abbrev new : I
-        new = number (length a.entries)
-
-        abbrev b : Sourced T I
-        b = with_entry number a x (Some s)
-
-        at : place new ≡ length a.sources
+        at : place (new_id number a) ≡ length a.sources
         at = placed (length a.entries) ∙ sym paired
 
-        newest : (p : Pointer) → s ≡ p → slice_get (a.sources ++ Some s ∷ []) (place new) ≡ Some (Some p)
+        newest : (p : Pointer) → s ≡ p → slice_get (a.sources ++ Some s ∷ []) (place (new_id number a)) ≡ Some (Some p)
         newest p e = ap (slice_get (a.sources ++ Some s ∷ [])) at ∙ (push_new a.sources (Some s) ∙ ap (λ y. Some (Some y)) e)
 
-        last : (n : ℕ) (p : Pointer) → n ≡ length a.sources → s ≡ p → Leads place b p n
+        last : (n : ℕ) (p : Pointer) → n ≡ length a.sources → s ≡ p → Leads place (with_entry number a x (Some s)) p n
         last n p e same =
-            record { id = new; is = subst (λ y. found b.map y ≡ Some new) same (found_new s new a.map); from = omega (arith, e, at) }
+            record {
+              id = new_id number a;
+              is = subst (λ y. found (led number a s) y ≡ Some (new_id number a)) same (found_new s (new_id number a) a.map);
+              from = omega (arith, e, at);
+            }
 
-        still : (n : ℕ) (p : Pointer) → Leads place a p n → (c : Bool) → same_pointer s p ≡ c → Leads place b p n
+        still : (n : ℕ) (p : Pointer) → Leads place a p n → (c : Bool) → same_pointer s p ≡ c
+            → Leads place (with_entry number a x (Some s)) p n
         still n p l true e =
             let below = slice_get_within a.sources (place l.id) (Some p) (h.to_source p l.id l.is) in
+            let same = pointer_is s p e in
             let from = l.from in record {
-              id = new;
-              is = subst (λ y. found b.map y ≡ Some new) (pointer_is s p e) (found_new s new a.map);
+              id = new_id number a;
+              is = subst (λ y. found (led number a s) y ≡ Some (new_id number a)) same (found_new s (new_id number a) a.map);
               from = omega (arith, below, from, at);
             }
-        still n p l false e = record { id = l.id; is = found_other s new a.map p e ∙ l.is; from = l.from }
+        still n p l false e = record { id = l.id; is = found_other s (new_id number a) a.map p e ∙ l.is; from = l.from }
 
     pub maps_back_entry : (source : Option Pointer) → MapsBack place (with_entry number a x source)
     maps_back_entry None = from_nothing

@@ -1,5 +1,6 @@
 -- What lists and arguments name.
-use Rattle.std.proofs.Common.{arith, ◌≡◌, ◌∙◌, refl, sym, ap, ℕ, max, Bool, true, List, [], ◌∷◌, ◌++◌, Option, Some, None}
+use Rattle.std.proofs.Common.{arith, ◌≡◌, ◌∙◌, refl, sym, ap, ℕ, max, Bool, true}
+use Rattle.std.proofs.Common.{List, [], ◌∷◌, ◌++◌, Option, Some, None}
 use Rattle.hir_store.specs.declared.ids.TypeRefId.{TypeRefId}
 use Rattle.hir_store.specs.declared.name.Name.{Name}
 use Rattle.hir_store.specs.declared.name.Name.TheVariants.{Missing}
@@ -26,9 +27,11 @@ join_assoc p q r = same_past (omega arith) (omega arith) (omega arith)
 pub join_nothing : (p : Past) → join p of.nothing ≡ join of.nothing p
 join_nothing p = same_past (omega arith) (omega arith) (omega arith)
 
-pub each_push : {A : Type 0} (past : A → Past) (xs : List A) (x : A) → of.past_each past (xs ++ x ∷ []) ≡ join (of.past_each past xs) (past x)
+pub each_push : {A : Type 0} (past : A → Past) (xs : List A) (x : A)
+    → of.past_each past (xs ++ x ∷ []) ≡ join (of.past_each past xs) (past x)
 each_push past [] x = join_nothing (past x)
-each_push past (y ∷ xs) x = ap (join (past y)) (each_push past xs x) ∙ join_assoc (past y) (of.past_each past xs) (past x)
+each_push past (y ∷ xs) x =
+    ap (join (past y)) (each_push past xs x) ∙ join_assoc (past y) (of.past_each past xs) (past x)
 
 pub type_ids_push : (xs : List TypeRefId) (x : TypeRefId) → of.past_type_ids (xs ++ x ∷ []) ≡ join (of.past_type_ids xs) (of.past_type_id x)
 type_ids_push = each_push of.past_type_id
@@ -43,7 +46,8 @@ bindings_push = each_push of.past_binding
 pub bounds_push : (xs : List TypeBound) (x : TypeBound) → of.past_bounds (xs ++ x ∷ []) ≡ join (of.past_bounds xs) (of.past_bound x)
 bounds_push = each_push of.past_bound
 
-pub use_args_push : (xs : List UseArgRef) (x : UseArgRef) → of.past_use_args (xs ++ x ∷ []) ≡ join (of.past_use_args xs) (of.past_use_arg x)
+pub use_args_push : (xs : List UseArgRef) (x : UseArgRef)
+    → of.past_use_args (xs ++ x ∷ []) ≡ join (of.past_use_args xs) (of.past_use_arg x)
 use_args_push = each_push of.past_use_arg
 
 pub arg_lists_push : (xs : List (Option GenericArgs)) (x : Option GenericArgs)
@@ -53,16 +57,19 @@ arg_lists_push = each_push (of.past_present of.past_generic)
 -- ---- arguments and bindings, each in one level of the other
 
 abbrev mapped : {A B C D : Type 0} → (A → C) → (B → D) → List A → List C
-mapped {A} {B} {C} {D} f g xs = (folds.map-GenericArgs A B C D f g (record { args = []; has_self_type = true; bindings = xs; parenthesized = No })).bindings
+mapped {A} {B} {C} {D} f g xs =
+    (folds.map-GenericArgs A B C D f g (record { args = []; has_self_type = true; bindings = xs; parenthesized = No })).bindings
 
 joined_is : (xs : List AssociatedTypeBinding) → of.joined (mapped of.past_binding of.past_generic xs) ≡ of.past_bindings xs
 joined_is [] = refl
 joined_is (x ∷ xs) = ap (join (of.past_binding x)) (joined_is xs)
 
 abbrev one_mapped : {A B C D : Type 0} → (A → C) → (B → D) → Option B → Option D
-one_mapped {A} {B} {C} {D} f g x = (folds.map-AssociatedTypeBinding A B C D f g (record { name = Missing; args = x; type_ref = None; bounds = [] })).args
+one_mapped {A} {B} {C} {D} f g x =
+    (folds.map-AssociatedTypeBinding A B C D f g (record { name = Missing; args = x; type_ref = None; bounds = [] })).args
 
-present_is : (x : Option GenericArgs) → of.past_present (λ p. p) (one_mapped of.past_binding of.past_generic x) ≡ of.past_present of.past_generic x
+present_is : (x : Option GenericArgs)
+    → of.past_present (λ p. p) (one_mapped of.past_binding of.past_generic x) ≡ of.past_present of.past_generic x
 present_is None = refl
 present_is (Some x) = refl
 
@@ -90,10 +97,13 @@ generic_out a =
     folds.fold_out-GenericArgs Past Past of.binding_step of.args_step a
     ∙ ap (join (of.past_args (out-GenericArgs a).args)) (joined_is (out-GenericArgs a).bindings)
 
-pub self_first_past : (ty : TypeRefId) (args : Option GenericArgs)
-    → of.past_generic (self_first ty args) ≡ join (of.past_type_id ty) (of.past_present of.past_generic args)
-self_first_past ty None = generic_roll (arg.Type_ ty ∷ []) true [] No ∙ same_past (omega arith) (omega arith) (omega arith)
-self_first_past ty (Some a) =
+pub self_alone_past : (ty : TypeRefId) → of.past_generic (self_first ty None) ≡ join (of.past_type_id ty) of.nothing
+self_alone_past ty = generic_roll (arg.Type_ ty ∷ []) true [] No ∙ same_past (omega arith) (omega arith) (omega arith)
+
+pub self_before_past : (ty : TypeRefId) (a : GenericArgs)
+    → of.past_generic (self_first ty (Some a)) ≡ join (of.past_type_id ty) (of.past_generic a)
+self_before_past ty a =
     let o = out-GenericArgs a in
     generic_roll (arg.Type_ ty ∷ o.args) true o.bindings o.parenthesized
-    ∙ (sym (join_assoc (of.past_type_id ty) (of.past_args o.args) (of.past_bindings o.bindings)) ∙ ap (join (of.past_type_id ty)) (sym (generic_out a)))
+    ∙ (sym (join_assoc (of.past_type_id ty) (of.past_args o.args) (of.past_bindings o.bindings))
+    ∙ ap (join (of.past_type_id ty)) (sym (generic_out a)))

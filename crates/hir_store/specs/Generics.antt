@@ -18,7 +18,8 @@ of_args args has_self_type bindings parenthesized =
     roll-GenericArgs (record { args = args; has_self_type = has_self_type; bindings = bindings; parenthesized = parenthesized })
 
 abbrev pub of_binding : Name → Option GenericArgs → Option TypeRefId → List TypeBound → AssociatedTypeBinding
-of_binding name args type_ref bounds = roll-AssociatedTypeBinding (record { name = name; args = args; type_ref = type_ref; bounds = bounds })
+of_binding name args type_ref bounds =
+    roll-AssociatedTypeBinding (record { name = name; args = args; type_ref = type_ref; bounds = bounds })
 
 -- arguments, and this type in front of them for `Self`
 abbrev pub self_before : TypeRefId → GenericArgs-F AssociatedTypeBinding GenericArgs → GenericArgs

@@ -29,7 +29,8 @@ pub fn push_statement(
     statement: Statement,
 ) -> Result<(), AllocError>
     ensures statements { OnOk result (statements.new ≡ statements.old ++ statement ∷ []) }
-    ensures past { OnOk result (past past_statement statements.new ≡ max (past past_statement statements.old) (past_statement statement)) }
+    ensures past { OnOk result (past past_statement statements.new
+        ≡ max (past past_statement statements.old) (past_statement statement)) }
 {
     statements.push(statement)
 }
