@@ -27,6 +27,7 @@ use Rattle.hir_syntax.specs.declared.ast.ElseBranch.TheFolds.{fold-ElseBranch, f
 use Rattle.hir_syntax.specs.declared.ast.ElseBranch.TheFolds.{fold-Expr, fold-RecordExprField, fold-RecordExprFieldList, fold-Stmt}
 use Rattle.hir_syntax.specs.declared.node.NodeId.{NodeId}
 use Rattle.hir_syntax.specs.declared.node.TextRange.{TextRange}
+use Rattle.hir_syntax.specs.declared.node.AstPtr.{AstPtr}
 use Rattle.hir_store.specs.Pointers.{Pointer}
 use Rattle.hir_env.specs.declared.place.Place.{Place}
 use Rattle.hir_env.specs.Answers.{Answers}
