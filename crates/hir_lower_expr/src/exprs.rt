@@ -6,8 +6,7 @@ ghost use Rattle.hir_lower_form.specs.Nests.{KidsExpr};
 ghost use Rattle.hir_lower_form.specs.Methods.{LowersExpr, MaybeLowersExpr};
 
 use crate::families::{
-    access_kind, control_kind, leaf_kind, leaving_kind, listing_kind, operator_kind,
-    typed_kind,
+    access_kind, control_kind, leaf_kind, leaving_kind, listing_kind, operator_kind, typed_kind,
 };
 use hir_lower_form::builder::BodyBuilder;
 use hir_lower_form::parts::{LowerParts, Lowerer, site};

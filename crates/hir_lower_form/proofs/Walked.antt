@@ -1,12 +1,12 @@
 -- What a walk names after each of its steps exists.
-use Rattle.std.proofs.Common.{arith, ◌≡◌, ◌∙◌, refl, ap, sym, subst, Bool, true, false, not, ◌&&◌, List, [], ◌∷◌, ◌++◌, Option, Some, None}
+use Rattle.std.proofs.Common.{arith, ◌≡◌, refl, ap, sym, subst, Bool, true, false, not, ◌&&◌, List, [], ◌∷◌, ◌++◌, Option, Some, None}
 use Rattle.std.specs.Prelude.{map, reverse, is_none, if◌then◌else◌, option_map}
 use Rattle.hir_store.specs.declared.path.PathKind.{PathKind}
 use Rattle.std.proofs.lemmas.List.{reverse-append}
 use Rattle.hir_store.specs.Stored.{Stored}
 use Rattle.hir_store.specs.Range.{Has, HasType, HasArgsOption, HasPath, HasPathOption}
 use Rattle.hir_store.specs.Generics.{self_first}
-use Rattle.hir_store.specs.Past.{Past, nothing, join, past_each, past_arg_lists, past_generic, past_present, past_path, past_type_id}
+use Rattle.hir_store.specs.Past.{Past, nothing, join, past_each, past_arg_lists, past_generic, past_present, past_type_id}
 use Rattle.hir_store.proofs.Past.{self_alone_past, self_before_past}
 use Rattle.hir_store.specs.declared.ids.TypeRefId.{TypeRefId}
 use Rattle.hir_store.specs.declared.path.GenericArgs.{GenericArgs}

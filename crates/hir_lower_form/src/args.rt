@@ -54,11 +54,7 @@ impl ArgLists {
         if args.is_empty() && bindings.is_empty() {
             None
         } else {
-            Some(GenericArgs::new(
-                args,
-                bindings,
-                GenericArgsParentheses::No,
-            ))
+            Some(GenericArgs::new(args, bindings, GenericArgsParentheses::No))
         }
     }
 }

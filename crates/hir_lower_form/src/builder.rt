@@ -46,7 +46,6 @@ impl Drop for BodyBuilder {
 
 impl Model for BodyBuilder {
     ghost use Rattle.hir_lower_form.specs.Builder.{Builder, RibsExist};
-
     ghost use Rattle.hir_store.specs.contracts.path.GenericArgs as generic_args;
     ghost use Rattle.std.specs.Coded.{codes};
 

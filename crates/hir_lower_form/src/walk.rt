@@ -68,10 +68,7 @@ fn absent_args(alloc: Global, names: &Seq<Name>) -> Result<Seq<Option<GenericArg
 }
 
 /// The names of a path and what stands beside each.
-fn segments_of(
-    alloc: Global,
-    path: Path,
-) -> Result<(ModPath, Seq<Option<GenericArgs>>), AllocError>
+fn segments_of(alloc: Global, path: Path) -> Result<(ModPath, Seq<Option<GenericArgs>>), AllocError>
     ensures { IfOk result (λ it. it ≡ (spec.mod_path path, spec.args_of path)) }
 {
     match path {

@@ -40,7 +40,7 @@ proceed_then f g (Err e) b = refl
 pub read_each_last : {A : Type 0} (read : A → Place → Segment) (p : Place) (xs : List (Option A)) (x : Option A)
     (w : PathWalk) (b : Builder) → read_each (segments_of read (xs ++ x ∷ []) p) w b
     ≡ go_on (read_segment false (segment_or_absent read x p) w b).0 (read_segment false (segment_or_absent read x p) w b).1
-        (λ r. proceed r (read_each (segments_of read xs p)))
+    (λ r. proceed r (read_each (segments_of read xs p)))
 read_each_last read p [] x w b =
     let o = read_segment false (segment_or_absent read x p) w b in open_stays o.0 o.1
 read_each_last read p (y ∷ xs) x w b =

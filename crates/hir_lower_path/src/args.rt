@@ -103,17 +103,8 @@ fn sugared_args(
     args.push(GenericArg::Type_(tuple))?;
     let name = Name::Text(Text::new(alloc, "Output")?);
     let mut bindings = Seq::new(alloc);
-    bindings.push(AssociatedTypeBinding::new(
-        name,
-        None,
-        Some(output),
-        Seq::new(alloc),
-    ))?;
-    Ok(GenericArgs::new(
-        args,
-        bindings,
-        GenericArgsParentheses::ParenSugar,
-    ))
+    bindings.push(AssociatedTypeBinding::new(name, None, Some(output), Seq::new(alloc)))?;
+    Ok(GenericArgs::new(args, bindings, GenericArgsParentheses::ParenSugar))
 }
 
 /// `(A) -> C`. Without `(A)` nothing is read.

@@ -1,6 +1,6 @@
 //! A path is read from its last segment to its first, then the path of the use tree around it.
 
-ghost use Rattle.std.specs.Prelude.{◌≡◌, IfOk, None, false, true};
+ghost use Rattle.std.specs.Prelude.{None, false, true};
 ghost use Rattle.hir_syntax.specs.declared.ast.Path.{out-Path};
 ghost use Rattle.hir_syntax.specs.declared.ast.PathSegment.{out-PathSegment};
 ghost use Rattle.hir_store.specs.Range.{HasType};
@@ -278,5 +278,12 @@ pub fn path_node<P: LowerParts>(
     requires walk { HasWalk state.old.stored walk }
     ensures { ReadsPath (path_level (P.spot lowerer.now.parts) node.now) walk state.old result state.new }
 {
-    whole_path(lowerer, state, walk, node.leading, node.segs.as_slice(), &node.use_)
+    whole_path(
+        lowerer,
+        state,
+        walk,
+        node.leading,
+        node.segs.as_slice(),
+        &node.use_,
+    )
 }

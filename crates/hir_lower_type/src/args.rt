@@ -40,20 +40,15 @@ fn binding_form<P: LowerParts>(
     ensures { let inner = at_place (P.spot lowerer.now.parts) place in
         let level = out-AssocTypeArg node.now in
         Lowers HasBinding (forms.binding_form (name.Text written.now.t) level.rtn
-            (spec.args_part (arg_list_part inner level.generics))
-            (spec.present_type (type_part inner level.ty))
-            (spec.lower_bounds [] (bounds_part inner level.bounds))) state.old result state.new }
+        (spec.args_part (arg_list_part inner level.generics))
+        (spec.present_type (type_part inner level.ty))
+        (spec.lower_bounds [] (bounds_part inner level.bounds))) state.old result state.new }
 {
     let args = lowerer.args_if_present(state, place, &node.generics)?;
     let args = or_notation(lowerer.alloc, args, node.rtn);
     let ty = lowerer.type_if_present(state, place, &node.ty)?;
-    let bounds = bounds(lowerer, state, place, node.bounds.as_slice())?;
-    Ok(AssociatedTypeBinding::new(
-        Name::Text(written.t.clone()?),
-        args,
-        ty,
-        bounds,
-    ))
+    let bounds = bounds(lowerer, state, place, &node.bounds)?;
+    Ok(AssociatedTypeBinding::new(Name::Text(written.t.clone()?), args, ty, bounds))
 }
 
 /// A binding with a parameter list, and one without a name, is skipped.

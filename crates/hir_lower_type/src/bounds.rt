@@ -10,6 +10,7 @@ ghost use Rattle.hir_lower_form.specs.Lower as spec;
 ghost use Rattle.hir_lower_form.specs.Types as forms;
 ghost use Rattle.hir_lower_form.specs.Methods.{HasUseArg, LowersBounds, LowersPath, at_place};
 ghost use Rattle.hir_lower_form.specs.Nests.{KidsBound, KidsBounds, KidsTrait};
+ghost use Rattle.hir_lower_type.specs.Bounds.{LowersPathBound};
 
 use crate::lifetimes::{binder, lifetime};
 use hir_env::place::Place;
@@ -49,9 +50,8 @@ fn stored_path_bound(maybe: bool, names: Seq<Name>, ty: TypeRefId) -> TypeBound
     }
 }
 
-/// A bound by a trait, and an error where its path is absent or refused.
 #[tactic(auto, using(crate::proofs::BoundsExist::path_bound_has), unfolding(hir_lower_form::specs::Types::path_bound_form))]
-fn path_bound<P: LowerParts>(
+fn path_bound_form<P: LowerParts>(
     lowerer: &Lowerer<P>,
     state: &mut BodyBuilder,
     place: Place,
@@ -61,8 +61,7 @@ fn path_bound<P: LowerParts>(
 ) -> Result<TypeBound, StoreFault>
     requires { KidsTrait (P.can lowerer.now.parts) place node.now }
     ensures { let level = path_type_level (at_place (P.spot lowerer.now.parts) place) node.now in
-        Lowers HasBound (forms.path_bound_form level.pointer maybe (binder_of written.now) (spec.lower_path level.path))
-            state.old result state.new }
+        LowersPathBound level maybe (binder_of written.now) state.old result state.new }
 {
     let Some(path) = trait_path(lowerer, state, place, node)? else {
         return Ok(TypeBound::Error);
@@ -71,6 +70,22 @@ fn path_bound<P: LowerParts>(
     let ty = state.alloc_type(TypeRef::Path(path), Some(at))?;
     let names = binder(lowerer.alloc, written)?;
     Ok(stored_path_bound(maybe, names, ty))
+}
+
+/// A bound by a trait, and an error where its path is absent or refused.
+fn path_bound<P: LowerParts>(
+    lowerer: &Lowerer<P>,
+    state: &mut BodyBuilder,
+    place: Place,
+    node: &ast::PathType,
+    maybe: bool,
+    written: &Option<ast::ForBinder>,
+) -> Result<TypeBound, StoreFault>
+    requires { KidsTrait (P.can lowerer.now.parts) place node.now }
+    ensures { let read = answered_path_type (at_place (P.spot lowerer.now.parts) place) node.now in
+        LowersPathBound read maybe (binder_of written.now) state.old result state.new }
+{
+    path_bound_form(lowerer, state, place, node, maybe, written)
 }
 
 /// What a `use<..>` names.
@@ -83,9 +98,7 @@ fn use_arg(
 {
     match written {
         ast::UseArg::Name(name) => Ok(UseArgRef::Name(Name::Text(name.t.clone()?))),
-        ast::UseArg::Lifetime(written) => Ok(UseArgRef::Lifetime(lifetime(
-            state, place, written,
-        )?)),
+        ast::UseArg::Lifetime(written) => Ok(UseArgRef::Lifetime(lifetime(state, place, written)?)),
     }
 }
 
@@ -106,7 +119,6 @@ fn use_args<P: LowerParts>(
     Ok(done)
 }
 
-#[tactic(auto, using(hir_env::proofs::PathLevels::path_type_is_level))]
 fn bound_form<P: LowerParts>(
     lowerer: &Lowerer<P>,
     state: &mut BodyBuilder,
@@ -147,8 +159,7 @@ fn bound<P: LowerParts>(
     bound_form(lowerer, state, place, node)
 }
 
-/// The bounds, read at this place.
-pub(crate) fn bounds<P: LowerParts>(
+fn each_bound<P: LowerParts>(
     lowerer: &Lowerer<P>,
     state: &mut BodyBuilder,
     place: Place,
@@ -164,4 +175,17 @@ pub(crate) fn bounds<P: LowerParts>(
         left = rest;
     }
     Ok(done)
+}
+
+/// The bounds, read at this place.
+pub(crate) fn bounds<P: LowerParts>(
+    lowerer: &Lowerer<P>,
+    state: &mut BodyBuilder,
+    place: Place,
+    all: &Seq<ast::TypeBound>,
+) -> Result<Seq<TypeBound>, StoreFault>
+    requires { KidsBounds (P.can lowerer.now.parts) place all.now }
+    ensures { LowersBounds (bounds_part (at_place (P.spot lowerer.now.parts) place) all.now) state.old result state.new }
+{
+    each_bound(lowerer, state, place, all.as_slice())
 }

@@ -4,13 +4,14 @@ ghost use Rattle.std.specs.Prelude.{◌≡◌, IfOk, false};
 ghost use Rattle.hir_syntax.specs.declared.types.Param.{out-Param};
 ghost use Rattle.hir_store.specs.Range.{HasType, HasTypeOption};
 ghost use Rattle.hir_env.specs.Answered as tree;
+ghost use Rattle.hir_env.specs.Answered.{FnHead};
 ghost use Rattle.hir_env.specs.Paths as of;
-ghost use Rattle.hir_env.specs.Whole.{answer_part, answered_param, answered_ret, param_level, params_part, ret_level, varargs_part};
+ghost use Rattle.hir_env.specs.Whole.{answer_part, answered_param, param_level, params_part, ret_level, varargs_part};
 ghost use Rattle.hir_lower_form.specs.Lowering.{Lowers};
 ghost use Rattle.hir_lower_form.specs.Lower as spec;
 ghost use Rattle.hir_lower_form.specs.Methods.{LowersParts, LowersType};
 ghost use Rattle.hir_lower_form.specs.Nests.{Each, IfPresent, KidsParam, KidsRet};
-ghost use Rattle.hir_lower_type.specs.Params.{lower_param, params_at, variadic_at};
+ghost use Rattle.hir_lower_type.specs.Params.{lower_param, params_at, variadic_last};
 
 use hir_lower_form::builder::BodyBuilder;
 use hir_lower_form::parts::{LowerParts, Lowerer};
@@ -132,11 +133,11 @@ fn params_if_present<P: LowerParts>(
     }
 }
 
-#[tactic(auto, using(hir_env::proofs::PathLevels::param_is_level))]
-fn last_variadic<P: LowerParts>(lowerer: &Lowerer<P>, mut left: &[ast::Param]) -> bool
-    ensures { result ≡ variadic_at (P.spot lowerer.now.parts) false left.entry.now }
+fn last_variadic(all: &Seq<ast::Param>) -> bool
+    ensures { result ≡ variadic_last false all.now }
 {
     let mut variadic = false;
+    let mut left = all.as_slice();
     while let [one, rest @ ..] = left {
         variadic = one.variadic;
         left = rest;
@@ -145,12 +146,13 @@ fn last_variadic<P: LowerParts>(lowerer: &Lowerer<P>, mut left: &[ast::Param]) -
 }
 
 /// Whether the last of the parameters is variadic.
+#[tactic(auto, using(crate::proofs::Params::variadic_is))]
 fn is_varargs<P: LowerParts>(lowerer: &Lowerer<P>, all: &Option<Seq<ast::Param>>) -> bool
     ensures { result ≡ varargs_part (P.spot lowerer.now.parts) all.now }
 {
     match all {
         None => false,
-        Some(all) => last_variadic(lowerer, all.as_slice()),
+        Some(all) => last_variadic(all),
     }
 }
 
@@ -211,7 +213,7 @@ pub(crate) fn fn_form<P: LowerParts>(
     requires params { IfPresent (Each (λ x. KidsParam (P.can lowerer.now.parts) (P.spot lowerer.now.parts).place (out-Param x))) all.now }
     requires ret { IfPresent (KidsRet (P.can lowerer.now.parts) (P.spot lowerer.now.parts).place) ret.now }
     ensures { let spot = P.spot lowerer.now.parts in
-        let head = record { is_unsafe = is_unsafe; abi = of.abi_of written.now; is_varargs = varargs_part spot all.now } in
+        let head : FnHead = record { is_unsafe = is_unsafe; abi = of.abi_of written.now; is_varargs = varargs_part spot all.now } in
         LowersType binder.now (tree.fn_type at head (params_part spot all.now) (answer_part spot ret.now)) state.old result state.new }
 {
     let output = answer(lowerer, state, ret)?;

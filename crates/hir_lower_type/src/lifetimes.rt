@@ -61,10 +61,7 @@ pub(crate) fn lifetime_if_present(
 }
 
 /// The names of the lifetimes that are there.
-fn binder_names(
-    alloc: Global,
-    mut left: &[Option<ast::Lifetime>],
-) -> Result<Seq<Name>, AllocError>
+fn binder_names(alloc: Global, mut left: &[Option<ast::Lifetime>]) -> Result<Seq<Name>, AllocError>
     ensures { IfOk result (λ names. names ≡ of.binder_names left.entry.now) }
 {
     let mut names = Seq::new(alloc);

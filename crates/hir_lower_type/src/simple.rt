@@ -1,6 +1,6 @@
 //! Types of one form.
 
-ghost use Rattle.std.specs.Prelude.{None, Some, option_map};
+ghost use Rattle.std.specs.Prelude.{◌≡◌, None, Some, option_map};
 ghost use Rattle.hir_env.specs.Answered as tree;
 ghost use Rattle.hir_env.specs.Paths.{binder_of, impl_at, lifetime_of, mutability};
 ghost use Rattle.hir_env.specs.Paths as of;
@@ -89,7 +89,7 @@ pub(crate) fn ref_form<P: LowerParts>(
     requires { IfPresent ((P.can lowerer.now.parts).type_ (P.spot lowerer.now.parts).place) ty.now }
     ensures { let spot = P.spot lowerer.now.parts in
         LowersType None (tree.ref_type at (option_map (lifetime_of spot.place) written.now) (mutability mut_) (type_part spot ty.now))
-            state.old result state.new }
+        state.old result state.new }
 {
     let place = lowerer.parts.place();
     let ty = lowerer.type_or_error(state, place, &None, ty)?;
@@ -169,7 +169,7 @@ pub(crate) fn impl_form<P: LowerParts>(
     if place.in_impl {
         return state.alloc_type(TypeRef::Error, Some(at));
     }
-    let read = bounds(lowerer, state, inside_impl(place), written.as_slice())?;
+    let read = bounds(lowerer, state, inside_impl(place), written)?;
     match place.impl_trait {
         ImplTrait::Error => state.alloc_type(TypeRef::Error, Some(at)),
         ImplTrait::Opaque => state.alloc_type(TypeRef::ImplTrait(read), Some(at)),
@@ -186,6 +186,6 @@ pub(crate) fn dyn_form<P: LowerParts>(
     requires { KidsBounds (P.can lowerer.now.parts) (P.spot lowerer.now.parts).place written.now }
     ensures { LowersType None (tree.dyn_type at (bounds_part (P.spot lowerer.now.parts) written.now)) state.old result state.new }
 {
-    let read = bounds(lowerer, state, lowerer.parts.place(), written.as_slice())?;
+    let read = bounds(lowerer, state, lowerer.parts.place(), written)?;
     state.alloc_type(TypeRef::DynTrait(read), Some(at))
 }

@@ -45,9 +45,7 @@ pub fn type_node<P: LowerParts>(
             abi,
             params,
             ret,
-        } => fn_form(
-            lowerer, state, at, binder, *unsafe_, abi, params, ret,
-        ),
+        } => fn_form(lowerer, state, at, binder, *unsafe_, abi, params, ret),
         ast::TypeKind::ImplTraitType { bounds } => impl_form(lowerer, state, at, bounds),
         ast::TypeKind::DynTraitType { bounds } => dyn_form(lowerer, state, at, bounds),
         ast::TypeKind::NeverType => state.alloc_type(TypeRef::Never, Some(at)),

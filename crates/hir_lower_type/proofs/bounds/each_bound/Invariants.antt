@@ -4,7 +4,7 @@ use Rattle.hir_env.specs.Whole.{bounds_part}
 use Rattle.hir_lower_form.specs.Lower.{lower_bounds}
 use Rattle.hir_lower_form.specs.Methods.{at_place}
 use Rattle.hir_lower_form.specs.Nests.{KidsBounds}
-use Rattle.hir_lower_type.proofs.bounds.bounds.Given as goal
+use Rattle.hir_lower_type.proofs.bounds.each_bound.Given as goal
 
 abbrev pub invariant-loop-left : goal.invariant-loop-left
 invariant-loop-left g l = let at = at_place (g.P.LowerParts.spot l.lowerer.parts) l.fn.place in record {
