@@ -9,8 +9,7 @@ use Rattle.hir_syntax.specs.declared.types.AssocTypeArg.{AssocTypeArg as AstAsso
 use Rattle.hir_syntax.specs.declared.types.GenericArgList.{GenericArgList as AstGenericArgList, out-GenericArgList}
 use Rattle.hir_env.specs.Spot.{Spot}
 use Rattle.hir_env.specs.declared.place.Place.{Place}
-use Rattle.hir_env.specs.Answered as tree
-use Rattle.hir_env.specs.Answered.{OptionArgs, OptionType, Args, Arg, Bounds}
+use Rattle.hir_env.specs.Answered.{OptionArgs, OptionType, Args, Bounds}
 use Rattle.hir_env.specs.TypeLayers.{GenericArgLayer}
 use Rattle.hir_env.specs.Paths as of
 use Rattle.hir_env.specs.Paths.{written_types, type_reader}

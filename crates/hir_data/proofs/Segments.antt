@@ -1,7 +1,7 @@
 -- Without use trees only the first segment of a path can end its reading.
-use Rattle.std.proofs.Common.{◌≡◌, ◌∙◌, refl, sym, ap, subst, List, [], ◌∷◌, ◌++◌, append_assoc}
+use Rattle.std.proofs.Common.{◌≡◌, ◌∙◌, refl, sym, ap, subst, List, [], ◌∷◌, ◌++◌}
 use Rattle.std.proofs.Common.{Option, Some, None, Bool, true, false}
-use Rattle.std.specs.Prelude.{◌&&◌, ◌||◌, not, if◌then◌else◌, map, reverse, option_map, is_some, bytes_eq, codes}
+use Rattle.std.specs.Prelude.{◌&&◌, not, if◌then◌else◌, map, reverse, option_map, is_some, bytes_eq, codes}
 use Rattle.std.proofs.lemmas.List.{reverse-append, reverse-reverse, map-append}
 use Rattle.hir_syntax.specs.declared.ast.Name.{Name as AstName}
 use Rattle.hir_syntax.specs.declared.ast.Path.{Path as AstPath, out-Path}
@@ -16,7 +16,7 @@ use Rattle.hir_env.specs.Answered as tree
 use Rattle.hir_env.specs.Answered.{OptionType, SegmentArgs, Path, OptionPath, Segments, Segment}
 use Rattle.hir_env.specs.TypeLayers.{PathTypeReading}
 use Rattle.hir_env.specs.Paths.{crate_root_at, kinded_segment, qualified_segment}
-use Rattle.hir_env.specs.Whole.{answered_path, answered_segment, answered_path_type, path_level, path_part, segments_part, first_part}
+use Rattle.hir_env.specs.Whole.{answered_path, answered_segment, answered_path_type, path_part, segments_part, first_part}
 use Rattle.hir_env.specs.Whole.{rest_part, path_type_part}
 use Rattle.hir_env.proofs.PathLevels.{path_is_level, segment_is_level, path_type_is_level}
 use Rattle.hir_data.specs.Data.{TypeData, PathData, path_names, names_in}

@@ -1,8 +1,7 @@
 -- The data of what is written.
-use Rattle.std.specs.Prelude.{codes, if◌then◌else◌, Bool, true, false, List, [], ◌∷◌, map, Option, Some, None, option_map}
+use Rattle.std.specs.Prelude.{codes, Bool, true, false, List, [], ◌∷◌, map, Option, Some, None, option_map}
 use Rattle.hir_store.specs.Pointers.{Pointer}
 use Rattle.hir_store.specs.declared.ids.CrateId.{CrateId}
-use Rattle.hir_store.specs.declared.name.Name.{Name}
 use Rattle.hir_store.specs.declared.name.Name.TheVariants as name
 use Rattle.hir_store.specs.declared.path.PathKind.{PathKind}
 use Rattle.hir_store.specs.declared.path.PathKind.TheVariants as kind
@@ -18,7 +17,7 @@ use Rattle.hir_data.specs.Data as datum
 use Rattle.hir_data.specs.Data.{LifetimeData, UseData, TypeData, typed, Shape, OptionTypeData, TypesData, PathData}
 use Rattle.hir_data.specs.Data.{OptionArgsData, no_args, some_args, args_data, ArgumentData, ArgumentsData}
 use Rattle.hir_data.specs.Data.{BindingData, BindingsData, BoundsData, BoundData}
-use Rattle.hir_data.specs.Rule.{Named, PathRead, What, broken, named, root, self_, super_, anchor, projection, Item}
+use Rattle.hir_data.specs.Rule.{PathRead, What, broken, named, root, self_, super_, anchor, projection, Item}
 use Rattle.hir_data.specs.Rule.{read, path_read, data_of}
 
 -- ---- parts without parts

@@ -14,8 +14,9 @@ use Rattle.hir_store.specs.declared.path.GenericArgs.{GenericArgs}
 use Rattle.hir_store.specs.declared.path.Path.{Path}
 use Rattle.hir_store.specs.declared.path.Path.TheVariants.{BarePath, Normal}
 use Rattle.hir_lower_form.specs.Methods.{HasWalk, HasReading}
-use Rattle.hir_lower_form.specs.Walks.{with_self, args_of, without_last_self, has_self, finished, path_read, own_path, normal_path, past_reading}
-use Rattle.hir_lower_form.specs.Walks.{at_first, named, self_read, super_read, self_kind, anchored, projected, add_trait, no_names, mod_path, one_more_super}
+use Rattle.hir_lower_form.specs.Walks.{with_self, args_of, without_last_self, has_self, finished, path_read, own_path}
+use Rattle.hir_lower_form.specs.Walks.{normal_path, at_first, named, self_read, super_read, self_kind, anchored, projected}
+use Rattle.hir_lower_form.specs.Walks.{add_trait, no_names, mod_path, one_more_super}
 use Rattle.hir_lower_form.specs.declared.walk.PathWalk.{PathWalk}
 use Rattle.hir_lower_form.specs.declared.walk.Reading.{Reading}
 use Rattle.hir_lower_form.specs.declared.walk.Reading.TheVariants.{Refused, Ended, Open}
@@ -34,13 +35,13 @@ with_self_last t xs a = ap (with_self t) (reverse-append xs (a ∷ []))
 -- joined
 
 has_join : (s : Stored) (p q : Past) → Has s p → Has s q → Has s (join p q)
-has_join s p q h k = (omega (arith, h.0, k.0), omega (arith, h.1.0, k.1.0), omega (arith, h.1.1, k.1.1))
+has_join s p q h k = (omega (arith, h.0, k.0), omega (arith, h.1, k.1), omega (arith, h.2, k.2))
 
 join_left : (s : Stored) (p q : Past) → Has s (join p q) → Has s p
-join_left s p q h = (omega (arith, h.0), omega (arith, h.1.0), omega (arith, h.1.1))
+join_left s p q h = (omega (arith, h.0), omega (arith, h.1), omega (arith, h.2))
 
 join_right : (s : Stored) (p q : Past) → Has s (join p q) → Has s q
-join_right s p q h = (omega (arith, h.0), omega (arith, h.1.0), omega (arith, h.1.1))
+join_right s p q h = (omega (arith, h.0), omega (arith, h.1), omega (arith, h.2))
 
 has_nothing : (s : Stored) → Has s nothing
 has_nothing s = (omega arith, omega arith, omega arith)
@@ -73,7 +74,8 @@ module _ (s : Stored) where
   lists_of (BarePath p) h = absent_lists p.segments
   lists_of (Normal p) h = join_right s (past_present past_type_id p.type_anchor) (past_arg_lists p.generic_args) h
 
-  has_self_first : (t : TypeRefId) (a : Option GenericArgs) → Has s (past_type_id t) → HasArgsOption s a → Has s (past_generic (self_first t a))
+  has_self_first : (t : TypeRefId) (a : Option GenericArgs) → Has s (past_type_id t) → HasArgsOption s a
+      → Has s (past_generic (self_first t a))
   has_self_first t None h k = subst (Has s) (sym (self_alone_past t)) (has_join s (past_type_id t) nothing h k)
   has_self_first t (Some a) h k = subst (Has s) (sym (self_before_past t a)) (has_join s (past_type_id t) (past_generic a) h k)
 
@@ -135,10 +137,12 @@ module _ (s : Stored) where
       opened : HasReading s (Open (add_trait t p w))
       opened =
           let anchor = past_present past_type_id w.type_anchor in
-          let own = lists_with_self t (reverse (args_of p)) (omega arith, k, omega arith) (each_reverse s (past_present past_generic) (args_of p) (lists_of p m)) in
+          let turned = each_reverse s (past_present past_generic) (args_of p) (lists_of p m) in
+          let own = lists_with_self t (reverse (args_of p)) (omega arith, k, omega arith) turned in
           let old = join_right s anchor (past_arg_lists w.args) h in
+          let both = w.args ++ with_self t (reverse (args_of p)) in
           let all = each_append s (past_present past_generic) w.args (with_self t (reverse (args_of p))) old own in
-          has_join s anchor (past_arg_lists (w.args ++ with_self t (reverse (args_of p)))) (join_left s anchor (past_arg_lists w.args) h) all
+          has_join s anchor (past_arg_lists both) (join_left s anchor (past_arg_lists w.args) h) all
 
       by : (b : Bool) → HasReading s (if b then Refused else Open (add_trait t p w))
       by true = has_nothing s

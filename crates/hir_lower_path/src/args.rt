@@ -125,7 +125,8 @@ fn parens<P: LowerParts>(
     ret: &Option<ast::RetType>,
 ) -> Result<Option<GenericArgs>, StoreFault>
     requires { KidsParens (P.can lowerer.now.parts) (P.spot lowerer.now.parts).place parens.now ret.now }
-    ensures { Lowers HasArgsOption (spec.parens_part (parens_part (P.spot lowerer.now.parts) parens.now ret.now)) state.old result state.new }
+    ensures { let read = parens_part (P.spot lowerer.now.parts) parens.now ret.now in
+        Lowers HasArgsOption (spec.parens_part read) state.old result state.new }
 {
     let Some(parens) = parens else {
         return Ok(None);
@@ -144,7 +145,8 @@ pub(crate) fn segment_args<P: LowerParts>(
     node: &ast::PathSegment,
 ) -> Result<Option<GenericArgs>, StoreFault>
     requires { KidsSegmentArgs (P.can lowerer.now.parts) (P.spot lowerer.now.parts).place (out-PathSegment node.now) }
-    ensures { Lowers HasArgsOption (spec.lower_segment_args (segment_args_level (P.spot lowerer.now.parts) node.now)) state.old result state.new }
+    ensures { let level = segment_args_level (P.spot lowerer.now.parts) node.now in
+        Lowers HasArgsOption (spec.lower_segment_args level) state.old result state.new }
 {
     let place = lowerer.parts.place();
     let found = match lowerer.args_if_present(state, place, &node.generics)? {

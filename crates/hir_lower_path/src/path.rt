@@ -9,7 +9,8 @@ ghost use Rattle.hir_env.specs.Whole.{first_part, path_level, path_part, path_ty
 ghost use Rattle.hir_env.specs.Whole.{segment_args_level, segment_level, segment_part, segments_part, type_part};
 ghost use Rattle.hir_lower_form.specs.Lowering.{Lowers};
 ghost use Rattle.hir_lower_form.specs.Methods.{HasReading, HasWalk, LowersPath, ReadsPath, ReadsSegment};
-ghost use Rattle.hir_lower_form.specs.Nests.{IfPresent, KidsName, KidsPath, KidsPresent, KidsQualified, KidsSegment, KidsSegments, KidsTrait};
+ghost use Rattle.hir_lower_form.specs.Nests.{IfPresent, KidsName, KidsPath, KidsPresent, KidsQualified, KidsSegment};
+ghost use Rattle.hir_lower_form.specs.Nests.{KidsSegments, KidsTrait};
 ghost use Rattle.hir_lower_form.specs.Lower as spec;
 ghost use Rattle.hir_lower_form.specs.Paths as forms;
 ghost use Rattle.hir_lower_form.specs.Walks.{super_read};

@@ -136,9 +136,11 @@ fn args<P: LowerParts>(
     mut lists: ArgLists,
     mut left: &[ast::GenericArg],
 ) -> Result<ArgLists, StoreFault>
-    requires parts { Each (λ a. KidsArg (P.can lowerer.now.parts) (P.spot lowerer.now.parts).place (out-GenericArg a)) left.now }
+    requires parts { let place = (P.spot lowerer.now.parts).place in
+        Each (λ a. KidsArg (P.can lowerer.now.parts) place (out-GenericArg a)) left.now }
     requires lists { HasLists state.old.stored lists }
-    ensures { Lowers HasLists (spec.lower_args lists (generic_args_part (P.spot lowerer.now.parts) left.entry.now)) state.old result state.new }
+    ensures { let all = generic_args_part (P.spot lowerer.now.parts) left.entry.now in
+        Lowers HasLists (spec.lower_args lists all) state.old result state.new }
 {
     while let [one, rest @ ..] = left {
         lists = arg(lowerer, state, lists, one)?;

@@ -114,7 +114,8 @@ fn bound_form<P: LowerParts>(
     node: &ast::TypeBound,
 ) -> Result<TypeBound, StoreFault>
     requires { KidsBound (P.can lowerer.now.parts) place (out-TypeBound node.now) }
-    ensures { Lowers HasBound (spec.lower_bound (bound_level (at_place (P.spot lowerer.now.parts) place) node.now)) state.old result state.new }
+    ensures { let level = bound_level (at_place (P.spot lowerer.now.parts) place) node.now in
+        Lowers HasBound (spec.lower_bound level) state.old result state.new }
 {
     match (node.b, &node.ty, &node.lifetime) {
         (Some(ast::BoundKind::Path), Some(ty), _) => {
@@ -140,7 +141,8 @@ fn bound<P: LowerParts>(
     node: &ast::TypeBound,
 ) -> Result<TypeBound, StoreFault>
     requires { KidsBound (P.can lowerer.now.parts) place (out-TypeBound node.now) }
-    ensures { Lowers HasBound (spec.lower_bound (answered_bound (at_place (P.spot lowerer.now.parts) place) node.now)) state.old result state.new }
+    ensures { let read = answered_bound (at_place (P.spot lowerer.now.parts) place) node.now in
+        Lowers HasBound (spec.lower_bound read) state.old result state.new }
 {
     bound_form(lowerer, state, place, node)
 }

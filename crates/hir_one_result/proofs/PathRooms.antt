@@ -1,6 +1,7 @@
 -- Lowering a type, a path, arguments or a bound stores as much as it becomes, or there is no room for it.
 use Rattle.std.proofs.Common.{arith, ◌≡◌, ◌∙◌, refl, sym, ap, subst, ℕ, ◌+◌, ◌≤◌, ◌^◌, nat_lt, Bool, true, false, not, ◌&&◌, ◌||◌}
-use Rattle.std.proofs.Common.{if◌then◌else◌, List, [], ◌∷◌, ◌++◌, reverse, Option, Some, None, Ok, Err, is_some, is_none, option_map, inl, inr}
+use Rattle.std.proofs.Common.{if◌then◌else◌, List, [], ◌∷◌, ◌++◌, reverse, Option, Some, None, Ok, Err, is_some, is_none, option_map, inl}
+use Rattle.std.proofs.Common.{inr}
 use Rattle.std.proofs.lemmas.Bool.{ltb-false}
 use Rattle.std.proofs.lemmas.List.{reverse-append}
 use Rattle.hir_store.specs.Pointers.{Pointer}
@@ -35,20 +36,25 @@ use Rattle.hir_lower_form.specs.Walks.{start, supers, no_names, add_name, super_
 use Rattle.hir_lower_form.specs.Walks.{is_plain, own_path, normal_path}
 use Rattle.hir_lower_form.specs.Paths as steps
 use Rattle.hir_lower_form.specs.Paths.{proceed, whole, counted, with_trait, parens_form, or_else, segment_args_form}
-use Rattle.hir_lower_form.specs.Types.{TypeSteps, error_type, unit_type, lower_lifetime, lower_lifetime_option, lower_use, lower_uses, over_form}
+use Rattle.hir_lower_form.specs.Types.{TypeSteps, error_type, unit_type, lower_lifetime, lower_lifetime_option, lower_use, lower_uses}
+use Rattle.hir_lower_form.specs.Types.{over_form}
 use Rattle.hir_lower_form.specs.Types.{tuple_type_form, path_type_form, ref_type_form, fn_type_form, impl_type_form, dyn_type_form}
 use Rattle.hir_lower_form.specs.Types.{no_lists, add_arg, add_binding, is_none_of, yielded, binding_form, path_bound_of, path_bound_form}
 use Rattle.hir_lower_form.specs.Lower.{lower_type, type_part, present_type, type_or_unit, lower_parts, read_segment, read_each, read_path}
-use Rattle.hir_lower_form.specs.Lower.{read_option, lower_path, lower_segment_args, parens_part, output_part, args_part, lower_args, lower_arg}
+use Rattle.hir_lower_form.specs.Lower.{read_option, lower_path, lower_segment_args, parens_part, output_part, args_part, lower_args}
+use Rattle.hir_lower_form.specs.Lower.{lower_arg}
 use Rattle.hir_lower_form.specs.Lower.{lower_bounds, lower_bound}
 use Rattle.hir_one_result.specs.Size.{Size, nothing, a_type, a_lifetime, a_super, ◌∪◌, if_so}
 use Rattle.hir_one_result.specs.PathRoom as room
 use Rattle.hir_one_result.specs.PathRoom.{Seen, nothing_seen, Read, refused, ended, goes_on, after, at_first, anew, one_more, self_read}
 use Rattle.hir_one_result.specs.PathRoom.{found, projected, segment_read, segments_read, path_read, outer_read, whole_read, own_read}
-use Rattle.hir_one_result.specs.PathRoom.{any_arg, yields, before, lifetime_size, use_size, uses_size, type_size, type_part_size, present_size}
-use Rattle.hir_one_result.specs.PathRoom.{parts_size, segment_size, segments_size, path_size, outer_size, whole_size, beside_size, parens_size}
+use Rattle.hir_one_result.specs.PathRoom.{any_arg, yields, before, lifetime_size, use_size, uses_size, type_size, type_part_size}
+use Rattle.hir_one_result.specs.PathRoom.{present_size}
+use Rattle.hir_one_result.specs.PathRoom.{parts_size, segment_size, segments_size, path_size, outer_size, whole_size, beside_size}
+use Rattle.hir_one_result.specs.PathRoom.{parens_size}
 use Rattle.hir_one_result.specs.PathRoom.{output_size, args_size, each_arg_size, arg_size, bounds_size, bound_size}
-use Rattle.hir_one_result.proofs.Rooms.{Takes, Same, takes_then, takes_as, takes_end, takes_pure, takes_type, takes_lifetime, nothing_first, moved_in}
+use Rattle.hir_one_result.proofs.Rooms.{Takes, Same, takes_then, takes_as, takes_end, takes_pure, takes_type, takes_lifetime}
+use Rattle.hir_one_result.proofs.Rooms.{nothing_first, moved_in}
 use Rattle.hir_one_result.proofs.Tellings.{Tells, tells_then, tells_as, tells_pure, tells_end, anything, tells_any, takes_of}
 
 -- what was read, of a walk

@@ -185,14 +185,32 @@ takes_as {A = A} {n = n} {k = k} {p = p} same h = record { takes = λ b. by b (p
     by b (Err e) c x = short_as b.stored same x
 
 pub none_after : (n : Size) → Same (n ∪ nothing) n
-none_after n = record { exprs = omega arith; labels = omega arith; types = omega arith; lifetimes = omega arith; overcounts = λ h. ⊎_elim (λ x. x) (λ x. absurd x) h }
+none_after n = record {
+  exprs = omega arith;
+  labels = omega arith;
+  types = omega arith;
+  lifetimes = omega arith;
+  overcounts = λ h. ⊎_elim (λ x. x) (λ x. absurd x) h;
+}
 
 pub none_before : (n : Size) → Same (nothing ∪ n) n
-none_before n = record { exprs = omega arith; labels = omega arith; types = omega arith; lifetimes = omega arith; overcounts = λ h. ⊎_elim (λ x. absurd x) (λ x. x) h }
+none_before n = record {
+  exprs = omega arith;
+  labels = omega arith;
+  types = omega arith;
+  lifetimes = omega arith;
+  overcounts = λ h. ⊎_elim (λ x. absurd x) (λ x. x) h;
+}
 
 -- and the other way round
 pub nothing_first : (n : Size) → Same n (nothing ∪ n)
-nothing_first n = record { exprs = omega arith; labels = omega arith; types = omega arith; lifetimes = omega arith; overcounts = λ h. inr h }
+nothing_first n = record {
+  exprs = omega arith;
+  labels = omega arith;
+  types = omega arith;
+  lifetimes = omega arith;
+  overcounts = λ h. inr h;
+}
 
 pub moved_in : (n k j : Size) → Same (n ∪ (k ∪ j)) ((n ∪ k) ∪ j)
 moved_in n k j = record {
@@ -336,7 +354,8 @@ takes_type x source = record { takes = λ b. by b (nat_lt (length b.stored.types
         }
     by b false is = let full = ltb-false (length b.stored.types.entries) b.stored.types.limit is in inr (inr (inl (omega arith)))
 
-abbrev made_lifetime : Bool → LifetimeRef → Option Pointer → Sourced LifetimeRef LifetimeRefId → Checked LifetimeRefId × Sourced LifetimeRef LifetimeRefId
+abbrev made_lifetime : Bool → LifetimeRef → Option Pointer → Sourced LifetimeRef LifetimeRefId
+    → Checked LifetimeRefId × Sourced LifetimeRef LifetimeRefId
 made_lifetime t x source a = if t then (Ok (lifetime_id (length a.entries)), with_entry lifetime_id a x source) else (Err Full, a)
 
 pub takes_lifetime : (x : LifetimeRef) (source : Option Pointer) → Takes a_lifetime (alloc_lifetime x source)
@@ -358,4 +377,5 @@ takes_lifetime x source = record { takes = λ b. by b (nat_lt (length b.stored.l
           type_limit = refl;
           lifetime_limit = refl;
         }
-    by b false is = let full = ltb-false (length b.stored.lifetimes.entries) b.stored.lifetimes.limit is in inr (inr (inr (inl (omega arith))))
+    by b false is =
+        let full = ltb-false (length b.stored.lifetimes.entries) b.stored.lifetimes.limit is in inr (inr (inr (inl (omega arith))))

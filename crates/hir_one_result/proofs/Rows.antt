@@ -1,6 +1,6 @@
 -- Small trees, worked out.
 use Rattle.std.proofs.Common.{slice_get, ◌≡◌, ◌∙◌, refl, sym, ap, Bool, true, false, List, [], ◌∷◌, ◌++◌, option_to_list, Option, Some}
-use Rattle.std.proofs.Common.{None, length, true≢false}
+use Rattle.std.proofs.Common.{None, true≢false}
 use Rattle.hir_store.specs.Stored.{Store, SourceMap}
 use Rattle.hir_store.specs.declared.hir.Expr.{Expr as HirExpr}
 use Rattle.hir_store.specs.declared.hir.Expr.TheVariants as hir
@@ -13,7 +13,7 @@ use Rattle.hir_syntax.specs.declared.ast.Literal.{Literal as AstLiteral}
 use Rattle.hir_store.specs.Pointers.{Pointer}
 use Rattle.hir_store.specs.declared.hir.Literal.{Literal}
 use Rattle.hir_data.specs.Data.{PathData, path_data, names_in}
-use Rattle.hir_data.specs.Reading.{readers, stored_path}
+use Rattle.hir_data.specs.Reading.{stored_path}
 use Rattle.hir_read_back.proofs.Lookup.{names_read}
 use Rattle.hir_meaning.specs.Data.{LiteralData, literal_data}
 use Rattle.hir_meaning.specs.Contents.{BlockContents}
@@ -36,8 +36,7 @@ is_read : (store : Store) (source_map : SourceMap) (path : Path) (p : PathData) 
     → stored_path store source_map path ≡ p → path ≡ bare_path p
 unfolding stored_path
 is_read store source_map (BarePath m) p b e =
-    let r = readers store source_map (length store.types) in
-    ap (λ ns. BarePath (record { kind = m.kind; segments = ns })) (sym (names_read store source_map r m.segments)) ∙ ap bare_path e
+    ap (λ ns. BarePath (record { kind = m.kind; segments = ns })) (sym (names_read m.segments)) ∙ ap bare_path e
 is_read store source_map (Normal n) p b e = absurd (true≢false (sym b ∙ ap bareness (sym e)))
 
 pub jumps : Jumps

@@ -16,8 +16,9 @@ use Rattle.hir_one_result.specs.Room.{count_of_exprs, count_of_types, count_of_l
 -- expressions, types and lifetimes as the tree becomes. The root stands for the tree, and each expression is what a written
 -- one became, or a missing one for an absent or disabled part, or in front of a tuple with a leading comma; each label is what
 -- a written one became, and there are as many. The source map leads from each written expression and label to what it became,
--- and from nowhere else; the nodes of types and lifetimes lead to them, and no other nodes do. Behind the faults that the body owes as a whole come those of what is read of the tree, in some order. The
--- blocks with numbers are those of the tree, in the order of entering.
+-- and from nowhere else; the nodes of types and lifetimes lead to them, and no other nodes do. Behind the faults that the body
+-- owes as a whole come those of what is read of the tree, in some order. The blocks with numbers are those of the tree, in the
+-- order of entering.
 pub record OneResult (store : Store) (source_map : SourceMap) (owed : Faults) (e : OptionExpr) : Type 0 where
   pub root : ExprId
   pub only : store.roots ≡ root_at store.exprs root ∷ []

@@ -88,7 +88,8 @@ module _ (store : Store) (source_map : SourceMap) where
   -- It is read as it was written. An absent or refused path is a missing expression.
   abbrev pub StandsPath : Pointer → Option PathData → HygieneId → ExprId → Ways
   StandsPath at None h i = StandsAlone hir.Missing at i
-  StandsPath at (Some p) h i = λ ws. (path : Path) × (stored_path store source_map path ≡ p) × StandsAlone (hir.Path path (lookup_hygiene p h)) at i ws
+  StandsPath at (Some p) h i = λ ws.
+      (path : Path) × (stored_path store source_map path ≡ p) × StandsAlone (hir.Path path (lookup_hygiene p h)) at i ws
 
   abbrev pub StandsLiteral : Pointer → AstLiteral → ExprId → Ways
   StandsLiteral at l i = λ ws. (literal : Literal) × (literal_read literal ≡ literal_data l) × StandsAlone (hir.Literal literal) at i ws

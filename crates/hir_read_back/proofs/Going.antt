@@ -1,5 +1,5 @@
 -- The steps of a walk, as what they add to the items that are read.
-use Rattle.std.proofs.Common.{arith, ◌≡◌, refl, sym, ap, ℕ, suc, ◌+◌, ◌≤◌, List, [], ◌∷◌, Option, Some, None, Ok, Err, Bool, true, false}
+use Rattle.std.proofs.Common.{arith, ◌≡◌, ◌∙◌, refl, sym, ap, ℕ, suc, ◌+◌, ◌≤◌, List, [], ◌∷◌, Option, Some, None, Ok, Err, Bool, true, false}
 use Rattle.std.specs.Prelude.{if◌then◌else◌, nat_lt, ◌^◌, option_map}
 use Rattle.hir_store.specs.Pointers.{Pointer}
 use Rattle.hir_store.specs.Stored.{Stored, store_of, map_of}
@@ -137,9 +137,9 @@ path_type_reads y at h = correct_as (correct_bind h (λ o. correct_alloc_type (p
 record PathStored (at : Pointer) (maybe : Bool) (binder : Binder) (p : HirPath) (final : Stored) (ps : List Frame) (m m' : Mark) (b : TypeBound) : Type 0 where
   number : TypeRefId
   is : b ≡ stored_path_bound maybe binder number
-  at : AllocatedType (ty.Path p) (Some at) final ps m m' number
+  stored : AllocatedType (ty.Path p) (Some at) final ps m m' number
 
-BoundStored : Pointer → Bool → Binder → Option HirPath → Rel TypeBound
+abbrev BoundStored : Pointer → Bool → Binder → Option HirPath → Rel TypeBound
 BoundStored at maybe binder None final ps m m' b = b ≡ bound.Error
 BoundStored at maybe binder (Some p) final ps m m' b = PathStored at maybe binder p final ps m m' b
 
@@ -148,7 +148,7 @@ bound_stored : (at : Pointer) (maybe : Bool) (binder : Binder) (o : Option HirPa
 bound_stored at maybe binder None = correct_as (correct_pure bound.Error) (λ final ps m m' b g row. row.is)
 bound_stored at maybe binder (Some p) =
     correct_as (correct_bind (correct_alloc_type (ty.Path p) (Some at)) (λ i. correct_pure (stored_path_bound maybe binder i)))
-    (λ final ps m m' b g row. rw row.second.still (record { number = row.one; is = row.second.is; at = row.first }))
+    (λ final ps m m' b g row. rw row.second.still (record { number = row.one; is = row.second.is; stored = row.first }))
 
 same_modifier : (maybe : Bool) → stored_modifier maybe ≡ written.modifier_of maybe
 same_modifier false = refl
@@ -173,7 +173,7 @@ path_bound_reads y at maybe binder h = correct_as (correct_bind h (λ o. bound_s
     go final ps m m' None (Some p) b h row d le = absurd h
     go final ps m m' (Some x) None b h row d le = absurd h
     go final ps m m' (Some x) (Some p) b h row d le =
-        let t = type_at {m0 = m} row.at (λ n ge. ap datum.path_shape (matches_read final m.types x p h n ge)) in
+        let t = type_at {m0 = m} row.stored (λ n ge. ap datum.path_shape (matches_read final m.types x p h n ge)) in
         ap (a_bound final (within final d)) row.is ∙ (bound_read final d binder maybe row.number
         ∙ ap (written.bound_behind binder (written.modifier_of maybe)) (t.is d le))
 

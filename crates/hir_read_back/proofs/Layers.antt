@@ -17,7 +17,7 @@ use Rattle.hir_steps.proofs.Frames.{Frame}
 use Rattle.hir_steps.proofs.Steps.{Mark, Grows, Rel, Correct, correct_bind, correct_as, correct_pure}
 use Rattle.hir_steps.proofs.TypeSteps.{correct_alloc_type, AllocatedType}
 use Rattle.hir_data.specs.Data.{LifetimeData, UseData, TypeData, typed, Shape, OptionTypeData, TypesData, PathData, OptionArgsData}
-use Rattle.hir_data.specs.Data.{ArgumentsData, BindingsData, BoundData, BoundsData}
+use Rattle.hir_data.specs.Data.{ArgumentsData, BindingData, BindingsData, BoundData, BoundsData}
 use Rattle.hir_data.specs.Reading as reading
 use Rattle.hir_data.specs.Reading.{Readers, readers}
 
@@ -58,6 +58,9 @@ many_bounds final r bs = reading.bounds_layer (store_of final) (map_of final) r 
 
 abbrev pub arguments_before : ArgumentsData → Layer (List GenericArg) ArgumentsData
 arguments_before behind final r as' = reading.arguments_layer (store_of final) (map_of final) r as' behind
+
+abbrev pub a_binding : Layer AssociatedTypeBinding BindingData
+a_binding final r b = reading.binding_layer (store_of final) (map_of final) r b
 
 abbrev pub bindings_before : BindingsData → Layer (List AssociatedTypeBinding) BindingsData
 bindings_before behind final r bs = reading.bindings_layer (store_of final) (map_of final) r bs behind

@@ -8,7 +8,7 @@ use Rattle.hir_store.specs.declared.path.Path.TheVariants.{BarePath, Normal}
 use Rattle.hir_lower_form.specs.Lower.{path_hygiene}
 use Rattle.hir_data.specs.Data.{names_in}
 use Rattle.hir_data.specs.Lookup.{hygiene_for, lookup_hygiene}
-use Rattle.hir_data.specs.Reading.{Readers, readers, names_layer, stored_path}
+use Rattle.hir_data.specs.Reading.{names_beside, stored_path}
 
 at_least_two : (k : ℕ) → nat_le (suc (suc k)) 1 ≡ false
 at_least_two k = grind arith
@@ -21,13 +21,12 @@ hygiene_is [] h = refl
 hygiene_is (n ∷ []) h = refl
 hygiene_is (n ∷ (m ∷ ns)) h = ap (λ b. if b then h else record { 0 = 0 }) (at_least_two (length ns))
 
-module _ (store : Store) (source_map : SourceMap) where
-  pub names_read : (r : Readers) (ns : List Name) → names_in (names_layer store source_map r ns []) ≡ ns
-  names_read r [] = refl
-  names_read r (n ∷ ns) = ap (λ ms. n ∷ ms) (names_read r ns)
+pub names_read : (ns : List Name) → names_in (names_beside ns []) ≡ ns
+names_read [] = refl
+names_read (n ∷ ns) = ap (λ ms. n ∷ ms) (names_read ns)
 
-  pub looked_up : (p : Path) (h : HygieneId) → path_hygiene p h ≡ lookup_hygiene (stored_path store source_map p) h
-  unfolding stored_path
-  looked_up (BarePath p) h =
-      hygiene_is p.segments h ∙ ap (λ ns. hygiene_for ns h) (sym (names_read (readers store source_map (length store.types)) p.segments))
-  looked_up (Normal p) h = refl
+pub looked_up : (store : Store) (source_map : SourceMap) (p : Path) (h : HygieneId)
+    → path_hygiene p h ≡ lookup_hygiene (stored_path store source_map p) h
+unfolding stored_path
+looked_up store source_map (BarePath p) h = hygiene_is p.segments h ∙ ap (λ ns. hygiene_for ns h) (sym (names_read p.segments))
+looked_up store source_map (Normal p) h = refl

@@ -104,7 +104,8 @@ mutual
   arg_grown tree.skipped_arg l = kinds.skipped_grown l
   arg_grown (tree.type_arg t) l = kinds.argument_grown l arg.Type_ datum.type_argument (part_reads None t) (λ final r a. refl)
   arg_grown (tree.lifetime_arg l') l = kinds.argument_grown l arg.Lifetime datum.lifetime_argument (kinds.lifetime_reads l') (λ final r a. refl)
-  arg_grown (tree.assoc_arg n as' dots t bs) l = kinds.binding_grown l n dots (list_reads as') (present_reads t) (pushed_all (bounds_read bs []))
+  arg_grown (tree.assoc_arg n as' dots t bs) l =
+      kinds.binding_grown l (kinds.binding_reads n dots (list_reads as') (present_reads t) (pushed_all (bounds_read bs [])))
 
   parens_reads : (p : OptionParens) → Correct (lower.parens_part p) (Reads a_list (written.parens_data p))
   parens_reads tree.no_parens = value0 {l = a_list} None (λ final r. refl)
@@ -151,16 +152,12 @@ mutual
       then_goes {add = written.items ss} {more = λ is. item false (written.what false s) ∷ is} (each_goes ss w)
       (λ final n r c is h. one_closed final n r c (item false (written.what false s)) is h) (behind_goes s)
 
-  own_goes : (leading : Bool) (first : Segment) (rest : Segments) (w : PathWalk)
-      → Correct (lower.read_own leading first rest w) (Goes (Open w) (λ is. item leading (written.what true first) ∷ written.items rest is))
-  own_goes leading first rest w =
-      then_goes {add = written.items rest} {more = λ is. item leading (written.what true first) ∷ is} (each_goes rest w)
-      (λ final n r c is h. one_closed final n r c (item leading (written.what true first)) is h) (first_goes leading first)
-
   path_goes : (p : Path) (w : PathWalk) → Correct (lower.read_path p w) (Goes (Open w) (written.segments p))
   path_goes (tree.path leading first rest use_) w =
       then_goes {add = λ is. item leading (written.what true first) ∷ written.items rest is} {more = written.outer use_}
-      (own_goes leading first rest w) (λ final n r c is h. outer_closed final n use_ r c is h) (outer_goes use_)
+      (then_goes {add = written.items rest} {more = λ is. item leading (written.what true first) ∷ is} (each_goes rest w)
+        (λ final n r c is h. one_closed final n r c (item leading (written.what true first)) is h) (first_goes leading first))
+      (λ final n r c is h. outer_closed final n use_ r c is h) (outer_goes use_)
 
   outer_goes : (p : OptionPath) (w : PathWalk) → Correct (lower.read_option p w) (Goes (Open w) (written.outer p))
   outer_goes tree.no_path w = goes_at_once (Open w) (λ final n is h. h)

@@ -38,7 +38,7 @@ use Rattle.hir_data.specs.Written as written
 use Rattle.hir_data.specs.Reading as reading
 use Rattle.hir_data.specs.Reading.{Readers}
 use Rattle.hir_read_back.proofs.Layers.{Layer, a_lifetime, maybe_lifetime, a_use, many_uses, a_type, types_before, maybe_type, a_shape}
-use Rattle.hir_read_back.proofs.Layers.{a_bound, many_bounds, arguments_before, bindings_before, a_list, within, Reads}
+use Rattle.hir_read_back.proofs.Layers.{a_bound, many_bounds, arguments_before, a_binding, bindings_before, a_list, within, Reads}
 use Rattle.hir_read_back.proofs.Layers.{value0, value1, Pushed, pushed_all, none_read, more_read, type_at, type0, type1, type2}
 use Rattle.hir_read_back.proofs.Generics.{args_roll, binding_roll}
 
@@ -197,27 +197,32 @@ or_notation_read final r None false = refl
 or_notation_read final r None true = ap some_args (args_roll (store_of final) (map_of final) r [] false [] parens.ReturnTypeNotation)
 or_notation_read final r (Some a) dots = refl
 
-pub binding_grown : {x : OptionArgsData} {y : OptionTypeData} {z : BoundsData} {p : Lowering (Option GenericArgs)}
-    {q : Lowering (Option TypeRefId)} {s : Lowering (List TypeBound)} (l : ArgLists) (n : Name) (dots : Bool)
+pub binding_reads : {x : OptionArgsData} {y : OptionTypeData} {z : BoundsData} {p : Lowering (Option GenericArgs)}
+    {q : Lowering (Option TypeRefId)} {s : Lowering (List TypeBound)} (n : Name) (dots : Bool)
     → Correct p (Reads a_list x) → Correct q (Reads maybe_type y) → Correct s (Reads many_bounds z)
-    → Correct (binding_form l n dots p q s)
-        (Grown l (λ w. w) (λ w. datum.more_bindings (datum.binding_data n (written.first_list x (written.notation dots)) y z) w))
+    → Correct (binding_form n dots p q s) (Reads a_binding (datum.binding_data n (written.first_list x (written.notation dots)) y z))
 unfolding binding_form
-binding_grown {x = x} {y = y} {z = z} l n dots hp hq hs =
+binding_reads {x = x} {y = y} {z = z} n dots hp hq hs =
     correct_as (correct_bind hp (λ a. correct_bind hq (λ t. correct_bind hs
-        (λ bs. correct_pure (add_binding l (of_binding n (or_notation a dots) t bs))))))
+        (λ bs. correct_pure (of_binding n (or_notation a dots) t bs)))))
     (λ final ps m m' r g row. let s = row.second in let u = s.second in rw (u.second.is, u.second.still) (record {
-      args = [];
-      bindings = of_binding n (or_notation row.one dots) s.one u.one ∷ [];
-      args_are = sym (append-nil l.args);
-      bindings_are = refl;
-      args_read = λ d le w. refl;
-      bindings_read = λ d le w. ap (λ b. datum.more_bindings b w)
-          (binding_roll (store_of final) (map_of final) (within final d) n (or_notation row.one dots) s.one u.one
+      is = λ d le. binding_roll (store_of final) (map_of final) (within final d) n (or_notation row.one dots) s.one u.one
           ∙ (λ j. datum.binding_data n
               ((or_notation_read final (within final d) row.one dots
                 ∙ ap (λ v. written.first_list v (written.notation dots)) (row.first.is d (omega (le, s.before.types, u.before.types, arith)))) j)
-              (s.first.is d (omega (le, u.before.types, arith)) j) (u.first.is d le j)));
+              (s.first.is d (omega (le, u.before.types, arith)) j) (u.first.is d le j));
+    }))
+
+pub binding_grown : {x : BindingData} {p : Lowering AssociatedTypeBinding} (l : ArgLists) → Correct p (Reads a_binding x)
+    → Correct (p >>= (λ b. pure (add_binding l b))) (Grown l (λ w. w) (λ w. datum.more_bindings x w))
+binding_grown l h = correct_as (correct_bind h (λ b. correct_pure (add_binding l b)))
+    (λ final ps m m' r g row. rw (row.second.is, row.second.still) (record {
+      args = [];
+      bindings = row.one ∷ [];
+      args_are = sym (append-nil l.args);
+      bindings_are = refl;
+      args_read = λ d le w. refl;
+      bindings_read = λ d le w. ap (λ b. datum.more_bindings b w) (row.first.is d le);
     }))
 
 -- all that a list yields
@@ -304,7 +309,7 @@ parens_reads {x = x} {y = y} hp hq =
     }))
 
 -- the next is lowered where nothing is there
-OrElse : Option GenericArgs → OptionArgsData → Rel (Option GenericArgs)
+abbrev OrElse : Option GenericArgs → OptionArgsData → Rel (Option GenericArgs)
 OrElse None y final ps m m' r = Reads a_list y final ps m m' r
 OrElse (Some a) y final ps m m' r = (r ≡ Some a) × (m' ≡ m)
 

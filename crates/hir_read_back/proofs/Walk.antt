@@ -416,8 +416,8 @@ module _ (final : Stored) (n : ℕ) where
 
   own_kind_same : (is : List Item) (w : PathWalk) → Found final n (read_kind is) is w
       → walks.own_kind w ≡ own_kind (read_kind is) (rule.names is) (anchor_of is)
-  own_kind_same is w h = λ j. if walk_empty (read_kind is) is w h j && ((same_plain w.kind ∙ ap plain_kind h.kind) j
-      && anchored_same is (read_kind is) w h j) then kind.Super 0 else h.kind j
+  own_kind_same is w h = λ j. if walk_empty (read_kind is) is w h j && (same_plain w.kind ∙ ap plain_kind h.kind) j
+      && anchored_same is (read_kind is) w h j then kind.Super 0 else h.kind j
 
   names_without : (ns : List Named) → map name_at (first_without_self ns) ≡ map name_at ns
   names_without [] = refl

@@ -22,7 +22,8 @@ use Rattle.hir_env.specs.Answered.{Leaf, Unary, Binary, Listing, Leaving}
 use Rattle.hir_env.specs.Answered.{OptionPath, Label, Jump, Expr, OptionExpr, Exprs, Block, OptionBlock, Stmts, Stmt}
 use Rattle.hir_lower_form.specs.Lowering.{Lowering, ◌>>=◌, pure, alloc_expr, report}
 use Rattle.hir_lower_form.specs.Lower.{ExprSteps, push_some, missing, some, if_form, loop_form, call_form, continue_form, break_form}
-use Rattle.hir_lower_form.specs.Lower.{paren_form, path_or_missing, path_form, lower_path, settled, settled_block, StoredContents, block_form}
+use Rattle.hir_lower_form.specs.Lower.{paren_form, path_or_missing, path_form, lower_path, settled, settled_block, StoredContents}
+use Rattle.hir_lower_form.specs.Lower.{block_form}
 use Rattle.hir_lower_form.specs.Lower.{labelled, kept, lower, lower_part, present, kept_part, lower_each, lower_block, lower_block_part}
 use Rattle.hir_lower_form.specs.Lower.{lower_stmts, stored_leaf, stored_unary, stored_binary, stored_lazy, stored_leaving}
 use Rattle.hir_lower_form.specs.Lower.{operand_form, operands_form, value_form, list_form, method_call_form, await_form}

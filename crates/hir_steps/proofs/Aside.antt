@@ -26,13 +26,15 @@ use Rattle.hir_lower_form.specs.Builder.{Builder}
 use Rattle.hir_lower_form.specs.Lowering.{Checked, Lowering, ◌>>=◌, pure, alloc_type, alloc_lifetime}
 use Rattle.hir_lower_form.specs.Walks.{start, at_first, super_read, path_read}
 use Rattle.hir_lower_form.specs.Paths.{proceed, whole, counted, read_trait, with_trait, parens_form, or_else, segment_args_form}
-use Rattle.hir_lower_form.specs.Types.{TypeSteps, error_type, unit_type, lower_lifetime, lower_lifetime_option, lower_use, lower_uses, over_form}
+use Rattle.hir_lower_form.specs.Types.{TypeSteps, error_type, unit_type, lower_lifetime, lower_lifetime_option, lower_use, lower_uses}
+use Rattle.hir_lower_form.specs.Types.{over_form}
 use Rattle.hir_lower_form.specs.Types.{tuple_type_form, path_type_form, ref_type_form, fn_type_form, impl_type_form, dyn_type_form}
 use Rattle.hir_lower_form.specs.Types.{no_lists, binding_form, path_bound_of, path_bound_form}
 use Rattle.hir_lower_form.specs.Lower.{lower_type, type_part, present_type, type_or_unit, lower_parts, read_segment, read_each, read_path}
-use Rattle.hir_lower_form.specs.Lower.{read_option, lower_path, lower_segment_args, parens_part, output_part, args_part, lower_args, lower_arg}
+use Rattle.hir_lower_form.specs.Lower.{read_option, lower_path, lower_segment_args, parens_part, output_part, args_part, lower_args}
+use Rattle.hir_lower_form.specs.Lower.{lower_arg}
 use Rattle.hir_lower_form.specs.Lower.{lower_bounds, lower_bound}
-use Rattle.hir_steps.specs.Keeps.{Paired, KeepsAside, TypesKeep, PathsKeep}
+use Rattle.hir_steps.specs.Keeps.{Paired, StaysAside, KeepsAside, TypesKeep, PathsKeep}
 use Rattle.hir_steps.proofs.Frames.{Frame, frames, ribs_frames}
 use Rattle.hir_steps.proofs.Steps.{Mark, Holds, Correct, correct_bind, correct_as, correct_pure, correct_count_out, correct_alloc_type}
 use Rattle.hir_steps.proofs.Steps.{correct_alloc_lifetime}
@@ -47,44 +49,44 @@ pub record Aside {A : Type 0} (final : Stored) (ps : List Frame) (m m' : Mark) (
 
 pub aside_pure : {A : Type 0} (a : A) → Correct (pure a) Aside
 aside_pure a = correct_as (correct_pure a) (λ final ps m m' b g row. record {
-    nodes = ap (λ x. x.nodes) row.still;
-    labels = ap (λ x. x.labels) row.still;
-    exprs_are = ap (λ x. x.stored.exprs) row.still;
-    labels_are = ap (λ x. x.stored.labels) row.still;
-    diagnostics = ap (λ x. x.stored.diagnostics) row.still;
-    block_scopes = ap (λ x. x.stored.block_scopes) row.still;
-  })
+  nodes = ap (λ x. x.nodes) row.still;
+  labels = ap (λ x. x.labels) row.still;
+  exprs_are = ap (λ x. x.stored.exprs) row.still;
+  labels_are = ap (λ x. x.stored.labels) row.still;
+  diagnostics = ap (λ x. x.stored.diagnostics) row.still;
+  block_scopes = ap (λ x. x.stored.block_scopes) row.still;
+})
 
 pub aside_then : {A B : Type 0} {p : Lowering A} {f : A → Lowering B} → Correct p Aside → ((a : A) → Correct (f a) Aside)
     → Correct (p >>= f) Aside
 aside_then h k = correct_as (correct_bind h k) (λ final ps m m' a g row. let one = row.first in let two = row.second in record {
-    nodes = two.nodes ∙ one.nodes;
-    labels = two.labels ∙ one.labels;
-    exprs_are = two.exprs_are ∙ one.exprs_are;
-    labels_are = two.labels_are ∙ one.labels_are;
-    diagnostics = two.diagnostics ∙ one.diagnostics;
-    block_scopes = two.block_scopes ∙ one.block_scopes;
-  })
+  nodes = two.nodes ∙ one.nodes;
+  labels = two.labels ∙ one.labels;
+  exprs_are = two.exprs_are ∙ one.exprs_are;
+  labels_are = two.labels_are ∙ one.labels_are;
+  diagnostics = two.diagnostics ∙ one.diagnostics;
+  block_scopes = two.block_scopes ∙ one.block_scopes;
+})
 
 pub aside_type : (t : TypeRef) (source : Option Pointer) → Correct (alloc_type t source) Aside
 aside_type t source = correct_as (correct_alloc_type t source) (λ final ps m m' i g row. record {
-    nodes = row.nodes;
-    labels = row.labels;
-    exprs_are = ap (λ s. s.exprs) row.stored;
-    labels_are = ap (λ s. s.labels) row.stored;
-    diagnostics = ap (λ s. s.diagnostics) row.stored;
-    block_scopes = ap (λ s. s.block_scopes) row.stored;
-  })
+  nodes = row.nodes;
+  labels = row.labels;
+  exprs_are = ap (λ s. s.exprs) row.stored;
+  labels_are = ap (λ s. s.labels) row.stored;
+  diagnostics = ap (λ s. s.diagnostics) row.stored;
+  block_scopes = ap (λ s. s.block_scopes) row.stored;
+})
 
 pub aside_lifetime : (l : LifetimeRef) (source : Option Pointer) → Correct (alloc_lifetime l source) Aside
 aside_lifetime l source = correct_as (correct_alloc_lifetime l source) (λ final ps m m' i g row. record {
-    nodes = row.nodes;
-    labels = row.labels;
-    exprs_are = ap (λ s. s.exprs) row.stored;
-    labels_are = ap (λ s. s.labels) row.stored;
-    diagnostics = ap (λ s. s.diagnostics) row.stored;
-    block_scopes = ap (λ s. s.block_scopes) row.stored;
-  })
+  nodes = row.nodes;
+  labels = row.labels;
+  exprs_are = ap (λ s. s.exprs) row.stored;
+  labels_are = ap (λ s. s.labels) row.stored;
+  diagnostics = ap (λ s. s.diagnostics) row.stored;
+  block_scopes = ap (λ s. s.block_scopes) row.stored;
+})
 
 -- types
 
@@ -307,7 +309,9 @@ aside_kept {A = A} {p = p} h b d = by (p b).0 (p b).1 (λ final. h.holds final (
     by : (o : Checked A) (c : Builder) → ((final : Stored) → Holds Aside final (frames b.scopes) b o c) → KeepsAside b o c
     by (Ok a) c y =
         let x = (y c.stored).in_final d (extends_refl c.stored) in
-        ((y c.stored).kept, record { exprs = x.exprs_are; labels = x.labels_are; diagnostics = x.diagnostics; block_scopes = x.block_scopes })
+        let still : StaysAside b.stored c.stored =
+        record { exprs = x.exprs_are; labels = x.labels_are; diagnostics = x.diagnostics; block_scopes = x.block_scopes } in
+        ((y c.stored).kept, still)
     by (Err e) c y = y c.stored
 
 pub types_keep : TypesKeep

@@ -303,7 +303,7 @@ correct_opened {A = A} {B = B} at l {p = p} {R = R} {f = f} {Q = Q} frame hp hf 
         scopes = y.kept.scopes ∙ ap rest (x.kept.scopes ∙ h.scopes);
         roots = y.kept.roots ∙ (x.kept.roots ∙ h.roots);
         paired = λ d. y.kept.paired (x.kept.paired (h.paired d));
-      mapped = λ d w. y.kept.mapped (x.kept.paired (h.paired d)) (x.kept.mapped (h.paired d) (h.mapped d w));
+        mapped = λ d w. y.kept.mapped (x.kept.paired (h.paired d)) (x.kept.mapped (h.paired d) (h.mapped d w));
         stays = extends_trans h.stays (extends_trans x.kept.stays y.kept.stays);
       };
       grows =

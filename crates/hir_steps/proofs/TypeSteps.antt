@@ -24,7 +24,8 @@ use Rattle.hir_steps.proofs.Logic.{Mark, Holds, Correct, in_prefix, one_more}
 abbrev pub with_type : TypeRef → Option Pointer → Stored → Stored
 with_type t source s = record s { types = with_entry type_id s.types t source }
 
-pub record AllocatedType (t : TypeRef) (source : Option Pointer) (final : Stored) (ps : List Frame) (m m' : Mark) (i : TypeRefId) : Type 0 where
+pub record AllocatedType (t : TypeRef) (source : Option Pointer) (final : Stored) (ps : List Frame) (m m' : Mark) (i : TypeRefId)
+    : Type 0 where
   pub number : i.0 ≡ m.types
   pub here : slice_get final.types.entries m.types ≡ Some t
   pub from : slice_get final.types.sources m.types ≡ Some source
@@ -89,7 +90,8 @@ correct_alloc_type t source =
 abbrev pub with_lifetime : LifetimeRef → Option Pointer → Stored → Stored
 with_lifetime l source s = record s { lifetimes = with_entry lifetime_id s.lifetimes l source }
 
-pub record AllocatedLifetime (l : LifetimeRef) (source : Option Pointer) (final : Stored) (ps : List Frame) (m m' : Mark) (i : LifetimeRefId) : Type 0 where
+pub record AllocatedLifetime (l : LifetimeRef) (source : Option Pointer) (final : Stored) (ps : List Frame) (m m' : Mark)
+    (i : LifetimeRefId) : Type 0 where
   pub number : i.0 ≡ m.lifetimes
   pub here : slice_get final.lifetimes.entries m.lifetimes ≡ Some l
   pub from : slice_get final.lifetimes.sources m.lifetimes ≡ Some source
@@ -100,7 +102,8 @@ pub record AllocatedLifetime (l : LifetimeRef) (source : Option Pointer) (final 
   pub last : m.lifetimes ≡ length m.stored.lifetimes.entries
   pub stored : m'.stored ≡ with_lifetime l source m.stored
 
-abbrev made_lifetime : Bool → LifetimeRef → Option Pointer → Sourced LifetimeRef LifetimeRefId → Checked LifetimeRefId × Sourced LifetimeRef LifetimeRefId
+abbrev made_lifetime : Bool → LifetimeRef → Option Pointer → Sourced LifetimeRef LifetimeRefId
+    → Checked LifetimeRefId × Sourced LifetimeRef LifetimeRefId
 made_lifetime room l source a = if room then (Ok (lifetime_id (length a.entries)), with_entry lifetime_id a l source) else (Err Full, a)
 
 pub correct_alloc_lifetime : (l : LifetimeRef) (source : Option Pointer) → Correct (alloc_lifetime l source) (AllocatedLifetime l source)

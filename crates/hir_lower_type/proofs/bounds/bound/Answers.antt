@@ -3,4 +3,6 @@ use Rattle.hir_lower_form.specs.Methods.{at_place}
 use Rattle.hir_lower_type.proofs.bounds.bound.Goals as goal
 
 pub returns : goal.returns
-returns g c = rw (bound_is_level (at_place (g.P.LowerParts.spot c.args.lowerer.now.parts) c.args.place) c.args.node.now) c.bound_form.ensures
+returns g c =
+    let at = at_place (g.P.LowerParts.spot c.args.lowerer.now.parts) c.args.place in
+    rw (bound_is_level at c.args.node.now) c.bound_form.ensures
