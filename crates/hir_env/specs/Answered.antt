@@ -230,7 +230,7 @@ mutual
 
   pub data Field : Type 0 where
     -- with the condition that disables it
-    disabled_field : Pointer → CfgId → Field
+    disabled_field : Pointer → CfgId → Field → Field
     nameless_field : Field
     named_field : Pointer → Name → OptionExpr → Field
 

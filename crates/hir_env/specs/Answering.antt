@@ -149,10 +149,10 @@ abbrev pub asked : Pointer → Result (Unit {0}) CfgId → Expr → Expr
 asked s (Ok _) e = e
 asked s (Err by) e = tree.disabled_expr s by e
 
--- the field, or the condition that disables it
+-- the field, with the condition that disables it
 abbrev pub asked_field : Pointer → Result (Unit {0}) CfgId → Field → Field
 asked_field s (Ok _) f = f
-asked_field s (Err by) f = tree.disabled_field s by
+asked_field s (Err by) f = tree.disabled_field s by f
 
 abbrev pub field_of : Pointer → Option AstName → OptionExpr → Field
 field_of s None e = tree.nameless_field

@@ -125,7 +125,7 @@ abbrev mutual
   count_fields (tree.more_fields f fs) = count_field f + count_fields fs
 
   pub count_field : Field → ℕ
-  count_field (tree.disabled_field at by) = 0
+  count_field (tree.disabled_field at by f) = count_field f
   count_field tree.nameless_field = 0
   count_field (tree.named_field at name e) = count_option_expr e
 

@@ -12,4 +12,5 @@ mod leaves;
 mod leaving;
 mod lists;
 mod operators;
+mod records;
 mod typed;

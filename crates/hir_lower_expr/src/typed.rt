@@ -1,18 +1,20 @@
-//! Expressions with a path.
+//! Expressions with a path or a type.
 
 ghost use Rattle.hir_env.specs.Answered as tree;
 ghost use Rattle.hir_env.specs.Answering.{site_of};
-ghost use Rattle.hir_env.specs.Whole.{path_part};
+ghost use Rattle.hir_env.specs.Answering.{names_of};
+ghost use Rattle.hir_env.specs.Whole.{expr_part, path_part, type_part};
 ghost use Rattle.hir_lower_form.specs.Nests.{IfPresent};
 ghost use Rattle.hir_lower_form.specs.Methods.{LowersExpr};
 
 use hir_lower_form::builder::BodyBuilder;
-use hir_lower_form::names::path_expr;
+use hir_lower_form::names::{names_of, path_expr};
 use hir_lower_form::parts::{LowerParts, Lowerer, site};
 use hir_store::fault::StoreFault;
+use hir_store::hir::Expr;
 use hir_store::ids::ExprId;
 use hir_syntax::node::{AstPtr, InFile};
-use hir_syntax::{Boxed, ast};
+use hir_syntax::{Boxed, Seq, ast};
 
 /// A path that is absent or refused is missing.
 #[tactic(auto, unfolding(hir_lower_form::specs::Lower::path_form))]
@@ -29,4 +31,38 @@ pub(crate) fn path_form<P: LowerParts>(
     let hygiene = lowerer.parts.hygiene(site(at));
     let path = lowerer.path_if_present(state, lowerer.parts.place(), path)?;
     state.alloc_expr(path_expr(path, hygiene), Some(at))
+}
+
+#[tactic(auto, unfolding(hir_lower_form::specs::Lower::cast_form))]
+pub(crate) fn cast_form<P: LowerParts>(
+    lowerer: &Lowerer<P>,
+    state: &mut BodyBuilder,
+    at: InFile<AstPtr>,
+    operand: &Option<Boxed<ast::Expr>>,
+    ty: &Option<Boxed<ast::Type_>>,
+) -> Result<ExprId, StoreFault>
+    requires operand { IfPresent (P.can lowerer.now.parts).expr operand.now }
+    requires ty { IfPresent ((P.can lowerer.now.parts).type_ (P.spot lowerer.now.parts).place) ty.now }
+    ensures { let spot = P.spot lowerer.now.parts in
+        LowersExpr (tree.cast_expr at (expr_part spot operand.now) (type_part spot ty.now)) state.old result state.new }
+{
+    let expr = lowerer.collect_expr_opt(state, operand)?;
+    let type_ref = lowerer.type_or_error(state, lowerer.parts.place(), &None, ty)?;
+    state.alloc_expr(Expr::Cast { expr, type_ref }, Some(at))
+}
+
+#[tactic(auto, unfolding(hir_lower_form::specs::Lower::offset_of_form))]
+pub(crate) fn offset_of_form<P: LowerParts>(
+    lowerer: &Lowerer<P>,
+    state: &mut BodyBuilder,
+    at: InFile<AstPtr>,
+    ty: &Option<Boxed<ast::Type_>>,
+    names: &Seq<ast::Name>,
+) -> Result<ExprId, StoreFault>
+    requires { IfPresent ((P.can lowerer.now.parts).type_ (P.spot lowerer.now.parts).place) ty.now }
+    ensures { LowersExpr (tree.offset_of_expr at (type_part (P.spot lowerer.now.parts) ty.now) (names_of names.now)) state.old result state.new }
+{
+    let container = lowerer.type_or_error(state, lowerer.parts.place(), &None, ty)?;
+    let fields = names_of(lowerer.alloc, names.as_slice())?;
+    state.alloc_expr(Expr::OffsetOf { container, fields }, Some(at))
 }

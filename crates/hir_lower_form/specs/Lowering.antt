@@ -58,6 +58,9 @@ alloc_lifetime l source = stored (storing.alloc_lifetime l source)
 unfoldable pub point : Pointer → ExprId → Lowering (Unit {0})
 point node id = stored (storing.point node id)
 
+unfoldable pub point_field : ExprId → Pointer → Lowering (Unit {0})
+point_field id node = stored (storing.point_field id node)
+
 unfoldable pub report : ExpressionStoreDiagnostics → Lowering (Unit {0})
 report fault = stored (storing.report fault)
 

@@ -1,8 +1,12 @@
 -- What each kind of method does: the steps of one part, and what it answers.
-use Rattle.std.specs.Prelude.{Bool, List, [], Option, Some, None}
+use Rattle.std.specs.Prelude.{◌≤◌, length, Bool, List, [], Option, Some, None}
 use Rattle.hir_syntax.specs.declared.ast.BlockExpr.{BlockExpr as AstBlockExpr, out-BlockExpr}
 use Rattle.hir_store.specs.Stored.{Stored}
 use Rattle.hir_store.specs.Range.{HasExpr, HasExprOption, HasExprs, HasStatements, HasStatementOption}
+use Rattle.hir_store.specs.Range.{HasFields, HasSpread, past_field}
+use Rattle.hir_store.specs.Arenas.{past_option}
+use Rattle.hir_store.specs.declared.hir.RecordLitField.{RecordLitField}
+use Rattle.hir_env.specs.Layers.{RecordReading}
 use Rattle.hir_store.specs.Range.{Has, HasType, HasTypeOption, HasTypes, HasArgsOption, HasBounds, HasPathOption}
 use Rattle.hir_store.specs.declared.ids.TypeRefId.{TypeRefId}
 use Rattle.hir_store.specs.declared.path.GenericArgs.{GenericArgs}
@@ -31,7 +35,7 @@ use Rattle.hir_lower_form.specs.declared.walk.PathWalk.{PathWalk}
 use Rattle.hir_lower_form.specs.declared.walk.Reading.{Reading}
 use Rattle.hir_lower_form.specs.Lowering.{Lowering, Checked, Lowers, ◌>>=◌, pure}
 use Rattle.hir_lower_form.specs.Lower as spec
-use Rattle.hir_lower_form.specs.Lower.{ExprSteps, StoredContents}
+use Rattle.hir_lower_form.specs.Lower.{ExprSteps, StoredContents, StoredFields}
 
 abbrev pub LowersExpr : Expr → Builder → Checked ExprId → Builder → Type 0
 LowersExpr e old result new = Lowers HasExpr (spec.lower e) old result new
@@ -126,6 +130,17 @@ LowersPath p old result new = Lowers HasPathOption (spec.lower_path p) old resul
 abbrev pub or_missing : Option ExprId → ExprSteps
 or_missing None = spec.missing
 or_missing (Some id) = pure id
+
+-- the contents of a record
+
+abbrev pub HasField : Stored → Option RecordLitField → Type 0
+HasField s f = past_option past_field f ≤ length s.exprs.entries
+
+abbrev pub HasRecord : Stored → StoredFields → Type 0
+HasRecord s c = HasFields s c.0 × HasSpread s c.1
+
+abbrev pub record_at : RecordReading → Lowering StoredFields
+record_at r = spec.record_contents (spec.lower_fields [] r.fields) (spec.lower_spread r.spread)
 
 -- the contents of a block
 

@@ -142,6 +142,15 @@ impl BodyBuilder {
         self.store.point(node, id)
     }
 
+    /// Notes the field that an expression is the value of.
+    #[tactic(auto, unfolding(crate::specs::Lowering::point_field))]
+    pub fn point_field(&mut self, id: ExprId, node: InFile<AstPtr>) -> Result<(), StoreFault>
+        requires { HasExpr self.old.stored id }
+        ensures { Lowers HasNone (spec.point_field id node) self.old result self.new }
+    {
+        self.store.point_field(id, node)
+    }
+
     #[tactic(auto, unfolding(crate::specs::Lowering::report))]
     pub fn report(&mut self, fault: ExpressionStoreDiagnostics) -> Result<(), StoreFault>
         ensures { Lowers HasNone (spec.report fault) self.old result self.new }
