@@ -1,0 +1,13 @@
+use Rattle.std.proofs.Common.{◌≡◌, subst, sym}
+use Rattle.hir_store.specs.declared.builder.ExpressionStoreBuilder.TheView.{view}
+use Rattle.hir_store.specs.Stored.{Stored}
+use Rattle.hir_store.specs.Range.{HasExpr}
+use Rattle.hir_store.proofs.Range.{range_field}
+use Rattle.hir_store.proofs.builder.ExpressionStoreBuilder.point_field.Goals as goal
+
+pub invariant_of-self-2 : goal.invariant_of-self-2
+invariant_of-self-2 c =
+    let s : Stored = view c.self.inside in
+    let P : Stored → Type 0 = λ v. HasExpr v c.args.expr in
+    rw c.in_ok-insert.ensures.ok
+    (range_field s c.args.expr c.args.field c.self.invariant (subst P (sym c.self.view_is) c.requires))
