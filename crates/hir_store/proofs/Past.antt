@@ -33,7 +33,8 @@ each_push past [] x = join_nothing (past x)
 each_push past (y ∷ xs) x =
     ap (join (past y)) (each_push past xs x) ∙ join_assoc (past y) (of.past_each past xs) (past x)
 
-pub type_ids_push : (xs : List TypeRefId) (x : TypeRefId) → of.past_type_ids (xs ++ x ∷ []) ≡ join (of.past_type_ids xs) (of.past_type_id x)
+pub type_ids_push : (xs : List TypeRefId) (x : TypeRefId)
+    → of.past_type_ids (xs ++ x ∷ []) ≡ join (of.past_type_ids xs) (of.past_type_id x)
 type_ids_push = each_push of.past_type_id
 
 pub args_push : (xs : List GenericArg) (x : GenericArg) → of.past_args (xs ++ x ∷ []) ≡ join (of.past_args xs) (of.past_arg x)
