@@ -79,16 +79,16 @@ pub generic_roll : (args : List GenericArg) (self : Bool) (bindings : List Assoc
 unfolding of.past_generic of.past_binding
 generic_roll args self bindings parens =
     folds.fold-roll-GenericArgs Past Past of.binding_step of.args_step
-        (record { args = args; has_self_type = self; bindings = bindings; parenthesized = parens })
+    (record { args = args; has_self_type = self; bindings = bindings; parenthesized = parens })
     ∙ ap (join (of.past_args args)) (joined_is bindings)
 
 pub binding_roll : (name : Name) (args : Option GenericArgs) (ty : Option TypeRefId) (bounds : List TypeBound)
     → of.past_binding (of_binding name args ty bounds)
-        ≡ join (of.past_present of.past_generic args) (join (of.past_present of.past_type_id ty) (of.past_bounds bounds))
+    ≡ join (of.past_present of.past_generic args) (join (of.past_present of.past_type_id ty) (of.past_bounds bounds))
 unfolding of.past_generic of.past_binding
 binding_roll name args ty bounds =
     folds.fold-roll-AssociatedTypeBinding Past Past of.binding_step of.args_step
-        (record { name = name; args = args; type_ref = ty; bounds = bounds })
+    (record { name = name; args = args; type_ref = ty; bounds = bounds })
     ∙ ap (λ p. join p (join (of.past_present of.past_type_id ty) (of.past_bounds bounds))) (present_is args)
 
 generic_out : (a : GenericArgs)

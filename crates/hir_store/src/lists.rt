@@ -37,10 +37,7 @@ pub fn push_statement(
 
 /// Adds a field to those of a record.
 #[tactic(auto, using(crate::proofs::Arenas::past_push))]
-pub fn push_field(
-    fields: &mut Seq<RecordLitField>,
-    field: RecordLitField,
-) -> Result<(), AllocError>
+pub fn push_field(fields: &mut Seq<RecordLitField>, field: RecordLitField) -> Result<(), AllocError>
     ensures fields { OnOk result (fields.new ≡ fields.old ++ field ∷ []) }
     ensures past { OnOk result (past past_field fields.new ≡ max (past past_field fields.old) (suc field.expr.0)) }
 {
