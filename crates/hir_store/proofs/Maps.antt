@@ -1,5 +1,5 @@
 -- Where nodes lead once one more does.
-use Rattle.std.proofs.Common.{arith, ◌≡◌, ◌∙◌, refl, sym, ap, subst, ℕ, suc, ◌≤◌, length, List, [], ◌∷◌, ◌++◌}
+use Rattle.std.proofs.Common.{arith, ◌≡◌, ◌∙◌, refl, sym, ap, subst, ℕ, suc, length, List, [], ◌∷◌, ◌++◌}
 use Rattle.std.proofs.Common.{Bool, true, false, ◌&&◌, if◌then◌else◌, nat_eq, Option, Some, None, is_some}
 use Rattle.std.proofs.Common.{◌⊎◌, inl, inr, ⊎_elim, true≢false}
 use Rattle.std.specs.Prelude.{zero, slice_get}
@@ -58,7 +58,8 @@ module _ {T : Type 0} (p : Pointer) (t : T) where
   found_split (e ∷ es) q u h = by (found_split es q u) (same_pointer p e.0) refl (same_pointer q e.0) refl h
     where
       by : (found (entered es) q ≡ Some u → (found es q ≡ Some u) ⊎ ((p ≡ q) × (t ≡ u)))
-          → (b : Bool) → same_pointer p e.0 ≡ b → (c : Bool) → same_pointer q e.0 ≡ c → found (if b then (e.0, t) ∷ es else e ∷ entered es) q ≡ Some u
+          → (b : Bool) → same_pointer p e.0 ≡ b → (c : Bool) → same_pointer q e.0 ≡ c
+          → found (if b then (e.0, t) ∷ es else e ∷ entered es) q ≡ Some u
           → (found (e ∷ es) q ≡ Some u) ⊎ ((p ≡ q) × (t ≡ u))
       by others true m true n k =
           let w : Some t ≡ Some u = sym (ap (λ b. if b then Some t else found es q) n) ∙ k in

@@ -1,5 +1,5 @@
 -- What lists and arguments name.
-use Rattle.std.proofs.Common.{arith, ◌≡◌, ◌∙◌, refl, sym, ap, ℕ, max, Bool, true}
+use Rattle.std.proofs.Common.{arith, ◌≡◌, ◌∙◌, refl, sym, ap, Bool, true}
 use Rattle.std.proofs.Common.{List, [], ◌∷◌, ◌++◌, Option, Some, None}
 use Rattle.hir_store.specs.declared.ids.TypeRefId.{TypeRefId}
 use Rattle.hir_store.specs.declared.name.Name.{Name}
@@ -33,7 +33,8 @@ each_push past [] x = join_nothing (past x)
 each_push past (y ∷ xs) x =
     ap (join (past y)) (each_push past xs x) ∙ join_assoc (past y) (of.past_each past xs) (past x)
 
-pub type_ids_push : (xs : List TypeRefId) (x : TypeRefId) → of.past_type_ids (xs ++ x ∷ []) ≡ join (of.past_type_ids xs) (of.past_type_id x)
+pub type_ids_push : (xs : List TypeRefId) (x : TypeRefId)
+    → of.past_type_ids (xs ++ x ∷ []) ≡ join (of.past_type_ids xs) (of.past_type_id x)
 type_ids_push = each_push of.past_type_id
 
 pub args_push : (xs : List GenericArg) (x : GenericArg) → of.past_args (xs ++ x ∷ []) ≡ join (of.past_args xs) (of.past_arg x)
@@ -78,16 +79,16 @@ pub generic_roll : (args : List GenericArg) (self : Bool) (bindings : List Assoc
 unfolding of.past_generic of.past_binding
 generic_roll args self bindings parens =
     folds.fold-roll-GenericArgs Past Past of.binding_step of.args_step
-        (record { args = args; has_self_type = self; bindings = bindings; parenthesized = parens })
+    (record { args = args; has_self_type = self; bindings = bindings; parenthesized = parens })
     ∙ ap (join (of.past_args args)) (joined_is bindings)
 
 pub binding_roll : (name : Name) (args : Option GenericArgs) (ty : Option TypeRefId) (bounds : List TypeBound)
     → of.past_binding (of_binding name args ty bounds)
-        ≡ join (of.past_present of.past_generic args) (join (of.past_present of.past_type_id ty) (of.past_bounds bounds))
+    ≡ join (of.past_present of.past_generic args) (join (of.past_present of.past_type_id ty) (of.past_bounds bounds))
 unfolding of.past_generic of.past_binding
 binding_roll name args ty bounds =
     folds.fold-roll-AssociatedTypeBinding Past Past of.binding_step of.args_step
-        (record { name = name; args = args; type_ref = ty; bounds = bounds })
+    (record { name = name; args = args; type_ref = ty; bounds = bounds })
     ∙ ap (λ p. join p (join (of.past_present of.past_type_id ty) (of.past_bounds bounds))) (present_is args)
 
 generic_out : (a : GenericArgs)

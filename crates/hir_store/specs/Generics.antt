@@ -1,5 +1,5 @@
 -- Arguments of segments. They hold bindings that hold arguments, so antt sees them through one level.
-use Rattle.std.specs.Prelude.{Bool, true, false, List, [], ◌∷◌, Option, Some, None}
+use Rattle.std.specs.Prelude.{Bool, true, List, [], ◌∷◌, Option, Some, None}
 use Rattle.hir_store.specs.declared.ids.TypeRefId.{TypeRefId}
 use Rattle.hir_store.specs.declared.name.Name.{Name}
 use Rattle.hir_store.specs.declared.type_ref.TypeBound.{TypeBound}
@@ -9,8 +9,8 @@ use Rattle.hir_store.specs.declared.path.GenericArgsParentheses.{GenericArgsPare
 use Rattle.hir_store.specs.declared.path.GenericArgsParentheses.TheVariants.{No}
 use Rattle.hir_store.specs.declared.path.GenericArgs.{GenericArgs}
 use Rattle.hir_store.specs.declared.path.AssociatedTypeBinding.{AssociatedTypeBinding}
-use Rattle.hir_store.specs.declared.path.AssociatedTypeBinding.TheOpen.{AssociatedTypeBinding-F, GenericArgs-F}
-use Rattle.hir_store.specs.declared.path.AssociatedTypeBinding.TheViews.{out-AssociatedTypeBinding, out-GenericArgs}
+use Rattle.hir_store.specs.declared.path.AssociatedTypeBinding.TheOpen.{GenericArgs-F}
+use Rattle.hir_store.specs.declared.path.AssociatedTypeBinding.TheViews.{out-GenericArgs}
 use Rattle.hir_store.specs.declared.path.AssociatedTypeBinding.TheViews.{roll-AssociatedTypeBinding, roll-GenericArgs}
 
 abbrev pub of_args : List GenericArg → Bool → List AssociatedTypeBinding → GenericArgsParentheses → GenericArgs

@@ -54,7 +54,9 @@ exprs_in (hir.Block is_unsafe label id ss tail) = max (past past_statement ss) (
 exprs_in (hir.Loop b label source) = suc b.0
 exprs_in (hir.Call f es) = max (suc f.0) (past past_expr es)
 exprs_in (hir.Break label e) = past_option past_expr e
-exprs_in (hir.MethodCall receiver name es args) = max (suc receiver.0) (max (past past_expr es) (past_present past_generic args).exprs)
+exprs_in (hir.MethodCall receiver name generics es) =
+    max (suc receiver.0) (max (past_present past_generic generics).exprs (past past_expr es))
+exprs_in (hir.RecordLit p fields spread) = max (past_path p).exprs (max (past past_field fields) (past_spread spread))
 exprs_in (hir.Field e name) = suc e.0
 exprs_in (hir.UnaryOp op e) = suc e.0
 exprs_in (hir.BinaryOp op lhs rhs) = max (suc lhs.0) (suc rhs.0)
@@ -67,8 +69,7 @@ exprs_in (hir.Become e) = suc e.0
 exprs_in (hir.Yield e) = past_option past_expr e
 exprs_in (hir.Yeet e) = past_option past_expr e
 exprs_in (hir.Await e) = suc e.0
-exprs_in (hir.Cast e t) = suc e.0
-exprs_in (hir.RecordLit p fs s) = max (past_path p).exprs (max (past past_field fs) (past_spread s))
+exprs_in (hir.Cast e type_ref) = suc e.0
 exprs_in _ = 0
 
 -- the labels that it names
@@ -82,16 +83,16 @@ labels_in _ = 0
 -- the types and the lifetimes that it names
 abbrev pub types_in : Expr → ℕ
 types_in (hir.Path p hygiene) = (past_path p).types
-types_in (hir.MethodCall receiver name es args) = (past_present past_generic args).types
-types_in (hir.Cast e t) = suc t.0
-types_in (hir.RecordLit p fs s) = (past_path p).types
-types_in (hir.OffsetOf t names) = suc t.0
+types_in (hir.MethodCall receiver name generics es) = (past_present past_generic generics).types
+types_in (hir.RecordLit p fields spread) = (past_path p).types
+types_in (hir.Cast e type_ref) = suc type_ref.0
+types_in (hir.OffsetOf container fields) = suc container.0
 types_in _ = 0
 
 abbrev pub lifetimes_in : Expr → ℕ
 lifetimes_in (hir.Path p hygiene) = (past_path p).lifetimes
-lifetimes_in (hir.MethodCall receiver name es args) = (past_present past_generic args).lifetimes
-lifetimes_in (hir.RecordLit p fs s) = (past_path p).lifetimes
+lifetimes_in (hir.MethodCall receiver name generics es) = (past_present past_generic generics).lifetimes
+lifetimes_in (hir.RecordLit p fields spread) = (past_path p).lifetimes
 lifetimes_in _ = 0
 
 -- ---- what is named exists
@@ -118,7 +119,7 @@ abbrev pub HasFields : Stored → List RecordLitField → Type 0
 HasFields s fs = past past_field fs ≤ length s.exprs.entries
 
 abbrev pub HasSpread : Stored → RecordSpread → Type 0
-HasSpread s x = past_spread x ≤ length s.exprs.entries
+HasSpread s r = past_spread r ≤ length s.exprs.entries
 
 abbrev pub HasLabel : Stored → LabelId → Type 0
 HasLabel s id = suc id.0 ≤ length s.labels.entries
@@ -191,6 +192,10 @@ pub record StoreInRange (s : Store) : Type 0 where
   pub of_types : Within s (past_each past_type s.types)
   pub roots : past past_root s.roots ≤ length s.exprs
 
+-- every number in what is stored so far is in range, but for the ways to what is stored
+abbrev pub InRangeSoFar : Stored → Type 0
+InRangeSoFar s = StoreInRange (store_of s) × (past (λ e. past_expr e.0) s.field_map_back ≤ length s.exprs.entries)
+
 -- every number in the source map is one of the store, and each entry has its source
 pub record MapInRange (s : Store) (m : SourceMap) : Type 0 where
   pub expr_sources : length m.expr_sources ≡ length s.exprs
@@ -199,6 +204,7 @@ pub record MapInRange (s : Store) (m : SourceMap) : Type 0 where
   pub lifetime_sources : length m.lifetime_sources ≡ length s.lifetimes
   pub exprs : past (λ way. past_expr way.1) m.expr_map ≤ length s.exprs
   pub labels : past (λ way. past_label way.1) m.label_map ≤ length s.labels
+  pub fields : past (λ e. past_expr e.0) m.field_map_back ≤ length s.exprs
   pub types : past (λ way. suc way.1.0) m.types_map ≤ length s.types
   pub lifetimes : past (λ way. suc way.1.0) m.lifetime_map ≤ length s.lifetimes
 

@@ -29,7 +29,7 @@ impl Drop for LifetimeRef {
 }
 
 /// Whether a bound bears a `?`.
-#[derive(Clone, Copy, Debug, PartialEq, Eq)]
+#[derive(Clone, Copy, PartialEq, Eq)]
 pub enum TraitBoundModifier {
     None,
     Maybe,
@@ -114,7 +114,7 @@ pub fn copy_bounds(bounds: &Seq<TypeBound>) -> Result<Seq<TypeBound>, AllocError
 }
 
 /// `&'a mut T`.
-#[derive(Clone, Copy, Debug, PartialEq, Eq)]
+#[derive(Clone, Copy, PartialEq, Eq)]
 pub struct RefType {
     pub ty: TypeRefId,
     pub lifetime: Option<LifetimeRefId>,
@@ -122,7 +122,7 @@ pub struct RefType {
 }
 
 /// The ABI of a function pointer. One that isn't written is `Rust`, one of another text `C`.
-#[derive(Clone, Copy, Debug, PartialEq, Eq)]
+#[derive(Clone, Copy, PartialEq, Eq)]
 pub enum ExternAbi {
     Rust,
     C,

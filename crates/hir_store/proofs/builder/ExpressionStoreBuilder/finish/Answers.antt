@@ -1,4 +1,4 @@
-use Rattle.std.proofs.Common.{◌≡◌, subst}
+use Rattle.std.proofs.Common.{subst}
 use Rattle.hir_store.specs.declared.builder.ExpressionStoreBuilder.TheView.{view}
 use Rattle.hir_store.specs.Stored.{Stored, map_of, store_of}
 use Rattle.hir_store.specs.Range.{InRange}
@@ -13,7 +13,7 @@ returns-clause-in_range c =
     let types = c.split-types.ensures.kept in
     let lifetimes = c.split-lifetimes.ensures.kept in
     subst P c.self.view_is (record {
-      store = c.self.invariant;
+      store = c.self.invariant.0;
       source_map = record {
         expr_sources = exprs.as_many;
         label_sources = labels.as_many;
@@ -21,6 +21,7 @@ returns-clause-in_range c =
         lifetime_sources = lifetimes.as_many;
         exprs = exprs.ways;
         labels = labels.ways;
+        fields = c.self.invariant.1;
         types = types.ways;
         lifetimes = lifetimes.ways;
       };

@@ -1,4 +1,4 @@
-use Rattle.std.proofs.Common.{◌≡◌, subst}
+use Rattle.std.proofs.Common.{subst}
 use Rattle.hir_store.specs.Stored.{Stored, map_of, store_of}
 use Rattle.hir_store.specs.Range.{InRange}
 use Rattle.hir_store.proofs.builder.ExpressionStoreBuilder.in_range.Goals as goal
@@ -11,7 +11,7 @@ returns c =
     let types = c.kept-3.ensures in
     let lifetimes = c.kept-4.ensures in
     subst P c.self.view_is (record {
-      store = c.self.invariant;
+      store = c.self.invariant.0;
       source_map = record {
         expr_sources = exprs.as_many;
         label_sources = labels.as_many;
@@ -19,6 +19,7 @@ returns c =
         lifetime_sources = lifetimes.as_many;
         exprs = exprs.ways;
         labels = labels.ways;
+        fields = c.self.invariant.1;
         types = types.ways;
         lifetimes = lifetimes.ways;
       };

@@ -1,7 +1,7 @@
 //! Answers by what they are given for.
 
 ghost use Rattle.std.specs.Prelude.{◌≡◌, OnOk, OnErr, []};
-ghost use Rattle.hir_env.specs.FirstMap.{found_by, with_first_by};
+ghost use Rattle.hir_store.specs.FirstMap.{found_by, with_first_by};
 
 use indexmap::IndexMap;
 use std::alloc::{AllocError, Global};
