@@ -9,13 +9,12 @@ use Rattle.hir_store.specs.Generics.{self_first}
 use Rattle.hir_store.specs.Past.{Past, nothing, join, past_each, past_arg_lists, past_generic, past_present, past_path, past_type_id}
 use Rattle.hir_store.proofs.Past.{self_alone_past, self_before_past}
 use Rattle.hir_store.specs.declared.ids.TypeRefId.{TypeRefId}
-use Rattle.hir_store.specs.declared.name.Name.{Name}
 use Rattle.hir_store.specs.declared.path.GenericArgs.{GenericArgs}
 use Rattle.hir_store.specs.declared.path.Path.{Path}
 use Rattle.hir_store.specs.declared.path.Path.TheVariants.{BarePath, Normal}
 use Rattle.hir_lower_form.specs.Methods.{HasWalk, HasReading}
 use Rattle.hir_lower_form.specs.Walks.{with_self, args_of, without_last_self, has_self, finished, path_read, own_path}
-use Rattle.hir_lower_form.specs.Walks.{normal_path, at_first, named, self_read, super_read, self_kind, anchored, projected}
+use Rattle.hir_lower_form.specs.Walks.{normal_path, self_read, super_read, self_kind, anchored, projected}
 use Rattle.hir_lower_form.specs.Walks.{add_trait, no_names, mod_path, one_more_super}
 use Rattle.hir_lower_form.specs.declared.walk.PathWalk.{PathWalk}
 use Rattle.hir_lower_form.specs.declared.walk.Reading.{Reading}
@@ -100,17 +99,6 @@ module _ (s : Stored) where
   abbrev IfRead : Option Reading → Type 0
   IfRead None = Unit {0}
   IfRead (Some r) = HasReading s r
-
-  pub at_first_has : (leading : Bool) (w : PathWalk) → HasWalk s w → HasWalk s (at_first leading w)
-  at_first_has true w h = h
-  at_first_has false w h = h
-
-  pub named_has : (n : Name) (a : Option GenericArgs) (w : PathWalk) → HasWalk s w → HasArgsOption s a → HasReading s (named n a w)
-  named_has n a w h k =
-      let anchor = past_present past_type_id w.type_anchor in
-      let one = has_join s (past_present past_generic a) nothing k (has_nothing s) in
-      let lists = each_append s (past_present past_generic) w.args (a ∷ []) (join_right s anchor (past_arg_lists w.args) h) one in
-      has_join s anchor (past_arg_lists (w.args ++ a ∷ [])) (join_left s anchor (past_arg_lists w.args) h) lists
 
   pub self_has : (w : PathWalk) → HasWalk s w → HasReading s (self_read w)
   self_has w h = by (no_names w.names)

@@ -1,9 +1,11 @@
 //! What is read of a path so far.
 
 ghost use Rattle.std.specs.Prelude.{◌≡◌, map, reverse, IfOk, None};
+ghost use Rattle.hir_store.specs.Past.{join, past_generic, past_present};
 ghost use Rattle.hir_lower_form.specs.Walks as spec;
 
 use hir_store::ids::{CrateId, TypeRefId};
+use hir_store::lists::push_args;
 use hir_store::name::Name;
 use hir_store::path::{GenericArgs, ModPath, NormalPath, Path, PathKind};
 use hir_syntax::Seq;
@@ -123,7 +125,8 @@ impl PathWalk {
 
     /// The walk at a first segment, which may bear a `::`.
     pub fn at_first(self, leading: bool) -> PathWalk
-        ensures { result ≡ spec.at_first leading self }
+        ensures value { result ≡ spec.at_first leading self }
+        ensures past { spec.past_walk result ≡ spec.past_walk self }
     {
         if leading {
             PathWalk {
@@ -136,12 +139,14 @@ impl PathWalk {
     }
 
     /// A further name, before those that are read, with what stands beside it.
+    #[tactic(auto, using(hir_store::proofs::Past::join_assoc))]
     pub fn named(mut self, name: Name, args: Option<GenericArgs>) -> Result<Reading, AllocError>
-        ensures { IfOk result (λ r. r ≡ spec.named name args self) }
+        ensures value { IfOk result (λ r. r ≡ spec.named name args self) }
+        ensures past { IfOk result (λ r. spec.past_reading r ≡ join (spec.past_walk self) (past_present past_generic args)) }
     {
         self.found_args = self.found_args || args.is_some();
         self.names.push(name)?;
-        self.args.push(args)?;
+        push_args(&mut self.args, args)?;
         Ok(Reading::Open(self))
     }
 

@@ -29,7 +29,6 @@ use hir_syntax::node::InFile;
 use hir_syntax::{Boxed, Text, ast};
 
 /// A name with what stands behind it, or `$crate`, which may only be the first.
-#[tactic(auto, using(hir_lower_form::proofs::Walked::named_has))]
 fn name_form<P: LowerParts>(
     lowerer: &Lowerer<P>,
     state: &mut BodyBuilder,
@@ -136,7 +135,7 @@ fn super_form(state: &mut BodyBuilder, walk: PathWalk) -> Result<Reading, StoreF
     }
 }
 
-#[tactic(auto, using(hir_lower_form::proofs::Walked::named_has, hir_lower_form::proofs::Walked::self_has))]
+#[tactic(auto, using(hir_lower_form::proofs::Walked::self_has))]
 fn segment_form<P: LowerParts>(
     lowerer: &Lowerer<P>,
     state: &mut BodyBuilder,
@@ -177,7 +176,7 @@ fn segment_form<P: LowerParts>(
 }
 
 /// A segment, or the missing name where it is absent.
-#[tactic(auto, using(hir_env::proofs::PathLevels::segment_is_level, hir_lower_form::proofs::Walked::named_has))]
+#[tactic(auto, using(hir_env::proofs::PathLevels::segment_is_level))]
 fn segment<P: LowerParts>(
     lowerer: &Lowerer<P>,
     state: &mut BodyBuilder,
@@ -218,7 +217,6 @@ fn segments<P: LowerParts>(
 }
 
 /// The segments of a path, without those of the use tree around it.
-#[tactic(auto, using(hir_lower_form::proofs::Walked::at_first_has, hir_lower_form::proofs::Walked::named_has))]
 fn own_segments<P: LowerParts>(
     lowerer: &Lowerer<P>,
     state: &mut BodyBuilder,

@@ -50,7 +50,7 @@ fn stored_path_bound(maybe: bool, names: Seq<Name>, ty: TypeRefId) -> TypeBound
 }
 
 /// A bound by a trait, and an error where its path is absent or refused.
-#[tactic(auto, using(crate::proofs::Bounds::path_bound_has), unfolding(hir_lower_form::specs::Types::path_bound_form))]
+#[tactic(auto, using(crate::proofs::BoundsExist::path_bound_has), unfolding(hir_lower_form::specs::Types::path_bound_form))]
 fn path_bound<P: LowerParts>(
     lowerer: &Lowerer<P>,
     state: &mut BodyBuilder,
