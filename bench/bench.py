@@ -100,7 +100,20 @@ def labels(size):
     return nodes
 
 
-SHAPES = {"wide": wide, "calls": calls, "deep": deep, "labels": labels}
+def segments(size):
+    """One path with very many segments, every tenth a `super`."""
+    nodes = Nodes()
+    path = nodes.add("Path", segs=[])
+    while len(nodes.all) < size:
+        word = {"seg": "super"} if len(nodes.all) % 10 == 0 else {"seg": "name", "name": "a"}
+        nodes.all[path]["segs"].append(nodes.add("PathSegment", **word))
+    return nodes
+
+
+SHAPES = {"wide": wide, "calls": calls, "deep": deep, "labels": labels, "segments": segments}
+
+# The shapes whose root is no function.
+MODES = {"segments": "path"}
 
 
 HEADS = ("shape", "nodes", "MB", "seconds", "peak MB", "parse us", "rest us", "parse B", "rest B")
@@ -127,11 +140,11 @@ def write(name, size, path):
     print(len(nodes))
 
 
-def measure(program, path):
-    """Runs the program on a file: its status, what it said, seconds and peak memory in bytes."""
+def measure(program, mode, path):
+    """Runs the program in a mode on a file: its status, what it said, seconds and peak memory in bytes."""
     with open(path, "rb") as document, tempfile.TemporaryFile() as errors:
         began = time.monotonic()
-        child = subprocess.Popen([program, "body"], stdin=document, stdout=subprocess.DEVNULL, stderr=errors)
+        child = subprocess.Popen([program, mode], stdin=document, stdout=subprocess.DEVNULL, stderr=errors)
         _, status, used = os.wait4(child.pid, 0)
         seconds = time.monotonic() - began
         errors.seek(0)
@@ -150,7 +163,7 @@ def main():
         return write(given.make[0], int(given.make[1]), given.make[2])
     if not os.access(given.program, os.X_OK):
         sys.exit("bench: no program %s; `rt run` in crates/lower_tool builds it" % given.program)
-    print("%-7s %9s %9s %8s %9s %9s %9s %9s %9s" % HEADS)
+    print("%-8s %9s %9s %8s %9s %9s %9s %9s %9s" % HEADS)
     failed = False
     for name in [given.shape] if given.shape else list(SHAPES):
         for size in [size for size in SIZES if size <= given.most]:
@@ -164,8 +177,9 @@ def line(program, name, size):
         path = os.path.join(folder, "document.json")
         count = make(name, size, path)
         length = os.path.getsize(path)
-        status, said, seconds, peak = measure(program, path)
-        parse_status, parse_said, parse_seconds, parse_peak = measure(program, path + ".parsed")
+        mode = MODES.get(name, "body")
+        status, said, seconds, peak = measure(program, mode, path)
+        parse_status, parse_said, parse_seconds, parse_peak = measure(program, mode, path + ".parsed")
     wrong = []
     if (status, said) != (0, ""):
         wrong.append("status %d %s" % (status, said))
@@ -173,7 +187,7 @@ def line(program, name, size):
         wrong.append("parsing: status %d %s" % (parse_status, parse_said))
     parts = [1e6 * parse_seconds, 1e6 * (seconds - parse_seconds), parse_peak, peak - parse_peak]
     shown = (name, count, length / 1e6, seconds, peak / 1e6, *[part / count for part in parts])
-    print("%-7s %9d %9.1f %8.3f %9.1f %9.2f %9.2f %9.0f %9.0f" % shown, *wrong, flush=True)
+    print("%-8s %9d %9.1f %8.3f %9.1f %9.2f %9.2f %9.0f %9.0f" % shown, *wrong, flush=True)
     return bool(wrong)
 
 

@@ -17,7 +17,8 @@ use Rattle.hir_env.specs.Whole.{answered_arg, answered_assoc_arg, answered_arg_l
 use Rattle.hir_env.proofs.PathLevels.{arg_list_is_level, arg_is_level, assoc_arg_is_level}
 use Rattle.hir_data.specs.Data.{ArgumentData, ArgumentsData, BindingData, BindingsData}
 use Rattle.hir_data.specs.Written.{arguments_of, argument_of, put_argument, bindings_of, binding_of, put_binding}
-use Rattle.hir_data.specs.Arguments.{argument_stands, arguments_among, kept_args, binding_stands, put_written, bindings_among, kept_bindings}
+use Rattle.hir_data.specs.Arguments.{argument_stands, arguments_among, kept_args, binding_stands, put_written, bindings_among}
+use Rattle.hir_data.specs.Arguments.{kept_bindings}
 use Rattle.hir_data.specs.Arguments.{arguments_in, bindings_in}
 
 abbrev holds : Bool → Type 0
@@ -72,7 +73,8 @@ put_one : {A : Type 0} (f : A → Option ArgumentData) (a : A) (as' : List A) (x
     → map Some (arguments_in xs) ≡ map f as' → map Some (arguments_in (put_argument (f a) xs)) ≡ map f (if b then a ∷ as' else as')
 put_one f a as' xs b h e = by (f a) refl b h
   where
-    by : (x : Option ArgumentData) → f a ≡ x → (b : Bool) → is_some x ≡ b → map Some (arguments_in (put_argument x xs)) ≡ map f (if b then a ∷ as' else as')
+    by : (x : Option ArgumentData) → f a ≡ x → (b : Bool) → is_some x ≡ b
+        → map Some (arguments_in (put_argument x xs)) ≡ map f (if b then a ∷ as' else as')
     by None k false g = e
     by (Some x) k true g = λ j. sym k j ∷ e j
     by None k true g = absurd (clash (sym g))
@@ -82,7 +84,8 @@ put_bound : {A : Type 0} (f : A → Option BindingData) (a : A) (as' : List A) (
     → map Some (bindings_in xs) ≡ map f as' → map Some (bindings_in (put_binding (f a) xs)) ≡ map f (if b then a ∷ as' else as')
 put_bound f a as' xs b h e = by (f a) refl b h
   where
-    by : (x : Option BindingData) → f a ≡ x → (b : Bool) → is_some x ≡ b → map Some (bindings_in (put_binding x xs)) ≡ map f (if b then a ∷ as' else as')
+    by : (x : Option BindingData) → f a ≡ x → (b : Bool) → is_some x ≡ b
+        → map Some (bindings_in (put_binding x xs)) ≡ map f (if b then a ∷ as' else as')
     by None k false g = e
     by (Some x) k true g = λ j. sym k j ∷ e j
     by None k true g = absurd (clash (sym g))
@@ -100,7 +103,8 @@ all_arguments at (a ∷ as') = put_one (λ x. argument_of (answered_arg at x)) a
 abbrev bound : Spot → AstAssocTypeArg → Option BindingData
 bound at b = binding_of (answered_assoc_arg at b)
 
-one_binding : (at : Spot) (a : AstGenericArg) (bs : List AstAssocTypeArg) (xs : BindingsData) → map Some (bindings_in xs) ≡ map (bound at) bs
+one_binding : (at : Spot) (a : AstGenericArg) (bs : List AstAssocTypeArg) (xs : BindingsData)
+    → map Some (bindings_in xs) ≡ map (bound at) bs
     → map Some (bindings_in (put_binding (binding_of (answered_arg at a)) xs)) ≡ map (bound at) (put_written (out-GenericArg a) bs)
 one_binding at a bs xs e = ap (λ x. map Some (bindings_in (put_binding (binding_of x) xs))) (arg_is_level at a) ∙ by (out-GenericArg a)
   where
@@ -111,7 +115,8 @@ one_binding at a bs xs e = ap (λ x. map Some (bindings_in (put_binding (binding
     by (GenericArg-F.AssocTypeArg b) = put_bound (bound at) b bs xs (binding_stands b) (assoc_is at b) e
     by (GenericArg-F.LifetimeArg x) = ap (λ y. map Some (bindings_in (put_binding y xs))) (lifetime_binds at.place x.lifetime) ∙ e
 
-all_bindings : (at : Spot) (as' : List AstGenericArg) → map Some (bindings_in (bindings_of (listed at as'))) ≡ map (bound at) (bindings_among as')
+all_bindings : (at : Spot) (as' : List AstGenericArg)
+    → map Some (bindings_in (bindings_of (listed at as'))) ≡ map (bound at) (bindings_among as')
 all_bindings at [] = refl
 all_bindings at (a ∷ as') = one_binding at a (bindings_among as') (bindings_of (listed at as')) (all_bindings at as')
 

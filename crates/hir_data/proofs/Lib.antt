@@ -1,3 +1,3 @@
-mod Segments
+pub mod Segments
 mod Arguments
 mod Worked

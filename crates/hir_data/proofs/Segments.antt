@@ -25,7 +25,8 @@ use Rattle.hir_data.specs.Rule.{Named, PathRead, Item, What, ends, ended, read, 
 use Rattle.hir_data.specs.Rule.{first_without_self, last_without_self, first_behind_self, last_behind_self}
 use Rattle.hir_data.specs.Written.{type_data, what, items, segments, path_of, written_path}
 use Rattle.hir_data.specs.Segments.{name_borne, segment_name, named_among, named_segments, trait_of, first_trait, behind_trait}
-use Rattle.hir_data.specs.Segments.{all_but_first, replaced, all_present, none_missing, Whole, is_qualified, none_qualified, PlainPath, PlainTrait}
+use Rattle.hir_data.specs.Segments.{all_but_first, replaced, all_present, none_missing, Whole, is_qualified, none_qualified, PlainPath}
+use Rattle.hir_data.specs.Segments.{PlainTrait}
 
 abbrev holds : Bool → Type 0
 holds true = Unit {0}
@@ -72,7 +73,8 @@ abbrev said : Bool → Segment → List Name
 said first s = map name_at (names_of (what first s))
 
 abbrev named_or_root : Spot → AstName → SegmentArgs → Bool → Segment
-named_or_root at n a b = if b then tree.dollar_crate_segment (crate_root_at at.answers at.place n.id) else tree.name_segment (name.Text n.t) a
+named_or_root at n a b =
+    if b then tree.dollar_crate_segment (crate_root_at at.answers at.place n.id) else tree.name_segment (name.Text n.t) a
 
 dollar_said : (at : Spot) (first : Bool) (n : AstName) (a : SegmentArgs) (b : Bool)
     → said first (named_or_root at n a b) ≡ borne (if b then None else Some (name.Text n.t))
@@ -211,7 +213,8 @@ answered_read at p x u e =
 
 -- without a trait
 plain_named : (at : Spot) (p : AstPath) (x : PathRead) → Whole p → first_trait (out-Path p).segs ≡ None
-    → path_of (tree.some_path (answered_path at p)) ≡ Some x → map Some (map name_at x.names) ≡ map segment_name (named_among (out-Path p).segs)
+    → path_of (tree.some_path (answered_path at p)) ≡ Some x
+    → map Some (map name_at x.names) ≡ map segment_name (named_among (out-Path p).segs)
 plain_named at p x w t e =
     let o = out-Path p in
     ap (map Some) (read_named (front o.leading (first_part at o.segs) ∷ items (rest_part at o.segs) []) x (answered_read at p x w.0 e))
@@ -245,12 +248,14 @@ named_append (None ∷ xs) ys = named_append xs ys
 named_append (Some s ∷ xs) ys = by (is_some (segment_name s)) (named_append xs ys)
   where
     by : (b : Bool) → named_among (xs ++ ys) ≡ named_among xs ++ named_among ys
-        → (if b then s ∷ named_among (xs ++ ys) else named_among (xs ++ ys)) ≡ (if b then s ∷ named_among xs else named_among xs) ++ named_among ys
+        → (if b then s ∷ named_among (xs ++ ys) else named_among (xs ++ ys))
+        ≡ (if b then s ∷ named_among xs else named_among xs) ++ named_among ys
     by true e = ap (λ l. s ∷ l) e
     by false e = e
 
 -- it stands in the tree
-trait_first : (at : Spot) (k : Option SegmentKind) (n : Option AstName) (a : SegmentArgs) (ty : OptionType) (tr : Option AstPathType) (t : AstPathType)
+trait_first : (at : Spot) (k : Option SegmentKind) (n : Option AstName) (a : SegmentArgs) (ty : OptionType)
+    (tr : Option AstPathType) (t : AstPathType)
     → trait_of k tr ≡ Some t
     → kinded_segment at.answers at.place k n a ty (path_type_part at tr) ≡ qualified_segment ty (Some (answered_path_type at t))
 trait_first at None n a ty tr t h = absurd (no_some h)
@@ -262,7 +267,8 @@ trait_first at (Some word.SelfTypeKw) n a ty tr t h = absurd (no_some h)
 trait_first at (Some word.Qualified) n a ty tr t h = ap (λ x. qualified_segment ty (path_type_part at x)) h
 
 -- the names of the trait, then those behind it
-trait_names : (at : Spot) (q : Option AstPath) (x : PathRead) → PlainPath q → path_of (path_part at q) ≡ Some x → (ss : List (Option AstSegment))
+trait_names : (at : Spot) (q : Option AstPath) (x : PathRead) → PlainPath q → path_of (path_part at q) ≡ Some x
+    → (ss : List (Option AstSegment))
     → (ns : List Name) → map Some ns ≡ map segment_name (named_among ss)
     → map Some (map name_at x.names ++ ns) ≡ map segment_name (behind_trait q ss)
 trait_names at None x w e ss ns h = absurd (no_some e)
@@ -283,12 +289,15 @@ qualified_named at leading (tree.some_type ty) r rest x e Q k = by (path_of r.pa
     abbrev_items : Option PathRead → List Item
     abbrev_items y = record { leading = leading; what = rule.projection (type_data None ty) y } ∷ items rest []
 
+    changed : (ns : List Named) → map name_at (last_behind_self (type_data None ty) ns) ≡ map name_at ns
+    changed = last_changed (first_behind_self (type_data None ty)) (behind_names (type_data None ty))
+
     by : (y : Option PathRead) → path_of r.path ≡ y → Q (map name_at x.names)
     by None h = absurd (no_some (sym (ap (λ y. path_read (abbrev_items y)) h) ∙ e))
     by (Some y) h = subst Q
         (sym (read_named (abbrev_items (Some y)) x (sym (ap (λ z. path_read (abbrev_items z)) h) ∙ e)
         ∙ (map-append name_at (last_behind_self (type_data None ty) y.names) (rule.names (items rest []))
-        ∙ ap (λ ns. ns ++ all_names (items rest [])) (last_changed (first_behind_self (type_data None ty)) (behind_names (type_data None ty)) y.names))))
+        ∙ ap (λ ns. ns ++ all_names (items rest [])) (changed y.names))))
         (k y h)
 
 path_type_path : (at : Spot) (t : AstPathType) → (answered_path_type at t).path ≡ path_part at (out-PathType t).path
@@ -305,13 +314,15 @@ trait_named at leading (Some s ∷ ss) t x m h w e =
     let r = answered_path_type at t in
     let ns = all_names (items (segments_part at ss) []) in
     let first = segment_is_level at s ∙ trait_first at o.seg o.name _ _ o.trait_ t h in
-    qualified_named at leading _ r (segments_part at ss) x (ap (λ y. path_read (front leading y ∷ items (segments_part at ss) [])) (sym first) ∙ e)
+    qualified_named at leading _ r (segments_part at ss) x
+    (ap (λ y. path_read (front leading y ∷ items (segments_part at ss) [])) (sym first) ∙ e)
     (λ l. map Some l ≡ map segment_name (behind_trait (out-PathType t).path ss))
     (λ y k. trait_names at (out-PathType t).path y w (ap path_of (sym (path_type_path at t)) ∙ k) ss ns (names_behind at ss m))
 
 -- ---- the law
 
-replaced_named : (at : Spot) (p : AstPath) (x : PathRead) (tr : Option AstPathType) → first_trait (out-Path p).segs ≡ tr → Whole p → PlainTrait tr
+replaced_named : (at : Spot) (p : AstPath) (x : PathRead) (tr : Option AstPathType) → first_trait (out-Path p).segs ≡ tr → Whole p
+    → PlainTrait tr
     → path_of (tree.some_path (answered_path at p)) ≡ Some x
     → map Some (map name_at x.names) ≡ map segment_name (replaced tr (out-Path p).segs)
 replaced_named at p x None h w t e = plain_named at p x w h e

@@ -8,7 +8,8 @@ use Rattle.hir_env.specs.Spot.{Spot}
 use Rattle.hir_env.specs.TypeLayers.{GenericArgLayer}
 use Rattle.hir_env.specs.Paths.{written_types}
 use Rattle.hir_env.specs.Whole.{answered_arg, answered_assoc_arg, answered_arg_list}
-use Rattle.hir_data.specs.Data.{ArgumentData, ArgumentsData, no_arguments, more_arguments, BindingData, BindingsData, no_bindings, more_bindings}
+use Rattle.hir_data.specs.Data.{ArgumentData, ArgumentsData, no_arguments, more_arguments, BindingData, BindingsData, no_bindings}
+use Rattle.hir_data.specs.Data.{more_bindings}
 use Rattle.hir_data.specs.Written.{arguments_of, argument_of, bindings_of, binding_of}
 
 -- each but a binding and a lifetime that is absent

@@ -22,6 +22,7 @@ use Rattle.hir_store.specs.declared.type_ref.TypeBound.TheVariants as bound
 use Rattle.hir_store.specs.declared.type_ref.TypeRef.{TypeRef}
 use Rattle.hir_store.specs.declared.type_ref.TypeRef.TheVariants as ty
 use Rattle.hir_store.specs.declared.type_ref.FnType.{FnType}
+use Rattle.hir_env.specs.Answered.{FnHead}
 use Rattle.hir_data.specs.Data as datum
 use Rattle.hir_data.specs.Data.{LifetimeData, UseData, TypeData, typed, Shape, OptionTypeData, TypesData, PathData, NamesData}
 use Rattle.hir_data.specs.Data.{OptionArgsData, no_args, some_args, ArgsData, args_data, ArgumentData, ArgumentsData}
@@ -117,10 +118,13 @@ module _ (store : Store) (source_map : SourceMap) where
     abbrev pub path_layer : Path → PathData
     path_layer (BarePath p) = datum.path_data p.kind datum.no_type (names_beside p.segments []) true
     path_layer (Normal p) =
-        datum.path_data p.mod_path.kind (present_layer p.type_anchor) (names_beside p.mod_path.segments (map list_layer p.generic_args)) false
+        let ns = names_beside p.mod_path.segments (map list_layer p.generic_args) in
+        datum.path_data p.mod_path.kind (present_layer p.type_anchor) ns false
 
     abbrev pub fn_layer : FnType → Shape
-    fn_layer f = datum.fn_shape (record { is_unsafe = f.is_unsafe; abi = f.abi; is_varargs = f.is_varargs }) f.binder (types_layer f.params datum.no_types)
+    fn_layer f =
+        let head : FnHead = record { is_unsafe = f.is_unsafe; abi = f.abi; is_varargs = f.is_varargs } in
+        datum.fn_shape head f.binder (types_layer f.params datum.no_types)
 
     abbrev pub shape_layer : TypeRef → Shape
     shape_layer ty.Never = datum.never_shape

@@ -49,7 +49,8 @@ abbrev pub behind_self : TypeData → ArgsData → ArgsData
 behind_self t (args_data as' has_self bs ps) = args_data (datum.more_arguments (datum.type_argument t) as') true bs ps
 
 abbrev pub self_first : TypeData → OptionArgsData → OptionArgsData
-self_first t no_args = some_args (args_data (datum.more_arguments (datum.type_argument t) datum.no_arguments) true datum.no_bindings parens.No)
+self_first t no_args =
+    some_args (args_data (datum.more_arguments (datum.type_argument t) datum.no_arguments) true datum.no_bindings parens.No)
 self_first t (some_args as') = some_args (behind_self t as')
 
 abbrev pub has_self : ArgsData → Bool

@@ -110,10 +110,11 @@ projected t at trait ss = whole (tree.trait_segment t at trait) ss
 abbrev pub TraitInPlace : Type 0
 TraitInPlace = (t : Type_) (at : Pointer)
     → (written_path (projected t at (whole (word (codes "B")) (word (codes "D") ∷ [])) (word (codes "E") ∷ []))
-      ≡ Some (path_data kind.Plain datum.no_type
-          (datum.more_names (text (codes "B")) datum.no_args (datum.more_names (text (codes "D")) (self_alone t) (alone (text (codes "E") ∷ [])))) false))
+    ≡ Some (path_data kind.Plain datum.no_type
+    (datum.more_names (text (codes "B")) datum.no_args
+    (datum.more_names (text (codes "D")) (self_alone t) (alone (text (codes "E") ∷ [])))) false))
     × (written_path (projected t at (whole (word (codes "B")) []) [])
-      ≡ Some (path_data kind.Plain datum.no_type (alone (text (codes "B") ∷ [])) false))
+    ≡ Some (path_data kind.Plain datum.no_type (alone (text (codes "B") ∷ [])) false))
     × is_refused (projected t at (whole tree.crate_segment []) (word (codes "E") ∷ []))
 
 -- `<T>::E`
@@ -126,7 +127,7 @@ sugared from to =
     let tuple = datum.typed None (datum.tuple_shape (datum.more_types from datum.no_types)) in
     let output = datum.binding_data (text (codes "Output")) datum.no_args (datum.some_type to) datum.no_bounds in
     datum.some_args (datum.args_data (datum.more_arguments (datum.type_argument tuple) datum.no_arguments) false
-        (datum.more_bindings output datum.no_bindings) parens.ParenSugar)
+    (datum.more_bindings output datum.no_bindings) parens.ParenSugar)
 
 abbrev pub fn_behind : Type_ → OptionRet → OptionPath
 fn_behind a r = whole (tree.name_segment (text (codes "Fn")) (tree.segment_args tree.no_arg_list
@@ -147,7 +148,7 @@ OutputIsBound = (a b : Type_)
 abbrev pub BinderOfFunctions : Type 0
 BinderOfFunctions = (at : Pointer) (h : FnHead) (b : Binder) (t : Type_)
     → (type_data None (tree.for_type b (tree.some_type (tree.paren_type (tree.some_type (tree.fn_type at h tree.no_parts tree.no_type)))))
-      ≡ datum.typed (Some at) (datum.fn_shape h (Some b)
-          (datum.more_types (datum.typed None (datum.tuple_shape datum.no_types)) datum.no_types)))
+    ≡ datum.typed (Some at) (datum.fn_shape h (Some b)
+    (datum.more_types (datum.typed None (datum.tuple_shape datum.no_types)) datum.no_types)))
     × (type_data None (tree.for_type b (tree.some_type (tree.over_type at tree.slice_of (tree.some_type t))))
-      ≡ datum.typed (Some at) (datum.slice_shape (type_data None t)))
+    ≡ datum.typed (Some at) (datum.slice_shape (type_data None t)))

@@ -99,7 +99,8 @@ notation true = some_args (args_data datum.no_arguments false datum.no_bindings 
 
 -- `(A, B) -> C` is one tuple and the binding `Output = C`
 abbrev pub output_is : TypeData → BindingsData
-output_is t = datum.more_bindings (datum.binding_data (name.Text (codes "Output")) no_args (datum.some_type t) datum.no_bounds) datum.no_bindings
+output_is t =
+    datum.more_bindings (datum.binding_data (name.Text (codes "Output")) no_args (datum.some_type t) datum.no_bounds) datum.no_bindings
 
 abbrev pub function_args : TypesData → TypeData → OptionArgsData
 function_args ts output =

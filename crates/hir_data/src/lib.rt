@@ -8,7 +8,7 @@ ghost use Rattle.hir_data.specs.Worked.{SuperAfterSelf, KeywordsInside, CrateHid
 ghost use Rattle.hir_data.specs.Worked.{SelfAlone, UseTreesStandInFront, AbsentIsMissing};
 ghost use Rattle.hir_data.specs.Worked.{TraitInPlace, TypeInFront, OutputIsBound, BinderOfFunctions};
 
-/// The names of a path are those of its named segments.
+/// The names of a path are those of its named segments, where no use tree stands around it and no segment is missing.
 pub fn segment_law()
     ensures { SegmentLaw }
 {}

@@ -2,10 +2,12 @@
 use Rattle.std.proofs.Common.{Bool, true, false, List, [], Option, Some, None}
 use Rattle.hir_store.specs.Pointers.{Pointer}
 use Rattle.hir_store.specs.declared.hir.Expr.{Expr as HirExpr}
+use Rattle.hir_store.specs.declared.path.Path.{Path as HirPath}
 use Rattle.hir_store.specs.declared.hir.Statement.{Statement}
 use Rattle.hir_store.specs.declared.name.Name.{Name}
 use Rattle.hir_store.specs.declared.diagnostics.AwaitLocation.{AwaitLocation}
 use Rattle.hir_store.specs.declared.ids.ExprId.{ExprId}
+use Rattle.hir_store.specs.declared.ids.HygieneId.{HygieneId}
 use Rattle.hir_store.specs.declared.ids.LabelId.{LabelId}
 use Rattle.hir_store.specs.declared.ids.BlockId.{BlockId}
 use Rattle.hir_env.specs.Answered as tree
@@ -13,8 +15,9 @@ use Rattle.hir_env.specs.Answered.{Listing, Label, Jump, Expr, OptionExpr, Exprs
 use Rattle.hir_lower_form.specs.Lowering.{Lowering}
 use Rattle.hir_lower_form.specs.Lower.{ExprSteps, StoredContents, missing, some, if_form, loop_form, call_form, continue_form}
 use Rattle.hir_lower_form.specs.Lower.{break_form, paren_form, operand_form, operands_form, value_form, list_form}
-use Rattle.hir_lower_form.specs.Lower.{method_call_form, await_form, block_form, labelled, kept, lower, lower_part}
+use Rattle.hir_lower_form.specs.Lower.{path_form, method_call_form, await_form, block_form, labelled, kept, lower, lower_part}
 use Rattle.hir_lower_form.specs.Lower.{present, kept_part, lower_each, lower_block, lower_block_part, lower_stmts, lower_stmt}
+use Rattle.hir_lower.proofs.TypeWays.{option_path_leads}
 use Rattle.hir_lower.proofs.Ways.{Leading, any, since, then', makes, leading_pure, leading_report, leading_block, leading_close}
 use Rattle.hir_lower.proofs.Ways.{leading_jump, leading_alloc, leading_open, leading_point, leading_closed, leading_report_await}
 
@@ -39,6 +42,10 @@ module _ (at : Pointer) where
   call_leads : {f : ExprSteps} {xs : Lowering (List ExprId)} → Leading since f → Leading any xs → Leading since (call_form at f xs)
   unfolding call_form
   call_leads hf hx = makes hf (λ i. makes hx (λ is. leading_alloc _ (Some at)))
+
+  path_leads : (h : HygieneId) {p : Lowering (Option HirPath)} → Leading any p → Leading since (path_form at h p)
+  unfolding path_form
+  path_leads h hp = makes hp (λ p. leading_alloc _ (Some at))
 
   continue_leads : (j : Option Jump) → Leading since (continue_form at j)
   unfolding continue_form
@@ -102,7 +109,7 @@ mutual
   node_leads (tree.block_expr b) = block_leads b
   node_leads (tree.loop_expr at label b) = loop_leads at label (block_part_leads b)
   node_leads (tree.call_expr at f es) = call_leads at (part_leads f) (each_leads [] es)
-  node_leads (tree.path_expr at x h) = leading_alloc _ (Some at)
+  node_leads (tree.path_expr at x h) = path_leads at h (option_path_leads x)
   node_leads (tree.continue_expr at jump) = continue_leads at jump
   node_leads (tree.break_expr at jump e) = break_leads at jump (present_leads e)
   node_leads (tree.paren_expr at e) = paren_leads at (part_leads e)

@@ -1,12 +1,20 @@
 -- What a lowered constant and a lowered body are, in words of meaning.
-use Rattle.std.specs.Prelude.{◌≡◌, ◌≤◌, ◌+◌, ℕ, Bool, true, false, List, [], ◌∷◌, ◌++◌, length, Option, Some, None, IsPermutation}
+use Rattle.std.specs.Prelude.{◌≡◌, ◌≤◌, ◌+◌, ℕ, Bool, true, false, List, [], ◌∷◌, ◌++◌, length, map, option_map, Option, Some, None, IsPermutation}
 use Rattle.hir_syntax.specs.declared.node.AstPtr.{AstPtr}
 use Rattle.hir_syntax.specs.declared.ast.Expr.{Expr as AstExpr}
+use Rattle.hir_syntax.specs.declared.ast.Path.{Path as AstPath, out-Path}
+use Rattle.hir_syntax.specs.declared.types.Type_.{Type_ as AstType_}
 use Rattle.hir_store.specs.Pointers.{Pointer}
 use Rattle.hir_store.specs.Stored.{Store, SourceMap, Stored, store_of, map_of}
-use Rattle.hir_store.specs.Storing.{Extends, root_at}
+use Rattle.hir_store.specs.Arenas.{with_entry}
+use Rattle.hir_store.specs.Storing.{Extends, root_at, type_id}
+use Rattle.hir_store.specs.declared.ids.TypeRefId.{TypeRefId}
+use Rattle.hir_store.specs.declared.type_ref.TypeBound.{TypeBound}
+use Rattle.hir_store.specs.declared.type_ref.TypeRef.{TypeRef}
+use Rattle.hir_store.specs.declared.type_ref.TypeRef.TheVariants as ty
 use Rattle.hir_store.specs.declared.ids.ExprId.{ExprId}
 use Rattle.hir_store.specs.declared.roots.ExprRoot.{ExprRoot}
+use Rattle.hir_store.specs.declared.path.Path.{Path}
 use Rattle.hir_store.specs.declared.ids.DefWithBodyId.{DefWithBodyId}
 use Rattle.hir_store.specs.declared.ids.DefWithBodyId.TheVariants as owner
 use Rattle.hir_store.specs.declared.ids.ItemContainerId.{ItemContainerId}
@@ -15,16 +23,24 @@ use Rattle.hir_store.specs.declared.diagnostics.MissingBodyItemKind.{MissingBody
 use Rattle.hir_store.specs.declared.diagnostics.MissingBodyItemKind.TheVariants as kind
 use Rattle.hir_store.specs.declared.diagnostics.ExpressionStoreDiagnostics.TheVariants.{MissingBody}
 use Rattle.hir_env.specs.Spot.{Spot}
+use Rattle.hir_env.specs.declared.place.ImplTrait.{ImplTrait}
+use Rattle.hir_env.specs.declared.place.ImplTrait.TheVariants as mode
 use Rattle.hir_env.specs.Answering.{in_file}
 use Rattle.hir_env.specs.Answered as tree
-use Rattle.hir_env.specs.Answered.{OptionExpr}
-use Rattle.hir_env.specs.Whole.{expr_part}
+use Rattle.hir_env.specs.Answered.{OptionExpr, OptionPath, OptionType}
+use Rattle.hir_env.specs.Whole.{answered_path, expr_part, type_part}
+use Rattle.hir_data.specs.Data.{path_names}
+use Rattle.hir_data.specs.Reading.{stored_path}
+use Rattle.hir_data.specs.Written.{written_path}
+use Rattle.hir_data.specs.Segments.{PlainTrait, Whole, first_trait, named_segments, segment_name}
 use Rattle.hir_meaning.specs.Same.{SameMeaning}
 use Rattle.hir_same_meaning.specs.Reached.{Spread, reached_to}
-use Rattle.hir_steps.specs.Keeps.{Paired}
+use Rattle.hir_steps.specs.Keeps.{Mapped, Paired, StaysAside}
 use Rattle.hir_one_result.specs.Blocks.{blocks_of_part}
 use Rattle.hir_one_result.specs.Diagnostics.{Faults, part_diagnostics}
-use Rattle.hir_one_result.specs.Room.{count_of_exprs}
+use Rattle.hir_one_result.specs.Laws.{Grown}
+use Rattle.hir_one_result.specs.PathRoom.{whole_size}
+use Rattle.hir_one_result.specs.Room.{count_of_exprs, count_of_lifetimes, count_of_types}
 use Rattle.hir_one_result.specs.Leads.{Way, label_ways, Covers, CoversLabels, Led}
 use Rattle.hir_one_result.specs.Stands.{StandsPart}
 
@@ -44,17 +60,20 @@ pub record Lives (old new later : Stored) (i : ExprId) (e : OptionExpr) : Type 0
       → Spread (length old.exprs.entries) (length new.exprs.entries) (reached_to later.exprs.entries depth i)
 
 -- What lowering a root leaves. It is the last of the recorded roots, to which all belongs that was stored since the
--- one before, as many expressions as the tree becomes; behind the faults and the blocks that were noted before come those
+-- one before, as many expressions, types and lifetimes as the tree becomes; behind the faults and the blocks that were noted before come those
 -- of the tree.
 pub record Rooted (old new : Stored) (i : ExprId) (e : OptionExpr) : Type 0 where
   pub lives : (later : Stored) → Extends new later → Lives old new later i e
   pub exprs : length new.exprs.entries ≡ length old.exprs.entries + count_of_exprs e
+  pub types : length new.types.entries ≡ length old.types.entries + count_of_types e
+  pub lifetimes : length new.lifetimes.entries ≡ length old.lifetimes.entries + count_of_lifetimes e
   pub roots : new.roots ≡ old.roots ++ root_at new.exprs.entries i ∷ []
   pub more : Faults
   pub faults : new.diagnostics ≡ old.diagnostics ++ more
   pub permuted : IsPermutation (part_diagnostics [] e) more
   pub blocks : new.block_scopes ≡ old.block_scopes ++ blocks_of_part e
   pub paired : Paired new
+  pub mapped : Mapped old → Mapped new
 
 -- the one recorded root does what the written body does, and reaches each expression in one way only
 pub record HasBody (store : Store) (source_map : SourceMap) (e : OptionExpr) : Type 0 where
@@ -62,6 +81,47 @@ pub record HasBody (store : Store) (source_map : SourceMap) (e : OptionExpr) : T
   pub only : store.roots ≡ root ∷ []
   pub same : SameMeaning store source_map root.root e
   pub reached_once : (depth : ℕ) → length store.exprs ≤ depth → Spread 0 (length store.exprs) (reached_to store.exprs depth root.root)
+
+-- paths and types
+
+-- with all that the environment says of them
+abbrev pub whole_path : Spot → AstPath → OptionPath
+whole_path at x = tree.some_path (answered_path at x)
+
+abbrev pub whole_type : Spot → Option AstType_ → OptionType
+whole_type at t = type_part at t
+
+-- what is read back of a stored path in each later store
+abbrev pub ReadsBack : Stored → Option Path → OptionPath → Type 0
+ReadsBack new r p = (later : Stored) → Extends new later → option_map (stored_path (store_of later) (map_of later)) r ≡ written_path p
+
+-- Its names are those of the written segments that bear one, where no use tree stands around it and no segment is missing, and
+-- none in its trait, which has no qualified type in turn.
+abbrev pub BearsNames : Stored → AstPath → Option Path → Type 0
+BearsNames new x None = Unit {0}
+BearsNames new x (Some p) = (later : Stored) → Extends new later → Whole x → PlainTrait (first_trait (out-Path x).segs)
+    → map Some (path_names (stored_path (store_of later) (map_of later) p)) ≡ map segment_name (named_segments x)
+
+-- one type more, to which its node leads from now on
+pub record AddsType (old new : Stored) (i : TypeRefId) (ty : TypeRef) (at : Pointer) : Type 0 where
+  pub number : i ≡ type_id (length old.types.entries)
+  pub added : new ≡ record old { types = with_entry type_id old.types ty (Some at) }
+
+abbrev pub NoRoomForType : Stored → Type 0
+NoRoomForType old = old.types.limit ≤ length old.types.entries
+
+-- what an `impl` with these bounds becomes
+abbrev pub becomes : ImplTrait → List TypeBound → TypeRef
+becomes mode.Error bounds = ty.Error
+becomes mode.Opaque bounds = ty.ImplTrait bounds
+
+-- What lowering a path leaves: as many types and lifetimes as it becomes, and all else as it was.
+pub record PathRooted (old new : Stored) (p : OptionPath) : Type 0 where
+  pub grown : Grown (whole_size p) old new
+  pub aside : StaysAside old new
+  pub roots : new.roots ≡ old.roots
+  pub paired : Paired new
+  pub mapped : Mapped old → Mapped new
 
 -- bodies of items
 

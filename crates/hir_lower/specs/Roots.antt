@@ -1,7 +1,6 @@
 -- What the entry functions make of a tree.
 use Rattle.std.specs.Prelude.{◌≡◌, ℕ, Bool, true, false, [], Option, Some, None, Ok, Err}
 use Rattle.hir_store.specs.Stored.{Store, SourceMap, store_of, map_of}
-use Rattle.hir_store.specs.Storing.{SomeAtLimit}
 use Rattle.hir_store.specs.declared.fault.StoreFault.TheVariants.{Full}
 use Rattle.hir_lower_form.specs.Builder.{Builder}
 pub use Rattle.hir_lower_form.specs.Builder.{fresh}
@@ -17,6 +16,8 @@ use Rattle.hir_syntax.specs.declared.node.HirFileId.{HirFileId}
 use Rattle.hir_syntax.specs.declared.ast.Expr.{Expr as AstExpr}
 use Rattle.hir_store.specs.declared.ids.ModuleId.{ModuleId}
 use Rattle.hir_env.specs.declared.place.Place.{Place}
+use Rattle.hir_env.specs.declared.place.ImplTrait.{ImplTrait}
+use Rattle.hir_env.specs.declared.place.ImplTrait.TheVariants as becomes
 use Rattle.hir_env.specs.declared.place.LoweringMode.{LoweringMode}
 use Rattle.hir_env.specs.declared.place.LoweringMode.TheVariants.{Analysis}
 use Rattle.hir_env.specs.Answers.{Answers}
@@ -25,7 +26,7 @@ use Rattle.hir_env.specs.Answering.{in_file}
 use Rattle.hir_env.specs.Whole.{expr_part}
 use Rattle.hir_env.specs.Answered as tree
 use Rattle.hir_env.specs.Answered.{OptionExpr}
-use Rattle.hir_lower_form.specs.Lowering.{Lowering, ◌>>=◌, ◌>>◌, pure, close_labels, report, record_root}
+use Rattle.hir_lower_form.specs.Lowering.{Lowering, SomeEnd, ◌>>=◌, ◌>>◌, pure, close_labels, report, record_root}
 use Rattle.hir_lower_form.specs.Lower.{ExprSteps, lower_part}
 use Rattle.hir_lower.specs.Means.{required_body, body_fault}
 
@@ -56,11 +57,11 @@ pub record StoresFromNothing {A : Type 0} (p : Lowering A) (limit : ℕ) (store 
   pub store_is : store ≡ store_of builder.stored
   pub source_map_is : source_map ≡ map_of builder.stored
 
--- the steps find no room in an arena of this limit, which they have filled by then
-pub record RefusedAtLimit {A : Type 0} (p : Lowering A) (limit : ℕ) : Type 0 where
+-- the steps find no room in an arena of this limit, or no number more in a counter
+pub record RefusedAtEnd {A : Type 0} (p : Lowering A) (limit : ℕ) : Type 0 where
   pub builder : Builder
   pub refused : p (fresh limit) ≡ (Err Full, builder)
-  pub at_limit : SomeAtLimit builder.stored
+  pub at_end : SomeEnd builder
 
 -- read at a place
 
@@ -84,8 +85,37 @@ await_location (owner.VariantId _) = location.EnumVariant
 abbrev pub body_spot : Answers → DefWithBodyId → HirFileId → ModuleId → Spot
 body_spot env item file inside =
     let awaits_in = Some (await_location item) in
-    spot_at env (record { file_id = file; module_id = inside; mode = Analysis; await_location = awaits_in })
+    spot_at env (record {
+      file_id = file;
+      module_id = inside;
+      mode = Analysis;
+      await_location = awaits_in;
+      impl_trait = becomes.Error;
+      in_impl = false;
+    })
 
 -- where a collector reads, outside of a body
 abbrev pub outside_body : HirFileId → ModuleId → LoweringMode → Place
-outside_body file inside mode = record { file_id = file; module_id = inside; mode = mode; await_location = Some location.Unknown }
+outside_body file inside mode = record {
+  file_id = file;
+  module_id = inside;
+  mode = mode;
+  await_location = Some location.Unknown;
+  impl_trait = becomes.Error;
+  in_impl = false;
+}
+
+-- the same place, where an `impl` becomes this
+abbrev pub becoming : Place → ImplTrait → Place
+becoming p mode = record p { impl_trait = mode }
+
+-- where a type that stands alone is read: an `impl` stays one
+abbrev pub type_spot : Answers → HirFileId → ModuleId → Spot
+type_spot env file inside = spot_at env (becoming (outside_body file inside Analysis) becomes.Opaque)
+
+-- what the steps answer and store, from nothing
+pub record AnswersFromNothing {A : Type 0} (p : Lowering A) (limit : ℕ) (answer : A) (store : Store) (source_map : SourceMap) : Type 0 where
+  pub builder : Builder
+  pub done : p (fresh limit) ≡ (Ok answer, builder)
+  pub store_is : store ≡ store_of builder.stored
+  pub source_map_is : source_map ≡ map_of builder.stored

@@ -14,3 +14,5 @@ pub record Stays (old new : Stored) : Type 0 where
   pub extends : Extends old new
   pub exprs : LeadsOn (λ i. i.0) (length old.exprs.entries) old.exprs.map new.exprs.map
   pub labels : LeadsOn (λ n. n.0) (length old.labels.entries) old.labels.map new.labels.map
+  pub types : LeadsOn (λ i. i.0) (length old.types.entries) old.types.map new.types.map
+  pub lifetimes : LeadsOn (λ i. i.0) (length old.lifetimes.entries) old.lifetimes.map new.lifetimes.map

@@ -37,7 +37,8 @@ module _ (store : Store) (source_map : SourceMap) (r : Readers) where
   bindings bs = reading.bindings_layer store source_map r bs datum.no_bindings
 
   listed_is : (xs : List AssociatedTypeBinding)
-      → reading.bindings_listed store source_map r (mapped (binding_layer store source_map r) (args_layer store source_map r) xs) ≡ bindings xs
+      → reading.bindings_listed store source_map r (mapped (binding_layer store source_map r) (args_layer store source_map r) xs)
+      ≡ bindings xs
   listed_is [] = refl
   listed_is (x ∷ xs) = ap (datum.more_bindings (binding_layer store source_map r x)) (listed_is xs)
 
@@ -52,17 +53,17 @@ module _ (store : Store) (source_map : SourceMap) (r : Readers) where
   unfolding args_layer binding_layer
   args_roll as' self bs ps =
       folds.fold-roll-GenericArgs BindingData ArgsData (reading.binding_step store source_map r) (reading.args_step store source_map r)
-          (record { args = as'; has_self_type = self; bindings = bs; parenthesized = ps })
+      (record { args = as'; has_self_type = self; bindings = bs; parenthesized = ps })
       ∙ ap (λ x. args_data (arguments as') self x ps) (listed_is bs)
 
   pub binding_roll : (n : Name) (a : Option GenericArgs) (t : Option TypeRefId) (bs : List TypeBound)
       → binding_layer store source_map r (of_binding n a t bs)
       ≡ binding_data n (reading.list_layer store source_map r a) (reading.present_layer store source_map r t)
-          (reading.bounds_layer store source_map r bs)
+      (reading.bounds_layer store source_map r bs)
   unfolding args_layer binding_layer
   binding_roll n a t bs =
       folds.fold-roll-AssociatedTypeBinding BindingData ArgsData (reading.binding_step store source_map r)
-          (reading.args_step store source_map r) (record { name = n; args = a; type_ref = t; bounds = bs })
+      (reading.args_step store source_map r) (record { name = n; args = a; type_ref = t; bounds = bs })
       ∙ ap (λ x. binding_data n x (reading.present_layer store source_map r t) (reading.bounds_layer store source_map r bs)) (present_is a)
 
   pub args_out : (a : GenericArgs) → let o = out-GenericArgs a in
@@ -80,7 +81,7 @@ module _ (store : Store) (source_map : SourceMap) (r : Readers) where
   self_first_read t (Some a) =
       let o = out-GenericArgs a in
       ap datum.some_args (args_roll (arg.Type_ t ∷ o.args) true o.bindings o.parenthesized
-          ∙ ap (rule.behind_self (r.type t)) (sym (args_out a)))
+      ∙ ap (rule.behind_self (r.type t)) (sym (args_out a)))
 
   -- whether one stands in front
   pub self_flag : (a : GenericArgs) → rule.has_self (args_layer store source_map r a) ≡ (out-GenericArgs a).has_self_type

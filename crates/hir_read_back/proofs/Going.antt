@@ -1,5 +1,6 @@
 -- The steps of a walk, as what they add to the items that are read.
-use Rattle.std.proofs.Common.{arith, ◌≡◌, ◌∙◌, refl, sym, ap, ℕ, suc, ◌+◌, ◌≤◌, List, [], ◌∷◌, Option, Some, None, Ok, Err, Bool, true, false}
+use Rattle.std.proofs.Common.{arith, ◌≡◌, ◌∙◌, refl, sym, ap, ℕ, suc, ◌+◌, ◌≤◌, List, [], ◌∷◌, Option, Some, None, Ok, Err, Bool, true}
+use Rattle.std.proofs.Common.{false}
 use Rattle.std.specs.Prelude.{if◌then◌else◌, nat_lt, ◌^◌, option_map}
 use Rattle.hir_store.specs.Pointers.{Pointer}
 use Rattle.hir_store.specs.Stored.{Stored, store_of, map_of}
@@ -62,7 +63,8 @@ then_goes {from = from} {add = add} {more = more} {f = f} h closed k = correct_a
 
 -- a name, with what stands beside it
 pub named_goes : {x : OptionArgsData} {p : Lowering (Option GenericArgs)} (l : Bool) (n : Name) (w : PathWalk) → Correct p (Reads a_list x)
-    → Correct (p >>= (λ a. pure (walks.named n a (at_first l w)))) (Goes (Open w) (λ is. item l (named (record { name = n; args = x })) ∷ is))
+    → Correct (p >>= (λ a. pure (walks.named n a (at_first l w))))
+    (Goes (Open w) (λ is. item l (named (record { name = n; args = x })) ∷ is))
 named_goes {x = x} l n w h = correct_as (correct_bind h (λ a. correct_pure (walks.named n a (at_first l w))))
     (λ final ps m m' r g row. rw (row.second.is, row.second.still) (record {
       says = λ is s. says_named final row.middle.types l is (record { name = n; args = x }) row.one w row.first.is
@@ -134,7 +136,8 @@ path_type_reads y at h = correct_as (correct_bind h (λ o. correct_alloc_type (p
     go final n (Some x) (Some p) h d le = ap datum.path_shape (matches_read final n x p h d le)
 
 -- what a bound is made of its path
-record PathStored (at : Pointer) (maybe : Bool) (binder : Binder) (p : HirPath) (final : Stored) (ps : List Frame) (m m' : Mark) (b : TypeBound) : Type 0 where
+record PathStored (at : Pointer) (maybe : Bool) (binder : Binder) (p : HirPath)
+    (final : Stored) (ps : List Frame) (m m' : Mark) (b : TypeBound) : Type 0 where
   number : TypeRefId
   is : b ≡ stored_path_bound maybe binder number
   stored : AllocatedType (ty.Path p) (Some at) final ps m m' number

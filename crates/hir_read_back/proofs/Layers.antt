@@ -82,7 +82,8 @@ pub record Reads {A D : Type 0} (layer : Layer A D) (x : D) (final : Stored) (ps
 -- ---- values
 
 -- without parts
-pub value0 : {A D : Type 0} {l : Layer A D} {x : D} (a : A) → ((final : Stored) (r : Readers) → l final r a ≡ x) → Correct (pure a) (Reads l x)
+pub value0 : {A D : Type 0} {l : Layer A D} {x : D} (a : A) → ((final : Stored) (r : Readers) → l final r a ≡ x)
+    → Correct (pure a) (Reads l x)
 value0 a e = correct_as (correct_pure a) (λ final ps m m' b g row. rw row.is (record { is = λ d le. e final (within final d) }))
 
 -- of one part
@@ -97,7 +98,8 @@ value1 con f h e = correct_as (correct_bind h (λ a. correct_pure (con a)))
 -- ---- lists
 
 -- what is pushed on a list that grows
-pub record Pushed {A : Type 0} (done : List A) (R : Rel (List A)) (final : Stored) (ps : List Frame) (m m' : Mark) (r : List A) : Type 0 where
+pub record Pushed {A : Type 0} (done : List A) (R : Rel (List A))
+    (final : Stored) (ps : List Frame) (m m' : Mark) (r : List A) : Type 0 where
   pub new : List A
   pub is : r ≡ done ++ new
   pub rel : R final ps m m' new

@@ -24,7 +24,8 @@ use Rattle.hir_data.specs.Data as datum
 use Rattle.hir_data.specs.Data.{TypesData, no_args}
 use Rattle.hir_data.specs.Rule.{Item, broken, named}
 use Rattle.hir_data.specs.Written as written
-use Rattle.hir_read_back.proofs.Layers.{a_type, types_before, maybe_type, a_bound, many_bounds, a_list, Reads, value0, Pushed, pushed_all, type0}
+use Rattle.hir_read_back.proofs.Layers.{a_type, types_before, maybe_type, a_bound, many_bounds, a_list, Reads, value0, Pushed}
+use Rattle.hir_read_back.proofs.Layers.{pushed_all, type0}
 use Rattle.hir_read_back.proofs.Types as kinds
 use Rattle.hir_read_back.proofs.Types.{Grown, Listed}
 use Rattle.hir_read_back.proofs.Walk.{item, says_named, says_refused, says_root, says_dollar, says_self, one_closed, outer_closed}
@@ -79,7 +80,8 @@ mutual
 
   -- ---- bounds
 
-  bounds_read : (bs : Bounds) (done : List TypeBound) → Correct (lower.lower_bounds done bs) (Pushed done (Reads many_bounds (written.bounds_data bs)))
+  bounds_read : (bs : Bounds) (done : List TypeBound)
+      → Correct (lower.lower_bounds done bs) (Pushed done (Reads many_bounds (written.bounds_data bs)))
   bounds_read tree.no_bounds done = kinds.bounds_none done
   bounds_read (tree.more_bounds b bs) done = kinds.bounds_more (bound_reads b) (bounds_read bs) done
 
@@ -95,15 +97,17 @@ mutual
   list_reads tree.no_arg_list = value0 {l = a_list} None (λ final r. refl)
   list_reads (tree.some_arg_list as') = kinds.list_reads (args_listed as' no_lists)
 
-  args_listed : (as' : Args) (l : ArgLists) → Correct (lower.lower_args l as') (Listed l (written.arguments_of as') (written.bindings_of as'))
+  args_listed : (as' : Args) (l : ArgLists)
+      → Correct (lower.lower_args l as') (Listed l (written.arguments_of as') (written.bindings_of as'))
   args_listed tree.no_args l = kinds.none_listed l
   args_listed (tree.more_args a as') l = kinds.more_listed l (arg_grown a l) (args_listed as')
 
-  arg_grown : (a : Arg) (l : ArgLists) → Correct (lower.lower_arg l a) 
+  arg_grown : (a : Arg) (l : ArgLists) → Correct (lower.lower_arg l a)
       (Grown l (written.put_argument (written.argument_of a)) (written.put_binding (written.binding_of a)))
   arg_grown tree.skipped_arg l = kinds.skipped_grown l
   arg_grown (tree.type_arg t) l = kinds.argument_grown l arg.Type_ datum.type_argument (part_reads None t) (λ final r a. refl)
-  arg_grown (tree.lifetime_arg l') l = kinds.argument_grown l arg.Lifetime datum.lifetime_argument (kinds.lifetime_reads l') (λ final r a. refl)
+  arg_grown (tree.lifetime_arg l') l =
+      kinds.argument_grown l arg.Lifetime datum.lifetime_argument (kinds.lifetime_reads l') (λ final r a. refl)
   arg_grown (tree.assoc_arg n as' dots t bs) l =
       kinds.binding_grown l (kinds.binding_reads n dots (list_reads as') (present_reads t) (pushed_all (bounds_read bs [])))
 
@@ -156,7 +160,7 @@ mutual
   path_goes (tree.path leading first rest use_) w =
       then_goes {add = λ is. item leading (written.what true first) ∷ written.items rest is} {more = written.outer use_}
       (then_goes {add = written.items rest} {more = λ is. item leading (written.what true first) ∷ is} (each_goes rest w)
-        (λ final n r c is h. one_closed final n r c (item leading (written.what true first)) is h) (first_goes leading first))
+      (λ final n r c is h. one_closed final n r c (item leading (written.what true first)) is h) (first_goes leading first))
       (λ final n r c is h. outer_closed final n use_ r c is h) (outer_goes use_)
 
   outer_goes : (p : OptionPath) (w : PathWalk) → Correct (lower.read_option p w) (Goes (Open w) (written.outer p))

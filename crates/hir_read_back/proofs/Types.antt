@@ -26,13 +26,15 @@ use Rattle.hir_lower_form.specs.declared.args.ArgLists.{ArgLists}
 use Rattle.hir_lower_form.specs.Lowering.{Lowering, ◌>>=◌, pure, alloc_type}
 use Rattle.hir_lower_form.specs.Paths.{parens_form, segment_args_form, or_else, or_notation, notation, sugared_args, output_name}
 use Rattle.hir_lower_form.specs.Types.{error_type, unit_type, lower_lifetime, lower_lifetime_option, lower_use, lower_uses}
-use Rattle.hir_lower_form.specs.Types.{stored_leaf_type, stored_over_type, over_form, tuple_type_form, ref_type_form, stored_fn, fn_type_form}
+use Rattle.hir_lower_form.specs.Types.{stored_leaf_type, stored_over_type, over_form, tuple_type_form, ref_type_form, stored_fn}
+use Rattle.hir_lower_form.specs.Types.{fn_type_form}
 use Rattle.hir_lower_form.specs.Types.{stored_impl, impl_type_form, dyn_type_form, yielded, binding_form, add_arg, add_binding, no_lists}
 use Rattle.hir_steps.proofs.Frames.{Frame}
 use Rattle.hir_steps.proofs.Steps.{Mark, Grows, Rel, Correct, correct_bind, correct_as, correct_pure}
 use Rattle.hir_steps.proofs.TypeSteps.{correct_alloc_type, correct_alloc_lifetime}
 use Rattle.hir_data.specs.Data as datum
-use Rattle.hir_data.specs.Data.{LifetimeData, UseData, TypeData, typed, Shape, OptionTypeData, TypesData, OptionArgsData, no_args, some_args}
+use Rattle.hir_data.specs.Data.{LifetimeData, UseData, TypeData, typed, Shape, OptionTypeData, TypesData, OptionArgsData, no_args}
+use Rattle.hir_data.specs.Data.{some_args}
 use Rattle.hir_data.specs.Data.{args_data, ArgumentsData, BindingData, BindingsData, BoundsData}
 use Rattle.hir_data.specs.Written as written
 use Rattle.hir_data.specs.Reading as reading
@@ -49,7 +51,8 @@ unfolding lower_lifetime
 lifetime_reads l = correct_as (correct_alloc_lifetime l.lifetime (Some l.pointer))
     (λ final ps m m' i g at. record { is = λ d le. rw (at.number, at.here, at.from) refl })
 
-pub lifetime_option_reads : (l : Option Lifetime) → Correct (lower_lifetime_option l) (Reads maybe_lifetime (option_map written.lifetime_data l))
+pub lifetime_option_reads : (l : Option Lifetime)
+    → Correct (lower_lifetime_option l) (Reads maybe_lifetime (option_map written.lifetime_data l))
 lifetime_option_reads None = value0 {l = maybe_lifetime} None (λ final r. refl)
 lifetime_option_reads (Some l) = value1 {k = maybe_lifetime} Some Some (lifetime_reads l) (λ final r a. refl)
 
@@ -57,9 +60,11 @@ use_reads : (u : UseRead) → Correct (lower_use u) (Reads a_use (written.use_da
 use_reads (tree.used_name n) = value0 {l = a_use} (use_arg.Name n) (λ final r. refl)
 use_reads (tree.used_lifetime l) = value1 {k = a_use} use_arg.Lifetime datum.lifetime_used (lifetime_reads l) (λ final r a. refl)
 
-uses_pushed : (us : List UseRead) (done : List UseArgRef) → Correct (lower_uses done us) (Pushed done (Reads many_uses (map written.use_data us)))
+uses_pushed : (us : List UseRead) (done : List UseArgRef)
+    → Correct (lower_uses done us) (Pushed done (Reads many_uses (map written.use_data us)))
 uses_pushed [] done = none_read many_uses (λ final r. refl) done
-uses_pushed (u ∷ us) done = more_read {l = a_use} {ls = many_uses} (λ x xs. x ∷ xs) (λ final r a as'. refl) (use_reads u) (uses_pushed us) done
+uses_pushed (u ∷ us) done =
+    more_read {l = a_use} {ls = many_uses} (λ x xs. x ∷ xs) (λ final r a as'. refl) (use_reads u) (uses_pushed us) done
 
 pub uses_bound_reads : (us : List UseRead)
     → Correct (lower_uses [] us >>= (λ xs. pure (bound.Use xs))) (Reads a_bound (datum.use_bound (map written.use_data us)))
@@ -104,7 +109,8 @@ types_append : (final : Stored) (r : Readers) (ts us : List TypeRefId) (behind :
 types_append final r [] us behind = refl
 types_append final r (t ∷ ts) us behind = ap (datum.more_types (r.type t)) (types_append final r ts us behind)
 
-pub fn_reads : {x : TypeData} {y : TypesData} {p : Lowering (List TypeRefId)} {q : Lowering TypeRefId} (at : Pointer) (b : Option Binder) (h : FnHead)
+pub fn_reads : {x : TypeData} {y : TypesData} {p : Lowering (List TypeRefId)} {q : Lowering TypeRefId}
+    (at : Pointer) (b : Option Binder) (h : FnHead)
     → Correct q (Reads a_type x) → Correct p (Reads (types_before (datum.more_types x datum.no_types)) y)
     → Correct (fn_type_form at b h p q) (Reads a_type (typed (Some at) (datum.fn_shape h b y)))
 unfolding fn_type_form
@@ -112,10 +118,10 @@ fn_reads {x = x} at b h ret params =
     correct_as (correct_bind ret (λ t. correct_bind params (λ ts. correct_alloc_type (stored_fn b h (ts ++ t ∷ [])) (Some at))))
     (λ final ps m m' i g row. let s = row.second in
     type_at s.second (λ d le. ap (datum.fn_shape h b)
-        (types_append final (within final d) s.one (row.one ∷ []) datum.no_types
-        ∙ (ap (λ t. types_before (datum.more_types t datum.no_types) final (within final d) s.one)
-            (row.first.is d (omega (le, s.before.types, arith)))
-        ∙ s.first.is d le))))
+    (types_append final (within final d) s.one (row.one ∷ []) datum.no_types
+    ∙ (ap (λ t. types_before (datum.more_types t datum.no_types) final (within final d) s.one)
+    (row.first.is d (omega (le, s.before.types, arith)))
+    ∙ s.first.is d le))))
 
 pub impl_reads : {x : BoundsData} {p : Lowering (List TypeBound)} (at : Pointer) (mode : ImplTrait) → Correct p (Reads many_bounds x)
     → Correct (impl_type_form at mode p) (Reads a_type (typed (Some at) (written.impl_shape_of mode x)))
@@ -135,7 +141,8 @@ present_reads h = value1 {k = maybe_type} Some datum.some_type h (λ final r a. 
 pub types_none : (behind : TypesData) (done : List TypeRefId) → Correct (pure done) (Pushed done (Reads (types_before behind) behind))
 types_none behind done = none_read (types_before behind) (λ final r. refl) done
 
-pub types_more : {x : TypeData} {y : TypesData} {p : Lowering TypeRefId} {q : List TypeRefId → Lowering (List TypeRefId)} (behind : TypesData)
+pub types_more : {x : TypeData} {y : TypesData} {p : Lowering TypeRefId} {q : List TypeRefId
+    → Lowering (List TypeRefId)} (behind : TypesData)
     → Correct p (Reads a_type x) → ((done : List TypeRefId) → Correct (q done) (Pushed done (Reads (types_before behind) y)))
     → (done : List TypeRefId)
     → Correct (p >>= (λ t. q (done ++ t ∷ []))) (Pushed done (Reads (types_before behind) (datum.more_types x y)))
@@ -177,7 +184,8 @@ skipped_grown l = correct_as (correct_pure l) (λ final ps m m' r g row. rw row.
 }))
 
 -- an argument of one part
-pub argument_grown : {A D : Type 0} {k : Layer A D} {x : D} {p : Lowering A} (l : ArgLists) (con : A → GenericArg) (f : D → datum.ArgumentData)
+pub argument_grown : {A D : Type 0} {k : Layer A D} {x : D} {p : Lowering A} (l : ArgLists) (con : A → GenericArg) (f : D
+    → datum.ArgumentData)
     → Correct p (Reads k x)
     → ((final : Stored) (r : Readers) (a : A) → reading.argument_layer (store_of final) (map_of final) r (con a) ≡ f (k final r a))
     → Correct (p >>= (λ a. pure (add_arg l (con a)))) (Grown l (λ y. datum.more_arguments (f x) y) (λ y. y))
@@ -204,13 +212,13 @@ pub binding_reads : {x : OptionArgsData} {y : OptionTypeData} {z : BoundsData} {
 unfolding binding_form
 binding_reads {x = x} {y = y} {z = z} n dots hp hq hs =
     correct_as (correct_bind hp (λ a. correct_bind hq (λ t. correct_bind hs
-        (λ bs. correct_pure (of_binding n (or_notation a dots) t bs)))))
+    (λ bs. correct_pure (of_binding n (or_notation a dots) t bs)))))
     (λ final ps m m' r g row. let s = row.second in let u = s.second in rw (u.second.is, u.second.still) (record {
       is = λ d le. binding_roll (store_of final) (map_of final) (within final d) n (or_notation row.one dots) s.one u.one
           ∙ (λ j. datum.binding_data n
-              ((or_notation_read final (within final d) row.one dots
-                ∙ ap (λ v. written.first_list v (written.notation dots)) (row.first.is d (omega (le, s.before.types, u.before.types, arith)))) j)
-              (s.first.is d (omega (le, u.before.types, arith)) j) (u.first.is d le j));
+          ((or_notation_read final (within final d) row.one dots
+          ∙ ap (λ v. written.first_list v (written.notation dots)) (row.first.is d (omega (le, s.before.types, u.before.types, arith)))) j)
+          (s.first.is d (omega (le, u.before.types, arith)) j) (u.first.is d le j));
     }))
 
 pub binding_grown : {x : BindingData} {p : Lowering AssociatedTypeBinding} (l : ArgLists) → Correct p (Reads a_binding x)
@@ -226,7 +234,8 @@ binding_grown l h = correct_as (correct_bind h (λ b. correct_pure (add_binding 
     }))
 
 -- all that a list yields
-pub record Listed (l : ArgLists) (x : ArgumentsData) (y : BindingsData) (final : Stored) (ps : List Frame) (m m' : Mark) (r : ArgLists) : Type 0 where
+pub record Listed (l : ArgLists) (x : ArgumentsData) (y : BindingsData)
+    (final : Stored) (ps : List Frame) (m m' : Mark) (r : ArgLists) : Type 0 where
   pub args : List GenericArg
   pub bindings : List AssociatedTypeBinding
   pub args_are : r.args ≡ l.args ++ args
@@ -264,7 +273,8 @@ more_listed {f = f} {g = g} l h k = correct_as (correct_bind h k) (λ final ps m
       args = one.args ++ rest.args;
       bindings = one.bindings ++ rest.bindings;
       args_are = rest.args_are ∙ (ap (λ as'. as' ++ rest.args) one.args_are ∙ append_assoc l.args one.args rest.args);
-      bindings_are = rest.bindings_are ∙ (ap (λ bs. bs ++ rest.bindings) one.bindings_are ∙ append_assoc l.bindings one.bindings rest.bindings);
+      bindings_are = rest.bindings_are
+          ∙ (ap (λ bs. bs ++ rest.bindings) one.bindings_are ∙ append_assoc l.bindings one.bindings rest.bindings);
       args_read = λ d le. arguments_append final (within final d) one.args rest.args datum.no_arguments
           ∙ (one.args_read d (omega (le, row.after.types, arith)) _ ∙ ap f (rest.args_read d le));
       bindings_read = λ d le. bindings_append final (within final d) one.bindings rest.bindings datum.no_bindings
@@ -296,16 +306,17 @@ pub parens_reads : {x : TypesData} {y : TypeData} {p : Lowering (List TypeRefId)
 unfolding parens_form
 parens_reads {x = x} {y = y} hp hq =
     correct_as (correct_bind hp (λ ts. correct_bind (correct_alloc_type (ty.Tuple ts) None) (λ t. correct_bind hq
-        (λ o. correct_pure (Some (sugared_args t o))))))
+    (λ o. correct_pure (Some (sugared_args t o))))))
     (λ final ps m m' r g row. let s = row.second in let u = s.second in rw (u.second.is, u.second.still) (record {
       is = λ d le.
           let tuple = type_at {m0 = m} s.first (λ n ge. ap datum.tuple_shape (row.first.is n ge)) in
           ap some_args (args_roll (store_of final) (map_of final) (within final d) (arg.Type_ s.one ∷ []) false
-              (of_binding output_name None (Some u.one) [] ∷ []) parens.ParenSugar
-          ∙ ( λ j. args_data (datum.more_arguments (datum.type_argument (tuple.is d (omega (le, u.before.types, arith)) j)) datum.no_arguments) false
-                (datum.more_bindings ((binding_roll (store_of final) (map_of final) (within final d) output_name None (Some u.one) []
-                    ∙ ap (λ t. datum.binding_data output_name no_args (datum.some_type t) datum.no_bounds) (u.first.is d le)) j) datum.no_bindings)
-                parens.ParenSugar));
+          (of_binding output_name None (Some u.one) [] ∷ []) parens.ParenSugar
+          ∙ (λ j. args_data
+          (datum.more_arguments (datum.type_argument (tuple.is d (omega (le, u.before.types, arith)) j)) datum.no_arguments) false
+          (datum.more_bindings ((binding_roll (store_of final) (map_of final) (within final d) output_name None (Some u.one) []
+          ∙ ap (λ t. datum.binding_data output_name no_args (datum.some_type t) datum.no_bounds) (u.first.is d le)) j) datum.no_bindings)
+          parens.ParenSugar));
     }))
 
 -- the next is lowered where nothing is there

@@ -25,7 +25,8 @@ use Rattle.hir_lower_form.specs.Walks.{with_self, without_last_self, finished, o
 use Rattle.hir_data.specs.Data as datum
 use Rattle.hir_data.specs.Data.{TypeData, OptionArgsData, no_args, some_args, PathData, NamesData}
 use Rattle.hir_data.specs.Rule as rule
-use Rattle.hir_data.specs.Rule.{Named, PathRead, What, Item, broken, named, root, self_, super_, anchor, projection, empty_list, plain_kind, supers}
+use Rattle.hir_data.specs.Rule.{Named, PathRead, What, Item, broken, named, root, self_, super_, anchor, projection, empty_list}
+use Rattle.hir_data.specs.Rule.{plain_kind, supers}
 use Rattle.hir_data.specs.Rule.{ends, ended, read, refuses, refused, set_kind, supers_left, counted, open_kind, first_behind_self}
 use Rattle.hir_data.specs.Rule.{last_behind_self, first_without_self, last_without_self, ending_self, read_kind, own_kind, anchor_of, found}
 use Rattle.hir_data.specs.Rule.{is_list, anchor_data, names_data, data_of, read_of, path_read}
@@ -136,7 +137,8 @@ Says final n is (Open w) = (ended is ≡ false) × (refused is ≡ false) × Fou
 Says final n is (Ended w) = (ended is ≡ true) × (refused (read is) ≡ false) × Found final n (read_kind (read is)) (read is) w
 
 -- more may be stored since
-found_later : {final : Stored} {n n' : ℕ} {k : PathKind} {is : List Item} {w : PathWalk} → n ≤ n' → Found final n k is w → Found final n' k is w
+found_later : {final : Stored} {n n' : ℕ} {k : PathKind} {is : List Item} {w : PathWalk} → n ≤ n' → Found final n k is w
+    → Found final n' k is w
 found_later le h = record {
   kind = h.kind;
   names = h.names;
@@ -224,7 +226,8 @@ module _ (final : Stored) (n : ℕ) where
   says_named false is x g w e h = (h.0, h.1, found_named (open_kind is) false is x g w e h.2)
   says_named true is x g w e h = (h.0, h.1, found_named kind.Abs true is x g (at_first true w) e (at_first_found true is w h.2))
 
-  pub says_refused : (i : Item) (is : List Item) (w : PathWalk) → refuses i.what ≡ true → Says final n is (Open w) → Says final n (i ∷ is) Refused
+  pub says_refused : (i : Item) (is : List Item) (w : PathWalk) → refuses i.what ≡ true → Says final n is (Open w)
+      → Says final n (i ∷ is) Refused
   says_refused i is w r h = rw (h.0, r) refl
 
   -- `crate` and `$crate`
@@ -257,10 +260,15 @@ module _ (final : Stored) (n : ℕ) where
       by : (b : Bool) → b ≡ empty_list (rule.names is)
           → Says final n (item l self_ ∷ is) (if b then Open w else Ended (record w { kind = walks.self_kind w.kind }))
       by true m = (rw (← m) e, r, found_same h (h.kind ∙ sym (kind_self l is)) refl refl refl refl refl refl refl)
-      by false m = (rw (← m) refl, rw e r, rw e (rw (← m) (rw (kind_self l is)
-          (found_same h (ap kind.Super (same_supers w.kind ∙ ap supers h.kind)) refl refl refl refl refl refl refl))))
+      by false m = (
+        rw (← m) refl,
+        rw e r,
+        rw e (rw (← m) (rw (kind_self l is)
+            (found_same h (ap kind.Super (same_supers w.kind ∙ ap supers h.kind)) refl refl refl refl refl refl refl))),
+      )
 
-  pub says_self : (l : Bool) (is : List Item) (w : PathWalk) → Says final n is (Open w) → Says final n (item l self_ ∷ is) (self_read (at_first l w))
+  pub says_self : (l : Bool) (is : List Item) (w : PathWalk) → Says final n is (Open w)
+      → Says final n (item l self_ ∷ is) (self_read (at_first l w))
   says_self l is w h = self_says l is (at_first l w) h.0 h.1 (at_first_found l is w h.2)
 
   -- `super`
@@ -277,7 +285,8 @@ module _ (final : Stored) (n : ℕ) where
   super_says l is w e r h = (
     e,
     r,
-    found_same h (ap (λ m. kind.Super (m + 1)) (same_supers w.kind ∙ ap supers h.kind) ∙ kind_super l is) refl refl refl refl refl refl refl,
+    found_same h (ap (λ m. kind.Super (m + 1)) (same_supers w.kind ∙ ap supers h.kind) ∙ kind_super l is)
+        refl refl refl refl refl refl refl,
   )
 
   pub says_super : (l : Bool) (is : List Item) (w : PathWalk) → Says final n is (Open w)
@@ -343,7 +352,7 @@ module _ (final : Stored) (n : ℕ) where
   args_last t id (x ∷ ns) [] d le g e h = absurd (clash (ap empty_list h))
   args_last t id (x ∷ ns) (a ∷ as') d le g e h =
       ap (λ b. b ∷ lists final d as') (self_first_read (store_of final) (map_of final) (within final d) id a
-          ∙ ap (λ u. rule.self_first u (a_list final (within final d) a)) (g d le))
+      ∙ ap (λ u. rule.self_first u (a_list final (within final d) a)) (g d le))
       ∙ (ap (first_put t) h ∙ sym (args_put t (x ∷ ns)))
 
   empty_reversed : (ns : List Named) → empty_list (reverse ns) ≡ empty_list ns
@@ -367,8 +376,8 @@ module _ (final : Stored) (n : ℕ) where
             ∙ sym (map_more name_at ns (rule.names is));
         args = λ d le. map-append (a_list final (within final d)) w.args (with_self id (reverse (args_of p)))
             ∙ ((λ j. h.args d le j ++ (args_last t id (reverse x.names) (reverse (args_of p)) d le g (empty_reversed x.names ∙ e)
-                (map_reverse (a_list final (within final d)) (args_of p) ∙ (ap reverse (m.args d le) ∙ sym (map_reverse args_at x.names)))
-                ∙ ap (map args_at) (sym back)) j)
+            (map_reverse (a_list final (within final d)) (args_of p) ∙ (ap reverse (m.args d le) ∙ sym (map_reverse args_at x.names)))
+            ∙ ap (map args_at) (sym back)) j)
             ∙ sym (map_more args_at ns (rule.names is)));
         anchor = h.anchor;
         found = refl;
@@ -442,7 +451,7 @@ module _ (final : Stored) (n : ℕ) where
   cut_read d (None ∷ as') = refl
   cut_read d (Some a ∷ as') = ap (λ x. x ∷ lists final d as') (by (walks.has_self a)
       ∙ ap (λ b. if b then no_args else a_list final (within final d) (Some a))
-          (sym (self_flag (store_of final) (map_of final) (within final d) a)))
+      (sym (self_flag (store_of final) (map_of final) (within final d) a)))
     where
       by : (b : Bool) → a_list final (within final d) (if b then None else Some a)
           ≡ (if b then no_args else a_list final (within final d) (Some a))
@@ -569,11 +578,15 @@ pub outer_closed : (final : Stored) (n : ℕ) (p : OptionPath) (r : Reading) →
 outer_closed final n p r c is h = outer_still (λ js. Says final n js r) (one_closed final n r c) p is h
 
 pub begins : (final : Stored) (n : ℕ) → Says final n [] (Open start)
-begins final n = (refl, refl, record {
-  kind = refl;
-  names = refl;
-  args = λ d le. refl;
-  anchor = λ d le. refl;
-  found = refl;
-  bare = λ f. refl;
-})
+begins final n = (
+  refl,
+  refl,
+  record {
+    kind = refl;
+    names = refl;
+    args = λ d le. refl;
+    anchor = λ d le. refl;
+    found = refl;
+    bare = λ f. refl;
+  },
+)

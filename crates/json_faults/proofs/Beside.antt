@@ -1,6 +1,6 @@
 -- Numbers that are no whole ones of 64 bits: in the nodes, and beside them.
 use Rattle.std.proofs.Common.{◌≡◌, ℕ, List, Bool, true, false, ◌||◌, Option, Some, None, is_some, option_and_then, codes, refl, sym}
-use Rattle.std.proofs.Common.{◌∙◌, is_eq, bytes_eq, nat_cmp}
+use Rattle.std.proofs.Common.{is_eq, bytes_eq, nat_cmp}
 use Rattle.std.proofs.Common.{Ordering, Less, Equal, Greater, if◌then◌else◌}
 use Rattle.std.proofs.lemmas.Bool.{false≢true, true≢false, and_parts}
 use Rattle.std.proofs.lemmas.Map.Text.{is_eq-slice_cmp}

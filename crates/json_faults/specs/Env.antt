@@ -2,8 +2,8 @@
 use Rattle.std.specs.Prelude.{◌≡◌, ℕ, suc, ◌==◌, ◌+◌, Bool, true, false, ◌&&◌, List, [], ◌∷◌, Option, Some, None, is_some, length}
 use Rattle.std.specs.Prelude.{Result, Ok, Err}
 use Rattle.serde_json.specs.Data.{Data, Items, no_items, item}
-use Rattle.serde_json.specs.Find.{get, get_item, as_array}
-use Rattle.json_faults.specs.Values.{count, small_of, is_decision}
+use Rattle.serde_json.specs.Find.{get, get_item, as_array, as_bool}
+use Rattle.json_faults.specs.Values.{count, small_of, is_small_or_null, is_decision}
 use Rattle.json_faults.specs.Nodes.{◌>>=◌, wanted}
 use Rattle.json_faults.specs.Faults.{Fault, fault_of}
 use Rattle.json_faults.specs.Faults as fault
@@ -15,6 +15,8 @@ use Rattle.json_faults.specs.declared.table.Cell.TheVariants as cell
 -- a value suits a place
 abbrev pub suits : Cell → Data → Bool
 suits cell.Small d = is_some (small_of d)
+suits cell.SmallOrNull d = is_small_or_null d
+suits cell.Truth d = is_some (as_bool d)
 suits cell.Decision d = is_decision d
 
 abbrev pub cell_in : Cell → Option Data → Bool

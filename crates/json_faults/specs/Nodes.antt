@@ -4,7 +4,7 @@ use Rattle.std.specs.Prelude.{length, slice_index_or, Result, Ok, Err}
 use Rattle.serde_json.specs.Data.{Data, string, Items, no_items, item}
 use Rattle.serde_json.specs.Find.{get, as_array, as_object, as_str, as_bool}
 use Rattle.serde_json.specs.View.{view}
-use Rattle.json_faults.specs.Values.{all_items, index_of, small_of, is_range, is_word, is_plain, is_part, is_between}
+use Rattle.json_faults.specs.Values.{all_items, index_of, small_of, is_range, is_word, is_part, is_between}
 use Rattle.json_faults.specs.Literals.{is_integer, is_truth}
 use Rattle.json_faults.specs.Levels.{below, use_each, first_unused, first_deep}
 use Rattle.json_faults.specs.Kinds.{kind_at, is_of_group}
@@ -72,7 +72,6 @@ sort_at d s = s
 -- a field of the sort must be there
 abbrev pub is_owed : Sort → Bool
 is_owed sort.Text = true
-is_owed sort.PlainText = true
 is_owed (sort.Word _) = true
 is_owed sort.Integer = true
 is_owed sort.Truth = true
@@ -87,7 +86,6 @@ text_is test (Some t) = test t
 abbrev pub fits : Sort → Data → Bool
 fits sort.Text d = is_some (as_str d)
 fits sort.TextIfThere d = is_some (as_str d)
-fits sort.PlainText d = text_is is_plain (as_str d)
 fits (sort.Word set) d = is_word (words set) d
 fits (sort.WordIfThere set) d = is_word (words set) d
 fits sort.Flag d = is_some (as_bool d)

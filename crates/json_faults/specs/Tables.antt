@@ -21,5 +21,6 @@ abbrev pub tables : List Table
 tables = (codes "disabled" ∶ (cell.Small ∷ cell.Small ∷ cell.Small ∷ []))
     ∷ (codes "preds" ∶ (cell.Small ∷ cell.Decision ∷ []))
     ∷ (codes "hygiene" ∶ (cell.Small ∷ cell.Small ∷ cell.Small ∷ []))
+    ∷ (codes "contexts" ∶ (cell.Small ∷ cell.Small ∷ cell.Small ∷ cell.SmallOrNull ∷ cell.Truth ∷ cell.SmallOrNull ∷ []))
     ∷ (codes "blocks" ∶ (cell.Small ∷ cell.Small ∷ cell.Small ∷ cell.Small ∷ []))
     ∷ []

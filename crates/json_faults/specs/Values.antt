@@ -1,6 +1,6 @@
 -- What values are.
-use Rattle.std.specs.Prelude.{ℕ, suc, ◌^◌, List, Bool, true, false, not, ◌&&◌, Option, Some, None, is_some, nat_lt, bytes_eq}
-use Rattle.std.specs.Prelude.{codes, option_and_then, if◌then◌else◌}
+use Rattle.std.specs.Prelude.{ℕ, suc, ◌^◌, List, Bool, true, false, ◌&&◌, Option, Some, None, is_some, nat_lt, bytes_eq}
+use Rattle.std.specs.Prelude.{option_and_then, if◌then◌else◌}
 use Rattle.std.specs.List.{list_any}
 use Rattle.serde_json.specs.Data.{Data, null, boolean, number, string, array, object, Items, no_items, item}
 use Rattle.serde_json.specs.Find.{as_number, as_str, as_array, as_u64}
@@ -28,6 +28,15 @@ small (Some n) = if nat_lt n (2 ^ 32) then Some n else None
 abbrev pub small_of : Data → Option ℕ
 small_of d = small (index_of d)
 
+-- a number of 32 bits, or null
+abbrev pub is_small_or_null : Data → Bool
+is_small_or_null null = true
+is_small_or_null (boolean b) = false
+is_small_or_null (number n) = is_some (small_of (number n))
+is_small_or_null (string s) = false
+is_small_or_null (array ds) = false
+is_small_or_null (object ms) = false
+
 -- decided one way or the other, or undecided
 abbrev pub is_decision : Data → Bool
 is_decision (boolean b) = true
@@ -53,20 +62,16 @@ word_among words (Some text) = has_word words text
 abbrev pub is_word : List (List ℕ) → Data → Bool
 is_word words d = word_among words (as_str d)
 
--- `$crate` names a macro's crate, which is not read yet
-abbrev pub is_plain : List ℕ → Bool
-is_plain t = not (bytes_eq t (codes "$crate"))
-
 -- a text may stand in place of a name or a lifetime
-abbrev pub stands_for : Group → List ℕ → Bool
-stands_for group.Name t = is_plain t
-stands_for group.Lifetime t = true
-stands_for _ t = false
+abbrev pub takes_text : Group → Bool
+takes_text group.Name = true
+takes_text group.Lifetime = true
+takes_text _ = false
 
 -- what may stand for a part of a group: a number, and also a text or null where these may
 abbrev pub is_part : Group → Bool → Data → Bool
 is_part g nulls (number n) = true
-is_part g nulls (string s) = stands_for g s
+is_part g nulls (string s) = takes_text g
 is_part g nulls null = nulls
 is_part g nulls (boolean b) = false
 is_part g nulls (array ds) = false

@@ -10,7 +10,7 @@ ghost use Rattle.json_faults.specs.Tables.{table_of};
 
 use crate::fault::Fault;
 use crate::table::{Cell, Table, tables};
-use crate::value::{is_decision, item_at, small};
+use crate::value::{is_decision, is_small_or_null, item_at, small};
 use serde_json::Value;
 
 /// Whether a value suits a place.
@@ -19,6 +19,8 @@ fn suits(cell: Cell, value: &Value) -> bool
 {
     match cell {
         Cell::Small => small(value).is_some(),
+        Cell::SmallOrNull => is_small_or_null(value),
+        Cell::Truth => value.as_bool().is_some(),
         Cell::Decision => is_decision(value),
     }
 }

@@ -5,7 +5,7 @@ ghost use Rattle.serde_json.specs.View.{view, items_view};
 ghost use Rattle.serde_json.specs.Find.{as_array, as_str};
 ghost use Rattle.json_kinds.specs.Table.{named_sort};
 ghost use Rattle.json_faults.specs.Literals as text;
-ghost use Rattle.json_faults.specs.Values.{all_items, is_plain};
+ghost use Rattle.json_faults.specs.Values.{all_items};
 ghost use Rattle.json_faults.specs.Nodes as spec;
 ghost use Rattle.json_faults.specs.Nodes.{in_list, Walks, text_is};
 
@@ -13,7 +13,7 @@ use crate::fault::Fault;
 use crate::kinds::{is_of_group, kind_at};
 use crate::levels::{below, use_each};
 use crate::literal::{is_integer, is_truth};
-use crate::value::{are_between, are_parts, index, is_plain, is_range, is_word, small};
+use crate::value::{are_between, are_parts, index, is_range, is_word, small};
 use json_kinds::field::{Field, Sort};
 use json_kinds::group::Group;
 use json_kinds::kind::Kind;
@@ -84,17 +84,8 @@ fn is_owed(sort: Sort) -> bool
     ensures { result ≡ spec.is_owed sort }
 {
     match sort {
-        Sort::Text | Sort::PlainText | Sort::Word(_) | Sort::Integer | Sort::Truth => true,
+        Sort::Text | Sort::Word(_) | Sort::Integer | Sort::Truth => true,
         _ => false,
-    }
-}
-
-fn is_plain_text(value: &Value) -> bool
-    ensures { result ≡ text_is is_plain (as_str (view value.now)) }
-{
-    match value.as_str() {
-        Some(text) => is_plain(text),
-        None => false,
     }
 }
 
@@ -122,7 +113,6 @@ fn fits(sort: Sort, value: &Value) -> bool
 {
     match sort {
         Sort::Text | Sort::TextIfThere => value.as_str().is_some(),
-        Sort::PlainText => is_plain_text(value),
         Sort::Word(set) | Sort::WordIfThere(set) => is_word(set, value),
         Sort::Flag => value.as_bool().is_some(),
         Sort::Number => small(value).is_some(),

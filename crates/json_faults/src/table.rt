@@ -8,6 +8,10 @@ ghost use Rattle.json_faults.specs.Tables.{table_of, tables};
 pub enum Cell {
     /// A number of 32 bits.
     Small,
+    /// A number of 32 bits, or null.
+    SmallOrNull,
+    /// `true` or `false`.
+    Truth,
     /// `true` or `false`, or null.
     Decision,
 }
@@ -35,6 +39,17 @@ pub fn tables() -> &'static [Table]
         Table {
             name: "hygiene",
             cells: &[Cell::Small, Cell::Small, Cell::Small],
+        },
+        Table {
+            name: "contexts",
+            cells: &[
+                Cell::Small,
+                Cell::Small,
+                Cell::Small,
+                Cell::SmallOrNull,
+                Cell::Truth,
+                Cell::SmallOrNull,
+            ],
         },
         Table {
             name: "blocks",

@@ -4,7 +4,7 @@ ghost use Rattle.std.specs.Prelude.{◌≡◌, map, option_map, Some};
 ghost use Rattle.json_kinds.specs.Words.{words};
 ghost use Rattle.serde_json.specs.Find.{get_item};
 ghost use Rattle.serde_json.specs.View.{view, items_view};
-ghost use Rattle.json_faults.specs.Values.{small_of, index_of, is_pair, has_word, is_word, is_plain, is_part, stands_for};
+ghost use Rattle.json_faults.specs.Values.{small_of, index_of, is_pair, has_word, is_word, is_part, takes_text};
 ghost use Rattle.json_faults.specs.Values as spec;
 
 use json_kinds::group::Group;
@@ -33,6 +33,16 @@ pub fn is_decision(value: &Value) -> bool
     ensures { result ≡ spec.is_decision (view value.now) }
 {
     matches!(value, Value::Bool(_) | Value::Null)
+}
+
+/// Whether the value is a number of 32 bits or null.
+pub fn is_small_or_null(value: &Value) -> bool
+    ensures { result ≡ spec.is_small_or_null (view value.now) }
+{
+    match value {
+        Value::Null => true,
+        _ => small(value).is_some(),
+    }
 }
 
 #[tactic(auto, using(crate::proofs::Pairs::too_short, crate::proofs::Pairs::too_long))]
@@ -76,22 +86,11 @@ pub fn is_word(set: Words, value: &Value) -> bool
     }
 }
 
-/// Whether a name is other than `$crate`.
-pub fn is_plain(text: &str) -> bool
-    ensures { result ≡ is_plain text.now }
-{
-    text != "$crate"
-}
-
 /// Whether a text may stand in place of a node of the group.
-fn stands_for(group: Group, text: &str) -> bool
-    ensures { result ≡ stands_for group text.now }
+fn takes_text(group: Group) -> bool
+    ensures { result ≡ takes_text group }
 {
-    match group {
-        Group::Name => is_plain(text),
-        Group::Lifetime => true,
-        _ => false,
-    }
+    matches!(group, Group::Name | Group::Lifetime)
 }
 
 fn is_part(group: Group, nulls: bool, value: &Value) -> bool
@@ -99,7 +98,7 @@ fn is_part(group: Group, nulls: bool, value: &Value) -> bool
 {
     match value {
         Value::Number(_) => true,
-        Value::String(text) => stands_for(group, text.as_str()),
+        Value::String(_) => takes_text(group),
         Value::Null => nulls,
         _ => false,
     }

@@ -173,9 +173,9 @@ row kind.Item = record { word = codes "Item"; groups = group.Stmt ∷ []; fields
 row kind.Path = record {
   word = codes "Path";
   groups = group.Path ∷ [];
-  fields = (codes "leading" ∶ sort.NotYet)
+  fields = (codes "leading" ∶ sort.Flag)
       ∷ (codes "in_macro" ∶ sort.NotYet)
-      ∷ (codes "use" ∶ sort.NotYet)
+      ∷ (codes "use" ∶ sort.Part group.Path)
       ∷ (codes "segs" ∶ sort.ListWithNulls group.Segment)
       ∷ [];
 }
@@ -205,7 +205,7 @@ row kind.Lifetime = record {
 row kind.Name = record {
   word = codes "Name";
   groups = group.Name ∷ [];
-  fields = (codes "t" ∶ sort.PlainText) ∷ [];
+  fields = (codes "t" ∶ sort.Text) ∷ [];
 }
 row kind.Fn = record {
   word = codes "Fn";

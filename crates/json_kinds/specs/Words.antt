@@ -6,6 +6,10 @@ use Rattle.json_kinds.specs.declared.words.Words.TheVariants as set
 abbrev literals : List (List ℕ)
 literals = codes "str" ∷ codes "bytestr" ∷ codes "cstr" ∷ codes "char" ∷ codes "bool" ∷ codes "int" ∷ codes "float" ∷ []
 
+-- what a segment of a path is written as
+abbrev segments : List (List ℕ)
+segments = codes "name" ∷ codes "self" ∷ codes "crate" ∷ codes "super" ∷ codes "Self" ∷ []
+
 abbrev comparisons : List (List ℕ)
 comparisons = codes "==" ∷ codes "!=" ∷ codes "<=" ∷ codes "<" ∷ codes ">=" ∷ codes ">" ∷ []
 
@@ -19,7 +23,7 @@ binary_ops = codes "||" ∷ codes "&&" ∷ (comparisons ++ (ariths ++ map (λ w.
 -- the words of a set
 abbrev pub words : Words → List (List ℕ)
 words set.Literals = literals
-words set.Segments = codes "name" ∷ []
+words set.Segments = segments
 words set.Modifiers = codes "unsafe" ∷ []
 words set.UnaryOps = codes "*" ∷ codes "!" ∷ codes "-" ∷ []
 words set.BinaryOps = binary_ops

@@ -9,8 +9,6 @@ pub enum Sort {
     /// A text, which has to be there.
     Text,
     TextIfThere,
-    /// A text, which has to be there, other than `$crate`: paths from a macro's crate aren't read yet.
-    PlainText,
     /// A word of the set, which has to be there.
     Word(Words),
     WordIfThere(Words),

@@ -6,8 +6,8 @@ ghost use Rattle.json_kinds.specs.Table as spec;
 
 use crate::field::Field;
 use crate::field::Sort::{
-    Flag, List, ListWithNulls, LiteralText, NotYet, Number, Part, PlainLabel, PlainText, Text,
-    TextIfThere, Word, WordIfThere,
+    Flag, List, ListWithNulls, LiteralText, NotYet, Number, Part, PlainLabel, Text, TextIfThere,
+    Word, WordIfThere,
 };
 use crate::group::Group;
 use crate::group::Group::{Block, Else, Expr, Fn, Label, Lifetime, Name, Path, Segment, Stmt};
@@ -49,14 +49,14 @@ macro_rules! kinds {
             FormatArgsExpr [Expr] {  }
             ExprStmt [Stmt] { "expr": Part(Expr), "semi": Flag }
             Item [Stmt] {  }
-            Path [Path] { "leading": NotYet, "in_macro": NotYet, "use": NotYet, "segs": ListWithNulls(Segment) }
+            Path [Path] { "leading": Flag, "in_macro": NotYet, "use": Part(Path), "segs": ListWithNulls(Segment) }
             PathSegment [Segment] {
                 "seg": WordIfThere(Words::Segments), "name": Part(Name), "generics": NotYet, "parens": NotYet,
                 "ret": NotYet, "rtn": NotYet, "ty": NotYet, "trait": NotYet
             }
             Label [Label] { "lifetime": Part(Lifetime) }
             Lifetime [Lifetime] { "t": Text }
-            Name [Name] { "t": PlainText }
+            Name [Name] { "t": Text }
             Fn [Fn] {
                 "generics": NotYet, "where": NotYet, "params": NotYet, "ret": NotYet, "body": Part(Expr), "async": NotYet, "gen": NotYet
             }

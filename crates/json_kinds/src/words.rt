@@ -22,7 +22,7 @@ impl Words {
     {
         match self {
             Words::Literals => &["str", "bytestr", "cstr", "char", "bool", "int", "float"],
-            Words::Segments => &["name"],
+            Words::Segments => &["name", "self", "crate", "super", "Self"],
             Words::Modifiers => &["unsafe"],
             Words::UnaryOps => &["*", "!", "-"],
             Words::BinaryOps => &[

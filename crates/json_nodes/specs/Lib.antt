@@ -5,4 +5,5 @@ pub mod Parts
 pub mod Nodes
 pub mod Operators
 pub mod Exprs
+pub mod Paths
 pub mod Others

@@ -1,4 +1,4 @@
--- Blocks, statements, paths, labels, names and functions.
+-- Blocks, statements, labels, names and functions.
 use Rattle.std.specs.Prelude.{codes, List, ℕ, Option, Some, None, bytes_eq, option_map, option_and_then, if◌then◌else◌}
 use Rattle.serde_json.specs.Find.{get}
 use Rattle.hir_syntax.specs.declared.ast.StmtKind.{StmtKind}
@@ -6,14 +6,12 @@ use Rattle.hir_syntax.specs.declared.ast.StmtKind.TheVariants as stmt
 use Rattle.hir_syntax.specs.declared.ast.BlockExpr.{roll-BlockExpr}
 use Rattle.hir_syntax.specs.declared.ast.BlockModifier.{BlockModifier}
 use Rattle.hir_syntax.specs.declared.ast.BlockModifier.TheVariants as modifiers
-use Rattle.hir_syntax.specs.declared.ast.SegmentKind.{SegmentKind}
-use Rattle.hir_syntax.specs.declared.ast.SegmentKind.TheVariants as segment
 use Rattle.hir_syntax.specs.declared.ast.Fn.{Fn}
 use Rattle.json_kinds.specs.declared.kind.Kind.{Kind}
 use Rattle.json_kinds.specs.declared.kind.Kind.TheVariants as kind
 use Rattle.json_nodes.specs.Fields.{flag_of, text_in}
-use Rattle.json_nodes.specs.Groups.{as_expr, as_stmt, as_segment, as_label}
-use Rattle.json_nodes.specs.Parts.{Here, part_in, list_in, list_with_nulls_in, lifetime_in, name_in}
+use Rattle.json_nodes.specs.Groups.{as_expr, as_stmt, as_label}
+use Rattle.json_nodes.specs.Parts.{Here, part_in, list_in, lifetime_in}
 use Rattle.json_nodes.specs.declared.part.AnyPart.{AnyPart}
 use Rattle.json_nodes.specs.declared.part.AnyPart.TheVariants as part
 
@@ -21,10 +19,6 @@ unfoldable pub statement : Here → Kind → Option StmtKind
 statement h kind.ExprStmt = Some (stmt.ExprStmt (part_in h as_expr (codes "expr")) (flag_of (get (codes "semi") h.value)))
 statement h kind.Item = Some stmt.Item
 statement h _ = None
-
--- the kind of a segment whose word it is, the only one that is read yet
-abbrev pub segment_kind : List ℕ → Option SegmentKind
-segment_kind word = if bytes_eq word (codes "name") then Some segment.Name else None
 
 -- the modifier whose word it is, the only one that is read yet
 abbrev pub modifier : List ℕ → Option BlockModifier
@@ -36,7 +30,7 @@ lifetime h = option_map (λ t. part.Lifetime (record { id = h.id; range = h.rang
 abbrev pub name : Here → Option AnyPart
 name h = option_map (λ t. part.Name (record { id = h.id; range = h.range; t = t })) (text_in (codes "t") h.value)
 
--- what is neither a statement nor an expression, and blocks
+-- labels, lifetimes, names and blocks
 unfoldable pub other : Here → Kind → Option AnyPart
 other h kind.BlockExpr = Some (part.Block (roll-BlockExpr (record {
   id = h.id;
@@ -46,13 +40,6 @@ other h kind.BlockExpr = Some (part.Block (roll-BlockExpr (record {
   stmts = list_in h as_stmt (codes "stmts");
   tail = part_in h as_expr (codes "tail");
 })))
-other h kind.Path = Some (part.Path (record { id = h.id; range = h.range; segs = list_with_nulls_in h as_segment (codes "segs") }))
-other h kind.PathSegment = Some (part.Segment (record {
-  id = h.id;
-  range = h.range;
-  seg = option_and_then segment_kind (text_in (codes "seg") h.value);
-  name = name_in h (codes "name");
-}))
 other h kind.Label = Some (part.Label (record { id = h.id; range = h.range; lifetime = lifetime_in h (codes "lifetime") }))
 other h kind.Lifetime = lifetime h
 other h kind.Name = name h

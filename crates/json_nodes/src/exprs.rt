@@ -49,7 +49,7 @@ pub fn plain<P: ReadParts>(node: &Node<'_, P>, kind: Kind) -> Result<Option<Expr
             args: node.list_if_there::<Expr>("args")?,
         })),
         Kind::PathExpr => Ok(Some(ExprKind::PathExpr {
-            path: node.part::<Path>("path")?,
+            path: node.boxed::<Path>("path")?,
         })),
         Kind::ParenExpr => Ok(Some(ExprKind::ParenExpr {
             expr: node.boxed::<Expr>("expr")?,

@@ -12,3 +12,4 @@ pub mod operators;
 pub mod others;
 pub mod part;
 pub mod partless;
+pub mod paths;

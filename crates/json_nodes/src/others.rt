@@ -1,4 +1,4 @@
-//! Blocks, statements, paths, labels, names and functions.
+//! Blocks, statements, labels, names and functions.
 
 ghost use Rattle.std.specs.Prelude.{◌≡◌, IfOk, codes, option_and_then};
 ghost use Rattle.serde_json.specs.View.{view};
@@ -10,10 +10,7 @@ use crate::field::{flag, text};
 use crate::node::{Node, ReadParts};
 use crate::part::AnyPart;
 use hir_syntax::Text;
-use hir_syntax::ast::{
-    BlockExpr, BlockModifier, Expr, Fn, Label, Lifetime, Name, Path, PathSegment, SegmentKind,
-    Stmt, StmtKind,
-};
+use hir_syntax::ast::{BlockExpr, BlockModifier, Expr, Fn, Label, Lifetime, Name, Stmt, StmtKind};
 use json_kinds::kind::Kind;
 use serde_json::Value;
 use std::alloc::{AllocError, Global};
@@ -33,15 +30,6 @@ pub fn statement<P: ReadParts>(
         })),
         Kind::Item => Ok(Some(StmtKind::Item)),
         _ => Ok(None),
-    }
-}
-
-fn segment_kind(node: &Value) -> Option<SegmentKind>
-    ensures { result ≡ option_and_then spec.segment_kind (text_in (codes "seg") (view node.now)) }
-{
-    match text(node, "seg") {
-        Some("name") => Some(SegmentKind::Name),
-        _ => None,
     }
 }
 
@@ -90,7 +78,7 @@ fn name<P: ReadParts>(node: &Node<'_, P>) -> Result<Option<AnyPart>, AllocError>
     }
 }
 
-/// What is neither a statement nor an expression, and blocks.
+/// Labels, lifetimes, names and blocks.
 #[tactic(auto, unfolding(crate::specs::Others::other))]
 pub fn other<P: ReadParts>(node: &Node<'_, P>, kind: Kind) -> Result<Option<AnyPart>, AllocError>
     requires { P.can node.now.parts.now }
@@ -104,17 +92,6 @@ pub fn other<P: ReadParts>(node: &Node<'_, P>, kind: Kind) -> Result<Option<AnyP
             label: node.part::<Label>("label")?,
             stmts: node.list::<Stmt>("stmts")?,
             tail: node.boxed::<Expr>("tail")?,
-        }))),
-        Kind::Path => Ok(Some(AnyPart::Path(Path {
-            id: node.id,
-            range: node.range,
-            segs: node.list_with_nulls::<PathSegment>("segs")?,
-        }))),
-        Kind::PathSegment => Ok(Some(AnyPart::Segment(PathSegment {
-            id: node.id,
-            range: node.range,
-            seg: segment_kind(node.value),
-            name: node.name("name")?,
         }))),
         Kind::Label => Ok(Some(AnyPart::Label(Label {
             id: node.id,

@@ -2,7 +2,7 @@
 use Rattle.std.proofs.Common.{◌≡◌, ◌<◌, ◌≤◌, List, [], ◌∷◌, length, refl, arith, Some, None}
 use Rattle.serde_json.specs.View.{items_view}
 use Rattle.serde_json.specs.declared.value.Value.{Value}
-use Rattle.lower_json.specs.Tables.{decided_of, triple_of, quadruple_of}
+use Rattle.lower_json.specs.Tables.{decided_of, triple_of, quadruple_of, context_of}
 
 pub under_two : (vs : List Value) → length vs < 2 → None ≡ decided_of (Some (items_view vs))
 under_two [] h = refl
@@ -42,3 +42,22 @@ over_four (v ∷ w ∷ []) h = absurd (omega arith)
 over_four (v ∷ w ∷ x ∷ []) h = absurd (omega arith)
 over_four (v ∷ w ∷ x ∷ y ∷ []) h = absurd (omega arith)
 over_four (v ∷ w ∷ x ∷ y ∷ z ∷ vs) h = refl
+
+pub under_six : (vs : List Value) → length vs < 6 → None ≡ context_of (Some (items_view vs))
+under_six [] h = refl
+under_six (v ∷ []) h = refl
+under_six (v ∷ w ∷ []) h = refl
+under_six (v ∷ w ∷ x ∷ []) h = refl
+under_six (v ∷ w ∷ x ∷ y ∷ []) h = refl
+under_six (v ∷ w ∷ x ∷ y ∷ z ∷ []) h = refl
+under_six (v ∷ w ∷ x ∷ y ∷ z ∷ u ∷ vs) h = absurd (omega arith)
+
+pub over_six : (vs : List Value) → 7 ≤ length vs → None ≡ context_of (Some (items_view vs))
+over_six [] h = absurd (omega arith)
+over_six (v ∷ []) h = absurd (omega arith)
+over_six (v ∷ w ∷ []) h = absurd (omega arith)
+over_six (v ∷ w ∷ x ∷ []) h = absurd (omega arith)
+over_six (v ∷ w ∷ x ∷ y ∷ []) h = absurd (omega arith)
+over_six (v ∷ w ∷ x ∷ y ∷ z ∷ []) h = absurd (omega arith)
+over_six (v ∷ w ∷ x ∷ y ∷ z ∷ u ∷ []) h = absurd (omega arith)
+over_six (v ∷ w ∷ x ∷ y ∷ z ∷ u ∷ t ∷ vs) h = refl

@@ -1,14 +1,16 @@
 -- What a text says, where it is a document.
-use Rattle.std.specs.Prelude.{◌≡◌, ℕ, codes, List, [], ◌∷◌, Option, Some, None, option_and_then, unwrap_or, IsUtf8}
+use Rattle.std.specs.Prelude.{◌≡◌, ℕ, Bool, true, false, codes, List, [], ◌∷◌, Option, Some, None, option_and_then, unwrap_or, IsUtf8}
 use Rattle.serde_json.specs.Data.{Data}
-use Rattle.serde_json.specs.Find.{get}
+use Rattle.serde_json.specs.Find.{as_bool, get}
 use Rattle.serde_json.specs.Read.{read}
 use Rattle.hir_store.specs.declared.ids.DefWithBodyId.{DefWithBodyId}
 use Rattle.hir_store.specs.declared.ids.DefWithBodyId.TheVariants as owner
 use Rattle.hir_store.specs.declared.ids.ItemContainerId.{ItemContainerId}
 use Rattle.hir_store.specs.declared.ids.ItemContainerId.TheVariants as holder
 use Rattle.hir_env.specs.Tables.{Tables}
-use Rattle.hir_syntax.specs.declared.ast.Fn.{Fn}
+use Rattle.hir_env.specs.declared.place.LoweringMode.{LoweringMode}
+use Rattle.hir_env.specs.declared.place.LoweringMode.TheVariants as mode
+use Rattle.json_kinds.specs.declared.group.Group.{Group}
 use Rattle.json_kinds.specs.declared.group.Group.TheVariants as group
 use Rattle.json_faults.specs.Documents.{document_fault, nodes}
 use Rattle.json_faults.specs.Faults.{Fault}
@@ -18,6 +20,9 @@ use Rattle.lower_json.specs.Reading.{tree_at}
 use Rattle.lower_json.specs.Tables.{tables_of}
 use Rattle.json_kinds.specs.ByWord.{with_word}
 use Rattle.lower_json.specs.declared.document.Document.{Document}
+use Rattle.lower_json.specs.declared.document.Root.{Root}
+use Rattle.lower_json.specs.declared.document.Root.TheVariants as root
+use Rattle.lower_json.specs.declared.document.Tree.{Tree}
 
 -- the word of an owner
 abbrev pub owner_word : DefWithBodyId → List ℕ
@@ -63,24 +68,43 @@ container_in d = option_and_then (with_word container_word containers) (text_in 
 abbrev pub container_of : Data → ItemContainerId
 container_of d = unwrap_or (container_in d) (holder.ModuleId (record { 0 = 0 }))
 
-abbrev pub tree_of : Data → Fn
-tree_of d = tree_at (kinds_of (nodes d)) (nodes d) (number_or 0 (get (codes "root") d))
+abbrev pub mode_where : Bool → LoweringMode
+mode_where true = mode.Analysis
+mode_where false = mode.Untracked
+
+-- the mode of a path, which is analysed unless the document says otherwise
+abbrev pub mode_of : Data → LoweringMode
+mode_of d = mode_where (unwrap_or (option_and_then as_bool (get (codes "analysis") d)) true)
+
+-- the group of what may stand at the root
+abbrev pub group_of : Root → Group
+group_of root.Fn = group.Fn
+group_of root.Path = group.Path
+
+abbrev pub tree_of : Root → Data → Tree
+tree_of want d = tree_at want (kinds_of (nodes d)) (nodes d) (number_or 0 (get (codes "root") d))
 
 abbrev pub env_of : Data → Tables
 env_of d = record (tables_of (container_of d) (get (codes "env") d)) { skip = flag_of (get (codes "skip") d) }
 
 -- what a document says
-abbrev pub document_of : Data → Document
-document_of d = record { tree = tree_of d; owner = owner_of d; sources = flag_of (get (codes "sources") d); env = env_of d }
+abbrev pub document_of : Root → Data → Document
+document_of want d = record {
+  tree = tree_of want d;
+  owner = owner_of d;
+  sources = flag_of (get (codes "sources") d);
+  mode = mode_of d;
+  env = env_of d;
+}
 
--- the first fault of a document whose root is a function, of at most so many nodes
-abbrev pub first_fault : Data → Option Fault
-first_fault d = document_fault 1000000 group.Fn d
+-- the first fault of a document with such a root, of at most so many nodes
+abbrev pub first_fault : Root → Data → Option Fault
+first_fault want d = document_fault 1000000 (group_of want) d
 
--- the text is a document without fault, and says that
-pub record IsDocument (text : List ℕ) (x : Document) : Type 0 where
+-- the text is a document without fault with such a root, and says that
+pub record IsDocument (want : Root) (text : List ℕ) (x : Document) : Type 0 where
   pub utf8 : IsUtf8 text
   pub value : Data
   pub json : read text ≡ Some value
-  pub sound : first_fault value ≡ None
-  pub says : x ≡ document_of value
+  pub sound : first_fault want value ≡ None
+  pub says : x ≡ document_of want value

@@ -4,17 +4,21 @@ use Rattle.serde_json.specs.Data.{Data, null, Items}
 use Rattle.serde_json.specs.Find.{get, get_item}
 use Rattle.hir_syntax.specs.declared.ast.ExprKind.{ExprKind}
 use Rattle.hir_syntax.specs.declared.ast.StmtKind.{StmtKind}
-use Rattle.hir_syntax.specs.declared.ast.Fn.{Fn}
 use Rattle.json_faults.specs.Kinds.{kind_at}
 use Rattle.json_kinds.specs.declared.kind.Kind.{Kind}
 use Rattle.json_kinds.specs.declared.kind.Kind.TheVariants as kind
 use Rattle.json_nodes.specs.Exprs.{flow, plain, operation, member, leaving, partless}
 use Rattle.json_nodes.specs.Fields.{number_or, range_of}
 use Rattle.json_nodes.specs.Others.{statement, other, function}
+use Rattle.json_nodes.specs.Paths.{path, of_path}
 use Rattle.json_nodes.specs.Parts.{Here}
 use Rattle.json_kinds.specs.ByWord.{or_else}
 use Rattle.json_nodes.specs.declared.part.AnyPart.{AnyPart}
 use Rattle.json_nodes.specs.declared.part.AnyPart.TheVariants as part
+use Rattle.lower_json.specs.declared.document.Root.{Root}
+use Rattle.lower_json.specs.declared.document.Root.TheVariants as root
+use Rattle.lower_json.specs.declared.document.Tree.{Tree}
+use Rattle.lower_json.specs.declared.document.Tree.TheVariants as tree
 
 -- an `if` is told from other expressions, since it may follow `else`
 abbrev pub of_expr : Here → Kind → ExprKind → AnyPart
@@ -29,7 +33,7 @@ abbrev pub of_stmt : Here → StmtKind → AnyPart
 of_stmt h x = part.Stmt (record { id = h.id; range = h.range; kind = x })
 
 abbrev pub other_than_expr : Here → Kind → Option AnyPart
-other_than_expr h k = or_else (option_map (of_stmt h) (statement h k)) (other h k)
+other_than_expr h k = or_else (option_map (of_stmt h) (statement h k)) (or_else (of_path h k) (other h k))
 
 -- what stands at a node of each kind
 unfoldable pub of_kind : Here → Kind → Option AnyPart
@@ -49,6 +53,11 @@ part_at (suc n) kinds ns at = option_and_then
     (λ d. option_and_then (of_kind (node_at (part_at n kinds ns) at d)) (kind_at kinds at))
     (get_item at ns)
 
--- the function at a node, on at most 256 levels; past the end it is one that says nothing
-unfoldable pub tree_at : List (Option Kind) → Items → ℕ → Fn
-tree_at kinds ns at = function (node_at (part_at 255 kinds ns) at (unwrap_or (get_item at ns) null))
+-- the tree whose root is such a node
+abbrev pub tree_of : Root → Here → Tree
+tree_of root.Fn h = tree.Fn (function h)
+tree_of root.Path h = tree.Path (path h)
+
+-- the tree at a node, on at most 256 levels; past the end its root says nothing
+unfoldable pub tree_at : Root → List (Option Kind) → Items → ℕ → Tree
+tree_at want kinds ns at = tree_of want (node_at (part_at 255 kinds ns) at (unwrap_or (get_item at ns) null))

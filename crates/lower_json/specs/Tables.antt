@@ -1,11 +1,15 @@
 -- The tables of a document. What is no entry of a table says nothing.
 use Rattle.std.specs.Prelude.{ℕ, codes, Bool, List, Option, Some, None, option_map, option_and_then}
-use Rattle.serde_json.specs.Data.{Data, null, boolean, Items, no_items, item}
+use Rattle.serde_json.specs.Data.{Data, null, boolean, number, string, array, object, Items, no_items, item}
 use Rattle.serde_json.specs.Find.{get, as_array}
-use Rattle.hir_env.specs.NodeMap.{Site, with_first, with_first_pred}
+use Rattle.hir_env.specs.NodeMap.{Site, with_first, with_first_pred, with_first_context}
 use Rattle.hir_env.specs.Tables.{Tables, empty}
+use Rattle.hir_env.specs.declared.table.Context.{Context}
 use Rattle.hir_store.specs.declared.ids.CfgId.{CfgId}
 use Rattle.hir_store.specs.declared.ids.HygieneId.{HygieneId}
+use Rattle.hir_store.specs.declared.ids.CtxId.{CtxId}
+use Rattle.hir_store.specs.declared.ids.MacroDefId.{MacroDefId}
+use Rattle.hir_store.specs.declared.ids.CrateId.{CrateId}
 use Rattle.hir_store.specs.declared.ids.BlockId.{BlockId}
 use Rattle.hir_store.specs.declared.ids.ModuleId.{ModuleId}
 use Rattle.hir_store.specs.declared.ids.ItemContainerId.{ItemContainerId}
@@ -56,23 +60,48 @@ named_of ds = option_map (λ e. (e.0, record { 0 = e.1 })) (triple_of ds)
 abbrev pub numbered_of : Option Items → Option (Site × (BlockId × ModuleId))
 numbered_of ds = option_map (λ e. (e.0, (record { 0 = e.1.0 }, record { 0 = e.1.1 }))) (quadruple_of ds)
 
-abbrev pub with_entry : {T : Type 0} → Option (Site × T) → List (Site × T) → List (Site × T)
-with_entry None es = es
-with_entry (Some e) es = with_first es e.0 e.1
+-- a number, or none where null stands
+abbrev pub number_or_null : Data → Option (Option ℕ)
+number_or_null null = Some None
+number_or_null (boolean b) = None
+number_or_null (number n) = option_map Some (small_of (number n))
+number_or_null (string s) = None
+number_or_null (array ds) = None
+number_or_null (object ms) = None
 
--- a table with the entries of a list behind its own; of two for one node the first counts
-abbrev pub with_all : {T : Type 0} → (Option Items → Option (Site × T)) → Items → List (Site × T) → List (Site × T)
-with_all entry no_items es = es
-with_all entry (item d ds) es = with_all entry ds (with_entry (entry (as_array d)) es)
+abbrev pub context_id_of : Option ℕ → Option CtxId
+context_id_of n = option_map (λ n. record { 0 = n }) n
 
-abbrev pub with_pred : Option (PredId × Option Bool) → List (PredId × Option Bool) → List (PredId × Option Bool)
-with_pred None es = es
-with_pred (Some e) es = with_first_pred es e.0 e.1
+abbrev pub outer_macro_of : Option (Option ℕ) → Option (Option MacroDefId)
+outer_macro_of n = option_map (λ m. option_map (λ n. record { 0 = n }) m) n
 
--- and of predicates
-abbrev pub with_preds : Items → List (PredId × Option Bool) → List (PredId × Option Bool)
-with_preds no_items es = es
-with_preds (item d ds) es = with_preds ds (with_pred (decided_of (as_array d)) es)
+abbrev pub crate_root_of : Option (Option ℕ) → Option (Option CrateId)
+crate_root_of n = option_map (λ m. option_map (λ n. record { 0 = n }) m) n
+
+abbrev pub frame_of : Option ℕ → Option ℕ → Option (Option MacroDefId) → Option (Option CrateId) → Option Context
+frame_of (Some parent) (Some opaque) (Some outer) (Some root) = Some (record {
+  parent = record { 0 = parent };
+  opaque = record { 0 = opaque };
+  outer_macro = outer;
+  crate_root = root;
+})
+frame_of _ _ _ _ = None
+
+-- [context, parent, opaque, macro or null, whether its names are local to the macro, crate or null]
+abbrev pub context_of : Option Items → Option (CtxId × Context)
+context_of (Some (item c (item p (item o (item m (item l (item r no_items))))))) = both (context_id_of (small_of c))
+    (frame_of (small_of p) (small_of o) (outer_macro_of (number_or_null m)) (crate_root_of (number_or_null r)))
+context_of _ = None
+
+abbrev pub with_entry : {K T : Type 0} → (List (K × T) → K → T → List (K × T)) → Option (K × T) → List (K × T) → List (K × T)
+with_entry put None es = es
+with_entry put (Some e) es = put es e.0 e.1
+
+-- a table with the entries of a list behind its own
+abbrev pub with_all : {K T : Type 0} → (List (K × T) → K → T → List (K × T)) → (Option Items → Option (K × T)) → Items
+    → List (K × T) → List (K × T)
+with_all put entry no_items es = es
+with_all put entry (item d ds) es = with_all put entry ds (with_entry put (entry (as_array d)) es)
 
 abbrev items_or_none : Option Items → Items
 items_or_none (Some ds) = ds
@@ -82,13 +111,14 @@ items_or_none None = no_items
 abbrev pub rows : List ℕ → Data → Items
 rows name env = items_or_none (option_and_then as_array (get name env))
 
--- the tables with what an environment writes
+-- the tables with what an environment writes; of two entries for one node, predicate or context the first counts
 abbrev pub with_tables : Data → Tables → Tables
 with_tables env ts = record ts {
-  disabled = with_all disabled_of (rows (codes "disabled") env) ts.disabled;
-  preds = with_preds (rows (codes "preds") env) ts.preds;
-  hygiene = with_all named_of (rows (codes "hygiene") env) ts.hygiene;
-  blocks = with_all numbered_of (rows (codes "blocks") env) ts.blocks;
+  disabled = with_all with_first disabled_of (rows (codes "disabled") env) ts.disabled;
+  preds = with_all with_first_pred decided_of (rows (codes "preds") env) ts.preds;
+  hygiene = with_all with_first named_of (rows (codes "hygiene") env) ts.hygiene;
+  contexts = with_all with_first_context context_of (rows (codes "contexts") env) ts.contexts;
+  blocks = with_all with_first numbered_of (rows (codes "blocks") env) ts.blocks;
 }
 
 -- of a body that is not skipped and stands in the container; empty ones where there is no environment

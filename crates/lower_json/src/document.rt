@@ -1,16 +1,41 @@
 //! What a document says.
 
+use hir_env::place::LoweringMode;
 use hir_env::table::TableEnv;
 use hir_store::ids::DefWithBodyId;
-use hir_syntax::ast::Fn;
+use hir_syntax::ast::{Fn, Path};
+
+/// What the root of a document has to be.
+#[derive(Clone, Copy, Debug, PartialEq, Eq)]
+pub enum Root {
+    Fn,
+    Path,
+}
+
+/// The tree of a document, by its root.
+pub enum Tree {
+    Fn(Fn),
+    Path(Path),
+}
+
+impl Drop for Tree {
+    fn drop(self) {
+        match self {
+            Tree::Fn(_) => {}
+            Tree::Path(_) => {}
+        }
+    }
+}
 
 /// A tree with its owner and its environment. File, module and item have the number 0.
 #[derive(Drop)]
 pub struct Document {
-    pub tree: Fn,
+    pub tree: Tree,
     pub owner: DefWithBodyId,
     /// Whether the listing names the nodes that things come from.
     pub sources: bool,
+    /// The mode that a path is lowered in. A body is always analysed.
+    pub mode: LoweringMode,
     /// The tables of answers, among them whether the body is skipped, and what its owner stands in.
     pub env: TableEnv,
 }

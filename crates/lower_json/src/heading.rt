@@ -2,9 +2,10 @@
 
 ghost use Rattle.std.specs.Prelude.{◌≡◌};
 ghost use Rattle.serde_json.specs.View.{view};
-ghost use Rattle.lower_json.specs.Documents.{owner_word, owners, owner_of, container_word, containers, container_of};
+ghost use Rattle.lower_json.specs.Documents.{owner_word, owners, owner_of, container_word, containers, container_of, mode_of};
 ghost use Rattle.json_kinds.specs.ByWord.{with_word};
 
+use hir_env::place::LoweringMode;
 use hir_store::ids::{
     ConstId, DefWithBodyId, ExternBlockId, FunctionId, ImplId, ItemContainerId, ModuleId, StaticId,
     TraitId, VariantId,
@@ -56,4 +57,14 @@ pub fn container(document: &Value) -> ItemContainerId
         None => None,
     };
     written.unwrap_or(ItemContainerId::ModuleId(ModuleId(0)))
+}
+
+/// The mode that a path is lowered in: it is analysed, unless the document says otherwise.
+pub fn mode(document: &Value) -> LoweringMode
+    ensures { result ≡ mode_of (view document.now) }
+{
+    match document.get("analysis") {
+        Some(Value::Bool(false)) => LoweringMode::Untracked,
+        _ => LoweringMode::Analysis,
+    }
 }

@@ -5,15 +5,14 @@ ghost use Rattle.serde_json.specs.Read.{read};
 ghost use Rattle.serde_json.specs.View.{view};
 ghost use Rattle.json_faults.specs.Documents.{nodes};
 ghost use Rattle.json_faults.specs.Kinds.{kinds_of};
-ghost use Rattle.lower_json.specs.Documents.{document_of, first_fault, tree_of, IsDocument};
+ghost use Rattle.lower_json.specs.Documents.{group_of, document_of, first_fault, tree_of, IsDocument};
 ghost use Rattle.lower_json.specs.Faults.{IsErrorOf, IsTextError};
 
-use crate::document::Document;
+use crate::document::{Document, Root, Tree};
 use crate::fault::{Fault, ReadError};
-use crate::heading::{container, owner};
+use crate::heading::{container, mode, owner};
 use crate::tables::tables;
 use crate::tree::read_tree_at;
-use hir_syntax::ast::Fn;
 use json_faults::document::{checked_kinds, nodes};
 use json_kinds::group::Group;
 use json_kinds::kind::Kind;
@@ -23,10 +22,20 @@ use std::alloc::{AllocError, Global};
 
 const MOST_NODES: usize = 1_000_000;
 
+/// The group of what may stand at the root.
+fn group(root: Root) -> Group
+    ensures { result ≡ group_of root }
+{
+    match root {
+        Root::Fn => Group::Fn,
+        Root::Path => Group::Path,
+    }
+}
+
 fn parse(alloc: Global, text: &[u8]) -> Result<Value, ReadError>
     ensures utf8 { OnOk result (IsUtf8 text.now) }
     ensures value { IfOk result (λ v. read text.now ≡ Some (view v)) }
-    ensures fault { IfErr result (λ e. IsTextError text.now e) }
+    ensures fault { IfErr result (λ e. (want : Root) → IsTextError want text.now e) }
 {
     let Ok(text) = str::from_utf8(text) else {
         return Err(ReadError::Fault(Fault::NotJson));
@@ -41,12 +50,18 @@ fn parse(alloc: Global, text: &[u8]) -> Result<Value, ReadError>
     }
 }
 
-fn tree(alloc: Global, kinds: &[Option<Kind>], document: &Value) -> Result<Fn, AllocError>
+fn tree(
+    alloc: Global,
+    want: Root,
+    kinds: &[Option<Kind>],
+    document: &Value,
+) -> Result<Tree, AllocError>
     requires { kinds.now ≡ kinds_of (nodes (view document.now)) }
-    ensures { IfOk result (λ tree. tree ≡ tree_of (view document.now)) }
+    ensures { IfOk result (λ tree. tree ≡ tree_of want (view document.now)) }
 {
     read_tree_at(
         alloc,
+        want,
         kinds,
         nodes(document),
         number_or(document, "root", 0),
@@ -56,40 +71,42 @@ fn tree(alloc: Global, kinds: &[Option<Kind>], document: &Value) -> Result<Fn, A
 /// What a document says, with the kinds of its nodes.
 fn read_document(
     alloc: Global,
+    want: Root,
     kinds: &[Option<Kind>],
     document: &Value,
 ) -> Result<Document, AllocError>
     requires { kinds.now ≡ kinds_of (nodes (view document.now)) }
-    ensures { IfOk result (λ d. d ≡ document_of (view document.now)) }
+    ensures { IfOk result (λ d. d ≡ document_of want (view document.now)) }
 {
-    let tree = tree(alloc, kinds, document)?;
+    let tree = tree(alloc, want, kinds, document)?;
     let mut env = tables(alloc, document, container(document))?;
     env.set_skip(flag(document, "skip"));
     Ok(Document {
         tree,
         owner: owner(document),
         sources: flag(document, "sources"),
+        mode: mode(document),
         env,
     })
 }
 
-fn read_value(alloc: Global, document: &Value) -> Result<Document, ReadError>
-    ensures sound { IfOk result (λ d. first_fault (view document.now) ≡ None) }
-    ensures document { IfOk result (λ d. d ≡ document_of (view document.now)) }
-    ensures fault { IfErr result (λ e. IsErrorOf (view document.now) e) }
+fn read_value(alloc: Global, want: Root, document: &Value) -> Result<Document, ReadError>
+    ensures sound { IfOk result (λ d. first_fault want (view document.now) ≡ None) }
+    ensures document { IfOk result (λ d. d ≡ document_of want (view document.now)) }
+    ensures fault { IfErr result (λ e. IsErrorOf want (view document.now) e) }
 {
-    let kinds = checked_kinds(alloc, MOST_NODES, Group::Fn, document)?;
-    Ok(read_document(alloc, kinds.as_slice(), document)?)
+    let kinds = checked_kinds(alloc, MOST_NODES, group(want), document)?;
+    Ok(read_document(alloc, want, kinds.as_slice(), document)?)
 }
 
-/// Reads a document. The fault of a text is the first one that it has, and a text that has none is read whole; a refused
-/// allocation is told apart from a fault.
-pub fn read_tree(alloc: Global, text: &[u8]) -> Result<Document, ReadError>
-    ensures document { IfOk result (λ d. IsDocument text.now d) }
-    ensures fault { IfErr result (λ e. IsTextError text.now e) }
+/// Reads a document whose root is what is wanted. The fault of a text is the first one that it has, and a text that has
+/// none is read whole; a refused allocation is told apart from a fault.
+pub fn read_tree(alloc: Global, want: Root, text: &[u8]) -> Result<Document, ReadError>
+    ensures document { IfOk result (λ d. IsDocument want text.now d) }
+    ensures fault { IfErr result (λ e. IsTextError want text.now e) }
 {
     let value = parse(alloc, text)?;
-    let document = read_value(alloc, &value);
+    let document = read_value(alloc, want, &value);
     drop(value);
     document
 }

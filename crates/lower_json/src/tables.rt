@@ -4,11 +4,15 @@ ghost use Rattle.std.specs.Prelude.{◌≡◌, Some, IfOk, OnOk, codes};
 ghost use Rattle.serde_json.specs.View.{view, items_view};
 ghost use Rattle.serde_json.specs.Find.{as_array, get};
 ghost use Rattle.json_faults.specs.Values.{small_of};
+ghost use Rattle.hir_env.specs.NodeMap.{with_first, with_first_pred, with_first_context};
 ghost use Rattle.lower_json.specs.Tables.{site_of, triple_of, quadruple_of, both, disabled_of, named_of, numbered_of};
-ghost use Rattle.lower_json.specs.Tables.{decision_of, decided_of, with_preds, with_all, rows, with_tables, tables_of};
+ghost use Rattle.lower_json.specs.Tables.{decision_of, decided_of, number_or_null, with_all, rows, with_tables, tables_of};
+ghost use Rattle.lower_json.specs.Tables.{context_id_of, outer_macro_of, crate_root_of, frame_of, context_of};
 
-use hir_env::table::TableEnv;
-use hir_store::ids::{BlockId, CfgId, HygieneId, ItemContainerId, ModuleId};
+use hir_env::table::{Context, TableEnv};
+use hir_store::ids::{
+    BlockId, CfgId, CrateId, CtxId, HygieneId, ItemContainerId, MacroDefId, ModuleId,
+};
 use hir_syntax::node::{HirFileId, InFile, NodeId, PredId};
 use json_faults::value::small;
 use serde_json::Value;
@@ -96,8 +100,74 @@ fn decided(entry: &Value) -> Option<(PredId, Option<bool>)>
     pair(entry.as_array()?.as_slice())
 }
 
+/// A number, or none where null stands.
+fn number_or_null(value: &Value) -> Option<Option<u32>>
+    ensures { result ≡ number_or_null (view value.now) }
+{
+    match value {
+        Value::Null => Some(None),
+        _ => Some(Some(small(value)?)),
+    }
+}
+
+fn context_id(value: &Value) -> Option<CtxId>
+    ensures { result ≡ context_id_of (small_of (view value.now)) }
+{
+    Some(CtxId(small(value)?))
+}
+
+fn outer_macro(value: &Value) -> Option<Option<MacroDefId>>
+    ensures { result ≡ outer_macro_of (number_or_null (view value.now)) }
+{
+    match number_or_null(value)? {
+        Some(number) => Some(Some(MacroDefId(number))),
+        None => Some(None),
+    }
+}
+
+fn crate_root(value: &Value) -> Option<Option<CrateId>>
+    ensures { result ≡ crate_root_of (number_or_null (view value.now)) }
+{
+    match number_or_null(value)? {
+        Some(number) => Some(Some(CrateId(number))),
+        None => Some(None),
+    }
+}
+
+fn frame(parent: &Value, opaque: &Value, outer: &Value, root: &Value) -> Option<Context>
+    ensures { result ≡ frame_of (small_of (view parent.now)) (small_of (view opaque.now))
+        (outer_macro_of (number_or_null (view outer.now))) (crate_root_of (number_or_null (view root.now))) }
+{
+    Some(Context {
+        parent: CtxId(small(parent)?),
+        opaque: HygieneId(small(opaque)?),
+        outer_macro: outer_macro(outer)?,
+        crate_root: crate_root(root)?,
+    })
+}
+
+/// What an entry says of a context. Whether its macro's names are local to the macro isn't asked yet.
+#[tactic(auto, using(crate::proofs::Tuples::under_six, crate::proofs::Tuples::over_six))]
+fn context_with(items: &[Value]) -> Option<(CtxId, Context)>
+    ensures { result ≡ context_of (Some (items_view items.now)) }
+{
+    match items {
+        [context, parent, opaque, outer, _, root] => Some((
+            context_id(context)?,
+            frame(parent, opaque, outer, root)?,
+        )),
+        _ => None,
+    }
+}
+
+fn context(entry: &Value) -> Option<(CtxId, Context)>
+    ensures { result ≡ context_of (as_array (view entry.now)) }
+{
+    context_with(entry.as_array()?.as_slice())
+}
+
 fn disable_all(tables: &mut TableEnv, entries: &[Value]) -> Result<(), AllocError>
-    ensures entries { OnOk result (tables.new.disabled ≡ with_all disabled_of (items_view entries.now) tables.old.disabled) }
+    ensures entries { OnOk result (tables.new.disabled ≡ with_all with_first disabled_of (items_view entries.now) tables.old.disabled) }
     ensures others { OnOk result (tables.new ≡ record tables.old { disabled = tables.new.disabled }) }
 {
     for entry in entries {
@@ -109,7 +179,7 @@ fn disable_all(tables: &mut TableEnv, entries: &[Value]) -> Result<(), AllocErro
 }
 
 fn decide_all(tables: &mut TableEnv, entries: &[Value]) -> Result<(), AllocError>
-    ensures entries { OnOk result (tables.new.preds ≡ with_preds (items_view entries.now) tables.old.preds) }
+    ensures entries { OnOk result (tables.new.preds ≡ with_all with_first_pred decided_of (items_view entries.now) tables.old.preds) }
     ensures others { OnOk result (tables.new ≡ record tables.old { preds = tables.new.preds }) }
 {
     for entry in entries {
@@ -121,7 +191,7 @@ fn decide_all(tables: &mut TableEnv, entries: &[Value]) -> Result<(), AllocError
 }
 
 fn name_all(tables: &mut TableEnv, entries: &[Value]) -> Result<(), AllocError>
-    ensures entries { OnOk result (tables.new.hygiene ≡ with_all named_of (items_view entries.now) tables.old.hygiene) }
+    ensures entries { OnOk result (tables.new.hygiene ≡ with_all with_first named_of (items_view entries.now) tables.old.hygiene) }
     ensures others { OnOk result (tables.new ≡ record tables.old { hygiene = tables.new.hygiene }) }
 {
     for entry in entries {
@@ -132,8 +202,20 @@ fn name_all(tables: &mut TableEnv, entries: &[Value]) -> Result<(), AllocError>
     Ok(())
 }
 
+fn frame_all(tables: &mut TableEnv, entries: &[Value]) -> Result<(), AllocError>
+    ensures entries { OnOk result (tables.new.contexts ≡ with_all with_first_context context_of (items_view entries.now) tables.old.contexts) }
+    ensures others { OnOk result (tables.new ≡ record tables.old { contexts = tables.new.contexts }) }
+{
+    for entry in entries {
+        if let Some((context, of)) = context(entry) {
+            tables.set_context(context, of)?;
+        }
+    }
+    Ok(())
+}
+
 fn number_all(tables: &mut TableEnv, entries: &[Value]) -> Result<(), AllocError>
-    ensures entries { OnOk result (tables.new.blocks ≡ with_all numbered_of (items_view entries.now) tables.old.blocks) }
+    ensures entries { OnOk result (tables.new.blocks ≡ with_all with_first numbered_of (items_view entries.now) tables.old.blocks) }
     ensures others { OnOk result (tables.new ≡ record tables.old { blocks = tables.new.blocks }) }
 {
     for entry in entries {
@@ -163,6 +245,7 @@ fn fill(tables: &mut TableEnv, env: &Value) -> Result<(), AllocError>
     disable_all(tables, entries_of(env, "disabled"))?;
     decide_all(tables, entries_of(env, "preds"))?;
     name_all(tables, entries_of(env, "hygiene"))?;
+    frame_all(tables, entries_of(env, "contexts"))?;
     number_all(tables, entries_of(env, "blocks"))
 }
 

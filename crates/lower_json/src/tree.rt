@@ -3,12 +3,12 @@
 ghost use Rattle.std.specs.Prelude.{◌≡◌, IfOk, Some};
 ghost use Rattle.serde_json.specs.View.{view, items_view};
 ghost use Rattle.json_nodes.specs.Nodes.{here};
-ghost use Rattle.json_nodes.specs.Others.{function};
 ghost use Rattle.lower_json.specs.Reads.{Reads};
 ghost use Rattle.lower_json.specs.Reading as spec;
-ghost use Rattle.lower_json.specs.Reading.{of_kind, expr_kind, node_at, tree_at};
+ghost use Rattle.lower_json.specs.Reading.{of_kind, expr_kind, node_at, tree_of, tree_at};
 
-use hir_syntax::ast::{Expr, ExprKind, Fn as Function, Stmt};
+use crate::document::{Root, Tree};
+use hir_syntax::ast::{Expr, ExprKind, Stmt};
 use hir_syntax::node::NodeId;
 use json_faults::kinds::kind_at;
 use json_faults::value::item_at;
@@ -22,6 +22,7 @@ use json_nodes::operations::operation;
 use json_nodes::others::{function, other, statement};
 use json_nodes::part::AnyPart;
 use json_nodes::partless::partless;
+use json_nodes::paths::{of_path, path};
 use serde_json::Value;
 use std::alloc::{AllocError, Global};
 
@@ -94,14 +95,17 @@ fn other_than_expr<P: ReadParts>(
     requires { P.can node.now.parts.now }
     ensures { IfOk result (λ part. part ≡ spec.other_than_expr (here P.parts node.now) kind) }
 {
-    match statement(node, kind)? {
-        Some(kind) => Ok(Some(AnyPart::Stmt(Stmt {
+    if let Some(kind) = statement(node, kind)? {
+        return Ok(Some(AnyPart::Stmt(Stmt {
             id: node.id,
             range: node.range,
             kind,
-        }))),
-        None => other(node, kind),
+        })));
     }
+    if let Some(part) = of_path(node, kind)? {
+        return Ok(Some(part));
+    }
+    other(node, kind)
 }
 
 /// What stands at a node of a kind.
@@ -172,27 +176,33 @@ fn read_part(
     part_at(alloc, &inside, value, at, kind)
 }
 
-fn function_at<P: ReadParts>(
+fn tree_of<P: ReadParts>(
     alloc: Global,
+    want: Root,
     parts: &P,
     value: &Value,
     at: u32,
-) -> Result<Function, AllocError>
+) -> Result<Tree, AllocError>
     requires { P.can parts.now }
-    ensures { IfOk result (λ tree. tree ≡ function (node_at (P.parts parts.now) at (view value.now))) }
+    ensures { IfOk result (λ tree. tree ≡ tree_of want (node_at (P.parts parts.now) at (view value.now))) }
 {
-    function(&node_at(alloc, parts, value, at))
+    let node = node_at(alloc, parts, value, at);
+    match want {
+        Root::Fn => Ok(Tree::Fn(function(&node)?)),
+        Root::Path => Ok(Tree::Path(path(&node)?)),
+    }
 }
 
-/// The function that stands at the root. Past the end it is one that says nothing.
+/// The tree whose root is wanted. Past the end the root says nothing.
 #[tactic(auto, unfolding(crate::specs::Reading::tree_at))]
 pub fn read_tree_at(
     alloc: Global,
+    want: Root,
     kinds: &[Option<Kind>],
     nodes: &[Value],
     root: u32,
-) -> Result<Function, AllocError>
-    ensures { IfOk result (λ tree. tree ≡ tree_at kinds.now (items_view nodes.now) root) }
+) -> Result<Tree, AllocError>
+    ensures { IfOk result (λ tree. tree ≡ tree_at want kinds.now (items_view nodes.now) root) }
 {
     let inside = Level {
         kinds,
@@ -201,7 +211,7 @@ pub fn read_tree_at(
         read: read_part,
     };
     match item_at(nodes, root as usize) {
-        Some(value) => function_at(alloc, &inside, value, root),
-        None => function_at(alloc, &inside, &Value::Null, root),
+        Some(value) => tree_of(alloc, want, &inside, value, root),
+        None => tree_of(alloc, want, &inside, &Value::Null, root),
     }
 }

@@ -1,4 +1,4 @@
-//! From a lowered body to its listing.
+//! From what was lowered to its listing.
 
 mod lines;
 mod numbering;
@@ -7,8 +7,10 @@ mod waiting;
 mod words;
 mod writer;
 
+use hir_store::path::Path;
 use hir_store::source_map::ExpressionStoreSourceMap;
 use hir_store::store::ExpressionStore;
+use hir_syntax::ast;
 use printer::Printer;
 use std::alloc::{AllocError, Global};
 
@@ -24,6 +26,23 @@ pub fn body_listing(
 ) -> Result<String, AllocError> {
     let mut printer = Printer::new(alloc, store, source_map, sources);
     let printed = printer.listing();
+    let text = printer.finish();
+    printed?;
+    Ok(text)
+}
+
+/// The listing of a path: a line with it, or that it is refused; where it isn't, one for each name of the written
+/// segments and one past the last; then as for a body. Only memory can fail.
+pub fn path_listing(
+    alloc: Global,
+    path: Option<&Path>,
+    written: &ast::Path,
+    store: &ExpressionStore,
+    source_map: &ExpressionStoreSourceMap,
+    sources: bool,
+) -> Result<String, AllocError> {
+    let mut printer = Printer::new(alloc, store, source_map, sources);
+    let printed = printer.path_listing(path, written);
     let text = printer.finish();
     printed?;
     Ok(text)

@@ -1,51 +1,34 @@
 //! The whole run.
 
-ghost use Rattle.std.specs.Prelude.{◌≡◌, ◌≢◌, ◌⊎◌, ◌↔◌, ◌∷◌, [], IsTrue, IfOk, IfErr, OnOk, IsErrOf, List, ℕ, codes, map, string_bytes};
-ghost use Rattle.lower_run.specs.Words.{IsCall};
-ghost use Rattle.lower_run.specs.Answers.{CameOf, Answered, ReadsAll, SaysSome};
+ghost use Rattle.std.specs.Prelude.{◌≡◌, ◌⊎◌, IfErr, None, List, ℕ};
+ghost use Rattle.lower_run.specs.Words.{called};
+ghost use Rattle.lower_run.specs.Answers.{CameOf, Answered, ReadsIn, SaysSome};
 ghost use Rattle.std.specs.Io.KnownBytes.{Appends};
 
 use crate::failure::Failure;
 use crate::input::read_all;
-use crate::listing::body_listing;
-use hir_lower::lower_body;
+use crate::listing::{body_listing, path_listing};
+use crate::mode::Mode;
+use hir_lower::{ExprCollector, LowerError, lower_body};
 use hir_store::ids::ModuleId;
+use hir_store::path::Path;
+use hir_store::source_map::ExpressionStoreSourceMap;
+use hir_store::store::ExpressionStore;
+use hir_syntax::ast;
 use hir_syntax::node::{AstPtr, HirFileId};
-use lower_json::document::Document;
+use lower_json::document::{Document, Tree};
 use lower_json::read::read_tree;
 use std::alloc::Global;
 use std::convert::AsStr;
 use std::io::{Read, Write};
 
-/// Whether the word is a mode.
-fn is_mode(word: &str) -> bool
-    ensures { IsTrue result ↔ (word.now ≡ codes "body") }
-{
-    word == "body"
-}
-
-/// Whether the words are those of a call: exactly one, which is a mode.
-#[tactic(auto, using(crate::proofs::Calls::more_is_no_call))]
-fn is_call<W: AsStr>(words: &[W]) -> bool
-    ensures { IsTrue result ↔ IsCall W.text words.now }
-{
-    let Some((word, more)) = words.split_first() else {
-        return false;
-    };
-    if !more.is_empty() {
-        return false;
-    }
-    is_mode(word.as_str())
-}
-
-/// The listing of a document's body.
-fn document_listing(alloc: Global, document: &Document) -> Result<String, Failure>
+/// The listing of a body.
+fn listed_body(alloc: Global, document: &Document, item: &ast::Fn) -> Result<String, Failure>
     ensures { IfErr result (λ e. (e ≡ Failure.Memory) ⊎ (e ≡ Failure.Full)) }
 {
-    let tree = &document.tree;
     let node = AstPtr {
-        node: tree.id,
-        range: tree.range,
+        node: item.id,
+        range: item.range,
     };
     let (body, source_map) = lower_body(
         alloc,
@@ -55,7 +38,7 @@ fn document_listing(alloc: Global, document: &Document) -> Result<String, Failur
         HirFileId(0),
         ModuleId(0),
         None,
-        tree.body.as_ref(),
+        item.body.as_ref(),
         false,
         false,
     )?;
@@ -65,11 +48,58 @@ fn document_listing(alloc: Global, document: &Document) -> Result<String, Failur
     listed.map_err(|_| Failure::Memory)
 }
 
-/// The listing of the document that a text is.
-fn listing(alloc: Global, text: &[u8]) -> Result<String, Failure>
-    ensures { CameOf text.now result }
+/// A lowered path, with the store that it names.
+fn lowered_path(
+    alloc: Global,
+    document: &Document,
+    path: &ast::Path,
+) -> Result<(Option<Path>, ExpressionStore, ExpressionStoreSourceMap), LowerError> {
+    let mut collector = ExprCollector::new(
+        alloc,
+        &document.env,
+        ModuleId(0),
+        HirFileId(0),
+        document.mode,
+    );
+    let lowered = collector.lower_path(path)?;
+    let (store, source_map) = collector.into_store()?;
+    Ok((lowered, store, source_map))
+}
+
+/// The listing of a path.
+fn listed_path(alloc: Global, document: &Document, path: &ast::Path) -> Result<String, Failure>
+    ensures { IfErr result (λ e. (e ≡ Failure.Memory) ⊎ (e ≡ Failure.Full)) }
 {
-    let document = read_tree(alloc, text)?;
+    let (lowered, store, source_map) = lowered_path(alloc, document, path)?;
+    let listed = path_listing(
+        alloc,
+        lowered.as_ref(),
+        path,
+        &store,
+        &source_map,
+        document.sources,
+    );
+    drop(lowered);
+    drop(store);
+    drop(source_map);
+    listed.map_err(|_| Failure::Memory)
+}
+
+/// The listing of a document's tree.
+fn document_listing(alloc: Global, document: &Document) -> Result<String, Failure>
+    ensures { IfErr result (λ e. (e ≡ Failure.Memory) ⊎ (e ≡ Failure.Full)) }
+{
+    match &document.tree {
+        Tree::Fn(item) => listed_body(alloc, document, item),
+        Tree::Path(path) => listed_path(alloc, document, path),
+    }
+}
+
+/// The listing of the document that a text is in a mode.
+fn listing(alloc: Global, mode: Mode, text: &[u8]) -> Result<String, Failure>
+    ensures { CameOf mode text.now result }
+{
+    let document = read_tree(alloc, mode.root(), text)?;
     let listed = document_listing(alloc, &document);
     drop(document);
     listed
@@ -77,15 +107,15 @@ fn listing(alloc: Global, text: &[u8]) -> Result<String, Failure>
 
 /// The listing of what stands in the input. The words are judged before the input is read.
 fn answer<W: AsStr, R: Read>(alloc: Global, words: &[W], input: &mut R) -> Result<String, Failure>
-    ensures usage { ¬ IsCall W.text words.now → (result ≡ Err Failure.Usage) × (input.new ≡ input.old) }
-    ensures called { result ≡ Err Failure.Usage → ¬ IsCall W.text words.now }
-    ensures answered { Answered (R.remaining input.old) (R.remaining input.new) result }
+    ensures usage { called W.text words.now ≡ None → (result ≡ Err Failure.Usage) × (input.new ≡ input.old) }
+    ensures called { result ≡ Err Failure.Usage → called W.text words.now ≡ None }
+    ensures answered { Answered (called W.text words.now) (R.remaining input.old) (R.remaining input.new) result }
 {
-    if !is_call(words) {
+    let Some(mode) = Mode::called(words) else {
         return Err(Failure::Usage);
-    }
+    };
     let text = read_all(alloc, input)?;
-    listing(alloc, text.as_slice())
+    listing(alloc, mode, text.as_slice())
 }
 
 /// Writes all of a text, and answers the status: 0, or 2 where the write failed.
@@ -112,8 +142,8 @@ pub fn run<W: AsStr, R: Read, O: Write, X: Write>(
     errors: &mut X,
 ) -> u8
     ensures status { (result ≡ 0) ⊎ (result ≡ 2) ⊎ (result ≡ 3) }
-    ensures usage { ¬ IsCall W.text words.now → (result ≡ 2) × (input.new ≡ input.old) × (out.new ≡ out.old) }
-    ensures document { result ≡ 0 → (text : List ℕ) × ReadsAll (R.remaining input.old) (R.remaining input.new) text × SaysSome text }
+    ensures usage { called W.text words.now ≡ None → (result ≡ 2) × (input.new ≡ input.old) × (out.new ≡ out.old) }
+    ensures document { result ≡ 0 → ReadsIn (called W.text words.now) (R.remaining input.old) (R.remaining input.new) SaysSome }
     ensures listed { result ≡ 0 → (text : List ℕ) × Appends (O.contents out.old) (O.contents out.new) text }
     ensures refused { result ≡ 3 → out.new ≡ out.old }
     ensures silent { result ≡ 0 → errors.new ≡ errors.old }

@@ -4,7 +4,7 @@ use hir_env::env::LowerEnv;
 use hir_lower::{BodySourceMap, lower_body};
 use hir_store::ids::{BlockId, DefWithBodyId, FunctionId, ModuleId};
 use hir_syntax::node::{AstPtr, HirFileId, NodeId, TextRange};
-use lower_json::document::Document;
+use lower_json::document::{Document, Root, Tree};
 use lower_json::fault::ReadError;
 use lower_json::read::read_tree;
 use std::alloc::Global;
@@ -31,6 +31,9 @@ fn entered(source_map: &BodySourceMap) -> [Option<BlockId>; 3] {
 
 /// The blocks that lowering enters, where an object answers.
 fn entered_in(alloc: Global, document: &Document) -> Option<[Option<BlockId>; 3]> {
+    let Tree::Fn(item) = &document.tree else {
+        return None;
+    };
     let object: &dyn LowerEnv = &document.env;
     let lowered = lower_body(
         alloc,
@@ -40,7 +43,7 @@ fn entered_in(alloc: Global, document: &Document) -> Option<[Option<BlockId>; 3]
         HirFileId(0),
         ModuleId(0),
         None,
-        document.tree.body.as_ref(),
+        item.body.as_ref(),
         false,
         false,
     );
@@ -56,7 +59,7 @@ fn entered_in(alloc: Global, document: &Document) -> Option<[Option<BlockId>; 3]
 }
 
 fn entered_in_text(alloc: Global, text: &str) -> Result<Option<[Option<BlockId>; 3]>, ReadError> {
-    let document = read_tree(alloc, text.as_bytes())?;
+    let document = read_tree(alloc, Root::Fn, text.as_bytes())?;
     let blocks = entered_in(alloc, &document);
     drop(document);
     Ok(blocks)

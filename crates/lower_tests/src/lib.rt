@@ -10,4 +10,6 @@ mod limits;
 #[cfg(test)]
 mod listings;
 #[cfg(test)]
+mod paths;
+#[cfg(test)]
 mod streams;

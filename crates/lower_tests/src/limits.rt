@@ -61,8 +61,11 @@ fn path_of_f(alloc: Global) -> Result<Expr, AllocError> {
     let path = Path {
         id: NodeId(3),
         range: range(3),
+        leading: false,
+        use_: None,
         segs,
     };
+    let path = Boxed::new(alloc, path)?;
     Ok(expr(2, ExprKind::PathExpr { path: Some(path) }))
 }
 

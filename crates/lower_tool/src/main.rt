@@ -1,4 +1,4 @@
-//! Reads a document from standard input and prints what its body is lowered to.
+//! Reads a document from standard input and prints what it is lowered to.
 #![tactic(auto)]
 
 use lower_run::failure::Failure;

@@ -7,8 +7,10 @@ use super::words::{expr_word, statement_word};
 use super::writer::Writer;
 use hir_store::hir::Statement;
 use hir_store::ids::{ExprId, LabelId};
+use hir_store::path::Path;
 use hir_store::source_map::ExpressionStoreSourceMap;
 use hir_store::store::ExpressionStore;
+use hir_syntax::ast;
 use std::alloc::{AllocError, Global};
 
 /// Prints the expressions of a store.
@@ -64,9 +66,30 @@ impl<'a> Printer<'a> {
         writer.finish()
     }
 
-    /// Prints the whole listing: the body, then its labels by number, then the diagnostics.
+    /// Prints the whole listing of a body: the body, then its labels by number, then the diagnostics.
     pub fn listing(&mut self) -> Result<(), AllocError> {
         self.body()?;
+        self.others()
+    }
+
+    /// Prints the whole listing of a path: the path, the names of its segments, then as for a body.
+    pub fn path_listing(
+        &mut self,
+        path: Option<&Path>,
+        written: &ast::Path,
+    ) -> Result<(), AllocError> {
+        match path {
+            Some(path) => {
+                lines::path(&mut self.writer, path)?;
+                lines::segments(&mut self.writer, written.segs.as_slice())?;
+            }
+            None => self.writer.word("path None\n")?,
+        }
+        self.others()
+    }
+
+    /// Prints the labels by number, then the diagnostics.
+    fn others(&mut self) -> Result<(), AllocError> {
         lines::labels(
             &mut self.writer,
             self.labels.as_slice(),

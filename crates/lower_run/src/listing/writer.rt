@@ -4,7 +4,7 @@ use super::numbering::Numbering;
 use hir_store::hir::Literal;
 use hir_store::ids::HygieneId;
 use hir_store::name::Name;
-use hir_store::path::{ModPath, Path};
+use hir_store::path::{ModPath, Path, PathKind};
 use hir_syntax::ast::LiteralKind;
 use hir_syntax::node::{AstPtr, InFile};
 use std::alloc::{AllocError, Global};
@@ -87,7 +87,7 @@ impl Writer {
         }
     }
 
-    /// Adds a path of an expression: its names joined by `::`, then `!h` where its hygiene h isn't the root's.
+    /// Adds a path: where it begins and its names, joined by `::`, then `!h` where its hygiene h isn't the root's.
     pub fn path(&mut self, path: &Path, hygiene: HygieneId) -> Result<(), AllocError> {
         match path {
             Path::BarePath(path) => self.mod_path(path)?,
@@ -99,10 +99,39 @@ impl Writer {
     }
 
     fn mod_path(&mut self, path: &ModPath) -> Result<(), AllocError> {
-        let mut before = "";
+        self.path_kind(path.kind)?;
+        let mut before = match path.kind {
+            PathKind::Plain | PathKind::Abs => "",
+            _ => "::",
+        };
         for name in path.segments.as_slice() {
             self.word(before)?;
             self.name(name)?;
+            before = "::";
+        }
+        Ok(())
+    }
+
+    /// Adds where a path begins: nothing or `::`, a keyword, `super` n times, or a crate's root by its number.
+    fn path_kind(&mut self, kind: PathKind) -> Result<(), AllocError> {
+        match kind {
+            PathKind::Plain => Ok(()),
+            PathKind::Abs => self.word("::"),
+            PathKind::Super(0) => self.word("self"),
+            PathKind::Super(levels) => self.supers(levels),
+            PathKind::Crate => self.word("crate"),
+            PathKind::DollarCrate(root) => {
+                self.numbered("$crate(", root.0)?;
+                self.word(")")
+            }
+        }
+    }
+
+    fn supers(&mut self, levels: u32) -> Result<(), AllocError> {
+        let mut before = "";
+        for _ in 0..levels {
+            self.word(before)?;
+            self.word("super")?;
             before = "::";
         }
         Ok(())

@@ -1,0 +1,54 @@
+-- Paths and their segments.
+use Rattle.std.specs.Prelude.{codes, ℕ, List, [], ◌∷◌, Option, Some, None, option_and_then}
+use Rattle.serde_json.specs.Find.{get}
+use Rattle.hir_syntax.specs.declared.ast.Path.{Path, roll-Path}
+use Rattle.hir_syntax.specs.declared.ast.PathSegment.{PathSegment}
+use Rattle.hir_syntax.specs.declared.ast.SegmentKind.{SegmentKind}
+use Rattle.hir_syntax.specs.declared.ast.SegmentKind.TheVariants as written
+use Rattle.json_kinds.specs.ByWord.{with_word}
+use Rattle.json_kinds.specs.declared.kind.Kind.{Kind}
+use Rattle.json_kinds.specs.declared.kind.Kind.TheVariants as kind
+use Rattle.json_nodes.specs.Fields.{flag_of, text_in}
+use Rattle.json_nodes.specs.Groups.{as_path, as_segment}
+use Rattle.json_nodes.specs.Parts.{Here, part_in, list_with_nulls_in, name_in}
+use Rattle.json_nodes.specs.declared.part.AnyPart.{AnyPart}
+use Rattle.json_nodes.specs.declared.part.AnyPart.TheVariants as part
+
+-- the word of a kind of segments
+abbrev pub segment_word : SegmentKind → List ℕ
+segment_word written.Name = codes "name"
+segment_word written.SelfKw = codes "self"
+segment_word written.CrateKw = codes "crate"
+segment_word written.SuperKw = codes "super"
+segment_word written.SelfTypeKw = codes "Self"
+
+-- all kinds of segments
+abbrev pub segment_kinds : List SegmentKind
+segment_kinds = written.Name ∷ written.SelfKw ∷ written.CrateKw ∷ written.SuperKw ∷ written.SelfTypeKw ∷ []
+
+-- the kind of segments whose word it is
+abbrev pub segment_kind_of : List ℕ → Option SegmentKind
+segment_kind_of word = with_word segment_word segment_kinds word
+
+unfoldable pub segment : Here → PathSegment
+segment h = record {
+  id = h.id;
+  range = h.range;
+  seg = option_and_then segment_kind_of (text_in (codes "seg") h.value);
+  name = name_in h (codes "name");
+}
+
+unfoldable pub path : Here → Path
+path h = roll-Path (record {
+  id = h.id;
+  range = h.range;
+  leading = flag_of (get (codes "leading") h.value);
+  use_ = part_in h as_path (codes "use");
+  segs = list_with_nulls_in h as_segment (codes "segs");
+})
+
+-- a path or a segment
+abbrev pub of_path : Here → Kind → Option AnyPart
+of_path h kind.Path = Some (part.Path (path h))
+of_path h kind.PathSegment = Some (part.Segment (segment h))
+of_path h _ = None

@@ -1,0 +1,78 @@
+//! Paths and their segments.
+
+ghost use Rattle.std.specs.Prelude.{◌≡◌, IfOk, codes, option_and_then};
+ghost use Rattle.serde_json.specs.View.{view};
+ghost use Rattle.json_nodes.specs.Fields.{text_in};
+ghost use Rattle.json_nodes.specs.Nodes.{here};
+ghost use Rattle.json_nodes.specs.Paths as spec;
+
+use crate::field::{flag, text};
+use crate::node::{Node, ReadParts};
+use crate::part::AnyPart;
+use hir_syntax::ast::{Path, PathSegment, SegmentKind};
+use json_kinds::kind::Kind;
+use serde_json::Value;
+use std::alloc::AllocError;
+
+/// The kind with that word.
+fn segment_kind_of(word: &str) -> Option<SegmentKind>
+    ensures { result ≡ spec.segment_kind_of word.now }
+{
+    match word {
+        "name" => Some(SegmentKind::Name),
+        "self" => Some(SegmentKind::SelfKw),
+        "crate" => Some(SegmentKind::CrateKw),
+        "super" => Some(SegmentKind::SuperKw),
+        "Self" => Some(SegmentKind::SelfTypeKw),
+        _ => None,
+    }
+}
+
+fn segment_kind(node: &Value) -> Option<SegmentKind>
+    ensures { result ≡ option_and_then spec.segment_kind_of (text_in (codes "seg") (view node.now)) }
+{
+    segment_kind_of(text(node, "seg")?)
+}
+
+#[tactic(auto, unfolding(crate::specs::Paths::segment))]
+fn segment<P: ReadParts>(node: &Node<'_, P>) -> Result<PathSegment, AllocError>
+    requires { P.can node.now.parts.now }
+    ensures { IfOk result (λ segment. segment ≡ spec.segment (here P.parts node.now)) }
+{
+    Ok(PathSegment {
+        id: node.id,
+        range: node.range,
+        seg: segment_kind(node.value),
+        name: node.name("name")?,
+    })
+}
+
+/// A path.
+#[tactic(auto, unfolding(crate::specs::Paths::path))]
+pub fn path<P: ReadParts>(node: &Node<'_, P>) -> Result<Path, AllocError>
+    requires { P.can node.now.parts.now }
+    ensures { IfOk result (λ path. path ≡ spec.path (here P.parts node.now)) }
+{
+    Ok(Path {
+        id: node.id,
+        range: node.range,
+        leading: flag(node.value, "leading"),
+        use_: node.boxed::<Path>("use")?,
+        segs: node.list_with_nulls::<PathSegment>("segs")?,
+    })
+}
+
+/// A path or a segment.
+pub fn of_path<P: ReadParts>(
+    node: &Node<'_, P>,
+    kind: Kind,
+) -> Result<Option<AnyPart>, AllocError>
+    requires { P.can node.now.parts.now }
+    ensures { IfOk result (λ part. part ≡ spec.of_path (here P.parts node.now) kind) }
+{
+    match kind {
+        Kind::Path => Ok(Some(AnyPart::Path(path(node)?))),
+        Kind::PathSegment => Ok(Some(AnyPart::Segment(segment(node)?))),
+        _ => Ok(None),
+    }
+}

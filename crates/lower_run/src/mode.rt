@@ -1,0 +1,48 @@
+//! What the program is asked for.
+
+ghost use Rattle.std.specs.Prelude.{◌≡◌};
+ghost use Rattle.lower_run.specs.Words.{called, mode_with, root_of};
+
+use lower_json::document::Root;
+use std::convert::AsStr;
+
+/// What of a document is lowered.
+#[derive(Clone, Copy, Debug, PartialEq, Eq)]
+pub enum Mode {
+    Path,
+    Body,
+}
+
+impl Mode {
+    fn with_word(word: &str) -> Option<Mode>
+        ensures { result ≡ mode_with word.now }
+    {
+        match word {
+            "path" => Some(Mode::Path),
+            "body" => Some(Mode::Body),
+            _ => None,
+        }
+    }
+
+    /// The mode that the words call for: exactly one word, which is a mode's.
+    #[tactic(auto, using(crate::proofs::Calls::more_is_no_call))]
+    pub fn called<W: AsStr>(words: &[W]) -> Option<Mode>
+        ensures { result ≡ called W.text words.now }
+    {
+        let (word, more) = words.split_first()?;
+        if !more.is_empty() {
+            return None;
+        }
+        Mode::with_word(word.as_str())
+    }
+
+    /// What the root of a document has to be.
+    pub fn root(self) -> Root
+        ensures { result ≡ root_of self }
+    {
+        match self {
+            Mode::Path => Root::Path,
+            Mode::Body => Root::Fn,
+        }
+    }
+}
