@@ -1,5 +1,6 @@
 -- Steps whose answers stand for what is written, and the forms that are made of them.
-use Rattle.std.proofs.Common.{◌≡◌, ◌∙◌, refl, sym, ap, subst, List, [], ◌∷◌, length, length-append, slice_get, Option, Some, None, option_map}
+use Rattle.std.proofs.Common.{◌≡◌, ◌∙◌, refl, sym, ap, subst, List, [], ◌∷◌, length, length-append, slice_get}
+use Rattle.std.proofs.Common.{Option, Some, None, option_map}
 use Rattle.std.proofs.Common.{arith, Bool, true, false}
 use Rattle.indexmap.specs.IndexMap.{insert_entry}
 use Rattle.hir_syntax.specs.declared.ast.Literal.{Literal as AstLiteral}
@@ -44,11 +45,11 @@ use Rattle.hir_steps.proofs.Steps.{Mark, Rel, Correct, Allocated, Opened, correc
 use Rattle.hir_steps.proofs.Steps.{correct_enter_block, correct_alloc, correct_opened, correct_target, with_fault, with_target, with_jump}
 use Rattle.hir_steps.proofs.Steps.{with_block, with_await, correct_report_await, correct_both}
 use Rattle.hir_one_result.specs.Forms.{leaf_form, unary_form, binary_form, leaving_form}
-use Rattle.hir_one_result.specs.Leads.{Ways, OneWay, OneMissing, OneLabelWay, ◌&◌}
+use Rattle.hir_one_result.specs.Leads.{Ways, OneWay, OneMissing, OneLabelWay, OneFieldWay, ◌&◌}
 use Rattle.hir_one_result.specs.Stands.{Open, Absent, There, ExprAt, LabelAt, StandsMissing, StandsAlone, StandsPath, StandsLiteral}
 use Rattle.hir_one_result.specs.Stands.{StandsOver, StandsOverTwo, StandsList, InLabel}
 use Rattle.hir_one_result.proofs.Leading.{Shown, shown_as, shown_none, shown_own, shown_label, shown_both, shown_swap, shown_after}
-use Rattle.hir_one_result.proofs.Leading.{shown_before, shown_unled, Moved, moved_same, moved_then, OnlyNew, none_new}
+use Rattle.hir_one_result.proofs.Leading.{shown_before, shown_unled, shown_field, Moved, moved_same, moved_then, OnlyNew, none_new}
 use Rattle.hir_one_result.proofs.Data.{PathIs, path_is}
 
 abbrev pub Of : Type 0 → Type 1
@@ -64,33 +65,34 @@ pub record Shows {A : Type 0} (S : Of A) (final : Stored) (ps : List Frame) (m m
 -- what steps store, and where they lead
 
 pub moved_pure : {a b : Mark} → b ≡ a → Moved a.stored b.stored []
-moved_pure {a = a} e = moved_same a.stored a.stored (ap (λ m. m.stored) e) refl refl
+moved_pure {a = a} e = moved_same a.stored a.stored (ap (λ m. m.stored) e) refl refl refl
 
 pub moved_fault : (d : ExpressionStoreDiagnostics) {a b : Stored} → b ≡ with_fault d a → Moved a b []
-moved_fault d {a = a} e = moved_same a (with_fault d a) e refl refl
+moved_fault d {a = a} e = moved_same a (with_fault d a) e refl refl refl
 
-target_leads : {A : Type 0} (j : Jump) (t : Target A) (s : Stored)
-    → ((with_target j t s).exprs ≡ s.exprs) × ((with_target j t s).labels ≡ s.labels)
-target_leads j (reachable n) s = (refl, refl)
-target_leads j unreachable s = (refl, refl)
-target_leads j undeclared s = (refl, refl)
+-- the same expressions, labels and fields
+abbrev SameWays : Stored → Stored → Type 0
+SameWays a b = (b.exprs ≡ a.exprs) × (b.labels ≡ a.labels) × (b.field_map_back ≡ a.field_map_back)
 
-jump_leads : {A : Type 0} (j : Option Jump) (rs : List (Rib A)) (s : Stored)
-    → ((with_jump j rs s).exprs ≡ s.exprs) × ((with_jump j rs s).labels ≡ s.labels)
-jump_leads None rs s = (refl, refl)
+target_leads : {A : Type 0} (j : Jump) (t : Target A) (s : Stored) → SameWays s (with_target j t s)
+target_leads j (reachable n) s = (refl, refl, refl)
+target_leads j unreachable s = (refl, refl, refl)
+target_leads j undeclared s = (refl, refl, refl)
+
+jump_leads : {A : Type 0} (j : Option Jump) (rs : List (Rib A)) (s : Stored) → SameWays s (with_jump j rs s)
+jump_leads None rs s = (refl, refl, refl)
 jump_leads (Some j) rs s = target_leads j (target j rs) s
 
 moved_jump : (j : Option Jump) (ps : List Frame) (a : Stored) {b : Stored} → b ≡ with_jump j (ribs ps) a → Moved a b []
-moved_jump j ps a is = let same = jump_leads j (ribs ps) a in moved_same a (with_jump j (ribs ps) a) is same.0 same.1
+moved_jump j ps a is = let same = jump_leads j (ribs ps) a in moved_same a (with_jump j (ribs ps) a) is same.0 same.1 same.2
 
-block_leads : (n : Option BlockId) (s : Stored) → ((with_block n s).exprs ≡ s.exprs) × ((with_block n s).labels ≡ s.labels)
-block_leads None s = (refl, refl)
-block_leads (Some n) s = (refl, refl)
+block_leads : (n : Option BlockId) (s : Stored) → SameWays s (with_block n s)
+block_leads None s = (refl, refl, refl)
+block_leads (Some n) s = (refl, refl, refl)
 
-await_leads : (at : Pointer) (location : Option AwaitLocation) (s : Stored)
-    → ((with_await at location s).exprs ≡ s.exprs) × ((with_await at location s).labels ≡ s.labels)
-await_leads at None s = (refl, refl)
-await_leads at (Some location) s = (refl, refl)
+await_leads : (at : Pointer) (location : Option AwaitLocation) (s : Stored) → SameWays s (with_await at location s)
+await_leads at None s = (refl, refl, refl)
+await_leads at (Some location) s = (refl, refl, refl)
 
 module _ {e : HirExpr} {final : Stored} {ps : List Frame} {m m' : Mark} {i : ExprId} where
   pub expr_at : {at : Option Pointer} → Allocated e at final ps m m' i → Placed final i e at
@@ -114,10 +116,12 @@ module _ {e : HirExpr} {final : Stored} {ps : List Frame} {m m' : Mark} {i : Exp
       (ap (λ s. s.exprs.map) row.stored
       ∙ ap (λ n. insert_entry same_pointer m.stored.exprs.map at (expr_id n)) (sym (row.number ∙ row.last)))
       (ap (λ s. s.labels) row.stored)
+      (ap (λ s. s.field_map_back) row.stored)
       (one_more row)
 
   unled : Allocated e None final ps m m' i → Shown (OneMissing i) m.stored m'.stored
-  unled row = shown_unled i (ap (λ s. s.exprs.map) row.stored) (ap (λ s. s.labels) row.stored) (one_more row)
+  unled row = shown_unled i (ap (λ s. s.exprs.map) row.stored) (ap (λ s. s.labels) row.stored)
+      (ap (λ s. s.field_map_back) row.stored) (one_more row)
 
 module _ {A B : Type 0} {at : Label → LabelId → Frame} {l : Label} {R : LabelId → Rel A} {Q : LabelId → A → Rel B}
     {final : Stored} {ps : List Frame} {m m' : Mark} {b : B} where
@@ -133,6 +137,7 @@ module _ {A B : Type 0} {at : Label → LabelId → Frame} {l : Label} {R : Labe
       (ap (λ s. s.exprs) row.stored)
       (ap (λ s. s.labels.map) row.stored
       ∙ ap (λ n. insert_entry same_pointer m.stored.labels.map l.pointer (label_id n)) (sym (row.new ∙ row.last)))
+      (ap (λ s. s.field_map_back) row.stored)
       (ap (λ s. length s.labels.entries) row.stored ∙ length-append m.stored.labels.entries (record { name = l.name } ∷ []))
       (row.new ∙ row.last)
 
@@ -174,7 +179,7 @@ leaf_stands at form = correct_as (alone_stands (stored_leaf form) at) (λ final 
     record { shown = shown_as row.shown (λ ws y. (subst (λ e. Placed final i e (Some at)) (leaf_is form) y.0, y.1)) })
 
 moved_aside : {A : Type 0} {final : Stored} {ps : List Frame} {m m' : Mark} {a : A} → Aside final ps m m' a → Moved m.stored m'.stored []
-moved_aside {m' = m'} row = moved_same _ m'.stored refl row.exprs_are row.labels_are
+moved_aside {m' = m'} row = moved_same _ m'.stored refl row.exprs_are row.labels_are row.field_map_back
 
 path_shown : {final : Stored} {qs : List Frame} {m m' : Mark} {i : ExprId} (at : Pointer) (h : HygieneId) (d : Option PathData)
     (e : HirExpr)
@@ -377,16 +382,17 @@ module _ (at : Pointer) where
             (record_is final (ribs ps) S i row.one (written_path p) row.first.other.is));
       })
 
-  -- a field, and its value
+  -- a field: its value, which leads to it
   pub field_stands : (name : Name) {e : ExprSteps} {S : Of ExprId} → Correct e (Shows S)
       → Correct (field_form at name e) (Shows (λ final rs o ws. (value : ExprId) × (o ≡ Some (record { name = name; expr = value }))
-      × S final rs value ws))
+      × (S final rs value & OneFieldWay value at) ws))
   unfolding field_form
   field_stands name h = correct_as (correct_bind h (λ i. correct_bind (correct_point_field i at) (λ u. correct_pure _)))
       (λ final ps m m' o g row. let r = row.second in
-      let moved = moved_then (moved_same row.middle.stored (with_field row.one at row.middle.stored) r.first.stored refl refl)
-      (moved_pure r.second.still) in
-      record { shown = shown_as (shown_before row.first.shown moved) (λ ws y. (row.one, r.second.is, y)) })
+      let before = row.middle.stored in
+      let leads = shown_field before (with_field row.one at before) row.one at r.first.stored refl refl refl in
+      let both = shown_both row.first.shown (shown_before leads (moved_pure r.second.still)) in
+      record { shown = shown_as both (λ ws y. (row.one, r.second.is, y)) })
 
   pub await_stands : (location : Option AwaitLocation) {e : ExprSteps} {S : Of ExprId} → Correct e (Shows S)
       → Correct (await_form at location e)
@@ -397,7 +403,7 @@ module _ (at : Pointer) where
       (λ final ps m m' i g row.
       let r = row.second in
       let same = await_leads at location row.middle.stored in
-      let moved = moved_same row.middle.stored (with_await at location row.middle.stored) r.first.stored same.0 same.1 in
+      let moved = moved_same row.middle.stored (with_await at location row.middle.stored) r.first.stored same.0 same.1 same.2 in
       let parts = shown_both (shown_before row.first.shown moved) (own r.second) in
       record { shown = shown_as parts (λ ws x. (row.one, expr_at r.second, x)) })
 
@@ -429,6 +435,7 @@ module _ (at : Pointer) where
       let r = row.second in
       let own : Shown (OneWay at row.one) row.middle.stored r.middle.stored =
       shown_own at row.one (ap (λ s. s.exprs.map) r.first.stored) (ap (λ s. s.labels) r.first.stored)
+      (ap (λ s. s.field_map_back) r.first.stored)
       (none_new row.middle.stored r.middle.stored (ap (λ s. s.exprs.entries) r.first.stored)) in
       let x = shown_before (shown_both row.first.shown own) (moved_pure r.second.still) in
       record { shown = subst (λ k. Shown (S final (ribs ps) k & OneWay at k) m.stored m'.stored) (sym r.second.is) x })
@@ -446,7 +453,7 @@ module _ (at : Pointer) where
       (λ final ps m m' i g row.
       let same = block_leads number m.stored in
       let r = row.second in
-      let moved = moved_same m.stored (with_block number m.stored) row.first.stored same.0 same.1 in
+      let moved = moved_same m.stored (with_block number m.stored) row.first.stored same.0 same.1 same.2 in
       record { shown = shown_after moved (shown_as (shown_both r.first.shown (own r.second)) (λ ws x. (r.one, expr_at r.second, x))) })
 
 pub labelled_stands : (label : Option Label) {f : Option LabelId → ExprSteps} {S : Stored → Open → Option LabelId → ExprId → Ways}

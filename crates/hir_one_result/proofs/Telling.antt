@@ -306,9 +306,9 @@ module _ {X : Type 0} (L : Listing X) where
     -- where the path became this
     kept_where : {A B : Type 0} (f : A → B) (o : Option A) (d : Option B) → option_map f o ≡ d → (xs : List X)
         → where_some o xs ≡ where_some d xs
-    kept_where f o d e xs = by o ∙ ap (λ k. where_some k xs) e
+    kept_where {A = A} f o d e xs = by o ∙ ap (λ k. where_some k xs) e
       where
-        by : (o : Option A) → where_some o xs ≡ where_some (option_map f o) xs
+        by : (k : Option A) → where_some k xs ≡ where_some (option_map f k) xs
         by None = refl
         by (Some a) = refl
 

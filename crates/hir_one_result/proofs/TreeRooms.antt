@@ -1,5 +1,6 @@
 -- Lowering a tree stores as much as it becomes, or there is no room for it.
-use Rattle.std.proofs.Common.{◌≡◌, ◌∙◌, refl, ap, subst, is_some, arith, Bool, true, false, List, [], Option, Some, None, Ok, Err, inl, inr, ⊎_elim}
+use Rattle.std.proofs.Common.{◌≡◌, ◌∙◌, refl, ap, subst, is_some, arith, Bool, true, false, List, [], Option, Some, None, Ok, Err}
+use Rattle.std.proofs.Common.{inl, inr, ⊎_elim}
 use Rattle.hir_store.specs.Pointers.{Pointer}
 use Rattle.hir_store.specs.declared.hir.Expr.{Expr as HirExpr}
 use Rattle.hir_store.specs.declared.hir.Statement.{Statement}
@@ -31,7 +32,8 @@ use Rattle.hir_one_result.specs.Room.{fields_size, field_size, spread_size}
 use Rattle.hir_one_result.specs.Room.{label_size, front_size, size, size_part, size_present, size_kept, size_each, block_size}
 use Rattle.hir_one_result.specs.Room.{block_part_size, stmts_size, stmt_size}
 use Rattle.hir_one_result.proofs.Rooms.{Takes, Same, takes_then, takes_as, takes_end, takes_begin, takes_pure, takes_report}
-use Rattle.hir_one_result.proofs.Rooms.{takes_block, takes_close, takes_point, takes_jump, takes_alloc, takes_open, takes_report_await, takes_point_field}
+use Rattle.hir_one_result.proofs.Rooms.{takes_block, takes_close, takes_point, takes_jump, takes_alloc, takes_open, takes_report_await}
+use Rattle.hir_one_result.proofs.Rooms.{takes_point_field}
 use Rattle.hir_one_result.proofs.Tellings.{tells_then, tells_any, takes_of}
 use Rattle.hir_one_result.proofs.PathRooms.{GivesPath, option_seen, path_tells, args_tell, type_part_takes}
 use Rattle.hir_one_result.proofs.Rooms.{nothing_first, moved_in, moved_out}

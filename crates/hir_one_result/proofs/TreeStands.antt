@@ -25,7 +25,7 @@ use Rattle.hir_lower_form.specs.Lower.{kept_part}
 use Rattle.hir_lower_form.specs.Lower.{lower_each, lower_block, lower_block_part, lower_stmts}
 use Rattle.hir_steps.proofs.Frames.{ribs, ribs_frames}
 use Rattle.hir_steps.proofs.Steps.{Correct, correct_bind, correct_as, correct_pure, correct_report}
-use Rattle.hir_one_result.specs.Leads.{Ways, OneWay, ◌&◌}
+use Rattle.hir_one_result.specs.Leads.{Ways, OneWay, OneFieldWay, ◌&◌}
 use Rattle.hir_one_result.specs.Stands.{Open, ThereIf, statement_of, Stands, StandsPart, StandsPresent, StandsKept, StandsEach, StandsBlock}
 use Rattle.hir_one_result.specs.Stands.{StandsBlockPart, StandsContents}
 use Rattle.hir_one_result.specs.Laws.{AllStand}
@@ -178,8 +178,10 @@ mutual
   fields_stand done (tree.more_fields tree.nameless_field fs) = correct_as
       (correct_bind (correct_pure None) (λ x. fields_stand (push_some done x) fs))
       (λ final ps m m' is g row.
-      record { shown = shown_after (moved_pure row.first.still)
-          (left_out (fields final (ribs ps) fs) done row.one row.first.is row.second.shown) })
+      record {
+        shown = shown_after (moved_pure row.first.still)
+            (left_out (fields final (ribs ps) fs) done row.one row.first.is row.second.shown);
+      })
   fields_stand done (tree.more_fields (tree.named_field at name e) fs) = correct_as
       (correct_bind (field_stands at name (part_stands e)) (λ x. fields_stand (push_some done x) fs))
       (λ final ps m m' is g row.
@@ -187,11 +189,13 @@ mutual
       let q = row.second.shown in
       let v = s.shown.0 in
       let field : RecordLitField = record { name = name; expr = v } in
-      let value : Shown (part final (ribs ps) e v) m.stored row.middle.stored = record { ways = s.ways; shown = s.shown.2; moved = s.moved } in
+      let w = s.shown.2 in
       let others : Shown (fields final (ribs ps) fs q.shown.0) row.middle.stored m'.stored =
       record { ways = q.ways; shown = q.shown.2; moved = q.moved } in
       let is' = q.shown.1 ∙ (push_append done row.one q.shown.0 ∙ ap (λ o. done ++ (option_to_list o ++ q.shown.0)) s.shown.1) in
-      record { shown = shown_as (shown_both value others) (λ ws y. (field ∷ q.shown.0, is', (v, q.shown.0, refl, y))) })
+      let own : Shown (part final (ribs ps) e v & OneFieldWay v at) m.stored row.middle.stored =
+      record { ways = s.ways; shown = w; moved = s.moved } in
+      record { shown = shown_as (shown_both own others) (λ ws y. (field ∷ q.shown.0, is', (v, q.shown.0, refl, y))) })
 
   others_stand : (s : Spread) → Correct (lower_spread s) (Shows (λ final rs o. StandsOthers (store_of final) (map_of final) rs s o))
   others_stand tree.no_spread = correct_as (correct_pure spread.None) (λ final ps m m' o g row.

@@ -30,7 +30,7 @@ use Rattle.hir_meaning.specs.Data.{literal_data, literal_read}
 use Rattle.hir_meaning.specs.Left.{is_kept, is_left, gives_value}
 use Rattle.hir_meaning.specs.Contents.{BlockContents}
 use Rattle.hir_one_result.specs.Forms.{leaf_form, unary_form, binary_form, lazy_form, leaving_form}
-use Rattle.hir_one_result.specs.Leads.{Ways, No, OneWay, OneMissing, OneLabelWay, ◌&◌}
+use Rattle.hir_one_result.specs.Leads.{Ways, No, OneWay, OneMissing, OneLabelWay, OneFieldWay, ◌&◌}
 
 -- the numbers of the labels that are open, innermost first
 abbrev pub Open : Type 0
@@ -185,7 +185,7 @@ module _ (store : Store) (source_map : SourceMap) where
     StandsFields rs tree.no_fields is = λ ws. (is ≡ []) × No ws
     StandsFields rs (tree.more_fields (tree.named_field at name e) fs) is = λ ws.
         (value : ExprId) × (others : List RecordLitField) × (is ≡ record { name = name; expr = value } ∷ others)
-        × (StandsPart rs e value & StandsFields rs fs others) ws
+        × ((StandsPart rs e value & OneFieldWay value at) & StandsFields rs fs others) ws
     StandsFields rs (tree.more_fields f fs) is = StandsFields rs fs is
 
     pub StandsOthers : Open → Spread → RecordSpread → Ways

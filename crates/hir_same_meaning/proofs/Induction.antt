@@ -76,7 +76,8 @@ mutual
 
   fields_fine : (fs : Fields) (done : List RecordLitField)
       → Correct (lower_fields done fs) (Forms.Pushed done (Typed.FieldsAre (field_names fs) (λ turns. run_fields turns fs)))
-  fields_fine tree.no_fields done = correct_as (correct_pure done) (λ final ps m m' r g row. Forms.pushed_none done row.is Typed.fields_none)
+  fields_fine tree.no_fields done =
+      correct_as (correct_pure done) (λ final ps m m' r g row. Forms.pushed_none done row.is Typed.fields_none)
   fields_fine (tree.more_fields (tree.disabled_field at by f) fs) done = correct_as
       (correct_bind (correct_bind (correct_report (InactiveCode at by)) (λ u. correct_pure None)) (λ o. fields_fine fs (push_some done o)))
       (λ final ps m m' r g row. Typed.fields_skip done row.one row.first.second.is row.before row.second)

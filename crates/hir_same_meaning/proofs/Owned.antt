@@ -22,7 +22,7 @@ use Rattle.hir_store.specs.declared.diagnostics.AwaitLocation.{AwaitLocation}
 use Rattle.hir_store.specs.declared.diagnostics.ExpressionStoreDiagnostics.TheVariants.{InactiveCode}
 use Rattle.hir_env.specs.Answered as tree
 use Rattle.hir_env.specs.Answered.{Leaf, Unary, Binary, Listing, Leaving}
-use Rattle.hir_env.specs.Answered.{OptionType, OptionPath, OptionArgs, Label, Jump, Expr, OptionExpr, Exprs, Fields, Field, Spread}
+use Rattle.hir_env.specs.Answered.{OptionType, OptionPath, OptionArgs, Label, Jump, Expr, OptionExpr, Exprs, Fields, Field}
 use Rattle.hir_env.specs.Answered.{Block, OptionBlock, Stmts, Stmt}
 use Rattle.hir_lower_form.specs.Lowering.{Lowering, ◌>>=◌, pure, alloc_expr, report}
 use Rattle.hir_lower_form.specs.Lower.{ExprSteps, push_some, missing, some, if_form, loop_form, call_form, continue_form, break_form}
@@ -136,8 +136,10 @@ contents_owns : {p : Lowering (List RecordLitField)} {q : Lowering RecordSpread}
 unfolding record_contents
 contents_owns hp hq = correct_as (correct_bind hp (λ fs. correct_bind hq (λ s. correct_pure (fs, s))))
     (λ final ps m m' r g row. let s = row.second in rw s.second.is
-    (record { spread = λ d le. spread_append m.nodes m'.nodes (inl (omega arith)) (omega arith)
-      (row.first.spread d (omega arith)) (s.first.spread d (omega arith)) }))
+    (record {
+      spread = λ d le. spread_append m.nodes m'.nodes (inl (omega arith)) (omega arith)
+          (row.first.spread d (omega arith)) (s.first.spread d (omega arith));
+    }))
 
 module _ (at : Pointer) where
   operand_owns : (make : ExprId → HirExpr) {p : ExprSteps} → ((f : ExprId → List ℕ) (i : ExprId) → below f (make i) ≡ f i) → Correct p Owns
@@ -464,7 +466,7 @@ mutual
       (λ final ps m m' o g row. rw row.is (owns_none None (λ f. refl)))
   one_field_owns (tree.named_field at name e) = field_owns at name (part_owns e)
 
-  spread_owns : (s : Spread) → Correct (lower_spread s) (OwnsAs of_others)
+  spread_owns : (s : tree.Spread) → Correct (lower_spread s) (OwnsAs of_others)
   spread_owns tree.no_spread = correct_as (correct_pure spread.None)
       (λ final ps m m' o g row. rw row.is (owns_none spread.None (λ f. refl)))
   spread_owns tree.field_defaults = correct_as (correct_pure spread.FieldDefaults)

@@ -28,7 +28,8 @@ use Rattle.hir_meaning.specs.Run.{ends, pure as gives, ◌>>=◌, ask}
 use Rattle.hir_meaning.specs.Syntax.{run_record}
 use Rattle.hir_meaning.specs.Store.{others_form}
 use Rattle.hir_steps.proofs.Frames.{Frame}
-use Rattle.hir_steps.proofs.Steps.{Mark, Grows, Rel, Correct, Allocated, correct_bind, correct_as, correct_pure, correct_report, correct_alloc}
+use Rattle.hir_steps.proofs.Steps.{Mark, Grows, Rel, Correct, Allocated, correct_bind, correct_as, correct_pure, correct_report}
+use Rattle.hir_steps.proofs.Steps.{correct_alloc}
 use Rattle.hir_steps.proofs.Steps.{correct_point_field}
 use Rattle.hir_same_meaning.proofs.Relation.{same_bind, same_ask}
 use Rattle.hir_same_meaning.proofs.Senses.{Walk, one, many, others, Goes, Runs, goes_within, goes_at}
@@ -110,7 +111,8 @@ module _ (at : Pointer) where
 -- records
 
 -- what a field became
-pub record AsField (name : Name) (x : Walk Value) (final : Stored) (ps : List Frame) (m m' : Mark) (o : Option RecordLitField) : Type 0 where
+pub record AsField (name : Name) (x : Walk Value) (final : Stored) (ps : List Frame) (m m' : Mark)
+    (o : Option RecordLitField) : Type 0 where
   pub number : ExprId
   pub is : o ≡ Some (record { name = name; expr = number })
   pub rel : Goes m.labels m'.nodes one x final ps number
@@ -159,7 +161,8 @@ fields_more {final = final} {ps = ps} {m = m} {m1 = m1} {m' = m'} {name = name} 
     }
 
 -- what the other fields come from
-pub record OthersAre (form : SpreadForm) (x : Walk (List Value)) (final : Stored) (ps : List Frame) (m m' : Mark) (o : RecordSpread) : Type 0 where
+pub record OthersAre (form : SpreadForm) (x : Walk (List Value)) (final : Stored) (ps : List Frame) (m m' : Mark)
+    (o : RecordSpread) : Type 0 where
   pub form_is : others_form o ≡ form
   pub rel : Goes m.labels m'.nodes others x final ps o
 
