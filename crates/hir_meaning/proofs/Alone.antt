@@ -5,7 +5,7 @@ use Rattle.hir_env.specs.Answered as tree
 use Rattle.hir_env.specs.Answered.{Label, Expr, OptionExpr, Exprs, Fields, Spread, Block, OptionBlock, Stmts}
 use Rattle.hir_scope.specs.Scopes.{Scope, loop_scope, barrier, outward, scopes_in_block}
 use Rattle.hir_scope.proofs.Alone.{nothing_outside}
-use Rattle.hir_data.specs.Written.{written_type, written_args}
+use Rattle.hir_data.specs.Written.{written_path, written_type, written_args}
 use Rattle.hir_meaning.specs.Run.{Value, unit, is_true, call, method_call, cast, yielding, awaiting, break, continue, leave, became}
 use Rattle.hir_meaning.specs.Run.{ends, pure, ◌>>=◌, ◌>>◌, ask, tests, entering}
 use Rattle.hir_meaning.specs.Catching.{turn, loop}

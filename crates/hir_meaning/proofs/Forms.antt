@@ -2,7 +2,7 @@
 use Rattle.std.proofs.Common.{if◌then◌else◌, ◌∷◌, refl, ap}
 use Rattle.hir_env.specs.Answered as tree
 use Rattle.hir_env.specs.Answered.{Expr, Exprs}
-use Rattle.hir_data.specs.Reading.{stored_path}
+use Rattle.hir_data.specs.Reading.{stored_path, stored_args}
 use Rattle.hir_meaning.specs.Run.{ends, event, pure, ◌>>=◌}
 use Rattle.hir_meaning.specs.Catching.{loop, block}
 use Rattle.hir_meaning.specs.Left.{is_kept}
@@ -64,7 +64,7 @@ unfolding ends event ◌>>=◌ loop block run_store run_to stored_path
 makes_a_pair = record { written = record { events = refl; ends = refl }; stored = record { events = refl; ends = refl } }
 
 pub calls_the_method : CallsTheMethod
-unfolding ends event ◌>>=◌ loop block run_store run_to stored_path
+unfolding ends event ◌>>=◌ loop block run_store run_to stored_path stored_args
 calls_the_method = record { written = record { events = refl; ends = refl }; stored = record { events = refl; ends = refl } }
 
 pub makes_a_record : MakesARecord
