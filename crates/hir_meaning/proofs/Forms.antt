@@ -2,7 +2,7 @@
 use Rattle.std.proofs.Common.{if◌then◌else◌, ◌∷◌, refl, ap}
 use Rattle.hir_env.specs.Answered as tree
 use Rattle.hir_env.specs.Answered.{Expr, Exprs}
-use Rattle.hir_data.specs.Reading.{stored_path}
+use Rattle.hir_data.specs.Reading.{stored_path, stored_args}
 use Rattle.hir_meaning.specs.Run.{ends, event, pure, ◌>>=◌}
 use Rattle.hir_meaning.specs.Catching.{loop, block}
 use Rattle.hir_meaning.specs.Left.{is_kept}
@@ -10,7 +10,7 @@ use Rattle.hir_meaning.specs.Syntax.{run_expr}
 use Rattle.hir_meaning.specs.Store.{run_store, run_to}
 use Rattle.hir_meaning.specs.Forms.{OperatesInOrder, DecidesByLeft, DecidesByRight, ReturnsFromInside, EmptyTupleIsSilent}
 use Rattle.hir_meaning.specs.Forms.{MissesItsFront, LeavesOutTheSecond, ElementIsNothing, EntersTheUnsafe}
-use Rattle.hir_meaning.specs.Forms.{MakesAPair, CallsTheMethod, YieldsUnit, YeetsItsValue}
+use Rattle.hir_meaning.specs.Forms.{MakesAPair, MakesARecord, CallsTheMethod, YieldsUnit, YeetsItsValue}
 
 pub operates_in_order : OperatesInOrder
 unfolding ends event ◌>>=◌ loop block run_store run_to stored_path
@@ -64,8 +64,12 @@ unfolding ends event ◌>>=◌ loop block run_store run_to stored_path
 makes_a_pair = record { written = record { events = refl; ends = refl }; stored = record { events = refl; ends = refl } }
 
 pub calls_the_method : CallsTheMethod
-unfolding ends event ◌>>=◌ loop block run_store run_to stored_path
+unfolding ends event ◌>>=◌ loop block run_store run_to stored_path stored_args
 calls_the_method = record { written = record { events = refl; ends = refl }; stored = record { events = refl; ends = refl } }
+
+pub makes_a_record : MakesARecord
+unfolding ends event ◌>>=◌ loop block run_store run_to stored_path
+makes_a_record = record { written = record { events = refl; ends = refl }; stored = record { events = refl; ends = refl } }
 
 pub yields_unit : YieldsUnit
 unfolding ends event ◌>>=◌ loop block run_store run_to stored_path

@@ -112,6 +112,7 @@ from ns = record {
   label_map = [];
   types_map = [];
   lifetime_map = [];
+  field_map_back = [];
   block_scopes = [];
   diagnostics = [];
 }

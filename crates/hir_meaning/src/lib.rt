@@ -8,7 +8,7 @@ ghost use Rattle.hir_meaning.specs.Rows.{MissingIsNoLiteral, ParenthesesAreSilen
 ghost use Rattle.hir_meaning.specs.Turns.{EndsTheTurn, ContinuesTheOuter, BreaksTheOuter, HygienesDiffer, UndeclaredIsPlain, HasFreshTurns};
 ghost use Rattle.hir_meaning.specs.Forms.{OperatesInOrder, DecidesByLeft, DecidesByRight, ReturnsFromInside, EmptyTupleIsSilent};
 ghost use Rattle.hir_meaning.specs.Forms.{MissesItsFront, LeavesOutTheSecond, ElementIsNothing, EntersTheUnsafe};
-ghost use Rattle.hir_meaning.specs.Forms.{MakesAPair, CallsTheMethod, YieldsUnit, YeetsItsValue};
+ghost use Rattle.hir_meaning.specs.Forms.{MakesAPair, MakesARecord, CallsTheMethod, YieldsUnit, YeetsItsValue};
 ghost use Rattle.hir_meaning.specs.Endings.{MissingEndsTheLoop, StraysWithItsValue, StrayIsNoValue, InnerLabelHides};
 ghost use Rattle.hir_meaning.specs.Endings.{ContinuesPastTheBlock, AnswersNoPastTheEnd, ValueEndsTheLoop, ForeignIsNotEnclosed};
 
@@ -125,6 +125,11 @@ pub fn makes_a_pair()
 /// `a.m(b)` reads a, then b, and calls the method of that name with both.
 pub fn calls_the_method()
     ensures { CallsTheMethod }
+{}
+
+/// `c { m: a, m: a, ..b }` with a disabled second field is one record of the values of a and b.
+pub fn makes_a_record()
+    ensures { MakesARecord }
 {}
 
 /// `yield` yields unit, and its value is the answer.

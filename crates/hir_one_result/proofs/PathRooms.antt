@@ -67,10 +67,10 @@ seen_of Refused = refused
 seen_of (Ended w) = ended (seen w)
 seen_of (Open w) = goes_on (seen w)
 
-abbrev path_seen : HirPath → Seen
+abbrev pub path_seen : HirPath → Seen
 path_seen p = record { named = not (no_names (mod_path p).segments); supers = supers (mod_path p).kind }
 
-abbrev option_seen : Option HirPath → Option Seen
+abbrev pub option_seen : Option HirPath → Option Seen
 option_seen p = option_map path_seen p
 
 abbrev seen_with : ℕ → Bool → Seen
@@ -157,7 +157,7 @@ seen_self w = by (no_names w.names)
 abbrev Gives : Read → Reading → Type 0
 Gives read r = seen_of r ≡ read
 
-abbrev GivesPath : Option Seen → Option HirPath → Type 0
+abbrev pub GivesPath : Option Seen → Option HirPath → Type 0
 GivesPath x p = option_seen p ≡ x
 
 proceed_tells : (r : Reading) (read : Read) {f : PathWalk → Lowering Reading} (k : Seen → Size) (g : Seen → Read) → Gives read r

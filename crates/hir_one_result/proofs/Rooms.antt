@@ -18,7 +18,7 @@ use Rattle.hir_store.specs.declared.ids.BlockId.{BlockId}
 use Rattle.hir_env.specs.Answered.{Label, Jump}
 use Rattle.hir_scope.specs.Ribs.{Target, reachable, unreachable, undeclared, target}
 use Rattle.hir_lower_form.specs.Builder.{Builder}
-use Rattle.hir_lower_form.specs.Lowering.{Checked, go_on, Lowering, ◌>>=◌, pure, alloc_expr, point, report}
+use Rattle.hir_lower_form.specs.Lowering.{Checked, go_on, Lowering, ◌>>=◌, pure, alloc_expr, point, point_field, report}
 use Rattle.hir_lower_form.specs.Lowering.{enter_block, open_label, close, jump_target, found_or_fault, open_as, report_await}
 use Rattle.hir_store.specs.declared.type_ref.TypeRef.{TypeRef}
 use Rattle.hir_store.specs.declared.type_ref.LifetimeRef.{LifetimeRef}
@@ -265,6 +265,10 @@ takes_close = record { takes = λ b. took_besides _ _ refl refl refl refl refl }
 pub takes_point : (at : Pointer) (i : ExprId) → Takes nothing (point at i)
 unfolding point storing.point
 takes_point at i = record { takes = λ b. took_besides _ _ refl refl refl refl refl }
+
+pub takes_point_field : (i : ExprId) (at : Pointer) → Takes nothing (point_field i at)
+unfolding point_field storing.point_field
+takes_point_field i at = record { takes = λ b. took_besides _ _ refl refl refl refl refl }
 
 pub takes_jump : (j : Option Jump) → Takes nothing (jump_target j)
 unfolding jump_target report storing.report

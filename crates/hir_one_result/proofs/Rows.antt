@@ -13,7 +13,10 @@ use Rattle.hir_syntax.specs.declared.ast.Literal.{Literal as AstLiteral}
 use Rattle.hir_store.specs.Pointers.{Pointer}
 use Rattle.hir_store.specs.declared.hir.Literal.{Literal}
 use Rattle.hir_data.specs.Data.{PathData, path_data, names_in}
-use Rattle.hir_data.specs.Reading.{stored_path}
+use Rattle.hir_store.specs.declared.path.GenericArgs.{GenericArgs}
+use Rattle.hir_data.specs.Data.{no_args}
+use Rattle.hir_data.specs.Rule.{is_list}
+use Rattle.hir_data.specs.Reading.{stored_path, stored_args}
 use Rattle.hir_read_back.proofs.Lookup.{names_read}
 use Rattle.hir_meaning.specs.Data.{LiteralData, literal_data}
 use Rattle.hir_meaning.specs.Contents.{BlockContents}
@@ -136,6 +139,12 @@ module _ (store : Store) (source_map : SourceMap) where
         stored = literal_stored (at 1) _ v c.3.left c.3.first.2;
       }
 
+-- what reads back as no list is none
+no_list : (store : Store) (source_map : SourceMap) (g : Option GenericArgs) → stored_args store source_map g ≡ no_args → g ≡ None
+unfolding stored_args
+no_list store source_map None e = refl
+no_list store source_map (Some a) e = absurd (true≢false (ap is_list e))
+
 abbrev numbered_block : List Statement → Option ExprId → Option HirExpr
 numbered_block ss tail = Some (hir.Block true None (Some (block_id 7)) ss tail)
 
@@ -149,13 +158,14 @@ plain_forms = record {
     second = literal_stored store source_map (at 2) _ h.1 h.3.second.left h.3.second.first;
   };
   calls = λ store source_map i ws h.
-      let c = h.3.second.first in
+      let c = h.4.second.first in
       let v = c.3.first.0 in
       let is = c.2 ∙ (ap (λ o. option_to_list o ++ c.1) c.3.first.1 ∙ ap (λ xs. v ∷ xs) c.3.second.0) in record {
         one = h.0;
         other = v;
-        whole = h.2.stored ∙ ap (λ xs. Some (hir.MethodCall h.0 (letter 109) xs)) is;
-        first = literal_stored store source_map (at 1) _ h.0 h.3.left h.3.first;
+        whole = h.3.stored ∙ (ap (λ xs. Some (hir.MethodCall h.0 (letter 109) h.2 xs)) is
+            ∙ ap (λ g. Some (hir.MethodCall h.0 (letter 109) g (v ∷ []))) (no_list store source_map h.2 h.4.second.second.first.0));
+        first = literal_stored store source_map (at 1) _ h.0 h.4.left h.4.first;
         second = literal_stored store source_map (at 2) _ v c.3.left c.3.first.2;
       };
   disabled_element = λ by store source_map i ws h.

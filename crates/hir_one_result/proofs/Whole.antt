@@ -50,7 +50,7 @@ one_results limit owed e id new is =
       stands = standing.stands;
       covers = standing.covers;
       covers_labels = standing.covers_labels;
-      leads = standing.led [] (leads_nowhere refl refl);
+      leads = standing.led [] (leads_nowhere refl refl refl);
       labels = let l = standing.labels in omega arith;
       more = faults.more;
       faults = faults.is;

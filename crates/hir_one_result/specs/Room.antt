@@ -1,13 +1,13 @@
 -- How large a tree is: how many expressions and labels it becomes. Each written expression becomes one, but parentheses become
 -- none besides what is in them. An absent or disabled part is one missing expression, or none where the form knows none, and
 -- so is what stands in front of a tuple with a leading comma. Nothing in a disabled node becomes anything.
-use Rattle.std.specs.Prelude.{ℕ, ◌+◌, ◌<◌, ◌⊎◌, Option, Some, None, true, false, length}
+use Rattle.std.specs.Prelude.{ℕ, ◌+◌, ◌<◌, ◌⊎◌, Option, Some, None, true, false, is_some, length}
 use Rattle.hir_store.specs.Stored.{Stored}
 use Rattle.hir_env.specs.Answered as tree
-use Rattle.hir_env.specs.Answered.{Listing, Label, Expr, OptionExpr, Exprs, Block, OptionBlock, Stmts, Stmt}
+use Rattle.hir_env.specs.Answered.{Listing, Label, Expr, OptionExpr, Exprs, Fields, Field, Spread, Block, OptionBlock, Stmts, Stmt}
 use Rattle.hir_meaning.specs.Left.{is_kept}
 use Rattle.hir_one_result.specs.Size.{Size, nothing, an_expr, a_label, ◌∪◌, if_so}
-use Rattle.hir_one_result.specs.PathRoom.{whole_size}
+use Rattle.hir_one_result.specs.PathRoom.{whole_read, whole_size, type_part_size, args_size}
 
 abbrev pub label_size : Option Label → Size
 label_size None = nothing
@@ -36,7 +36,11 @@ abbrev mutual
   size (tree.binary_expr at form a b) = size_part a ∪ size_part b ∪ an_expr
   size (tree.lazy_expr at op a b) = size_part a ∪ size_part b ∪ an_expr
   size (tree.list_expr at form es) = size_each es ∪ front_size form ∪ an_expr
-  size (tree.method_call_expr at e name es) = size_part e ∪ size_each es ∪ an_expr
+  size (tree.method_call_expr at e name es generics) = size_part e ∪ size_each es ∪ args_size generics ∪ an_expr
+  size (tree.cast_expr at e t) = size_part e ∪ type_part_size t ∪ an_expr
+  -- where the path is absent or refused nothing else is read
+  size (tree.record_expr at p fs s) = whole_size p ∪ if_so (is_some (whole_read p)) (fields_size fs ∪ spread_size s) ∪ an_expr
+  size (tree.offset_of_expr at t names) = type_part_size t ∪ an_expr
   size (tree.leaving_expr at form e) = size_present e ∪ an_expr
   size (tree.become_expr at e) = size_part e ∪ an_expr
   size (tree.yield_expr at e) = size_present e ∪ an_expr
@@ -60,6 +64,20 @@ abbrev mutual
   pub size_each : Exprs → Size
   size_each tree.no_exprs = nothing
   size_each (tree.more_exprs e es) = if_so (is_kept e) (size e) ∪ size_each es
+
+  pub fields_size : Fields → Size
+  fields_size tree.no_fields = nothing
+  fields_size (tree.more_fields f fs) = field_size f ∪ fields_size fs
+
+  pub field_size : Field → Size
+  field_size (tree.disabled_field at by f) = nothing
+  field_size tree.nameless_field = nothing
+  field_size (tree.named_field at name e) = size_part e
+
+  pub spread_size : Spread → Size
+  spread_size tree.no_spread = nothing
+  spread_size tree.field_defaults = nothing
+  spread_size (tree.spread_of e) = size e
 
   pub block_size : Block → Size
   block_size (tree.block at is_unsafe label number ss e) = label_size label ∪ stmts_size ss ∪ size_kept e ∪ an_expr

@@ -46,6 +46,7 @@ pub record Aside {A : Type 0} (final : Stored) (ps : List Frame) (m m' : Mark) (
   pub labels_are : m'.stored.labels ≡ m.stored.labels
   pub diagnostics : m'.stored.diagnostics ≡ m.stored.diagnostics
   pub block_scopes : m'.stored.block_scopes ≡ m.stored.block_scopes
+  pub field_map_back : m'.stored.field_map_back ≡ m.stored.field_map_back
 
 pub aside_pure : {A : Type 0} (a : A) → Correct (pure a) Aside
 aside_pure a = correct_as (correct_pure a) (λ final ps m m' b g row. record {
@@ -55,6 +56,7 @@ aside_pure a = correct_as (correct_pure a) (λ final ps m m' b g row. record {
   labels_are = ap (λ x. x.stored.labels) row.still;
   diagnostics = ap (λ x. x.stored.diagnostics) row.still;
   block_scopes = ap (λ x. x.stored.block_scopes) row.still;
+  field_map_back = ap (λ x. x.stored.field_map_back) row.still;
 })
 
 pub aside_then : {A B : Type 0} {p : Lowering A} {f : A → Lowering B} → Correct p Aside → ((a : A) → Correct (f a) Aside)
@@ -66,6 +68,7 @@ aside_then h k = correct_as (correct_bind h k) (λ final ps m m' a g row. let on
   labels_are = two.labels_are ∙ one.labels_are;
   diagnostics = two.diagnostics ∙ one.diagnostics;
   block_scopes = two.block_scopes ∙ one.block_scopes;
+  field_map_back = two.field_map_back ∙ one.field_map_back;
 })
 
 pub aside_type : (t : TypeRef) (source : Option Pointer) → Correct (alloc_type t source) Aside
@@ -76,6 +79,7 @@ aside_type t source = correct_as (correct_alloc_type t source) (λ final ps m m'
   labels_are = ap (λ s. s.labels) row.stored;
   diagnostics = ap (λ s. s.diagnostics) row.stored;
   block_scopes = ap (λ s. s.block_scopes) row.stored;
+  field_map_back = ap (λ s. s.field_map_back) row.stored;
 })
 
 pub aside_lifetime : (l : LifetimeRef) (source : Option Pointer) → Correct (alloc_lifetime l source) Aside
@@ -86,6 +90,7 @@ aside_lifetime l source = correct_as (correct_alloc_lifetime l source) (λ final
   labels_are = ap (λ s. s.labels) row.stored;
   diagnostics = ap (λ s. s.diagnostics) row.stored;
   block_scopes = ap (λ s. s.block_scopes) row.stored;
+  field_map_back = ap (λ s. s.field_map_back) row.stored;
 })
 
 -- types
@@ -309,8 +314,13 @@ aside_kept {A = A} {p = p} h b d = by (p b).0 (p b).1 (λ final. h.holds final (
     by : (o : Checked A) (c : Builder) → ((final : Stored) → Holds Aside final (frames b.scopes) b o c) → KeepsAside b o c
     by (Ok a) c y =
         let x = (y c.stored).in_final d (extends_refl c.stored) in
-        let still : StaysAside b.stored c.stored =
-        record { exprs = x.exprs_are; labels = x.labels_are; diagnostics = x.diagnostics; block_scopes = x.block_scopes } in
+        let still : StaysAside b.stored c.stored = record {
+          exprs = x.exprs_are;
+          labels = x.labels_are;
+          diagnostics = x.diagnostics;
+          block_scopes = x.block_scopes;
+          field_map_back = x.field_map_back;
+        } in
         ((y c.stored).kept, still)
     by (Err e) c y = y c.stored
 

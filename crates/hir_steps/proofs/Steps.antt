@@ -8,7 +8,8 @@ use Rattle.hir_store.specs.Pointers.{Pointer}
 use Rattle.hir_store.specs.Arenas.{Sourced, Prefix, with_entry, with_way}
 use Rattle.hir_store.specs.Stored.{Stored}
 use Rattle.hir_store.specs.Storing as storing
-use Rattle.hir_store.specs.Storing.{Extends, expr_id, label_id}
+use Rattle.hir_store.specs.FirstMap.{with_first_by}
+use Rattle.hir_store.specs.Storing.{Extends, expr_id, label_id, same_expr}
 use Rattle.hir_store.specs.declared.fault.StoreFault.TheVariants.{Full}
 use Rattle.hir_store.specs.declared.hir.Expr.{Expr}
 use Rattle.hir_store.specs.declared.hir.Label.{Label as HirLabel}
@@ -21,12 +22,12 @@ use Rattle.hir_store.specs.declared.diagnostics.ExpressionStoreDiagnostics.TheVa
 use Rattle.hir_store.specs.declared.diagnostics.ExpressionStoreDiagnostics.TheVariants.{UnreachableLabel}
 use Rattle.hir_store.specs.declared.diagnostics.AwaitLocation.{AwaitLocation}
 use Rattle.hir_store.proofs.Arenas.{continues_refl, continues_entry, prefix_refl}
-use Rattle.hir_store.proofs.Range.{extends_refl, extends_trans, extends_point, extends_report, extends_block}
+use Rattle.hir_store.proofs.Range.{extends_refl, extends_trans, extends_point, extends_field, extends_report, extends_block}
 use Rattle.hir_env.specs.Answered.{Label, Jump}
 use Rattle.hir_scope.specs.Ribs.{Rib, Target, reachable, unreachable, undeclared, target, number_found, jump_number}
 use Rattle.hir_lower_scope.specs.Labels.{rest}
 use Rattle.hir_lower_form.specs.Builder.{Builder}
-use Rattle.hir_lower_form.specs.Lowering.{Checked, go_on, Lowering, ◌>>=◌, pure, alloc_expr, point, report}
+use Rattle.hir_lower_form.specs.Lowering.{Checked, go_on, Lowering, ◌>>=◌, pure, alloc_expr, point, point_field, report}
 use Rattle.hir_lower_form.specs.Lowering.{report_await, enter_block, open_label, close, jump_target, found_or_fault, count_out}
 use Rattle.hir_steps.specs.Keeps.{Paired, Mapped, KeepsAll}
 use Rattle.hir_steps.proofs.Frames.{Frame, rib, ribs}
@@ -57,6 +58,9 @@ pointing p id s = record s { exprs = with_way s.exprs p id }
 abbrev pub with_block : Option BlockId → Stored → Stored
 with_block None s = s
 with_block (Some n) s = record s { block_scopes = s.block_scopes ++ n ∷ [] }
+
+abbrev pub with_field : ExprId → Pointer → Stored → Stored
+with_field id p s = record s { field_map_back = with_first_by same_expr s.field_map_back id p }
 
 -- the fault of what awaits in this
 abbrev pub with_await : Pointer → Option AwaitLocation → Stored → Stored
@@ -104,6 +108,22 @@ correct_point node id = record {
       paired = λ d. record { exprs = d.exprs; labels = d.labels; types = d.types; lifetimes = d.lifetimes };
       mapped = λ d w. record { types = w.types; lifetimes = w.lifetimes };
       stays = extends_point b.stored node id;
+    };
+    grows = record { nodes = omega arith; labels = omega arith; types = omega arith; lifetimes = omega arith };
+    in_final = λ d pre. record { is = refl; nodes = refl; labels = refl; stored = refl };
+  };
+}
+
+pub correct_point_field : (id : ExprId) (node : Pointer) → Correct (point_field id node) (Writes tt (with_field id node))
+unfolding point_field storing.point_field
+correct_point_field id node = record {
+  holds = λ final ps b r. record {
+    kept = record {
+      scopes = refl;
+      roots = refl;
+      paired = λ d. record { exprs = d.exprs; labels = d.labels; types = d.types; lifetimes = d.lifetimes };
+      mapped = λ d w. record { types = w.types; lifetimes = w.lifetimes };
+      stays = extends_field b.stored id node;
     };
     grows = record { nodes = omega arith; labels = omega arith; types = omega arith; lifetimes = omega arith };
     in_final = λ d pre. record { is = refl; nodes = refl; labels = refl; stored = refl };
@@ -168,6 +188,7 @@ correct_alloc e source = record { holds = λ final ps b r. go final ps b (nat_lt
               types = continues_refl s.types;
               lifetimes = continues_refl s.lifetimes;
               roots = prefix_refl s.roots;
+              field_map_back = prefix_refl s.field_map_back;
               block_scopes = prefix_refl s.block_scopes;
               diagnostics = prefix_refl s.diagnostics;
             };
@@ -266,6 +287,7 @@ opens l b = go (nat_lt (length b.stored.labels.entries) b.stored.labels.limit)
             types = continues_refl s.types;
             lifetimes = continues_refl s.lifetimes;
             roots = prefix_refl s.roots;
+            field_map_back = prefix_refl s.field_map_back;
             block_scopes = prefix_refl s.block_scopes;
             diagnostics = prefix_refl s.diagnostics;
           };

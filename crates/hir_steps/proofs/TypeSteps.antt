@@ -66,6 +66,7 @@ correct_alloc_type t source =
               types = continues_entry type_id s.types t source;
               lifetimes = continues_refl s.lifetimes;
               roots = prefix_refl s.roots;
+              field_map_back = prefix_refl s.field_map_back;
               block_scopes = prefix_refl s.block_scopes;
               diagnostics = prefix_refl s.diagnostics;
             };
@@ -133,6 +134,7 @@ correct_alloc_lifetime l source =
               lifetimes = continues_entry lifetime_id s.lifetimes l source;
               types = continues_refl s.types;
               roots = prefix_refl s.roots;
+              field_map_back = prefix_refl s.field_map_back;
               block_scopes = prefix_refl s.block_scopes;
               diagnostics = prefix_refl s.diagnostics;
             };

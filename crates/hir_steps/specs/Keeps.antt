@@ -40,6 +40,7 @@ pub record StaysAside (old new : Stored) : Type 0 where
   pub labels : new.labels ≡ old.labels
   pub diagnostics : new.diagnostics ≡ old.diagnostics
   pub block_scopes : new.block_scopes ≡ old.block_scopes
+  pub field_map_back : new.field_map_back ≡ old.field_map_back
 
 abbrev pub KeepsAside : {A : Type 0} → Builder → Checked A → Builder → Type 0
 KeepsAside b (Ok a) b' = KeepsAll b b' × StaysAside b.stored b'.stored
