@@ -203,12 +203,15 @@ mutual
     binary_expr : Pointer → Binary → OptionExpr → OptionExpr → Expr
     lazy_expr : Pointer → LogicOp → OptionExpr → OptionExpr → Expr
     list_expr : Pointer → Listing → Exprs → Expr
-    method_call_expr : Pointer → OptionExpr → Name → Exprs → Expr
+    method_call_expr : Pointer → OptionExpr → Name → Exprs → OptionArgs → Expr
     leaving_expr : Pointer → Leaving → OptionExpr → Expr
     become_expr : Pointer → OptionExpr → Expr
     yield_expr : Pointer → OptionExpr → Expr
     -- with what it stands in, where that isn't async
     await_expr : Pointer → Option AwaitLocation → OptionExpr → Expr
+    cast_expr : Pointer → OptionExpr → OptionType → Expr
+    record_expr : Pointer → OptionPath → Fields → Spread → Expr
+    offset_of_expr : Pointer → OptionType → List Name → Expr
     -- a prefix without its operator
     nameless_expr : Pointer → OptionExpr → Expr
 
@@ -219,6 +222,23 @@ mutual
   pub data Exprs : Type 0 where
     no_exprs : Exprs
     more_exprs : Expr → Exprs → Exprs
+
+  -- the fields of a record
+  pub data Fields : Type 0 where
+    no_fields : Fields
+    more_fields : Field → Fields → Fields
+
+  pub data Field : Type 0 where
+    -- with the condition that disables it
+    disabled_field : Pointer → CfgId → Field
+    nameless_field : Field
+    named_field : Pointer → Name → OptionExpr → Field
+
+  -- what stands behind them: nothing, two dots, or two dots with an expression
+  pub data Spread : Type 0 where
+    no_spread : Spread
+    field_defaults : Spread
+    spread_of : Expr → Spread
 
   -- whether it is unsafe, its label, its number, its statements and its written tail; a block that stands where only a
   -- block may is neither unsafe nor labelled

@@ -3,7 +3,7 @@ use Rattle.std.specs.Prelude.{ℕ, suc, ◌+◌}
 use Rattle.hir_env.specs.Answered as tree
 use Rattle.hir_env.specs.Answered.{Type_, OptionType, Parts, Path, OptionPath, Segments, Segment, SegmentArgs, OptionParens}
 use Rattle.hir_env.specs.Answered.{OptionRet, OptionArgs, Args, Arg, Bounds, Bound}
-use Rattle.hir_env.specs.Answered.{Expr, OptionExpr, Exprs, Block, OptionBlock, Stmts, Stmt}
+use Rattle.hir_env.specs.Answered.{Expr, OptionExpr, Exprs, Fields, Field, Spread, Block, OptionBlock, Stmts, Stmt}
 
 abbrev mutual
   pub count_type : Type_ → ℕ
@@ -102,11 +102,14 @@ abbrev mutual
   count_expr (tree.binary_expr at form a b) = suc (count_option_expr a + count_option_expr b)
   count_expr (tree.lazy_expr at op a b) = suc (count_option_expr a + count_option_expr b)
   count_expr (tree.list_expr at form es) = suc (count_exprs es)
-  count_expr (tree.method_call_expr at e name es) = suc (count_option_expr e + count_exprs es)
+  count_expr (tree.method_call_expr at e name es as') = suc (count_option_expr e + (count_exprs es + count_option_args as'))
   count_expr (tree.leaving_expr at form e) = suc (count_option_expr e)
   count_expr (tree.become_expr at e) = suc (count_option_expr e)
   count_expr (tree.yield_expr at e) = suc (count_option_expr e)
   count_expr (tree.await_expr at location e) = suc (count_option_expr e)
+  count_expr (tree.cast_expr at e t) = suc (count_option_expr e + count_option_type t)
+  count_expr (tree.record_expr at x fs spread) = suc (count_option_path x + (count_fields fs + count_spread spread))
+  count_expr (tree.offset_of_expr at t names) = suc (count_option_type t)
   count_expr (tree.nameless_expr at e) = suc (count_option_expr e)
 
   pub count_option_expr : OptionExpr → ℕ
@@ -116,6 +119,20 @@ abbrev mutual
   pub count_exprs : Exprs → ℕ
   count_exprs tree.no_exprs = 0
   count_exprs (tree.more_exprs e es) = count_expr e + count_exprs es
+
+  pub count_fields : Fields → ℕ
+  count_fields tree.no_fields = 0
+  count_fields (tree.more_fields f fs) = count_field f + count_fields fs
+
+  pub count_field : Field → ℕ
+  count_field (tree.disabled_field at by) = 0
+  count_field tree.nameless_field = 0
+  count_field (tree.named_field at name e) = count_option_expr e
+
+  pub count_spread : Spread → ℕ
+  count_spread tree.no_spread = 0
+  count_spread tree.field_defaults = 0
+  count_spread (tree.spread_of e) = count_expr e
 
   pub count_block : Block → ℕ
   count_block (tree.block at is_unsafe label number ss e) = suc (count_stmts ss + count_option_expr e)

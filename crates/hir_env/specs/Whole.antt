@@ -18,22 +18,26 @@ use Rattle.hir_syntax.specs.declared.types.RetType.{RetType as AstRetType, out-R
 use Rattle.hir_syntax.specs.declared.types.TypeArg.{TypeArg as AstTypeArg, out-TypeArg}
 use Rattle.hir_syntax.specs.declared.types.TypeBound.{TypeBound as AstTypeBound, out-TypeBound}
 use Rattle.hir_syntax.specs.declared.types.Type_.{Type_ as AstType_}
+use Rattle.hir_syntax.specs.declared.ast.RecordExprField.{RecordExprField as AstRecordExprField, out-RecordExprField}
+use Rattle.hir_syntax.specs.declared.ast.RecordExprFieldList.{RecordExprFieldList as AstRecordExprFieldList, out-RecordExprFieldList}
 use Rattle.hir_syntax.specs.declared.ast.Stmt.{Stmt as AstStmt}
 use Rattle.hir_syntax.specs.declared.ast.Label.{Label as AstLabel}
 use Rattle.hir_syntax.specs.declared.ast.Lifetime.{Lifetime as AstLifetime}
 use Rattle.hir_syntax.specs.declared.ast.ElseBranch.TheFolds.{fold-ElseBranch, fold-ExprKind, fold-StmtKind, fold-BlockExpr}
-use Rattle.hir_syntax.specs.declared.ast.ElseBranch.TheFolds.{fold-Expr, fold-Stmt}
+use Rattle.hir_syntax.specs.declared.ast.ElseBranch.TheFolds.{fold-Expr, fold-RecordExprField, fold-RecordExprFieldList, fold-Stmt}
 use Rattle.hir_syntax.specs.declared.node.NodeId.{NodeId}
 use Rattle.hir_syntax.specs.declared.node.TextRange.{TextRange}
+use Rattle.hir_syntax.specs.declared.node.AstPtr.{AstPtr}
 use Rattle.hir_store.specs.Pointers.{Pointer}
 use Rattle.hir_env.specs.declared.place.Place.{Place}
 use Rattle.hir_env.specs.Answers.{Answers}
 use Rattle.hir_env.specs.Spot.{Spot}
 use Rattle.hir_store.specs.declared.ids.BlockId.{BlockId}
-use Rattle.hir_env.specs.Layers.{BlockReading, StmtReading, Sorts, Reader, readings, itself}
+use Rattle.hir_env.specs.Layers.{BlockReading, StmtReading, RecordReading, Sorts, Reader, readings, itself}
 use Rattle.hir_env.specs.Answering.{in_file, ptr, site_of, label_of, jump_of, modified, expr_or_none, plain_or_none, exprs_of}
 use Rattle.hir_env.specs.Answering.{exprs_or_none, numbered, inside, asked, else_branch, expr_at, expr_kind, expr_step}
-use Rattle.hir_env.specs.Answering.{block_step, stmt_at, stmt_kind, stmt_step}
+use Rattle.hir_env.specs.Answering.{block_step, stmt_at, stmt_kind, stmt_step, field_at, field_step, record_step}
+use Rattle.hir_env.specs.Answering.{fields_of, spread_or_none, record_or_empty}
 use Rattle.hir_env.specs.Paths.{inside_impl, outside_impl}
 use Rattle.hir_env.specs.Paths.{path_or_none, segment_or_absent, segments_of, first_of, rest_of, type_or_none, types_of, parts_of}
 use Rattle.hir_env.specs.Paths.{params_or_none, is_varargs, answer_or_none, ret_or_none, parens_or_none, path_type_or_none}
@@ -46,7 +50,7 @@ use Rattle.hir_env.specs.TypeLayers.{ParamReading, PathTypeReading}
 use Rattle.hir_env.specs.Answered as tree
 use Rattle.hir_env.specs.Answered.{Label, Jump, Type_, OptionType, Parts, Path, OptionPath, Segments, Segment}
 use Rattle.hir_env.specs.Answered.{SegmentArgs, OptionParens, OptionRet, OptionArgs, Args, Arg, Bounds, Bound}
-use Rattle.hir_env.specs.Answered.{Expr, OptionExpr, Exprs, Block, OptionBlock, Stmts, Stmt}
+use Rattle.hir_env.specs.Answered.{Expr, OptionExpr, Exprs, Fields, Field, Spread, Block, OptionBlock, Stmts, Stmt}
 
 abbrev pub written : Sorts
 written = record {
@@ -55,39 +59,59 @@ written = record {
   StmtKind = AstStmtKind;
   BlockExpr = AstBlockExpr;
   Expr = AstExpr;
+  RecordExprField = AstRecordExprField;
+  RecordExprFieldList = AstRecordExprFieldList;
   Stmt = AstStmt;
 }
 
 module _ (env : Answers) where
   unfoldable pub read_else_branch : AstElseBranch → Place → Expr
-  read_else_branch = fold-ElseBranch readings.ElseBranch readings.ExprKind readings.StmtKind readings.BlockExpr readings.Expr readings.Stmt
-      (else_branch env itself) (expr_kind env itself) (stmt_kind env itself)
-      (block_step env itself) (expr_step env itself) (stmt_step env itself)
+  read_else_branch = fold-ElseBranch readings.ElseBranch readings.ExprKind readings.StmtKind readings.BlockExpr readings.Expr
+      readings.RecordExprField readings.RecordExprFieldList readings.Stmt
+      (else_branch env itself) (expr_kind env itself) (stmt_kind env itself) (block_step env itself) (expr_step env itself)
+      (field_step env itself) (record_step env itself) (stmt_step env itself)
 
-  unfoldable pub read_block : AstBlockExpr → BlockReading
-  read_block = fold-BlockExpr readings.ElseBranch readings.ExprKind readings.StmtKind readings.BlockExpr readings.Expr readings.Stmt
-      (else_branch env itself) (expr_kind env itself) (stmt_kind env itself)
-      (block_step env itself) (expr_step env itself) (stmt_step env itself)
-
-  unfoldable pub read_expr : AstExpr → Place → Expr
-  read_expr = fold-Expr readings.ElseBranch readings.ExprKind readings.StmtKind readings.BlockExpr readings.Expr readings.Stmt
-      (else_branch env itself) (expr_kind env itself) (stmt_kind env itself)
-      (block_step env itself) (expr_step env itself) (stmt_step env itself)
-
-  unfoldable pub read_stmt : AstStmt → Place → StmtReading
-  read_stmt = fold-Stmt readings.ElseBranch readings.ExprKind readings.StmtKind readings.BlockExpr readings.Expr readings.Stmt
-      (else_branch env itself) (expr_kind env itself) (stmt_kind env itself)
-      (block_step env itself) (expr_step env itself) (stmt_step env itself)
-
-  unfoldable pub read_expr_kind : AstExprKind → readings.ExprKind
-  read_expr_kind = fold-ExprKind readings.ElseBranch readings.ExprKind readings.StmtKind readings.BlockExpr readings.Expr readings.Stmt
-      (else_branch env itself) (expr_kind env itself) (stmt_kind env itself)
-      (block_step env itself) (expr_step env itself) (stmt_step env itself)
+  unfoldable pub read_expr_kind : AstExprKind → AstPtr → Place → Expr
+  read_expr_kind = fold-ExprKind readings.ElseBranch readings.ExprKind readings.StmtKind readings.BlockExpr readings.Expr
+      readings.RecordExprField readings.RecordExprFieldList readings.Stmt
+      (else_branch env itself) (expr_kind env itself) (stmt_kind env itself) (block_step env itself) (expr_step env itself)
+      (field_step env itself) (record_step env itself) (stmt_step env itself)
 
   unfoldable pub read_stmt_kind : AstStmtKind → Place → StmtReading
-  read_stmt_kind = fold-StmtKind readings.ElseBranch readings.ExprKind readings.StmtKind readings.BlockExpr readings.Expr readings.Stmt
-      (else_branch env itself) (expr_kind env itself) (stmt_kind env itself)
-      (block_step env itself) (expr_step env itself) (stmt_step env itself)
+  read_stmt_kind = fold-StmtKind readings.ElseBranch readings.ExprKind readings.StmtKind readings.BlockExpr readings.Expr
+      readings.RecordExprField readings.RecordExprFieldList readings.Stmt
+      (else_branch env itself) (expr_kind env itself) (stmt_kind env itself) (block_step env itself) (expr_step env itself)
+      (field_step env itself) (record_step env itself) (stmt_step env itself)
+
+  unfoldable pub read_block : AstBlockExpr → BlockReading
+  read_block = fold-BlockExpr readings.ElseBranch readings.ExprKind readings.StmtKind readings.BlockExpr readings.Expr
+      readings.RecordExprField readings.RecordExprFieldList readings.Stmt
+      (else_branch env itself) (expr_kind env itself) (stmt_kind env itself) (block_step env itself) (expr_step env itself)
+      (field_step env itself) (record_step env itself) (stmt_step env itself)
+
+  unfoldable pub read_expr : AstExpr → Place → Expr
+  read_expr = fold-Expr readings.ElseBranch readings.ExprKind readings.StmtKind readings.BlockExpr readings.Expr
+      readings.RecordExprField readings.RecordExprFieldList readings.Stmt
+      (else_branch env itself) (expr_kind env itself) (stmt_kind env itself) (block_step env itself) (expr_step env itself)
+      (field_step env itself) (record_step env itself) (stmt_step env itself)
+
+  unfoldable pub read_field : AstRecordExprField → Place → Field
+  read_field = fold-RecordExprField readings.ElseBranch readings.ExprKind readings.StmtKind readings.BlockExpr readings.Expr
+      readings.RecordExprField readings.RecordExprFieldList readings.Stmt
+      (else_branch env itself) (expr_kind env itself) (stmt_kind env itself) (block_step env itself) (expr_step env itself)
+      (field_step env itself) (record_step env itself) (stmt_step env itself)
+
+  unfoldable pub read_record : AstRecordExprFieldList → Place → RecordReading
+  read_record = fold-RecordExprFieldList readings.ElseBranch readings.ExprKind readings.StmtKind readings.BlockExpr readings.Expr
+      readings.RecordExprField readings.RecordExprFieldList readings.Stmt
+      (else_branch env itself) (expr_kind env itself) (stmt_kind env itself) (block_step env itself) (expr_step env itself)
+      (field_step env itself) (record_step env itself) (stmt_step env itself)
+
+  unfoldable pub read_stmt : AstStmt → Place → StmtReading
+  read_stmt = fold-Stmt readings.ElseBranch readings.ExprKind readings.StmtKind readings.BlockExpr readings.Expr
+      readings.RecordExprField readings.RecordExprFieldList readings.Stmt
+      (else_branch env itself) (expr_kind env itself) (stmt_kind env itself) (block_step env itself) (expr_step env itself)
+      (field_step env itself) (record_step env itself) (stmt_step env itself)
 
   abbrev pub reader : Reader written
   reader = record {
@@ -96,6 +120,8 @@ module _ (env : Answers) where
     stmt_kind = read_stmt_kind;
     block_expr = read_block;
     expr = read_expr;
+    field = read_field;
+    field_list = read_record;
     stmt = read_stmt;
   }
 
@@ -112,6 +138,12 @@ answered_block at b = (read_block at.answers b).own at.place
 
 abbrev pub answered_else : Spot → AstElseBranch → Expr
 answered_else at e = read_else_branch at.answers e at.place
+
+abbrev pub answered_field : Spot → AstRecordExprField → Field
+answered_field at x = read_field at.answers x at.place
+
+abbrev pub answered_record : Spot → AstRecordExprFieldList → RecordReading
+answered_record at x = read_record at.answers x at.place
 
 abbrev pub answered_type : Spot → AstType_ → Type_
 answered_type at x = read_type at.answers x at.place
@@ -164,6 +196,15 @@ exprs_part at es = exprs_of (read_expr at.answers) es at.place
 
 abbrev pub args_part : Spot → Option (List AstExpr) → Exprs
 args_part at es = exprs_or_none (read_expr at.answers) es at.place
+
+abbrev pub fields_part : Spot → List AstRecordExprField → Fields
+fields_part at fs = fields_of (read_field at.answers) fs at.place
+
+abbrev pub spread_part : Spot → Option AstExpr → Bool → Spread
+spread_part at e dots = spread_or_none (read_expr at.answers) e dots at.place
+
+abbrev pub record_part : Spot → Option AstRecordExprFieldList → RecordReading
+record_part at x = record_or_empty (read_record at.answers) x at.place
 
 abbrev pub type_part : Spot → Option AstType_ → OptionType
 type_part at t = type_or_none (read_type at.answers) t at.place
@@ -262,6 +303,12 @@ block_level at head b =
 
 abbrev pub else_level : Spot → AstElseBranch → Expr
 else_level at e = else_branch at.answers (reader at.answers) (out-ElseBranch e) at.place
+
+abbrev pub field_level : Spot → AstRecordExprField → Field
+field_level at x = field_step at.answers (reader at.answers) (out-RecordExprField x) at.place
+
+abbrev pub record_level : Spot → AstRecordExprFieldList → RecordReading
+record_level at x = record_step at.answers (reader at.answers) (out-RecordExprFieldList x) at.place
 
 -- one level of a type or a path
 

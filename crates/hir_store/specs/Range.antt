@@ -8,6 +8,9 @@ use Rattle.hir_store.specs.declared.hir.Expr.{Expr}
 use Rattle.hir_store.specs.declared.hir.Expr.TheVariants as hir
 use Rattle.hir_store.specs.declared.hir.Statement.{Statement}
 use Rattle.hir_store.specs.declared.hir.Statement.TheVariants as statement
+use Rattle.hir_store.specs.declared.hir.RecordLitField.{RecordLitField}
+use Rattle.hir_store.specs.declared.hir.RecordSpread.{RecordSpread}
+use Rattle.hir_store.specs.declared.hir.RecordSpread.TheVariants as spread
 use Rattle.hir_store.specs.declared.roots.ExprRoot.{ExprRoot}
 use Rattle.hir_store.specs.declared.ids.ExprId.{ExprId}
 use Rattle.hir_store.specs.declared.ids.LabelId.{LabelId}
@@ -33,6 +36,13 @@ abbrev pub past_statement : Statement → ℕ
 past_statement (statement.Expr id semi) = suc id.0
 past_statement statement.Item = 0
 
+abbrev pub past_field : RecordLitField → ℕ
+past_field f = suc f.expr.0
+
+abbrev pub past_spread : RecordSpread → ℕ
+past_spread (spread.Expr id) = suc id.0
+past_spread _ = 0
+
 abbrev pub past_root : ExprRoot → ℕ
 past_root r = max (suc r.root.0) r.exprs_end.0
 
@@ -44,7 +54,7 @@ exprs_in (hir.Block is_unsafe label id ss tail) = max (past past_statement ss) (
 exprs_in (hir.Loop b label source) = suc b.0
 exprs_in (hir.Call f es) = max (suc f.0) (past past_expr es)
 exprs_in (hir.Break label e) = past_option past_expr e
-exprs_in (hir.MethodCall receiver name es) = max (suc receiver.0) (past past_expr es)
+exprs_in (hir.MethodCall receiver name es args) = max (suc receiver.0) (max (past past_expr es) (past_present past_generic args).exprs)
 exprs_in (hir.Field e name) = suc e.0
 exprs_in (hir.UnaryOp op e) = suc e.0
 exprs_in (hir.BinaryOp op lhs rhs) = max (suc lhs.0) (suc rhs.0)
@@ -57,6 +67,8 @@ exprs_in (hir.Become e) = suc e.0
 exprs_in (hir.Yield e) = past_option past_expr e
 exprs_in (hir.Yeet e) = past_option past_expr e
 exprs_in (hir.Await e) = suc e.0
+exprs_in (hir.Cast e t) = suc e.0
+exprs_in (hir.RecordLit p fs s) = max (past_path p).exprs (max (past past_field fs) (past_spread s))
 exprs_in _ = 0
 
 -- the labels that it names
@@ -70,10 +82,16 @@ labels_in _ = 0
 -- the types and the lifetimes that it names
 abbrev pub types_in : Expr → ℕ
 types_in (hir.Path p hygiene) = (past_path p).types
+types_in (hir.MethodCall receiver name es args) = (past_present past_generic args).types
+types_in (hir.Cast e t) = suc t.0
+types_in (hir.RecordLit p fs s) = (past_path p).types
+types_in (hir.OffsetOf t names) = suc t.0
 types_in _ = 0
 
 abbrev pub lifetimes_in : Expr → ℕ
 lifetimes_in (hir.Path p hygiene) = (past_path p).lifetimes
+lifetimes_in (hir.MethodCall receiver name es args) = (past_present past_generic args).lifetimes
+lifetimes_in (hir.RecordLit p fs s) = (past_path p).lifetimes
 lifetimes_in _ = 0
 
 -- ---- what is named exists
@@ -95,6 +113,12 @@ HasStatementOption s o = past_option past_statement o ≤ length s.exprs.entries
 
 abbrev pub HasStatements : Stored → List Statement → Type 0
 HasStatements s ss = past past_statement ss ≤ length s.exprs.entries
+
+abbrev pub HasFields : Stored → List RecordLitField → Type 0
+HasFields s fs = past past_field fs ≤ length s.exprs.entries
+
+abbrev pub HasSpread : Stored → RecordSpread → Type 0
+HasSpread s x = past_spread x ≤ length s.exprs.entries
 
 abbrev pub HasLabel : Stored → LabelId → Type 0
 HasLabel s id = suc id.0 ≤ length s.labels.entries

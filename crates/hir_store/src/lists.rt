@@ -2,11 +2,11 @@
 
 ghost use Rattle.std.specs.Prelude.{◌≡◌, ◌∷◌, ◌++◌, [], max, suc, OnOk};
 ghost use Rattle.hir_store.specs.Arenas.{past};
-ghost use Rattle.hir_store.specs.Range.{past_expr, past_statement};
+ghost use Rattle.hir_store.specs.Range.{past_expr, past_field, past_statement};
 ghost use Rattle.hir_store.specs.Past.{join, past_arg, past_arg_lists, past_args, past_binding, past_bindings, past_bound, past_bounds};
 ghost use Rattle.hir_store.specs.Past.{past_generic, past_present, past_type_id, past_type_ids, past_use_arg, past_use_args};
 
-use crate::hir::Statement;
+use crate::hir::{RecordLitField, Statement};
 use crate::ids::{ExprId, TypeRefId};
 use crate::path::{AssociatedTypeBinding, GenericArg, GenericArgs};
 use crate::type_ref::{TypeBound, UseArgRef};
@@ -33,6 +33,15 @@ pub fn push_statement(
         ≡ max (past past_statement statements.old) (past_statement statement)) }
 {
     statements.push(statement)
+}
+
+/// Adds a field to those of a record.
+#[tactic(auto, using(crate::proofs::Arenas::past_push))]
+pub fn push_field(fields: &mut Seq<RecordLitField>, field: RecordLitField) -> Result<(), AllocError>
+    ensures fields { OnOk result (fields.new ≡ fields.old ++ field ∷ []) }
+    ensures past { OnOk result (past past_field fields.new ≡ max (past past_field fields.old) (suc field.expr.0)) }
+{
+    fields.push(field)
 }
 
 /// Adds a type to a list.
