@@ -31,8 +31,8 @@ of_expr h kind.IfExpr x = part.If (record { id = h.id; range = h.range; kind = x
 of_expr h _ x = part.Expr (record { id = h.id; range = h.range; kind = x })
 
 abbrev pub expr_kind : Here → Kind → Option ExprKind
-expr_kind h k =
-    or_else (flow h k) (or_else (plain h k) (or_else (operation h k) (or_else (member h k) (or_else (leaving h k) (or_else (typed h k) (partless h.value k))))))
+expr_kind h k = or_else (flow h k) (or_else (plain h k) (or_else (operation h k) (or_else (member h k)
+    (or_else (leaving h k) (or_else (typed h k) (partless h.value k))))))
 
 abbrev pub of_stmt : Here → StmtKind → AnyPart
 of_stmt h x = part.Stmt (record { id = h.id; range = h.range; kind = x })
