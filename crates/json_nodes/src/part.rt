@@ -2,13 +2,9 @@
 
 ghost use Rattle.std.specs.Prelude.{◌≡◌, IfOk, Option};
 ghost use Rattle.json_nodes.specs.Groups.{as_expr, as_block, as_else, as_stmt, as_path, as_segment, as_label, as_lifetime, as_name};
-<<<<<<< HEAD
-ghost use Rattle.json_nodes.specs.Groups.{as_type, as_path_type, as_generic_args, as_generic_arg, as_type_arg, as_paren_args, as_bound, as_use_arg, as_binder, as_ret, as_param, is_quoted};
-ghost use Rattle.json_nodes.specs.Groups.{as_record_list, as_record_field};
-=======
 ghost use Rattle.json_nodes.specs.Groups.{as_type, as_path_type, as_generic_args, as_generic_arg, as_type_arg, as_paren_args};
 ghost use Rattle.json_nodes.specs.Groups.{as_bound, as_use_arg, as_binder, as_ret, as_param, is_quoted};
->>>>>>> program2
+ghost use Rattle.json_nodes.specs.Groups.{as_record_list, as_record_field};
 
 use hir_syntax::ast::{
     BlockExpr, ElseBranch, Expr, ExprKind, ForBinder, GenericArg, GenericArgList, Label, Lifetime,
