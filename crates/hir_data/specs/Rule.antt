@@ -63,7 +63,7 @@ refused (i ∷ is) = refuses i.what || refused is
 
 -- ---- the kind
 
--- the kind that a segment sets; within one a keyword does, and not a `::` beside it
+-- the kind that a segment sets; `crate` and `$crate` set it, and not a `::` beside them
 abbrev pub sets : Bool → What → Option PathKind
 sets leading (root k) = Some k
 sets leading _ = if leading then Some kind.Abs else None

@@ -3,7 +3,7 @@ use Rattle.std.specs.Prelude.{◌≡◌, codes, bytes_eq, if◌then◌else◌, B
 use Rattle.std.specs.Prelude.{Option, Some, None, is_some}
 use Rattle.hir_syntax.specs.declared.ast.Name.{Name as AstName}
 use Rattle.hir_syntax.specs.declared.ast.Path.{Path as AstPath, out-Path}
-use Rattle.hir_syntax.specs.declared.ast.PathSegment.{PathSegment as AstSegment, out-PathSegment}
+use Rattle.hir_syntax.specs.declared.ast.PathSegment.{PathSegment as AstSegment}
 use Rattle.hir_syntax.specs.declared.ast.SegmentKind.{SegmentKind}
 use Rattle.hir_syntax.specs.declared.ast.SegmentKind.TheVariants as kind
 use Rattle.hir_store.specs.declared.name.Name.{Name}
@@ -21,7 +21,7 @@ name_borne (Some kind.SelfTypeKw) n = Some (name.Text (codes "Self"))
 name_borne k n = None
 
 abbrev pub segment_name : AstSegment → Option Name
-segment_name s = let level = out-PathSegment s in name_borne level.seg level.name
+segment_name s = name_borne s.seg s.name
 
 abbrev pub named_among : List (Option AstSegment) → List AstSegment
 named_among [] = []

@@ -1,5 +1,5 @@
 -- Worked paths.
-use Rattle.std.specs.Prelude.{◌≡◌, ℕ, codes, false, true, List, [], ◌∷◌, Option, Some, None}
+use Rattle.std.specs.Prelude.{◌≡◌, ℕ, codes, false, true, List, [], ◌∷◌, Some, None}
 use Rattle.hir_store.specs.declared.ids.CrateId.{CrateId}
 use Rattle.hir_store.specs.declared.name.Name.{Name}
 use Rattle.hir_store.specs.declared.name.Name.TheVariants as name
@@ -39,7 +39,8 @@ is_refused p = written_path p ≡ None
 
 -- `self::super::A`
 abbrev pub SuperAfterSelf : Type 0
-SuperAfterSelf = becomes (whole tree.self_segment (tree.super_segment ∷ word (codes "A") ∷ [])) (kind.Super 1) (text (codes "A") ∷ [])
+SuperAfterSelf =
+    becomes (whole tree.self_segment (tree.super_segment ∷ word (codes "A") ∷ [])) (kind.Super 1) (text (codes "A") ∷ [])
 
 -- `self::A::self::B`, `A::super::self::C`, `A::crate::B`
 abbrev pub KeywordsInside : Type 0
@@ -51,13 +52,15 @@ KeywordsInside =
 -- `crate::super::super::A`, and `::crate::A`
 abbrev pub CrateHidesSupers : Type 0
 CrateHidesSupers =
-    becomes (whole tree.crate_segment (tree.super_segment ∷ tree.super_segment ∷ word (codes "A") ∷ [])) kind.Crate (text (codes "A") ∷ [])
+    becomes (whole tree.crate_segment (tree.super_segment ∷ tree.super_segment ∷ word (codes "A") ∷ []))
+    kind.Crate (text (codes "A") ∷ [])
     × becomes (leading tree.crate_segment (word (codes "A") ∷ [])) kind.Crate (text (codes "A") ∷ [])
 
 -- `$crate::A`, where the context's crate has a root and where it has none
 abbrev pub DollarCrateIsARoot : Type 0
 DollarCrateIsARoot =
-    ((c : CrateId) → becomes (whole (tree.dollar_crate_segment (Some c)) (word (codes "A") ∷ [])) (kind.DollarCrate c) (text (codes "A") ∷ []))
+    ((c : CrateId)
+    → becomes (whole (tree.dollar_crate_segment (Some c)) (word (codes "A") ∷ [])) (kind.DollarCrate c) (text (codes "A") ∷ []))
     × becomes (whole (tree.dollar_crate_segment None) (word (codes "A") ∷ [])) kind.Crate (text (codes "A") ∷ [])
 
 -- `A::super::B::super::super::C`

@@ -6,7 +6,7 @@ ghost use Rattle.hir_data.specs.Segments.{SegmentLaw};
 ghost use Rattle.hir_data.specs.Worked.{SuperAfterSelf, KeywordsInside, CrateHidesSupers, DollarCrateIsARoot, SupersInside};
 ghost use Rattle.hir_data.specs.Worked.{SelfAlone, UseTreesStandInFront, AbsentIsMissing};
 
-/// The names of a path are those of its named segments.
+/// The names of a path are those of its named segments, where no use tree stands around it and no segment is missing.
 pub fn segment_law()
     ensures { SegmentLaw }
 {}

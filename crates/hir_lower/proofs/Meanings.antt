@@ -29,7 +29,7 @@ use Rattle.hir_one_result.proofs.TreeFaults.{diagnostics_are}
 use Rattle.hir_one_result.proofs.TreeBlocks.{blocks_are}
 use Rattle.hir_one_result.proofs.TreeRooms.{all_fit}
 use Rattle.hir_one_result.proofs.Whole.{one_results}
-use Rattle.hir_lower.specs.Roots.{RefusedAtLimit, StoresFromNothing, fresh, root_of, body_of, report_missing}
+use Rattle.hir_lower.specs.Roots.{RefusedAtEnd, StoresFromNothing, fresh, root_of, body_of, report_missing}
 use Rattle.hir_lower.specs.Stays.{Stays}
 use Rattle.hir_lower.proofs.Ways.{Went, went}
 use Rattle.hir_lower.proofs.TreeWays.{part_leads}
@@ -176,7 +176,7 @@ body_whole false node k e limit b' i h = by (body_fault k e) h
     by (Some f) g = root_whole e limit (missing_fault node (Some f)) b' i g
 
 pub body_too_large : (skip : Bool) (node : Pointer) (k : Option MissingBodyItemKind) (e : OptionExpr) (limit : ℕ)
-    → RefusedAtLimit (body_of skip node k e) limit → TooLarge (empty limit) (unless_skipped skip e)
+    → RefusedAtEnd (body_of skip node k e) limit → TooLarge (empty limit) (unless_skipped skip e)
 unfolding body_of report_missing report storing.report
 body_too_large true node k e limit r = root_too_large tree.no_expr (fresh limit) r.builder Full r.refused
 body_too_large false node k e limit r = by (body_fault k e) r.refused

@@ -4,7 +4,6 @@ use Rattle.std.specs.Prelude.{IfOk, IsErrOf}
 use Rattle.hir_syntax.specs.declared.ast.Path.{Path as AstPath}
 use Rattle.hir_store.specs.declared.path.Path.{Path}
 use Rattle.hir_store.specs.declared.fault.StoreFault.TheVariants.{Memory, Full}
-use Rattle.hir_env.specs.Answered.{OptionPath}
 use Rattle.hir_env.specs.Spot.{Spot}
 use Rattle.hir_data.specs.Reading.{stored_path}
 use Rattle.hir_data.specs.Written.{overcounts, written_path}
@@ -15,26 +14,29 @@ use Rattle.hir_lower_form.specs.Methods.{LowersPath}
 use Rattle.hir_read_back.proofs.Walk.{path_law, path_stays}
 use Rattle.hir_lower.specs.Means.{BearsNames, whole_path}
 
-pub data_if : (p : OptionPath) (b b' : Builder) (r : Checked (Option Path)) → LowersPath p b r b'
-    → IfOk r (λ x. option_map stored_path x ≡ written_path p)
-data_if p b b' (Ok x) l = path_law p b b' x l.0
-data_if p b b' (Err e) l = tt
+-- what is so of a path that stands alone
+module _ (at : Spot) (x : AstPath) (b b' : Builder) where
+  abbrev Alone : Checked (Option Path) → Type 0
+  Alone r = LowersPath (whole_path at x) b r b'
 
-pub names_if : (at : Spot) (x : AstPath) (b b' : Builder) (r : Checked (Option Path)) → LowersPath (whole_path at x) b r b'
-    → IfOk r (λ y. BearsNames x y)
-names_if at x b b' (Ok None) l = tt
-names_if at x b b' (Ok (Some y)) l = λ alone present. segment_law at x (stored_path y) alone present (sym (path_law (whole_path at x) b b' (Some y) l.0))
-names_if at x b b' (Err e) l = tt
+  pub data_if : (r : Checked (Option Path)) → Alone r → IfOk r (λ y. option_map stored_path y ≡ written_path (whole_path at x))
+  data_if (Ok y) l = path_law (whole_path at x) b b' y l.0
+  data_if (Err e) l = tt
 
-pub ends_if : (p : OptionPath) (b b' : Builder) (r : Checked (Option Path)) → LowersPath p b r b' → IsErrOf r Full → SomeEnd b'
-ends_if p b b' (Ok x) l is = cc
-ends_if p b b' (Err e) l is = let other : e ≢ Memory = λ m. cc in (l other).1
+  pub names_if : (r : Checked (Option Path)) → Alone r → IfOk r (λ y. BearsNames x y)
+  names_if (Ok None) l = tt
+  names_if (Ok (Some y)) l =
+      λ alone present. segment_law at x (stored_path y) alone present (sym (path_law (whole_path at x) b b' (Some y) l.0))
+  names_if (Err e) l = tt
 
-pub overcounts_if : (p : OptionPath) (b b' : Builder) (r : Checked (Option Path)) → LowersPath p b r b' → IsErrOf r Full → overcounts p
-overcounts_if p b b' (Ok x) l is = cc
-overcounts_if p b b' (Err e) l is = let other : e ≢ Memory = λ m. cc in ((path_stays p b b').1 e (l other).0).0
+  pub ends_if : (r : Checked (Option Path)) → Alone r → IsErrOf r Full → SomeEnd b'
+  ends_if (Ok y) l is = cc
+  ends_if (Err e) l is = let other : e ≢ Memory = λ m. cc in (l other).1
 
-pub path_stays_unless : (p : OptionPath) (b b' : Builder) (r : Checked (Option Path)) → LowersPath p b r b' → r ≢ Err Memory
-    → b'.stored ≡ b.stored
-path_stays_unless p b b' (Ok x) l n = ap (λ (o : Builder). o.stored) ((path_stays p b b').0 x l.0)
-path_stays_unless p b b' (Err e) l n = let other : e ≢ Memory = λ is. n (ap Err is) in ((path_stays p b b').1 e (l other).0).1
+  pub overcounts_if : (r : Checked (Option Path)) → Alone r → IsErrOf r Full → overcounts (whole_path at x)
+  overcounts_if (Ok y) l is = cc
+  overcounts_if (Err e) l is = let other : e ≢ Memory = λ m. cc in ((path_stays (whole_path at x) b b').1 e (l other).0).0
+
+  pub stays_if : (r : Checked (Option Path)) → Alone r → r ≢ Err Memory → b'.stored ≡ b.stored
+  stays_if (Ok y) l n = ap (λ (o : Builder). o.stored) ((path_stays (whole_path at x) b b').0 y l.0)
+  stays_if (Err e) l n = let other : e ≢ Memory = λ is. n (ap Err is) in ((path_stays (whole_path at x) b b').1 e (l other).0).1

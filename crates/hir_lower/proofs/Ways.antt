@@ -150,7 +150,7 @@ makes h k = bound since (λ n m x le y. omega arith) h k
 pub leading_pure : {A : Type 0} (a : A) → Leading any (pure a)
 leading_pure a = record { goes = λ b. (went_same _ _ refl refl, tt) }
 
-pub leading_count_out : {A : Type 0} → Leading any (count_out {A})
+pub leading_count_out : {A : Type 0} → Leading any (count_out {A = A})
 unfolding count_out
 leading_count_out = record { goes = λ b. went_same _ _ refl refl }
 

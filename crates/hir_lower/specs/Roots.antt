@@ -56,7 +56,7 @@ pub record StoresFromNothing {A : Type 0} (p : Lowering A) (limit : ℕ) (store 
   pub source_map_is : source_map ≡ map_of builder.stored
 
 -- the steps find no room in an arena of this limit, or no number more in a counter
-pub record RefusedAtLimit {A : Type 0} (p : Lowering A) (limit : ℕ) : Type 0 where
+pub record RefusedAtEnd {A : Type 0} (p : Lowering A) (limit : ℕ) : Type 0 where
   pub builder : Builder
   pub refused : p (fresh limit) ≡ (Err Full, builder)
   pub at_end : SomeEnd builder

@@ -7,7 +7,7 @@ ghost use Rattle.hir_lower_form.specs.Lowering.{Lowers};
 ghost use Rattle.hir_one_result.specs.OneResult.{OneResult};
 ghost use Rattle.hir_one_result.specs.Room.{TooLarge};
 ghost use Rattle.hir_lower.specs.Means.{HasBody, body_owes, body_read, required_body};
-ghost use Rattle.hir_lower.specs.Roots.{RefusedAtLimit, StoresFromNothing, await_location, body_spot, item_of, spot_at};
+ghost use Rattle.hir_lower.specs.Roots.{RefusedAtEnd, StoresFromNothing, await_location, body_spot, item_of, spot_at};
 
 use crate::collector::lower_root;
 use crate::error::LowerError;
@@ -122,7 +122,7 @@ fn body_steps<E: LowerEnv>(
         IfOk result (λ r. StoresFromNothing (item_of at owner syntax_node (option_copied body.entry)) 4294967295 r.0.store r.1.store) }
     ensures in_range { IfOk result (λ r. InRange r.0.store r.1.store) }
     ensures full { let at = body_spot (E.answers db.now) owner current_file_id inside in
-        IsErrOf result LowerError.Full → RefusedAtLimit (item_of at owner syntax_node (option_copied body.entry)) 4294967295 }
+        IsErrOf result LowerError.Full → RefusedAtEnd (item_of at owner syntax_node (option_copied body.entry)) 4294967295 }
     ensures own { result ≢ Err LowerError.Failed }
 {
     let place = Place {

@@ -183,8 +183,8 @@ impl<'db, E: LowerEnv> ExprCollector<'db, E> {
     ///
     /// In each later store its expression does what the constant does, for every answerer and every number of turns
     /// that a loop may take; what is stored stands for the tree, and faults, blocks and ways of the source map come
-    /// behind those of before. `Memory` where a growth was refused, `Full` where an arena has no room for the tree, or one of
-    /// its paths more `super`s than 32 bits count, `Failed` after an error, and then nothing changes. All that was stored is stored still, unless memory was
+    /// behind those of before. `Memory` where a growth was refused, `Full` where an arena has no room for the tree or
+    /// a path in the tree has more `super`s than 32 bits count, `Failed` after an error, and then nothing changes. All that was stored is stored still, unless memory was
     /// refused, and a node leads to where it led, or to what came since.
     pub fn lower_const_arg(&mut self, arg: &ast::ConstArg) -> Result<ConstRef, LowerError>
         ensures calls { Calls self.old.failed self.old.state result self.new.state self.new.failed }
@@ -214,9 +214,8 @@ impl<'db, E: LowerEnv> ExprCollector<'db, E> {
 
     /// Lowers a path (upstream's function of this name), or answers none where a segment that is read refuses it.
     ///
-    /// The path is read from its end to the first segment that ends it: its names, where it begins and how many `super`s
-    /// lead there are those of all segments that are read, the ones of use trees around it in front. Where no use tree
-    /// stands around it and no segment is missing, its names are those of the written segments that bear one. `Memory` where
+    /// It has the names of all segments that are read, those of use trees around it in front, and begins where they say.
+    /// Where no use tree stands around it and no segment is missing, its names are those of the written segments that bear one. `Memory` where
     /// a growth was refused, `Full` where more `super`s are read than 32 bits count, `Failed` after an error. What is stored
     /// stays as it is, unless memory was refused.
     pub fn lower_path(&mut self, path: &ast::Path) -> Result<Option<Path>, LowerError>

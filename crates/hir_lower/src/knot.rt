@@ -221,7 +221,7 @@ pub fn read_path_segments<E: LowerEnv>(
     walk: PathWalk,
     node: &ast::Path,
 ) -> Result<Reading, StoreFault>
-    ensures { ReadsPath (answered_path (spot_at (E.answers env.now) place) node.now) walk.entry state.old result state.new }
+    ensures { ReadsPath (answered_path (spot_at (E.answers env.now) place) node.now) walk state.old result state.new }
 {
     let lowerer = Lowerer {
         alloc,

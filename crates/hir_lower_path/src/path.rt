@@ -139,12 +139,12 @@ fn own_segments<P: LowerParts>(
         let own = spec.read_own leading (first_part spot all.now) (rest_part spot all.now) in
         Lowers HasReading (own walk) state.old result state.new }
 {
-    match all {
-        [] => Ok(walk.at_first(leading).named(Name::Missing)?),
-        [first, rest @ ..] => match segments(lowerer, state, walk, rest)? {
-            Reading::Open(walk) => segment(lowerer, state, walk.at_first(leading), true, first),
-            other => Ok(other),
-        },
+    let Some((first, rest)) = all.split_first() else {
+        return Ok(walk.at_first(leading).named(Name::Missing)?);
+    };
+    match segments(lowerer, state, walk, rest)? {
+        Reading::Open(walk) => segment(lowerer, state, walk.at_first(leading), true, first),
+        other => Ok(other),
     }
 }
 

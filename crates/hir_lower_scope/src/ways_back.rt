@@ -1,43 +1,43 @@
 //! From the parts of a stored path back to the written nodes. Nothing here takes memory or fails.
 
-ghost use Rattle.std.specs.Prelude.{◌≡◌, is_some, option_copied, slice_get};
+ghost use Rattle.std.specs.Prelude.{◌≡◌, option_copied, option_map, slice_get};
+ghost use Rattle.hir_store.specs.declared.name.Name.TheVariants.{Text};
 ghost use Rattle.hir_data.specs.Segments.{named_segments, segment_name};
 
 use hir_syntax::ast::{Path, PathSegment, SegmentKind};
 
-/// Whether the segment bears a name: one that isn't `$crate`, or `Self`.
-fn bears_name(segment: &PathSegment) -> bool
-    ensures { result ≡ is_some (segment_name segment.now) }
+/// The name that the segment bears: its own, or `Self`. A keyword, `$crate` and a segment without its name bear none.
+pub fn segment_name(segment: &PathSegment) -> Option<&str>
+    ensures { option_map (λ t. Text t.now) result ≡ segment_name segment.now }
 {
     match segment.seg {
         Some(SegmentKind::Name) => match &segment.name {
-            Some(name) => name.t.as_str() != "$crate",
-            None => false,
+            Some(name) if name.t.as_str() != "$crate" => Some(name.t.as_str()),
+            _ => None,
         },
-        Some(SegmentKind::SelfTypeKw) => true,
-        _ => false,
+        Some(SegmentKind::SelfTypeKw) => Some("Self"),
+        _ => None,
     }
 }
 
-/// The written segment that bears the name of this number in the path's stored form (upstream's function of this name), or
-/// none where the path has fewer names.
+/// Of the path's own segments that bear a name, lends the one of this number, or none where there are fewer (upstream's
+/// function of this name).
 ///
-/// It is the segment of that name where no use tree stands around the path and no segment is missing.
+/// Where the path is lowered, no use tree stands around it and no segment is missing, it bears the stored path's name of
+/// that number.
 pub fn hir_segment_to_ast_segment(path: &Path, segment_index: u32) -> Option<&PathSegment>
     ensures { option_copied result ≡ slice_get (named_segments path.now) segment_index }
 {
-    let mut left = path.segs.as_slice();
     let mut before = segment_index;
-    while let [segment, rest @ ..] = left {
+    for segment in path.segs.as_slice() {
         if let Some(segment) = segment
-            && bears_name(segment)
+            && segment_name(segment).is_some()
         {
             if before == 0 {
                 return Some(segment);
             }
             before -= 1;
         }
-        left = rest;
     }
     None
 }

@@ -21,7 +21,7 @@ abbrev pub missing_in_turn : Example
 missing_in_turn = record {
   written = tree.some_expr (loop_of 0 None (block_of 1 None
       (first (literal_at 2 one) tree.no_stmts)
-      (tree.path_expr (at 3) None root)));
+      (tree.path_expr (at 3) tree.no_path root)));
   nodes = (stored_one, Some 2)
       ∷ (hir.Missing, Some 3)
       ∷ (stored_block None (statement.Expr (id 0) true ∷ []) 1, Some 1)

@@ -8,7 +8,8 @@ use Rattle.hir_store.specs.declared.hir.Rawness.{Rawness}
 use Rattle.hir_store.specs.declared.hir.Mutability.{Mutability}
 use Rattle.hir_store.specs.declared.name.Name.{Name}
 use Rattle.hir_env.specs.NodeMap.{Site}
-use Rattle.hir_meaning.specs.Data.{LiteralData, PathData}
+use Rattle.hir_data.specs.Data.{PathData}
+use Rattle.hir_meaning.specs.Data.{LiteralData}
 
 -- a value: what an event was answered, `()`, or `true` or `false`
 pub data Value : Type 0 where

@@ -19,8 +19,9 @@ use Rattle.hir_store.specs.declared.ids.HygieneId.{HygieneId}
 use Rattle.hir_env.specs.Answering.{site_of}
 use Rattle.hir_env.specs.Tables.{contexts_of}
 use Rattle.hir_env.specs.Answered as tree
-use Rattle.hir_env.specs.Answered.{Label, Jump, Expr, OptionExpr, Block, Stmts}
-use Rattle.hir_meaning.specs.Data.{literal_data, plain_path}
+use Rattle.hir_env.specs.Answered.{OptionPath, Label, Jump, Expr, OptionExpr, Block, Stmts}
+use Rattle.hir_data.specs.Data.{path_data}
+use Rattle.hir_meaning.specs.Data.{literal_data}
 use Rattle.hir_meaning.specs.Run.{Value, Operation, literal, read, Event, event_at, Answerer, Body}
 use Rattle.hir_meaning.specs.Syntax.{written_body}
 use Rattle.hir_meaning.specs.Store.{stored_body}
@@ -49,8 +50,11 @@ abbrev pub literal_at : ℕ → AstLiteral → Expr
 literal_at n l = tree.literal_expr (at n) l
 
 -- the path of a name of one byte
+abbrev pub path_of : ℕ → OptionPath
+path_of c = tree.some_path (tree.path false (tree.name_segment (name.Text (c ∷ []))) tree.no_segments tree.no_path)
+
 abbrev pub name_at : ℕ → ℕ → Expr
-name_at c n = tree.path_expr (at n) (Some (Some (name.Text (c ∷ [])) ∷ [])) root
+name_at c n = tree.path_expr (at n) (path_of c) root
 
 -- `'a`, with this hygiene
 abbrev pub label_with : HygieneId → Label
@@ -138,7 +142,7 @@ abbrev pub literal_event : AstLiteral → ℕ → Event
 literal_event l n = event_of (literal (literal_data l)) [] n
 
 abbrev pub read_name : ℕ → Operation
-read_name c = read (plain_path (name.Text (c ∷ []) ∷ [])) root
+read_name c = read (path_data Plain (name.Text (c ∷ []) ∷ [])) root
 
 -- a body as it is written, and expressions, of which this one is the body as it is stored
 pub record Example : Type 0 where

@@ -12,7 +12,8 @@ use Rattle.hir_store.specs.declared.ids.ExprId.{ExprId}
 use Rattle.hir_store.specs.declared.ids.LabelId.{LabelId}
 use Rattle.hir_env.specs.NodeMap.{Site}
 use Rattle.hir_env.specs.Answering.{site_of}
-use Rattle.hir_meaning.specs.Data.{literal_read, path_read}
+use Rattle.hir_data.specs.Reading.{stored_path}
+use Rattle.hir_meaning.specs.Data.{literal_read}
 use Rattle.hir_meaning.specs.Run.{Value, unit, is_true, Operation, literal, read, call, break, continue, leave, missing, Body, Run}
 use Rattle.hir_meaning.specs.Run.{underscore, include_bytes, field, prefix, reference, operator, index, array, method_call}
 use Rattle.hir_meaning.specs.Run.{yielding, awaiting}
@@ -96,7 +97,7 @@ module _ (store : Store) (source_map : SourceMap) where
     abbrev pub run_stored : Expr → Option Site → StoreRun Value
     run_stored hir.Missing site = ends (leave missing)
     run_stored (hir.Literal l) site = ask (literal (literal_read l)) [] site
-    run_stored (hir.Path p h) site = ask (read (path_read p) h) [] site
+    run_stored (hir.Path p h) site = ask (read (stored_path p) h) [] site
     run_stored (hir.Call f xs) site = do
       v ← part f
       vs ← run_each turns part xs

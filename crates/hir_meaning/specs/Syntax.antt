@@ -16,7 +16,10 @@ use Rattle.hir_meaning.specs.Run.{Leave, returned, became, yeeted, made_tuple, l
 use Rattle.hir_meaning.specs.Run.{ends, pure, ◌>>=◌, ◌>>◌, ask, tests, entering}
 use Rattle.hir_meaning.specs.Catching.{turn, loop, block}
 use Rattle.hir_scope.specs.Scopes.{Scope, loop_scope, Count, break_target, continue_target, outward, continue_past_block, scopes_in_block}
-use Rattle.hir_meaning.specs.Data.{PathData, literal_data, data_if_written, lookup_hygiene}
+use Rattle.hir_data.specs.Data.{PathData}
+use Rattle.hir_data.specs.Written.{written_path}
+use Rattle.hir_data.specs.Lookup.{lookup_hygiene}
+use Rattle.hir_meaning.specs.Data.{literal_data}
 use Rattle.hir_meaning.specs.Left.{is_kept, is_left, is_last}
 
 -- it keeps nothing besides
@@ -86,7 +89,7 @@ module _ (turns : ℕ) where
     pub run_expr : Expr → List Scope → SyntaxRun Value
     run_expr (tree.disabled_expr at by e) ss = ends (leave missing)
     run_expr (tree.literal_expr at l) ss = ask (literal (literal_data l)) [] (Some (site_of at))
-    run_expr (tree.path_expr at x h) ss = run_path (data_if_written x) h (Some (site_of at))
+    run_expr (tree.path_expr at p h) ss = run_path (written_path p) h (Some (site_of at))
     run_expr (tree.paren_expr at e) ss = run_part e ss
     run_expr (tree.call_expr at f es) ss = do
       v ← run_part f ss

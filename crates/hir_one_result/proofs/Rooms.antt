@@ -1,4 +1,4 @@
--- Steps by how many expressions and labels they store.
+-- Steps by how much they store.
 use Rattle.std.proofs.Common.{arith, ◌≡◌, ◌∙◌, refl, ap, ℕ, ◌+◌, ◌<◌, ◌≤◌, Bool, true, false, if◌then◌else◌, nat_lt, length}
 use Rattle.std.proofs.Common.{length-append, [], ◌∷◌, Option, Some, None, Ok, Err, ◌⊎◌, inl, inr, ⊎_elim}
 use Rattle.std.proofs.lemmas.Bool.{ltb-false}
@@ -20,37 +20,56 @@ use Rattle.hir_scope.specs.Ribs.{Target, reachable, unreachable, undeclared, tar
 use Rattle.hir_lower_form.specs.Builder.{Builder}
 use Rattle.hir_lower_form.specs.Lowering.{Checked, go_on, Lowering, ◌>>=◌, pure, alloc_expr, point, report}
 use Rattle.hir_lower_form.specs.Lowering.{enter_block, open_label, close, jump_target, found_or_fault, open_as, report_await}
+use Rattle.hir_store.specs.declared.fault.StoreFault.{StoreFault}
+use Rattle.hir_store.specs.declared.path.Path.{Path}
+use Rattle.hir_env.specs.Answered.{OptionPath}
+use Rattle.hir_lower_form.specs.Paths.{lower_path}
+use Rattle.hir_read_back.proofs.Walk.{path_stays}
+use Rattle.hir_one_result.specs.Room.{Size, nothing, an_expr, a_label, a_path, ◌∪◌}
 
--- so many more are stored
-pub record Took (n l : ℕ) (a b : Stored) : Type 0 where
-  pub exprs : length b.exprs.entries ≡ length a.exprs.entries + n
-  pub labels : length b.labels.entries ≡ length a.labels.entries + l
+-- so much more is stored
+pub record Took (n : Size) (a b : Stored) : Type 0 where
+  pub exprs : length b.exprs.entries ≡ length a.exprs.entries + n.exprs
+  pub labels : length b.labels.entries ≡ length a.labels.entries + n.labels
   pub expr_limit : b.exprs.limit ≡ a.exprs.limit
   pub label_limit : b.labels.limit ≡ a.labels.limit
 
--- there is no room for so many more
-abbrev pub Short : ℕ → ℕ → Stored → Type 0
-Short n l s = (s.exprs.limit < length s.exprs.entries + n) ⊎ (s.labels.limit < length s.labels.entries + l)
+-- there is no room for so much more
+abbrev pub Short : Size → Stored → Type 0
+Short n s = (s.exprs.limit < length s.exprs.entries + n.exprs)
+    ⊎ ((s.labels.limit < length s.labels.entries + n.labels) ⊎ n.overcounts)
 
-abbrev pub Room : {A : Type 0} → ℕ → ℕ → Builder → Checked A → Builder → Type 0
-Room n l b (Ok a) c = Took n l b.stored c.stored
-Room n l b (Err e) c = Short n l b.stored
+abbrev pub Room : {A : Type 0} → Size → Builder → Checked A → Builder → Type 0
+Room n b (Ok a) c = Took n b.stored c.stored
+Room n b (Err e) c = Short n b.stored
 
-pub record Takes {A : Type 0} (n l : ℕ) (p : Lowering A) : Type 0 where
-  pub takes : (b : Builder) → Room n l b (p b).0 (p b).1
+pub record Takes {A : Type 0} (n : Size) (p : Lowering A) : Type 0 where
+  pub takes : (b : Builder) → Room n b (p b).0 (p b).1
 
-short_more : {n l k j : ℕ} (s : Stored) → n ≤ k → l ≤ j → Short n l s → Short k j s
-short_more s le lf h = ⊎_elim (λ x. inl (omega arith)) (λ x. inr (omega arith)) h
+-- the same, but for what may overcount
+pub record Same (n k : Size) : Type 0 where
+  pub exprs : n.exprs ≡ k.exprs
+  pub labels : n.labels ≡ k.labels
+  pub overcounts : n.overcounts → k.overcounts
 
-short_then : {n l : ℕ} (k j : ℕ) (a b : Stored) → Took n l a b → Short k j b → Short (n + k) (l + j) a
-short_then k j a b t h =
+short_first : (n k : Size) (s : Stored) → Short n s → Short (n ∪ k) s
+short_first n k s h = ⊎_elim (λ x. inl (omega arith)) (λ y. inr (⊎_elim (λ x. inl (omega arith)) (λ o. inr (inl o)) y)) h
+
+short_then : {n : Size} (k : Size) (a b : Stored) → Took n a b → Short k b → Short (n ∪ k) a
+short_then k a b t h =
     let e = t.exprs in
     let f = t.labels in
     let d = t.expr_limit in
     let g = t.label_limit in
-    ⊎_elim (λ x. inl (omega arith)) (λ x. inr (omega arith)) h
+    ⊎_elim (λ x. inl (omega arith)) (λ y. inr (⊎_elim (λ x. inl (omega arith)) (λ o. inr (inr o)) y)) h
 
-took_then : {n l k j : ℕ} (a b c : Stored) → Took n l a b → Took k j b c → Took (n + k) (l + j) a c
+short_as : {n k : Size} (s : Stored) → Same n k → Short n s → Short k s
+short_as s same h =
+    let e = same.exprs in
+    let f = same.labels in
+    ⊎_elim (λ x. inl (omega arith)) (λ y. inr (⊎_elim (λ x. inl (omega arith)) (λ o. inr (same.overcounts o)) y)) h
+
+took_then : {n k : Size} (a b c : Stored) → Took n a b → Took k b c → Took (n ∪ k) a c
 took_then a b c t u =
     let e = t.exprs in
     let f = t.labels in
@@ -63,7 +82,15 @@ took_then a b c t u =
       label_limit = u.label_limit ∙ t.label_limit;
     }
 
-took_none : (a b : Stored) → b.exprs.entries ≡ a.exprs.entries → b.exprs.limit ≡ a.exprs.limit → b.labels ≡ a.labels → Took 0 0 a b
+took_as : {n k : Size} {a b : Stored} → Same n k → Took n a b → Took k a b
+took_as same t =
+    let e = same.exprs in
+    let f = same.labels in
+    let g = t.exprs in
+    let h = t.labels in
+    record { exprs = omega arith; labels = omega arith; expr_limit = t.expr_limit; label_limit = t.label_limit }
+
+took_none : (a b : Stored) → b.exprs.entries ≡ a.exprs.entries → b.exprs.limit ≡ a.exprs.limit → b.labels ≡ a.labels → Took nothing a b
 took_none a b e f l =
     let x = ap length e in
     let y = ap (λ s. length s.entries) l in
@@ -71,64 +98,91 @@ took_none a b e f l =
 
 -- one after another
 
-pub takes_then : {A B : Type 0} {n l k j : ℕ} {p : Lowering A} {f : A → Lowering B} → Takes n l p → ((a : A) → Takes k j (f a))
-    → Takes (n + k) (l + j) (p >>= f)
-takes_then {A = A} {B = B} {n = n} {l = l} {k = k} {j = j} {p = p} {f = f} h more =
-    record { takes = λ b. first b (p b).0 (p b).1 (h.takes b) }
+pub takes_then : {A B : Type 0} {n k : Size} {p : Lowering A} {f : A → Lowering B} → Takes n p → ((a : A) → Takes k (f a))
+    → Takes (n ∪ k) (p >>= f)
+takes_then {A = A} {B = B} {n = n} {k = k} {p = p} {f = f} h more = record { takes = λ b. first b (p b).0 (p b).1 (h.takes b) }
   where
-    second : (b b' : Builder) → Took n l b.stored b'.stored → (o : Checked B) (c : Builder) → Room k j b' o c → Room (n + k) (l + j) b o c
+    second : (b b' : Builder) → Took n b.stored b'.stored → (o : Checked B) (c : Builder) → Room k b' o c → Room (n ∪ k) b o c
     second b b' x (Ok e) c y = took_then b.stored b'.stored c.stored x y
-    second b b' x (Err e) c y = short_then k j b.stored b'.stored x y
+    second b b' x (Err e) c y = short_then k b.stored b'.stored x y
 
-    first : (b : Builder) (o : Checked A) (c : Builder) → Room n l b o c → Room (n + k) (l + j) b (go_on o c f).0 (go_on o c f).1
+    first : (b : Builder) (o : Checked A) (c : Builder) → Room n b o c → Room (n ∪ k) b (go_on o c f).0 (go_on o c f).1
     first b (Ok a) c x = second b c x (f a c).0 (f a c).1 ((more a).takes c)
-    first b (Err e) c x = short_more b.stored (omega arith) (omega arith) x
+    first b (Err e) c x = short_first n k b.stored x
 
-pub takes_as : {A : Type 0} {n l k j : ℕ} {p : Lowering A} → n ≡ k → l ≡ j → Takes n l p → Takes k j p
-takes_as {p = p} e f h = rw (← e, ← f) h
+pub takes_as : {A : Type 0} {n k : Size} {p : Lowering A} → Same n k → Takes n p → Takes k p
+takes_as {A = A} {n = n} {k = k} {p = p} same h = record { takes = λ b. by b (p b).0 (p b).1 (h.takes b) }
+  where
+    by : (b : Builder) (o : Checked A) (c : Builder) → Room n b o c → Room k b o c
+    by b (Ok a) c x = took_as same x
+    by b (Err e) c x = short_as b.stored same x
+
+none_after : (n : Size) → Same (n ∪ nothing) n
+none_after n = record { exprs = omega arith; labels = omega arith; overcounts = λ h. ⊎_elim (λ x. x) (λ x. absurd x) h }
+
+none_before : (n : Size) → Same (nothing ∪ n) n
+none_before n = record { exprs = omega arith; labels = omega arith; overcounts = λ h. ⊎_elim (λ x. absurd x) (λ x. x) h }
+
+-- and the other way round
+pub nothing_first : (n : Size) → Same n (nothing ∪ n)
+nothing_first n = record { exprs = omega arith; labels = omega arith; overcounts = λ h. inr h }
+
+pub moved_in : (n k j : Size) → Same (n ∪ (k ∪ j)) ((n ∪ k) ∪ j)
+moved_in n k j = record {
+  exprs = omega arith;
+  labels = omega arith;
+  overcounts = λ h. ⊎_elim (λ x. inl (inl x)) (λ y. ⊎_elim (λ x. inl (inr x)) (λ x. inr x) y) h;
+}
+
+pub moved_out : (n k j : Size) → Same ((n ∪ k) ∪ j) (n ∪ (k ∪ j))
+moved_out n k j = record {
+  exprs = omega arith;
+  labels = omega arith;
+  overcounts = λ h. ⊎_elim (λ y. ⊎_elim (λ x. inl x) (λ x. inr (inl x)) y) (λ x. inr (inr x)) h;
+}
 
 -- what comes after, or before, stores nothing
-pub takes_end : {A B : Type 0} {n l : ℕ} {p : Lowering A} {f : A → Lowering B} → Takes n l p → ((a : A) → Takes 0 0 (f a))
-    → Takes n l (p >>= f)
-takes_end h more = takes_as (omega arith) (omega arith) (takes_then h more)
+pub takes_end : {A B : Type 0} {n : Size} {p : Lowering A} {f : A → Lowering B} → Takes n p → ((a : A) → Takes nothing (f a))
+    → Takes n (p >>= f)
+takes_end h more = takes_as (none_after _) (takes_then h more)
 
-pub takes_begin : {A B : Type 0} {n l : ℕ} {p : Lowering A} {f : A → Lowering B} → Takes 0 0 p → ((a : A) → Takes n l (f a))
-    → Takes n l (p >>= f)
-takes_begin h more = takes_as (omega arith) (omega arith) (takes_then h more)
+pub takes_begin : {A B : Type 0} {n : Size} {p : Lowering A} {f : A → Lowering B} → Takes nothing p → ((a : A) → Takes n (f a))
+    → Takes n (p >>= f)
+takes_begin h more = takes_as (none_before _) (takes_then h more)
 
 -- steps
 
-pub takes_pure : {A : Type 0} (a : A) → Takes 0 0 (pure a)
+pub takes_pure : {A : Type 0} (a : A) → Takes nothing (pure a)
 takes_pure a = record { takes = λ b. took_none _ _ refl refl refl }
 
-pub takes_report : (d : ExpressionStoreDiagnostics) → Takes 0 0 (report d)
+pub takes_report : (d : ExpressionStoreDiagnostics) → Takes nothing (report d)
 unfolding report storing.report
 takes_report d = record { takes = λ b. took_none _ _ refl refl refl }
 
-pub takes_report_await : (at : Pointer) (location : Option AwaitLocation) → Takes 0 0 (report_await at location)
+pub takes_report_await : (at : Pointer) (location : Option AwaitLocation) → Takes nothing (report_await at location)
 unfolding report_await
 takes_report_await at None = takes_pure tt
 takes_report_await at (Some l) = takes_report _
 
-pub takes_block : (n : Option BlockId) → Takes 0 0 (enter_block n)
+pub takes_block : (n : Option BlockId) → Takes nothing (enter_block n)
 unfolding enter_block storing.enter_block
 takes_block None = takes_pure tt
 takes_block (Some n) = record { takes = λ b. took_none _ _ refl refl refl }
 
-pub takes_close : Takes 0 0 close
+pub takes_close : Takes nothing close
 unfolding close
 takes_close = record { takes = λ b. took_none _ _ refl refl refl }
 
-pub takes_point : (at : Pointer) (i : ExprId) → Takes 0 0 (point at i)
+pub takes_point : (at : Pointer) (i : ExprId) → Takes nothing (point at i)
 unfolding point storing.point
 takes_point at i = record { takes = λ b. took_none _ _ refl refl refl }
 
-pub takes_jump : (j : Option Jump) → Takes 0 0 (jump_target j)
+pub takes_jump : (j : Option Jump) → Takes nothing (jump_target j)
 unfolding jump_target report storing.report
 takes_jump None = takes_pure None
 takes_jump (Some j) = record { takes = λ b. by b (target j b.scopes) }
   where
-    by : (b : Builder) (t : Target LabelId) → Room 0 0 b (found_or_fault j t b).0 (found_or_fault j t b).1
+    by : (b : Builder) (t : Target LabelId) → Room nothing b (found_or_fault j t b).0 (found_or_fault j t b).1
     by b (reachable n) = took_none _ _ refl refl refl
     by b unreachable = took_none _ _ refl refl refl
     by b undeclared = took_none _ _ refl refl refl
@@ -136,12 +190,12 @@ takes_jump (Some j) = record { takes = λ b. by b (target j b.scopes) }
 abbrev made_expr : Bool → Expr → Option Pointer → Sourced Expr ExprId → Checked ExprId × Sourced Expr ExprId
 made_expr t e source a = if t then (Ok (expr_id (length a.entries)), with_entry expr_id a e source) else (Err Full, a)
 
-pub takes_alloc : (e : Expr) (source : Option Pointer) → Takes 1 0 (alloc_expr e source)
+pub takes_alloc : (e : Expr) (source : Option Pointer) → Takes an_expr (alloc_expr e source)
 unfolding alloc_expr storing.alloc_expr
 takes_alloc e source = record { takes = λ b. by b (nat_lt (length b.stored.exprs.entries) b.stored.exprs.limit) refl }
   where
     by : (b : Builder) (t : Bool) → nat_lt (length b.stored.exprs.entries) b.stored.exprs.limit ≡ t
-        → Room 1 0 b (made_expr t e source b.stored.exprs).0
+        → Room an_expr b (made_expr t e source b.stored.exprs).0
         (record b { stored = record b.stored { exprs = (made_expr t e source b.stored.exprs).1 } })
     by b true is =
         let grown = length-append b.stored.exprs.entries (e ∷ []) in
@@ -157,14 +211,25 @@ opening l t b =
     let r = made_label t (record { name = l.name }) (Some l.pointer) b.stored.labels in
     go_on r.0 (record b { stored = record b.stored { labels = r.1 } }) (λ n. open_as l n >>= (λ _. pure n))
 
-pub takes_open : (l : Label) → Takes 0 1 (open_label l)
+pub takes_open : (l : Label) → Takes a_label (open_label l)
 unfolding open_label storing.alloc_label
 takes_open l = record { takes = λ b. by b (nat_lt (length b.stored.labels.entries) b.stored.labels.limit) refl }
   where
     by : (b : Builder) (t : Bool) → nat_lt (length b.stored.labels.entries) b.stored.labels.limit ≡ t
-        → Room 0 1 b (opening l t b).0 (opening l t b).1
+        → Room a_label b (opening l t b).0 (opening l t b).1
     by b true is =
         let x : HirLabel = record { name = l.name } in
         let grown = length-append b.stored.labels.entries (x ∷ []) in
         record { exprs = omega arith; labels = omega arith; expr_limit = refl; label_limit = refl }
-    by b false is = let full = ltb-false (length b.stored.labels.entries) b.stored.labels.limit is in inr (omega arith)
+    by b false is = let full = ltb-false (length b.stored.labels.entries) b.stored.labels.limit is in inr (inl (omega arith))
+
+-- it is refused only where it overcounts
+pub takes_path : (p : OptionPath) → Takes (a_path p) (lower_path p)
+takes_path p = record { takes = λ b. by b (lower_path p b).0 (lower_path p b).1 refl }
+  where
+    by : (b : Builder) (o : Checked (Option Path)) (c : Builder) → lower_path p b ≡ (o, c) → Room (a_path p) b o c
+    by b (Ok r) c e =
+        let same = ap (λ x. x.stored) ((path_stays p b c).0 r e) in
+        let more : Same nothing (a_path p) = record { exprs = refl; labels = refl; overcounts = λ x. absurd x } in
+        took_as more (took_none b.stored c.stored (ap (λ s. s.exprs.entries) same) (ap (λ s. s.exprs.limit) same) (ap (λ s. s.labels) same))
+    by b (Err x) c e = inr (inr ((path_stays p b c).1 x e).0)

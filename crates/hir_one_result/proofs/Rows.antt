@@ -12,7 +12,9 @@ use Rattle.hir_store.specs.declared.ids.ExprId.{ExprId}
 use Rattle.hir_syntax.specs.declared.ast.Literal.{Literal as AstLiteral}
 use Rattle.hir_store.specs.Pointers.{Pointer}
 use Rattle.hir_store.specs.declared.hir.Literal.{Literal}
-use Rattle.hir_meaning.specs.Data.{PathData, path_read, LiteralData, literal_data}
+use Rattle.hir_data.specs.Data.{PathData, path_data}
+use Rattle.hir_data.specs.Reading.{stored_path}
+use Rattle.hir_meaning.specs.Data.{LiteralData, literal_data}
 use Rattle.hir_meaning.specs.Contents.{BlockContents}
 use Rattle.hir_store.specs.declared.ids.CfgId.{CfgId}
 use Rattle.hir_meaning.specs.Small.{at, root, stored_one}
@@ -21,9 +23,12 @@ use Rattle.hir_one_result.specs.Stands.{Absent, statement_of, StandsLiteral, Sta
 use Rattle.hir_one_result.specs.Worked.{Jumps, other, literal_first, Statements, EntersInOrder, Leaves, letter, block_id}
 use Rattle.hir_one_result.specs.Worked.{elements, PlainForms}
 
+abbrev bare_path : PathData → Path
+bare_path (path_data k ns) = BarePath (record { kind = k; segments = ns })
+
 -- a path is what is read of it
-is_read : (path : Path) (p : PathData) → path_read path ≡ p → path ≡ BarePath (record { kind = p.kind; segments = p.names })
-is_read (BarePath m) p e = ap (λ d. BarePath (record { kind = d.kind; segments = d.names })) e
+is_read : (path : Path) (p : PathData) → stored_path path ≡ p → path ≡ bare_path p
+is_read (BarePath m) p e = ap bare_path e
 
 pub jumps : Jumps
 jumps = record {
@@ -90,6 +95,8 @@ pub leaves : Leaves
 leaves = record {
   one_name = λ store source_map i ws h. h.2.0.stored ∙ ap (λ q. Some (hir.Path q other)) (is_read h.0 _ h.1);
   two_names = λ store source_map i ws h. h.2.0.stored ∙ ap (λ q. Some (hir.Path q root)) (is_read h.0 _ h.1);
+  from_crate = λ store source_map i ws h. h.2.0.stored ∙ ap (λ q. Some (hir.Path q other)) (is_read h.0 _ h.1);
+  self_alone = λ store source_map i ws h. h.2.0.stored ∙ ap (λ q. Some (hir.Path q other)) (is_read h.0 _ h.1);
   refused = λ store source_map i ws h. h.0.stored;
   parentheses = λ store source_map i ws h. h.is ∙ (ap (λ l. l ++ h.right) h.first.2.1 ∙ ap (λ r. expr_way (at 1) i ∷ r) h.second);
 }

@@ -18,17 +18,21 @@ use Rattle.hir_scope.specs.Ribs.{Rib, Target, reachable, unreachable, undeclared
 use Rattle.hir_store.specs.declared.diagnostics.AwaitLocation.{AwaitLocation}
 use Rattle.hir_store.specs.declared.name.Name.{Name}
 use Rattle.hir_env.specs.Answered as tree
-use Rattle.hir_env.specs.Answered.{Leaf, Unary, Binary, Leaving, Listing, Label, Jump, Segments}
-use Rattle.hir_meaning.specs.Data.{PathData, data_if_written}
+use Rattle.hir_env.specs.Answered.{Leaf, Unary, Binary, Leaving, Listing, Label, Jump, OptionPath}
+use Rattle.hir_data.specs.Data.{PathData}
+use Rattle.hir_data.specs.Written.{written_path}
+use Rattle.hir_lower_form.specs.Paths.{lower_path}
+use Rattle.hir_read_back.proofs.Walk.{path_law}
+use Rattle.hir_steps.proofs.Aside.{Aside, path_aside}
 use Rattle.hir_lower_form.specs.Lowering.{Lowering, ◌>>=◌, pure, alloc_expr}
 use Rattle.hir_lower_form.specs.Lower.{ExprSteps, StoredContents, missing, some, if_form, loop_form, call_form, continue_form, break_form}
 use Rattle.hir_lower_form.specs.Lower.{stored_leaf, stored_unary, stored_binary, stored_leaving}
 use Rattle.hir_lower_form.specs.Lower.{operand_form, operands_form, value_form, list_form, method_call_form, await_form}
-use Rattle.hir_lower_form.specs.Lower.{paren_form, block_form, labelled, settled, stored_path, stored_literal}
+use Rattle.hir_lower_form.specs.Lower.{paren_form, path_or_missing, path_form, block_form, labelled, settled, stored_literal}
 use Rattle.hir_steps.proofs.Frames.{Frame, loop_at, block_at, ribs}
 use Rattle.hir_steps.proofs.Steps.{Mark, Rel, Correct, Allocated, Opened, correct_bind, correct_as, correct_pure, correct_point}
 use Rattle.hir_steps.proofs.Steps.{correct_enter_block, correct_alloc, correct_opened, correct_target, with_fault, with_target, with_jump}
-use Rattle.hir_steps.proofs.Steps.{with_block, with_await, correct_report_await}
+use Rattle.hir_steps.proofs.Steps.{with_block, with_await, correct_report_await, correct_both, correct_such}
 use Rattle.hir_one_result.specs.Forms.{leaf_form, unary_form, binary_form, leaving_form}
 use Rattle.hir_one_result.specs.Leads.{Ways, OneWay, OneMissing, OneLabelWay, ◌&◌}
 use Rattle.hir_one_result.specs.Stands.{Open, Absent, There, ExprAt, LabelAt, StandsMissing, StandsAlone, StandsPath, StandsLiteral}
@@ -159,19 +163,29 @@ pub leaf_stands : (at : Pointer) (form : Leaf)
 leaf_stands at form = correct_as (alone_stands (stored_leaf form) at) (λ final ps m m' i g row.
     record { shown = shown_as row.shown (λ ws y. (subst (λ e. Placed final i e (Some at)) (leaf_is form) y.0, y.1)) })
 
-pub path_stands : (at : Pointer) (x : Option Segments) (h : HygieneId)
-    → Correct (alloc_expr (stored_path x h) (Some at))
-    (Shows (λ final rs i. StandsPath (store_of final) (map_of final) at (data_if_written x) h i))
-path_stands at x h = by (data_if_written x) (stored_path x h) (path_is x h)
-  where
-    by : (o : Option PathData) (e : HirExpr) → PathIs o h e
-        → Correct (alloc_expr e (Some at)) (Shows (λ final rs i. StandsPath (store_of final) (map_of final) at o h i))
-    by None e is =
-        subst (λ y. Correct (alloc_expr y (Some at))
-        (Shows (λ final rs i. StandsAlone (store_of final) (map_of final) hir.Missing at i))) (sym is)
-        (alone_stands hir.Missing at)
-    by (Some p) e is = correct_as (correct_alloc e (Some at)) (λ final ps m m' i g row.
-        record { shown = shown_as (own row) (λ ws y. (is.0, is.1, (subst (λ z. Placed final i z (Some at)) is.2 (expr_at row), y))) })
+moved_aside : {A : Type 0} {final : Stored} {ps : List Frame} {m m' : Mark} {a : A} → Aside final ps m m' a → Moved m.stored m'.stored []
+moved_aside {m' = m'} row = moved_same _ m'.stored refl row.exprs_are row.labels_are
+
+path_shown : {final : Stored} {qs : List Frame} {m m' : Mark} {i : ExprId} (at : Pointer) (h : HygieneId) (d : Option PathData)
+    (e : HirExpr)
+    → PathIs d h e → Allocated e (Some at) final qs m m' i
+    → Shown (StandsPath (store_of final) (map_of final) at d h i) m.stored m'.stored
+path_shown {final = final} {i = i} at h None e is row =
+    shown_as (own row) (λ ws y. (subst (λ z. Placed final i z (Some at)) is (expr_at row), y))
+path_shown {final = final} {i = i} at h (Some p) e is row =
+    shown_as (own row) (λ ws y. (is.0, is.1, (subst (λ z. Placed final i z (Some at)) is.2 (expr_at row), y)))
+
+pub path_stands : (at : Pointer) (p : OptionPath) (h : HygieneId)
+    → Correct (path_form at h (lower_path p))
+    (Shows (λ final rs i. StandsPath (store_of final) (map_of final) at (written_path p) h i))
+unfolding path_form
+path_stands at p h = correct_as
+    (correct_bind (correct_both (path_aside p) (correct_such (path_aside p) (path_law p)))
+    (λ r. correct_alloc (path_or_missing h r) (Some at)))
+    (λ final ps m m' i g row. record {
+      shown = shown_after (moved_aside row.first.one)
+          (path_shown at h (written_path p) (path_or_missing h row.one) (path_is row.one (written_path p) h row.first.other.is) row.second);
+    })
 
 pub literal_stands : (at : Pointer) (l : AstLiteral)
     → Correct (alloc_expr (hir.Literal (stored_literal l)) (Some at))

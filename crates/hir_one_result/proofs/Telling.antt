@@ -7,6 +7,8 @@ use Rattle.hir_store.specs.declared.hir.Expr.{Expr as HirExpr}
 use Rattle.hir_store.specs.declared.ids.ExprId.{ExprId}
 use Rattle.hir_store.specs.declared.ids.LabelId.{LabelId}
 use Rattle.hir_store.specs.declared.ids.BlockId.{BlockId}
+use Rattle.hir_store.specs.declared.ids.HygieneId.{HygieneId}
+use Rattle.hir_store.specs.declared.path.Path.{Path}
 use Rattle.hir_store.specs.declared.diagnostics.ExpressionStoreDiagnostics.{ExpressionStoreDiagnostics}
 use Rattle.hir_store.specs.declared.diagnostics.ExpressionStoreDiagnostics.TheVariants.{UndeclaredLabel, UnreachableLabel}
 use Rattle.hir_store.specs.declared.diagnostics.ExpressionStoreDiagnostics.TheVariants.{AwaitOutsideOfAsync}
@@ -22,7 +24,8 @@ use Rattle.hir_lower_form.specs.Lowering.{Lowering, ◌>>=◌, pure, alloc_expr,
 use Rattle.hir_lower_form.specs.Lowering.{open_label, close, jump_target}
 use Rattle.hir_lower_form.specs.Lower.{ExprSteps, StoredContents, missing, some, if_form, loop_form, call_form, continue_form, break_form}
 use Rattle.hir_lower_form.specs.Lower.{operand_form, operands_form, value_form, list_form, method_call_form, await_form}
-use Rattle.hir_lower_form.specs.Lower.{paren_form, block_form, labelled}
+use Rattle.hir_lower_form.specs.Lower.{paren_form, path_form, block_form, labelled}
+use Rattle.hir_steps.proofs.Aside.{Aside}
 use Rattle.hir_steps.proofs.Frames.{Frame, loop_at, block_at, ribs}
 use Rattle.hir_steps.proofs.Steps.{Mark, Correct, correct_bind, correct_as, correct_pure, correct_report, correct_report_await}
 use Rattle.hir_steps.proofs.Steps.{correct_point}
@@ -42,6 +45,7 @@ pub record Listing (X : Type 0) : Type 1 where
   pub expr : (e : HirExpr) (at : Option Pointer) (s : Stored) → list (with_expr e at s) ≡ list s
   pub label : (l : Label) (s : Stored) → list (with_label l s) ≡ list s
   pub way : (p : Pointer) (i : ExprId) (s : Stored) → list (pointing p i s) ≡ list s
+  pub unchanged : (a b : Stored) → b.diagnostics ≡ a.diagnostics → b.block_scopes ≡ a.block_scopes → list b ≡ list a
   pub Like : List X → List X → Type 0
   pub same : (xs : List X) → Like xs xs
   pub trans : (xs ys zs : List X) → Like xs ys → Like ys zs → Like xs zs
@@ -113,6 +117,10 @@ module _ {X : Type 0} (L : Listing X) where
   tells_point at i =
       correct_as (correct_point at i) (λ final ps m m' u g row.
       record { told = λ ss e. added_none (ap L.list row.stored ∙ L.way at i m.stored) })
+
+  pub tells_aside : {A : Type 0} {p : Lowering A} → Correct p Aside → Correct p (Tells nothing)
+  tells_aside h = correct_as h (λ final ps m m' a g row.
+      record { told = λ ss e. added_none (L.unchanged m.stored m'.stored row.diagnostics row.block_scopes) })
 
   pub tells_report : (d : ExpressionStoreDiagnostics) → Correct (report d) (Tells (λ ss. L.of_faults (d ∷ [])))
   tells_report d =
@@ -228,6 +236,10 @@ module _ {X : Type 0} (L : Listing X) where
     pub paren_tells : {D : List Scope → List X} {e : ExprSteps} → Correct e (Tells D) → Correct (paren_form at e) (Tells D)
     unfolding paren_form
     paren_tells h = tells_end h (λ i. tells_end (tells_point at i) (λ u. tells_pure i))
+
+    pub path_tells : (h : HygieneId) {p : Lowering (Option Path)} → Correct p Aside → Correct (path_form at h p) (Tells nothing)
+    unfolding path_form
+    path_tells h hp = tells_end (tells_aside hp) (λ r. tells_alloc _ _)
 
     pub operand_tells : (form : ExprId → HirExpr) {D : List Scope → List X} {e : ExprSteps} → Correct e (Tells D)
         → Correct (operand_form at form e) (Tells D)

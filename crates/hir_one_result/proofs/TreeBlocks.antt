@@ -10,6 +10,7 @@ use Rattle.hir_env.specs.Answered.{Expr, OptionExpr, Exprs, Block, OptionBlock, 
 use Rattle.hir_lower_form.specs.Lowering.{Lowering}
 use Rattle.hir_lower_form.specs.Lower.{ExprSteps, kept, lower, lower_part, present, kept_part, lower_each, lower_block, lower_block_part}
 use Rattle.hir_lower_form.specs.Lower.{lower_stmts, lower_stmt}
+use Rattle.hir_steps.proofs.Aside.{path_aside}
 use Rattle.hir_steps.proofs.Frames.{frames, ribs}
 use Rattle.hir_steps.proofs.Steps.{Correct}
 use Rattle.hir_steps.proofs.Steps.{with_block}
@@ -21,7 +22,7 @@ use Rattle.hir_one_result.proofs.AfterLowering.{after_lowering}
 use Rattle.hir_one_result.proofs.Telling.{Listing, Tells, tells_bind, tells_as, tells_end, tells_pure, tells_some, tells_report}
 use Rattle.hir_one_result.proofs.Telling.{missing_tells, if_tells, loop_tells, call_tells, continue_tells, break_tells, paren_tells}
 use Rattle.hir_one_result.proofs.Telling.{operand_tells, operands_tells, value_tells, list_tells, method_call_tells, await_tells}
-use Rattle.hir_one_result.proofs.Telling.{block_form_tells, labelled_tells, tells_alloc}
+use Rattle.hir_one_result.proofs.Telling.{path_tells, block_form_tells, labelled_tells, tells_alloc}
 
 entered_block : (n : Option BlockId) (s : Stored) → (with_block n s).block_scopes ≡ s.block_scopes ++ option_to_list n
 entered_block None s = sym (append-nil s.block_scopes)
@@ -39,6 +40,7 @@ entered = record {
   expr = λ e at s. refl;
   label = λ l s. refl;
   way = λ p i s. refl;
+  unchanged = λ a b faults blocks. blocks;
   Like = λ xs ys. xs ≡ ys;
   same = λ xs. refl;
   trans = λ xs ys zs e f. e ∙ f;
@@ -60,7 +62,7 @@ mutual
   node_blocks (tree.block_expr b) = block_blocks b
   node_blocks (tree.loop_expr at label b) = loop_tells entered at label (block_part_blocks b)
   node_blocks (tree.call_expr at f es) = call_tells entered at (part_blocks f) (each_blocks [] es)
-  node_blocks (tree.path_expr at x h) = tells_alloc entered _ _
+  node_blocks (tree.path_expr at p h) = path_tells entered at h (path_aside p)
   node_blocks (tree.continue_expr at jump) = continue_tells entered at jump
   node_blocks (tree.break_expr at jump e) = break_tells entered at jump (present_blocks e)
   node_blocks (tree.paren_expr at e) = paren_tells entered at (part_blocks e)

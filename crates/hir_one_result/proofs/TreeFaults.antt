@@ -14,6 +14,7 @@ use Rattle.hir_env.specs.Answered.{Expr, OptionExpr, Exprs, Block, OptionBlock, 
 use Rattle.hir_lower_form.specs.Lowering.{Lowering}
 use Rattle.hir_lower_form.specs.Lower.{ExprSteps, push_some, kept, lower, lower_part, present, kept_part, lower_each, lower_block}
 use Rattle.hir_lower_form.specs.Lower.{lower_block_part, lower_stmts}
+use Rattle.hir_steps.proofs.Aside.{path_aside}
 use Rattle.hir_steps.proofs.Frames.{ribs_frames}
 use Rattle.hir_steps.proofs.Steps.{Correct}
 use Rattle.hir_steps.proofs.Steps.{with_block}
@@ -24,7 +25,7 @@ use Rattle.hir_one_result.proofs.AfterLowering.{after_lowering}
 use Rattle.hir_one_result.proofs.Telling.{Listing, Tells, tells_bind, tells_as, tells_end, tells_pure, tells_some, tells_report}
 use Rattle.hir_one_result.proofs.Telling.{missing_tells, if_tells, loop_tells, call_tells, continue_tells, break_tells, paren_tells}
 use Rattle.hir_one_result.proofs.Telling.{operand_tells, operands_tells, value_tells, list_tells, method_call_tells, await_tells}
-use Rattle.hir_one_result.proofs.Telling.{block_form_tells, labelled_tells, tells_alloc}
+use Rattle.hir_one_result.proofs.Telling.{path_tells, block_form_tells, labelled_tells, tells_alloc}
 
 no_fault_in_block : (n : Option BlockId) (s : Stored) → (with_block n s).diagnostics ≡ s.diagnostics ++ []
 no_fault_in_block None s = sym (append-nil s.diagnostics)
@@ -42,6 +43,7 @@ reported = record {
   expr = λ e at s. refl;
   label = λ l s. refl;
   way = λ p i s. refl;
+  unchanged = λ a b faults blocks. faults;
   Like = IsPermutation;
   same = IsPermutation-refl;
   trans = IsPermutation-trans;
@@ -66,7 +68,7 @@ mutual
   node_faults (tree.block_expr b) = block_faults b
   node_faults (tree.loop_expr at label b) = loop_tells reported at label (block_part_faults b)
   node_faults (tree.call_expr at f es) = call_tells reported at (part_faults f) (each_faults [] es)
-  node_faults (tree.path_expr at x h) = tells_alloc reported _ _
+  node_faults (tree.path_expr at p h) = path_tells reported at h (path_aside p)
   node_faults (tree.continue_expr at jump) = continue_tells reported at jump
   node_faults (tree.break_expr at jump e) = break_tells reported at jump (present_faults e)
   node_faults (tree.paren_expr at e) = paren_tells reported at (part_faults e)

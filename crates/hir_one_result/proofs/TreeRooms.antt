@@ -1,5 +1,5 @@
--- Lowering a tree stores so many expressions and labels as it becomes, or there is no room for them.
-use Rattle.std.proofs.Common.{arith, ℕ, ◌+◌, Bool, true, false, if◌then◌else◌, List, [], Option, Some, None, Ok, Err}
+-- Lowering a tree stores as much as it becomes, or there is no room for it.
+use Rattle.std.proofs.Common.{arith, Bool, true, false, List, [], Option, Some, None, Ok, Err, inl, inr, ⊎_elim}
 use Rattle.hir_store.specs.Pointers.{Pointer}
 use Rattle.hir_store.specs.declared.hir.Expr.{Expr as HirExpr}
 use Rattle.hir_store.specs.declared.hir.Statement.{Statement}
@@ -8,113 +8,129 @@ use Rattle.hir_store.specs.declared.diagnostics.AwaitLocation.{AwaitLocation}
 use Rattle.hir_store.specs.declared.ids.ExprId.{ExprId}
 use Rattle.hir_store.specs.declared.ids.LabelId.{LabelId}
 use Rattle.hir_store.specs.declared.ids.BlockId.{BlockId}
+use Rattle.hir_store.specs.declared.ids.HygieneId.{HygieneId}
 use Rattle.hir_env.specs.Answered as tree
-use Rattle.hir_env.specs.Answered.{Listing, Label, Jump, Expr, OptionExpr, Exprs, Block, OptionBlock, Stmts, Stmt}
+use Rattle.hir_env.specs.Answered.{OptionPath, Listing, Label, Jump, Expr, OptionExpr, Exprs, Block, OptionBlock, Stmts, Stmt}
 use Rattle.hir_meaning.specs.Left.{is_kept}
 use Rattle.hir_lower_form.specs.Builder.{Builder}
 use Rattle.hir_lower_form.specs.Lowering.{Checked, Lowering}
 use Rattle.hir_lower_form.specs.Lower.{ExprSteps, StoredContents, missing, some, if_form, loop_form, call_form, continue_form}
-use Rattle.hir_lower_form.specs.Lower.{break_form, paren_form, operand_form, operands_form, value_form, list_form}
+use Rattle.hir_lower_form.specs.Lower.{break_form, paren_form, path_form, operand_form, operands_form, value_form, list_form}
 use Rattle.hir_lower_form.specs.Lower.{method_call_form, await_form, block_form, labelled, kept, lower, lower_part}
 use Rattle.hir_lower_form.specs.Lower.{present, kept_part, lower_each, lower_block, lower_block_part, lower_stmts, lower_stmt}
-use Rattle.hir_one_result.specs.Room.{label_room, front_room, room, room_present, room_kept, room_each, block_room}
-use Rattle.hir_one_result.specs.Room.{block_part_room, stmts_room, stmt_room, count_of_exprs, count_of_labels}
+use Rattle.hir_one_result.specs.Room.{Size, nothing, an_expr, a_path, ◌∪◌, if_kept, label_size, front_size, size}
+use Rattle.hir_one_result.specs.Room.{size_part, size_present, size_kept, size_each, block_size, block_part_size, stmts_size, stmt_size}
+use Rattle.hir_lower_form.specs.Paths.{lower_path}
 use Rattle.hir_one_result.specs.Laws.{FitsUnless, AllFit}
-use Rattle.hir_one_result.proofs.Rooms.{Room, Takes, takes_then, takes_as, takes_end, takes_begin, takes_pure, takes_report, takes_block}
-use Rattle.hir_one_result.proofs.Rooms.{takes_close, takes_point, takes_jump, takes_alloc, takes_open, takes_report_await}
+use Rattle.hir_one_result.proofs.Rooms.{Room, Takes, Same, takes_then, takes_as, takes_end, takes_begin, takes_pure, takes_report}
+use Rattle.hir_one_result.proofs.Rooms.{takes_block, takes_close, takes_point, takes_jump, takes_alloc, takes_open, takes_report_await}
+use Rattle.hir_one_result.proofs.Rooms.{takes_path, nothing_first, moved_in, moved_out}
 
-missing_takes : Takes 1 0 missing
+missing_takes : Takes an_expr missing
 unfolding missing
 missing_takes = takes_alloc _ None
 
-some_takes : {n l : ℕ} {p : ExprSteps} → Takes n l p → Takes n l (some p)
+some_takes : {n : Size} {p : ExprSteps} → Takes n p → Takes n (some p)
 some_takes h = takes_end h (λ a. takes_pure (Some a))
 
-module _ (at : Pointer) where
-  if_takes : {n l k j m i : ℕ} {c t : ExprSteps} {e : Lowering (Option ExprId)} → Takes n l c → Takes k j t → Takes m i e
-      → Takes (n + (k + (m + 1))) (l + (j + (i + 0))) (if_form at c t e)
-  unfolding if_form
-  if_takes hc ht he =
-      takes_as (omega arith) (omega arith) (takes_then ht (λ x. takes_then he (λ y. takes_then hc (λ z. takes_alloc _ (Some at)))))
+-- the condition is lowered last
+condition_last : (n k m j : Size) → Same (k ∪ (m ∪ (n ∪ j))) (n ∪ (k ∪ (m ∪ j)))
+condition_last n k m j = record {
+  exprs = omega arith;
+  labels = omega arith;
+  overcounts = λ h. ⊎_elim (λ x. inr (inl x))
+      (λ y. ⊎_elim (λ x. inr (inr (inl x))) (λ z. ⊎_elim (λ x. inl x) (λ x. inr (inr (inr x))) z) y) h;
+}
 
-  loop_takes : (label : Option Label) {n l : ℕ} {b : ExprSteps} → Takes n l b
-      → Takes (label_room 1 0 label + (n + 1)) (label_room 0 1 label + (l + 0)) (loop_form at label b)
+module _ (at : Pointer) where
+  if_takes : {n k m : Size} {c t : ExprSteps} {e : Lowering (Option ExprId)} → Takes n c → Takes k t → Takes m e
+      → Takes (n ∪ (k ∪ (m ∪ an_expr))) (if_form at c t e)
+  unfolding if_form
+  if_takes hc ht he = takes_as (condition_last _ _ _ an_expr)
+      (takes_then ht (λ x. takes_then he (λ y. takes_then hc (λ z. takes_alloc _ (Some at)))))
+
+  loop_takes : (label : Option Label) {n : Size} {b : ExprSteps} → Takes n b
+      → Takes (label_size label ∪ (n ∪ an_expr)) (loop_form at label b)
   unfolding loop_form
-  loop_takes None h = takes_as (omega arith) (omega arith) (takes_then h (λ i. takes_alloc _ (Some at)))
+  loop_takes None h = takes_as (nothing_first _) (takes_then h (λ i. takes_alloc _ (Some at)))
   loop_takes (Some l) h =
       takes_then (takes_open l) (λ n. takes_then h (λ i. takes_begin takes_close (λ u. takes_alloc _ (Some at))))
 
-  call_takes : {n l k j : ℕ} {f : ExprSteps} {xs : Lowering (List ExprId)} → Takes n l f → Takes k j xs
-      → Takes (n + (k + 1)) (l + (j + 0)) (call_form at f xs)
+  call_takes : {n k : Size} {f : ExprSteps} {xs : Lowering (List ExprId)} → Takes n f → Takes k xs
+      → Takes (n ∪ (k ∪ an_expr)) (call_form at f xs)
   unfolding call_form
   call_takes hf hx = takes_then hf (λ i. takes_then hx (λ is. takes_alloc _ (Some at)))
 
-  continue_takes : (j : Option Jump) → Takes 1 0 (continue_form at j)
+  continue_takes : (j : Option Jump) → Takes an_expr (continue_form at j)
   unfolding continue_form
   continue_takes j = takes_begin (takes_jump j) (λ n. takes_alloc _ (Some at))
 
-  break_takes : (j : Option Jump) {n l : ℕ} {e : Lowering (Option ExprId)} → Takes n l e → Takes (n + 1) (l + 0) (break_form at j e)
+  break_takes : (j : Option Jump) {n : Size} {e : Lowering (Option ExprId)} → Takes n e → Takes (n ∪ an_expr) (break_form at j e)
   unfolding break_form
   break_takes j h = takes_begin (takes_jump j) (λ n. takes_then h (λ v. takes_alloc _ (Some at)))
 
-  paren_takes : {n l : ℕ} {e : ExprSteps} → Takes n l e → Takes n l (paren_form at e)
+  paren_takes : {n : Size} {e : ExprSteps} → Takes n e → Takes n (paren_form at e)
   unfolding paren_form
   paren_takes h = takes_end h (λ i. takes_end (takes_point at i) (λ u. takes_pure i))
 
-  operand_takes : (form : ExprId → HirExpr) {n l : ℕ} {e : ExprSteps} → Takes n l e → Takes (n + 1) (l + 0) (operand_form at form e)
+  path_takes : (p : OptionPath) (h : HygieneId) → Takes (a_path p ∪ an_expr) (path_form at h (lower_path p))
+  unfolding path_form
+  path_takes p h = takes_then (takes_path p) (λ r. takes_alloc _ (Some at))
+
+  operand_takes : (form : ExprId → HirExpr) {n : Size} {e : ExprSteps} → Takes n e → Takes (n ∪ an_expr) (operand_form at form e)
   unfolding operand_form
   operand_takes form h = takes_then h (λ i. takes_alloc _ (Some at))
 
-  operands_take : (form : ExprId → ExprId → HirExpr) {n l k j : ℕ} {a b : ExprSteps} → Takes n l a → Takes k j b
-      → Takes (n + (k + 1)) (l + (j + 0)) (operands_form at form a b)
+  operands_take : (form : ExprId → ExprId → HirExpr) {n k : Size} {a b : ExprSteps} → Takes n a → Takes k b
+      → Takes (n ∪ (k ∪ an_expr)) (operands_form at form a b)
   unfolding operands_form
   operands_take form ha hb = takes_then ha (λ i. takes_then hb (λ j. takes_alloc _ (Some at)))
 
-  value_takes : (form : Option ExprId → HirExpr) {n l : ℕ} {e : Lowering (Option ExprId)} → Takes n l e
-      → Takes (n + 1) (l + 0) (value_form at form e)
+  value_takes : (form : Option ExprId → HirExpr) {n : Size} {e : Lowering (Option ExprId)} → Takes n e
+      → Takes (n ∪ an_expr) (value_form at form e)
   unfolding value_form
   value_takes form h = takes_then h (λ i. takes_alloc _ (Some at))
 
-  list_takes : (form : Listing) {n l : ℕ} {xs : Lowering (List ExprId)} → Takes n l xs
-      → Takes (n + (front_room 1 0 form + 1)) (l + (front_room 0 1 form + 0)) (list_form at form xs)
+  list_takes : (form : Listing) {n : Size} {xs : Lowering (List ExprId)} → Takes n xs
+      → Takes (n ∪ (front_size form ∪ an_expr)) (list_form at form xs)
   unfolding list_form
-  list_takes (tree.tuple_of false) h = takes_then h (λ is. takes_alloc _ (Some at))
+  list_takes (tree.tuple_of false) h = takes_then h (λ is. takes_as (nothing_first an_expr) (takes_alloc _ (Some at)))
   list_takes (tree.tuple_of true) h = takes_then h (λ is. takes_then missing_takes (λ i. takes_alloc _ (Some at)))
-  list_takes tree.array_of h = takes_then h (λ is. takes_alloc _ (Some at))
+  list_takes tree.array_of h = takes_then h (λ is. takes_as (nothing_first an_expr) (takes_alloc _ (Some at)))
 
-  method_call_takes : (name : Name) {n l k j : ℕ} {e : ExprSteps} {xs : Lowering (List ExprId)} → Takes n l e → Takes k j xs
-      → Takes (n + (k + 1)) (l + (j + 0)) (method_call_form at e name xs)
+  method_call_takes : (name : Name) {n k : Size} {e : ExprSteps} {xs : Lowering (List ExprId)} → Takes n e → Takes k xs
+      → Takes (n ∪ (k ∪ an_expr)) (method_call_form at e name xs)
   unfolding method_call_form
   method_call_takes name he hx = takes_then he (λ i. takes_then hx (λ is. takes_alloc _ (Some at)))
 
-  await_takes : (location : Option AwaitLocation) {n l : ℕ} {e : ExprSteps} → Takes n l e → Takes (n + 1) (l + 0) (await_form at location e)
+  await_takes : (location : Option AwaitLocation) {n : Size} {e : ExprSteps} → Takes n e → Takes (n ∪ an_expr) (await_form at location e)
   unfolding await_form
   await_takes location h = takes_then h (λ i. takes_begin (takes_report_await at location) (λ u. takes_alloc _ (Some at)))
 
-  block_form_takes : (is_unsafe : Bool) (label : Option LabelId) (number : Option BlockId) {n l : ℕ} {c : Lowering StoredContents}
-      → Takes n l c → Takes (n + 1) (l + 0) (block_form at is_unsafe label number c)
+  block_form_takes : (is_unsafe : Bool) (label : Option LabelId) (number : Option BlockId) {n : Size} {c : Lowering StoredContents}
+      → Takes n c → Takes (n ∪ an_expr) (block_form at is_unsafe label number c)
   unfolding block_form
   block_form_takes is_unsafe label number h = takes_begin (takes_block number) (λ u. takes_then h (λ r. takes_alloc _ (Some at)))
 
-labelled_takes : (label : Option Label) {n l : ℕ} {f : Option LabelId → ExprSteps} → ((o : Option LabelId) → Takes n l (f o))
-    → Takes (label_room 1 0 label + n) (label_room 0 1 label + l) (labelled label f)
+labelled_takes : (label : Option Label) {n : Size} {f : Option LabelId → ExprSteps} → ((o : Option LabelId) → Takes n (f o))
+    → Takes (label_size label ∪ n) (labelled label f)
 unfolding labelled
-labelled_takes None h = takes_as (omega arith) (omega arith) (h None)
+labelled_takes None h = takes_as (nothing_first _) (h None)
 labelled_takes (Some l) h =
     takes_then (takes_open l) (λ n. takes_end (h (Some n)) (λ i. takes_end takes_close (λ u. takes_pure i)))
 
-kept_takes : (e : Expr) {n l : ℕ} {p : ExprSteps} → Takes n l p → Takes (if is_kept e then n else 0) (if is_kept e then l else 0) (kept e p)
+kept_takes : (e : Expr) {n : Size} {p : ExprSteps} → Takes n p → Takes (if_kept (is_kept e) n) (kept e p)
 kept_takes (tree.disabled_expr at by e) h = takes_end (takes_report _) (λ u. takes_pure None)
 kept_takes e h = some_takes h
 
 mutual
-  node_takes : (e : Expr) → Takes (room 1 0 e) (room 0 1 e) (lower e)
+  node_takes : (e : Expr) → Takes (size e) (lower e)
   node_takes (tree.disabled_expr at by e) = takes_begin (takes_report _) (λ u. missing_takes)
   node_takes (tree.if_expr at c t e) = if_takes at (part_takes c) (block_part_takes t) (present_takes e)
   node_takes (tree.block_expr b) = block_takes b
   node_takes (tree.loop_expr at label b) = loop_takes at label (block_part_takes b)
   node_takes (tree.call_expr at f es) = call_takes at (part_takes f) (each_takes [] es)
-  node_takes (tree.path_expr at x h) = takes_alloc _ (Some at)
+  node_takes (tree.path_expr at p h) = path_takes at p h
   node_takes (tree.continue_expr at jump) = continue_takes at jump
   node_takes (tree.break_expr at jump e) = break_takes at jump (present_takes e)
   node_takes (tree.paren_expr at e) = paren_takes at (part_takes e)
@@ -131,44 +147,44 @@ mutual
   node_takes (tree.await_expr at location e) = await_takes at location (part_takes e)
   node_takes (tree.nameless_expr at e) = operand_takes at _ (part_takes e)
 
-  pub part_takes : (e : OptionExpr) → Takes (count_of_exprs e) (count_of_labels e) (lower_part e)
+  pub part_takes : (e : OptionExpr) → Takes (size_part e) (lower_part e)
   part_takes tree.no_expr = missing_takes
   part_takes (tree.some_expr e) = node_takes e
 
-  present_takes : (e : OptionExpr) → Takes (room_present 1 0 e) (room_present 0 1 e) (present e)
+  present_takes : (e : OptionExpr) → Takes (size_present e) (present e)
   present_takes tree.no_expr = takes_pure None
   present_takes (tree.some_expr e) = some_takes (node_takes e)
 
-  kept_part_takes : (e : OptionExpr) → Takes (room_kept 1 0 e) (room_kept 0 1 e) (kept_part e)
+  kept_part_takes : (e : OptionExpr) → Takes (size_kept e) (kept_part e)
   kept_part_takes tree.no_expr = takes_pure None
   kept_part_takes (tree.some_expr e) = kept_takes e (node_takes e)
 
-  each_takes : (done : List ExprId) (es : Exprs) → Takes (room_each 1 0 es) (room_each 0 1 es) (lower_each done es)
+  each_takes : (done : List ExprId) (es : Exprs) → Takes (size_each es) (lower_each done es)
   each_takes done tree.no_exprs = takes_pure done
   each_takes done (tree.more_exprs e es) = takes_then (kept_takes e (node_takes e)) (λ x. each_takes _ es)
 
-  block_takes : (b : Block) → Takes (block_room 1 0 b) (block_room 0 1 b) (lower_block b)
+  block_takes : (b : Block) → Takes (block_size b) (lower_block b)
   block_takes (tree.block at is_unsafe label number ss e) =
-      labelled_takes label (λ n. takes_as (omega arith) (omega arith)
-      (block_form_takes at is_unsafe n number (stmts_take [] ss (kept_part_takes e))))
+      labelled_takes label (λ n. takes_as (moved_out (stmts_size ss) (size_kept e) an_expr)
+      (block_form_takes at is_unsafe n number (stmts_take [] ss e (kept_part_takes e))))
 
-  block_part_takes : (b : OptionBlock) → Takes (block_part_room 1 0 b) (block_part_room 0 1 b) (lower_block_part b)
+  block_part_takes : (b : OptionBlock) → Takes (block_part_size b) (lower_block_part b)
   block_part_takes tree.no_block = missing_takes
   block_part_takes (tree.some_block b) = block_takes b
 
-  stmts_take : (done : List Statement) (ss : Stmts) {n l : ℕ} {tail : Lowering (Option ExprId)} → Takes n l tail
-      → Takes (stmts_room 1 0 ss + n) (stmts_room 0 1 ss + l) (lower_stmts done ss tail)
-  stmts_take done tree.no_stmts h = takes_as (omega arith) (omega arith) (takes_end h (λ t. takes_pure (done, t)))
-  stmts_take done (tree.more_stmts s ss) h =
-      takes_as (omega arith) (omega arith) (takes_then (stmt_takes s) (λ x. stmts_take _ ss h))
+  stmts_take : (done : List Statement) (ss : Stmts) (e : OptionExpr) → Takes (size_kept e) (kept_part e)
+      → Takes (stmts_size ss ∪ size_kept e) (lower_stmts done ss (kept_part e))
+  stmts_take done tree.no_stmts e h = takes_as (nothing_first _) (takes_end h (λ t. takes_pure (done, t)))
+  stmts_take done (tree.more_stmts s ss) e h =
+      takes_as (moved_in (stmt_size s) (stmts_size ss) (size_kept e)) (takes_then (stmt_takes s) (λ x. stmts_take _ ss e h))
 
-  stmt_takes : (s : Stmt) → Takes (stmt_room 1 0 s) (stmt_room 0 1 s) (lower_stmt s)
+  stmt_takes : (s : Stmt) → Takes (stmt_size s) (lower_stmt s)
   stmt_takes (tree.expr_stmt e semi) = takes_end (kept_part_takes e) (λ x. takes_pure _)
   stmt_takes tree.item_stmt = takes_pure _
 
 pub all_fit : AllFit
 all_fit e old = by (lower_part e old).0 (lower_part e old).1 ((part_takes e).takes old)
   where
-    by : (o : Checked ExprId) (new : Builder) → Room (count_of_exprs e) (count_of_labels e) old o new → FitsUnless e old.stored o new.stored
+    by : (o : Checked ExprId) (new : Builder) → Room (size_part e) old o new → FitsUnless e old.stored o new.stored
     by (Ok i) new h = record { exprs = h.exprs; labels = h.labels }
     by (Err f) new h = h

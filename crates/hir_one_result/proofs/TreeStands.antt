@@ -101,7 +101,7 @@ mutual
   node_stands (tree.block_expr b) = block_stands b
   node_stands (tree.loop_expr at label b) = loop_stands at label (block_part_stands b)
   node_stands (tree.call_expr at f es) = call_stands at (part_stands f) (all_stand_for es (each_stands [] es))
-  node_stands (tree.path_expr at x h) = path_stands at x h
+  node_stands (tree.path_expr at p h) = path_stands at p h
   node_stands (tree.continue_expr at jump) = continue_stands at jump
   node_stands (tree.break_expr at jump e) = break_stands at jump (present_stands e)
   node_stands (tree.paren_expr at e) = paren_stands at (part_stands e)

@@ -1,87 +1,119 @@
--- How many expressions and labels a tree becomes. Each written expression becomes one, but parentheses become none besides
--- what is in them. An absent or disabled part is one missing expression, or none where the form knows none, and so is what
--- stands in front of a tuple with a leading comma. Nothing in a disabled node becomes anything.
-use Rattle.std.specs.Prelude.{ℕ, ◌+◌, ◌<◌, ◌⊎◌, Option, Some, None, true, false, if◌then◌else◌, length}
+-- How large a tree is: how many expressions and labels it becomes. Each written expression becomes one, but parentheses become
+-- none besides what is in them. An absent or disabled part is one missing expression, or none where the form knows none, and
+-- so is what stands in front of a tuple with a leading comma. Nothing in a disabled node becomes anything.
+use Rattle.std.specs.Prelude.{ℕ, ◌+◌, ◌<◌, ◌⊎◌, Bool, Option, Some, None, true, false, length}
 use Rattle.hir_store.specs.Stored.{Stored}
 use Rattle.hir_env.specs.Answered as tree
-use Rattle.hir_env.specs.Answered.{Listing, Label, Expr, OptionExpr, Exprs, Block, OptionBlock, Stmts, Stmt}
+use Rattle.hir_env.specs.Answered.{OptionPath, Listing, Label, Expr, OptionExpr, Exprs, Block, OptionBlock, Stmts, Stmt}
+use Rattle.hir_data.specs.Written.{overcounts}
 use Rattle.hir_meaning.specs.Left.{is_kept}
 
--- where each expression counts so much, and each label so much
-module _ (an_expr a_label : ℕ) where
-  abbrev pub label_room : Option Label → ℕ
-  label_room None = 0
-  label_room (Some l) = a_label
+pub record Size : Type 1 where
+  pub exprs : ℕ
+  pub labels : ℕ
+  -- some path that is read has more `super`s than are counted
+  pub overcounts : Type 0
 
-  -- in front of a tuple with a leading comma stands a missing element
-  abbrev pub front_room : Listing → ℕ
-  front_room (tree.tuple_of false) = 0
-  front_room (tree.tuple_of true) = an_expr
-  front_room tree.array_of = 0
+abbrev pub nothing : Size
+nothing = record { exprs = 0; labels = 0; overcounts = ⊥ }
 
-  abbrev mutual
-    pub room : Expr → ℕ
-    room (tree.disabled_expr at by e) = an_expr
-    room (tree.if_expr at c t e) = room_part c + (block_part_room t + (room_present e + an_expr))
-    room (tree.block_expr b) = block_room b
-    room (tree.loop_expr at label b) = label_room label + (block_part_room b + an_expr)
-    room (tree.call_expr at f es) = room_part f + (room_each es + an_expr)
-    room (tree.path_expr at x h) = an_expr
-    room (tree.continue_expr at jump) = an_expr
-    room (tree.break_expr at jump e) = room_present e + an_expr
-    room (tree.paren_expr at e) = room_part e
-    room (tree.literal_expr at l) = an_expr
-    room (tree.leaf_expr at form) = an_expr
-    room (tree.unary_expr at form e) = room_part e + an_expr
-    room (tree.binary_expr at form a b) = room_part a + (room_part b + an_expr)
-    room (tree.lazy_expr at op a b) = room_part a + (room_part b + an_expr)
-    room (tree.list_expr at form es) = room_each es + (front_room form + an_expr)
-    room (tree.method_call_expr at e name es) = room_part e + (room_each es + an_expr)
-    room (tree.leaving_expr at form e) = room_present e + an_expr
-    room (tree.become_expr at e) = room_part e + an_expr
-    room (tree.yield_expr at e) = room_present e + an_expr
-    room (tree.await_expr at location e) = room_part e + an_expr
-    room (tree.nameless_expr at e) = room_part e + an_expr
+abbrev pub an_expr : Size
+an_expr = record { exprs = 1; labels = 0; overcounts = ⊥ }
 
-    -- of a part that is missing where it is absent
-    pub room_part : OptionExpr → ℕ
-    room_part tree.no_expr = an_expr
-    room_part (tree.some_expr e) = room e
+abbrev pub a_label : Size
+a_label = record { exprs = 0; labels = 1; overcounts = ⊥ }
 
-    pub room_present : OptionExpr → ℕ
-    room_present tree.no_expr = 0
-    room_present (tree.some_expr e) = room e
+abbrev pub a_path : OptionPath → Size
+a_path p = record { exprs = 0; labels = 0; overcounts = overcounts p }
 
-    -- of a part that is left out where it is absent or disabled
-    pub room_kept : OptionExpr → ℕ
-    room_kept tree.no_expr = 0
-    room_kept (tree.some_expr e) = if is_kept e then room e else 0
+infixr 20 ◌∪◌
+abbrev pub ◌∪◌ : Size → Size → Size
+a ∪ b = record { exprs = a.exprs + b.exprs; labels = a.labels + b.labels; overcounts = a.overcounts ⊎ b.overcounts }
 
-    pub room_each : Exprs → ℕ
-    room_each tree.no_exprs = 0
-    room_each (tree.more_exprs e es) = (if is_kept e then room e else 0) + room_each es
+abbrev pub if_kept : Bool → Size → Size
+if_kept true a = a
+if_kept false a = nothing
 
-    pub block_room : Block → ℕ
-    block_room (tree.block at is_unsafe label number ss e) = label_room label + (stmts_room ss + (room_kept e + an_expr))
+abbrev pub label_size : Option Label → Size
+label_size None = nothing
+label_size (Some l) = a_label
 
-    pub block_part_room : OptionBlock → ℕ
-    block_part_room tree.no_block = an_expr
-    block_part_room (tree.some_block b) = block_room b
+-- in front of a tuple with a leading comma stands a missing element
+abbrev pub front_size : Listing → Size
+front_size (tree.tuple_of false) = nothing
+front_size (tree.tuple_of true) = an_expr
+front_size tree.array_of = nothing
 
-    pub stmts_room : Stmts → ℕ
-    stmts_room tree.no_stmts = 0
-    stmts_room (tree.more_stmts s ss) = stmt_room s + stmts_room ss
+abbrev mutual
+  pub size : Expr → Size
+  size (tree.disabled_expr at by e) = an_expr
+  size (tree.if_expr at c t e) = size_part c ∪ block_part_size t ∪ size_present e ∪ an_expr
+  size (tree.block_expr b) = block_size b
+  size (tree.loop_expr at label b) = label_size label ∪ block_part_size b ∪ an_expr
+  size (tree.call_expr at f es) = size_part f ∪ size_each es ∪ an_expr
+  size (tree.path_expr at p h) = a_path p ∪ an_expr
+  size (tree.continue_expr at jump) = an_expr
+  size (tree.break_expr at jump e) = size_present e ∪ an_expr
+  size (tree.paren_expr at e) = size_part e
+  size (tree.literal_expr at l) = an_expr
+  size (tree.leaf_expr at form) = an_expr
+  size (tree.unary_expr at form e) = size_part e ∪ an_expr
+  size (tree.binary_expr at form a b) = size_part a ∪ size_part b ∪ an_expr
+  size (tree.lazy_expr at op a b) = size_part a ∪ size_part b ∪ an_expr
+  size (tree.list_expr at form es) = size_each es ∪ front_size form ∪ an_expr
+  size (tree.method_call_expr at e name es) = size_part e ∪ size_each es ∪ an_expr
+  size (tree.leaving_expr at form e) = size_present e ∪ an_expr
+  size (tree.become_expr at e) = size_part e ∪ an_expr
+  size (tree.yield_expr at e) = size_present e ∪ an_expr
+  size (tree.await_expr at location e) = size_part e ∪ an_expr
+  size (tree.nameless_expr at e) = size_part e ∪ an_expr
 
-    pub stmt_room : Stmt → ℕ
-    stmt_room (tree.expr_stmt e semi) = room_kept e
-    stmt_room tree.item_stmt = 0
+  -- of a part that is missing where it is absent
+  pub size_part : OptionExpr → Size
+  size_part tree.no_expr = an_expr
+  size_part (tree.some_expr e) = size e
+
+  pub size_present : OptionExpr → Size
+  size_present tree.no_expr = nothing
+  size_present (tree.some_expr e) = size e
+
+  -- of a part that is left out where it is absent or disabled
+  pub size_kept : OptionExpr → Size
+  size_kept tree.no_expr = nothing
+  size_kept (tree.some_expr e) = if_kept (is_kept e) (size e)
+
+  pub size_each : Exprs → Size
+  size_each tree.no_exprs = nothing
+  size_each (tree.more_exprs e es) = if_kept (is_kept e) (size e) ∪ size_each es
+
+  pub block_size : Block → Size
+  block_size (tree.block at is_unsafe label number ss e) = label_size label ∪ stmts_size ss ∪ size_kept e ∪ an_expr
+
+  pub block_part_size : OptionBlock → Size
+  block_part_size tree.no_block = an_expr
+  block_part_size (tree.some_block b) = block_size b
+
+  pub stmts_size : Stmts → Size
+  stmts_size tree.no_stmts = nothing
+  stmts_size (tree.more_stmts s ss) = stmt_size s ∪ stmts_size ss
+
+  pub stmt_size : Stmt → Size
+  stmt_size (tree.expr_stmt e semi) = size_kept e
+  stmt_size tree.item_stmt = nothing
 
 abbrev pub count_of_exprs : OptionExpr → ℕ
-count_of_exprs e = room_part 1 0 e
+count_of_exprs e = (size_part e).exprs
 
 abbrev pub count_of_labels : OptionExpr → ℕ
-count_of_labels e = room_part 0 1 e
+count_of_labels e = (size_part e).labels
 
--- behind what is stored there is no room for the tree: it becomes more expressions, or more labels, than the arenas have room for
+-- some path of the tree that is read has more `super`s than are counted
+abbrev pub Overcounts : OptionExpr → Type 0
+Overcounts e = (size_part e).overcounts
+
+-- There is no room for the tree behind what is stored: it becomes more expressions, or more labels, than the arenas have room for,
+-- or a path in it counts too far.
 abbrev pub TooLarge : Stored → OptionExpr → Type 0
-TooLarge s e = (s.exprs.limit < length s.exprs.entries + count_of_exprs e) ⊎ (s.labels.limit < length s.labels.entries + count_of_labels e)
+TooLarge s e =
+    (s.exprs.limit < length s.exprs.entries + count_of_exprs e)
+    ⊎ ((s.labels.limit < length s.labels.entries + count_of_labels e) ⊎ Overcounts e)

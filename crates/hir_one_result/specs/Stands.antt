@@ -19,7 +19,11 @@ use Rattle.hir_store.specs.declared.ids.HygieneId.{HygieneId}
 use Rattle.hir_scope.specs.Ribs.{Rib, label_rib, jump_number}
 use Rattle.hir_env.specs.Answered as tree
 use Rattle.hir_env.specs.Answered.{Listing, Label, Expr, OptionExpr, Exprs, Block, OptionBlock, Stmts}
-use Rattle.hir_meaning.specs.Data.{PathData, literal_data, literal_read, data_if_written, path_read, lookup_hygiene}
+use Rattle.hir_data.specs.Data.{PathData}
+use Rattle.hir_data.specs.Reading.{stored_path}
+use Rattle.hir_data.specs.Written.{written_path}
+use Rattle.hir_data.specs.Lookup.{lookup_hygiene}
+use Rattle.hir_meaning.specs.Data.{literal_data, literal_read}
 use Rattle.hir_meaning.specs.Left.{is_kept, is_left, gives_value}
 use Rattle.hir_meaning.specs.Contents.{BlockContents}
 use Rattle.hir_one_result.specs.Forms.{leaf_form, unary_form, binary_form, lazy_form, leaving_form}
@@ -84,7 +88,7 @@ module _ (store : Store) (source_map : SourceMap) where
   -- It is read as it was written. An absent or refused path is a missing expression.
   abbrev pub StandsPath : Pointer → Option PathData → HygieneId → ExprId → Ways
   StandsPath at None h i = StandsAlone hir.Missing at i
-  StandsPath at (Some p) h i = λ ws. (path : Path) × (path_read path ≡ p) × StandsAlone (hir.Path path (lookup_hygiene p h)) at i ws
+  StandsPath at (Some p) h i = λ ws. (path : Path) × (stored_path path ≡ p) × StandsAlone (hir.Path path (lookup_hygiene p h)) at i ws
 
   abbrev pub StandsLiteral : Pointer → AstLiteral → ExprId → Ways
   StandsLiteral at l i = λ ws. (literal : Literal) × (literal_read literal ≡ literal_data l) × StandsAlone (hir.Literal literal) at i ws
@@ -108,7 +112,7 @@ module _ (store : Store) (source_map : SourceMap) where
     Stands rs (tree.call_expr at f es) i = λ ws.
         (callee : ExprId) × (arguments : List ExprId) × ExprAt i (hir.Call callee arguments) (Some at)
         × (StandsPart rs f callee & StandsEach rs es arguments & OneWay at i) ws
-    Stands rs (tree.path_expr at x h) i = StandsPath at (data_if_written x) h i
+    Stands rs (tree.path_expr at p h) i = StandsPath at (written_path p) h i
     Stands rs (tree.continue_expr at jump) i = StandsAlone (hir.Continue (jump_number rs jump)) at i
     Stands rs (tree.break_expr at jump e) i = λ ws.
         (value : Option ExprId) × ExprAt i (hir.Break (jump_number rs jump) value) (Some at) × (StandsPresent rs e value & OneWay at i) ws

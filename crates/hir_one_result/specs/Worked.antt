@@ -10,14 +10,15 @@ use Rattle.hir_store.specs.declared.hir.Statement.TheVariants as statement
 use Rattle.hir_store.specs.declared.name.Name.{Name}
 use Rattle.hir_store.specs.declared.name.Name.TheVariants as name
 use Rattle.hir_store.specs.declared.path.Path.TheVariants.{BarePath}
-use Rattle.hir_store.specs.declared.path.PathKind.TheVariants.{Plain}
+use Rattle.hir_store.specs.declared.path.PathKind.TheVariants as kind
 use Rattle.hir_store.specs.declared.ids.BlockId.{BlockId}
 use Rattle.hir_store.specs.declared.ids.CfgId.{CfgId}
 use Rattle.hir_store.specs.declared.ids.ExprId.{ExprId}
 use Rattle.hir_store.specs.declared.ids.LabelId.{LabelId}
 use Rattle.hir_scope.specs.Scopes.{loop_scope, barrier}
 use Rattle.hir_env.specs.Answered as tree
-use Rattle.hir_env.specs.Answered.{Expr, OptionExpr, Exprs, Block, Stmts}
+use Rattle.hir_env.specs.Answered.{Segment, Expr, OptionExpr, Exprs, Block, Stmts}
+use Rattle.hir_data.specs.Worked.{whole}
 use Rattle.hir_meaning.specs.Small.{at, root, one, two, literal_at, label_with, label_a, jump_a, first, in_braces, loop_of}
 use Rattle.hir_meaning.specs.Small.{stored_one, stored_two}
 pub use Rattle.hir_meaning.specs.Turns.{other}
@@ -112,12 +113,20 @@ EntersInOrder = blocks_of branches ≡ block_id 1 ∷ block_id 4 ∷ block_id 5 
 abbrev pub letter : ℕ → Name
 letter c = name.Text (c ∷ [])
 
+abbrev pub named : ℕ → Segment
+named c = tree.name_segment (letter c)
+
 pub record Leaves : Type 0 where
-  pub one_name : StoredAs [] (tree.path_expr (at 0) (Some (Some (letter 97) ∷ [])) other)
-      (hir.Path (BarePath (record { kind = Plain; segments = letter 97 ∷ [] })) other)
-  pub two_names : StoredAs [] (tree.path_expr (at 0) (Some (Some (letter 97) ∷ Some (letter 98) ∷ [])) other)
-      (hir.Path (BarePath (record { kind = Plain; segments = letter 97 ∷ letter 98 ∷ [] })) root)
-  pub refused : StoredAs [] (tree.path_expr (at 0) (Some (Some (letter 97) ∷ None ∷ [])) root) hir.Missing
+  pub one_name : StoredAs [] (tree.path_expr (at 0) (whole (named 97) []) other)
+      (hir.Path (BarePath (record { kind = kind.Plain; segments = letter 97 ∷ [] })) other)
+  pub two_names : StoredAs [] (tree.path_expr (at 0) (whole (named 97) (named 98 ∷ [])) other)
+      (hir.Path (BarePath (record { kind = kind.Plain; segments = letter 97 ∷ letter 98 ∷ [] })) root)
+  -- keywords are no names
+  pub from_crate : StoredAs [] (tree.path_expr (at 0) (whole tree.crate_segment (tree.super_segment ∷ named 97 ∷ [])) other)
+      (hir.Path (BarePath (record { kind = kind.Crate; segments = letter 97 ∷ [] })) other)
+  pub self_alone : StoredAs [] (tree.path_expr (at 0) (whole tree.self_segment []) other)
+      (hir.Path (BarePath (record { kind = kind.Super 0; segments = [] })) other)
+  pub refused : StoredAs [] (tree.path_expr (at 0) (whole (named 97) (tree.broken_segment ∷ [])) root) hir.Missing
   -- both nodes lead to what is in the parentheses
   pub parentheses : (store : Store) (source_map : SourceMap) (i : ExprId) (ws : List Way)
       → Stands store source_map [] (tree.paren_expr (at 0) (tree.some_expr (literal_at 1 one))) i ws

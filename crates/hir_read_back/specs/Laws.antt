@@ -10,7 +10,8 @@ use Rattle.hir_data.specs.Reading.{stored_path}
 
 -- The path that is answered has the data of the one that is written; none is answered where that is absent or refused.
 abbrev pub PathLaw : Type 0
-PathLaw = (p : OptionPath) (o o' : Builder) (r : Option HirPath) → lower_path p o ≡ (Ok r, o') → option_map stored_path r ≡ written_path p
+PathLaw = (p : OptionPath) (o o' : Builder) (r : Option HirPath)
+    → lower_path p o ≡ (Ok r, o') → option_map stored_path r ≡ written_path p
 
 -- Nothing is stored for a path, and it is refused only for more `super`s than are counted.
 abbrev pub PathStays : Type 0

@@ -1,6 +1,6 @@
 -- What each form becomes runs as the form is written, where its parts do.
 use Rattle.std.proofs.Common.{◌≡◌, ℕ, suc, ◌≤◌, Bool, true, false, if◌then◌else◌, List, [], ◌∷◌, ◌++◌, append-nil}
-use Rattle.std.proofs.Common.{append_assoc, Option, Some, None, Ok, Err, option_map, refl, sym, ◌∙◌, arith}
+use Rattle.std.proofs.Common.{append_assoc, Option, Some, None, Ok, Err, option_map, refl, sym, subst, ◌∙◌, arith}
 use Rattle.hir_syntax.specs.declared.ast.Literal.{Literal as AstLiteral}
 use Rattle.hir_store.specs.Pointers.{Pointer}
 use Rattle.hir_store.specs.Stored.{Stored}
@@ -9,9 +9,6 @@ use Rattle.hir_store.specs.declared.hir.LoopSource.TheVariants as source
 use Rattle.hir_store.specs.declared.hir.Statement.{Statement}
 use Rattle.hir_store.specs.declared.hir.Statement.TheVariants as statement
 use Rattle.hir_store.specs.declared.path.Path.{Path}
-use Rattle.hir_store.specs.declared.path.Path.TheVariants.{BarePath}
-use Rattle.hir_store.specs.declared.path.PathKind.TheVariants.{Plain}
-use Rattle.hir_store.specs.declared.name.Name.{Name}
 use Rattle.hir_store.specs.declared.ids.ExprId.{ExprId}
 use Rattle.hir_store.specs.declared.ids.LabelId.{LabelId}
 use Rattle.hir_store.specs.declared.ids.BlockId.{BlockId}
@@ -19,18 +16,24 @@ use Rattle.hir_store.specs.declared.ids.CfgId.{CfgId}
 use Rattle.hir_store.specs.declared.ids.HygieneId.{HygieneId}
 use Rattle.hir_store.specs.declared.diagnostics.ExpressionStoreDiagnostics.TheVariants.{InactiveCode}
 use Rattle.hir_env.specs.Answered as tree
-use Rattle.hir_env.specs.Answered.{Label, Jump, Segments, Expr, OptionExpr, Exprs, Stmts, Stmt}
+use Rattle.hir_env.specs.Answered.{OptionPath, Label, Jump, Expr, OptionExpr, Exprs, Stmts, Stmt}
 use Rattle.hir_env.specs.NodeMap.{Site}
 use Rattle.hir_env.specs.Answering.{site_of}
 use Rattle.hir_lower_form.specs.Builder.{Builder}
 use Rattle.hir_lower_form.specs.Lowering.{Checked, Lowering, ◌>>=◌, pure, alloc_expr, report}
 use Rattle.hir_lower_form.specs.Lower.{ExprSteps, StoredContents, push_some, missing, some, if_form, loop_form, call_form}
 use Rattle.hir_lower_form.specs.Lower.{continue_form, break_form}
-use Rattle.hir_lower_form.specs.Lower.{paren_form, stored_literal, names_of, path_hygiene, named_path, stored_path, settled}
-use Rattle.hir_lower_form.proofs.Paths.{names_are, long_hygiene}
+use Rattle.hir_lower_form.specs.Lower.{paren_form, stored_literal, path_or_missing, path_form, settled}
+use Rattle.hir_lower_form.specs.Paths.{lower_path}
 use Rattle.hir_lower_form.specs.Lower.{settled_block, block_form, labelled, kept}
-use Rattle.hir_meaning.specs.Data.{literal_data, segment_names, plain_path, data_if_written, hygiene_for}
-use Rattle.hir_meaning.specs.Run.{Value, unit, is_true, literal, call, break, continue, leave, missing as is_missing}
+use Rattle.hir_data.specs.Data.{PathData}
+use Rattle.hir_data.specs.Reading.{stored_path}
+use Rattle.hir_data.specs.Written.{written_path}
+use Rattle.hir_read_back.proofs.Walk.{path_law}
+use Rattle.hir_read_back.proofs.Lookup.{looked_up}
+use Rattle.hir_data.specs.Lookup.{lookup_hygiene}
+use Rattle.hir_meaning.specs.Data.{literal_data}
+use Rattle.hir_meaning.specs.Run.{Value, unit, is_true, literal, read, call, break, continue, leave, missing as is_missing}
 use Rattle.hir_meaning.specs.Run.{ends, pure as gives, ◌>>=◌ as ◌then◌, ask, tests, entering}
 use Rattle.hir_meaning.specs.Catching.{turn, loop}
 use Rattle.hir_scope.specs.Scopes.{loop_scope, break_target, continue_target, outward, scopes_in_block}
@@ -39,8 +42,11 @@ use Rattle.hir_meaning.specs.Syntax.{SyntaxRun, run_path, run_stmts, run_tail, c
 use Rattle.hir_steps.proofs.Frames.{Frame, plain_loop, loop_at, block_at, Falls}
 use Rattle.hir_steps.proofs.Steps.{Mark, Grows, Rel, Holds, Correct, Allocated, correct_bind, correct_as, correct_pure}
 use Rattle.hir_steps.proofs.Steps.{correct_report, correct_point, correct_enter_block, correct_alloc, correct_opened, correct_target}
+use Rattle.hir_steps.proofs.Steps.{correct_such}
+use Rattle.hir_steps.proofs.Aside.{path_aside}
 use Rattle.hir_same_meaning.proofs.Targets.{break_meets, continue_meets, among}
-use Rattle.hir_same_meaning.proofs.Senses.{Walk, one, optional, many, contents, Goes, Runs, Wider, goes_within}
+use Rattle.hir_same_meaning.proofs.Relation.{same_ask}
+use Rattle.hir_same_meaning.proofs.Senses.{Walk, one, optional, many, contents, Goes, Runs, Wider, goes_within, goes_at}
 use Rattle.hir_same_meaning.proofs.Nodes
 use Rattle.hir_same_meaning.proofs.Strict.{event0_fine, event2_fine}
 use Rattle.hir_same_meaning.proofs.Blocks.{part_walk, KeptIs, Stored1, ContentsAre, contents_go}
@@ -132,28 +138,27 @@ module _ (at : Pointer) where
 
 -- paths
 
-names_of_is : (ss : Segments) → names_of ss ≡ segment_names ss
-names_of_is = names_are (record { none = refl; refused = λ ss. refl; more = λ n ss. refl })
+-- what is stored for a path is read as this
+goes_path : {labels : ℕ} {m m' : Mark} {final : Stored} {ps qs : List Frame} {i : ExprId} (at : Pointer) (h : HygieneId)
+    (r : Option Path) (d : Option PathData) → option_map stored_path r ≡ d
+    → Allocated (path_or_missing h r) (Some at) final qs m m' i
+    → Goes labels m'.nodes one (λ turns ss. run_path d h (Some (site_of at))) final ps i
+goes_path {labels = labels} {m = m} {m' = m'} {final = final} {ps = ps} {qs = qs} {i = i} at h r d is a =
+    subst (λ k. Goes labels m'.nodes one (λ turns ss. run_path k h (Some (site_of at))) final ps i) is (by r a)
+  where
+    by : (r : Option Path) → Allocated (path_or_missing h r) (Some at) final qs m m' i
+        → Goes labels m'.nodes one (λ turns ss. run_path (option_map stored_path r) h (Some (site_of at))) final ps i
+    by None a = Nodes.goes_missing a
+    by (Some p) a = goes_at a
+        (λ turns d le f. rw (looked_up p h) (same_ask (read (stored_path p) (lookup_hygiene (stored_path p) h)) [] (Some (site_of at))))
+        (λ d le. tt)
 
-hygiene_is : (ns : List Name) (h : HygieneId) → path_hygiene ns h ≡ hygiene_for ns h
-hygiene_is [] h = refl
-hygiene_is (n ∷ []) h = refl
-hygiene_is (n ∷ (m ∷ ns)) h = long_hygiene n m ns h
-
-abbrev bare : List Name → Path
-bare ns = BarePath (record { kind = Plain; segments = ns })
-
-named_fine : (at : Pointer) (o : Option (List Name)) (h : HygieneId)
-    → Correct (alloc_expr (named_path o h) (Some at)) (Runs one (λ turns ss. run_path (option_map plain_path o) h (Some (site_of at))))
-named_fine at None h = correct_as (correct_alloc hir.Missing (Some at)) (λ final ps m m' i g a. Nodes.goes_missing a)
-named_fine at (Some ns) h = rw (hygiene_is ns h)
-    (event0_fine {e = hir.Path (bare ns) (hygiene_for ns h)} at
-    (record { runs = λ w. refl; jumps = λ P ls. tt }))
-
-pub path_fine : (at : Pointer) (x : Option Segments) (h : HygieneId)
-    → Correct (alloc_expr (stored_path x h) (Some at)) (Runs one (λ turns ss. run_path (data_if_written x) h (Some (site_of at))))
-path_fine at None h = correct_as (correct_alloc hir.Missing (Some at)) (λ final ps m m' i g a. Nodes.goes_missing a)
-path_fine at (Some ss) h = rw (names_of_is ss) (named_fine at (segment_names ss) h)
+pub path_fine : (at : Pointer) (p : OptionPath) (h : HygieneId)
+    → Correct (path_form at h (lower_path p)) (Runs one (λ turns ss. run_path (written_path p) h (Some (site_of at))))
+unfolding path_form
+path_fine at p h = correct_as
+    (correct_bind (correct_such (path_aside p) (path_law p)) (λ r. correct_alloc (path_or_missing h r) (Some at)))
+    (λ final ps m m' i g row. goes_path at h row.one (written_path p) row.first.is row.second)
 
 -- what is kept
 

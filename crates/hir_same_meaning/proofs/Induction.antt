@@ -22,7 +22,7 @@ mutual
   pub expr_fine : (e : Expr) → Correct (lower e) (Runs one (λ turns. run_expr turns e))
   expr_fine (tree.disabled_expr at by e) = Forms.disabled_fine at by
   expr_fine (tree.literal_expr at l) = Forms.literal_fine at l
-  expr_fine (tree.path_expr at x h) = Forms.path_fine at x h
+  expr_fine (tree.path_expr at p h) = Forms.path_fine at p h
   expr_fine (tree.paren_expr at e) = Forms.paren_fine at (part_fine e)
   expr_fine (tree.call_expr at f es) = Forms.call_fine at (part_fine f) (Forms.pushed_all (each_fine es []))
   expr_fine (tree.if_expr at c t e) = Forms.if_fine at (part_fine c) (block_part_fine t) (present_fine e)

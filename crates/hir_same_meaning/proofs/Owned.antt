@@ -9,6 +9,7 @@ use Rattle.hir_store.specs.declared.hir.LoopSource.TheVariants as source
 use Rattle.hir_store.specs.declared.hir.Statement.{Statement}
 use Rattle.hir_store.specs.declared.hir.Statement.TheVariants as statement
 use Rattle.hir_store.specs.declared.name.Name.{Name}
+use Rattle.hir_store.specs.declared.path.Path.{Path}
 use Rattle.hir_store.specs.declared.ids.ExprId.{ExprId}
 use Rattle.hir_store.specs.declared.ids.LabelId.{LabelId}
 use Rattle.hir_store.specs.declared.ids.BlockId.{BlockId}
@@ -18,10 +19,11 @@ use Rattle.hir_store.specs.declared.diagnostics.AwaitLocation.{AwaitLocation}
 use Rattle.hir_store.specs.declared.diagnostics.ExpressionStoreDiagnostics.TheVariants.{InactiveCode}
 use Rattle.hir_env.specs.Answered as tree
 use Rattle.hir_env.specs.Answered.{Leaf, Unary, Binary, Listing, Leaving}
-use Rattle.hir_env.specs.Answered.{Label, Jump, Segments, Expr, OptionExpr, Exprs, Block, OptionBlock, Stmts, Stmt}
+use Rattle.hir_env.specs.Answered.{OptionPath, Label, Jump, Expr, OptionExpr, Exprs, Block, OptionBlock, Stmts, Stmt}
 use Rattle.hir_lower_form.specs.Lowering.{Lowering, ◌>>=◌, pure, alloc_expr, report}
 use Rattle.hir_lower_form.specs.Lower.{ExprSteps, push_some, missing, some, if_form, loop_form, call_form, continue_form, break_form}
-use Rattle.hir_lower_form.specs.Lower.{paren_form, names_of, named_path, stored_path, settled, settled_block, StoredContents, block_form}
+use Rattle.hir_lower_form.specs.Lower.{paren_form, path_or_missing, path_form, settled, settled_block, StoredContents, block_form}
+use Rattle.hir_lower_form.specs.Paths.{lower_path}
 use Rattle.hir_lower_form.specs.Lower.{labelled, kept, lower, lower_part, present, kept_part, lower_each, lower_block, lower_block_part}
 use Rattle.hir_lower_form.specs.Lower.{lower_stmts, stored_leaf, stored_unary, stored_binary, stored_lazy, stored_leaving}
 use Rattle.hir_lower_form.specs.Lower.{operand_form, operands_form, value_form, list_form, method_call_form, await_form}
@@ -30,6 +32,7 @@ use Rattle.hir_steps.proofs.Frames.{Frame, loop_at, block_at}
 use Rattle.hir_steps.proofs.Steps.{Mark, Grows, Rel, Correct, Allocated, correct_bind, correct_as, correct_pure}
 use Rattle.hir_steps.proofs.Steps.{correct_report, correct_report_await, correct_point, correct_enter_block, correct_alloc}
 use Rattle.hir_steps.proofs.Steps.{correct_opened, correct_target}
+use Rattle.hir_steps.proofs.Aside.{path_aside}
 use Rattle.hir_same_meaning.proofs.Spread.{spread_none, spread_wider, spread_append, spread_node}
 use Rattle.hir_same_meaning.proofs.Forms.{Pushed, pushed_none, pushed_one, correct_statement}
 
@@ -202,13 +205,15 @@ module _ (at : Pointer) where
       (λ final ps m m' i g row. rw row.second.second.is
       (record { spread = λ d le. spread_wider m.nodes m'.nodes (omega arith) (omega arith) (row.first.spread d (omega arith)) }))
 
-path_below : (x : Option Segments) (h : HygieneId) (f : ExprId → List ℕ) → below f (stored_path x h) ≡ []
-path_below None h f = refl
-path_below (Some ss) h f = go (names_of ss)
-  where
-    go : (o : Option (List Name)) → below f (named_path o h) ≡ []
-    go None = refl
-    go (Some ns) = refl
+path_below : (h : HygieneId) (p : Option Path) (f : ExprId → List ℕ) → below f (path_or_missing h p) ≡ []
+path_below h None f = refl
+path_below h (Some p) f = refl
+
+path_owns : (at : Pointer) (p : OptionPath) (h : HygieneId) → Correct (path_form at h (lower_path p)) Owns
+unfolding path_form
+path_owns at p h = correct_as (correct_bind (path_aside p) (λ r. correct_alloc (path_or_missing h r) (Some at)))
+    (λ final ps m m' i g row. owns_at m row.second (omega arith)
+    (λ d le. rw (path_below h row.one (reached_to final.exprs.entries d)) (spread_none m.nodes row.middle.nodes)))
 
 -- what is kept, lists, statements
 
@@ -326,7 +331,7 @@ mutual
   expr_owns : (e : Expr) → Correct (lower e) Owns
   expr_owns (tree.disabled_expr at by e) = disabled_owns at by
   expr_owns (tree.literal_expr at l) = leaf_owns _ (Some at) (λ f. refl)
-  expr_owns (tree.path_expr at x h) = leaf_owns (stored_path x h) (Some at) (path_below x h)
+  expr_owns (tree.path_expr at p h) = path_owns at p h
   expr_owns (tree.paren_expr at e) = paren_owns at (part_owns e)
   expr_owns (tree.call_expr at f es) = call_owns at (part_owns f) (each_owns_all (each_owns es []))
   expr_owns (tree.if_expr at c t e) = if_owns at (part_owns c) (block_part_owns t) (present_owns e)

@@ -5,21 +5,24 @@ use Rattle.hir_store.specs.Stored.{Stored}
 use Rattle.hir_store.specs.declared.hir.Expr.{Expr as HirExpr}
 use Rattle.hir_store.specs.declared.hir.Statement.{Statement}
 use Rattle.hir_store.specs.declared.name.Name.{Name}
+use Rattle.hir_store.specs.declared.path.Path.{Path}
 use Rattle.hir_store.specs.declared.diagnostics.AwaitLocation.{AwaitLocation}
 use Rattle.hir_store.specs.declared.ids.ExprId.{ExprId}
 use Rattle.hir_store.specs.declared.ids.LabelId.{LabelId}
 use Rattle.hir_store.specs.declared.ids.BlockId.{BlockId}
+use Rattle.hir_store.specs.declared.ids.HygieneId.{HygieneId}
 use Rattle.hir_env.specs.Answered as tree
 use Rattle.hir_env.specs.Answered.{Listing, Label, Jump, Expr, OptionExpr, Exprs, Block, OptionBlock, Stmts, Stmt}
 use Rattle.hir_lower_form.specs.Builder.{Builder}
 use Rattle.hir_lower_form.specs.Lowering.{Checked, Lowering, ◌>>=◌, alloc_expr}
 use Rattle.hir_lower_form.specs.Lower.{ExprSteps, StoredContents, missing, some, if_form, loop_form, call_form, continue_form}
-use Rattle.hir_lower_form.specs.Lower.{break_form, paren_form, operand_form, operands_form, value_form, list_form}
+use Rattle.hir_lower_form.specs.Lower.{break_form, paren_form, path_form, operand_form, operands_form, value_form, list_form}
 use Rattle.hir_lower_form.specs.Lower.{method_call_form, await_form, block_form, labelled, kept, lower, lower_part}
 use Rattle.hir_lower_form.specs.Lower.{present, kept_part, lower_each, lower_block, lower_block_part, lower_stmts}
 use Rattle.hir_lower_form.specs.Lower.{lower_stmt}
 use Rattle.hir_steps.specs.Keeps.{Keeps, Keeping}
 use Rattle.hir_steps.proofs.Frames.{Frame, loop_at, block_at, frames, ribs_frames}
+use Rattle.hir_steps.proofs.Aside.{path_aside}
 use Rattle.hir_steps.proofs.Steps.{Mark, Rel, Holds, Correct, correct_bind, correct_as, correct_pure, correct_report}
 use Rattle.hir_steps.proofs.Steps.{correct_report_await, correct_point, correct_enter_block, correct_alloc}
 use Rattle.hir_steps.proofs.Steps.{correct_opened, correct_target}
@@ -68,6 +71,10 @@ module _ (at : Pointer) where
   paren_any : {e : ExprSteps} → Correct e Any → Correct (paren_form at e) Any
   unfolding paren_form
   paren_any h = then' h (λ i. then' (any (correct_point at i)) (λ u. any (correct_pure i)))
+
+  path_any : (h : HygieneId) {p : Lowering (Option Path)} → Correct p Any → Correct (path_form at h p) Any
+  unfolding path_form
+  path_any h hp = then' hp (λ r. stored_any _ at)
 
   operand_any : (form : ExprId → HirExpr) {e : ExprSteps} → Correct e Any → Correct (operand_form at form e) Any
   unfolding operand_form
@@ -119,7 +126,7 @@ mutual
   node_any (tree.block_expr b) = block_any b
   node_any (tree.loop_expr at label b) = loop_any at label (block_part_any b)
   node_any (tree.call_expr at f es) = call_any at (part_any f) (each_any [] es)
-  node_any (tree.path_expr at x h) = stored_any _ at
+  node_any (tree.path_expr at p h) = path_any at h (any (path_aside p))
   node_any (tree.continue_expr at jump) = continue_any at jump
   node_any (tree.break_expr at jump e) = break_any at jump (present_any e)
   node_any (tree.paren_expr at e) = paren_any at (part_any e)

@@ -1,3 +1,4 @@
 pub mod Frames
 pub mod Steps
+pub mod Aside
 pub mod Keeping

@@ -27,7 +27,7 @@ use Rattle.hir_scope.specs.Ribs.{Rib, Target, reachable, unreachable, undeclared
 use Rattle.hir_lower_scope.specs.Labels.{rest}
 use Rattle.hir_lower_form.specs.Builder.{Builder}
 use Rattle.hir_lower_form.specs.Lowering.{Checked, go_on, Lowering, ◌>>=◌, pure, alloc_expr, point, report}
-use Rattle.hir_lower_form.specs.Lowering.{report_await, enter_block, open_label, close, jump_target, found_or_fault}
+use Rattle.hir_lower_form.specs.Lowering.{report_await, enter_block, open_label, close, jump_target, found_or_fault, count_out}
 use Rattle.hir_steps.specs.Keeps.{Paired, KeepsAll}
 use Rattle.hir_steps.proofs.Frames.{Frame, rib, ribs}
 
@@ -141,6 +141,20 @@ correct_both {A = A} {p = p} {R = R} {Q = Q} h k =
     }
     go final ps b (Err e) c y z = y
 
+-- what every answer is
+pub record Such {A : Type 0} (P : A → Type 0) (final : Stored) (ps : List Frame) (m m' : Mark) (a : A) : Type 0 where
+  pub is : P a
+
+pub correct_such : {A : Type 0} {p : Lowering A} {R : Rel A} {P : A → Type 0} → Correct p R
+    → ((b b' : Builder) (a : A) → p b ≡ (Ok a, b') → P a) → Correct p (Such P)
+correct_such {A = A} {p = p} {R = R} {P = P} h each =
+    record { holds = λ final ps b r. go final ps b (p b).0 (p b).1 refl (h.holds final ps b r) }
+  where
+    go : (final : Stored) (ps : List Frame) (b : Builder) (o : Checked A) (c : Builder) → p b ≡ (o, c) → Holds R final ps b o c
+        → Holds (Such P) final ps b o c
+    go final ps b (Ok a) c e y = record { kept = y.kept; grows = y.grows; in_final = λ d pre. record { is = each b c a e } }
+    go final ps b (Err f) c e y = y
+
 longer : {A : Type 0} {xs ys : List A} → Prefix xs ys → length xs ≤ length ys
 longer {xs = xs} p = let e = ap length p.is in let n = length-append xs p.more in omega arith
 
@@ -176,6 +190,11 @@ correct_pure a = record {
     in_final = λ d pre. record { is = refl; still = refl };
   };
 }
+
+-- refused at the end of a counter
+pub correct_count_out : {A : Type 0} (R : Rel A) → Correct {A = A} count_out R
+unfolding count_out
+correct_count_out R = record { holds = λ final ps b r. extends_refl b.stored }
 
 -- it writes, as f says, and stores no expression and no label
 pub record Writes {A : Type 0} (a : A) (f : Stored → Stored) (final : Stored) (ps : List Frame) (m m' : Mark) (b : A) : Type 0 where

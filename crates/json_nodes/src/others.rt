@@ -6,7 +6,7 @@ ghost use Rattle.json_nodes.specs.Fields.{text_in};
 ghost use Rattle.json_nodes.specs.Others as spec;
 ghost use Rattle.json_nodes.specs.Nodes.{here};
 
-use crate::field::{flag, text};
+use crate::field::{flag, own_text, text};
 use crate::node::{Node, ReadParts};
 use crate::part::AnyPart;
 use hir_syntax::ast::{BlockExpr, BlockModifier, Expr, Fn, Label, Lifetime, Name, Stmt, StmtKind};

@@ -13,3 +13,5 @@ mod listings;
 mod paths;
 #[cfg(test)]
 mod streams;
+#[cfg(test)]
+mod types;

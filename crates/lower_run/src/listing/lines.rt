@@ -2,6 +2,7 @@
 
 use super::words::{await_word, missing_body_word};
 use super::writer::Writer;
+use hir_lower::segment_name;
 use hir_store::diagnostics::ExpressionStoreDiagnostics;
 use hir_store::ids::LabelId;
 use hir_store::source_map::ExpressionStoreSourceMap;
@@ -9,23 +10,6 @@ use hir_store::store::ExpressionStore;
 use hir_syntax::ast::{Path, PathSegment, SegmentKind};
 use hir_syntax::node::{AstPtr, InFile};
 use std::alloc::AllocError;
-
-/// The name that a written segment stands for: its own, or `Self`. A keyword, `$crate` and what a text lacks stand for
-/// none.
-fn segment_name(segment: &Option<PathSegment>) -> Option<&str> {
-    let segment = segment.as_ref()?;
-    match segment.seg? {
-        SegmentKind::Name => match segment.name.as_ref()?.t.as_str() {
-            "$crate" => None,
-            name => Some(name),
-        },
-        SegmentKind::SelfTypeKw => Some("Self"),
-        SegmentKind::SelfKw
-        | SegmentKind::CrateKw
-        | SegmentKind::SuperKw
-        | SegmentKind::Qualified => None,
-    }
-}
 
 fn segment_line(writer: &mut Writer, number: u32, name: &str) -> Result<(), AllocError> {
     writer.numbered("segment ", number)?;
@@ -43,7 +27,9 @@ fn segment_lines(
 ) -> Result<u32, AllocError> {
     let mut number = first;
     for segment in segments {
-        if let Some(name) = segment_name(segment) {
+        if let Some(segment) = segment
+            && let Some(name) = segment_name(segment)
+        {
             segment_line(writer, number, name)?;
             number = number.saturating_add(1);
         }
@@ -65,8 +51,8 @@ fn trait_and_rest(path: &Path) -> (&[Option<PathSegment>], &[Option<PathSegment>
 }
 
 fn qualifying_path(segment: &PathSegment) -> Option<&Path> {
-    match segment.seg? {
-        SegmentKind::Qualified => segment.trait_.as_ref()?.path.as_deref(),
+    match (segment.seg?, &segment.trait_.as_ref()?.path) {
+        (SegmentKind::Qualified, Some(path)) => Some(path.get()),
         _ => None,
     }
 }

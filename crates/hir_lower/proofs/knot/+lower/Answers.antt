@@ -6,7 +6,8 @@ use Rattle.hir_env.specs.Answering.{ptr, numbered}
 use Rattle.hir_env.specs.declared.place.Place.{Place}
 use Rattle.hir_env.specs.Count.{count_block, count_path, count_stmts, count_option_expr}
 use Rattle.hir_env.specs.Whole.{answered_plain, expr_part, pointer_at, stmts_part}
-use Rattle.hir_env.proofs.Levels.{expr_is_level, path_is_level, plain_is_level}
+use Rattle.hir_env.proofs.Levels.{expr_is_level, plain_is_level}
+use Rattle.hir_env.proofs.PathLevels.{path_is_level}
 use Rattle.hir_lower.specs.Nests.{HandlesExpr, HandlesBlock, HandlesPath}
 use Rattle.hir_lower.specs.Roots.{spot_at}
 use Rattle.hir_lower.proofs.Kids.{kids_expr, kids_block, kids_path, expr_below, in_inside}
@@ -34,7 +35,7 @@ maybe_collect_expr-expr_node-requires g t c =
     })
     (λ p x h. record {
       callable = λ alloc v old walk b same is. (rw same (rw is h), λ a m. m);
-      reads = λ alloc v old new walk b r same is q. rw (← is) (rw (← same) q.2);
+      reads = λ alloc v old new walk b r same is q. rw (← is) (rw (← same) q.3);
     })
     c.args.place (pointer_at at c.args.node.now.id c.args.node.now.range) (out-ExprKind c.args.node.now.kind) (omega (arith, d, size))
 
@@ -68,7 +69,7 @@ collect_block_inside-block_node-requires-clause-parts g t c =
     })
     (λ p x h. record {
       callable = λ alloc v old walk b same is. (rw same (rw is h), λ a m. m);
-      reads = λ alloc v old new walk b r same is q. rw (← is) (rw (← same) q.2);
+      reads = λ alloc v old new walk b r same is q. rw (← is) (rw (← same) q.3);
     })
     c.inside-inner.result c.args.node.now (omega (arith, d, size))
 
@@ -81,18 +82,11 @@ read_path_segments-path_node-requires g t c =
     let d = c.decreases in
     let env = g.E.LowerEnv.answers c.args.env.now in
     let size = ap count_path (path_is_level (spot_at env c.args.place) c.args.node.now) in
-    kids_path env (HandlesExpr g.E.LowerEnv.answers _ _ c.args.env.now) (HandlesBlock g.E.LowerEnv.answers _ _ c.args.env.now)
+    kids_path env (λ p e. Unit {0}) (λ p b. Unit {0})
     (HandlesPath g.E.LowerEnv.answers _ _ c.args.env.now) t
-    (λ p e h. record {
-      callable = λ alloc v old b same is. (rw same (rw is h), λ a m. m);
-      lowers = λ alloc v old new b r same is q. rw (← is) (rw (← same) q.2);
-    })
-    (λ p b h. record {
-      callable = λ alloc v old is_unsafe label n same is has. (rw same (rw is h), ((λ a m. m), has));
-      lowers = λ alloc v old new is_unsafe label n r same is q. rw (← is) (rw (← same) q.3);
-    })
+    (λ p e h. tt) (λ p b h. tt)
     (λ p x h. record {
       callable = λ alloc v old walk b same is. (rw same (rw is h), λ a m. m);
-      reads = λ alloc v old new walk b r same is q. rw (← is) (rw (← same) q.2);
+      reads = λ alloc v old new walk b r same is q. rw (← is) (rw (← same) q.3);
     })
     c.args.place (out-Path c.args.node.now) (omega (arith, d, size))

@@ -1,0 +1,23 @@
+-- A stored path is looked up as what is read of it.
+use Rattle.std.proofs.Common.{arith, ◌≡◌, refl, ap, ℕ, suc, false, if◌then◌else◌, nat_le, length, List, [], ◌∷◌}
+use Rattle.hir_store.specs.declared.ids.HygieneId.{HygieneId}
+use Rattle.hir_store.specs.declared.name.Name.{Name}
+use Rattle.hir_store.specs.declared.path.Path.{Path}
+use Rattle.hir_store.specs.declared.path.Path.TheVariants.{BarePath}
+use Rattle.hir_lower_form.specs.Lower.{path_hygiene}
+use Rattle.hir_data.specs.Lookup.{hygiene_for, lookup_hygiene}
+use Rattle.hir_data.specs.Reading.{stored_path}
+
+at_least_two : (k : ℕ) → nat_le (suc (suc k)) 1 ≡ false
+at_least_two k = grind arith
+
+abbrev by_length : List Name → HygieneId → HygieneId
+by_length ns h = if nat_le (length ns) 1 then h else record { 0 = 0 }
+
+hygiene_is : (ns : List Name) (h : HygieneId) → by_length ns h ≡ hygiene_for ns h
+hygiene_is [] h = refl
+hygiene_is (n ∷ []) h = refl
+hygiene_is (n ∷ (m ∷ ns)) h = ap (λ b. if b then h else record { 0 = 0 }) (at_least_two (length ns))
+
+pub looked_up : (p : Path) (h : HygieneId) → path_hygiene p h ≡ lookup_hygiene (stored_path p) h
+looked_up (BarePath p) h = hygiene_is p.segments h
