@@ -1,7 +1,6 @@
 -- Types.
 use Rattle.std.specs.Prelude.{codes, Option, Some, None, option_map}
 use Rattle.serde_json.specs.Find.{get}
-use Rattle.hir_syntax.specs.declared.types.Type_.{Type_}
 use Rattle.hir_syntax.specs.declared.types.TypeKind.{TypeKind}
 use Rattle.hir_syntax.specs.declared.types.TypeKind.TheVariants as type_kinds
 use Rattle.hir_syntax.specs.declared.types.PathType.{roll-PathType}
