@@ -88,7 +88,7 @@ row kind.MethodCallExpr = record {
   groups = group.Expr ∷ [];
   fields = (codes "receiver" ∶ sort.Part group.Expr)
       ∷ (codes "name" ∶ sort.Part group.Name)
-      ∷ (codes "generics" ∶ sort.NotYet)
+      ∷ (codes "generics" ∶ sort.Part group.GenericArgs)
       ∷ (codes "args" ∶ sort.List group.Expr)
       ∷ [];
 }
@@ -164,6 +164,34 @@ row kind.UnderscoreExpr = record { word = codes "UnderscoreExpr"; groups = group
 row kind.IncludeBytesExpr = record { word = codes "IncludeBytesExpr"; groups = group.Expr ∷ []; fields = [] }
 row kind.AsmExpr = record { word = codes "AsmExpr"; groups = group.Expr ∷ []; fields = [] }
 row kind.FormatArgsExpr = record { word = codes "FormatArgsExpr"; groups = group.Expr ∷ []; fields = [] }
+row kind.CastExpr = record {
+  word = codes "CastExpr";
+  groups = group.Expr ∷ [];
+  fields = (codes "expr" ∶ sort.Part group.Expr) ∷ (codes "ty" ∶ sort.Part group.Type_) ∷ [];
+}
+row kind.RecordExpr = record {
+  word = codes "RecordExpr";
+  groups = group.Expr ∷ [];
+  fields = (codes "path" ∶ sort.Part group.Path) ∷ (codes "list" ∶ sort.Part group.RecordList) ∷ [];
+}
+row kind.OffsetOfExpr = record {
+  word = codes "OffsetOfExpr";
+  groups = group.Expr ∷ [];
+  fields = (codes "ty" ∶ sort.Part group.Type_) ∷ (codes "fields" ∶ sort.List group.Name) ∷ [];
+}
+row kind.RecordExprFieldList = record {
+  word = codes "RecordExprFieldList";
+  groups = group.RecordList ∷ [];
+  fields = (codes "fields" ∶ sort.List group.RecordField)
+      ∷ (codes "spread" ∶ sort.Part group.Expr)
+      ∷ (codes "dotdot" ∶ sort.Flag)
+      ∷ [];
+}
+row kind.RecordExprField = record {
+  word = codes "RecordExprField";
+  groups = group.RecordField ∷ [];
+  fields = (codes "name" ∶ sort.Part group.Name) ∷ (codes "expr" ∶ sort.Part group.Expr) ∷ [];
+}
 row kind.ExprStmt = record {
   word = codes "ExprStmt";
   groups = group.Stmt ∷ [];
@@ -354,6 +382,10 @@ abbrev pub keywords : List Kind
 keywords = kind.ReturnExpr ∷ kind.BecomeExpr ∷ kind.YieldExpr ∷ kind.YeetExpr ∷ kind.AwaitExpr
     ∷ kind.CfgPredExpr ∷ kind.UnderscoreExpr ∷ kind.IncludeBytesExpr ∷ kind.AsmExpr ∷ kind.FormatArgsExpr ∷ []
 
+-- expressions with types or paths, and the parts of a record
+abbrev pub typed : List Kind
+typed = kind.CastExpr ∷ kind.RecordExpr ∷ kind.OffsetOfExpr ∷ kind.RecordExprFieldList ∷ kind.RecordExprField ∷ []
+
 -- types made of types, paths and lifetimes
 abbrev pub types : List Kind
 types = kind.ParenType ∷ kind.SliceType ∷ kind.TupleType ∷ kind.PathType ∷ kind.PtrType ∷ kind.RefType ∷ []
@@ -380,5 +412,6 @@ kind_with ks t = with_word (λ k. (row k).word) ks t
 
 -- the kind with a word
 abbrev pub kind_of : List ℕ → Option Kind
-kind_of t = or_else (kind_with exprs t) (or_else (kind_with operations t) (or_else (kind_with keywords t) (or_else (kind_with types t)
-    (or_else (kind_with other_types t) (or_else (kind_with paths t) (or_else (kind_with type_parts t) (kind_with others t)))))))
+kind_of t = or_else (kind_with exprs t) (or_else (kind_with operations t) (or_else (kind_with keywords t) (or_else (kind_with typed t)
+    (or_else (kind_with types t) (or_else (kind_with other_types t) (or_else (kind_with paths t) (or_else (kind_with type_parts t)
+    (kind_with others t))))))))

@@ -20,6 +20,8 @@ pub enum Group {
     Binder,
     Ret,
     Param,
+    RecordList,
+    RecordField,
     Label,
     Lifetime,
     Name,

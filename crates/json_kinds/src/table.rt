@@ -12,7 +12,7 @@ use crate::field::Sort::{
 use crate::group::Group;
 use crate::group::Group::{
     Binder, Block, Bound, Else, Expr, Fn, GenericArg, GenericArgs, Label, Lifetime, Name, Param,
-    ParenArgs, Path, PathType, Ret, Segment, Stmt, Type_, TypeArg, UseArg,
+    ParenArgs, Path, PathType, RecordField, RecordList, Ret, Segment, Stmt, Type_, TypeArg, UseArg,
 };
 use crate::kind::Kind;
 use crate::words::Words;
@@ -32,7 +32,7 @@ macro_rules! kinds {
             BreakExpr [Expr] { "lifetime": Part(Lifetime), "expr": Part(Expr) }
             ParenExpr [Expr] { "expr": Part(Expr) }
             Literal [Expr] { "lit": Word(Words::Literals), "t": LiteralText, "suffix": TextIfThere }
-            MethodCallExpr [Expr] { "receiver": Part(Expr), "name": Part(Name), "generics": NotYet, "args": List(Expr) }
+            MethodCallExpr [Expr] { "receiver": Part(Expr), "name": Part(Name), "generics": Part(GenericArgs), "args": List(Expr) }
             FieldExpr [Expr] { "expr": Part(Expr), "name": Part(Name) }
             PrefixExpr [Expr] { "op": WordIfThere(Words::UnaryOps), "expr": Part(Expr) }
             BinExpr [Expr] { "op": WordIfThere(Words::BinaryOps), "lhs": Part(Expr), "rhs": Part(Expr) }
@@ -50,6 +50,11 @@ macro_rules! kinds {
             IncludeBytesExpr [Expr] {  }
             AsmExpr [Expr] {  }
             FormatArgsExpr [Expr] {  }
+            CastExpr [Expr] { "expr": Part(Expr), "ty": Part(Type_) }
+            RecordExpr [Expr] { "path": Part(Path), "list": Part(RecordList) }
+            OffsetOfExpr [Expr] { "ty": Part(Type_), "fields": List(Name) }
+            RecordExprFieldList [RecordList] { "fields": List(RecordField), "spread": Part(Expr), "dotdot": Flag }
+            RecordExprField [RecordField] { "name": Part(Name), "expr": Part(Expr) }
             ExprStmt [Stmt] { "expr": Part(Expr), "semi": Flag }
             Item [Stmt] {  }
             ParenType [Type_] { "ty": Part(Type_) }
@@ -135,6 +140,19 @@ fn operations(word: &str) -> Option<Kind>
         "RefExpr" => Some(Kind::RefExpr),
         "TupleExpr" => Some(Kind::TupleExpr),
         "ArrayExpr" => Some(Kind::ArrayExpr),
+        _ => None,
+    }
+}
+
+fn typed(word: &str) -> Option<Kind>
+    ensures { result ≡ kind_with spec.typed word.now }
+{
+    match word {
+        "CastExpr" => Some(Kind::CastExpr),
+        "RecordExpr" => Some(Kind::RecordExpr),
+        "OffsetOfExpr" => Some(Kind::OffsetOfExpr),
+        "RecordExprFieldList" => Some(Kind::RecordExprFieldList),
+        "RecordExprField" => Some(Kind::RecordExprField),
         _ => None,
     }
 }
@@ -238,6 +256,9 @@ impl Kind {
             return Some(kind);
         }
         if let Some(kind) = keywords(word) {
+            return Some(kind);
+        }
+        if let Some(kind) = typed(word) {
             return Some(kind);
         }
         if let Some(kind) = types(word) {

@@ -8,7 +8,7 @@ use Rattle.hir_syntax.specs.declared.node.PredId.{PredId}
 use Rattle.json_faults.specs.Values.{small_of}
 use Rattle.json_kinds.specs.declared.kind.Kind.{Kind}
 use Rattle.json_kinds.specs.declared.kind.Kind.TheVariants as kind
-use Rattle.json_nodes.specs.Groups.{as_expr, as_block, as_else, as_path, as_label, as_lifetime, as_name}
+use Rattle.json_nodes.specs.Groups.{as_expr, as_block, as_else, as_path, as_label, as_lifetime, as_name, as_generic_args}
 use Rattle.json_nodes.specs.Fields.{flag_of}
 use Rattle.json_nodes.specs.Literals.{literal_of}
 use Rattle.json_nodes.specs.Operators.{unary_op_in, binary_op_in}
@@ -44,8 +44,11 @@ operation h _ = None
 
 -- what names a member, or lists its elements
 unfoldable pub member : Here → Kind → Option ExprKind
-member h kind.MethodCallExpr =
-    Some (expr.MethodCallExpr (part_in h as_expr (codes "receiver")) (part_in h as_name (codes "name")) (list_if_there h as_expr (codes "args")))
+member h kind.MethodCallExpr = Some (expr.MethodCallExpr
+    (part_in h as_expr (codes "receiver"))
+    (part_in h as_name (codes "name"))
+    (part_in h as_generic_args (codes "generics"))
+    (list_if_there h as_expr (codes "args")))
 member h kind.FieldExpr = Some (expr.FieldExpr (part_in h as_expr (codes "expr")) (part_in h as_name (codes "name")))
 member h kind.TupleExpr = Some (expr.TupleExpr (flag_of (get (codes "leading_comma") h.value)) (list_in h as_expr (codes "fields")))
 member h kind.ArrayExpr = Some (expr.ArrayExpr (list_in h as_expr (codes "elems")))

@@ -22,6 +22,8 @@ use Rattle.hir_syntax.specs.declared.types.UseArg.TheVariants as used
 use Rattle.hir_syntax.specs.declared.types.ForBinder.{ForBinder}
 use Rattle.hir_syntax.specs.declared.types.RetType.{RetType}
 use Rattle.hir_syntax.specs.declared.types.Param.{Param}
+use Rattle.hir_syntax.specs.declared.ast.RecordExprFieldList.{RecordExprFieldList}
+use Rattle.hir_syntax.specs.declared.ast.RecordExprField.{RecordExprField}
 use Rattle.hir_syntax.specs.declared.ast.Label.{Label}
 use Rattle.hir_syntax.specs.declared.ast.Lifetime.{Lifetime}
 use Rattle.hir_syntax.specs.declared.ast.Name.{Name}
@@ -114,6 +116,14 @@ as_use_arg (part.Text id range t) = if is_quoted t
     then Some (used.Lifetime (record { id = id; range = range; t = t }))
     else Some (used.Name (record { id = id; range = range; t = t }))
 as_use_arg _ = None
+
+abbrev pub as_record_list : AnyPart → Option RecordExprFieldList
+as_record_list (part.RecordList x) = Some x
+as_record_list _ = None
+
+abbrev pub as_record_field : AnyPart → Option RecordExprField
+as_record_field (part.RecordField x) = Some x
+as_record_field _ = None
 
 abbrev pub as_label : AnyPart → Option Label
 as_label (part.Label l) = Some l

@@ -7,6 +7,7 @@ pub mod Operators
 pub mod Exprs
 pub mod Paths
 pub mod Types
+pub mod Typed
 pub mod Args
 pub mod Bounds
 pub mod Others

@@ -15,4 +15,5 @@ pub mod others;
 pub mod part;
 pub mod partless;
 pub mod paths;
+pub mod typed;
 pub mod types;

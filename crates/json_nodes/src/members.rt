@@ -6,7 +6,7 @@ ghost use Rattle.json_nodes.specs.Nodes.{here};
 
 use crate::field::flag;
 use crate::node::{Node, ReadParts};
-use hir_syntax::ast::{Expr, ExprKind, Name};
+use hir_syntax::ast::{Expr, ExprKind, GenericArgList, Name};
 use json_kinds::kind::Kind;
 use std::alloc::AllocError;
 
@@ -20,6 +20,7 @@ pub fn member<P: ReadParts>(node: &Node<'_, P>, kind: Kind) -> Result<Option<Exp
         Kind::MethodCallExpr => Ok(Some(ExprKind::MethodCallExpr {
             receiver: node.boxed::<Expr>("receiver")?,
             name: node.part::<Name>("name")?,
+            generics: node.part::<GenericArgList>("generics")?,
             args: node.list_if_there::<Expr>("args")?,
         })),
         Kind::FieldExpr => Ok(Some(ExprKind::FieldExpr {

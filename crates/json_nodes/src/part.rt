@@ -4,11 +4,12 @@ ghost use Rattle.std.specs.Prelude.{◌≡◌, IfOk, Option};
 ghost use Rattle.json_nodes.specs.Groups.{as_expr, as_block, as_else, as_stmt, as_path, as_segment, as_label, as_lifetime, as_name};
 ghost use Rattle.json_nodes.specs.Groups.{as_type, as_path_type, as_generic_args, as_generic_arg, as_type_arg, as_paren_args};
 ghost use Rattle.json_nodes.specs.Groups.{as_bound, as_use_arg, as_binder, as_ret, as_param, is_quoted};
+ghost use Rattle.json_nodes.specs.Groups.{as_record_list, as_record_field};
 
 use hir_syntax::ast::{
     BlockExpr, ElseBranch, Expr, ExprKind, ForBinder, GenericArg, GenericArgList, Label, Lifetime,
-    Name, Param, ParenArgs, Path, PathSegment, PathType, RetType, Stmt, Type_, TypeArg, TypeBound,
-    TypeKind, UseArg,
+    Name, Param, ParenArgs, Path, PathSegment, PathType, RecordExprField, RecordExprFieldList,
+    RetType, Stmt, Type_, TypeArg, TypeBound, TypeKind, UseArg,
 };
 use hir_syntax::node::{NodeId, TextRange};
 use hir_syntax::{Boxed, Text};
@@ -35,6 +36,8 @@ pub enum AnyPart {
     Binder(ForBinder),
     Ret(RetType),
     Param(Param),
+    RecordList(RecordExprFieldList),
+    RecordField(RecordExprField),
     Label(Label),
     Lifetime(Lifetime),
     Name(Name),
@@ -61,6 +64,8 @@ impl Drop for AnyPart {
             AnyPart::Binder(_) => {}
             AnyPart::Ret(_) => {}
             AnyPart::Param(_) => {}
+            AnyPart::RecordList(_) => {}
+            AnyPart::RecordField(_) => {}
             AnyPart::Label(_) => {}
             AnyPart::Lifetime(_) => {}
             AnyPart::Name(_) => {}
@@ -306,6 +311,30 @@ impl AnyPart {
         }
     }
 
+    fn into_record_list(self) -> Option<RecordExprFieldList>
+        ensures { result ≡ as_record_list self }
+    {
+        match self {
+            AnyPart::RecordList(record_list) => Some(record_list),
+            other => {
+                drop(other);
+                None
+            }
+        }
+    }
+
+    fn into_record_field(self) -> Option<RecordExprField>
+        ensures { result ≡ as_record_field self }
+    {
+        match self {
+            AnyPart::RecordField(record_field) => Some(record_field),
+            other => {
+                drop(other);
+                None
+            }
+        }
+    }
+
     fn into_label(self) -> Option<Label>
         ensures { result ≡ as_label self }
     {
@@ -490,6 +519,22 @@ impl Part for UseArg {
 
     fn from_part(_alloc: Global, part: AnyPart) -> Result<Option<UseArg>, AllocError> {
         Ok(part.into_use_arg())
+    }
+}
+
+impl Part for RecordExprFieldList {
+    ghost as_group = { as_record_list };
+
+    fn from_part(_alloc: Global, part: AnyPart) -> Result<Option<RecordExprFieldList>, AllocError> {
+        Ok(part.into_record_list())
+    }
+}
+
+impl Part for RecordExprField {
+    ghost as_group = { as_record_field };
+
+    fn from_part(_alloc: Global, part: AnyPart) -> Result<Option<RecordExprField>, AllocError> {
+        Ok(part.into_record_field())
     }
 }
 

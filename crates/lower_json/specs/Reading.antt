@@ -12,6 +12,7 @@ use Rattle.json_nodes.specs.Fields.{number_or, range_of}
 use Rattle.json_nodes.specs.Others.{statement, other, function}
 use Rattle.json_nodes.specs.Paths.{path, of_path}
 use Rattle.json_nodes.specs.Types.{of_type}
+use Rattle.json_nodes.specs.Typed.{typed, of_record}
 use Rattle.json_nodes.specs.Args.{of_args}
 use Rattle.json_nodes.specs.Bounds.{of_bound}
 use Rattle.json_nodes.specs.Groups.{as_type}
@@ -30,14 +31,14 @@ of_expr h kind.IfExpr x = part.If (record { id = h.id; range = h.range; kind = x
 of_expr h _ x = part.Expr (record { id = h.id; range = h.range; kind = x })
 
 abbrev pub expr_kind : Here → Kind → Option ExprKind
-expr_kind h k =
-    or_else (flow h k) (or_else (plain h k) (or_else (operation h k) (or_else (member h k) (or_else (leaving h k) (partless h.value k)))))
+expr_kind h k = or_else (flow h k) (or_else (plain h k) (or_else (operation h k) (or_else (member h k)
+    (or_else (leaving h k) (or_else (typed h k) (partless h.value k))))))
 
 abbrev pub of_stmt : Here → StmtKind → AnyPart
 of_stmt h x = part.Stmt (record { id = h.id; range = h.range; kind = x })
 
 abbrev pub other_than_path : Here → Kind → Option AnyPart
-other_than_path h k = or_else (of_type h k) (or_else (of_args h k) (or_else (of_bound h k) (other h k)))
+other_than_path h k = or_else (of_type h k) (or_else (of_args h k) (or_else (of_bound h k) (or_else (of_record h k) (other h k))))
 
 abbrev pub other_than_expr : Here → Kind → Option AnyPart
 other_than_expr h k = or_else (option_map (of_stmt h) (statement h k)) (or_else (of_path h k) (other_than_path h k))

@@ -26,6 +26,7 @@ use json_nodes::others::{function, other, statement};
 use json_nodes::part::{AnyPart, Part};
 use json_nodes::partless::partless;
 use json_nodes::paths::{of_path, path};
+use json_nodes::typed::{of_record, typed};
 use json_nodes::types::of_type;
 use serde_json::Value;
 use std::alloc::{AllocError, Global};
@@ -74,6 +75,9 @@ fn expr_kind<P: ReadParts>(node: &Node<'_, P>, kind: Kind) -> Result<Option<Expr
     if let Some(expr) = leaving(node, kind)? {
         return Ok(Some(expr));
     }
+    if let Some(expr) = typed(node, kind)? {
+        return Ok(Some(expr));
+    }
     Ok(partless(node.value, kind))
 }
 
@@ -106,6 +110,9 @@ fn other_than_path<P: ReadParts>(
         return Ok(Some(part));
     }
     if let Some(part) = of_bound(node, kind)? {
+        return Ok(Some(part));
+    }
+    if let Some(part) = of_record(node, kind)? {
         return Ok(Some(part));
     }
     other(node, kind)

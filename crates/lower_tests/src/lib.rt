@@ -15,3 +15,5 @@ mod paths;
 mod streams;
 #[cfg(test)]
 mod types;
+#[cfg(test)]
+mod ways_back;

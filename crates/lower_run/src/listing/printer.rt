@@ -5,7 +5,7 @@ use super::numbering::Numbering;
 use super::waiting::{Piece, Waiting};
 use super::words::{expr_word, statement_word};
 use super::writer::Writer;
-use hir_store::hir::Statement;
+use hir_store::hir::{RecordLitField, Statement};
 use hir_store::ids::{ExprId, HygieneId, LabelId, LifetimeRefId, TypeRefId};
 use hir_store::name::Name;
 use hir_store::path::{AssociatedTypeBinding, GenericArg, GenericArgs, Path};
@@ -152,6 +152,13 @@ impl<'a> Printer<'a> {
             Piece::Block(id) => self.writer.numbered("b", id.0),
             Piece::Name(name) => self.writer.name(name),
             Piece::Literal(literal) => self.writer.literal(literal),
+            Piece::Names(names) => self.writer.names(names),
+            Piece::FieldList(fields) => self.waiting.push_all(&[
+                Piece::Word("["),
+                Piece::Fields("", fields),
+                Piece::Word("]"),
+            ]),
+            Piece::Fields(before, fields) => self.fields(before, fields),
             Piece::Path(_, _)
             | Piece::Hygiene(_)
             | Piece::PathKind(_)
@@ -169,6 +176,26 @@ impl<'a> Printer<'a> {
             | Piece::UseArgs(_, _)
             | Piece::Binder(_) => self.type_piece(piece),
         }
+    }
+
+    /// Prints what stands before the first of these, and lets them wait.
+    fn fields(
+        &mut self,
+        before: &'static str,
+        fields: &'a [RecordLitField],
+    ) -> Result<(), AllocError> {
+        let Some((first, rest)) = fields.split_first() else {
+            return Ok(());
+        };
+        self.waiting.push_all(&[
+            Piece::Name(&first.name),
+            Piece::Word(" "),
+            Piece::Expr(first.expr),
+            Piece::Word(")"),
+            Piece::Fields(" ", rest),
+        ])?;
+        self.writer.word(before)?;
+        self.writer.word("(")
     }
 
     /// A piece of a path.

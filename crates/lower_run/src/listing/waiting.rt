@@ -3,7 +3,7 @@
 use super::words::{
     binary_word, loop_word, mutability_word, rawness_word, unary_word, unsafe_word,
 };
-use hir_store::hir::{Expr, Literal, Statement};
+use hir_store::hir::{Expr, Literal, RecordLitField, RecordSpread, Statement};
 use hir_store::ids::{BlockId, ExprId, HygieneId, LabelId, LifetimeRefId, TypeRefId};
 use hir_store::name::Name;
 use hir_store::path::{AssociatedTypeBinding, GenericArg, GenericArgs, ModPath, Path, PathKind};
@@ -28,6 +28,10 @@ pub enum Piece<'a> {
     Name(&'a Name),
     Path(&'a Path, HygieneId),
     Literal(&'a Literal),
+    /// Names as a list.
+    Names(&'a [Name]),
+    /// The fields of a record as a list.
+    FieldList(&'a [RecordLitField]),
     Hygiene(HygieneId),
     PathKind(PathKind),
     /// A path without arguments.
@@ -37,6 +41,7 @@ pub enum Piece<'a> {
     GenericArgs(&'a GenericArgs),
     /// What stands before the first of these, and they; likewise below.
     Args(&'static str, &'a [GenericArg]),
+    Fields(&'static str, &'a [RecordLitField]),
     Bindings(&'static str, &'a [AssociatedTypeBinding]),
     Binding(&'a AssociatedTypeBinding),
     Type_(TypeRefId),
@@ -69,6 +74,21 @@ fn block_or_absent(block: Option<BlockId>) -> Piece<'static> {
     match block {
         Some(id) => Piece::Block(id),
         None => ABSENT,
+    }
+}
+
+fn args_or_absent(args: &Option<GenericArgs>) -> Piece<'_> {
+    match args {
+        Some(args) => Piece::GenericArgs(args),
+        None => ABSENT,
+    }
+}
+
+fn spread_or_absent(spread: RecordSpread) -> Piece<'static> {
+    match spread {
+        RecordSpread::None => ABSENT,
+        RecordSpread::FieldDefaults => Piece::Word(".."),
+        RecordSpread::Expr(id) => Piece::Expr(id),
     }
 }
 
@@ -129,6 +149,9 @@ impl<'a> Waiting<'a> {
             | Expr::BinaryOp { .. }
             | Expr::Index { .. }
             | Expr::Ref { .. } => self.push_operation_parts(expr),
+            Expr::Cast { .. } | Expr::RecordLit { .. } | Expr::OffsetOf { .. } => {
+                self.push_typed_parts(expr)
+            }
         }
     }
 
@@ -185,11 +208,12 @@ impl<'a> Waiting<'a> {
             Expr::MethodCall {
                 receiver,
                 method_name,
+                generic_args,
                 args,
             } => self.push_parts(&[
                 Piece::Expr(*receiver),
                 Piece::Name(method_name),
-                ABSENT,
+                args_or_absent(generic_args),
                 Piece::Exprs(args.as_slice()),
             ]),
             Expr::Field { expr, name } => self.push_parts(&[Piece::Expr(*expr), Piece::Name(name)]),
@@ -214,6 +238,30 @@ impl<'a> Waiting<'a> {
                 Piece::Word(rawness_word(*rawness)),
                 Piece::Word(mutability_word(*mutability)),
                 Piece::Expr(*expr),
+            ]),
+            _ => self.push_parts(&[]),
+        }
+    }
+
+    /// The same of what holds a type or a path beside its operands.
+    fn push_typed_parts(&mut self, expr: &'a Expr) -> Result<(), AllocError> {
+        match expr {
+            Expr::Cast { expr, type_ref } => self.push_parts(&[
+                Piece::Expr(*expr),
+                Piece::Type_(*type_ref),
+            ]),
+            Expr::RecordLit {
+                path,
+                fields,
+                spread,
+            } => self.push_parts(&[
+                Piece::Path(path, HygieneId::ROOT),
+                Piece::FieldList(fields.as_slice()),
+                spread_or_absent(*spread),
+            ]),
+            Expr::OffsetOf { container, fields } => self.push_parts(&[
+                Piece::Type_(*container),
+                Piece::Names(fields.as_slice()),
             ]),
             _ => self.push_parts(&[]),
         }

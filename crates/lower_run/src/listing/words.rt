@@ -30,6 +30,9 @@ pub fn expr_word(expr: &Expr) -> &'static str {
         Expr::Yield { .. } => "Yield",
         Expr::Yeet { .. } => "Yeet",
         Expr::Await { .. } => "Await",
+        Expr::Cast { .. } => "Cast",
+        Expr::RecordLit { .. } => "RecordLit",
+        Expr::OffsetOf { .. } => "OffsetOf",
         Expr::Underscore => "Underscore",
         Expr::IncludeBytes => "IncludeBytes",
     }

@@ -109,6 +109,17 @@ impl Writer {
         Ok(())
     }
 
+    /// Adds names as a list.
+    pub fn names(&mut self, names: &[Name]) -> Result<(), AllocError> {
+        let mut before = "[";
+        for name in names {
+            self.word(before)?;
+            self.name(name)?;
+            before = " ";
+        }
+        self.word(if names.is_empty() { "[]" } else { "]" })
+    }
+
     /// Adds a lifetime.
     pub fn lifetime(&mut self, lifetime: &LifetimeRef) -> Result<(), AllocError> {
         match lifetime {
