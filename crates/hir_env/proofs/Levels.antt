@@ -72,7 +72,8 @@ module _ (env : Answers) where
   abbrev rd : Reader written
   rd = reader env
 
-  expr_at_is : (k : ExprKindLayer written) (p : Place) (s : Pointer) → of.expr_at env itself (mapped_kind env k) p s ≡ of.expr_at env rd k p s
+  expr_at_is : (k : ExprKindLayer written) (p : Place) (s : Pointer)
+      → of.expr_at env itself (mapped_kind env k) p s ≡ of.expr_at env rd k p s
   expr_at_is (ExprKind-F.IfExpr c t e) p s = λ j.
       tree.if_expr s (expr_is rd.expr c p j) (plain_is rd.block_expr t p j) (expr_is rd.else_branch e p j)
   expr_at_is (ExprKind-F.BlockExpr b) p s = refl
@@ -121,7 +122,8 @@ module _ (env : Answers) where
       → of.constant_step env itself (mapped_constant env x) p ≡ of.constant_step env rd x p
   constant_step_is x p = λ j. tree.constant (expr_is rd.expr x.expr (inside_constant p) j)
 
-  field_step_is : (x : RecordExprFieldLayer written) (p : Place) → of.field_step env itself (mapped_field env x) p ≡ of.field_step env rd x p
+  field_step_is : (x : RecordExprFieldLayer written) (p : Place)
+      → of.field_step env itself (mapped_field env x) p ≡ of.field_step env rd x p
   field_step_is x p = λ j. let s = of.in_file p (of.ptr x.id x.range) in
       of.asked_field s (env.cfg (of.site_of s)) (of.field_of s x.name (expr_is rd.expr x.expr p j))
 
@@ -153,8 +155,7 @@ module _ (env : Answers) where
   read_expr_is e p = opened_expr env e p ∙ read_expr_kind_is e.kind (of.ptr e.id e.range) p
 
   read_plain_is : (b : AstBlockExpr) (p : Place) → (read_block env b).plain p ≡ of.block_at env rd (out-BlockExpr b) (false, None) p
-  read_plain_is b p = (λ j. (opened_block env b j).plain p)
-      ∙ block_at_is (out-BlockExpr b) (false, None) p
+  read_plain_is b p = (λ j. (opened_block env b j).plain p) ∙ block_at_is (out-BlockExpr b) (false, None) p
 
   -- what a block's label and its modifiers say of it
   abbrev own_head : BlockExprLayer written → Place → Bool × Option Label

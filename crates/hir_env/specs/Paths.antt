@@ -97,9 +97,9 @@ inside_impl p = record p { in_impl = true }
 abbrev pub outside_impl : Place → Place
 outside_impl p = record p { in_impl = false }
 
--- Inside of a constant, which is a root or a body inside of one. An `await` there stands in what the constant stands in.
+-- Inside of a constant, where an `impl` is an error. An `await` there stands in what the constant stands in.
 abbrev pub inside_constant : Place → Place
-inside_constant p = record p { impl_trait = becomes.Error; in_root = true }
+inside_constant p = record p { impl_trait = becomes.Error }
 
 -- segments
 
