@@ -1,5 +1,5 @@
 -- The steps of lowering: each answers a value, or is refused because an arena is full, and leaves what is stored by then.
-use Rattle.std.specs.Prelude.{◌≡◌, ◌≢◌, ◌⊎◌, true, [], ◌∷◌, Option, Some, None, Ok, Err}
+use Rattle.std.specs.Prelude.{◌≡◌, ◌≢◌, ◌⊎◌, Bool, true, false, [], ◌∷◌, Option, Some, None, Ok, Err}
 use Rattle.hir_store.specs.Pointers.{Pointer}
 use Rattle.hir_store.specs.Stored.{Stored}
 use Rattle.hir_store.specs.Range.{Grows}
@@ -19,7 +19,7 @@ use Rattle.hir_store.specs.declared.diagnostics.ExpressionStoreDiagnostics.{Expr
 use Rattle.hir_store.specs.declared.diagnostics.ExpressionStoreDiagnostics.TheVariants.{AwaitOutsideOfAsync}
 use Rattle.hir_store.specs.declared.diagnostics.ExpressionStoreDiagnostics.TheVariants.{UndeclaredLabel, UnreachableLabel}
 use Rattle.hir_store.specs.declared.diagnostics.AwaitLocation.{AwaitLocation}
-use Rattle.hir_scope.specs.Ribs.{label_rib, Target, reachable, unreachable, undeclared, target}
+use Rattle.hir_scope.specs.Ribs.{label_rib, barrier_rib, Target, reachable, unreachable, undeclared, target}
 use Rattle.hir_lower_scope.specs.Labels.{rest}
 use Rattle.hir_env.specs.Answered.{Label, Jump}
 use Rattle.hir_lower_form.specs.Builder.{Builder}
@@ -76,6 +76,11 @@ enter_block (Some b) = stored (storing.enter_block b)
 unfoldable pub record_root : ExprId → Lowering (Unit {0})
 record_root root = stored (storing.record_root root)
 
+-- records a root where no other is being lowered
+unfoldable pub record_outside : Bool → ExprId → Lowering (Unit {0})
+record_outside true id = pure tt
+record_outside false id = record_root id
+
 -- a counter is at its end
 unfoldable pub count_out : {A : Type 0} → Lowering A
 count_out = λ b. (Err Full, record b { counted_out = true })
@@ -89,6 +94,10 @@ open_label l = do
   id ← stored (storing.alloc_label (record { name = l.name }) (Some l.pointer))
   open_as l id
   pure id
+
+-- no jump behind it reaches what is open
+unfoldable pub open_barrier : Lowering (Unit {0})
+open_barrier = λ b. (Ok tt, record b { scopes = barrier_rib ∷ b.scopes })
 
 -- closes what was opened last
 unfoldable pub close : Lowering (Unit {0})

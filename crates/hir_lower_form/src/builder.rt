@@ -194,6 +194,18 @@ impl BodyBuilder {
         self.store.record_root(root)
     }
 
+    /// Records a root where no other is being lowered.
+    #[tactic(auto, unfolding(crate::specs::Lowering::record_outside))]
+    pub fn record_outside(&mut self, in_root: bool, root: ExprId) -> Result<(), StoreFault>
+        requires { HasExpr self.old.stored root }
+        ensures { Lowers HasNone (spec.record_outside in_root root) self.old result self.new }
+    {
+        if in_root {
+            return Ok(());
+        }
+        self.record_root(root)
+    }
+
     /// Notes that a counter is at its end, and answers `Full`.
     pub fn count_out(&mut self) -> StoreFault
         ensures fault { result ≡ Full }
@@ -218,6 +230,15 @@ impl BodyBuilder {
         let label = self.store.alloc_label(Label { name }, Some(source))?;
         self.scopes.enter_label(copy, hygiene, label)?;
         Ok(label)
+    }
+
+    /// Opens the border of a constant: until it is closed no jump reaches what is open around it.
+    #[tactic(auto, unfolding(crate::specs::Lowering::open_barrier))]
+    pub fn open_barrier(&mut self) -> Result<(), StoreFault>
+        ensures { Lowers HasNone spec.open_barrier self.old result self.new }
+    {
+        self.scopes.enter_barrier()?;
+        Ok(())
     }
 
     /// Closes what was opened last.
