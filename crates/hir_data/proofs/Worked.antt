@@ -2,7 +2,7 @@
 use Rattle.std.proofs.Common.{refl}
 use Rattle.hir_data.specs.Worked.{SuperAfterSelf, KeywordsInside, CrateHidesSupers, DollarCrateIsARoot, SupersInside}
 use Rattle.hir_data.specs.Worked.{SelfAlone, UseTreesStandInFront, AbsentIsMissing}
-use Rattle.hir_data.specs.Worked.{TraitInPlace, TypeInFront, OutputIsBound, BinderOfFunctions}
+use Rattle.hir_data.specs.Worked.{TraitInPlace, TypeInFront, OutputIsBound, BinderOfFunctions, LengthsBySites}
 
 pub counts_super_after_self : SuperAfterSelf
 counts_super_after_self = refl
@@ -39,3 +39,6 @@ binds_output a b = (refl, refl, refl)
 
 pub hands_binders_on : BinderOfFunctions
 hands_binders_on at h b t = (refl, refl)
+
+pub names_lengths_by_sites : LengthsBySites
+names_lengths_by_sites at here around in_root t p h by fs s = (refl, refl, refl, refl, refl)

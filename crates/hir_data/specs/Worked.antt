@@ -1,5 +1,5 @@
 -- Worked paths.
-use Rattle.std.specs.Prelude.{◌≡◌, ℕ, codes, false, true, List, [], ◌∷◌, Some, None}
+use Rattle.std.specs.Prelude.{◌≡◌, ℕ, codes, Bool, false, true, Option, List, [], ◌∷◌, Some, None}
 use Rattle.hir_store.specs.Pointers.{Pointer}
 use Rattle.hir_store.specs.declared.ids.CrateId.{CrateId}
 use Rattle.hir_store.specs.declared.name.Name.{Name}
@@ -8,7 +8,11 @@ use Rattle.hir_store.specs.declared.path.PathKind.{PathKind}
 use Rattle.hir_store.specs.declared.path.PathKind.TheVariants as kind
 use Rattle.hir_store.specs.declared.path.GenericArgsParentheses.TheVariants as parens
 use Rattle.hir_env.specs.Answered as tree
-use Rattle.hir_env.specs.Answered.{Binder, FnHead, Type_, OptionPath, OptionRet, Segments, Segment}
+use Rattle.hir_env.specs.Answered.{Binder, FnHead, Type_, OptionPath, OptionRet, Segments, Segment, OptionExpr, Fields, Spread}
+use Rattle.hir_env.specs.NodeMap.{Site}
+use Rattle.hir_env.specs.Spot.{site_of}
+use Rattle.hir_store.specs.declared.ids.CfgId.{CfgId}
+use Rattle.hir_store.specs.declared.ids.HygieneId.{HygieneId}
 use Rattle.hir_data.specs.Data as datum
 use Rattle.hir_data.specs.Data.{TypeData, NamesData, OptionArgsData, path_data}
 use Rattle.hir_data.specs.Written.{type_data, written_path}
@@ -152,3 +156,24 @@ BinderOfFunctions = (at : Pointer) (h : FnHead) (b : Binder) (t : Type_)
     (datum.more_types (datum.typed None (datum.tuple_shape datum.no_types)) datum.no_types)))
     × (type_data None (tree.for_type b (tree.some_type (tree.over_type at tree.slice_of (tree.some_type t))))
     ≡ datum.typed (Some at) (datum.slice_shape (type_data None t)))
+
+-- ---- constants
+
+-- an array of this length
+abbrev pub array_of : Pointer → Bool → OptionExpr → Type_ → Type_
+array_of at in_root e t = tree.array_type at (tree.constant in_root e) (tree.some_type t)
+
+abbrev pub is_long : Pointer → Type_ → Type_ → Option Site → Type 0
+is_long at array t length = type_data None array ≡ datum.typed (Some at) (datum.array_shape (type_data None t) length)
+
+-- `[T; a]`, `[T; (a)]`, `[T; ]`, the first with a disabled length, and `[T; crate::crate { .. }]`
+abbrev pub LengthsBySites : Type 0
+LengthsBySites = (at here around : Pointer) (in_root : Bool) (t : Type_) (p : OptionPath) (h : HygieneId) (by : CfgId)
+    (fs : Fields) (s : Spread)
+    → is_long at (array_of at in_root (tree.some_expr (tree.path_expr here p h)) t) t (Some (site_of here))
+    × is_long at (array_of at in_root (tree.some_expr (tree.paren_expr around (tree.some_expr (tree.path_expr here p h)))) t) t
+    (Some (site_of here))
+    × is_long at (array_of at in_root tree.no_expr t) t None
+    × is_long at (array_of at in_root (tree.some_expr (tree.disabled_expr around by (tree.path_expr here p h))) t) t None
+    × is_long at (array_of at in_root
+    (tree.some_expr (tree.record_expr here (whole tree.crate_segment (tree.crate_segment ∷ [])) fs s)) t) t None

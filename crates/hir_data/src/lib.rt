@@ -6,7 +6,7 @@ ghost use Rattle.hir_data.specs.Arguments.{ArgumentLaw};
 ghost use Rattle.hir_data.specs.Segments.{SegmentLaw};
 ghost use Rattle.hir_data.specs.Worked.{SuperAfterSelf, KeywordsInside, CrateHidesSupers, DollarCrateIsARoot, SupersInside};
 ghost use Rattle.hir_data.specs.Worked.{SelfAlone, UseTreesStandInFront, AbsentIsMissing};
-ghost use Rattle.hir_data.specs.Worked.{TraitInPlace, TypeInFront, OutputIsBound, BinderOfFunctions};
+ghost use Rattle.hir_data.specs.Worked.{TraitInPlace, TypeInFront, OutputIsBound, BinderOfFunctions, LengthsBySites};
 
 /// The names of a path are those of its named segments, where no use tree stands around it and no segment is missing.
 pub fn segment_law()
@@ -76,4 +76,10 @@ pub fn binds_output()
 /// A `for` reaches a function pointer through parentheses, and no other type.
 pub fn hands_binders_on()
     ensures { BinderOfFunctions }
+{}
+
+/// The length of an array is named by the node of its expression, through parentheses; one that becomes a missing
+/// expression without node by none.
+pub fn names_lengths_by_sites()
+    ensures { LengthsBySites }
 {}
