@@ -41,4 +41,4 @@ pub hands_binders_on : BinderOfFunctions
 hands_binders_on at h b t = (refl, refl)
 
 pub names_lengths_by_sites : LengthsBySites
-names_lengths_by_sites at here around in_root t p h by fs s = (refl, refl, refl, refl, refl)
+names_lengths_by_sites at here around t p h by fs s = (refl, refl, refl, refl, refl)

@@ -1,5 +1,5 @@
 -- Worked paths.
-use Rattle.std.specs.Prelude.{◌≡◌, ℕ, codes, Bool, false, true, Option, List, [], ◌∷◌, Some, None}
+use Rattle.std.specs.Prelude.{◌≡◌, ℕ, codes, false, true, Option, List, [], ◌∷◌, Some, None}
 use Rattle.hir_store.specs.Pointers.{Pointer}
 use Rattle.hir_store.specs.declared.ids.CrateId.{CrateId}
 use Rattle.hir_store.specs.declared.name.Name.{Name}
@@ -160,20 +160,20 @@ BinderOfFunctions = (at : Pointer) (h : FnHead) (b : Binder) (t : Type_)
 -- ---- constants
 
 -- an array of this length
-abbrev pub array_of : Pointer → Bool → OptionExpr → Type_ → Type_
-array_of at in_root e t = tree.array_type at (tree.constant in_root e) (tree.some_type t)
+abbrev pub array_of : Pointer → OptionExpr → Type_ → Type_
+array_of at e t = tree.array_type at (tree.constant e) (tree.some_type t)
 
 abbrev pub is_long : Pointer → Type_ → Type_ → Option Site → Type 0
 is_long at array t length = type_data None array ≡ datum.typed (Some at) (datum.array_shape (type_data None t) length)
 
 -- `[T; a]`, `[T; (a)]`, `[T; ]`, the first with a disabled length, and `[T; crate::crate { .. }]`
 abbrev pub LengthsBySites : Type 0
-LengthsBySites = (at here around : Pointer) (in_root : Bool) (t : Type_) (p : OptionPath) (h : HygieneId) (by : CfgId)
+LengthsBySites = (at here around : Pointer) (t : Type_) (p : OptionPath) (h : HygieneId) (by : CfgId)
     (fs : Fields) (s : Spread)
-    → is_long at (array_of at in_root (tree.some_expr (tree.path_expr here p h)) t) t (Some (site_of here))
-    × is_long at (array_of at in_root (tree.some_expr (tree.paren_expr around (tree.some_expr (tree.path_expr here p h)))) t) t
+    → is_long at (array_of at (tree.some_expr (tree.path_expr here p h)) t) t (Some (site_of here))
+    × is_long at (array_of at (tree.some_expr (tree.paren_expr around (tree.some_expr (tree.path_expr here p h)))) t) t
     (Some (site_of here))
-    × is_long at (array_of at in_root tree.no_expr t) t None
-    × is_long at (array_of at in_root (tree.some_expr (tree.disabled_expr around by (tree.path_expr here p h))) t) t None
-    × is_long at (array_of at in_root
+    × is_long at (array_of at tree.no_expr t) t None
+    × is_long at (array_of at (tree.some_expr (tree.disabled_expr around by (tree.path_expr here p h))) t) t None
+    × is_long at (array_of at
     (tree.some_expr (tree.record_expr here (whole tree.crate_segment (tree.crate_segment ∷ [])) fs s)) t) t None

@@ -250,7 +250,7 @@ abbrev mutual
   -- ---- constants, by the node that the expression comes from which they become
 
   pub constant_site : Constant → Option Site
-  constant_site (tree.constant in_root e) = part_site e
+  constant_site (tree.constant e) = part_site e
 
   -- an expression that is absent or disabled comes from none
   pub part_site : OptionExpr → Option Site

@@ -76,10 +76,20 @@ enter_block (Some b) = stored (storing.enter_block b)
 unfoldable pub record_root : ExprId → Lowering (Unit {0})
 record_root root = stored (storing.record_root root)
 
--- records a root where no other is being lowered
-unfoldable pub record_outside : Bool → ExprId → Lowering (Unit {0})
-record_outside true id = pure tt
-record_outside false id = record_root id
+-- from here on a root is being lowered; whether one was before
+unfoldable pub enter_root : Lowering Bool
+enter_root = λ b. (Ok b.in_root, record b { in_root = true })
+
+-- from here on none is
+unfoldable pub outside_root : Lowering (Unit {0})
+outside_root = λ b. (Ok tt, record b { in_root = false })
+
+-- inside of another root it isn't recorded
+unfoldable pub leave_root : Bool → ExprId → Lowering (Unit {0})
+leave_root true id = pure tt
+leave_root false id = do
+  record_root id
+  outside_root
 
 -- a counter is at its end
 unfoldable pub count_out : {A : Type 0} → Lowering A
@@ -124,6 +134,10 @@ jump_target (Some j) = λ b. found_or_fault j (target j b.scopes) b
 -- an arena has reached its limit, or a counter its end
 abbrev pub SomeEnd : Builder → Type 0
 SomeEnd b = SomeAtLimit b.stored ⊎ (b.counted_out ≡ true)
+
+-- an answer that is no number
+abbrev pub HasFlag : Stored → Bool → Type 0
+HasFlag s b = Unit {0}
 
 -- What the steps answer and leave, unless memory was refused. What is answered exists, and no arena is shorter than it
 -- was; where there is no room some end is reached.

@@ -117,7 +117,7 @@ LowersArgs as' old result new = Lowers HasArgsOption (spec.args_part as') old re
 
 -- the constant of this expression, which is written at this spot
 abbrev pub constant_at : Spot → Option AstExpr → Constant
-constant_at at e = tree.constant at.place.in_root (expr_part (in_constant at) e)
+constant_at at e = tree.constant (expr_part (in_constant at) e)
 
 abbrev pub LowersConstant : Constant → Builder → Checked ConstRef → Builder → Type 0
 LowersConstant c old result new = Lowers HasConst (spec.lower_constant c) old result new

@@ -1,10 +1,8 @@
 //! Constants: the lengths of arrays, and arguments.
 
-ghost use Rattle.hir_store.specs.Range.{HasConst};
+ghost use Rattle.hir_env.specs.Answered as tree;
 ghost use Rattle.hir_env.specs.Whole.{answered_constant, constant_level, constant_part, expr_part};
 ghost use Rattle.hir_syntax.specs.declared.ast.ConstArg.{out-ConstArg};
-ghost use Rattle.hir_lower_form.specs.Lowering.{Lowers};
-ghost use Rattle.hir_lower_form.specs.Lower as spec;
 ghost use Rattle.hir_lower_form.specs.Methods.{LowersConstant, at_place};
 ghost use Rattle.hir_lower_form.specs.Nests.{IfPresent, const_expr};
 
@@ -16,23 +14,22 @@ use hir_store::type_ref::ConstRef;
 use hir_syntax::{Boxed, ast};
 
 impl<P: LowerParts> Lowerer<P> {
-    /// The expression as a constant: no jump in it reaches what is open around it, and it is recorded as a root unless one
-    /// is being lowered.
+    /// The expression, read here, as a constant: no jump in it reaches what is open around it, and it is recorded as a root
+    /// unless one is being lowered.
     #[tactic(auto, unfolding(crate::specs::Lower::constant_form))]
     pub fn constant_form(
         &self,
         state: &mut BodyBuilder,
-        in_root: bool,
         expr: &Option<Boxed<ast::Expr>>,
     ) -> Result<ConstRef, StoreFault>
         requires { IfPresent (P.can self.now.parts).expr expr.now }
-        ensures { let e = expr_part (P.spot self.now.parts) expr.now in
-            Lowers HasConst (spec.constant_form in_root (spec.lower_part e)) state.old result state.new }
+        ensures { LowersConstant (tree.constant (expr_part (P.spot self.now.parts) expr.now)) state.old result state.new }
     {
         state.open_barrier()?;
+        let outer = state.enter_root();
         let id = self.collect_expr_opt(state, expr)?;
         state.close();
-        state.record_outside(in_root, id)?;
+        state.leave_root(outer, id)?;
         Ok(ConstRef { expr: id })
     }
 
