@@ -22,7 +22,6 @@ use Rattle.hir_syntax.specs.declared.types.GenericArg.TheOpen.{GenericArg-F, Typ
 use Rattle.hir_store.specs.Pointers.{Pointer}
 use Rattle.hir_store.specs.declared.name.Name.TheVariants as name_of
 use Rattle.hir_env.specs.declared.place.Place.{Place}
-use Rattle.hir_env.specs.declared.place.ImplTrait.{ImplTrait}
 use Rattle.hir_env.specs.Spot.{Spot}
 use Rattle.hir_env.specs.Answered as tree
 use Rattle.hir_env.specs.Answered.{Parts}
@@ -40,7 +39,7 @@ use Rattle.hir_env.specs.Whole.{segments_part, first_part, rest_part, generic_ar
 use Rattle.hir_env.proofs.PathLevels.{param_is_level, ret_is_level, segment_is_level, path_type_is_level, paren_args_is_level}
 use Rattle.hir_env.proofs.PathLevels.{arg_is_level, type_arg_is_level, assoc_arg_is_level, bound_is_level}
 use Rattle.hir_lower_form.specs.Nests.{Claims, IfPresent, Each, KidsTypeArg, KidsRet, KidsParam, KidsTrait, KidsBound, KidsBounds, KidsImpl}
-use Rattle.hir_lower_form.specs.Nests.{KidsBinding, KidsNamed, KidsAssoc, KidsType, KidsArg, KidsArgs, KidsParens, KidsSegmentArgs, KidsName}
+use Rattle.hir_lower_form.specs.Nests.{Unless, KidsBinding, KidsAssoc, KidsType, KidsArg, KidsArgs, KidsParens, KidsSegmentArgs, KidsName}
 use Rattle.hir_lower_form.specs.Nests.{KidsQualified, KidsSegment, KidsSegments, KidsPath}
 use Rattle.hir_lower.specs.Roots.{spot_at}
 
@@ -126,10 +125,14 @@ module _ (env : Answers) (C : Claims) (n : ℕ) (below : Below env C n) where
       let s = ap count_bound (bound_is_level (spot_at env p) b) in
       (bound p (out-TypeBound b) (omega (arith, h, s)), bounds p bs (omega (arith, h)))
 
-  impl_bounds : (inside : Bool) (p : Place) (mode : ImplTrait) (s : Pointer) (bs : List AstTypeBound)
-      → count_type (of.impl_at inside mode s (bounds_part (spot_at env (inside_impl p)) bs)) ≤ n → KidsImpl C inside p bs
-  impl_bounds true p mode s bs h = tt
-  impl_bounds false p mode s bs h = bounds (inside_impl p) bs (omega (arith, h))
+  impl_bounds : (p : Place) (s : Pointer) (bs : List AstTypeBound)
+      → count_type (of.impl_at p.in_impl p.impl_trait s (bounds_part (spot_at env (inside_impl p)) bs)) ≤ n → KidsImpl C p bs
+  impl_bounds p s bs h = by p.in_impl h
+    where
+      by : (b : Bool) → count_type (of.impl_at b p.impl_trait s (bounds_part (spot_at env (inside_impl p)) bs)) ≤ n
+          → Unless b (KidsBounds C (inside_impl p) bs)
+      by true h = tt
+      by false h = bounds (inside_impl p) bs (omega (arith, h))
 
   pub kids_type : (p : Place) (at : Pointer) (k : TypeKindLayer written_types)
       → count_type (of.type_at env (type_reader env) k p at) ≤ n → KidsType C p k
@@ -141,7 +144,7 @@ module _ (env : Answers) (C : Claims) (n : ℕ) (below : Below env C n) where
   kids_type p at (TypeKind-F.RefType l m t) h = type_ p t (omega (arith, h))
   kids_type p at (TypeKind-F.FnPtrType is_unsafe text ps r) h = (params_option p ps (omega (arith, h)), answer p r (omega (arith, h)))
   kids_type p at (TypeKind-F.ForType b t) h = type_ p t (omega (arith, h))
-  kids_type p at (TypeKind-F.ImplTraitType bs) h = impl_bounds p.in_impl p p.impl_trait at bs h
+  kids_type p at (TypeKind-F.ImplTraitType bs) h = impl_bounds p at bs h
   kids_type p at (TypeKind-F.DynTraitType bs) h = bounds p bs (omega (arith, h))
   kids_type p at TypeKind-F.NeverType h = tt
   kids_type p at TypeKind-F.InferType h = tt
@@ -154,7 +157,7 @@ module _ (env : Answers) (C : Claims) (n : ℕ) (below : Below env C n) where
 
       by : (b : Bool) (m : Option AstName)
           → count_arg (of.binding_of b m (arg_list_part inner a.generics) a.rtn (type_part inner a.ty) (bounds_part inner a.bounds)) < n
-          → KidsNamed C b m p a
+          → Unless b (IfPresent (λ k. KidsBinding C (outside_impl p) a) m)
       by true m h = tt
       by false None h = tt
       by false (Some m) h = record {
@@ -203,7 +206,7 @@ module _ (env : Answers) (C : Claims) (n : ℕ) (below : Below env C n) where
       by : (b : Bool) → count_segment (if b then tree.dollar_crate_segment (of.crate_root_at env p m.id) else
             tree.name_segment (name_of.Text m.t) (tree.segment_args (arg_list_part (spot_at env p) s.generics)
               (parens_part (spot_at env p) s.parens s.ret) s.rtn)) < n
-          → (if b then Unit {0} else KidsSegmentArgs C p s)
+          → Unless b (KidsSegmentArgs C p s)
       by true h = tt
       by false h = (list p s.generics (omega (arith, h)), parens p s.parens s.ret (omega (arith, h)))
 

@@ -212,7 +212,7 @@ mutual
   output_leads tree.no_ret = unit_leads
   output_leads (tree.some_ret t) = type_part_leads None t
 
-  args_part_leads : (as' : OptionArgs) → Leading any (args_part as')
+  pub args_part_leads : (as' : OptionArgs) → Leading any (args_part as')
   args_part_leads tree.no_arg_list = leading_pure None
   args_part_leads (tree.some_arg_list as') = then' (args_lead _ as') (λ l. leading_pure _)
 

@@ -23,6 +23,7 @@ use Rattle.hir_env.specs.Answered.{Label, Jump}
 use Rattle.hir_scope.specs.Ribs.{Target, reachable, unreachable, undeclared, target}
 use Rattle.hir_lower_form.specs.Builder.{Builder}
 use Rattle.hir_lower_form.specs.Lowering.{Checked, go_on, Lowering, ◌>>=◌, pure, alloc_expr, alloc_lifetime, alloc_type, point, report}
+use Rattle.hir_lower_form.specs.Lowering.{point_field}
 use Rattle.hir_lower_form.specs.Lowering.{enter_block, open_label, close, jump_target, found_or_fault, open_as, report_await, count_out}
 use Rattle.hir_lower.specs.Stays.{LeadsOn}
 
@@ -201,6 +202,11 @@ leading_count_out = record { goes = λ b. went_same _ _ (refl, (refl, (refl, ref
 pub leading_report : (d : ExpressionStoreDiagnostics) → Leading any (report d)
 unfolding report storing.report
 leading_report d = record { goes = λ b. (went_same _ _ (refl, (refl, (refl, refl))), tt) }
+
+-- where a value leads to is no way of a node
+pub leading_point_field : (i : ExprId) (at : Pointer) → Leading any (point_field i at)
+unfolding point_field storing.point_field
+leading_point_field i at = record { goes = λ b. (went_same _ _ (refl, (refl, (refl, refl))), tt) }
 
 pub leading_report_await : (at : Pointer) (location : Option AwaitLocation) → Leading any (report_await at location)
 unfolding report_await

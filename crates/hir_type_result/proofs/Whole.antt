@@ -49,6 +49,7 @@ type_results limit t i new is =
         label_sources = ap (λ a. a.sources) aside.labels;
         expr_ways = ap (λ a. a.map) aside.exprs;
         label_ways = ap (λ a. a.map) aside.labels;
+        field_ways = aside.field_map_back;
         blocks = aside.block_scopes;
         faults = aside.diagnostics;
       };

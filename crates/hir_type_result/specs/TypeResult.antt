@@ -22,6 +22,7 @@ pub record TypesAlone (store : Store) (source_map : SourceMap) : Type 0 where
   pub label_sources : source_map.label_sources ≡ []
   pub expr_ways : source_map.expr_map ≡ []
   pub label_ways : source_map.label_map ≡ []
+  pub field_ways : source_map.field_map_back ≡ []
   pub blocks : source_map.block_scopes ≡ []
   pub faults : source_map.diagnostics ≡ []
 

@@ -27,7 +27,8 @@ maybe_collect_expr-expr_node-requires g t c =
     let at = spot_at env c.args.place in
     let size = expr_below at c.args.node.now in
     kids_expr env (HandlesExpr g.E.LowerEnv.answers _ _ c.args.env.now) (HandlesBlock g.E.LowerEnv.answers _ _ c.args.env.now)
-    (HandlesPath g.E.LowerEnv.answers _ _ c.args.env.now) t
+    (HandlesPath g.E.LowerEnv.answers _ _ c.args.env.now) (HandlesType g.E.LowerEnv.answers _ _ c.args.env.now)
+    (HandlesArgs g.E.LowerEnv.answers _ _ c.args.env.now) t
     (λ p e h. record {
       callable = λ alloc v old b same is. (rw same (rw is h), λ a m. m);
       lowers = λ alloc v old new b r same is q. rw (← is) (rw (← same) q.2);
@@ -39,6 +40,14 @@ maybe_collect_expr-expr_node-requires g t c =
     (λ p x h. record {
       callable = λ alloc v old walk b same is has. (rw same (rw is h), ((λ a m. m), has));
       reads = λ alloc v old new walk b r same is q. rw (← is) (rw (← same) q.3);
+    })
+    (λ p x h. record {
+      callable = λ alloc v old binder b same is. (rw same (rw is h), λ a m. m);
+      lowers = λ alloc v old new binder b r same is q. rw (← is) (rw (← same) q.2);
+    })
+    (λ p x h. record {
+      callable = λ alloc v old b same is. (rw same (rw is h), λ a m. m);
+      lowers = λ alloc v old new b r same is q. rw (← is) (rw (← same) q.2);
     })
     c.args.place (pointer_at at c.args.node.now.id c.args.node.now.range) (out-ExprKind c.args.node.now.kind) (omega (arith, d, size))
 
@@ -61,7 +70,8 @@ collect_block_inside-block_node-requires-clause-parts g t c =
     let size : count_block (answered_plain (spot_at env c.args.place) c.args.node.now) ≡ level c.inside-inner.result =
     ap count_block (plain_is_level (spot_at env c.args.place) c.args.node.now) ∙ ap level (sym inner) in
     kids_block env (HandlesExpr g.E.LowerEnv.answers _ _ c.args.env.now) (HandlesBlock g.E.LowerEnv.answers _ _ c.args.env.now)
-    (HandlesPath g.E.LowerEnv.answers _ _ c.args.env.now) t
+    (HandlesPath g.E.LowerEnv.answers _ _ c.args.env.now) (HandlesType g.E.LowerEnv.answers _ _ c.args.env.now)
+    (HandlesArgs g.E.LowerEnv.answers _ _ c.args.env.now) t
     (λ p e h. record {
       callable = λ alloc v old b same is. (rw same (rw is h), λ a m. m);
       lowers = λ alloc v old new b r same is q. rw (← is) (rw (← same) q.2);
@@ -73,6 +83,14 @@ collect_block_inside-block_node-requires-clause-parts g t c =
     (λ p x h. record {
       callable = λ alloc v old walk b same is has. (rw same (rw is h), ((λ a m. m), has));
       reads = λ alloc v old new walk b r same is q. rw (← is) (rw (← same) q.3);
+    })
+    (λ p x h. record {
+      callable = λ alloc v old binder b same is. (rw same (rw is h), λ a m. m);
+      lowers = λ alloc v old new binder b r same is q. rw (← is) (rw (← same) q.2);
+    })
+    (λ p x h. record {
+      callable = λ alloc v old b same is. (rw same (rw is h), λ a m. m);
+      lowers = λ alloc v old new b r same is q. rw (← is) (rw (← same) q.2);
     })
     c.inside-inner.result c.args.node.now (omega (arith, d, size))
 
