@@ -30,8 +30,8 @@ use Rattle.hir_lower_form.specs.Lower.{StoredFields, cast_form, offset_of_form, 
 use Rattle.hir_lower_form.specs.Lower.{present, kept_part, lower_each, lower_block, lower_block_part, lower_stmts, lower_stmt}
 use Rattle.hir_lower_form.specs.Lower.{lower_fields, lower_field, lower_spread}
 use Rattle.hir_lower_form.specs.Lower.{lower_type, type_part, present_type, type_or_unit, lower_parts, read_segment, read_each, read_path}
-use Rattle.hir_lower_form.specs.Lower.{read_option, lower_path, lower_segment_args, parens_part, output_part, args_part, lower_args, lower_arg}
-use Rattle.hir_lower_form.specs.Lower.{lower_bounds, lower_bound, constant_form, lower_constant}
+use Rattle.hir_lower_form.specs.Lower.{read_option, lower_path, lower_segment_args, parens_part, output_part, args_part, lower_args}
+use Rattle.hir_lower_form.specs.Lower.{lower_arg, lower_bounds, lower_bound, constant_form, lower_constant}
 use Rattle.hir_lower_form.specs.Walks.{at_first}
 use Rattle.hir_lower.proofs.TypeWays.{error_leads, unit_leads, lifetime_leads, lifetime_option_leads, uses_lead, over_leads, array_leads}
 use Rattle.hir_lower.proofs.TypeWays.{tuple_leads, path_type_leads, ref_leads, fn_leads, impl_leads, dyn_leads, path_bound_leads}

@@ -58,7 +58,8 @@ module _ (at : Pointer) where
   stored_from : (e : HirExpr) → From here (alloc_expr e (Some at))
   stored_from e = alloc_from e (Some at)
 
-  pub if_from : {c t : ExprSteps} {e : Lowering (Option ExprId)} → Correct c Any → Correct t Any → Correct e Any → From here (if_form at c t e)
+  pub if_from : {c t : ExprSteps} {e : Lowering (Option ExprId)} → Correct c Any → Correct t Any → Correct e Any
+      → From here (if_form at c t e)
   unfolding if_form
   if_from hc ht he = ends_from ht (λ i. ends_from he (λ j. ends_from hc (λ k. stored_from _)))
 

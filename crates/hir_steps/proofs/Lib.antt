@@ -2,5 +2,6 @@ pub mod Frames
 pub mod Logic
 pub mod TypeSteps
 pub mod Steps
+pub mod Constants
 pub mod Aside
 pub mod Keeping
