@@ -21,7 +21,7 @@ use Rattle.hir_lower_form.specs.Types.{no_lists}
 use Rattle.hir_lower_form.specs.Lower as lower
 use Rattle.hir_steps.proofs.Steps.{Correct, correct_report}
 use Rattle.hir_steps.proofs.Keeping.{part_any, present_any, each_any, block_part_any, stmts_any, kept_part_any, contents_any, fields_any}
-use Rattle.hir_steps.proofs.Keeping.{spread_any, type_any, path_any, args_any}
+use Rattle.hir_steps.proofs.Keeping.{spread_any, type_any, lower_path_any, args_any}
 use Rattle.hir_data.specs.Data as datum
 use Rattle.hir_data.specs.Data.{TypesData, no_args}
 use Rattle.hir_data.specs.Rule.{Item, broken, named}
@@ -201,7 +201,7 @@ mutual
   expr_from (tree.if_expr at c t e) = sites.if_from at (part_any c) (block_part_any t) (present_any e)
   expr_from (tree.loop_expr at label b) = sites.loop_from at label (block_part_any b)
   expr_from (tree.call_expr at f es) = sites.call_from at (part_any f) (each_any [] es)
-  expr_from (tree.path_expr at p h) = sites.path_from at h (path_any p)
+  expr_from (tree.path_expr at p h) = sites.path_from at h (lower_path_any p)
   expr_from (tree.continue_expr at jump) = sites.continue_from at jump
   expr_from (tree.break_expr at jump e) = sites.break_from at jump (present_any e)
   expr_from (tree.literal_expr at l) = sites.alloc_from _ (Some at)

@@ -4,4 +4,5 @@ pub mod TypeSteps
 pub mod Steps
 pub mod Constants
 pub mod Aside
+pub mod TypeAny
 pub mod Keeping
