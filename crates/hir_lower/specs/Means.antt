@@ -1,5 +1,6 @@
 -- What a lowered constant and a lowered body are, in words of meaning.
-use Rattle.std.specs.Prelude.{◌≡◌, ◌≤◌, ◌+◌, ℕ, Bool, true, false, List, [], ◌∷◌, ◌++◌, length, map, option_map, Option, Some, None, IsPermutation}
+use Rattle.std.specs.Prelude.{◌≡◌, ◌≤◌, ◌+◌, ℕ, Bool, true, false, List, [], ◌∷◌, ◌++◌, length, map, option_map, Option}
+use Rattle.std.specs.Prelude.{Some, None, IsPermutation}
 use Rattle.hir_syntax.specs.declared.node.AstPtr.{AstPtr}
 use Rattle.hir_syntax.specs.declared.ast.Expr.{Expr as AstExpr}
 use Rattle.hir_syntax.specs.declared.ast.Path.{Path as AstPath, out-Path}
@@ -40,7 +41,7 @@ use Rattle.hir_one_result.specs.Blocks.{blocks_of_part}
 use Rattle.hir_one_result.specs.Diagnostics.{Faults, part_diagnostics}
 use Rattle.hir_one_result.specs.Laws.{Grown}
 use Rattle.hir_one_result.specs.PathRoom.{whole_size}
-use Rattle.hir_one_result.specs.Room.{count_of_exprs, count_of_lifetimes, count_of_types}
+use Rattle.hir_one_result.specs.Room.{count_of_exprs, count_of_lifetimes, count_of_types, lifetime_sources_of, type_sources_of}
 use Rattle.hir_one_result.specs.Leads.{Way, label_ways, Covers, CoversLabels, Led}
 use Rattle.hir_one_result.specs.Stands.{StandsPart}
 
@@ -59,14 +60,16 @@ pub record Lives (old new later : Stored) (i : ExprId) (e : OptionExpr) : Type 0
   pub reached_once : (depth : ℕ) → length later.exprs.entries ≤ depth
       → Spread (length old.exprs.entries) (length new.exprs.entries) (reached_to later.exprs.entries depth i)
 
--- What lowering a root leaves. It is the last of the recorded roots, to which all belongs that was stored since the
--- one before, as many expressions, types and lifetimes as the tree becomes; behind the faults and the blocks that were noted before come those
--- of the tree.
+-- What lowering a root leaves. It is the last of the recorded roots, to which all belongs that was stored since the one before:
+-- as many expressions as the tree becomes, and types and lifetimes from just those of its nodes that become one. Behind the
+-- faults and the blocks that were noted before come those of the tree.
 pub record Rooted (old new : Stored) (i : ExprId) (e : OptionExpr) : Type 0 where
   pub lives : (later : Stored) → Extends new later → Lives old new later i e
   pub exprs : length new.exprs.entries ≡ length old.exprs.entries + count_of_exprs e
   pub types : length new.types.entries ≡ length old.types.entries + count_of_types e
   pub lifetimes : length new.lifetimes.entries ≡ length old.lifetimes.entries + count_of_lifetimes e
+  pub type_sources : new.types.sources ≡ old.types.sources ++ type_sources_of e
+  pub lifetime_sources : new.lifetimes.sources ≡ old.lifetimes.sources ++ lifetime_sources_of e
   pub roots : new.roots ≡ old.roots ++ root_at new.exprs.entries i ∷ []
   pub more : Faults
   pub faults : new.diagnostics ≡ old.diagnostics ++ more
@@ -115,7 +118,7 @@ abbrev pub becomes : ImplTrait → List TypeBound → TypeRef
 becomes mode.Error bounds = ty.Error
 becomes mode.Opaque bounds = ty.ImplTrait bounds
 
--- What lowering a path leaves: as many types and lifetimes as it becomes, and all else as it was.
+-- What lowering a path leaves: types and lifetimes from just those of its nodes that become one, and all else as it was.
 pub record PathRooted (old new : Stored) (p : OptionPath) : Type 0 where
   pub grown : Grown (whole_size p) old new
   pub aside : StaysAside old new
