@@ -104,7 +104,7 @@ fn lower_whole_path<E: LowerEnv>(
         Paired state.old.stored → IfOk result (λ r. ReadsBack state.new.stored r p) }
     ensures segments { Paired state.old.stored → IfOk result (λ r. BearsNames state.new.stored path.now r) }
     ensures rooted { let p = whole_path (spot_at (E.answers env.now) place) path.now in
-        Paired state.old.stored → IfOk result (λ r. PathRooted state.old.stored state.new.stored p) }
+        Paired state.old.stored → IfOk result (λ r. PathRooted state.old.stored state.new.stored r p) }
     ensures full { IsErrOf result StoreFault.Full → SomeEnd state.new }
     ensures too_large { let p = whole_path (spot_at (E.answers env.now) place) path.now in
         IsErrOf result StoreFault.Full → Short (whole_size p) state.old.stored }
