@@ -109,6 +109,12 @@ abbrev pub where_read : Option PathRead → Held → Held
 where_read None h = nothing_held
 where_read (Some p) h = h
 
+abbrev pub held_of : Option PathRead → List Part → Held
+held_of p ps = where_read p (held_in (read_parts ps))
+
+abbrev pub in_held : Held → Bodies
+in_held h = h.anchor ++ all_in h.names
+
 abbrev pub if_read : Option PathRead → Bodies → Bodies
 if_read None bs = []
 if_read (Some p) bs = bs
@@ -200,11 +206,12 @@ abbrev mutual
   -- ---- paths
 
   pub path_bodies : OptionPath → Bodies
-  path_bodies p = let h = held p in h.anchor ++ all_in h.names
+  path_bodies tree.no_path = []
+  path_bodies (tree.some_path p) = in_held (held_of (path_of (tree.some_path p)) (path_parts p []))
 
   pub held : OptionPath → Held
   held tree.no_path = nothing_held
-  held (tree.some_path p) = where_read (path_of (tree.some_path p)) (held_in (read_parts (path_parts p [])))
+  held (tree.some_path p) = held_of (path_of (tree.some_path p)) (path_parts p [])
 
   -- the segments of a path and of the use trees around it, before these
   pub path_parts : Path → List Part → List Part

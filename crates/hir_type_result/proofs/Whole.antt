@@ -7,7 +7,7 @@ use Rattle.hir_read_back.proofs.Now.{type_law}
 use Rattle.hir_steps.specs.Keeps.{Paired, Mapped, KeepsAll, StaysAside, KeepsAside}
 use Rattle.hir_steps.proofs.Aside.{types_keep}
 use Rattle.hir_one_result.specs.Laws.{Grown, GrownUnless}
-use Rattle.hir_one_result.specs.PathRoom.{type_part_size}
+use Rattle.hir_one_result.specs.Room.{type_part_size}
 use Rattle.hir_one_result.specs.Room.{Short}
 use Rattle.hir_one_result.proofs.Fits.{types_fit}
 use Rattle.hir_one_result.proofs.Whole.{lead_back}
