@@ -8,6 +8,7 @@ pub mod Syntax
 pub mod Store
 pub mod Jumps
 pub mod Inner
+pub mod InnerRows
 pub mod Same
 pub mod Small
 pub mod Rows

@@ -2,5 +2,6 @@ pub mod Frames
 pub mod Logic
 pub mod TypeSteps
 pub mod Steps
+pub mod Barriers
 pub mod Aside
 pub mod Keeping
