@@ -46,7 +46,7 @@ use Rattle.hir_one_result.specs.Laws.{Grown}
 use Rattle.hir_one_result.specs.Room.{whole_size}
 use Rattle.hir_one_result.specs.Room.{count_of_exprs, count_of_lifetimes, count_of_types, lifetime_sources_of, type_sources_of}
 use Rattle.hir_one_result.specs.Leads.{Way, label_ways, Covers, CoversLabels, Led}
-use Rattle.hir_one_result.specs.Stands.{StandsPart}
+use Rattle.hir_one_result.specs.Stands.{StandsPart, WholeWays}
 use Rattle.hir_type_result.specs.Named.{of_exprs}
 use Rattle.hir_type_result.specs.Roots.{RootsOf, recorded}
 use Rattle.hir_type_result.specs.Reached.{of_path, of_present, types_reached}
@@ -131,6 +131,15 @@ abbrev pub becomes : ImplTrait → List TypeBound → TypeRef
 becomes mode.Error bounds = ty.Error
 becomes mode.Opaque bounds = ty.ImplTrait bounds
 
+-- What stands in a later store for the constants of a lowered path: as for the tree of a root.
+pub record ConstantsLive (old new later : Stored) (p : OptionPath) : Type 0 where
+  pub ways : List Way
+  pub stands : WholeWays (store_of later) (map_of later) [] p ways
+  pub covers : Covers ways (length old.exprs.entries) (length new.exprs.entries)
+  pub covers_labels : CoversLabels ways (length old.labels.entries) (length new.labels.entries)
+  pub led : Led (map_of old) (map_of new) ways
+  pub labels : length new.labels.entries ≡ length old.labels.entries + label_ways ways
+
 -- What lowering a path to r leaves: types and lifetimes from just those of its nodes that become one, and its constants. Those are
 -- roots, also where r is none, unless another root is being lowered; behind the faults and the blocks that were noted before come
 -- theirs. In each later store each body inside r does what the written one does, and r reaches each type in one way only, and
@@ -138,6 +147,7 @@ becomes mode.Opaque bounds = ty.ImplTrait bounds
 pub record PathRooted (in_root : Bool) (old new : Stored) (r : Option Path) (p : OptionPath) : Type 0 where
   pub inner : (later : Stored) → Extends new later
       → SameBodies (store_of later) (map_of later) (of_some (path_inner_bodies (store_of later)) r) (path_bodies p)
+  pub lives : (later : Stored) → Extends new later → ConstantsLive old new later p
   pub roots : (later : Stored) → Extends new later → RootsOf old new later (recorded in_root (whole_size p).constants)
   pub more : Faults
   pub faults : new.diagnostics ≡ old.diagnostics ++ more
