@@ -2,6 +2,5 @@ pub mod Frames
 pub mod Logic
 pub mod TypeSteps
 pub mod Steps
-pub mod Barriers
 pub mod Aside
 pub mod Keeping
