@@ -153,7 +153,7 @@ fn collected(alloc: Global, collector: ExprCollector<'_, TableEnv>) -> Result<St
 
 /// The listing of an `await` in a constant that stands in no body.
 fn await_in_no_body(alloc: Global) -> Result<String, LowerError> {
-    let constant = awaiting(alloc)?;
+    let constant = awaiting(alloc).map_err(|_| LowerError::Memory)?;
     let env = TableEnv::new(alloc, ItemContainerId::ModuleId(ModuleId(0)));
     let mut collector = ExprCollector::new(
         alloc,

@@ -143,11 +143,7 @@ impl<'a> Waiting<'a> {
     }
 
     /// Lets a path of an expression wait, and its hygiene behind it.
-    pub fn push_path_of(
-        &mut self,
-        path: &'a Path,
-        hygiene: HygieneId,
-    ) -> Result<(), AllocError> {
+    pub fn push_path_of(&mut self, path: &'a Path, hygiene: HygieneId) -> Result<(), AllocError> {
         self.push(Piece::Hygiene(hygiene))?;
         self.push_path(path)
     }
