@@ -28,11 +28,10 @@ fn expr(node: u32, kind: ExprKind) -> Expr {
 }
 
 fn constant(alloc: Global, value: Expr) -> Result<ConstArg, AllocError> {
-    let value = Boxed::new(alloc, value)?;
     Ok(ConstArg {
         id: NodeId(0),
         range: range(0),
-        expr: Some(value),
+        expr: Some(Boxed::new(alloc, value)?),
     })
 }
 

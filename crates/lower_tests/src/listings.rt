@@ -130,11 +130,10 @@ fn awaiting(alloc: Global) -> Result<ConstArg, AllocError> {
         range: TextRange { start: 1, end: 2 },
         kind: ExprKind::AwaitExpr { expr: None },
     };
-    let expr = Boxed::new(alloc, expr)?;
     Ok(ConstArg {
         id: NodeId(0),
         range: TextRange { start: 0, end: 2 },
-        expr: Some(expr),
+        expr: Some(Boxed::new(alloc, expr)?),
     })
 }
 
