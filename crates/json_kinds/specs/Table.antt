@@ -398,7 +398,8 @@ typed = kind.CastExpr ∷ kind.RecordExpr ∷ kind.OffsetOfExpr ∷ kind.RecordE
 
 -- types made of types, paths, lifetimes and constants
 abbrev pub types : List Kind
-types = kind.ParenType ∷ kind.SliceType ∷ kind.TupleType ∷ kind.PathType ∷ kind.PtrType ∷ kind.RefType ∷ kind.ArrayType ∷ []
+types = kind.ParenType ∷ kind.SliceType ∷ kind.TupleType ∷ kind.PathType
+    ∷ kind.PtrType ∷ kind.RefType ∷ kind.ArrayType ∷ []
 
 -- types with parameters or bounds, and those that are a word
 abbrev pub other_types : List Kind
@@ -406,7 +407,8 @@ other_types = kind.FnPtrType ∷ kind.ForType ∷ kind.ImplTraitType ∷ kind.Dy
 
 -- paths, and what stands beside a name
 abbrev pub paths : List Kind
-paths = kind.Path ∷ kind.PathSegment ∷ kind.GenericArgList ∷ kind.TypeArg ∷ kind.AssocTypeArg ∷ kind.LifetimeArg ∷ kind.ConstArg ∷ []
+paths = kind.Path ∷ kind.PathSegment ∷ kind.GenericArgList ∷ kind.TypeArg
+    ∷ kind.AssocTypeArg ∷ kind.LifetimeArg ∷ kind.ConstArg ∷ []
 
 -- other parts of types
 abbrev pub type_parts : List Kind
