@@ -3,6 +3,7 @@ use Rattle.std.proofs.Common.{refl}
 use Rattle.hir_data.specs.Worked.{SuperAfterSelf, KeywordsInside, CrateHidesSupers, DollarCrateIsARoot, SupersInside}
 use Rattle.hir_data.specs.Worked.{SelfAlone, UseTreesStandInFront, AbsentIsMissing}
 use Rattle.hir_data.specs.Worked.{TraitInPlace, TypeInFront, OutputIsBound, BinderOfFunctions}
+use Rattle.hir_data.specs.Worked.{BoundsOfKinds, FirstOfLists, BindingsOfLists}
 
 pub counts_super_after_self : SuperAfterSelf
 counts_super_after_self = refl
@@ -39,3 +40,12 @@ binds_output a b = (refl, refl, refl)
 
 pub hands_binders_on : BinderOfFunctions
 hands_binders_on at h b t = (refl, refl)
+
+pub reads_bounds : BoundsOfKinds
+reads_bounds at n = (refl, refl, refl, refl)
+
+pub takes_the_first_list : FirstOfLists
+takes_the_first_list t b = (refl, refl, refl, refl)
+
+pub reads_bindings : BindingsOfLists
+reads_bindings t u n l = (refl, refl, refl)

@@ -45,7 +45,7 @@ mutual
     no_types : TypesData
     more_types : TypeData → TypesData → TypesData
 
-  -- where it begins, the type that it is relative to, its names, and whether it has neither such a type nor arguments
+  -- where it begins, the type that it is relative to, its names, and whether neither such a type nor arguments were found in it
   pub data PathData : Type 0 where
     path_data : PathKind → OptionTypeData → NamesData → Bool → PathData
 

@@ -5,11 +5,13 @@ use Rattle.hir_store.specs.Stored.{Store, SourceMap}
 use Rattle.hir_store.specs.declared.ids.TypeRefId.{TypeRefId}
 use Rattle.hir_store.specs.declared.ids.LifetimeRefId.{LifetimeRefId}
 use Rattle.hir_store.specs.declared.name.Name.{Name}
+use Rattle.hir_store.specs.declared.name.Name.TheVariants as name
 use Rattle.hir_store.specs.declared.path.Path.{Path}
 use Rattle.hir_store.specs.declared.path.Path.TheVariants.{BarePath, Normal}
 use Rattle.hir_store.specs.declared.path.GenericArg.{GenericArg}
 use Rattle.hir_store.specs.declared.path.GenericArg.TheVariants as arg
 use Rattle.hir_store.specs.declared.path.GenericArgs.{GenericArgs}
+use Rattle.hir_store.specs.declared.path.GenericArgsParentheses.TheVariants as parens
 use Rattle.hir_store.specs.declared.path.AssociatedTypeBinding.TheOpen.{AssociatedTypeBinding-F, GenericArgs-F}
 use Rattle.hir_store.specs.declared.path.AssociatedTypeBinding.{AssociatedTypeBinding}
 use Rattle.hir_store.specs.declared.path.AssociatedTypeBinding.TheFolds.{fold-AssociatedTypeBinding, fold-GenericArgs}
@@ -32,10 +34,21 @@ use Rattle.hir_data.specs.Data.{BindingData, BindingsData, BoundData, BoundsData
 pub record Readers : Type 0 where
   pub type : TypeRefId → TypeData
 
--- names, each with what stands beside it
+-- the names of a bare path, beside which nothing stands
+abbrev pub names_alone : List Name → NamesData
+names_alone [] = datum.no_names
+names_alone (n ∷ ns) = datum.more_names n no_args (names_alone ns)
+
+-- A plain list with nothing in it is never written, so names that have it beside them are those of no written path.
+abbrev pub never_written : NamesData
+never_written = datum.more_names name.Missing
+    (some_args (args_data datum.no_arguments false datum.no_bindings parens.No)) datum.no_names
+
+-- names, each with what stands beside it, where they are as many
 abbrev pub names_beside : List Name → List OptionArgsData → NamesData
-names_beside [] as' = datum.no_names
-names_beside (n ∷ ns) [] = datum.more_names n no_args (names_beside ns [])
+names_beside [] [] = datum.no_names
+names_beside [] (a ∷ as') = never_written
+names_beside (n ∷ ns) [] = never_written
 names_beside (n ∷ ns) (a ∷ as') = datum.more_names n a (names_beside ns as')
 
 module _ (store : Store) (source_map : SourceMap) where
@@ -116,7 +129,7 @@ module _ (store : Store) (source_map : SourceMap) where
     list_layer (Some a) = some_args (args_layer a)
 
     abbrev pub path_layer : Path → PathData
-    path_layer (BarePath p) = datum.path_data p.kind datum.no_type (names_beside p.segments []) true
+    path_layer (BarePath p) = datum.path_data p.kind datum.no_type (names_alone p.segments) true
     path_layer (Normal p) =
         let ns = names_beside p.mod_path.segments (map list_layer p.generic_args) in
         datum.path_data p.mod_path.kind (present_layer p.type_anchor) ns false

@@ -117,7 +117,7 @@ refused (i ∷ is) = refuses i.what || refused is
 
 -- ---- the kind
 
--- the kind that a segment sets; within one a keyword or a type does, and not a `::` beside it
+-- the kind that a segment sets; within one `crate`, `$crate` or a type does, and not a `::` beside it
 abbrev pub sets : Bool → What → Option PathKind
 sets leading (root k) = Some k
 sets leading (anchor t) = Some kind.Plain

@@ -7,11 +7,12 @@ use Rattle.hir_store.specs.declared.name.Name.TheVariants as name
 use Rattle.hir_store.specs.declared.path.PathKind.{PathKind}
 use Rattle.hir_store.specs.declared.path.PathKind.TheVariants as kind
 use Rattle.hir_store.specs.declared.path.GenericArgsParentheses.TheVariants as parens
+use Rattle.hir_store.specs.declared.type_ref.TraitBoundModifier.TheVariants as modifier
 use Rattle.hir_env.specs.Answered as tree
-use Rattle.hir_env.specs.Answered.{Binder, FnHead, Type_, OptionPath, OptionRet, Segments, Segment}
+use Rattle.hir_env.specs.Answered.{Binder, FnHead, Lifetime, Type_, OptionArgs, OptionParens, OptionPath, OptionRet, Segments, Segment}
 use Rattle.hir_data.specs.Data as datum
 use Rattle.hir_data.specs.Data.{TypeData, NamesData, OptionArgsData, path_data}
-use Rattle.hir_data.specs.Written.{type_data, written_path}
+use Rattle.hir_data.specs.Written.{binding_of, bound_data, lifetime_data, list_data, segment_args_data, type_data, written_path}
 
 abbrev pub behind : List Segment → Segments
 behind [] = tree.no_segments
@@ -152,3 +153,58 @@ BinderOfFunctions = (at : Pointer) (h : FnHead) (b : Binder) (t : Type_)
     (datum.more_types (datum.typed None (datum.tuple_shape datum.no_types)) datum.no_types)))
     × (type_data None (tree.for_type b (tree.some_type (tree.over_type at tree.slice_of (tree.some_type t))))
     ≡ datum.typed (Some at) (datum.slice_shape (type_data None t)))
+
+-- ---- bounds and lists
+
+-- the type of the trait `A` from this node
+abbrev pub trait_from : Pointer → TypeData
+trait_from at = datum.typed (Some at) (datum.path_shape (path_data kind.Plain datum.no_type (alone (text (codes "A") ∷ [])) true))
+
+-- `A`, `?A`, `for<'n> ?A`, and `A::crate`
+abbrev pub BoundsOfKinds : Type 0
+BoundsOfKinds = (at : Pointer) (n : Name)
+    → (bound_data (tree.path_bound at (whole (word (codes "A")) []) false []) ≡ datum.path_bound (trait_from at) modifier.None)
+    × (bound_data (tree.path_bound at (whole (word (codes "A")) []) true []) ≡ datum.path_bound (trait_from at) modifier.Maybe)
+    × (bound_data (tree.path_bound at (whole (word (codes "A")) []) true (n ∷ [])) ≡ datum.for_bound (n ∷ []) (trait_from at))
+    × (bound_data (tree.path_bound at (whole (word (codes "A")) (tree.crate_segment ∷ [])) false []) ≡ datum.error_bound)
+
+-- `<T>`, and `<>`
+abbrev pub list_of : Type_ → OptionArgs
+list_of t = tree.some_arg_list (tree.more_args (tree.type_arg (tree.some_type t)) tree.no_args)
+
+abbrev pub empty_list_of : OptionArgs
+empty_list_of = tree.some_arg_list tree.no_args
+
+-- `(B)`
+abbrev pub parens_of : Type_ → OptionParens
+parens_of b = tree.some_parens (tree.more_parts (tree.some_type b) tree.no_parts) tree.no_ret
+
+abbrev pub data_of_list : Type_ → OptionArgsData
+data_of_list t = datum.some_args
+    (datum.args_data (datum.more_arguments (datum.type_argument (type_data None t)) datum.no_arguments) false datum.no_bindings parens.No)
+
+-- of `(..)`
+abbrev pub data_of_dots : OptionArgsData
+data_of_dots = datum.some_args (datum.args_data datum.no_arguments false datum.no_bindings parens.ReturnTypeNotation)
+
+-- behind one name `<T>(B)`, `<>(B)`, `<>(..)` and `<>`
+abbrev pub FirstOfLists : Type 0
+FirstOfLists = (t b : Type_)
+    → (segment_args_data (tree.segment_args (list_of t) (parens_of b) true) ≡ data_of_list t)
+    × (segment_args_data (tree.segment_args empty_list_of (parens_of b) true)
+    ≡ sugared (type_data None b) (datum.typed None (datum.tuple_shape datum.no_types)))
+    × (segment_args_data (tree.segment_args empty_list_of tree.no_parens true) ≡ data_of_dots)
+    × (segment_args_data (tree.segment_args empty_list_of tree.no_parens false) ≡ datum.no_args)
+
+-- `<N(..) = U, , T>` with an absent lifetime between them, the binding `N<T>(..): 'l`, and a list of an absent lifetime alone
+abbrev pub BindingsOfLists : Type 0
+BindingsOfLists = (t u : Type_) (n : Name) (l : Lifetime)
+    → (list_data (tree.some_arg_list (tree.more_args (tree.assoc_arg n tree.no_arg_list true (tree.some_type u) tree.no_bounds)
+    (tree.more_args tree.skipped_arg (tree.more_args (tree.type_arg (tree.some_type t)) tree.no_args))))
+    ≡ datum.some_args (datum.args_data (datum.more_arguments (datum.type_argument (type_data None t)) datum.no_arguments) false
+    (datum.more_bindings (datum.binding_data n data_of_dots (datum.some_type (type_data None u)) datum.no_bounds) datum.no_bindings)
+    parens.No))
+    × (binding_of (tree.assoc_arg n (list_of t) true tree.no_type (tree.more_bounds (tree.lifetime_bound l) tree.no_bounds))
+    ≡ Some (datum.binding_data n (data_of_list t) datum.no_type
+    (datum.more_bounds (datum.lifetime_bound (lifetime_data l)) datum.no_bounds)))
+    × (list_data (tree.some_arg_list (tree.more_args tree.skipped_arg tree.no_args)) ≡ datum.no_args)

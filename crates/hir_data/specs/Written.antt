@@ -110,7 +110,8 @@ function_args ts output =
 abbrev mutual
   -- ---- types
 
-  -- A `for` before a function pointer binds its lifetimes, also through parentheses. Of two the inner does.
+  -- A `for` before a function pointer binds its lifetimes, also through parentheses; before any other type it binds nothing. Of
+  -- two the inner does.
   pub type_data : Option Binder → Type_ → TypeData
   type_data b (tree.paren_type t) = part_data b t
   type_data b (tree.for_type binder t) = part_data (Some binder) t
@@ -192,8 +193,8 @@ abbrev mutual
   output_data (tree.some_ret t) = part_data None t
 
   -- the first of `<..>`, `(A) -> C` and `(..)` that has any
-  pub args_of : SegmentArgs → OptionArgsData
-  args_of (tree.segment_args l p dots) = first_list (list_data l) (first_list (parens_data p) (notation dots))
+  pub segment_args_data : SegmentArgs → OptionArgsData
+  segment_args_data (tree.segment_args l p dots) = first_list (list_data l) (first_list (parens_data p) (notation dots))
 
   -- ---- paths
 
@@ -201,7 +202,7 @@ abbrev mutual
   pub what : Bool → Segment → What
   what first tree.absent_segment = named (record { name = name.Missing; args = no_args })
   what first tree.broken_segment = broken
-  what first (tree.name_segment n a) = named (record { name = n; args = args_of a })
+  what first (tree.name_segment n a) = named (record { name = n; args = segment_args_data a })
   what first tree.self_type_segment = named (record { name = name.Text (codes "Self"); args = no_args })
   what first tree.super_segment = super_
   what false tree.crate_segment = broken

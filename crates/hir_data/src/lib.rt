@@ -7,6 +7,7 @@ ghost use Rattle.hir_data.specs.Segments.{SegmentLaw};
 ghost use Rattle.hir_data.specs.Worked.{SuperAfterSelf, KeywordsInside, CrateHidesSupers, DollarCrateIsARoot, SupersInside};
 ghost use Rattle.hir_data.specs.Worked.{SelfAlone, UseTreesStandInFront, AbsentIsMissing};
 ghost use Rattle.hir_data.specs.Worked.{TraitInPlace, TypeInFront, OutputIsBound, BinderOfFunctions};
+ghost use Rattle.hir_data.specs.Worked.{BoundsOfKinds, FirstOfLists, BindingsOfLists};
 
 /// The names of a path are those of its named segments, where no use tree stands around it and no segment is missing.
 pub fn segment_law()
@@ -58,7 +59,7 @@ pub fn names_what_is_absent()
     ensures { AbsentIsMissing }
 {}
 
-/// `<T as B::D>::E` is `B::D::E` with `T` before D's arguments, `<T as B>` is `B`, and a trait without names refuses.
+/// `<T as B::D>::E` is `B::D::E` with `T` before D's arguments, `<T as B>` is `B`, but isn't bare, and a trait without names refuses.
 pub fn puts_traits_in_place()
     ensures { TraitInPlace }
 {}
@@ -76,4 +77,20 @@ pub fn binds_output()
 /// A `for` reaches a function pointer through parentheses, and no other type.
 pub fn hands_binders_on()
     ensures { BinderOfFunctions }
+{}
+
+/// A bound by a path is a plain one, one with `?`, or behind `for<..>` one with its names and without `?`; it is an error where
+/// the path is refused.
+pub fn reads_bounds()
+    ensures { BoundsOfKinds }
+{}
+
+/// Of `A<T>(B)` the first list counts, of `A<>(B)` the second, and of `A<>(..)` the dots do.
+pub fn takes_the_first_list()
+    ensures { FirstOfLists }
+{}
+
+/// A list has its bindings apart from its arguments; in `N<T>(..)` the dots don't count; a list of nothing is none.
+pub fn reads_bindings()
+    ensures { BindingsOfLists }
 {}

@@ -100,7 +100,7 @@ mutual
     tuple_type : Pointer → Parts → Type_
     path_type : Pointer → OptionPath → Type_
     ref_type : Pointer → Option Lifetime → Mutability → OptionType → Type_
-    -- its parameters that aren't variadic, and what it answers
+    -- its parameters that aren't variadic, and what it returns
     fn_type : Pointer → FnHead → Parts → OptionType → Type_
     -- with what an `impl` becomes here
     impl_type : Pointer → ImplTrait → Bounds → Type_

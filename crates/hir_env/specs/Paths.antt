@@ -81,7 +81,7 @@ abbrev pub use_of : Place → AstUseArg → UseRead
 use_of p (used.Lifetime l) = tree.used_lifetime (lifetime_of p l)
 use_of p (used.Name n) = tree.used_name (name.Text n.t)
 
--- any other text, and none, is `C`
+-- any other text, and the empty one, is `C`
 abbrev pub abi_named : List ℕ → ExternAbi
 abi_named t =
     if bytes_eq t (codes "Rust") then abi.Rust else

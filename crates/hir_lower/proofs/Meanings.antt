@@ -29,6 +29,7 @@ use Rattle.hir_one_result.proofs.TreeFaults.{diagnostics_are}
 use Rattle.hir_one_result.proofs.TreeBlocks.{blocks_are}
 use Rattle.hir_one_result.proofs.TreeRooms.{all_fit}
 use Rattle.hir_one_result.proofs.Whole.{one_results}
+use Rattle.hir_type_result.proofs.Named.{expr_types_once}
 use Rattle.hir_lower.specs.Roots.{RefusedAtEnd, StoresFromNothing, fresh, root_of, body_of, report_missing}
 use Rattle.hir_lower.specs.Stays.{Stays}
 use Rattle.hir_lower.proofs.Ways.{Went, went}
@@ -135,10 +136,13 @@ root_rooted e b b' i d h =
             led = standing.led;
             labels = standing.labels;
             reached_once = λ depth le. reached_once e (closed b) p.inner i lowered later ext depth le;
+            types_reached_once = λ depth le more new. expr_types_once e (closed b) p.inner i paired p.is later ext depth le more new;
           };
       exprs = fits.exprs;
       types = fits.types;
       lifetimes = fits.lifetimes;
+      type_sources = fits.type_sources;
+      lifetime_sources = fits.lifetime_sources;
       roots = ap (λ rs. rs ++ root_at p.inner.stored.exprs.entries i ∷ []) kept.roots;
       more = faults.more;
       faults = faults.is;
@@ -169,7 +173,13 @@ root_whole e limit owed b' i h =
     let live = done.lives b'.stored (extends_refl b'.stored) in
     let P : Builder → Type 0 = λ x. OneResult (store_of x.stored) (map_of x.stored) owed e in record {
       result = subst P p.left (one_results limit owed e i p.inner p.is);
-      body = record { root = root_at b'.stored.exprs.entries i; only = done.roots; same = live.same; reached_once = live.reached_once };
+      body = record {
+        root = root_at b'.stored.exprs.entries i;
+        only = done.roots;
+        same = live.same;
+        reached_once = live.reached_once;
+        types_reached_once = λ depth le. live.types_reached_once depth le b'.stored.exprs.entries refl;
+      };
     }
 
 body_whole : (skip : Bool) (node : Pointer) (k : Option MissingBodyItemKind) (e : OptionExpr) (limit : ℕ) (b' : Builder) (i : ExprId)

@@ -22,6 +22,7 @@ use Rattle.hir_one_result.specs.Laws.{Grown, GrownUnless}
 use Rattle.hir_one_result.specs.PathRoom.{whole_size}
 use Rattle.hir_one_result.specs.Room.{Short}
 use Rattle.hir_one_result.proofs.Fits.{paths_fit}
+use Rattle.hir_type_result.proofs.Named.{path_types_once}
 use Rattle.hir_lower.specs.Means.{BearsNames, PathRooted, ReadsBack, whole_path}
 use Rattle.hir_lower.specs.Stays.{Stays}
 use Rattle.hir_lower.proofs.Ways.{Went, went}
@@ -48,12 +49,19 @@ module _ (at : Spot) (x : AstPath) (b b' : Builder) where
   names_if (Err e) l d = tt
 
   pub rooted_path_if : (r : Checked (Option Path)) → Alone r → Paired b.stored
-      → IfOk r (λ y. PathRooted b.stored b'.stored (whole_path at x))
+      → IfOk r (λ y. PathRooted b.stored b'.stored y (whole_path at x))
   rooted_path_if (Ok y) l d =
       let kept : KeepsAside b (Ok y) b' = subst (λ q. KeepsAside b q.0 q.1) l.0 (paths_keep (whole_path at x) b d) in
       let grown : Grown (whole_size (whole_path at x)) b.stored b'.stored =
           subst (λ q. GrownUnless (whole_size (whole_path at x)) b.stored q.0 q.1.stored) l.0 (paths_fit (whole_path at x) b) in
-      record { grown = grown; aside = kept.1; roots = kept.0.roots; paired = kept.0.paired d; mapped = kept.0.mapped d }
+      record {
+        reached_once = λ later ext depth le. path_types_once (whole_path at x) b b' y d l.0 later ext depth le;
+        grown = grown;
+        aside = kept.1;
+        roots = kept.0.roots;
+        paired = kept.0.paired d;
+        mapped = kept.0.mapped d;
+      }
   rooted_path_if (Err e) l d = tt
 
   pub ends_if : (r : Checked (Option Path)) → Alone r → IsErrOf r Full → SomeEnd b'

@@ -104,7 +104,7 @@ fn lower_whole_path<E: LowerEnv>(
         Paired state.old.stored → IfOk result (λ r. ReadsBack state.new.stored r p) }
     ensures segments { Paired state.old.stored → IfOk result (λ r. BearsNames state.new.stored path.now r) }
     ensures rooted { let p = whole_path (spot_at (E.answers env.now) place) path.now in
-        Paired state.old.stored → IfOk result (λ r. PathRooted state.old.stored state.new.stored p) }
+        Paired state.old.stored → IfOk result (λ r. PathRooted state.old.stored state.new.stored r p) }
     ensures full { IsErrOf result StoreFault.Full → SomeEnd state.new }
     ensures too_large { let p = whole_path (spot_at (E.answers env.now) place) path.now in
         IsErrOf result StoreFault.Full → Short (whole_size p) state.old.stored }
@@ -249,7 +249,7 @@ impl<'db, E: LowerEnv> ExprCollector<'db, E> {
             IfOk result (λ r. ReadsBack self.new.state.stored r (whole_path at path.now)) }
         ensures segments { IfOk result (λ r. BearsNames self.new.state.stored path.now r) }
         ensures rooted { let at = spot_at (E.answers self.old.db.now) (becoming self.old.place (I.mode impl_trait.old)) in
-            IfOk result (λ r. PathRooted self.old.state.stored self.new.state.stored (whole_path at path.now)) }
+            IfOk result (λ r. PathRooted self.old.state.stored self.new.state.stored r (whole_path at path.now)) }
         ensures full { IsErrOf result LowerError.Full → SomeEnd self.new.state }
         ensures too_large { let at = spot_at (E.answers self.old.db.now) (becoming self.old.place (I.mode impl_trait.old)) in
             IsErrOf result LowerError.Full → Short (whole_size (whole_path at path.now)) self.old.state.stored }

@@ -184,7 +184,7 @@ fn answer_type<P: LowerParts>(
     }
 }
 
-/// What a function pointer answers: `()` where no type is written.
+/// What a function pointer returns: `()` where no type is written.
 #[tactic(auto, using(hir_env::proofs::PathLevels::ret_is_level))]
 fn answer<P: LowerParts>(
     lowerer: &Lowerer<P>,
@@ -209,7 +209,7 @@ fn binder_copy(binder: &Option<Seq<Name>>) -> Result<Option<Seq<Name>>, AllocErr
     }
 }
 
-/// What it answers is lowered first.
+/// What it returns is lowered first.
 #[tactic(auto, unfolding(hir_lower_form::specs::Types::fn_type_form))]
 pub(crate) fn fn_form<P: LowerParts>(
     lowerer: &Lowerer<P>,

@@ -13,7 +13,14 @@ fits : {A : Type 0} {n : Size} {p : Lowering A} → Takes n p → (old : Builder
 fits {A = A} {n = n} {p = p} h old = by (p old).0 (p old).1 (h.takes old)
   where
     by : (o : Checked A) (new : Builder) → Room n old o new → GrownUnless n old.stored o new.stored
-    by (Ok a) new h = record { exprs = h.exprs; labels = h.labels; types = h.types; lifetimes = h.lifetimes }
+    by (Ok a) new h = record {
+      exprs = h.exprs;
+      labels = h.labels;
+      types = h.types;
+      lifetimes = h.lifetimes;
+      type_sources = h.type_sources;
+      lifetime_sources = h.lifetime_sources;
+    }
     by (Err f) new h = h
 
 pub all_fit : AllFit

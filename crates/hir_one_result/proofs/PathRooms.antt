@@ -190,29 +190,30 @@ counted_tells w = by (nat_lt (supers w.kind + 1) (2 ^ 32)) refl
     by false is = record { tells = λ b. inr (inr (inr (inr (ltb-false (supers w.kind + 1) (2 ^ 32) is)))) }
 
 trait_tells : {n : Size} {x : Option Seen} {p : Lowering (Option HirPath)} → Tells n (GivesPath x) p → (t : TypeRefId) (at : Pointer)
-    (w : PathWalk) → Tells (n ∪ if_so (is_some x) a_type) (Gives (projected x)) (with_trait p t at w)
+    (w : PathWalk) → Tells (n ∪ if_so (is_some x) (a_type (Some at))) (Gives (projected x)) (with_trait p t at w)
 unfolding with_trait
 trait_tells {x = x} h t at w = tells_then h (λ p e. by p e)
   where
     of_path : (p : Option HirPath)
-        → Tells (if_so (is_some (option_seen p)) a_type) (Gives (projected (option_seen p))) (steps.read_trait t at w p)
+        → Tells (if_so (is_some (option_seen p)) (a_type (Some at))) (Gives (projected (option_seen p))) (steps.read_trait t at w p)
     of_path None = tells_pure _ Refused refl
     of_path (Some p) = tells_end (tells_any (takes_type _ _)) (λ i u. tells_pure _ (walks.projected t p w) (seen_projected t p w))
 
-    by : (p : Option HirPath) → GivesPath x p → Tells (if_so (is_some x) a_type) (Gives (projected x)) (steps.read_trait t at w p)
-    by p e = subst (λ y. Tells (if_so (is_some y) a_type) (Gives (projected y)) (steps.read_trait t at w p)) e (of_path p)
+    by : (p : Option HirPath) → GivesPath x p
+        → Tells (if_so (is_some x) (a_type (Some at))) (Gives (projected x)) (steps.read_trait t at w p)
+    by p e = subst (λ y. Tells (if_so (is_some y) (a_type (Some at))) (Gives (projected y)) (steps.read_trait t at w p)) e (of_path p)
 
 -- types
 
-error_takes : Takes a_type error_type
+error_takes : Takes (a_type None) error_type
 unfolding error_type
 error_takes = takes_type _ None
 
-unit_takes : Takes a_type unit_type
+unit_takes : Takes (a_type None) unit_type
 unfolding unit_type
 unit_takes = takes_type _ None
 
-lifetime_takes : (l : Lifetime) → Takes a_lifetime (lower_lifetime l)
+lifetime_takes : (l : Lifetime) → Takes (a_lifetime (Some l.pointer)) (lower_lifetime l)
 unfolding lower_lifetime
 lifetime_takes l = takes_lifetime _ _
 
@@ -229,47 +230,48 @@ uses_take done [] = takes_pure done
 uses_take done (u ∷ us) = takes_then (use_takes u) (λ x. uses_take _ us)
 
 module _ (at : Pointer) where
-  over_takes : (form : TypeUnary) {n : Size} {t : TypeSteps} → Takes n t → Takes (n ∪ a_type) (over_form at form t)
+  over_takes : (form : TypeUnary) {n : Size} {t : TypeSteps} → Takes n t → Takes (n ∪ a_type (Some at)) (over_form at form t)
   unfolding over_form
   over_takes form h = takes_then h (λ t. takes_type _ _)
 
-  tuple_takes : {n : Size} {ts : Lowering (List TypeRefId)} → Takes n ts → Takes (n ∪ a_type) (tuple_type_form at ts)
+  tuple_takes : {n : Size} {ts : Lowering (List TypeRefId)} → Takes n ts → Takes (n ∪ a_type (Some at)) (tuple_type_form at ts)
   unfolding tuple_type_form
   tuple_takes h = takes_then h (λ ts. takes_type _ _)
 
-  path_type_takes : {n : Size} {p : Lowering (Option HirPath)} → Takes n p → Takes (n ∪ a_type) (path_type_form at p)
+  path_type_takes : {n : Size} {p : Lowering (Option HirPath)} → Takes n p → Takes (n ∪ a_type (Some at)) (path_type_form at p)
   unfolding path_type_form
   path_type_takes h = takes_then h (λ p. takes_type _ _)
 
   ref_takes : (mutability : Mutability) {n k : Size} {t : TypeSteps} {l : Lowering (Option LifetimeRefId)} → Takes n t → Takes k l
-      → Takes (n ∪ (k ∪ a_type)) (ref_type_form at mutability t l)
+      → Takes (n ∪ (k ∪ a_type (Some at))) (ref_type_form at mutability t l)
   unfolding ref_type_form
   ref_takes mutability h m = takes_then h (λ t. takes_then m (λ l. takes_type _ _))
 
   fn_takes : (binder : Option Binder) (head : FnHead) {n k : Size} {ts : Lowering (List TypeRefId)} {r : TypeSteps} → Takes n r
-      → Takes k ts → Takes (n ∪ (k ∪ a_type)) (fn_type_form at binder head ts r)
+      → Takes k ts → Takes (n ∪ (k ∪ a_type (Some at))) (fn_type_form at binder head ts r)
   unfolding fn_type_form
   fn_takes binder head h m = takes_then h (λ r. takes_then m (λ ts. takes_type _ _))
 
-  impl_takes : (mode : ImplTrait) {n : Size} {bs : Lowering (List TypeBound)} → Takes n bs → Takes (n ∪ a_type) (impl_type_form at mode bs)
+  impl_takes : (mode : ImplTrait) {n : Size} {bs : Lowering (List TypeBound)} → Takes n bs
+      → Takes (n ∪ a_type (Some at)) (impl_type_form at mode bs)
   unfolding impl_type_form
   impl_takes mode h = takes_then h (λ bs. takes_type _ _)
 
-  dyn_takes : {n : Size} {bs : Lowering (List TypeBound)} → Takes n bs → Takes (n ∪ a_type) (dyn_type_form at bs)
+  dyn_takes : {n : Size} {bs : Lowering (List TypeBound)} → Takes n bs → Takes (n ∪ a_type (Some at)) (dyn_type_form at bs)
   unfolding dyn_type_form
   dyn_takes h = takes_then h (λ bs. takes_type _ _)
 
   path_bound_takes : (maybe : Bool) (binder : Binder) {n : Size} {x : Option Seen} {p : Lowering (Option HirPath)}
-      → Tells n (GivesPath x) p → Takes (n ∪ if_so (is_some x) a_type) (path_bound_form at maybe binder p)
+      → Tells n (GivesPath x) p → Takes (n ∪ if_so (is_some x) (a_type (Some at))) (path_bound_form at maybe binder p)
   unfolding path_bound_form
   path_bound_takes maybe binder {x = x} h = takes_of (tells_then h (λ p e. by p e))
     where
-      of_path : (p : Option HirPath) → Takes (if_so (is_some (option_seen p)) a_type) (path_bound_of at maybe binder p)
+      of_path : (p : Option HirPath) → Takes (if_so (is_some (option_seen p)) (a_type (Some at))) (path_bound_of at maybe binder p)
       of_path None = takes_pure _
       of_path (Some p) = takes_end (takes_type _ _) (λ i. takes_pure _)
 
-      by : (p : Option HirPath) → GivesPath x p → Tells (if_so (is_some x) a_type) anything (path_bound_of at maybe binder p)
-      by p e = tells_any (subst (λ y. Takes (if_so (is_some y) a_type) (path_bound_of at maybe binder p)) e (of_path p))
+      by : (p : Option HirPath) → GivesPath x p → Tells (if_so (is_some x) (a_type (Some at))) anything (path_bound_of at maybe binder p)
+      by p e = tells_any (subst (λ y. Takes (if_so (is_some y) (a_type (Some at))) (path_bound_of at maybe binder p)) e (of_path p))
 
 -- arguments
 
@@ -305,7 +307,7 @@ yields_full l = by (is_none_of l.args && is_none_of l.bindings)
     by false = refl
 
 parens_takes : {n k : Size} {ts : Lowering (List TypeRefId)} {r : TypeSteps} → Takes n ts → Takes k r
-    → Takes (n ∪ (a_type ∪ k)) (parens_form ts r)
+    → Takes (n ∪ (a_type None ∪ k)) (parens_form ts r)
 unfolding parens_form
 parens_takes h m = takes_then h (λ ts. takes_then (takes_type _ None) (λ t. takes_end m (λ r. takes_pure _)))
 

@@ -1,6 +1,7 @@
 -- Steps by how much they store.
-use Rattle.std.proofs.Common.{arith, ◌≡◌, ◌∙◌, refl, ap, ℕ, ◌+◌, ◌<◌, ◌≤◌, Bool, true, false, if◌then◌else◌, nat_lt, length}
-use Rattle.std.proofs.Common.{length-append, [], ◌∷◌, Option, Some, None, Ok, Err, ◌⊎◌, inl, inr, ⊎_elim}
+use Rattle.std.proofs.Common.{arith, ◌≡◌, ◌∙◌, refl, sym, ap, ℕ, ◌+◌, ◌<◌, ◌≤◌, Bool, true, false, if◌then◌else◌, nat_lt, length}
+use Rattle.std.proofs.Common.{length-append, append-nil, append_assoc, List, [], ◌∷◌, ◌++◌, Option, Some, None, Ok, Err}
+use Rattle.std.proofs.Common.{◌⊎◌, inl, inr, ⊎_elim}
 use Rattle.std.proofs.lemmas.Bool.{ltb-false}
 use Rattle.hir_store.specs.Pointers.{Pointer}
 use Rattle.hir_store.specs.Arenas.{Sourced, with_entry}
@@ -32,8 +33,10 @@ use Rattle.hir_one_result.specs.Room.{Short}
 pub record Took (n : Size) (a b : Stored) : Type 0 where
   pub exprs : length b.exprs.entries ≡ length a.exprs.entries + n.exprs
   pub labels : length b.labels.entries ≡ length a.labels.entries + n.labels
-  pub types : length b.types.entries ≡ length a.types.entries + n.types
-  pub lifetimes : length b.lifetimes.entries ≡ length a.lifetimes.entries + n.lifetimes
+  pub types : length b.types.entries ≡ length a.types.entries + length n.types
+  pub lifetimes : length b.lifetimes.entries ≡ length a.lifetimes.entries + length n.lifetimes
+  pub type_sources : b.types.sources ≡ a.types.sources ++ n.types
+  pub lifetime_sources : b.lifetimes.sources ≡ a.lifetimes.sources ++ n.lifetimes
   pub expr_limit : b.exprs.limit ≡ a.exprs.limit
   pub label_limit : b.labels.limit ≡ a.labels.limit
   pub type_limit : b.types.limit ≡ a.types.limit
@@ -58,9 +61,9 @@ pub record Same (n k : Size) : Type 0 where
 shorter : (n k : Size) (s t : Stored)
     → (s.exprs.limit < length s.exprs.entries + n.exprs → t.exprs.limit < length t.exprs.entries + k.exprs)
     → (s.labels.limit < length s.labels.entries + n.labels → t.labels.limit < length t.labels.entries + k.labels)
-    → (s.types.limit < length s.types.entries + n.types → t.types.limit < length t.types.entries + k.types)
-    → (s.lifetimes.limit < length s.lifetimes.entries + n.lifetimes
-    → t.lifetimes.limit < length t.lifetimes.entries + k.lifetimes)
+    → (s.types.limit < length s.types.entries + length n.types → t.types.limit < length t.types.entries + length k.types)
+    → (s.lifetimes.limit < length s.lifetimes.entries + length n.lifetimes
+    → t.lifetimes.limit < length t.lifetimes.entries + length k.lifetimes)
     → (n.overcounts → k.overcounts) → Short n s → Short k t
 shorter n k s t e l y f o h =
     ⊎_elim (λ x. inl (e x)) (λ g. inr (⊎_elim (λ x. inl (l x)) (λ g. inr (⊎_elim (λ x. inl (y x))
@@ -68,6 +71,8 @@ shorter n k s t e l y f o h =
 
 pub short_first : (n k : Size) (s : Stored) → Short n s → Short (n ∪ k) s
 short_first n k s h =
+    let types = length-append n.types k.types in
+    let lifetimes = length-append n.lifetimes k.lifetimes in
     shorter n (n ∪ k) s s (λ x. omega arith) (λ x. omega arith) (λ x. omega arith) (λ x. omega arith) (λ o. inl o) h
 
 pub short_then : {n : Size} (k : Size) (a b : Stored) → Took n a b → Short k b → Short (n ∪ k) a
@@ -80,18 +85,23 @@ short_then {n = n} k a b t h =
     let f' = t.label_limit in
     let g' = t.type_limit in
     let l' = t.lifetime_limit in
+    let types = length-append n.types k.types in
+    let lifetimes = length-append n.lifetimes k.lifetimes in
     shorter k (n ∪ k) b a (λ x. omega arith) (λ x. omega arith) (λ x. omega arith) (λ x. omega arith) (λ o. inr o) h
 
 pub short_as : {n k : Size} (s : Stored) → Same n k → Short n s → Short k s
 short_as {n = n} {k = k} s same h =
     let e = same.exprs in
     let f = same.labels in
-    let g = same.types in
-    let l = same.lifetimes in
+    let g = ap length same.types in
+    let l = ap length same.lifetimes in
     shorter n k s s (λ x. omega arith) (λ x. omega arith) (λ x. omega arith) (λ x. omega arith) same.overcounts h
 
+then_more : (xs ys zs : List (Option Pointer)) {us vs : List (Option Pointer)} → us ≡ xs ++ ys → vs ≡ us ++ zs → vs ≡ xs ++ (ys ++ zs)
+then_more xs ys zs e f = f ∙ (ap (λ ws. ws ++ zs) e ∙ append_assoc xs ys zs)
+
 pub took_then : {n k : Size} (a b c : Stored) → Took n a b → Took k b c → Took (n ∪ k) a c
-took_then a b c t u =
+took_then {n = n} {k = k} a b c t u =
     let e = t.exprs in
     let f = t.labels in
     let g = t.types in
@@ -100,11 +110,15 @@ took_then a b c t u =
     let f' = u.labels in
     let g' = u.types in
     let l' = u.lifetimes in
+    let types = length-append n.types k.types in
+    let lifetimes = length-append n.lifetimes k.lifetimes in
     record {
       exprs = omega arith;
       labels = omega arith;
       types = omega arith;
       lifetimes = omega arith;
+      type_sources = then_more a.types.sources n.types k.types t.type_sources u.type_sources;
+      lifetime_sources = then_more a.lifetimes.sources n.lifetimes k.lifetimes t.lifetime_sources u.lifetime_sources;
       expr_limit = u.expr_limit ∙ t.expr_limit;
       label_limit = u.label_limit ∙ t.label_limit;
       type_limit = u.type_limit ∙ t.type_limit;
@@ -112,11 +126,11 @@ took_then a b c t u =
     }
 
 pub took_as : {n k : Size} {a b : Stored} → Same n k → Took n a b → Took k a b
-took_as same t =
+took_as {a = a} same t =
     let e = same.exprs in
     let f = same.labels in
-    let g = same.types in
-    let l = same.lifetimes in
+    let g = ap length same.types in
+    let l = ap length same.lifetimes in
     let e' = t.exprs in
     let f' = t.labels in
     let g' = t.types in
@@ -126,6 +140,8 @@ took_as same t =
       labels = omega arith;
       types = omega arith;
       lifetimes = omega arith;
+      type_sources = t.type_sources ∙ ap (λ xs. a.types.sources ++ xs) same.types;
+      lifetime_sources = t.lifetime_sources ∙ ap (λ xs. a.lifetimes.sources ++ xs) same.lifetimes;
       expr_limit = t.expr_limit;
       label_limit = t.label_limit;
       type_limit = t.type_limit;
@@ -138,6 +154,8 @@ took_none s = record {
   labels = omega arith;
   types = omega arith;
   lifetimes = omega arith;
+  type_sources = sym (append-nil s.types.sources);
+  lifetime_sources = sym (append-nil s.lifetimes.sources);
   expr_limit = refl;
   label_limit = refl;
   type_limit = refl;
@@ -157,6 +175,8 @@ took_besides a b e limit l t f =
       labels = omega arith;
       types = omega arith;
       lifetimes = omega arith;
+      type_sources = ap (λ s. s.sources) t ∙ sym (append-nil a.types.sources);
+      lifetime_sources = ap (λ s. s.sources) f ∙ sym (append-nil a.lifetimes.sources);
       expr_limit = limit;
       label_limit = ap (λ s. s.limit) l;
       type_limit = ap (λ s. s.limit) t;
@@ -188,8 +208,8 @@ pub none_after : (n : Size) → Same (n ∪ nothing) n
 none_after n = record {
   exprs = omega arith;
   labels = omega arith;
-  types = omega arith;
-  lifetimes = omega arith;
+  types = append-nil n.types;
+  lifetimes = append-nil n.lifetimes;
   overcounts = λ h. ⊎_elim (λ x. x) (λ x. absurd x) h;
 }
 
@@ -197,8 +217,8 @@ pub none_before : (n : Size) → Same (nothing ∪ n) n
 none_before n = record {
   exprs = omega arith;
   labels = omega arith;
-  types = omega arith;
-  lifetimes = omega arith;
+  types = refl;
+  lifetimes = refl;
   overcounts = λ h. ⊎_elim (λ x. absurd x) (λ x. x) h;
 }
 
@@ -207,8 +227,8 @@ pub nothing_first : (n : Size) → Same n (nothing ∪ n)
 nothing_first n = record {
   exprs = omega arith;
   labels = omega arith;
-  types = omega arith;
-  lifetimes = omega arith;
+  types = refl;
+  lifetimes = refl;
   overcounts = λ h. inr h;
 }
 
@@ -216,8 +236,8 @@ pub moved_in : (n k j : Size) → Same (n ∪ (k ∪ j)) ((n ∪ k) ∪ j)
 moved_in n k j = record {
   exprs = omega arith;
   labels = omega arith;
-  types = omega arith;
-  lifetimes = omega arith;
+  types = sym (append_assoc n.types k.types j.types);
+  lifetimes = sym (append_assoc n.lifetimes k.lifetimes j.lifetimes);
   overcounts = λ h. ⊎_elim (λ x. inl (inl x)) (λ y. ⊎_elim (λ x. inl (inr x)) (λ x. inr x) y) h;
 }
 
@@ -225,8 +245,8 @@ pub moved_out : (n k j : Size) → Same ((n ∪ k) ∪ j) (n ∪ (k ∪ j))
 moved_out n k j = record {
   exprs = omega arith;
   labels = omega arith;
-  types = omega arith;
-  lifetimes = omega arith;
+  types = append_assoc n.types k.types j.types;
+  lifetimes = append_assoc n.lifetimes k.lifetimes j.lifetimes;
   overcounts = λ h. ⊎_elim (λ y. ⊎_elim (λ x. inl x) (λ x. inr (inl x)) y) (λ x. inr (inr x)) h;
 }
 
@@ -297,6 +317,8 @@ takes_alloc e source = record { takes = λ b. by b (nat_lt (length b.stored.expr
           labels = omega arith;
           types = omega arith;
           lifetimes = omega arith;
+          type_sources = sym (append-nil b.stored.types.sources);
+          lifetime_sources = sym (append-nil b.stored.lifetimes.sources);
           expr_limit = refl;
           label_limit = refl;
           type_limit = refl;
@@ -327,6 +349,8 @@ takes_open l = record { takes = λ b. by b (nat_lt (length b.stored.labels.entri
           labels = omega arith;
           types = omega arith;
           lifetimes = omega arith;
+          type_sources = sym (append-nil b.stored.types.sources);
+          lifetime_sources = sym (append-nil b.stored.lifetimes.sources);
           expr_limit = refl;
           label_limit = refl;
           type_limit = refl;
@@ -337,12 +361,12 @@ takes_open l = record { takes = λ b. by b (nat_lt (length b.stored.labels.entri
 abbrev made_type : Bool → TypeRef → Option Pointer → Sourced TypeRef TypeRefId → Checked TypeRefId × Sourced TypeRef TypeRefId
 made_type t x source a = if t then (Ok (type_id (length a.entries)), with_entry type_id a x source) else (Err Full, a)
 
-pub takes_type : (x : TypeRef) (source : Option Pointer) → Takes a_type (alloc_type x source)
+pub takes_type : (x : TypeRef) (source : Option Pointer) → Takes (a_type source) (alloc_type x source)
 unfolding alloc_type storing.alloc_type
 takes_type x source = record { takes = λ b. by b (nat_lt (length b.stored.types.entries) b.stored.types.limit) refl }
   where
     by : (b : Builder) (t : Bool) → nat_lt (length b.stored.types.entries) b.stored.types.limit ≡ t
-        → Room a_type b (made_type t x source b.stored.types).0
+        → Room (a_type source) b (made_type t x source b.stored.types).0
         (record b { stored = record b.stored { types = (made_type t x source b.stored.types).1 } })
     by b true is =
         let grown = length-append b.stored.types.entries (x ∷ []) in
@@ -351,6 +375,8 @@ takes_type x source = record { takes = λ b. by b (nat_lt (length b.stored.types
           labels = omega arith;
           types = omega arith;
           lifetimes = omega arith;
+          type_sources = refl;
+          lifetime_sources = sym (append-nil b.stored.lifetimes.sources);
           expr_limit = refl;
           label_limit = refl;
           type_limit = refl;
@@ -362,12 +388,12 @@ abbrev made_lifetime : Bool → LifetimeRef → Option Pointer → Sourced Lifet
     → Checked LifetimeRefId × Sourced LifetimeRef LifetimeRefId
 made_lifetime t x source a = if t then (Ok (lifetime_id (length a.entries)), with_entry lifetime_id a x source) else (Err Full, a)
 
-pub takes_lifetime : (x : LifetimeRef) (source : Option Pointer) → Takes a_lifetime (alloc_lifetime x source)
+pub takes_lifetime : (x : LifetimeRef) (source : Option Pointer) → Takes (a_lifetime source) (alloc_lifetime x source)
 unfolding alloc_lifetime storing.alloc_lifetime
 takes_lifetime x source = record { takes = λ b. by b (nat_lt (length b.stored.lifetimes.entries) b.stored.lifetimes.limit) refl }
   where
     by : (b : Builder) (t : Bool) → nat_lt (length b.stored.lifetimes.entries) b.stored.lifetimes.limit ≡ t
-        → Room a_lifetime b (made_lifetime t x source b.stored.lifetimes).0
+        → Room (a_lifetime source) b (made_lifetime t x source b.stored.lifetimes).0
         (record b { stored = record b.stored { lifetimes = (made_lifetime t x source b.stored.lifetimes).1 } })
     by b true is =
         let grown = length-append b.stored.lifetimes.entries (x ∷ []) in
@@ -376,6 +402,8 @@ takes_lifetime x source = record { takes = λ b. by b (nat_lt (length b.stored.l
           labels = omega arith;
           types = omega arith;
           lifetimes = omega arith;
+          type_sources = sym (append-nil b.stored.types.sources);
+          lifetime_sources = refl;
           expr_limit = refl;
           label_limit = refl;
           type_limit = refl;

@@ -1,6 +1,5 @@
 -- Lowering a tree stores as much as it becomes, or there is no room for it.
-use Rattle.std.proofs.Common.{◌≡◌, ◌∙◌, refl, ap, subst, is_some, arith, Bool, true, false, List, [], Option, Some, None, Ok, Err}
-use Rattle.std.proofs.Common.{inl, inr, ⊎_elim}
+use Rattle.std.proofs.Common.{◌≡◌, ◌∙◌, refl, ap, subst, is_some, Bool, true, false, List, [], Option, Some, None, Ok, Err}
 use Rattle.hir_store.specs.Pointers.{Pointer}
 use Rattle.hir_store.specs.declared.hir.Expr.{Expr as HirExpr}
 use Rattle.hir_store.specs.declared.hir.Statement.{Statement}
@@ -31,7 +30,7 @@ use Rattle.hir_one_result.specs.PathRoom.{Seen, whole_read, whole_size}
 use Rattle.hir_one_result.specs.Room.{fields_size, field_size, spread_size}
 use Rattle.hir_one_result.specs.Room.{label_size, front_size, size, size_part, size_present, size_kept, size_each, block_size}
 use Rattle.hir_one_result.specs.Room.{block_part_size, stmts_size, stmt_size}
-use Rattle.hir_one_result.proofs.Rooms.{Takes, Same, takes_then, takes_as, takes_end, takes_begin, takes_pure, takes_report}
+use Rattle.hir_one_result.proofs.Rooms.{Takes, takes_then, takes_as, takes_end, takes_begin, takes_pure, takes_report}
 use Rattle.hir_one_result.proofs.Rooms.{takes_block, takes_close, takes_point, takes_jump, takes_alloc, takes_open, takes_report_await}
 use Rattle.hir_one_result.proofs.Rooms.{takes_point_field}
 use Rattle.hir_one_result.proofs.Tellings.{tells_then, tells_any, takes_of}
@@ -45,17 +44,6 @@ missing_takes = takes_alloc _ None
 some_takes : {n : Size} {p : ExprSteps} → Takes n p → Takes n (some p)
 some_takes h = takes_end h (λ a. takes_pure (Some a))
 
--- the condition is lowered last
-condition_last : (n k m j : Size) → Same (k ∪ (m ∪ (n ∪ j))) (n ∪ (k ∪ (m ∪ j)))
-condition_last n k m j = record {
-  exprs = omega arith;
-  labels = omega arith;
-  types = omega arith;
-  lifetimes = omega arith;
-  overcounts = λ h. ⊎_elim (λ x. inr (inl x))
-      (λ y. ⊎_elim (λ x. inr (inr (inl x))) (λ z. ⊎_elim (λ x. inl x) (λ x. inr (inr (inr x))) z) y) h;
-}
-
 some_read : (o : Option Path) (x : Option Seen) → GivesPath x o → is_some o ≡ is_some x
 some_read o x e = by o ∙ ap is_some e
   where
@@ -65,10 +53,9 @@ some_read o x e = by o ∙ ap is_some e
 
 module _ (at : Pointer) where
   if_takes : {n k m : Size} {c t : ExprSteps} {e : Lowering (Option ExprId)} → Takes n c → Takes k t → Takes m e
-      → Takes (n ∪ (k ∪ (m ∪ an_expr))) (if_form at c t e)
+      → Takes (k ∪ (m ∪ (n ∪ an_expr))) (if_form at c t e)
   unfolding if_form
-  if_takes hc ht he = takes_as (condition_last _ _ _ an_expr)
-      (takes_then ht (λ x. takes_then he (λ y. takes_then hc (λ z. takes_alloc _ (Some at)))))
+  if_takes hc ht he = takes_then ht (λ x. takes_then he (λ y. takes_then hc (λ z. takes_alloc _ (Some at))))
 
   loop_takes : (label : Option Label) {n : Size} {b : ExprSteps} → Takes n b
       → Takes (label_size label ∪ (n ∪ an_expr)) (loop_form at label b)

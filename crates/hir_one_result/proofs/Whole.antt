@@ -39,8 +39,8 @@ one_results limit owed e id new is =
       only = ap (λ rs. rs ++ root_at new.stored.exprs.entries id ∷ []) kept.roots;
       expr_sources = paired.exprs;
       label_sources = paired.labels;
-      type_sources = paired.types;
-      lifetime_sources = paired.lifetimes;
+      type_sources = fits.type_sources;
+      lifetime_sources = fits.lifetime_sources;
       exprs = let n = fits.exprs in omega arith;
       types = let n = fits.types in omega arith;
       lifetimes = let n = fits.lifetimes in omega arith;

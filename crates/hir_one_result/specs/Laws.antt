@@ -63,12 +63,14 @@ BlocksAre = WhereLowered (λ e old id new. new.stored.block_scopes ≡ old.store
 
 -- numbers
 
--- so many expressions, labels, types and lifetimes come behind those that were stored
+-- So many expressions and labels come behind those that were stored, and types and lifetimes with these sources.
 pub record Grown (n : Size) (old new : Stored) : Type 0 where
   pub exprs : length new.exprs.entries ≡ length old.exprs.entries + n.exprs
   pub labels : length new.labels.entries ≡ length old.labels.entries + n.labels
-  pub types : length new.types.entries ≡ length old.types.entries + n.types
-  pub lifetimes : length new.lifetimes.entries ≡ length old.lifetimes.entries + n.lifetimes
+  pub types : length new.types.entries ≡ length old.types.entries + length n.types
+  pub lifetimes : length new.lifetimes.entries ≡ length old.lifetimes.entries + length n.lifetimes
+  pub type_sources : new.types.sources ≡ old.types.sources ++ n.types
+  pub lifetime_sources : new.lifetimes.sources ≡ old.lifetimes.sources ++ n.lifetimes
 
 -- where lowering is refused there is no room for them
 abbrev pub GrownUnless : {A : Type 0} → Size → Stored → Checked A → Stored → Type 0

@@ -1,5 +1,5 @@
--- How large types, paths, arguments and bounds are. A path is read from its end; what stands before the segment that ends the
--- reading, or that refuses the path, becomes nothing.
+-- How large types, paths, arguments and bounds are, by their parts in the order in which they are lowered. A path is read from
+-- its end; what stands before the segment that ends the reading, or that refuses the path, becomes nothing.
 use Rattle.std.specs.Prelude.{ℕ, ◌+◌, if◌then◌else◌, Bool, true, false, not, List, [], ◌∷◌, Option, Some, None, is_some}
 use Rattle.hir_env.specs.Answered as tree
 use Rattle.hir_env.specs.Answered.{Lifetime, UseRead, Type_, OptionType, Parts, Path, OptionPath, Segments, Segment, SegmentArgs}
@@ -109,11 +109,11 @@ before read f = nothing
 
 abbrev pub lifetime_size : Option Lifetime → Size
 lifetime_size None = nothing
-lifetime_size (Some l) = a_lifetime
+lifetime_size (Some l) = a_lifetime (Some l.pointer)
 
 abbrev pub use_size : UseRead → Size
 use_size (tree.used_name n) = nothing
-use_size (tree.used_lifetime l) = a_lifetime
+use_size (tree.used_lifetime l) = a_lifetime (Some l.pointer)
 
 abbrev pub uses_size : List UseRead → Size
 uses_size [] = nothing
@@ -124,19 +124,19 @@ abbrev mutual
   pub type_size : Type_ → Size
   type_size (tree.paren_type t) = type_part_size t
   type_size (tree.for_type names t) = type_part_size t
-  type_size (tree.leaf_type at form) = a_type
-  type_size (tree.over_type at form t) = type_part_size t ∪ a_type
-  type_size (tree.tuple_type at ts) = parts_size ts ∪ a_type
-  type_size (tree.path_type at p) = whole_size p ∪ a_type
-  type_size (tree.ref_type at l mutability t) = type_part_size t ∪ lifetime_size l ∪ a_type
-  type_size (tree.fn_type at head ts r) = type_part_size r ∪ parts_size ts ∪ a_type
-  type_size (tree.impl_type at mode bs) = bounds_size bs ∪ a_type
-  type_size (tree.nested_impl at) = a_type
-  type_size (tree.dyn_type at bs) = bounds_size bs ∪ a_type
+  type_size (tree.leaf_type at form) = a_type (Some at)
+  type_size (tree.over_type at form t) = type_part_size t ∪ a_type (Some at)
+  type_size (tree.tuple_type at ts) = parts_size ts ∪ a_type (Some at)
+  type_size (tree.path_type at p) = whole_size p ∪ a_type (Some at)
+  type_size (tree.ref_type at l mutability t) = type_part_size t ∪ lifetime_size l ∪ a_type (Some at)
+  type_size (tree.fn_type at head ts r) = type_part_size r ∪ parts_size ts ∪ a_type (Some at)
+  type_size (tree.impl_type at mode bs) = bounds_size bs ∪ a_type (Some at)
+  type_size (tree.nested_impl at) = a_type (Some at)
+  type_size (tree.dyn_type at bs) = bounds_size bs ∪ a_type (Some at)
 
   -- an error, or `()`, where it is absent
   pub type_part_size : OptionType → Size
-  type_part_size tree.no_type = a_type
+  type_part_size tree.no_type = a_type None
   type_part_size (tree.some_type t) = type_size t
 
   pub present_size : OptionType → Size
@@ -152,7 +152,7 @@ abbrev mutual
   segment_size first tree.super_segment x = a_super x.supers
   segment_size true (tree.type_segment t) x = type_size t
   -- the trait is stored as a type too, where its path isn't refused
-  segment_size true (tree.trait_segment t at p) x = type_size t ∪ whole_size p ∪ if_so (is_some (whole_read p)) a_type
+  segment_size true (tree.trait_segment t at p) x = type_size t ∪ whole_size p ∪ if_so (is_some (whole_read p)) (a_type (Some at))
   segment_size first s x = nothing
 
   pub segments_size : Segments → Seen → Size
@@ -180,10 +180,10 @@ abbrev mutual
   -- the types make a tuple
   pub parens_size : OptionParens → Size
   parens_size tree.no_parens = nothing
-  parens_size (tree.some_parens ts r) = parts_size ts ∪ a_type ∪ output_size r
+  parens_size (tree.some_parens ts r) = parts_size ts ∪ a_type None ∪ output_size r
 
   pub output_size : OptionRet → Size
-  output_size tree.no_ret = a_type
+  output_size tree.no_ret = a_type None
   output_size (tree.some_ret t) = type_part_size t
 
   pub args_size : OptionArgs → Size
@@ -197,7 +197,7 @@ abbrev mutual
   pub arg_size : Arg → Size
   arg_size tree.skipped_arg = nothing
   arg_size (tree.type_arg t) = type_part_size t
-  arg_size (tree.lifetime_arg l) = a_lifetime
+  arg_size (tree.lifetime_arg l) = a_lifetime (Some l.pointer)
   arg_size (tree.assoc_arg n as' dots t bs) = args_size as' ∪ present_size t ∪ bounds_size bs
 
   pub bounds_size : Bounds → Size
@@ -207,6 +207,6 @@ abbrev mutual
   -- a path is a type, where it isn't refused
   pub bound_size : Bound → Size
   bound_size tree.error_bound = nothing
-  bound_size (tree.path_bound at p maybe binder) = whole_size p ∪ if_so (is_some (whole_read p)) a_type
-  bound_size (tree.lifetime_bound l) = a_lifetime
+  bound_size (tree.path_bound at p maybe binder) = whole_size p ∪ if_so (is_some (whole_read p)) (a_type (Some at))
+  bound_size (tree.lifetime_bound l) = a_lifetime (Some l.pointer)
   bound_size (tree.use_bound us) = uses_size us

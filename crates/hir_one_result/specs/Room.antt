@@ -1,7 +1,8 @@
--- How large a tree is: how many expressions and labels it becomes. Each written expression becomes one, but parentheses become
--- none besides what is in them. An absent or disabled part is one missing expression, or none where the form knows none, and
--- so is what stands in front of a tuple with a leading comma. Nothing in a disabled node becomes anything.
-use Rattle.std.specs.Prelude.{ℕ, ◌+◌, ◌<◌, ◌⊎◌, Option, Some, None, true, false, is_some, length}
+-- How large a tree is, by its parts in the order in which they are lowered. Each written expression becomes one, but
+-- parentheses become none besides what is in them. An absent or disabled part is one missing expression, or none where the form
+-- knows none, and so is what stands in front of a tuple with a leading comma. Nothing in a disabled node becomes anything.
+use Rattle.std.specs.Prelude.{ℕ, ◌+◌, ◌<◌, ◌⊎◌, List, Option, Some, None, true, false, is_some, length}
+use Rattle.hir_store.specs.Pointers.{Pointer}
 use Rattle.hir_store.specs.Stored.{Stored}
 use Rattle.hir_env.specs.Answered as tree
 use Rattle.hir_env.specs.Answered.{Listing, Label, Expr, OptionExpr, Exprs, Fields, Field, Spread, Block, OptionBlock, Stmts, Stmt}
@@ -22,7 +23,8 @@ front_size tree.array_of = nothing
 abbrev mutual
   pub size : Expr → Size
   size (tree.disabled_expr at by e) = an_expr
-  size (tree.if_expr at c t e) = size_part c ∪ block_part_size t ∪ size_present e ∪ an_expr
+  -- the branches are lowered before the condition
+  size (tree.if_expr at c t e) = block_part_size t ∪ size_present e ∪ size_part c ∪ an_expr
   size (tree.block_expr b) = block_size b
   size (tree.loop_expr at label b) = label_size label ∪ block_part_size b ∪ an_expr
   size (tree.call_expr at f es) = size_part f ∪ size_each es ∪ an_expr
@@ -100,19 +102,27 @@ count_of_exprs e = (size_part e).exprs
 abbrev pub count_of_labels : OptionExpr → ℕ
 count_of_labels e = (size_part e).labels
 
+-- where the types and lifetimes come from that a tree becomes, in the order in which they are stored
+
+abbrev pub type_sources_of : OptionExpr → List (Option Pointer)
+type_sources_of e = (size_part e).types
+
+abbrev pub lifetime_sources_of : OptionExpr → List (Option Pointer)
+lifetime_sources_of e = (size_part e).lifetimes
+
 abbrev pub count_of_types : OptionExpr → ℕ
-count_of_types e = (size_part e).types
+count_of_types e = length (type_sources_of e)
 
 abbrev pub count_of_lifetimes : OptionExpr → ℕ
-count_of_lifetimes e = (size_part e).lifetimes
+count_of_lifetimes e = length (lifetime_sources_of e)
 
 -- There is no room for so much behind what is stored: some arena would hold more than it may, or a path counts too far.
 abbrev pub Short : Size → Stored → Type 0
 Short n s =
     (s.exprs.limit < length s.exprs.entries + n.exprs)
     ⊎ ((s.labels.limit < length s.labels.entries + n.labels)
-    ⊎ ((s.types.limit < length s.types.entries + n.types)
-    ⊎ ((s.lifetimes.limit < length s.lifetimes.entries + n.lifetimes) ⊎ n.overcounts)))
+    ⊎ ((s.types.limit < length s.types.entries + length n.types)
+    ⊎ ((s.lifetimes.limit < length s.lifetimes.entries + length n.lifetimes) ⊎ n.overcounts)))
 
 -- behind what is stored there is no room for the tree
 abbrev pub TooLarge : Stored → OptionExpr → Type 0

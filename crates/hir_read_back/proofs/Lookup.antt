@@ -8,7 +8,7 @@ use Rattle.hir_store.specs.declared.path.Path.TheVariants.{BarePath, Normal}
 use Rattle.hir_lower_form.specs.Lower.{path_hygiene}
 use Rattle.hir_data.specs.Data.{names_in}
 use Rattle.hir_data.specs.Lookup.{hygiene_for, lookup_hygiene}
-use Rattle.hir_data.specs.Reading.{names_beside, stored_path}
+use Rattle.hir_data.specs.Reading.{names_alone, stored_path}
 
 at_least_two : (k : ℕ) → nat_le (suc (suc k)) 1 ≡ false
 at_least_two k = grind arith
@@ -21,7 +21,7 @@ hygiene_is [] h = refl
 hygiene_is (n ∷ []) h = refl
 hygiene_is (n ∷ (m ∷ ns)) h = ap (λ b. if b then h else record { 0 = 0 }) (at_least_two (length ns))
 
-pub names_read : (ns : List Name) → names_in (names_beside ns []) ≡ ns
+pub names_read : (ns : List Name) → names_in (names_alone ns) ≡ ns
 names_read [] = refl
 names_read (n ∷ ns) = ap (λ ms. n ∷ ms) (names_read ns)
 

@@ -119,7 +119,7 @@ mutual
   output_reads tree.no_ret = kinds.unit_type_reads
   output_reads (tree.some_ret t) = part_reads None t
 
-  segment_args_reads : (a : SegmentArgs) → Correct (lower.lower_segment_args a) (Reads a_list (written.args_of a))
+  segment_args_reads : (a : SegmentArgs) → Correct (lower.lower_segment_args a) (Reads a_list (written.segment_args_data a))
   segment_args_reads (tree.segment_args as' ps dots) = kinds.segment_args_reads dots (list_reads as') (parens_reads ps)
 
   -- ---- paths

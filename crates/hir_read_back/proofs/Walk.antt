@@ -30,7 +30,7 @@ use Rattle.hir_data.specs.Rule.{plain_kind, supers}
 use Rattle.hir_data.specs.Rule.{ends, ended, read, refuses, refused, set_kind, supers_left, counted, open_kind, first_behind_self}
 use Rattle.hir_data.specs.Rule.{last_behind_self, first_without_self, last_without_self, ending_self, read_kind, own_kind, anchor_of, found}
 use Rattle.hir_data.specs.Rule.{is_list, anchor_data, names_data, data_of, read_of, path_read}
-use Rattle.hir_data.specs.Reading.{names_beside, present_layer}
+use Rattle.hir_data.specs.Reading.{names_alone, names_beside, present_layer}
 use Rattle.hir_data.specs.Written as written
 use Rattle.hir_read_back.proofs.Layers.{a_list, a_path, within}
 use Rattle.hir_read_back.proofs.Generics.{self_first_read, self_flag}
@@ -519,7 +519,7 @@ module _ (final : Stored) (n : ℕ) where
 
   -- ---- as data
 
-  beside_none : (d : ℕ) (xs : List Name) → names_beside xs (lists final d (none_beside xs)) ≡ names_beside xs []
+  beside_none : (d : ℕ) (xs : List Name) → names_alone xs ≡ names_beside xs (lists final d (none_beside xs))
   beside_none d [] = refl
   beside_none d (x ∷ xs) = ap (datum.more_names x no_args) (beside_none d xs)
 
@@ -534,7 +534,7 @@ module _ (final : Stored) (n : ℕ) where
 
   pub matches_read : (x : PathRead) (p : HirPath) → Matches x p → (d : ℕ) → n ≤ d → a_path final (within final d) p ≡ data_of x
   matches_read x (BarePath p) m d le = λ j. datum.path_data (m.kind j) (anchor_data (m.anchor d le j))
-      ((sym (beside_none d p.segments) ∙ ((λ i. names_beside (m.names i) (m.args d le i)) ∙ beside_data x.names)) j) (m.bare j)
+      ((beside_none d p.segments ∙ ((λ i. names_beside (m.names i) (m.args d le i)) ∙ beside_data x.names)) j) (m.bare j)
   matches_read x (Normal p) m d le = λ j. datum.path_data (m.kind j)
       ((present_data d p.type_anchor ∙ ap anchor_data (m.anchor d le)) j)
       (((λ i. names_beside (m.names i) (m.args d le i)) ∙ beside_data x.names) j) (m.bare j)

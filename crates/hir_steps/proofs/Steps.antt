@@ -223,6 +223,7 @@ pub record Opened {A B : Type 0} (at : Label → LabelId → Frame) (l : Label) 
   pub from : slice_get final.labels.sources m.labels ≡ Some (Some l.pointer)
   pub labels : entered.labels ≡ suc m.labels
   pub nodes : entered.nodes ≡ m.nodes
+  pub types : entered.types ≡ m.types
   pub last : m.labels ≡ length m.stored.labels.entries
   pub stored : entered.stored ≡ with_label l m.stored
   pub before : Grows entered left
@@ -349,6 +350,7 @@ correct_opened {A = A} {B = B} at l {p = p} {R = R} {f = f} {Q = Q} frame hp hf 
             from = h.from d final open';
             labels = h.labels;
             nodes = h.nodes;
+            types = h.types;
             last = refl;
             stored = h.stored;
             before = x.grows;

@@ -68,7 +68,8 @@ fn copy_use_args(args: &Seq<UseArgRef>) -> Result<Seq<UseArgRef>, AllocError>
     args.clone()
 }
 
-/// A bound. A path is stored as a type, and behind `for<..>` it stands beside the names of the lifetimes there.
+/// A bound. A path is stored as a type, and behind `for<..>` it stands beside the names of the lifetimes there, where no `?`
+/// counts.
 pub enum TypeBound {
     Path(TypeRefId, TraitBoundModifier),
     ForLifetime(Seq<Name>, TypeRefId),
@@ -141,7 +142,7 @@ pub enum ExternAbi {
     RustCall,
 }
 
-/// A function pointer. The last of `params` is what it answers. `binder` has the names of the lifetimes of the `for<..>`
+/// A function pointer. The last of `params` is what it returns. `binder` has the names of the lifetimes of the `for<..>`
 /// directly around it, where one stands there.
 pub struct FnType {
     pub params: Seq<TypeRefId>,

@@ -138,7 +138,7 @@ impl Drop for RetType {
     }
 }
 
-/// A bound of a type.
+/// A bound of a type. One without a kind, a path without `ty` and a lifetime without `lifetime` are errors.
 #[cycle(types)]
 pub struct TypeBound {
     pub id: NodeId,

@@ -3,5 +3,7 @@ pub mod Numbers
 pub mod Adding
 pub mod Owned
 pub mod Once
+pub mod Naming
+pub mod Named
 pub mod Refused
 pub mod Whole

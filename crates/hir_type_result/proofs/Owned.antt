@@ -56,13 +56,13 @@ types is f = of_each f is
 abbrev bounds : List TypeBound → Numbers
 bounds bs f = of_each (of_bound f) bs
 
-abbrev arguments : Option GenericArgs → Numbers
+abbrev pub arguments : Option GenericArgs → Numbers
 arguments a f = of_present (of_args f) a
 
 abbrev lists : ArgLists → Numbers
 lists l f = of_arg_lists f l
 
-abbrev maybe_path : Option HirPath → Numbers
+abbrev pub maybe_path : Option HirPath → Numbers
 maybe_path p f = of_read f p
 
 abbrev walk : PathWalk → Numbers
@@ -321,7 +321,7 @@ mutual
   output_adds tree.no_ret = unit_adds
   output_adds (tree.some_ret t) = part_adds None t
 
-  args_add : (as' : OptionArgs) → Correct (args_part as') (Adds none arguments)
+  pub args_add : (as' : OptionArgs) → Correct (args_part as') (Adds none arguments)
   args_add tree.no_arg_list = adds_pure None (λ f k. omega arith)
   args_add (tree.some_arg_list as') = adds_then (each_arg_adds no_lists as') (λ l. adds_pure _ (λ f. numbers.yielded_less f l))
 

@@ -1,6 +1,7 @@
 -- Types and paths become no expressions and no labels, so there is always room for those.
 use Rattle.std.proofs.Common.{◌≡◌, refl, ℕ, Bool, true, false, List, [], ◌∷◌, Option, Some, None, arith}
 use Rattle.std.specs.Prelude.{is_some, not}
+use Rattle.hir_store.specs.Pointers.{Pointer}
 use Rattle.hir_env.specs.Answered as tree
 use Rattle.hir_env.specs.Answered.{Lifetime, UseRead, Type_, OptionType, Parts, Path, OptionPath, Segments, Segment, SegmentArgs}
 use Rattle.hir_env.specs.Answered.{OptionParens, OptionRet, OptionArgs, Args, Arg, Bounds, Bound}
@@ -13,7 +14,7 @@ pub record Aside (s : Size) : Type 0 where
   pub exprs : s.exprs ≡ 0
   pub labels : s.labels ≡ 0
 
-none_besides : {types lifetimes : ℕ} {overcounts : Type 0}
+none_besides : {types lifetimes : List (Option Pointer)} {overcounts : Type 0}
     → Aside (record { exprs = 0; labels = 0; types = types; lifetimes = lifetimes; overcounts = overcounts })
 none_besides = record { exprs = refl; labels = refl }
 

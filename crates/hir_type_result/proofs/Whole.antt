@@ -36,8 +36,8 @@ type_results limit t i new is =
       reads_back = type_law t old new i none is new.stored stays;
       types = let n = fits.types in omega arith;
       lifetimes = let n = fits.lifetimes in omega arith;
-      type_sources = paired.types;
-      lifetime_sources = paired.lifetimes;
+      type_sources = fits.type_sources;
+      lifetime_sources = fits.lifetime_sources;
       type_ways = lead_back (λ i. i.0) new.stored.types mapped.types;
       lifetime_ways = lead_back (λ i. i.0) new.stored.lifetimes mapped.lifetimes;
       reached_once = reached_once None t old new i none is new.stored stays;

@@ -26,15 +26,15 @@ pub record TypesAlone (store : Store) (source_map : SourceMap) : Type 0 where
   pub blocks : source_map.block_scopes ≡ []
   pub faults : source_map.diagnostics ≡ []
 
--- What is stored where one type was lowered. It reads back as what is written. There are as many types and lifetimes as it
--- becomes, each with its source, and nothing besides. Their nodes lead to them, and no other nodes do. However deep one looks,
--- the type reaches no type in two ways.
+-- What is stored where one type was lowered. It reads back as what is written. There are types and lifetimes from just those of
+-- its nodes that become one, in the order of lowering, and nothing besides. Their nodes lead to them, and no other nodes do.
+-- However deep one looks, the type reaches no type in two ways.
 pub record TypeResult (store : Store) (source_map : SourceMap) (i : TypeRefId) (t : OptionType) : Type 0 where
   pub reads_back : stored_type store source_map i ≡ written_type t
-  pub types : length store.types ≡ (type_part_size t).types
-  pub lifetimes : length store.lifetimes ≡ (type_part_size t).lifetimes
-  pub type_sources : length source_map.type_sources ≡ length store.types
-  pub lifetime_sources : length source_map.lifetime_sources ≡ length store.lifetimes
+  pub types : length store.types ≡ length (type_part_size t).types
+  pub lifetimes : length store.lifetimes ≡ length (type_part_size t).lifetimes
+  pub type_sources : source_map.type_sources ≡ (type_part_size t).types
+  pub lifetime_sources : source_map.lifetime_sources ≡ (type_part_size t).lifetimes
   pub type_ways : LeadBack (λ i. i.0) source_map.types_map source_map.type_sources
   pub lifetime_ways : LeadBack (λ i. i.0) source_map.lifetime_map source_map.lifetime_sources
   pub reached_once : (depth : ℕ) → length store.types ≤ depth → Spread 0 (length store.types) (types_reached store.types depth i)
@@ -47,7 +47,7 @@ TypeResults = (limit : ℕ) (t : OptionType) (i : TypeRefId) (new : Builder)
 
 -- more types or lifetimes than an arena may hold, or a path that counts too far
 abbrev pub TypeTooLarge : ℕ → OptionType → Type 0
-TypeTooLarge limit t = let n = type_part_size t in (limit < n.types) ⊎ ((limit < n.lifetimes) ⊎ n.overcounts)
+TypeTooLarge limit t = let n = type_part_size t in (limit < length n.types) ⊎ ((limit < length n.lifetimes) ⊎ n.overcounts)
 
 -- only such a type is refused
 abbrev pub RefusedTypes : Type 0

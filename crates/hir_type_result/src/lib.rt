@@ -4,10 +4,18 @@
 
 ghost use Rattle.hir_type_result.specs.TypeResult.{TypeResults, RefusedTypes};
 ghost use Rattle.hir_type_result.specs.Reached.{TypesReachedOnce};
+ghost use Rattle.hir_type_result.specs.Named.{ExprTypesReachedOnce, PathTypesReachedOnce};
 
 /// Each type that a lowered one reaches, through its parts, is one that its lowering stored, and is reached in one way.
 pub fn types_reached_once()
     ensures { TypesReachedOnce }
+{}
+
+/// Each type that a lowered path reaches, or that the expressions of a lowered tree do, is one that its lowering stored, and
+/// is reached in one way.
+pub fn named_types_reached_once()
+    ensures paths { PathTypesReachedOnce }
+    ensures exprs { ExprTypesReachedOnce }
 {}
 
 /// A type, lowered into an empty store, is one result of its tree.
