@@ -149,7 +149,8 @@ module _ (env : Answers) (C : Claims) (n : ℕ) (below : Below env C n) where
   kids_type p at TypeKind-F.NeverType h = tt
   kids_type p at TypeKind-F.InferType h = tt
 
-  assoc : (p : Place) (a : AssocTypeArgLayer written_types) → count_arg (of.assoc_type_arg_step env (type_reader env) a p) < n → KidsAssoc C p a
+  assoc : (p : Place) (a : AssocTypeArgLayer written_types) → count_arg (of.assoc_type_arg_step env (type_reader env) a p) < n
+        → KidsAssoc C p a
   assoc p a h = by a.params a.name h
     where
       inner : Spot
@@ -210,12 +211,14 @@ module _ (env : Answers) (C : Claims) (n : ℕ) (below : Below env C n) where
       by true h = tt
       by false h = (list p s.generics (omega (arith, h)), parens p s.parens s.ret (omega (arith, h)))
 
-  segment : (p : Place) (s : PathSegmentLayer written_types) → count_segment (of.segment_step env (type_reader env) s p) < n → KidsSegment C p s
+  segment : (p : Place) (s : PathSegmentLayer written_types) → count_segment (of.segment_step env (type_reader env) s p) < n
+          → KidsSegment C p s
   segment p s h = by s.seg refl h
     where
       by : (k : Option SegmentKind) → s.seg ≡ k
           → count_segment (of.kinded_segment env p k s.name (tree.segment_args (arg_list_part (spot_at env p) s.generics)
-            (parens_part (spot_at env p) s.parens s.ret) s.rtn) (type_part (spot_at env p) s.ty) (path_type_part (spot_at env p) s.trait_)) < n
+            (parens_part (spot_at env p) s.parens s.ret) s.rtn) (type_part (spot_at env p) s.ty)
+            (path_type_part (spot_at env p) s.trait_)) < n
           → KidsSegment C p s
       by None e h = rw e tt
       by (Some kind.Name) e h = rw e (name p s.name s h)

@@ -20,11 +20,13 @@ use Rattle.hir_lower_form.specs.declared.walk.Reading.TheVariants.{Refused, Ende
 use Rattle.hir_lower_form.specs.Lowering.{Lowering, ◌>>=◌}
 use Rattle.hir_lower_form.specs.Paths.{proceed, whole, counted, read_trait, with_trait, parens_form, or_else, segment_args_form}
 use Rattle.hir_lower_form.specs.Types.{error_type, unit_type, lower_lifetime, lower_lifetime_option, lower_use, lower_uses, over_form}
-use Rattle.hir_lower_form.specs.Types.{TypeSteps, tuple_type_form, path_type_form, ref_type_form, fn_type_form, impl_type_form, dyn_type_form}
+use Rattle.hir_lower_form.specs.Types.{TypeSteps, tuple_type_form, path_type_form, ref_type_form, fn_type_form}
+use Rattle.hir_lower_form.specs.Types.{impl_type_form, dyn_type_form}
 use Rattle.hir_lower_form.specs.Types.{binding_form, path_bound_of, path_bound_form}
 use Rattle.hir_lower_form.specs.Walks.{at_first}
 use Rattle.hir_lower_form.specs.Lower.{lower_type, type_part, present_type, type_or_unit, lower_parts, read_segment, read_each, read_path}
-use Rattle.hir_lower_form.specs.Lower.{read_option, lower_path, lower_segment_args, parens_part, output_part, args_part, lower_args, lower_arg}
+use Rattle.hir_lower_form.specs.Lower.{read_option, lower_path, lower_segment_args, parens_part, output_part, args_part}
+use Rattle.hir_lower_form.specs.Lower.{lower_args, lower_arg}
 use Rattle.hir_lower_form.specs.Lower.{lower_bounds, lower_bound, some}
 use Rattle.hir_lower.proofs.Ways.{Leading, any, then', leading_pure, leading_count_out, leading_alloc_type, leading_alloc_lifetime}
 
