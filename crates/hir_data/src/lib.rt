@@ -9,7 +9,8 @@ ghost use Rattle.hir_data.specs.Worked.{SelfAlone, UseTreesStandInFront, AbsentI
 ghost use Rattle.hir_data.specs.Worked.{TraitInPlace, TypeInFront, OutputIsBound, BinderOfFunctions};
 ghost use Rattle.hir_data.specs.Worked.{BoundsOfKinds, FirstOfLists, BindingsOfLists};
 
-/// The names of a path are those of its named segments, where no use tree stands around it and no segment is missing.
+/// The names of a path are those of its named segments, where no use tree stands around it or its trait, no segment of
+/// either is missing, and the trait has no qualified type.
 pub fn segment_law()
     ensures { SegmentLaw }
 {}
