@@ -1,12 +1,12 @@
 //! Expressions with a path or a type.
 
 ghost use Rattle.hir_env.specs.Answered as tree;
-ghost use Rattle.hir_env.specs.Answering.{site_of};
-ghost use Rattle.hir_env.specs.Answering.{names_of};
+ghost use Rattle.hir_env.specs.Answering.{names_of, site_of};
 ghost use Rattle.hir_env.specs.Whole.{expr_part, path_part, type_part};
 ghost use Rattle.hir_lower_form.specs.Nests.{IfPresent};
 ghost use Rattle.hir_lower_form.specs.Methods.{LowersExpr};
 
+use crate::here::{path_here, type_here};
 use hir_lower_form::builder::BodyBuilder;
 use hir_lower_form::names::{names_of, path_expr};
 use hir_lower_form::parts::{LowerParts, Lowerer, site};
@@ -29,7 +29,7 @@ pub(crate) fn path_form<P: LowerParts>(
         LowersExpr (tree.path_expr at (path_part spot path.now) (spot.answers.hygiene (site_of at))) state.old result state.new }
 {
     let hygiene = lowerer.parts.hygiene(site(at));
-    let path = lowerer.path_if_present(state, lowerer.parts.place(), path)?;
+    let path = path_here(lowerer, state, path)?;
     state.alloc_expr(path_expr(path, hygiene), Some(at))
 }
 
@@ -47,7 +47,7 @@ pub(crate) fn cast_form<P: LowerParts>(
         LowersExpr (tree.cast_expr at (expr_part spot operand.now) (type_part spot ty.now)) state.old result state.new }
 {
     let expr = lowerer.collect_expr_opt(state, operand)?;
-    let type_ref = lowerer.type_or_error(state, lowerer.parts.place(), &None, ty)?;
+    let type_ref = type_here(lowerer, state, ty)?;
     state.alloc_expr(Expr::Cast { expr, type_ref }, Some(at))
 }
 
@@ -62,7 +62,7 @@ pub(crate) fn offset_of_form<P: LowerParts>(
     requires { IfPresent ((P.can lowerer.now.parts).type_ (P.spot lowerer.now.parts).place) ty.now }
     ensures { LowersExpr (tree.offset_of_expr at (type_part (P.spot lowerer.now.parts) ty.now) (names_of names.now)) state.old result state.new }
 {
-    let container = lowerer.type_or_error(state, lowerer.parts.place(), &None, ty)?;
+    let container = type_here(lowerer, state, ty)?;
     let fields = names_of(lowerer.alloc, names.as_slice())?;
     state.alloc_expr(Expr::OffsetOf { container, fields }, Some(at))
 }
