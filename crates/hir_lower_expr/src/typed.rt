@@ -1,5 +1,6 @@
 //! Expressions with a path or a type.
 
+ghost use Rattle.std.specs.Prelude.{◌≡◌, IfOk};
 ghost use Rattle.hir_env.specs.Answered as tree;
 ghost use Rattle.hir_env.specs.Answering.{names_of, site_of};
 ghost use Rattle.hir_env.specs.Whole.{expr_part, path_part, type_part};
@@ -13,8 +14,10 @@ use hir_lower_form::parts::{LowerParts, Lowerer, site};
 use hir_store::fault::StoreFault;
 use hir_store::hir::Expr;
 use hir_store::ids::ExprId;
+use hir_store::name::Name;
 use hir_syntax::node::{AstPtr, InFile};
 use hir_syntax::{Boxed, Seq, ast};
+use std::alloc::{AllocError, Global};
 
 /// A path that is absent or refused is missing.
 #[tactic(auto, unfolding(hir_lower_form::specs::Lower::path_form))]
@@ -51,6 +54,13 @@ pub(crate) fn cast_form<P: LowerParts>(
     state.alloc_expr(Expr::Cast { expr, type_ref }, Some(at))
 }
 
+/// The names that lead to the field.
+fn field_names(alloc: Global, names: &Seq<ast::Name>) -> Result<Seq<Name>, AllocError>
+    ensures { IfOk result (λ ns. ns ≡ names_of names.now) }
+{
+    names_of(alloc, names.as_slice())
+}
+
 #[tactic(auto, unfolding(hir_lower_form::specs::Lower::offset_of_form))]
 pub(crate) fn offset_of_form<P: LowerParts>(
     lowerer: &Lowerer<P>,
@@ -63,6 +73,6 @@ pub(crate) fn offset_of_form<P: LowerParts>(
     ensures { LowersExpr (tree.offset_of_expr at (type_part (P.spot lowerer.now.parts) ty.now) (names_of names.now)) state.old result state.new }
 {
     let container = type_here(lowerer, state, ty)?;
-    let fields = names_of(lowerer.alloc, names.as_slice())?;
+    let fields = field_names(lowerer.alloc, names)?;
     state.alloc_expr(Expr::OffsetOf { container, fields }, Some(at))
 }
