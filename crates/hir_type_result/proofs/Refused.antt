@@ -1,11 +1,11 @@
 -- Types and paths become no expressions and no labels, so there is always room for those.
-use Rattle.std.proofs.Common.{◌≡◌, refl, ℕ, Bool, true, false, List, [], ◌∷◌, Option, Some, None, arith}
+use Rattle.std.proofs.Common.{◌≡◌, refl, Bool, true, false, List, [], ◌∷◌, Option, Some, None, arith}
 use Rattle.std.specs.Prelude.{is_some, not}
 use Rattle.hir_store.specs.Pointers.{Pointer}
 use Rattle.hir_env.specs.Answered as tree
 use Rattle.hir_env.specs.Answered.{Lifetime, UseRead, Type_, OptionType, Parts, Path, OptionPath, Segments, Segment, SegmentArgs}
 use Rattle.hir_env.specs.Answered.{OptionParens, OptionRet, OptionArgs, Args, Arg, Bounds, Bound}
-use Rattle.hir_one_result.specs.Size.{Size, ◌∪◌, if_so}
+use Rattle.hir_one_result.specs.Size.{Size, a_type, ◌∪◌, if_so}
 use Rattle.hir_one_result.specs.PathRoom as room
 use Rattle.hir_one_result.specs.PathRoom.{Seen, Read, refused, ended, goes_on, before, at_first, nothing_seen, segments_read, own_read}
 use Rattle.hir_one_result.specs.PathRoom.{whole_read, yields}
@@ -17,6 +17,9 @@ pub record Aside (s : Size) : Type 0 where
 none_besides : {types lifetimes : List (Option Pointer)} {overcounts : Type 0}
     → Aside (record { exprs = 0; labels = 0; types = types; lifetimes = lifetimes; overcounts = overcounts })
 none_besides = record { exprs = refl; labels = refl }
+
+type_besides : (source : Option Pointer) → Aside (a_type source)
+type_besides source = none_besides
 
 both : {a b : Size} → Aside a → Aside b → Aside (a ∪ b)
 both h k = let a = h.exprs in let b = k.exprs in let c = h.labels in let d = k.labels in record { exprs = omega arith; labels = omega arith }
@@ -105,7 +108,7 @@ mutual
 
   parens_aside : (ps : OptionParens) → Aside (room.parens_size ps)
   parens_aside tree.no_parens = none_besides
-  parens_aside (tree.some_parens ts r) = both (parts_aside ts) (both none_besides (output_aside r))
+  parens_aside (tree.some_parens ts r) = both (parts_aside ts) (both (type_besides None) (output_aside r))
 
   output_aside : (r : OptionRet) → Aside (room.output_size r)
   output_aside tree.no_ret = none_besides
