@@ -75,7 +75,7 @@ pub fn binds_output()
     ensures { OutputIsBound }
 {}
 
-/// A `for` reaches a function pointer through parentheses, and no other type.
+/// A `for` reaches a function pointer through parentheses, no other type, and none inside of that pointer.
 pub fn hands_binders_on()
     ensures { BinderOfFunctions }
 {}
