@@ -6,7 +6,8 @@ ghost use Rattle.hir_syntax.specs.declared.ast.RecordExprFieldList.{out-RecordEx
 ghost use Rattle.hir_store.specs.declared.name.Name.TheVariants as names;
 ghost use Rattle.hir_store.specs.Range.{HasFields, HasSpread};
 ghost use Rattle.hir_env.specs.Answered as tree;
-ghost use Rattle.hir_env.specs.Whole.{answered_field, answered_record, expr_part, field_level, fields_part, path_part, record_level, record_part, spread_part};
+ghost use Rattle.hir_env.specs.Whole.{answered_field, answered_record, expr_part, field_level, fields_part, path_part, record_level};
+ghost use Rattle.hir_env.specs.Whole.{record_part, spread_part};
 ghost use Rattle.hir_lower_form.specs.Lowering.{Lowers};
 ghost use Rattle.hir_lower_form.specs.Lower as spec;
 ghost use Rattle.hir_lower_form.specs.Methods.{HasField, HasRecord, LowersExpr, record_at};
@@ -167,9 +168,10 @@ pub(crate) fn record_form<P: LowerParts>(
     list: &Option<ast::RecordExprFieldList>,
 ) -> Result<ExprId, StoreFault>
     requires path { IfPresent ((P.can lowerer.now.parts).path (P.spot lowerer.now.parts).place) path.now }
-    requires list { IfPresent (λ r. KidsRecord (P.can lowerer.now.parts) (P.spot lowerer.now.parts).place (out-RecordExprFieldList r)) list.now }
-    ensures { let read = record_part (P.spot lowerer.now.parts) list.now in
-        LowersExpr (tree.record_expr at (path_part (P.spot lowerer.now.parts) path.now) read.fields read.spread) state.old result state.new }
+    requires list { let place = (P.spot lowerer.now.parts).place in
+        IfPresent (λ r. KidsRecord (P.can lowerer.now.parts) place (out-RecordExprFieldList r)) list.now }
+    ensures { let spot = P.spot lowerer.now.parts in let read = record_part spot list.now in
+        LowersExpr (tree.record_expr at (path_part spot path.now) read.fields read.spread) state.old result state.new }
 {
     let Some(path) = path_here(lowerer, state, path)? else {
         return state.missing_expr();

@@ -70,7 +70,8 @@ pub(crate) fn offset_of_form<P: LowerParts>(
     names: &Seq<ast::Name>,
 ) -> Result<ExprId, StoreFault>
     requires { IfPresent ((P.can lowerer.now.parts).type_ (P.spot lowerer.now.parts).place) ty.now }
-    ensures { LowersExpr (tree.offset_of_expr at (type_part (P.spot lowerer.now.parts) ty.now) (names_of names.now)) state.old result state.new }
+    ensures { let container = type_part (P.spot lowerer.now.parts) ty.now in
+        LowersExpr (tree.offset_of_expr at container (names_of names.now)) state.old result state.new }
 {
     let container = type_here(lowerer, state, ty)?;
     let fields = field_names(lowerer.alloc, names)?;
