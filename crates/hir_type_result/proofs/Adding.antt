@@ -103,7 +103,8 @@ adds_unnamed t source = correct_as (correct_alloc_type t source) (λ final ps m 
     };
   })
 
-pub adds_lifetime : {was : Numbers} (l : LifetimeRef) (source : Option Pointer) → Correct (alloc_lifetime l source) (Adds was (λ i f. was f))
+pub adds_lifetime : {was : Numbers} (l : LifetimeRef) (source : Option Pointer)
+    → Correct (alloc_lifetime l source) (Adds was (λ i f. was f))
 adds_lifetime l source = correct_as (correct_alloc_lifetime l source) (λ final ps m m' i g row. record {
     earlier = λ d le. record {
       depth = d;

@@ -131,7 +131,8 @@ arg_added f l a k =
     let y = times_append k as' bs in
     let z = times_append k (as' ++ bs) (of_arg f a) in omega arith
 
-pub lifetime_added : (f : TypeRefId → List ℕ) (l : ArgLists) (i : LifetimeRefId) → of_arg_lists f (add_arg l (arg.Lifetime i)) ⊑ of_arg_lists f l
+pub lifetime_added : (f : TypeRefId → List ℕ) (l : ArgLists) (i : LifetimeRefId)
+    → of_arg_lists f (add_arg l (arg.Lifetime i)) ⊑ of_arg_lists f l
 lifetime_added f l i k =
     let a = arg_added f l (arg.Lifetime i) k in
     let s = times_append k (of_arg_lists f l) [] in omega arith
@@ -147,7 +148,8 @@ binding_added f l b k =
     let z = times_append k (as' ++ bs) (of_binding f b) in omega arith
 
 pub yielded_less : (f : TypeRefId → List ℕ) (l : ArgLists) → of_present (of_args f) (yielded l) ⊑ of_arg_lists f l
-yielded_less f l k = either (λ a. times k (of_present (of_args f) a) ≤ times k (of_arg_lists f l)) (is_none_of l.args && is_none_of l.bindings)
+yielded_less f l k = either (λ a. times k (of_present (of_args f) a) ≤ times k (of_arg_lists f l))
+    (is_none_of l.args && is_none_of l.bindings)
     (omega arith) (let e = ap (times k) (args_roll f l.args false l.bindings No) in omega arith)
 
 pub notation_less : (f : TypeRefId → List ℕ) (a : Option GenericArgs) (dots : Bool)
@@ -178,7 +180,8 @@ binding_less f n a dots t bs k =
     let z = times_append k (of_present (of_args f) a ++ of_present f t) (of_each (of_bound f) bs) in
     let w = times_append k (of_present (of_args f) a) (of_present f t) in omega arith
 
-pub path_bound_less : (f : TypeRefId → List ℕ) (maybe : Bool) (binder : Binder) (t : TypeRefId) → of_bound f (stored_path_bound maybe binder t) ⊑ f t
+pub path_bound_less : (f : TypeRefId → List ℕ) (maybe : Bool) (binder : Binder) (t : TypeRefId)
+    → of_bound f (stored_path_bound maybe binder t) ⊑ f t
 path_bound_less f maybe [] t k = omega arith
 path_bound_less f maybe (n ∷ ns) t k = omega arith
 
@@ -259,7 +262,8 @@ without_self_less f [] k = omega arith
 without_self_less f (None ∷ as') k = omega arith
 without_self_less f (Some a ∷ as') k =
     let x = times_append k (of_args f a) (of_lists f as') in
-    either (λ o. times k (of_present (of_args f) o ++ of_lists f as') ≤ times k (of_lists f (Some a ∷ as'))) (has_self a) (omega arith) (omega arith)
+    either (λ o. times k (of_present (of_args f) o ++ of_lists f as') ≤ times k (of_lists f (Some a ∷ as'))) (has_self a)
+        (omega arith) (omega arith)
 
 finished_less : (f : TypeRefId → List ℕ) (w : PathWalk) → of_path f (finished w) ⊑ of_walk f w
 finished_less f w k =
