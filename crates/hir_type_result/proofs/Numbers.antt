@@ -263,7 +263,7 @@ without_self_less f (None ∷ as') k = omega arith
 without_self_less f (Some a ∷ as') k =
     let x = times_append k (of_args f a) (of_lists f as') in
     either (λ o. times k (of_present (of_args f) o ++ of_lists f as') ≤ times k (of_lists f (Some a ∷ as'))) (has_self a)
-      (omega arith) (omega arith)
+        (omega arith) (omega arith)
 
 finished_less : (f : TypeRefId → List ℕ) (w : PathWalk) → of_path f (finished w) ⊑ of_walk f w
 finished_less f w k =

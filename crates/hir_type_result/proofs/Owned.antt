@@ -228,7 +228,7 @@ binding_adds : (name : Name) (dots : Bool) {a : Lowering (Option GenericArgs)} {
 unfolding binding_form
 binding_adds name dots ha ht hb = adds_then ha (λ a. adds_then (adds_beside (arguments a) ht)
     (λ t. adds_then (adds_beside (beside (arguments a) (maybe_type t)) hb)
-      (λ bs. adds_pure _ (λ f. numbers.binding_less f name a dots t bs))))
+    (λ bs. adds_pure _ (λ f. numbers.binding_less f name a dots t bs))))
 
 -- lists that grow
 
@@ -302,7 +302,7 @@ mutual
   reading_adds : (p : Path) (w : PathWalk) → Correct (read_path p w) (Adds (walk w) reading)
   reading_adds (tree.path leading first rest use_) w =
       whole_adds (adds_then (each_adds rest w)
-        (λ r. proceed_adds r (λ v. at_first_adds leading v (segment_adds true first (at_first leading v)))))
+      (λ r. proceed_adds r (λ v. at_first_adds leading v (segment_adds true first (at_first leading v)))))
       (λ v. option_adds use_ v)
 
   option_adds : (p : OptionPath) (w : PathWalk) → Correct (read_option p w) (Adds (walk w) reading)

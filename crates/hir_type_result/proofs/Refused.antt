@@ -22,8 +22,8 @@ type_besides : (source : Option Pointer) → Aside (a_type source)
 type_besides source = none_besides
 
 both : {a b : Size} → Aside a → Aside b → Aside (a ∪ b)
-both h k = let a = h.exprs in let b = k.exprs in let c = h.labels in let d = k.labels in
-    record { exprs = omega arith; labels = omega arith }
+both h k =
+    let a = h.exprs in let b = k.exprs in let c = h.labels in let d = k.labels in record { exprs = omega arith; labels = omega arith }
 
 where_so : (c : Bool) {a : Size} → Aside a → Aside (if_so c a)
 where_so true h = h
