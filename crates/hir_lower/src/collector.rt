@@ -114,7 +114,11 @@ fn lower_whole_path<E: LowerEnv>(
 }
 
 /// Stores a type from this node, and changes nothing else.
-fn add_type(state: &mut BodyBuilder, ty: TypeRef, source: InFile<AstPtr>) -> Result<TypeRefId, StoreFault>
+fn add_type(
+    state: &mut BodyBuilder,
+    ty: TypeRef,
+    source: InFile<AstPtr>,
+) -> Result<TypeRefId, StoreFault>
     requires { HasTypeParts state.old.stored ty }
     ensures adds { IfOk result (λ i. AddsType state.old.stored state.new.stored i ty source) }
     ensures full { IsErrOf result StoreFault.Full → SomeEnd state.new }

@@ -18,15 +18,15 @@ use hir_lower_form::builder::BodyBuilder;
 use hir_lower_form::parts::{LowerParts, Lowerer};
 use hir_lower_form::walk::{PathWalk, Reading, path_read};
 use hir_lower_path::path::path_node;
+use hir_lower_scope::labels::{LabelScopes, NoTarget};
 use hir_lower_type::args::args_node;
 use hir_lower_type::types::type_node;
-use hir_lower_scope::labels::{LabelScopes, NoTarget};
 use hir_store::fault::StoreFault;
 use hir_store::ids::{BlockId, CfgId, CrateId, ExprId, HygieneId, LabelId, ModuleId, TypeRefId};
 use hir_store::name::Name;
 use hir_store::path::{GenericArgs, Path};
-use hir_syntax::{Seq, ast};
 use hir_syntax::node::{InFile, NodeId, PredId};
+use hir_syntax::{Seq, ast};
 use std::alloc::Global;
 
 /// The functions that lower the parts of a form, at one place.
@@ -56,8 +56,21 @@ impl<
         &ast::BlockExpr,
     ) -> Result<ExprId, StoreFault>,
     Q: Fn(Global, &E, Place, &mut BodyBuilder, PathWalk, &ast::Path) -> Result<Reading, StoreFault>,
-    T: Fn(Global, &E, Place, &mut BodyBuilder, &Option<Seq<Name>>, &ast::Type_) -> Result<TypeRefId, StoreFault>,
-    G: Fn(Global, &E, Place, &mut BodyBuilder, &ast::GenericArgList) -> Result<Option<GenericArgs>, StoreFault>,
+    T: Fn(
+        Global,
+        &E,
+        Place,
+        &mut BodyBuilder,
+        &Option<Seq<Name>>,
+        &ast::Type_,
+    ) -> Result<TypeRefId, StoreFault>,
+    G: Fn(
+        Global,
+        &E,
+        Place,
+        &mut BodyBuilder,
+        &ast::GenericArgList,
+    ) -> Result<Option<GenericArgs>, StoreFault>,
 > LowerParts for Handlers<'e, E, F, B, Q, T, G> {
     ghost can = { λ it. record {
       expr = HandlesExpr E.answers (F.pre it.expr) (F.post it.expr) it.env.now it.place;
