@@ -19,21 +19,30 @@ over_types h kind.ParenType = Some (type_kinds.ParenType (part_in h as_type (cod
 over_types h kind.SliceType = Some (type_kinds.SliceType (part_in h as_type (codes "ty")))
 over_types h kind.TupleType = Some (type_kinds.TupleType (list_in h as_type (codes "fields")))
 over_types h kind.PtrType = Some (type_kinds.PtrType (flag_of (get (codes "mut") h.value)) (part_in h as_type (codes "ty")))
-over_types h kind.RefType = Some (type_kinds.RefType
-    (part_in h as_lifetime (codes "lifetime"))
-    (flag_of (get (codes "mut") h.value))
-    (part_in h as_type (codes "ty")))
 over_types h _ = None
 
--- function pointers, and what introduces lifetimes
-unfoldable pub with_parameters : Here → Kind → Option TypeKind
-with_parameters h kind.FnPtrType = Some (type_kinds.FnPtrType
+unfoldable pub reference : Here → TypeKind
+reference h = type_kinds.RefType
+    (part_in h as_lifetime (codes "lifetime"))
+    (flag_of (get (codes "mut") h.value))
+    (part_in h as_type (codes "ty"))
+
+unfoldable pub function_pointer : Here → TypeKind
+function_pointer h = type_kinds.FnPtrType
     (flag_of (get (codes "unsafe") h.value))
     (text_in (codes "abi") h.value)
     (list_if_there h as_param (codes "params"))
-    (part_in h as_ret (codes "ret")))
-with_parameters h kind.ForType = Some (type_kinds.ForType (part_in h as_binder (codes "binder")) (part_in h as_type (codes "ty")))
-with_parameters h _ = None
+    (part_in h as_ret (codes "ret"))
+
+unfoldable pub under_binder : Here → TypeKind
+under_binder h = type_kinds.ForType (part_in h as_binder (codes "binder")) (part_in h as_type (codes "ty"))
+
+-- what has a part of another group beside its type, or in its place
+abbrev pub beside_types : Here → Kind → Option TypeKind
+beside_types h kind.RefType = Some (reference h)
+beside_types h kind.FnPtrType = Some (function_pointer h)
+beside_types h kind.ForType = Some (under_binder h)
+beside_types h _ = None
 
 -- what has bounds, and what is a word
 unfoldable pub bounded : Here → Kind → Option TypeKind
@@ -44,7 +53,7 @@ bounded h kind.InferType = Some type_kinds.InferType
 bounded h _ = None
 
 abbrev pub type_kind : Here → Kind → Option TypeKind
-type_kind h k = or_else (over_types h k) (or_else (with_parameters h k) (bounded h k))
+type_kind h k = or_else (over_types h k) (or_else (beside_types h k) (bounded h k))
 
 abbrev pub of_type_kind : Here → TypeKind → AnyPart
 of_type_kind h x = part.Type_ (record { id = h.id; range = h.range; kind = x })

@@ -7,6 +7,7 @@ ghost use Rattle.json_nodes.specs.Nodes.{here};
 use crate::field::{flag, own_text};
 use crate::node::{Node, ReadParts};
 use crate::part::AnyPart;
+use hir_syntax::Boxed;
 use hir_syntax::ast::{
     ForBinder, Lifetime, Param, Path, PathType, RetType, Type_, TypeBound, TypeKind,
 };
@@ -32,34 +33,58 @@ fn over_types<P: ReadParts>(node: &Node<'_, P>, kind: Kind) -> Result<Option<Typ
             mut_: flag(node.value, "mut"),
             ty: node.boxed::<Type_>("ty")?,
         })),
-        Kind::RefType => Ok(Some(TypeKind::RefType {
-            lifetime: node.part::<Lifetime>("lifetime")?,
-            mut_: flag(node.value, "mut"),
-            ty: node.boxed::<Type_>("ty")?,
-        })),
         _ => Ok(None),
     }
 }
 
-#[tactic(auto, unfolding(crate::specs::Types::with_parameters))]
-fn with_parameters<P: ReadParts>(
+#[tactic(auto, unfolding(crate::specs::Types::reference))]
+fn reference<P: ReadParts>(node: &Node<'_, P>) -> Result<TypeKind, AllocError>
+    requires { P.can node.now.parts.now }
+    ensures { IfOk result (λ kind. kind ≡ spec.reference (here P.parts node.now)) }
+{
+    Ok(TypeKind::RefType {
+        lifetime: node.part::<Lifetime>("lifetime")?,
+        mut_: flag(node.value, "mut"),
+        ty: node.boxed::<Type_>("ty")?,
+    })
+}
+
+#[tactic(auto, unfolding(crate::specs::Types::function_pointer))]
+fn function_pointer<P: ReadParts>(node: &Node<'_, P>) -> Result<TypeKind, AllocError>
+    requires { P.can node.now.parts.now }
+    ensures { IfOk result (λ kind. kind ≡ spec.function_pointer (here P.parts node.now)) }
+{
+    Ok(TypeKind::FnPtrType {
+        unsafe_: flag(node.value, "unsafe"),
+        abi: own_text(node.alloc, node.value, "abi")?,
+        params: node.list_if_there::<Param>("params")?,
+        ret: node.part::<RetType>("ret")?,
+    })
+}
+
+#[tactic(auto, unfolding(crate::specs::Types::under_binder))]
+fn under_binder<P: ReadParts>(node: &Node<'_, P>) -> Result<TypeKind, AllocError>
+    requires { P.can node.now.parts.now }
+    ensures { IfOk result (λ kind. kind ≡ spec.under_binder (here P.parts node.now)) }
+{
+    Ok(TypeKind::ForType {
+        binder: node.part::<ForBinder>("binder")?,
+        ty: node.boxed::<Type_>("ty")?,
+    })
+}
+
+/// A type with a part of another group beside its type, or in its place.
+fn beside_types<P: ReadParts>(
     node: &Node<'_, P>,
     kind: Kind,
 ) -> Result<Option<TypeKind>, AllocError>
     requires { P.can node.now.parts.now }
-    ensures { IfOk result (λ part. part ≡ spec.with_parameters (here P.parts node.now) kind) }
+    ensures { IfOk result (λ part. part ≡ spec.beside_types (here P.parts node.now) kind) }
 {
     match kind {
-        Kind::FnPtrType => Ok(Some(TypeKind::FnPtrType {
-            unsafe_: flag(node.value, "unsafe"),
-            abi: own_text(node.alloc, node.value, "abi")?,
-            params: node.list_if_there::<Param>("params")?,
-            ret: node.part::<RetType>("ret")?,
-        })),
-        Kind::ForType => Ok(Some(TypeKind::ForType {
-            binder: node.part::<ForBinder>("binder")?,
-            ty: node.boxed::<Type_>("ty")?,
-        })),
+        Kind::RefType => Ok(Some(reference(node)?)),
+        Kind::FnPtrType => Ok(Some(function_pointer(node)?)),
+        Kind::ForType => Ok(Some(under_binder(node)?)),
         _ => Ok(None),
     }
 }
@@ -89,7 +114,7 @@ fn type_kind<P: ReadParts>(node: &Node<'_, P>, kind: Kind) -> Result<Option<Type
     if let Some(kind) = over_types(node, kind)? {
         return Ok(Some(kind));
     }
-    if let Some(kind) = with_parameters(node, kind)? {
+    if let Some(kind) = beside_types(node, kind)? {
         return Ok(Some(kind));
     }
     bounded(node, kind)
@@ -101,18 +126,22 @@ pub fn of_type<P: ReadParts>(node: &Node<'_, P>, kind: Kind) -> Result<Option<An
     ensures { IfOk result (λ part. part ≡ spec.of_type (here P.parts node.now) kind) }
 {
     if let Kind::PathType = kind {
-        return Ok(Some(AnyPart::PathType(PathType {
+        let path_type = PathType {
             id: node.id,
             range: node.range,
             path: node.boxed::<Path>("path")?,
-        })));
+        };
+        return Ok(Some(AnyPart::PathType(Boxed::new(node.alloc, path_type)?)));
     }
     match type_kind(node, kind)? {
-        Some(kind) => Ok(Some(AnyPart::Type_(Type_ {
-            id: node.id,
-            range: node.range,
-            kind,
-        }))),
+        Some(kind) => {
+            let ty = Type_ {
+                id: node.id,
+                range: node.range,
+                kind,
+            };
+            Ok(Some(AnyPart::Type_(Boxed::new(node.alloc, ty)?)))
+        }
         None => Ok(None),
     }
 }
