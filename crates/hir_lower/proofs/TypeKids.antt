@@ -221,7 +221,7 @@ module _ (env : Answers) (C : Claims) (n : ℕ) (below : Below env C n) where
           (path_type_part (spot_at env p) s.trait_)) < n
           → KidsSegment C p s
       by None e h = rw e tt
-      by (Some kind.Name) e h = rw e (name p s.name s h)
+      by (Some kind.Name) e h = rw e (name p s.name (record s { seg = Some kind.Name }) h)
       by (Some kind.SelfKw) e h = rw e tt
       by (Some kind.CrateKw) e h = rw e tt
       by (Some kind.SuperKw) e h = rw e tt

@@ -104,8 +104,8 @@ read_path_segments-path_node-requires-clause-parts g t c =
     let env = g.E.LowerEnv.answers c.args.env.now in
     let size = ap count_path (path_is_level (spot_at env c.args.place) c.args.node.now) in
     kids_path env (record {
-      expr = λ e. Unit {0};
-      block = λ b. Unit {0};
+      expr = HandlesExpr g.E.LowerEnv.answers _ _ c.args.env.now c.args.place;
+      block = HandlesBlock g.E.LowerEnv.answers _ _ c.args.env.now c.args.place;
       path = HandlesPath g.E.LowerEnv.answers _ _ c.args.env.now;
       type_ = HandlesType g.E.LowerEnv.answers _ _ c.args.env.now;
       args = HandlesArgs g.E.LowerEnv.answers _ _ c.args.env.now;
@@ -137,8 +137,8 @@ lower_type_node-type_node-requires g t c =
     let at = spot_at env c.args.place in
     let size = ap count_type (type_is_level at c.args.node.now) in
     kids_type env (record {
-      expr = λ e. Unit {0};
-      block = λ b. Unit {0};
+      expr = HandlesExpr g.E.LowerEnv.answers _ _ c.args.env.now c.args.place;
+      block = HandlesBlock g.E.LowerEnv.answers _ _ c.args.env.now c.args.place;
       path = HandlesPath g.E.LowerEnv.answers _ _ c.args.env.now;
       type_ = HandlesType g.E.LowerEnv.answers _ _ c.args.env.now;
       args = HandlesArgs g.E.LowerEnv.answers _ _ c.args.env.now;
@@ -169,8 +169,8 @@ lower_arg_list-args_node-requires g t c =
     let env = g.E.LowerEnv.answers c.args.env.now in
     let size = ap count_args (arg_list_is_level (spot_at env c.args.place) c.args.node.now) in
     kids_args env (record {
-      expr = λ e. Unit {0};
-      block = λ b. Unit {0};
+      expr = HandlesExpr g.E.LowerEnv.answers _ _ c.args.env.now c.args.place;
+      block = HandlesBlock g.E.LowerEnv.answers _ _ c.args.env.now c.args.place;
       path = HandlesPath g.E.LowerEnv.answers _ _ c.args.env.now;
       type_ = HandlesType g.E.LowerEnv.answers _ _ c.args.env.now;
       args = HandlesArgs g.E.LowerEnv.answers _ _ c.args.env.now;
