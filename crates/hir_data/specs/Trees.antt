@@ -3,7 +3,6 @@ use Rattle.std.specs.Prelude.{◌≡◌, ℕ, codes, Bool, true, false, List, []
 use Rattle.hir_syntax.specs.declared.node.NodeId.{NodeId}
 use Rattle.hir_syntax.specs.declared.node.TextRange.{TextRange}
 use Rattle.hir_syntax.specs.declared.ast.Name.{Name as AstName}
-use Rattle.hir_syntax.specs.declared.ast.Lifetime.{Lifetime as AstLifetime}
 use Rattle.hir_syntax.specs.declared.ast.SegmentKind.TheVariants as segment
 use Rattle.hir_syntax.specs.declared.ast.Path.{roll-Path}
 use Rattle.hir_syntax.specs.declared.ast.PathSegment.{PathSegment as AstPathSegment, roll-PathSegment}
@@ -30,14 +29,13 @@ use Rattle.hir_store.specs.declared.type_ref.ExternAbi.TheVariants as abi
 use Rattle.hir_store.specs.declared.type_ref.LifetimeRef.{LifetimeRef}
 use Rattle.hir_store.specs.declared.type_ref.LifetimeRef.TheVariants as lifetime
 use Rattle.hir_store.specs.declared.type_ref.TraitBoundModifier.TheVariants as modifier
-use Rattle.hir_env.specs.declared.place.ImplTrait.{ImplTrait}
 use Rattle.hir_env.specs.declared.place.ImplTrait.TheVariants as impl
 use Rattle.hir_env.specs.Spot.{Spot}
 use Rattle.hir_env.specs.Paths.{written_types}
 use Rattle.hir_env.specs.TypeLayers.{TypeKindLayer}
 use Rattle.hir_env.specs.Whole.{answered_type, pointer_at}
 use Rattle.hir_data.specs.Data as datum
-use Rattle.hir_data.specs.Data.{TypeData, OptionArgsData, BindingsData}
+use Rattle.hir_data.specs.Data.{TypeData, OptionArgsData}
 use Rattle.hir_data.specs.Written.{type_data, unit_data}
 use Rattle.hir_data.specs.Worked.{sugared}
 
