@@ -8,6 +8,7 @@ ghost use Rattle.hir_data.specs.Worked.{SuperAfterSelf, KeywordsInside, CrateHid
 ghost use Rattle.hir_data.specs.Worked.{SelfAlone, UseTreesStandInFront, AbsentIsMissing};
 ghost use Rattle.hir_data.specs.Worked.{TraitInPlace, TypeInFront, OutputIsBound, BinderOfFunctions};
 ghost use Rattle.hir_data.specs.Worked.{BoundsOfKinds, FirstOfLists, BindingsOfLists};
+ghost use Rattle.hir_data.specs.Trees.{ImplsInside, LifetimesOfTexts, AbisOfTexts, VarargsAtTheEnd};
 
 /// The names of a path are those of its named segments, where no use tree stands around it or its trait, no segment of
 /// either is missing, and the trait has no qualified type.
@@ -94,4 +95,24 @@ pub fn takes_the_first_list()
 /// A list has its bindings apart from its arguments; in `N<T>(..)` the dots don't count; a list of nothing is none.
 pub fn reads_bindings()
     ensures { BindingsOfLists }
+{}
+
+/// As they are written, `impl A<impl B>` and `impl Fn(!) -> impl B` have an error inside, and `impl A<T = impl B>` has an `impl`.
+pub fn reads_impls()
+    ensures { ImplsInside }
+{}
+
+/// The empty text and `'` are errors, `'static` and `'_` are no names, and `'a` is one.
+pub fn reads_lifetimes()
+    ensures { LifetimesOfTexts }
+{}
+
+/// No `extern` is `Rust`, one without a text is `C`, and so is one whose text isn't known.
+pub fn reads_abis()
+    ensures { AbisOfTexts }
+{}
+
+/// `fn(!, ...)` has varargs, and `fn(..., !)` has none: a variadic parameter is no type, wherever it stands.
+pub fn reads_varargs()
+    ensures { VarargsAtTheEnd }
 {}

@@ -1,5 +1,5 @@
 -- Small bodies of forms with types and arguments, and what they do.
-use Rattle.std.specs.Prelude.{false, ℕ, List, [], ◌∷◌, map, Option, Some, None, option_map}
+use Rattle.std.specs.Prelude.{false, ℕ, List, [], ◌∷◌, map, Option, Some, option_map}
 use Rattle.hir_store.specs.Generics.{of_args}
 use Rattle.hir_store.specs.Stored.{Store, SourceMap}
 use Rattle.hir_store.specs.declared.hir.Expr.TheVariants as hir
