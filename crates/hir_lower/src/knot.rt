@@ -342,6 +342,7 @@ pub fn lower_arg_list<E: LowerEnv>(
 }
 
 /// The path, or none where it is refused.
+#[tactic(auto, using(hir_lower_form::proofs::Walked::path_read_has))]
 pub fn lower_path<E: LowerEnv>(
     alloc: Global,
     env: &E,

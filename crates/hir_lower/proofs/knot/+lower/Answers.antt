@@ -104,8 +104,8 @@ read_path_segments-path_node-requires-clause-parts g t c =
     let env = g.E.LowerEnv.answers c.args.env.now in
     let size = ap count_path (path_is_level (spot_at env c.args.place) c.args.node.now) in
     kids_path env (record {
-      expr = HandlesExpr g.E.LowerEnv.answers _ _ c.args.env.now c.args.place;
-      block = HandlesBlock g.E.LowerEnv.answers _ _ c.args.env.now c.args.place;
+      expr = λ e. Unit {0};
+      block = λ b. Unit {0};
       path = HandlesPath g.E.LowerEnv.answers _ _ c.args.env.now;
       type_ = HandlesType g.E.LowerEnv.answers _ _ c.args.env.now;
       args = HandlesArgs g.E.LowerEnv.answers _ _ c.args.env.now;
@@ -137,11 +137,11 @@ lower_type_node-type_node-requires g t c =
     let at = spot_at env c.args.place in
     let size = ap count_type (type_is_level at c.args.node.now) in
     kids_type env (record {
-      expr = HandlesExpr g.E.LowerEnv.answers _ _ c.args.env.now c.args.place;
-      block = HandlesBlock g.E.LowerEnv.answers _ _ c.args.env.now c.args.place;
+      expr = λ e. Unit {0};
+      block = λ b. Unit {0};
       path = HandlesPath g.E.LowerEnv.answers _ _ c.args.env.now;
       type_ = HandlesType g.E.LowerEnv.answers _ _ c.args.env.now;
-      args = HandlesArgs g.E.LowerEnv.answers _ _ c.args.env.now;
+      args = λ p l. Unit {0};
     }) t
     (record {
       types = λ p x h. record {
@@ -152,10 +152,7 @@ lower_type_node-type_node-requires g t c =
         callable = λ alloc v old walk b same is has. (rw same (rw is h), ((λ a m. m), has));
         reads = λ alloc v old new walk b r same is q. rw (← is) (rw (← same) q.3);
       };
-      lists = λ p x h. record {
-        callable = λ alloc v old b same is. (rw same (rw is h), λ a m. m);
-        lowers = λ alloc v old new b r same is q. rw (← is) (rw (← same) q.2);
-      };
+      lists = λ p x h. tt;
     })
     c.args.place (pointer_at at c.args.node.now.id c.args.node.now.range) (out-TypeKind c.args.node.now.kind) (omega (arith, d, size))
 
