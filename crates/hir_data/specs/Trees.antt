@@ -148,7 +148,7 @@ argument_data t = datum.some_args
 abbrev pub one_binding : List ℕ → TypeData → OptionArgsData
 one_binding n t =
     let bindings = datum.more_bindings (datum.binding_data (name.Text n) datum.no_args (datum.some_type t) datum.no_bounds)
-          datum.no_bindings in
+    datum.no_bindings in
     datum.some_args (datum.args_data datum.no_arguments false bindings parens.No)
 
 -- ---- an `impl` inside of one
