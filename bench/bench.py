@@ -25,6 +25,8 @@ BUILT = os.path.join(TOP, "crates", "lower_tool", "out", "lower_tool")
 SIZES = [1_000, 10_000, 100_000, 1_000_000]
 # A tree has at most 256 levels. A chain stands on three others: the function, its body, the statement.
 CHAIN = 252
+# A chain of types stands on the tuple around it, and has a type of one word at its end.
+TYPE_CHAIN = 254
 
 
 class Nodes:
@@ -110,10 +112,45 @@ def segments(size):
     return nodes
 
 
-SHAPES = {"wide": wide, "calls": calls, "deep": deep, "labels": labels, "segments": segments}
+def arguments(size):
+    """One path with very many types as arguments."""
+    nodes = Nodes()
+    nodes.add("PathType", path=1)
+    nodes.add("Path", segs=[2])
+    nodes.add("PathSegment", seg="name", name="A", generics=3)
+    args = nodes.add("GenericArgList", args=[])
+    while len(nodes.all) + 2 <= size:
+        argument = nodes.add("TypeArg")
+        nodes.all[args]["args"].append(argument)
+        nodes.all[argument]["ty"] = nodes.add("NeverType")
+    return nodes
+
+
+def nested(size):
+    """One tuple of very many types, each as deep as a tree may be."""
+    nodes = Nodes()
+    fields = nodes.add("TupleType", fields=[])
+    while len(nodes.all) + TYPE_CHAIN + 1 <= size:
+        nodes.all[fields]["fields"].append(len(nodes.all))
+        for _ in range(TYPE_CHAIN):
+            here = nodes.add("RefType", mut=True)
+            nodes.all[here]["ty"] = here + 1
+        nodes.add("InferType")
+    return nodes
+
+
+SHAPES = {
+    "wide": wide,
+    "calls": calls,
+    "deep": deep,
+    "labels": labels,
+    "segments": segments,
+    "arguments": arguments,
+    "nested": nested,
+}
 
 # The shapes whose root is no function.
-MODES = {"segments": "path"}
+MODES = {"segments": "path", "arguments": "type", "nested": "type"}
 
 
 HEADS = ("shape", "nodes", "MB", "seconds", "peak MB", "parse us", "rest us", "parse B", "rest B")
@@ -163,7 +200,7 @@ def main():
         return write(given.make[0], int(given.make[1]), given.make[2])
     if not os.access(given.program, os.X_OK):
         sys.exit("bench: no program %s; `rt run` in crates/lower_tool builds it" % given.program)
-    print("%-8s %9s %9s %8s %9s %9s %9s %9s %9s" % HEADS)
+    print("%-9s %9s %9s %8s %9s %9s %9s %9s %9s" % HEADS)
     failed = False
     for name in [given.shape] if given.shape else list(SHAPES):
         for size in [size for size in SIZES if size <= given.most]:
@@ -187,7 +224,7 @@ def line(program, name, size):
         wrong.append("parsing: status %d %s" % (parse_status, parse_said))
     parts = [1e6 * parse_seconds, 1e6 * (seconds - parse_seconds), parse_peak, peak - parse_peak]
     shown = (name, count, length / 1e6, seconds, peak / 1e6, *[part / count for part in parts])
-    print("%-8s %9d %9.1f %8.3f %9.1f %9.2f %9.2f %9.0f %9.0f" % shown, *wrong, flush=True)
+    print("%-9s %9d %9.1f %8.3f %9.1f %9.2f %9.2f %9.0f %9.0f" % shown, *wrong, flush=True)
     return bool(wrong)
 
 

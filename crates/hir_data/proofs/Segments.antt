@@ -1,25 +1,32 @@
 -- Without use trees only the first segment of a path can end its reading.
 use Rattle.std.proofs.Common.{◌≡◌, ◌∙◌, refl, sym, ap, subst, List, [], ◌∷◌, ◌++◌}
 use Rattle.std.proofs.Common.{Option, Some, None, Bool, true, false}
-use Rattle.std.specs.Prelude.{◌&&◌, if◌then◌else◌, map, is_some, bytes_eq, codes}
+use Rattle.std.specs.Prelude.{◌&&◌, not, if◌then◌else◌, map, reverse, option_map, is_some, bytes_eq, codes}
+use Rattle.std.proofs.lemmas.List.{reverse-append, reverse-reverse, map-append}
 use Rattle.hir_syntax.specs.declared.ast.Name.{Name as AstName}
 use Rattle.hir_syntax.specs.declared.ast.Path.{Path as AstPath, out-Path}
-use Rattle.hir_syntax.specs.declared.ast.PathSegment.{PathSegment as AstSegment}
+use Rattle.hir_syntax.specs.declared.ast.PathSegment.{PathSegment as AstSegment, out-PathSegment}
+use Rattle.hir_syntax.specs.declared.types.PathType.{PathType as AstPathType, out-PathType}
 use Rattle.hir_syntax.specs.declared.ast.SegmentKind.{SegmentKind}
 use Rattle.hir_syntax.specs.declared.ast.SegmentKind.TheVariants as word
 use Rattle.hir_store.specs.declared.name.Name.{Name}
 use Rattle.hir_store.specs.declared.name.Name.TheVariants as name
 use Rattle.hir_env.specs.Spot.{Spot}
 use Rattle.hir_env.specs.Answered as tree
-use Rattle.hir_env.specs.Answered.{Path, OptionPath, Segments, Segment}
-use Rattle.hir_env.specs.Paths.{crate_root_at, kinded_segment, read_segment}
-use Rattle.hir_env.specs.Whole.{answered_path, path_level, path_part, segments_part, first_part, rest_part}
-use Rattle.hir_env.proofs.PathLevels.{path_is_level}
-use Rattle.hir_data.specs.Data.{PathData, path_names}
+use Rattle.hir_env.specs.Answered.{OptionType, SegmentArgs, Path, OptionPath, Segments, Segment}
+use Rattle.hir_env.specs.TypeLayers.{PathTypeReading}
+use Rattle.hir_env.specs.Paths.{crate_root_at, kinded_segment, qualified_segment}
+use Rattle.hir_env.specs.Whole.{answered_path, answered_segment, answered_path_type, path_part, segments_part, first_part}
+use Rattle.hir_env.specs.Whole.{rest_part, path_type_part}
+use Rattle.hir_env.proofs.PathLevels.{path_is_level, segment_is_level, path_type_is_level}
+use Rattle.hir_data.specs.Data.{TypeData, PathData, path_names, names_in}
 use Rattle.hir_data.specs.Rule as rule
-use Rattle.hir_data.specs.Rule.{Item, What, ends, ended, read, refused, names_of, data_of, data_read}
-use Rattle.hir_data.specs.Written.{what, items, segments, written_path}
-use Rattle.hir_data.specs.Segments.{name_borne, segment_name, named_among, named_segments, all_present, none_missing}
+use Rattle.hir_data.specs.Rule.{Named, PathRead, Item, What, ends, ended, read, refused, names_of, read_of, path_read, data_of, names_data}
+use Rattle.hir_data.specs.Rule.{first_without_self, last_without_self, first_behind_self, last_behind_self}
+use Rattle.hir_data.specs.Written.{type_data, what, items, segments, path_of, written_path}
+use Rattle.hir_data.specs.Segments.{name_borne, segment_name, named_among, named_segments, trait_of, first_trait, behind_trait}
+use Rattle.hir_data.specs.Segments.{all_but_first, replaced, all_present, none_missing, Whole, is_qualified, none_qualified, PlainPath}
+use Rattle.hir_data.specs.Segments.{PlainTrait}
 
 abbrev holds : Bool → Type 0
 holds true = Unit {0}
@@ -28,23 +35,30 @@ holds false = ⊥
 clash : true ≡ false → ⊥
 clash h = subst holds h tt
 
--- ---- what stands behind the first doesn't end
+no_some : {A : Type 0} {x : A} → None ≡ Some x → ⊥
+no_some h = clash (sym (ap is_some h))
 
-behind_goes_on : (s : Segment) (ns : List Name) → ends (what false s) ns ≡ false
+abbrev name_at : Named → Name
+name_at n = n.name
+
+-- ---- all is read
+
+behind_goes_on : (s : Segment) (ns : List Named) → ends (what false s) ns ≡ false
 behind_goes_on tree.absent_segment ns = refl
 behind_goes_on tree.broken_segment ns = refl
-behind_goes_on (tree.name_segment n) ns = refl
+behind_goes_on (tree.name_segment n a) ns = refl
 behind_goes_on tree.self_type_segment ns = refl
 behind_goes_on tree.crate_segment ns = refl
 behind_goes_on (tree.dollar_crate_segment c) ns = refl
 behind_goes_on tree.self_segment ns = refl
 behind_goes_on tree.super_segment ns = refl
+behind_goes_on (tree.type_segment t) ns = refl
+behind_goes_on (tree.trait_segment t at p) ns = refl
 
 all_go_on : (ss : Segments) → ended (items ss []) ≡ false
 all_go_on tree.no_segments = refl
 all_go_on (tree.more_segments s ss) = rw (behind_goes_on s (rule.names (items ss []))) (all_go_on ss)
 
--- so all is read
 read_all : (i : Item) (ss : Segments) → read (i ∷ items ss []) ≡ i ∷ items ss []
 read_all i ss = rw (all_go_on ss) refl
 
@@ -54,32 +68,64 @@ abbrev borne : Option Name → List Name
 borne None = []
 borne (Some n) = n ∷ []
 
-abbrev named_or_root : Spot → AstName → Bool → Segment
-named_or_root at n b = if b then tree.dollar_crate_segment (crate_root_at at.answers at.place n.id) else tree.name_segment (name.Text n.t)
+-- those that it says
+abbrev said : Bool → Segment → List Name
+said first s = map name_at (names_of (what first s))
 
-dollar_borne : (at : Spot) (first : Bool) (n : AstName) (b : Bool)
-    → names_of (what first (named_or_root at n b)) ≡ borne (if b then None else Some (name.Text n.t))
-dollar_borne at false n true = refl
-dollar_borne at true n true = refl
-dollar_borne at first n false = refl
+abbrev named_or_root : Spot → AstName → SegmentArgs → Bool → Segment
+named_or_root at n a b =
+    if b then tree.dollar_crate_segment (crate_root_at at.answers at.place n.id) else tree.name_segment (name.Text n.t) a
 
-kinded_borne : (at : Spot) (first : Bool) (k : Option SegmentKind) (n : Option AstName)
-    → names_of (what first (kinded_segment at.answers at.place k n)) ≡ borne (name_borne k n)
-kinded_borne at first None n = refl
-kinded_borne at first (Some word.Name) None = refl
-kinded_borne at first (Some word.Name) (Some n) = dollar_borne at first n (bytes_eq n.t (codes "$crate"))
-kinded_borne at false (Some word.SelfKw) n = refl
-kinded_borne at true (Some word.SelfKw) n = refl
-kinded_borne at false (Some word.CrateKw) n = refl
-kinded_borne at true (Some word.CrateKw) n = refl
-kinded_borne at first (Some word.SuperKw) n = refl
-kinded_borne at first (Some word.SelfTypeKw) n = refl
+dollar_said : (at : Spot) (first : Bool) (n : AstName) (a : SegmentArgs) (b : Bool)
+    → said first (named_or_root at n a b) ≡ borne (if b then None else Some (name.Text n.t))
+dollar_said at false n a true = refl
+dollar_said at true n a true = refl
+dollar_said at first n a false = refl
 
-segment_borne : (at : Spot) (first : Bool) (s : AstSegment)
-    → names_of (what first (read_segment at.answers s at.place)) ≡ borne (segment_name s)
-segment_borne at first s = kinded_borne at first s.seg s.name
+qualified_behind : (ty : OptionType) (t : Option PathTypeReading) → said false (qualified_segment ty t) ≡ []
+qualified_behind tree.no_type t = refl
+qualified_behind (tree.some_type ty) None = refl
+qualified_behind (tree.some_type ty) (Some t) = refl
+
+said_behind : (at : Spot) (k : Option SegmentKind) (n : Option AstName) (a : SegmentArgs) (ty : OptionType) (t : Option PathTypeReading)
+    → said false (kinded_segment at.answers at.place k n a ty t) ≡ borne (name_borne k n)
+said_behind at None n a ty t = refl
+said_behind at (Some word.Name) None a ty t = refl
+said_behind at (Some word.Name) (Some n) a ty t = dollar_said at false n a (bytes_eq n.t (codes "$crate"))
+said_behind at (Some word.SelfKw) n a ty t = refl
+said_behind at (Some word.CrateKw) n a ty t = refl
+said_behind at (Some word.SuperKw) n a ty t = refl
+said_behind at (Some word.SelfTypeKw) n a ty t = refl
+said_behind at (Some word.Qualified) n a ty t = qualified_behind ty t
+
+qualified_alone : (ty : OptionType) → said true (qualified_segment ty None) ≡ []
+qualified_alone tree.no_type = refl
+qualified_alone (tree.some_type ty) = refl
+
+-- of a first one without a trait
+said_first : (at : Spot) (k : Option SegmentKind) (n : Option AstName) (a : SegmentArgs) (ty : OptionType) (t : Option AstPathType)
+    → trait_of k t ≡ None → said true (kinded_segment at.answers at.place k n a ty (path_type_part at t)) ≡ borne (name_borne k n)
+said_first at None n a ty t h = refl
+said_first at (Some word.Name) None a ty t h = refl
+said_first at (Some word.Name) (Some n) a ty t h = dollar_said at true n a (bytes_eq n.t (codes "$crate"))
+said_first at (Some word.SelfKw) n a ty t h = refl
+said_first at (Some word.CrateKw) n a ty t h = refl
+said_first at (Some word.SuperKw) n a ty t h = refl
+said_first at (Some word.SelfTypeKw) n a ty t h = refl
+said_first at (Some word.Qualified) n a ty t h = ap (λ x. said true (qualified_segment ty (path_type_part at x))) h ∙ qualified_alone ty
+
+segment_behind : (at : Spot) (s : AstSegment) → said false (answered_segment at s) ≡ borne (segment_name s)
+segment_behind at s = ap (said false) (segment_is_level at s) ∙ said_behind at (out-PathSegment s).seg (out-PathSegment s).name _ _ _
+
+segment_first : (at : Spot) (s : AstSegment) → trait_of (out-PathSegment s).seg (out-PathSegment s).trait_ ≡ None
+    → said true (answered_segment at s) ≡ borne (segment_name s)
+segment_first at s h = ap (said true) (segment_is_level at s)
+    ∙ said_first at (out-PathSegment s).seg (out-PathSegment s).name _ _ (out-PathSegment s).trait_ h
 
 -- ---- the names of all
+
+abbrev all_names : List Item → List Name
+all_names is = map name_at (rule.names is)
 
 abbrev front : Bool → Segment → Item
 front leading s = record { leading = leading; what = what true s }
@@ -92,56 +138,211 @@ one_more ns s ss e = by (segment_name s) refl
     by None h = e
     by (Some n) h = λ j. sym h j ∷ e j
 
-present : (a b : Bool) → (a && b) ≡ true → b ≡ true
-present true b h = h
-present false b h = absurd (clash (sym h))
+one_said : (i : Item) (is : List Item) (s : AstSegment) (ss : List AstSegment) → map name_at (names_of i.what) ≡ borne (segment_name s)
+    → map Some (all_names is) ≡ map segment_name ss
+    → map Some (all_names (i ∷ is)) ≡ map segment_name (if is_some (segment_name s) then s ∷ ss else ss)
+one_said i is s ss h e =
+    ap (map Some) (map-append name_at (names_of i.what) (rule.names is) ∙ ap (λ ns. ns ++ all_names is) h) ∙ one_more (all_names is) s ss e
 
 names_behind : (at : Spot) (ss : List (Option AstSegment)) → all_present ss ≡ true
-    → map Some (rule.names (items (segments_part at ss) [])) ≡ map segment_name (named_among ss)
+    → map Some (all_names (items (segments_part at ss) [])) ≡ map segment_name (named_among ss)
 names_behind at [] h = refl
 names_behind at (None ∷ ss) h = absurd (clash (sym h))
-names_behind at (Some s ∷ ss) h =
-    ap (λ ns. map Some (ns ++ rule.names (items (segments_part at ss) []))) (segment_borne at false s)
-    ∙ one_more (rule.names (items (segments_part at ss) [])) s (named_among ss) (names_behind at ss h)
+names_behind at (Some s ∷ ss) h = one_said (record { leading = false; what = what false (answered_segment at s) })
+    (items (segments_part at ss) []) s (named_among ss) (segment_behind at s) (names_behind at ss h)
 
-names_first : (at : Spot) (leading : Bool) (ss : List (Option AstSegment)) → none_missing ss ≡ true
-    → map Some (rule.names (front leading (first_part at ss) ∷ items (rest_part at ss) [])) ≡ map segment_name (named_among ss)
-names_first at leading [] h = absurd (clash (sym h))
-names_first at leading (None ∷ ss) h = absurd (clash (sym h))
-names_first at leading (Some s ∷ ss) h =
-    ap (λ ns. map Some (ns ++ rule.names (items (segments_part at ss) []))) (segment_borne at true s)
-    ∙ one_more (rule.names (items (segments_part at ss) [])) s (named_among ss) (names_behind at ss h)
+names_first : (at : Spot) (leading : Bool) (ss : List (Option AstSegment)) → none_missing ss ≡ true → first_trait ss ≡ None
+    → map Some (all_names (front leading (first_part at ss) ∷ items (rest_part at ss) [])) ≡ map segment_name (named_among ss)
+names_first at leading [] h t = absurd (clash (sym h))
+names_first at leading (None ∷ ss) h t = absurd (clash (sym h))
+names_first at leading (Some s ∷ ss) h t = one_said (front leading (answered_segment at s))
+    (items (segments_part at ss) []) s (named_among ss) (segment_first at s t) (names_behind at ss h)
 
--- ---- the path
+-- ---- a path that is read
 
-abbrev said : Option PathData → List Name
-said None = []
-said (Some x) = path_names x
+map_reverse : {A B : Type 0} (f : A → B) (xs : List A) → map f (reverse xs) ≡ reverse (map f xs)
+map_reverse f [] = refl
+map_reverse f (x ∷ xs) =
+    ap (map f) (reverse-append (x ∷ []) xs)
+    ∙ (map-append f (reverse xs) (x ∷ [])
+    ∙ (ap (λ l. l ++ f x ∷ []) (map_reverse f xs)
+    ∙ sym (reverse-append (f x ∷ []) (map f xs))))
 
-named_by_read : (is : List Item) (d : PathData) → data_read is ≡ Some d → path_names d ≡ rule.names is
-named_by_read is d h = by (refused is) h
+-- the last of a list is changed, and its names aren't
+last_changed : (f : List Named → List Named) → ((ns : List Named) → map name_at (f ns) ≡ map name_at ns) → (ns : List Named)
+    → map name_at (reverse (f (reverse ns))) ≡ map name_at ns
+last_changed f h ns = map_reverse name_at (f (reverse ns))
+    ∙ (ap reverse (h (reverse ns) ∙ map_reverse name_at ns) ∙ reverse-reverse (map name_at ns))
+
+without_names : (ns : List Named) → map name_at (first_without_self ns) ≡ map name_at ns
+without_names [] = refl
+without_names (n ∷ ns) = refl
+
+behind_names : (t : TypeData) (ns : List Named) → map name_at (first_behind_self t ns) ≡ map name_at ns
+behind_names t [] = refl
+behind_names t (n ∷ ns) = refl
+
+abbrev names_read : Option PathRead → List Name
+names_read None = []
+names_read (Some x) = map name_at x.names
+
+read_named : (is : List Item) (x : PathRead) → path_read is ≡ Some x → map name_at x.names ≡ all_names is
+read_named is x h = by (refused is) h
   where
-    by : (b : Bool) → (if b then None else Some (data_of is)) ≡ Some d → path_names d ≡ rule.names is
-    by false e = sym (ap said e)
-    by true e = absurd (clash (sym (ap is_some e)))
+    by : (b : Bool) → (if b then None else Some (read_of is)) ≡ Some x → map name_at x.names ≡ all_names is
+    by false e = sym (ap names_read e) ∙ last_changed first_without_self without_names (rule.names is)
+    by true e = absurd (no_some e)
 
-level_named : (leading : Bool) (first : Segment) (rest : Segments) (use_ : OptionPath) (d : PathData) → use_ ≡ tree.no_path
-    → written_path (tree.some_path (tree.path leading first rest use_)) ≡ Some d
-    → path_names d ≡ rule.names (front leading first ∷ items rest [])
-level_named leading first rest use_ d u e =
+-- a path of this level is read whole
+level_read : (leading : Bool) (first : Segment) (rest : Segments) (use_ : OptionPath) (x : PathRead) → use_ ≡ tree.no_path
+    → path_of (tree.some_path (tree.path leading first rest use_)) ≡ Some x → path_read (front leading first ∷ items rest []) ≡ Some x
+level_read leading first rest use_ x u e =
     let is = front leading first ∷ items rest [] in
     let whole : read (segments (tree.path leading first rest use_) []) ≡ is = rw u (read_all (front leading first) rest) in
-    named_by_read is d (ap data_read (sym whole) ∙ e)
+    ap path_read (sym whole) ∙ e
 
 no_use : (at : Spot) (x : Option AstPath) → x ≡ None → path_part at x ≡ tree.no_path
 no_use at x h = ap (path_part at) h
 
-pub segment_law : (at : Spot) (p : AstPath) (d : PathData) → (out-Path p).use_ ≡ None → none_missing (out-Path p).segs ≡ true
+answered_read : (at : Spot) (p : AstPath) (x : PathRead) → (out-Path p).use_ ≡ None → path_of (tree.some_path (answered_path at p)) ≡ Some x
+    → path_read (front (out-Path p).leading (first_part at (out-Path p).segs) ∷ items (rest_part at (out-Path p).segs) []) ≡ Some x
+answered_read at p x u e =
+    let o = out-Path p in
+    level_read o.leading (first_part at o.segs) (rest_part at o.segs) (path_part at o.use_) x (no_use at o.use_ u)
+    (ap (λ y. path_of (tree.some_path y)) (sym (path_is_level at p)) ∙ e)
+
+-- without a trait
+plain_named : (at : Spot) (p : AstPath) (x : PathRead) → Whole p → first_trait (out-Path p).segs ≡ None
+    → path_of (tree.some_path (answered_path at p)) ≡ Some x
+    → map Some (map name_at x.names) ≡ map segment_name (named_among (out-Path p).segs)
+plain_named at p x w t e =
+    let o = out-Path p in
+    ap (map Some) (read_named (front o.leading (first_part at o.segs) ∷ items (rest_part at o.segs) []) x (answered_read at p x w.0 e))
+    ∙ names_first at o.leading o.segs w.1 t
+
+-- ---- a path with a trait
+
+unqualified : (k : Option SegmentKind) (t : Option AstPathType) → not (is_qualified k) ≡ true → trait_of k t ≡ None
+unqualified None t h = refl
+unqualified (Some word.Name) t h = refl
+unqualified (Some word.SelfKw) t h = refl
+unqualified (Some word.CrateKw) t h = refl
+unqualified (Some word.SuperKw) t h = refl
+unqualified (Some word.SelfTypeKw) t h = refl
+unqualified (Some word.Qualified) t h = absurd (clash (sym h))
+
+left : (a b : Bool) → (a && b) ≡ true → a ≡ true
+left true b h = refl
+left false b h = h
+
+no_trait : (ss : List (Option AstSegment)) → none_qualified ss ≡ true → first_trait ss ≡ None
+no_trait [] h = refl
+no_trait (None ∷ ss) h = refl
+no_trait (Some s ∷ ss) h =
+    let k = (out-PathSegment s).seg in
+    unqualified k (out-PathSegment s).trait_ (left (not (is_qualified k)) (none_qualified ss) h)
+
+named_append : (xs ys : List (Option AstSegment)) → named_among (xs ++ ys) ≡ named_among xs ++ named_among ys
+named_append [] ys = refl
+named_append (None ∷ xs) ys = named_append xs ys
+named_append (Some s ∷ xs) ys = by (is_some (segment_name s)) (named_append xs ys)
+  where
+    by : (b : Bool) → named_among (xs ++ ys) ≡ named_among xs ++ named_among ys
+        → (if b then s ∷ named_among (xs ++ ys) else named_among (xs ++ ys))
+        ≡ (if b then s ∷ named_among xs else named_among xs) ++ named_among ys
+    by true e = ap (λ l. s ∷ l) e
+    by false e = e
+
+-- it stands in the tree
+trait_first : (at : Spot) (k : Option SegmentKind) (n : Option AstName) (a : SegmentArgs) (ty : OptionType)
+    (tr : Option AstPathType) (t : AstPathType)
+    → trait_of k tr ≡ Some t
+    → kinded_segment at.answers at.place k n a ty (path_type_part at tr) ≡ qualified_segment ty (Some (answered_path_type at t))
+trait_first at None n a ty tr t h = absurd (no_some h)
+trait_first at (Some word.Name) n a ty tr t h = absurd (no_some h)
+trait_first at (Some word.SelfKw) n a ty tr t h = absurd (no_some h)
+trait_first at (Some word.CrateKw) n a ty tr t h = absurd (no_some h)
+trait_first at (Some word.SuperKw) n a ty tr t h = absurd (no_some h)
+trait_first at (Some word.SelfTypeKw) n a ty tr t h = absurd (no_some h)
+trait_first at (Some word.Qualified) n a ty tr t h = ap (λ x. qualified_segment ty (path_type_part at x)) h
+
+-- the names of the trait, then those behind it
+trait_names : (at : Spot) (q : Option AstPath) (x : PathRead) → PlainPath q → path_of (path_part at q) ≡ Some x
+    → (ss : List (Option AstSegment))
+    → (ns : List Name) → map Some ns ≡ map segment_name (named_among ss)
+    → map Some (map name_at x.names ++ ns) ≡ map segment_name (behind_trait q ss)
+trait_names at None x w e ss ns h = absurd (no_some e)
+trait_names at (Some q) x w e ss ns h =
+    map-append Some (map name_at x.names) ns
+    ∙ ((λ j. plain_named at q x w.0 (no_trait (out-Path q).segs w.1) e j ++ h j)
+    ∙ (sym (map-append segment_name (named_among (out-Path q).segs) (named_among ss))
+    ∙ ap (map segment_name) (sym (named_append (out-Path q).segs ss))))
+
+-- of a qualified type in front
+qualified_named : (at : Spot) (leading : Bool) (ty : OptionType) (r : PathTypeReading) (rest : Segments) (x : PathRead)
+    → path_read (front leading (qualified_segment ty (Some r)) ∷ items rest []) ≡ Some x
+    → (Q : List Name → Type 0) → ((y : PathRead) → path_of r.path ≡ Some y → Q (map name_at y.names ++ all_names (items rest [])))
+    → Q (map name_at x.names)
+qualified_named at leading tree.no_type r rest x e Q k = absurd (no_some e)
+qualified_named at leading (tree.some_type ty) r rest x e Q k = by (path_of r.path) refl
+  where
+    abbrev_items : Option PathRead → List Item
+    abbrev_items y = record { leading = leading; what = rule.projection (type_data None ty) y } ∷ items rest []
+
+    changed : (ns : List Named) → map name_at (last_behind_self (type_data None ty) ns) ≡ map name_at ns
+    changed = last_changed (first_behind_self (type_data None ty)) (behind_names (type_data None ty))
+
+    by : (y : Option PathRead) → path_of r.path ≡ y → Q (map name_at x.names)
+    by None h = absurd (no_some (sym (ap (λ y. path_read (abbrev_items y)) h) ∙ e))
+    by (Some y) h = subst Q
+        (sym (read_named (abbrev_items (Some y)) x (sym (ap (λ z. path_read (abbrev_items z)) h) ∙ e)
+        ∙ (map-append name_at (last_behind_self (type_data None ty) y.names) (rule.names (items rest []))
+        ∙ ap (λ ns. ns ++ all_names (items rest [])) (changed y.names))))
+        (k y h)
+
+path_type_path : (at : Spot) (t : AstPathType) → (answered_path_type at t).path ≡ path_part at (out-PathType t).path
+path_type_path at t = ap (λ r. r.path) (path_type_is_level at t)
+
+trait_named : (at : Spot) (leading : Bool) (ss : List (Option AstSegment)) (t : AstPathType) (x : PathRead) → none_missing ss ≡ true
+    → first_trait ss ≡ Some t → PlainTrait (Some t)
+    → path_read (front leading (first_part at ss) ∷ items (rest_part at ss) []) ≡ Some x
+    → map Some (map name_at x.names) ≡ map segment_name (behind_trait (out-PathType t).path (all_but_first ss))
+trait_named at leading [] t x m h w e = absurd (clash (sym m))
+trait_named at leading (None ∷ ss) t x m h w e = absurd (clash (sym m))
+trait_named at leading (Some s ∷ ss) t x m h w e =
+    let o = out-PathSegment s in
+    let r = answered_path_type at t in
+    let ns = all_names (items (segments_part at ss) []) in
+    let first = segment_is_level at s ∙ trait_first at o.seg o.name _ _ o.trait_ t h in
+    qualified_named at leading _ r (segments_part at ss) x
+    (ap (λ y. path_read (front leading y ∷ items (segments_part at ss) [])) (sym first) ∙ e)
+    (λ l. map Some l ≡ map segment_name (behind_trait (out-PathType t).path ss))
+    (λ y k. trait_names at (out-PathType t).path y w (ap path_of (sym (path_type_path at t)) ∙ k) ss ns (names_behind at ss m))
+
+-- ---- the law
+
+replaced_named : (at : Spot) (p : AstPath) (x : PathRead) (tr : Option AstPathType) → first_trait (out-Path p).segs ≡ tr → Whole p
+    → PlainTrait tr
+    → path_of (tree.some_path (answered_path at p)) ≡ Some x
+    → map Some (map name_at x.names) ≡ map segment_name (replaced tr (out-Path p).segs)
+replaced_named at p x None h w t e = plain_named at p x w h e
+replaced_named at p x (Some tr) h w t e =
+    trait_named at (out-Path p).leading (out-Path p).segs tr x w.1 h t (answered_read at p x w.0 e)
+
+listed : (ns : List Named) → names_in (names_data ns) ≡ map name_at ns
+listed [] = refl
+listed (n ∷ ns) = ap (λ l. n.name ∷ l) (listed ns)
+
+abbrev names_of_data : Option PathData → List Name
+names_of_data None = []
+names_of_data (Some d) = path_names d
+
+pub segment_law : (at : Spot) (p : AstPath) (d : PathData) → Whole p → PlainTrait (first_trait (out-Path p).segs)
     → written_path (tree.some_path (answered_path at p)) ≡ Some d → map Some (path_names d) ≡ map segment_name (named_segments p)
-segment_law at p d u m e =
-    let x = out-Path p in
-    let level : written_path (tree.some_path (path_level at p)) ≡ Some d =
-    ap (λ y. written_path (tree.some_path y)) (sym (path_is_level at p)) ∙ e in
-    ap (map Some) (level_named x.leading (first_part at x.segs) (rest_part at x.segs) (path_part at x.use_) d
-    (no_use at x.use_ u) level)
-    ∙ names_first at x.leading x.segs m
+segment_law at p d w t e = by (path_of (tree.some_path (answered_path at p))) refl e
+  where
+    by : (y : Option PathRead) → path_of (tree.some_path (answered_path at p)) ≡ y → option_map data_of y ≡ Some d
+        → map Some (path_names d) ≡ map segment_name (named_segments p)
+    by None h k = absurd (no_some k)
+    by (Some x) h k = ap (map Some) (sym (ap names_of_data k) ∙ listed x.names)
+        ∙ replaced_named at p x (first_trait (out-Path p).segs) refl w t h

@@ -2,6 +2,8 @@
 use Rattle.std.proofs.Common.{refl}
 use Rattle.hir_data.specs.Worked.{SuperAfterSelf, KeywordsInside, CrateHidesSupers, DollarCrateIsARoot, SupersInside}
 use Rattle.hir_data.specs.Worked.{SelfAlone, UseTreesStandInFront, AbsentIsMissing}
+use Rattle.hir_data.specs.Worked.{TraitInPlace, TypeInFront, OutputIsBound, BinderOfFunctions}
+use Rattle.hir_data.specs.Worked.{BoundsOfKinds, FirstOfLists, BindingsOfLists}
 
 pub counts_super_after_self : SuperAfterSelf
 counts_super_after_self = refl
@@ -26,3 +28,24 @@ reads_use_trees_in_front = (refl, refl, refl)
 
 pub names_what_is_absent : AbsentIsMissing
 names_what_is_absent = (refl, refl, refl)
+
+pub puts_traits_in_place : TraitInPlace
+puts_traits_in_place t at = (refl, refl, refl)
+
+pub reads_types_in_front : TypeInFront
+reads_types_in_front t = refl
+
+pub binds_output : OutputIsBound
+binds_output a b = (refl, refl, refl)
+
+pub hands_binders_on : BinderOfFunctions
+hands_binders_on at within h b t = (refl, refl, refl)
+
+pub reads_bounds : BoundsOfKinds
+reads_bounds at n = (refl, refl, refl, refl)
+
+pub takes_the_first_list : FirstOfLists
+takes_the_first_list t b = (refl, refl, refl, refl)
+
+pub reads_bindings : BindingsOfLists
+reads_bindings t u n l = (refl, refl, refl)

@@ -1,8 +1,8 @@
 -- How a path is looked up.
-use Rattle.std.specs.Prelude.{List, [], ◌∷◌}
+use Rattle.std.specs.Prelude.{true, false, List, [], ◌∷◌}
 use Rattle.hir_store.specs.declared.name.Name.{Name}
 use Rattle.hir_store.specs.declared.ids.HygieneId.{HygieneId}
-use Rattle.hir_data.specs.Data.{PathData, path_names}
+use Rattle.hir_data.specs.Data.{PathData, path_data, names_in}
 
 -- one of at most one name with the hygiene of its node, a longer one with the root's
 abbrev pub hygiene_for : List Name → HygieneId → HygieneId
@@ -10,5 +10,7 @@ hygiene_for [] h = h
 hygiene_for (n ∷ []) h = h
 hygiene_for (n ∷ m ∷ ns) h = record { 0 = 0 }
 
+-- and with the root's one that is relative to a type or has arguments
 abbrev pub lookup_hygiene : PathData → HygieneId → HygieneId
-lookup_hygiene p h = hygiene_for (path_names p) h
+lookup_hygiene (path_data k anchor ns true) h = hygiene_for (names_in ns) h
+lookup_hygiene (path_data k anchor ns false) h = record { 0 = 0 }

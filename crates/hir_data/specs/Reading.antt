@@ -1,7 +1,177 @@
--- The data of what is stored.
+-- The data of what is stored, read back from numbers.
+use Rattle.std.specs.Prelude.{ℕ, zero, suc, true, false, List, [], ◌∷◌, length, map, slice_get, Option, Some, None, option_map}
+use Rattle.hir_store.specs.Pointers.{Pointer, flattened}
+use Rattle.hir_store.specs.Stored.{Store, SourceMap}
+use Rattle.hir_store.specs.declared.ids.TypeRefId.{TypeRefId}
+use Rattle.hir_store.specs.declared.ids.LifetimeRefId.{LifetimeRefId}
+use Rattle.hir_store.specs.declared.name.Name.{Name}
+use Rattle.hir_store.specs.declared.name.Name.TheVariants as name
 use Rattle.hir_store.specs.declared.path.Path.{Path}
-use Rattle.hir_store.specs.declared.path.Path.TheVariants.{BarePath}
-use Rattle.hir_data.specs.Data.{PathData, path_data}
+use Rattle.hir_store.specs.declared.path.Path.TheVariants.{BarePath, Normal}
+use Rattle.hir_store.specs.declared.path.GenericArg.{GenericArg}
+use Rattle.hir_store.specs.declared.path.GenericArg.TheVariants as arg
+use Rattle.hir_store.specs.declared.path.GenericArgs.{GenericArgs}
+use Rattle.hir_store.specs.declared.path.GenericArgsParentheses.TheVariants as parens
+use Rattle.hir_store.specs.declared.path.AssociatedTypeBinding.TheOpen.{AssociatedTypeBinding-F, GenericArgs-F}
+use Rattle.hir_store.specs.declared.path.AssociatedTypeBinding.{AssociatedTypeBinding}
+use Rattle.hir_store.specs.declared.path.AssociatedTypeBinding.TheFolds.{fold-AssociatedTypeBinding, fold-GenericArgs}
+use Rattle.hir_store.specs.declared.type_ref.LifetimeRef.{LifetimeRef}
+use Rattle.hir_store.specs.declared.type_ref.LifetimeRef.TheVariants as lifetime
+use Rattle.hir_store.specs.declared.type_ref.UseArgRef.{UseArgRef}
+use Rattle.hir_store.specs.declared.type_ref.UseArgRef.TheVariants as use_arg
+use Rattle.hir_store.specs.declared.type_ref.TypeBound.{TypeBound}
+use Rattle.hir_store.specs.declared.type_ref.TypeBound.TheVariants as bound
+use Rattle.hir_store.specs.declared.type_ref.TypeRef.{TypeRef}
+use Rattle.hir_store.specs.declared.type_ref.TypeRef.TheVariants as ty
+use Rattle.hir_store.specs.declared.type_ref.FnType.{FnType}
+use Rattle.hir_env.specs.Answered.{FnHead}
+use Rattle.hir_data.specs.Data as datum
+use Rattle.hir_data.specs.Data.{LifetimeData, UseData, TypeData, typed, Shape, OptionTypeData, TypesData, PathData, NamesData}
+use Rattle.hir_data.specs.Data.{OptionArgsData, no_args, some_args, ArgsData, args_data, ArgumentData, ArgumentsData}
+use Rattle.hir_data.specs.Data.{BindingData, BindingsData, BoundData, BoundsData}
 
-abbrev pub stored_path : Path → PathData
-stored_path (BarePath p) = path_data p.kind p.segments
+-- how the parts of an entry are read
+pub record Readers : Type 0 where
+  pub type : TypeRefId → TypeData
+
+-- the names of a bare path, beside which nothing stands
+abbrev pub names_alone : List Name → NamesData
+names_alone [] = datum.no_names
+names_alone (n ∷ ns) = datum.more_names n no_args (names_alone ns)
+
+-- A plain list with nothing in it is never written, so names that have it beside them are those of no written path.
+abbrev pub never_written : NamesData
+never_written = datum.more_names name.Missing
+    (some_args (args_data datum.no_arguments false datum.no_bindings parens.No)) datum.no_names
+
+-- names, each with what stands beside it, where they are as many
+abbrev pub names_beside : List Name → List OptionArgsData → NamesData
+names_beside [] [] = datum.no_names
+names_beside [] (a ∷ as') = never_written
+names_beside (n ∷ ns) [] = never_written
+names_beside (n ∷ ns) (a ∷ as') = datum.more_names n a (names_beside ns as')
+
+module _ (store : Store) (source_map : SourceMap) where
+  abbrev pub lifetime_found : Option LifetimeRef → LifetimeRef
+  lifetime_found None = lifetime.Error
+  lifetime_found (Some l) = l
+
+  -- a lifetime, and the node that it came from, where it came from one
+  abbrev pub stored_lifetime : LifetimeRefId → LifetimeData
+  stored_lifetime i = record {
+    lifetime = lifetime_found (slice_get store.lifetimes i.0);
+    from = flattened (slice_get source_map.lifetime_sources i.0);
+  }
+
+  abbrev pub use_layer : UseArgRef → UseData
+  use_layer (use_arg.Name n) = datum.name_used n
+  use_layer (use_arg.Lifetime l) = datum.lifetime_used (stored_lifetime l)
+
+  -- ---- one entry
+
+  module _ (r : Readers) where
+    -- types before others
+    abbrev pub types_layer : List TypeRefId → TypesData → TypesData
+    types_layer [] behind = behind
+    types_layer (t ∷ ts) behind = datum.more_types (r.type t) (types_layer ts behind)
+
+    abbrev pub present_layer : Option TypeRefId → OptionTypeData
+    present_layer None = datum.no_type
+    present_layer (Some t) = datum.some_type (r.type t)
+
+    abbrev pub bound_layer : TypeBound → BoundData
+    bound_layer (bound.Path t m) = datum.path_bound (r.type t) m
+    bound_layer (bound.ForLifetime ns t) = datum.for_bound ns (r.type t)
+    bound_layer (bound.Lifetime l) = datum.lifetime_bound (stored_lifetime l)
+    bound_layer (bound.Use us) = datum.use_bound (map use_layer us)
+    bound_layer bound.Error = datum.error_bound
+
+    abbrev pub bounds_layer : List TypeBound → BoundsData
+    bounds_layer [] = datum.no_bounds
+    bounds_layer (b ∷ bs) = datum.more_bounds (bound_layer b) (bounds_layer bs)
+
+    abbrev pub argument_layer : GenericArg → ArgumentData
+    argument_layer (arg.Type_ t) = datum.type_argument (r.type t)
+    argument_layer (arg.Lifetime l) = datum.lifetime_argument (stored_lifetime l)
+
+    abbrev pub arguments_layer : List GenericArg → ArgumentsData → ArgumentsData
+    arguments_layer [] behind = behind
+    arguments_layer (a ∷ as') behind = datum.more_arguments (argument_layer a) (arguments_layer as' behind)
+
+    -- arguments hold bindings, which hold arguments
+
+    abbrev pub listed : Option ArgsData → OptionArgsData
+    listed None = no_args
+    listed (Some a) = some_args a
+
+    abbrev pub bindings_listed : List BindingData → BindingsData
+    bindings_listed [] = datum.no_bindings
+    bindings_listed (b ∷ bs) = datum.more_bindings b (bindings_listed bs)
+
+    abbrev pub binding_step : AssociatedTypeBinding-F BindingData ArgsData → BindingData
+    binding_step b = datum.binding_data b.name (listed b.args) (present_layer b.type_ref) (bounds_layer b.bounds)
+
+    abbrev pub args_step : GenericArgs-F BindingData ArgsData → ArgsData
+    args_step a = args_data (arguments_layer a.args datum.no_arguments) a.has_self_type (bindings_listed a.bindings) a.parenthesized
+
+    unfoldable pub args_layer : GenericArgs → ArgsData
+    args_layer = fold-GenericArgs BindingData ArgsData binding_step args_step
+
+    unfoldable pub binding_layer : AssociatedTypeBinding → BindingData
+    binding_layer = fold-AssociatedTypeBinding BindingData ArgsData binding_step args_step
+
+    abbrev pub bindings_layer : List AssociatedTypeBinding → BindingsData → BindingsData
+    bindings_layer [] behind = behind
+    bindings_layer (b ∷ bs) behind = datum.more_bindings (binding_layer b) (bindings_layer bs behind)
+
+    abbrev pub list_layer : Option GenericArgs → OptionArgsData
+    list_layer None = no_args
+    list_layer (Some a) = some_args (args_layer a)
+
+    abbrev pub path_layer : Path → PathData
+    path_layer (BarePath p) = datum.path_data p.kind datum.no_type (names_alone p.segments) true
+    path_layer (Normal p) =
+        let ns = names_beside p.mod_path.segments (map list_layer p.generic_args) in
+        datum.path_data p.mod_path.kind (present_layer p.type_anchor) ns false
+
+    abbrev pub fn_layer : FnType → Shape
+    fn_layer f =
+        let head : FnHead = record { is_unsafe = f.is_unsafe; abi = f.abi; is_varargs = f.is_varargs } in
+        datum.fn_shape head f.binder (types_layer f.params datum.no_types)
+
+    abbrev pub shape_layer : TypeRef → Shape
+    shape_layer ty.Never = datum.never_shape
+    shape_layer ty.Placeholder = datum.infer_shape
+    shape_layer ty.Error = datum.error_shape
+    shape_layer (ty.Tuple ts) = datum.tuple_shape (types_layer ts datum.no_types)
+    shape_layer (ty.Path p) = datum.path_shape (path_layer p)
+    shape_layer (ty.RawPtr t m) = datum.pointer_shape m (r.type t)
+    shape_layer (ty.Reference x) = datum.reference_shape (r.type x.ty) (option_map stored_lifetime x.lifetime) x.mutability
+    shape_layer (ty.Slice t) = datum.slice_shape (r.type t)
+    shape_layer (ty.Fn f) = fn_layer f
+    shape_layer (ty.ImplTrait bs) = datum.impl_shape (bounds_layer bs)
+    shape_layer (ty.DynTrait bs) = datum.dyn_shape (bounds_layer bs)
+
+    abbrev pub shape_found : Option TypeRef → Shape
+    shape_found None = datum.error_shape
+    shape_found (Some t) = shape_layer t
+
+  -- ---- all
+
+  abbrev pub type_source : TypeRefId → Option Pointer
+  type_source i = flattened (slice_get source_map.type_sources i.0)
+
+  -- with at most so many types inside one another
+  unfoldable pub readers : ℕ → Readers
+  readers zero = record { type = λ i. typed None datum.error_shape }
+  readers (suc d) = record { type = λ i. typed (type_source i) (shape_found (readers d) (slice_get store.types i.0)) }
+
+  -- no more than there are can be inside one another
+  unfoldable pub stored_type : TypeRefId → TypeData
+  stored_type i = (readers (length store.types)).type i
+
+  unfoldable pub stored_path : Path → PathData
+  stored_path p = path_layer (readers (length store.types)) p
+
+  unfoldable pub stored_args : Option GenericArgs → OptionArgsData
+  stored_args a = list_layer (readers (length store.types)) a

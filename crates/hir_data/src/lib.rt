@@ -1,14 +1,24 @@
-//! What is written and what is stored as data, the same on both sides: paths so far. A law is a function whose contract is
-//! the law; those of single paths are computed.
+//! What is written and what is stored as data, the same on both sides: lifetimes, types, paths, arguments and bounds. A
+//! law is a function whose contract is the law; those of single paths and types are computed.
 #![tactic(auto)]
 
+ghost use Rattle.hir_data.specs.Arguments.{ArgumentLaw};
 ghost use Rattle.hir_data.specs.Segments.{SegmentLaw};
 ghost use Rattle.hir_data.specs.Worked.{SuperAfterSelf, KeywordsInside, CrateHidesSupers, DollarCrateIsARoot, SupersInside};
 ghost use Rattle.hir_data.specs.Worked.{SelfAlone, UseTreesStandInFront, AbsentIsMissing};
+ghost use Rattle.hir_data.specs.Worked.{TraitInPlace, TypeInFront, OutputIsBound, BinderOfFunctions};
+ghost use Rattle.hir_data.specs.Worked.{BoundsOfKinds, FirstOfLists, BindingsOfLists};
+ghost use Rattle.hir_data.specs.Trees.{ImplsInside, LifetimesOfTexts, AbisOfTexts, VarargsAtTheEnd};
 
-/// The names of a path are those of its named segments, where no use tree stands around it and no segment is missing.
+/// The names of a path are those of its named segments, where no use tree stands around it or its trait, no segment of
+/// either is missing, and the trait has no qualified type.
 pub fn segment_law()
     ensures { SegmentLaw }
+{}
+
+/// The arguments of a list are those of its kept arguments, and its bindings are those of its kept bindings.
+pub fn argument_law()
+    ensures { ArgumentLaw }
 {}
 
 /// `self::super::A` is `super::A`.
@@ -49,4 +59,60 @@ pub fn reads_use_trees_in_front()
 /// `A::` ends with the missing name.
 pub fn names_what_is_absent()
     ensures { AbsentIsMissing }
+{}
+
+/// `<T as B::D>::E` is `B::D::E` with `T` before D's arguments, `<T as B>` is `B`, but isn't bare, and a trait without names refuses.
+pub fn puts_traits_in_place()
+    ensures { TraitInPlace }
+{}
+
+/// `<T>::E` is `E` relative to `T`.
+pub fn reads_types_in_front()
+    ensures { TypeInFront }
+{}
+
+/// `Fn(A) -> B` binds `Output` to `B`, `Fn(A)` to `()`, and `Fn(A) ->` to an error.
+pub fn binds_output()
+    ensures { OutputIsBound }
+{}
+
+/// A `for` reaches a function pointer through parentheses, no other type, and none inside of that pointer.
+pub fn hands_binders_on()
+    ensures { BinderOfFunctions }
+{}
+
+/// A bound by a path is a plain one, one with `?`, or behind `for<..>` one with its names and without `?`; it is an error where
+/// the path is refused.
+pub fn reads_bounds()
+    ensures { BoundsOfKinds }
+{}
+
+/// Of `A<T>(B)` the first list counts, of `A<>(B)` the second, and of `A<>(..)` the dots do.
+pub fn takes_the_first_list()
+    ensures { FirstOfLists }
+{}
+
+/// A list has its bindings apart from its arguments; in `N<T>(..)` the dots don't count; a list of nothing is none.
+pub fn reads_bindings()
+    ensures { BindingsOfLists }
+{}
+
+/// As they are written, `impl A<impl B>` and `impl Fn(!) -> impl B` have an error inside, and `impl A<T = impl B>` has an `impl`.
+pub fn reads_impls()
+    ensures { ImplsInside }
+{}
+
+/// The empty text and `'` are errors, `'static` and `'_` are no names, and `'a` is one.
+pub fn reads_lifetimes()
+    ensures { LifetimesOfTexts }
+{}
+
+/// No `extern` is `Rust`, one without a text is `C`, and so is one whose text isn't known.
+pub fn reads_abis()
+    ensures { AbisOfTexts }
+{}
+
+/// `fn(!, ...)` has varargs, and `fn(..., !)` has none: a variadic parameter is no type, wherever it stands.
+pub fn reads_varargs()
+    ensures { VarargsAtTheEnd }
 {}

@@ -1,6 +1,6 @@
 -- A tree with all that the environment says of it written into it. What lowering does, how a body runs and what is
 -- wrong with it are each a recursion over this one family.
-use Rattle.std.specs.Prelude.{Option, Bool}
+use Rattle.std.specs.Prelude.{List, Option, Bool}
 use Rattle.hir_syntax.specs.declared.ast.UnaryOp.{UnaryOp}
 use Rattle.hir_syntax.specs.declared.ast.LogicOp.{LogicOp}
 use Rattle.hir_syntax.specs.declared.ast.BinaryOp.{BinaryOp}
@@ -13,7 +13,10 @@ use Rattle.hir_store.specs.declared.ids.BlockId.{BlockId}
 use Rattle.hir_store.specs.declared.name.Name.{Name}
 use Rattle.hir_store.specs.declared.hir.Rawness.{Rawness}
 use Rattle.hir_store.specs.declared.hir.Mutability.{Mutability}
+use Rattle.hir_store.specs.declared.type_ref.LifetimeRef.{LifetimeRef}
+use Rattle.hir_store.specs.declared.type_ref.ExternAbi.{ExternAbi}
 use Rattle.hir_store.specs.declared.diagnostics.AwaitLocation.{AwaitLocation}
+use Rattle.hir_env.specs.declared.place.ImplTrait.{ImplTrait}
 use Rattle.hir_env.specs.Answers.{Contexts}
 
 -- a label, with the hygiene of its node; its name is missing where it has no lifetime
@@ -28,6 +31,36 @@ pub record Jump : Type 0 where
   pub name : Name
   pub hygiene : HygieneId
   pub contexts : Contexts
+
+-- a lifetime, with its node
+pub record Lifetime : Type 0 where
+  pub pointer : Pointer
+  pub lifetime : LifetimeRef
+
+-- the lifetimes that a `for` introduces
+abbrev pub Binder : Type 0
+Binder = List Name
+
+-- what a `use<..>` names
+pub data UseRead : Type 0 where
+  used_name : Name → UseRead
+  used_lifetime : Lifetime → UseRead
+
+-- how a function pointer is written around its types; it has varargs where the last of its parameters is variadic
+pub record FnHead : Type 0 where
+  pub is_unsafe : Bool
+  pub abi : ExternAbi
+  pub is_varargs : Bool
+
+-- families of types, by their parts
+
+pub data TypeLeaf : Type 0 where
+  never_leaf : TypeLeaf
+  infer_leaf : TypeLeaf
+
+pub data TypeUnary : Type 0 where
+  pointer_to : Mutability → TypeUnary
+  slice_of : TypeUnary
 
 -- families of forms, by their operands
 
@@ -59,6 +92,31 @@ pub data Leaving : Type 0 where
   yeeting : Leaving
 
 mutual
+  pub data Type_ : Type 0 where
+    paren_type : OptionType → Type_
+    for_type : Binder → OptionType → Type_
+    leaf_type : Pointer → TypeLeaf → Type_
+    over_type : Pointer → TypeUnary → OptionType → Type_
+    tuple_type : Pointer → Parts → Type_
+    path_type : Pointer → OptionPath → Type_
+    ref_type : Pointer → Option Lifetime → Mutability → OptionType → Type_
+    -- its parameters that aren't variadic, and what it returns
+    fn_type : Pointer → FnHead → Parts → OptionType → Type_
+    -- with what an `impl` becomes here
+    impl_type : Pointer → ImplTrait → Bounds → Type_
+    -- an `impl` inside of an `impl`
+    nested_impl : Pointer → Type_
+    dyn_type : Pointer → Bounds → Type_
+
+  pub data OptionType : Type 0 where
+    no_type : OptionType
+    some_type : Type_ → OptionType
+
+  -- the fields of a tuple, the parameters of a function pointer, or the types in `(A, B)`
+  pub data Parts : Type 0 where
+    no_parts : Parts
+    more_parts : OptionType → Parts → Parts
+
   -- whether `::` stands in front of it, its first segment, those behind it, and the path of the use tree around it
   pub data Path : Type 0 where
     path : Bool → Segment → Segments → OptionPath → Path
@@ -76,13 +134,57 @@ mutual
     absent_segment : Segment
     -- without a kind
     broken_segment : Segment
-    name_segment : Name → Segment
+    name_segment : Name → SegmentArgs → Segment
     self_type_segment : Segment
     crate_segment : Segment
     -- `$crate`, with the root of its context's crate
     dollar_crate_segment : Option CrateId → Segment
     self_segment : Segment
     super_segment : Segment
+    -- `<T>`
+    type_segment : Type_ → Segment
+    -- `<T as Trait>`, with the node of the trait and its path
+    trait_segment : Type_ → Pointer → OptionPath → Segment
+
+  -- what stands behind a name: `<..>`, `(A) -> C`, and whether `(..)` with two dots in it
+  pub data SegmentArgs : Type 0 where
+    segment_args : OptionArgs → OptionParens → Bool → SegmentArgs
+
+  pub data OptionParens : Type 0 where
+    no_parens : OptionParens
+    some_parens : Parts → OptionRet → OptionParens
+
+  -- `-> C`, whose type may be absent
+  pub data OptionRet : Type 0 where
+    no_ret : OptionRet
+    some_ret : OptionType → OptionRet
+
+  pub data OptionArgs : Type 0 where
+    no_arg_list : OptionArgs
+    some_arg_list : Args → OptionArgs
+
+  pub data Args : Type 0 where
+    no_args : Args
+    more_args : Arg → Args → Args
+
+  pub data Arg : Type 0 where
+    type_arg : OptionType → Arg
+    lifetime_arg : Lifetime → Arg
+    -- a lifetime that a text lacks, and a binding with a parameter list or without a name
+    skipped_arg : Arg
+    -- a binding: its name, its `<..>`, whether `(..)` with two dots in it stands there, its type and its bounds
+    assoc_arg : Name → OptionArgs → Bool → OptionType → Bounds → Arg
+
+  pub data Bounds : Type 0 where
+    no_bounds : Bounds
+    more_bounds : Bound → Bounds → Bounds
+
+  pub data Bound : Type 0 where
+    error_bound : Bound
+    -- the node of the trait, its path, whether `?` stands in front of it, and the lifetimes of its `for`
+    path_bound : Pointer → OptionPath → Bool → Binder → Bound
+    lifetime_bound : Lifetime → Bound
+    use_bound : List UseRead → Bound
 
 mutual
   pub data Expr : Type 0 where
@@ -101,12 +203,15 @@ mutual
     binary_expr : Pointer → Binary → OptionExpr → OptionExpr → Expr
     lazy_expr : Pointer → LogicOp → OptionExpr → OptionExpr → Expr
     list_expr : Pointer → Listing → Exprs → Expr
-    method_call_expr : Pointer → OptionExpr → Name → Exprs → Expr
+    method_call_expr : Pointer → OptionExpr → Name → Exprs → OptionArgs → Expr
     leaving_expr : Pointer → Leaving → OptionExpr → Expr
     become_expr : Pointer → OptionExpr → Expr
     yield_expr : Pointer → OptionExpr → Expr
     -- with what it stands in, where that isn't async
     await_expr : Pointer → Option AwaitLocation → OptionExpr → Expr
+    cast_expr : Pointer → OptionExpr → OptionType → Expr
+    record_expr : Pointer → OptionPath → Fields → Spread → Expr
+    offset_of_expr : Pointer → OptionType → List Name → Expr
     -- a prefix without its operator
     nameless_expr : Pointer → OptionExpr → Expr
 
@@ -117,6 +222,23 @@ mutual
   pub data Exprs : Type 0 where
     no_exprs : Exprs
     more_exprs : Expr → Exprs → Exprs
+
+  -- the fields of a record
+  pub data Fields : Type 0 where
+    no_fields : Fields
+    more_fields : Field → Fields → Fields
+
+  pub data Field : Type 0 where
+    -- with the condition that disables it
+    disabled_field : Pointer → CfgId → Field → Field
+    nameless_field : Field
+    named_field : Pointer → Name → OptionExpr → Field
+
+  -- what stands behind them: nothing, two dots, or two dots with an expression
+  pub data Spread : Type 0 where
+    no_spread : Spread
+    field_defaults : Spread
+    spread_of : Expr → Spread
 
   -- whether it is unsafe, its label, its number, its statements and its written tail; a block that stands where only a
   -- block may is neither unsafe nor labelled

@@ -1,5 +1,5 @@
 -- How the answers are written into one level of a tree. The steps ask; nothing above them does.
-use Rattle.std.specs.Prelude.{List, [], ◌∷◌, Bool, true, false, codes, Option, Some, None, Result, Ok, Err, option_map}
+use Rattle.std.specs.Prelude.{List, [], ◌∷◌, Bool, true, false, codes, Option, Some, None, Result, Ok, Err, option_map, map}
 use Rattle.hir_syntax.specs.declared.ast.UnaryOp.{UnaryOp}
 use Rattle.hir_syntax.specs.declared.ast.BinaryOp.{BinaryOp}
 use Rattle.hir_syntax.specs.declared.ast.BinaryOp.TheVariants as op
@@ -9,8 +9,6 @@ use Rattle.hir_syntax.specs.declared.ast.Literal.{Literal}
 use Rattle.hir_syntax.specs.declared.ast.LiteralKind.TheVariants as literal
 use Rattle.hir_store.specs.declared.hir.Rawness.{Rawness}
 use Rattle.hir_store.specs.declared.hir.Rawness.TheVariants as raw
-use Rattle.hir_store.specs.declared.hir.Mutability.{Mutability}
-use Rattle.hir_store.specs.declared.hir.Mutability.TheVariants as mutable
 use Rattle.hir_syntax.specs.declared.node.NodeId.{NodeId}
 use Rattle.hir_syntax.specs.declared.node.AstPtr.{AstPtr}
 use Rattle.hir_syntax.specs.declared.ast.Name.{Name as AstName}
@@ -29,11 +27,12 @@ use Rattle.hir_env.specs.declared.place.LoweringMode.{LoweringMode}
 use Rattle.hir_env.specs.declared.place.LoweringMode.TheVariants as mode
 use Rattle.hir_env.specs.Answers.{Answers}
 pub use Rattle.hir_env.specs.Spot.{in_file, ptr, site_of}
-use Rattle.hir_env.specs.Paths.{path_or_none, read_path}
+pub use Rattle.hir_env.specs.Paths.{mutability}
+use Rattle.hir_env.specs.Paths.{path_or_none, type_or_none, arg_list_or_none, read_path, read_type, read_generic_arg_list}
 use Rattle.hir_env.specs.Layers.{BlockReading, StmtReading, Sorts, Reader, ElseBranchLayer, ExprKindLayer, StmtKindLayer}
-use Rattle.hir_env.specs.Layers.{BlockExprLayer, ExprLayer, StmtLayer}
+use Rattle.hir_env.specs.Layers.{BlockExprLayer, ExprLayer, RecordExprFieldLayer, RecordExprFieldListLayer, StmtLayer, RecordReading}
 use Rattle.hir_env.specs.Answered as tree
-use Rattle.hir_env.specs.Answered.{Label, Jump, Expr, OptionExpr, Exprs, Block, OptionBlock, Stmts, Stmt}
+use Rattle.hir_env.specs.Answered.{Label, Jump, Expr, OptionExpr, Exprs, Fields, Field, Spread, Block, OptionBlock, Stmts, Stmt}
 
 -- names and labels
 
@@ -58,6 +57,9 @@ abbrev pub name_or_missing : Option AstName → Name
 name_or_missing None = name.Missing
 name_or_missing (Some n) = name.Text n.t
 
+abbrev pub names_of : List AstName → List Name
+names_of ns = map (λ n. name.Text n.t) ns
+
 -- operators
 
 -- `&&` and `||` have a meaning of their own
@@ -72,10 +74,6 @@ prefix_expr s (Some o) e = tree.unary_expr s (tree.prefix_of o) e
 abbrev pub rawness : Bool → Rawness
 rawness true = raw.RawPtr
 rawness false = raw.Ref
-
-abbrev pub mutability : Bool → Mutability
-mutability true = mutable.Mut
-mutability false = mutable.Shared
 
 -- a predicate is true unless it is known not to be
 abbrev pub truth : Option Bool → Literal
@@ -119,6 +117,20 @@ abbrev pub exprs_or_none : {A : Type 0} → (A → Place → Expr) → Option (L
 exprs_or_none read None p = tree.no_exprs
 exprs_or_none read (Some es) p = exprs_of read es p
 
+abbrev pub fields_of : {A : Type 0} → (A → Place → Field) → List A → Place → Fields
+fields_of read [] p = tree.no_fields
+fields_of read (x ∷ xs) p = tree.more_fields (read x p) (fields_of read xs p)
+
+-- an expression behind two dots, or two dots alone
+abbrev pub spread_or_none : {A : Type 0} → (A → Place → Expr) → Option A → Bool → Place → Spread
+spread_or_none read (Some e) dots p = tree.spread_of (read e p)
+spread_or_none read None true p = tree.field_defaults
+spread_or_none read None false p = tree.no_spread
+
+abbrev pub record_or_empty : {A : Type 0} → (A → Place → RecordReading) → Option A → Place → RecordReading
+record_or_empty read None p = record { fields = tree.no_fields; spread = tree.no_spread }
+record_or_empty read (Some x) p = read x p
+
 -- what is in a block: its statements, and its written tail, which is read where the last of them leaves off
 abbrev pub Contents : Type 0
 Contents = Stmts × OptionExpr
@@ -137,6 +149,15 @@ abbrev pub asked : Pointer → Result (Unit {0}) CfgId → Expr → Expr
 asked s (Ok _) e = e
 asked s (Err by) e = tree.disabled_expr s by e
 
+-- the field, with the condition that disables it
+abbrev pub asked_field : Pointer → Result (Unit {0}) CfgId → Field → Field
+asked_field s (Ok _) f = f
+asked_field s (Err by) f = tree.disabled_field s by f
+
+abbrev pub field_of : Pointer → Option AstName → OptionExpr → Field
+field_of s None e = tree.nameless_field
+field_of s (Some n) e = tree.named_field s (name.Text n.t) e
+
 module _ (env : Answers) {S : Sorts} (part : Reader S) where
   abbrev pub else_branch : ElseBranchLayer S → Place → Expr
   else_branch (ElseBranch-F.ElseBlock b) p = tree.block_expr ((part.block_expr b).plain p)
@@ -153,8 +174,9 @@ module _ (env : Answers) {S : Sorts} (part : Reader S) where
   expr_at (ExprKind-F.BreakExpr l e) p s = tree.break_expr s (option_map (jump_of env p) l) (expr_or_none part.expr e p)
   expr_at (ExprKind-F.ParenExpr e) p s = tree.paren_expr s (expr_or_none part.expr e p)
   expr_at (ExprKind-F.Literal l) p s = tree.literal_expr s l
-  expr_at (ExprKind-F.MethodCallExpr e n es) p s =
+  expr_at (ExprKind-F.MethodCallExpr e n as' es) p s =
       tree.method_call_expr s (expr_or_none part.expr e p) (name_or_missing n) (exprs_or_none part.expr es p)
+      (arg_list_or_none (read_generic_arg_list env) as' p)
   expr_at (ExprKind-F.FieldExpr e n) p s = tree.unary_expr s (tree.field_of (name_or_missing n)) (expr_or_none part.expr e p)
   expr_at (ExprKind-F.PrefixExpr o e) p s = prefix_expr s o (expr_or_none part.expr e p)
   expr_at (ExprKind-F.BinExpr o a b) p s = bin_expr s o (expr_or_none part.expr a p) (expr_or_none part.expr b p)
@@ -167,6 +189,10 @@ module _ (env : Answers) {S : Sorts} (part : Reader S) where
   expr_at (ExprKind-F.YieldExpr e) p s = tree.yield_expr s (expr_or_none part.expr e p)
   expr_at (ExprKind-F.YeetExpr e) p s = tree.leaving_expr s tree.yeeting (expr_or_none part.expr e p)
   expr_at (ExprKind-F.AwaitExpr e) p s = tree.await_expr s p.await_location (expr_or_none part.expr e p)
+  expr_at (ExprKind-F.CastExpr e t) p s = tree.cast_expr s (expr_or_none part.expr e p) (type_or_none (read_type env) t p)
+  expr_at (ExprKind-F.RecordExpr x l) p s = let r = record_or_empty part.field_list l p in
+      tree.record_expr s (path_or_none (read_path env) x p) r.fields r.spread
+  expr_at (ExprKind-F.OffsetOfExpr t ns) p s = tree.offset_of_expr s (type_or_none (read_type env) t p) (names_of ns)
   expr_at (ExprKind-F.CfgPredExpr pred) p s = tree.literal_expr s (truth (env.cfg_pred pred))
   expr_at ExprKind-F.UnderscoreExpr p s = tree.leaf_expr s tree.underscore
   expr_at ExprKind-F.IncludeBytesExpr p s = tree.leaf_expr s tree.include_bytes
@@ -178,6 +204,15 @@ module _ (env : Answers) {S : Sorts} (part : Reader S) where
 
   abbrev pub expr_step : ExprLayer S → Place → Expr
   expr_step e = part.expr_kind e.kind (ptr e.id e.range)
+
+  abbrev pub field_at : RecordExprFieldLayer S → Place → Pointer → Field
+  field_at x p s = asked_field s (env.cfg (site_of s)) (field_of s x.name (expr_or_none part.expr x.expr p))
+
+  abbrev pub field_step : RecordExprFieldLayer S → Place → Field
+  field_step x p = field_at x p (in_file p (ptr x.id x.range))
+
+  abbrev pub record_step : RecordExprFieldListLayer S → Place → RecordReading
+  record_step x p = record { fields = fields_of part.field x.fields p; spread = spread_or_none part.expr x.spread x.dotdot p }
 
   abbrev pub block_at : BlockExprLayer S → Bool × Option Label → Place → Block
   block_at b head p =

@@ -1,15 +1,89 @@
 -- The size of an answered tree: what lowering it steps down by.
 use Rattle.std.specs.Prelude.{ℕ, suc, ◌+◌}
 use Rattle.hir_env.specs.Answered as tree
-use Rattle.hir_env.specs.Answered.{Path, OptionPath, Expr, OptionExpr, Exprs, Block, OptionBlock, Stmts, Stmt}
+use Rattle.hir_env.specs.Answered.{Type_, OptionType, Parts, Path, OptionPath, Segments, Segment, SegmentArgs, OptionParens}
+use Rattle.hir_env.specs.Answered.{OptionRet, OptionArgs, Args, Arg, Bounds, Bound}
+use Rattle.hir_env.specs.Answered.{Expr, OptionExpr, Exprs, Fields, Field, Spread, Block, OptionBlock, Stmts, Stmt}
 
 abbrev mutual
+  pub count_type : Type_ → ℕ
+  count_type (tree.paren_type t) = suc (count_option_type t)
+  count_type (tree.for_type binder t) = suc (count_option_type t)
+  count_type (tree.leaf_type at form) = 1
+  count_type (tree.over_type at form t) = suc (count_option_type t)
+  count_type (tree.tuple_type at ts) = suc (count_parts ts)
+  count_type (tree.path_type at x) = suc (count_option_path x)
+  count_type (tree.ref_type at l m t) = suc (count_option_type t)
+  count_type (tree.fn_type at head ts r) = suc (count_parts ts + count_option_type r)
+  count_type (tree.impl_type at mode bs) = suc (count_bounds bs)
+  count_type (tree.nested_impl at) = 1
+  count_type (tree.dyn_type at bs) = suc (count_bounds bs)
+
+  pub count_option_type : OptionType → ℕ
+  count_option_type tree.no_type = 0
+  count_option_type (tree.some_type t) = count_type t
+
+  pub count_parts : Parts → ℕ
+  count_parts tree.no_parts = 0
+  count_parts (tree.more_parts t ts) = count_option_type t + count_parts ts
+
   pub count_path : Path → ℕ
-  count_path (tree.path leading first rest use_) = suc (count_option_path use_)
+  count_path (tree.path leading first rest use_) = suc (count_segment first + (count_segments rest + count_option_path use_))
 
   pub count_option_path : OptionPath → ℕ
   count_option_path tree.no_path = 0
   count_option_path (tree.some_path x) = count_path x
+
+  pub count_segments : Segments → ℕ
+  count_segments tree.no_segments = 0
+  count_segments (tree.more_segments s ss) = count_segment s + count_segments ss
+
+  pub count_segment : Segment → ℕ
+  count_segment tree.absent_segment = 0
+  count_segment tree.broken_segment = 0
+  count_segment (tree.name_segment n args) = count_segment_args args
+  count_segment tree.self_type_segment = 0
+  count_segment tree.crate_segment = 0
+  count_segment (tree.dollar_crate_segment root) = 0
+  count_segment tree.self_segment = 0
+  count_segment tree.super_segment = 0
+  count_segment (tree.type_segment t) = count_type t
+  count_segment (tree.trait_segment t at x) = count_type t + count_option_path x
+
+  pub count_segment_args : SegmentArgs → ℕ
+  count_segment_args (tree.segment_args as' parens dots) = count_option_args as' + count_option_parens parens
+
+  pub count_option_parens : OptionParens → ℕ
+  count_option_parens tree.no_parens = 0
+  count_option_parens (tree.some_parens ts r) = count_parts ts + count_option_ret r
+
+  pub count_option_ret : OptionRet → ℕ
+  count_option_ret tree.no_ret = 0
+  count_option_ret (tree.some_ret t) = count_option_type t
+
+  pub count_option_args : OptionArgs → ℕ
+  count_option_args tree.no_arg_list = 0
+  count_option_args (tree.some_arg_list as') = suc (count_args as')
+
+  pub count_args : Args → ℕ
+  count_args tree.no_args = 0
+  count_args (tree.more_args a as') = count_arg a + count_args as'
+
+  pub count_arg : Arg → ℕ
+  count_arg (tree.type_arg t) = count_option_type t
+  count_arg (tree.lifetime_arg l) = 0
+  count_arg tree.skipped_arg = 0
+  count_arg (tree.assoc_arg name as' dots t bs) = count_option_args as' + (count_option_type t + count_bounds bs)
+
+  pub count_bounds : Bounds → ℕ
+  count_bounds tree.no_bounds = 0
+  count_bounds (tree.more_bounds b bs) = count_bound b + count_bounds bs
+
+  pub count_bound : Bound → ℕ
+  count_bound tree.error_bound = 0
+  count_bound (tree.path_bound at x maybe binder) = count_option_path x
+  count_bound (tree.lifetime_bound l) = 0
+  count_bound (tree.use_bound us) = 0
 
 abbrev mutual
   pub count_expr : Expr → ℕ
@@ -28,11 +102,14 @@ abbrev mutual
   count_expr (tree.binary_expr at form a b) = suc (count_option_expr a + count_option_expr b)
   count_expr (tree.lazy_expr at op a b) = suc (count_option_expr a + count_option_expr b)
   count_expr (tree.list_expr at form es) = suc (count_exprs es)
-  count_expr (tree.method_call_expr at e name es) = suc (count_option_expr e + count_exprs es)
+  count_expr (tree.method_call_expr at e name es as') = suc (count_option_expr e + (count_exprs es + count_option_args as'))
   count_expr (tree.leaving_expr at form e) = suc (count_option_expr e)
   count_expr (tree.become_expr at e) = suc (count_option_expr e)
   count_expr (tree.yield_expr at e) = suc (count_option_expr e)
   count_expr (tree.await_expr at location e) = suc (count_option_expr e)
+  count_expr (tree.cast_expr at e t) = suc (count_option_expr e + count_option_type t)
+  count_expr (tree.record_expr at x fs spread) = suc (count_option_path x + (count_fields fs + count_spread spread))
+  count_expr (tree.offset_of_expr at t names) = suc (count_option_type t)
   count_expr (tree.nameless_expr at e) = suc (count_option_expr e)
 
   pub count_option_expr : OptionExpr → ℕ
@@ -42,6 +119,20 @@ abbrev mutual
   pub count_exprs : Exprs → ℕ
   count_exprs tree.no_exprs = 0
   count_exprs (tree.more_exprs e es) = count_expr e + count_exprs es
+
+  pub count_fields : Fields → ℕ
+  count_fields tree.no_fields = 0
+  count_fields (tree.more_fields f fs) = count_field f + count_fields fs
+
+  pub count_field : Field → ℕ
+  count_field (tree.disabled_field at by f) = count_field f
+  count_field tree.nameless_field = 0
+  count_field (tree.named_field at name e) = count_option_expr e
+
+  pub count_spread : Spread → ℕ
+  count_spread tree.no_spread = 0
+  count_spread tree.field_defaults = 0
+  count_spread (tree.spread_of e) = count_expr e
 
   pub count_block : Block → ℕ
   count_block (tree.block at is_unsafe label number ss e) = suc (count_stmts ss + count_option_expr e)

@@ -1,70 +1,497 @@
--- How the answers are written into a path.
-use Rattle.std.specs.Prelude.{List, [], ◌∷◌, if◌then◌else◌, codes, bytes_eq, Option, Some, None}
+-- How the answers are written into paths and types.
+use Rattle.std.specs.Prelude.{ℕ, List, [], ◌∷◌, map, Bool, true, false, ◌||◌, if◌then◌else◌, codes, bytes_eq}
+use Rattle.std.specs.Prelude.{Option, Some, None, option_map}
 use Rattle.hir_syntax.specs.declared.node.NodeId.{NodeId}
+use Rattle.hir_syntax.specs.declared.node.AstPtr.{AstPtr}
 use Rattle.hir_syntax.specs.declared.ast.Name.{Name as AstName}
-use Rattle.hir_syntax.specs.declared.ast.Path.{Path as AstPath}
-use Rattle.hir_syntax.specs.declared.ast.Path.TheFolds.{fold-Path}
-use Rattle.hir_syntax.specs.declared.ast.Path.TheOpen.{Path-F}
-use Rattle.hir_syntax.specs.declared.ast.PathSegment.{PathSegment as AstPathSegment}
+use Rattle.hir_syntax.specs.declared.ast.Lifetime.{Lifetime as AstLifetime}
 use Rattle.hir_syntax.specs.declared.ast.SegmentKind.{SegmentKind}
 use Rattle.hir_syntax.specs.declared.ast.SegmentKind.TheVariants as kind
+use Rattle.hir_syntax.specs.declared.types.BoundKind.{BoundKind}
+use Rattle.hir_syntax.specs.declared.types.BoundKind.TheVariants as bound
+use Rattle.hir_syntax.specs.declared.types.ForBinder.{ForBinder as AstForBinder}
+use Rattle.hir_syntax.specs.declared.types.UseArg.{UseArg as AstUseArg}
+use Rattle.hir_syntax.specs.declared.types.UseArg.TheVariants as used
+use Rattle.hir_syntax.specs.declared.types.GenericArg.{GenericArg as AstGenericArg}
+use Rattle.hir_syntax.specs.declared.types.TypeKind.{TypeKind as AstTypeKind}
+use Rattle.hir_syntax.specs.declared.ast.Path.{Path as AstPath}
+use Rattle.hir_syntax.specs.declared.ast.PathSegment.{PathSegment as AstPathSegment}
+use Rattle.hir_syntax.specs.declared.types.AssocTypeArg.{AssocTypeArg as AstAssocTypeArg}
+use Rattle.hir_syntax.specs.declared.types.GenericArgList.{GenericArgList as AstGenericArgList}
+use Rattle.hir_syntax.specs.declared.types.Param.{Param as AstParam}
+use Rattle.hir_syntax.specs.declared.types.ParenArgs.{ParenArgs as AstParenArgs}
+use Rattle.hir_syntax.specs.declared.types.PathType.{PathType as AstPathType}
+use Rattle.hir_syntax.specs.declared.types.RetType.{RetType as AstRetType}
+use Rattle.hir_syntax.specs.declared.types.TypeArg.{TypeArg as AstTypeArg}
+use Rattle.hir_syntax.specs.declared.types.TypeBound.{TypeBound as AstTypeBound}
+use Rattle.hir_syntax.specs.declared.types.Type_.{Type_ as AstType_}
+use Rattle.hir_syntax.specs.declared.types.GenericArg.TheFolds.{fold-GenericArg, fold-TypeKind, fold-Path, fold-PathSegment}
+use Rattle.hir_syntax.specs.declared.types.GenericArg.TheFolds.{fold-AssocTypeArg, fold-GenericArgList, fold-Param}
+use Rattle.hir_syntax.specs.declared.types.GenericArg.TheFolds.{fold-ParenArgs, fold-PathType, fold-RetType, fold-TypeArg}
+use Rattle.hir_syntax.specs.declared.types.GenericArg.TheFolds.{fold-TypeBound, fold-Type_}
+use Rattle.hir_syntax.specs.declared.types.GenericArg.TheOpen.{GenericArg-F, TypeKind-F}
+use Rattle.hir_store.specs.Pointers.{Pointer}
 use Rattle.hir_store.specs.declared.ids.CrateId.{CrateId}
+use Rattle.hir_store.specs.declared.name.Name.{Name}
 use Rattle.hir_store.specs.declared.name.Name.TheVariants as name
+use Rattle.hir_store.specs.declared.hir.Mutability.{Mutability}
+use Rattle.hir_store.specs.declared.hir.Mutability.TheVariants as mutable
+use Rattle.hir_store.specs.declared.type_ref.LifetimeRef.{LifetimeRef}
+use Rattle.hir_store.specs.declared.type_ref.LifetimeRef.TheVariants as lifetime
+use Rattle.hir_store.specs.declared.type_ref.ExternAbi.{ExternAbi}
+use Rattle.hir_store.specs.declared.type_ref.ExternAbi.TheVariants as abi
 use Rattle.hir_env.specs.declared.place.Place.{Place}
+use Rattle.hir_env.specs.declared.place.ImplTrait.{ImplTrait}
 use Rattle.hir_env.specs.Answers.{Answers}
+use Rattle.hir_env.specs.Spot.{in_file, ptr}
+use Rattle.hir_env.specs.TypeLayers.{ParamReading, PathTypeReading, TypeSorts, TypeReader, GenericArgLayer, TypeKindLayer}
+use Rattle.hir_env.specs.TypeLayers.{PathLayer, PathSegmentLayer, AssocTypeArgLayer, GenericArgListLayer, ParamLayer}
+use Rattle.hir_env.specs.TypeLayers.{ParenArgsLayer, PathTypeLayer, RetTypeLayer, TypeArgLayer, TypeBoundLayer, Type_Layer}
+use Rattle.hir_env.specs.TypeLayers.{type_readings, type_itself}
 use Rattle.hir_env.specs.Answered as tree
-use Rattle.hir_env.specs.Answered.{Path, OptionPath, Segments, Segment}
+use Rattle.hir_env.specs.Answered.{Lifetime, Binder, UseRead, Type_, OptionType, Parts, Path, OptionPath, Segments, Segment}
+use Rattle.hir_env.specs.Answered.{SegmentArgs, OptionParens, OptionRet, OptionArgs, Args, Arg, Bounds, Bound}
+
+-- names, lifetimes and texts
+
+abbrev pub mutability : Bool → Mutability
+mutability true = mutable.Mut
+mutability false = mutable.Shared
+
+abbrev pub lifetime_ref : List ℕ → LifetimeRef
+lifetime_ref t =
+    if bytes_eq t (codes "") || bytes_eq t (codes "'") then lifetime.Error else
+    (if bytes_eq t (codes "'static") then lifetime.Static else
+    (if bytes_eq t (codes "'_") then lifetime.Placeholder else lifetime.Named (name.Text t)))
+
+abbrev pub lifetime_of : Place → AstLifetime → Lifetime
+lifetime_of p l = record { pointer = in_file p (ptr l.id l.range); lifetime = lifetime_ref l.t }
+
+-- the lifetimes that are there
+abbrev pub binder_names : List (Option AstLifetime) → Binder
+binder_names [] = []
+binder_names (None ∷ ls) = binder_names ls
+binder_names (Some l ∷ ls) = name.Text l.t ∷ binder_names ls
+
+abbrev pub binder_of : Option AstForBinder → Binder
+binder_of None = []
+binder_of (Some b) = binder_names b.params
+
+abbrev pub use_of : Place → AstUseArg → UseRead
+use_of p (used.Lifetime l) = tree.used_lifetime (lifetime_of p l)
+use_of p (used.Name n) = tree.used_name (name.Text n.t)
+
+-- any other text, and the empty one, is `C`
+abbrev pub abi_named : List ℕ → ExternAbi
+abi_named t =
+    if bytes_eq t (codes "Rust") then abi.Rust else
+    (if bytes_eq t (codes "C-unwind") then abi.CUnwind else
+    (if bytes_eq t (codes "system") then abi.System else
+    (if bytes_eq t (codes "system-unwind") then abi.SystemUnwind else
+    (if bytes_eq t (codes "cdecl") then abi.Cdecl else
+    (if bytes_eq t (codes "stdcall") then abi.Stdcall else
+    (if bytes_eq t (codes "fastcall") then abi.Fastcall else
+    (if bytes_eq t (codes "vectorcall") then abi.Vectorcall else
+    (if bytes_eq t (codes "thiscall") then abi.Thiscall else
+    (if bytes_eq t (codes "aapcs") then abi.Aapcs else
+    (if bytes_eq t (codes "win64") then abi.Win64 else
+    (if bytes_eq t (codes "sysv64") then abi.Sysv64 else
+    (if bytes_eq t (codes "efiapi") then abi.Efiapi else
+    (if bytes_eq t (codes "rust-call") then abi.RustCall else
+    abi.C)))))))))))))
+
+-- where no `extern` is written it is `Rust`
+abbrev pub abi_of : Option (List ℕ) → ExternAbi
+abi_of None = abi.Rust
+abi_of (Some t) = abi_named t
+
+-- places
+
+-- inside of an `impl`, and inside of a written binding, where another may stand
+abbrev pub inside_impl : Place → Place
+inside_impl p = record p { in_impl = true }
+
+abbrev pub outside_impl : Place → Place
+outside_impl p = record p { in_impl = false }
+
+-- segments
 
 -- the root of the crate that `$crate` at the node stands for
 abbrev pub crate_root_at : Answers → Place → NodeId → Option CrateId
 crate_root_at env p id = env.crate_root (env.context (record { file_id = p.file_id; value = id }))
 
 -- a name, or `$crate`
-abbrev pub named_segment : Answers → Place → Option AstName → Segment
-named_segment env p None = tree.broken_segment
-named_segment env p (Some n) =
-    if bytes_eq n.t (codes "$crate") then tree.dollar_crate_segment (crate_root_at env p n.id) else tree.name_segment (name.Text n.t)
+abbrev pub named_segment : Answers → Place → Option AstName → SegmentArgs → Segment
+named_segment env p None args = tree.broken_segment
+named_segment env p (Some n) args =
+    if bytes_eq n.t (codes "$crate") then tree.dollar_crate_segment (crate_root_at env p n.id) else tree.name_segment (name.Text n.t) args
 
-abbrev pub kinded_segment : Answers → Place → Option SegmentKind → Option AstName → Segment
-kinded_segment env p None n = tree.broken_segment
-kinded_segment env p (Some kind.Name) n = named_segment env p n
-kinded_segment env p (Some kind.SelfKw) n = tree.self_segment
-kinded_segment env p (Some kind.CrateKw) n = tree.crate_segment
-kinded_segment env p (Some kind.SuperKw) n = tree.super_segment
-kinded_segment env p (Some kind.SelfTypeKw) n = tree.self_type_segment
+-- `<T>` or `<T as Trait>`
+abbrev pub qualified_segment : OptionType → Option PathTypeReading → Segment
+qualified_segment tree.no_type t = tree.broken_segment
+qualified_segment (tree.some_type ty) None = tree.type_segment ty
+qualified_segment (tree.some_type ty) (Some t) = tree.trait_segment ty t.pointer t.path
+
+abbrev pub kinded_segment : Answers → Place → Option SegmentKind → Option AstName → SegmentArgs
+    → OptionType → Option PathTypeReading → Segment
+kinded_segment env p None n args ty t = tree.broken_segment
+kinded_segment env p (Some kind.Name) n args ty t = named_segment env p n args
+kinded_segment env p (Some kind.SelfKw) n args ty t = tree.self_segment
+kinded_segment env p (Some kind.CrateKw) n args ty t = tree.crate_segment
+kinded_segment env p (Some kind.SuperKw) n args ty t = tree.super_segment
+kinded_segment env p (Some kind.SelfTypeKw) n args ty t = tree.self_type_segment
+kinded_segment env p (Some kind.Qualified) n args ty t = qualified_segment ty t
+
+-- types, arguments and bounds
+
+-- an `impl` inside of another one is an error whose bounds aren't read
+abbrev pub impl_at : Bool → ImplTrait → Pointer → Bounds → Type_
+impl_at true mode s bs = tree.nested_impl s
+impl_at false mode s bs = tree.impl_type s mode bs
+
+abbrev pub lifetime_arg_of : Place → Option AstLifetime → Arg
+lifetime_arg_of p None = tree.skipped_arg
+lifetime_arg_of p (Some l) = tree.lifetime_arg (lifetime_of p l)
+
+-- a binding with a parameter list, and one without a name, is skipped
+abbrev pub binding_of : Bool → Option AstName → OptionArgs → Bool → OptionType → Bounds → Arg
+binding_of true n args dots ty bs = tree.skipped_arg
+binding_of false None args dots ty bs = tree.skipped_arg
+binding_of false (Some n) args dots ty bs = tree.assoc_arg (name.Text n.t) args dots ty bs
+
+abbrev pub bound_of : Option BoundKind → Option PathTypeReading → Bool → Binder → Option Lifetime → List UseRead → Bound
+bound_of (Some bound.Path) (Some t) maybe binder l us = tree.path_bound t.pointer t.path maybe binder
+bound_of (Some bound.Lifetime) t maybe binder (Some l) us = tree.lifetime_bound l
+bound_of (Some bound.Use) t maybe binder l us = tree.use_bound us
+bound_of b t maybe binder l us = tree.error_bound
 
 -- parts that may be absent, and lists
 
-abbrev pub path_or_none : {A : Type 0} → (A → Place → Path) → Option A → Place → OptionPath
-path_or_none read None p = tree.no_path
-path_or_none read (Some x) p = tree.some_path (read x p)
+module _ {A : Type 0} where
+  abbrev pub type_or_none : (A → Place → Type_) → Option A → Place → OptionType
+  type_or_none read None p = tree.no_type
+  type_or_none read (Some x) p = tree.some_type (read x p)
 
-abbrev pub segment_or_absent : {A : Type 0} → (A → Place → Segment) → Option A → Place → Segment
-segment_or_absent read None p = tree.absent_segment
-segment_or_absent read (Some s) p = read s p
+  abbrev pub types_of : (A → Place → Type_) → List A → Place → Parts
+  types_of read [] p = tree.no_parts
+  types_of read (x ∷ xs) p = tree.more_parts (tree.some_type (read x p)) (types_of read xs p)
 
-abbrev pub segments_of : {A : Type 0} → (A → Place → Segment) → List (Option A) → Place → Segments
-segments_of read [] p = tree.no_segments
-segments_of read (s ∷ ss) p = tree.more_segments (segment_or_absent read s p) (segments_of read ss p)
+  abbrev pub parts_of : (A → Place → OptionType) → List A → Place → Parts
+  parts_of read [] p = tree.no_parts
+  parts_of read (x ∷ xs) p = tree.more_parts (read x p) (parts_of read xs p)
 
--- a path without segments has one, which is absent
-abbrev pub first_of : {A : Type 0} → (A → Place → Segment) → List (Option A) → Place → Segment
-first_of read [] p = tree.absent_segment
-first_of read (s ∷ ss) p = segment_or_absent read s p
+  -- the types of the parameters that aren't variadic
+  abbrev pub params_of : (A → Place → ParamReading) → List A → Place → Parts
+  params_of read [] p = tree.no_parts
+  params_of read (x ∷ xs) p = let r = read x p in
+      if r.variadic then params_of read xs p else tree.more_parts r.ty (params_of read xs p)
 
-abbrev pub rest_of : {A : Type 0} → (A → Place → Segment) → List (Option A) → Place → Segments
-rest_of read [] p = tree.no_segments
-rest_of read (s ∷ ss) p = segments_of read ss p
+  abbrev pub params_or_none : (A → Place → ParamReading) → Option (List A) → Place → Parts
+  params_or_none read None p = tree.no_parts
+  params_or_none read (Some xs) p = params_of read xs p
+
+  -- whether the last is variadic, or else what is said where there is none
+  abbrev pub last_variadic : (A → Place → ParamReading) → Bool → List A → Place → Bool
+  last_variadic read b [] p = b
+  last_variadic read b (x ∷ xs) p = last_variadic read (read x p).variadic xs p
+
+  abbrev pub is_varargs : (A → Place → ParamReading) → Option (List A) → Place → Bool
+  is_varargs read None p = false
+  is_varargs read (Some xs) p = last_variadic read false xs p
+
+  -- what a function pointer answers
+  abbrev pub answer_or_none : (A → Place → OptionType) → Option A → Place → OptionType
+  answer_or_none read None p = tree.no_type
+  answer_or_none read (Some x) p = read x p
+
+  abbrev pub ret_or_none : (A → Place → OptionType) → Option A → Place → OptionRet
+  ret_or_none read None p = tree.no_ret
+  ret_or_none read (Some x) p = tree.some_ret (read x p)
+
+  -- `-> C` counts beside `(A)` alone
+  abbrev pub parens_or_none : (A → Place → Parts) → Option A → OptionRet → Place → OptionParens
+  parens_or_none read None r p = tree.no_parens
+  parens_or_none read (Some x) r p = tree.some_parens (read x p) r
+
+  abbrev pub path_or_none : (A → Place → Path) → Option A → Place → OptionPath
+  path_or_none read None p = tree.no_path
+  path_or_none read (Some x) p = tree.some_path (read x p)
+
+  abbrev pub path_type_or_none : (A → Place → PathTypeReading) → Option A → Place → Option PathTypeReading
+  path_type_or_none read None p = None
+  path_type_or_none read (Some x) p = Some (read x p)
+
+  abbrev pub segment_or_absent : (A → Place → Segment) → Option A → Place → Segment
+  segment_or_absent read None p = tree.absent_segment
+  segment_or_absent read (Some s) p = read s p
+
+  abbrev pub segments_of : (A → Place → Segment) → List (Option A) → Place → Segments
+  segments_of read [] p = tree.no_segments
+  segments_of read (s ∷ ss) p = tree.more_segments (segment_or_absent read s p) (segments_of read ss p)
+
+  -- a path without segments has one, which is absent
+  abbrev pub first_of : (A → Place → Segment) → List (Option A) → Place → Segment
+  first_of read [] p = tree.absent_segment
+  first_of read (s ∷ ss) p = segment_or_absent read s p
+
+  abbrev pub rest_of : (A → Place → Segment) → List (Option A) → Place → Segments
+  rest_of read [] p = tree.no_segments
+  rest_of read (s ∷ ss) p = segments_of read ss p
+
+  abbrev pub arg_list_or_none : (A → Place → Args) → Option A → Place → OptionArgs
+  arg_list_or_none read None p = tree.no_arg_list
+  arg_list_or_none read (Some x) p = tree.some_arg_list (read x p)
+
+  abbrev pub generic_args_of : (A → Place → Arg) → List A → Place → Args
+  generic_args_of read [] p = tree.no_args
+  generic_args_of read (x ∷ xs) p = tree.more_args (read x p) (generic_args_of read xs p)
+
+  abbrev pub bounds_of : (A → Place → Bound) → List A → Place → Bounds
+  bounds_of read [] p = tree.no_bounds
+  bounds_of read (x ∷ xs) p = tree.more_bounds (read x p) (bounds_of read xs p)
 
 -- one level
 
-abbrev pub read_segment : Answers → AstPathSegment → Place → Segment
-read_segment env s p = kinded_segment env p s.seg s.name
+module _ (env : Answers) {S : TypeSorts} (part : TypeReader S) where
+  abbrev pub type_at : TypeKindLayer S → Place → Pointer → Type_
+  type_at (TypeKind-F.ParenType t) p s = tree.paren_type (type_or_none part.type_ t p)
+  type_at (TypeKind-F.SliceType t) p s = tree.over_type s tree.slice_of (type_or_none part.type_ t p)
+  type_at (TypeKind-F.TupleType ts) p s = tree.tuple_type s (types_of part.type_ ts p)
+  type_at (TypeKind-F.PathType x) p s = tree.path_type s (path_or_none part.path x p)
+  type_at (TypeKind-F.PtrType m t) p s = tree.over_type s (tree.pointer_to (mutability m)) (type_or_none part.type_ t p)
+  type_at (TypeKind-F.RefType l m t) p s = tree.ref_type s (option_map (lifetime_of p) l) (mutability m) (type_or_none part.type_ t p)
+  type_at (TypeKind-F.FnPtrType is_unsafe text ps r) p s =
+      tree.fn_type s (record { is_unsafe = is_unsafe; abi = abi_of text; is_varargs = is_varargs part.param ps p })
+      (params_or_none part.param ps p) (answer_or_none part.ret_type r p)
+  type_at (TypeKind-F.ForType b t) p s = tree.for_type (binder_of b) (type_or_none part.type_ t p)
+  type_at (TypeKind-F.ImplTraitType bs) p s = impl_at p.in_impl p.impl_trait s (bounds_of part.type_bound bs (inside_impl p))
+  type_at (TypeKind-F.DynTraitType bs) p s = tree.dyn_type s (bounds_of part.type_bound bs p)
+  type_at TypeKind-F.NeverType p s = tree.leaf_type s tree.never_leaf
+  type_at TypeKind-F.InferType p s = tree.leaf_type s tree.infer_leaf
+
+  abbrev pub type_kind_step : TypeKindLayer S → AstPtr → Place → Type_
+  type_kind_step k n p = type_at k p (in_file p n)
+
+  abbrev pub type_step : Type_Layer S → Place → Type_
+  type_step t = part.type_kind t.kind (ptr t.id t.range)
+
+  abbrev pub param_step : ParamLayer S → Place → ParamReading
+  param_step x p = record { variadic = x.variadic; ty = type_or_none part.type_ x.ty p }
+
+  abbrev pub ret_type_step : RetTypeLayer S → Place → OptionType
+  ret_type_step r p = type_or_none part.type_ r.ty p
+
+  abbrev pub path_step : PathLayer S → Place → Path
+  path_step x p = tree.path x.leading (first_of part.segment x.segs p) (rest_of part.segment x.segs p) (path_or_none part.path x.use_ p)
+
+  abbrev pub segment_step : PathSegmentLayer S → Place → Segment
+  segment_step s p = kinded_segment env p s.seg s.name
+      (tree.segment_args (arg_list_or_none part.generic_arg_list s.generics p)
+      (parens_or_none part.paren_args s.parens (ret_or_none part.ret_type s.ret p) p) s.rtn)
+      (type_or_none part.type_ s.ty p) (path_type_or_none part.path_type s.trait_ p)
+
+  abbrev pub path_type_step : PathTypeLayer S → Place → PathTypeReading
+  path_type_step t p = record { pointer = in_file p (ptr t.id t.range); path = path_or_none part.path t.path p }
+
+  abbrev pub paren_args_step : ParenArgsLayer S → Place → Parts
+  paren_args_step x p = parts_of part.type_arg x.args p
+
+  abbrev pub generic_arg_list_step : GenericArgListLayer S → Place → Args
+  generic_arg_list_step x p = generic_args_of part.generic_arg x.args p
+
+  abbrev pub generic_arg_step : GenericArgLayer S → Place → Arg
+  generic_arg_step (GenericArg-F.TypeArg x) p = tree.type_arg (part.type_arg x p)
+  generic_arg_step (GenericArg-F.AssocTypeArg x) p = part.assoc_type_arg x p
+  generic_arg_step (GenericArg-F.LifetimeArg x) p = lifetime_arg_of p x.lifetime
+
+  abbrev pub type_arg_step : TypeArgLayer S → Place → OptionType
+  type_arg_step x p = type_or_none part.type_ x.ty p
+
+  abbrev pub assoc_type_arg_step : AssocTypeArgLayer S → Place → Arg
+  assoc_type_arg_step x p = let inner = outside_impl p in
+      binding_of x.params x.name (arg_list_or_none part.generic_arg_list x.generics inner) x.rtn
+      (type_or_none part.type_ x.ty inner) (bounds_of part.type_bound x.bounds inner)
+
+  abbrev pub type_bound_step : TypeBoundLayer S → Place → Bound
+  type_bound_step b p = bound_of b.b (path_type_or_none part.path_type b.ty p) b.maybe (binder_of b.binder)
+      (option_map (lifetime_of p) b.lifetime) (map (use_of p) b.uses)
+
+-- whole ones
+
+abbrev pub written_types : TypeSorts
+written_types = record {
+  GenericArg = AstGenericArg;
+  TypeKind = AstTypeKind;
+  Path = AstPath;
+  PathSegment = AstPathSegment;
+  AssocTypeArg = AstAssocTypeArg;
+  GenericArgList = AstGenericArgList;
+  Param = AstParam;
+  ParenArgs = AstParenArgs;
+  PathType = AstPathType;
+  RetType = AstRetType;
+  TypeArg = AstTypeArg;
+  TypeBound = AstTypeBound;
+  Type_ = AstType_;
+}
 
 module _ (env : Answers) where
-  abbrev pub path_step : {A : Type 0} → (A → Place → Path) → Path-F A → Place → Path
-  path_step read x p = let segment = read_segment env in
-      tree.path x.leading (first_of segment x.segs p) (rest_of segment x.segs p) (path_or_none read x.use_ p)
+  unfoldable pub read_generic_arg : AstGenericArg → Place → Arg
+  read_generic_arg = fold-GenericArg
+      type_readings.GenericArg type_readings.TypeKind type_readings.Path type_readings.PathSegment type_readings.AssocTypeArg
+      type_readings.GenericArgList type_readings.Param type_readings.ParenArgs type_readings.PathType type_readings.RetType
+      type_readings.TypeArg type_readings.TypeBound type_readings.Type_
+      (generic_arg_step env type_itself) (type_kind_step env type_itself) (path_step env type_itself)
+      (segment_step env type_itself) (assoc_type_arg_step env type_itself) (generic_arg_list_step env type_itself)
+      (param_step env type_itself) (paren_args_step env type_itself) (path_type_step env type_itself)
+      (ret_type_step env type_itself) (type_arg_step env type_itself) (type_bound_step env type_itself)
+      (type_step env type_itself)
+
+  unfoldable pub read_type_kind : AstTypeKind → AstPtr → Place → Type_
+  read_type_kind = fold-TypeKind
+      type_readings.GenericArg type_readings.TypeKind type_readings.Path type_readings.PathSegment type_readings.AssocTypeArg
+      type_readings.GenericArgList type_readings.Param type_readings.ParenArgs type_readings.PathType type_readings.RetType
+      type_readings.TypeArg type_readings.TypeBound type_readings.Type_
+      (generic_arg_step env type_itself) (type_kind_step env type_itself) (path_step env type_itself)
+      (segment_step env type_itself) (assoc_type_arg_step env type_itself) (generic_arg_list_step env type_itself)
+      (param_step env type_itself) (paren_args_step env type_itself) (path_type_step env type_itself)
+      (ret_type_step env type_itself) (type_arg_step env type_itself) (type_bound_step env type_itself)
+      (type_step env type_itself)
 
   unfoldable pub read_path : AstPath → Place → Path
-  read_path = fold-Path (Place → Path) (path_step (λ x. x))
+  read_path = fold-Path
+      type_readings.GenericArg type_readings.TypeKind type_readings.Path type_readings.PathSegment type_readings.AssocTypeArg
+      type_readings.GenericArgList type_readings.Param type_readings.ParenArgs type_readings.PathType type_readings.RetType
+      type_readings.TypeArg type_readings.TypeBound type_readings.Type_
+      (generic_arg_step env type_itself) (type_kind_step env type_itself) (path_step env type_itself)
+      (segment_step env type_itself) (assoc_type_arg_step env type_itself) (generic_arg_list_step env type_itself)
+      (param_step env type_itself) (paren_args_step env type_itself) (path_type_step env type_itself)
+      (ret_type_step env type_itself) (type_arg_step env type_itself) (type_bound_step env type_itself)
+      (type_step env type_itself)
+
+  unfoldable pub read_segment : AstPathSegment → Place → Segment
+  read_segment = fold-PathSegment
+      type_readings.GenericArg type_readings.TypeKind type_readings.Path type_readings.PathSegment type_readings.AssocTypeArg
+      type_readings.GenericArgList type_readings.Param type_readings.ParenArgs type_readings.PathType type_readings.RetType
+      type_readings.TypeArg type_readings.TypeBound type_readings.Type_
+      (generic_arg_step env type_itself) (type_kind_step env type_itself) (path_step env type_itself)
+      (segment_step env type_itself) (assoc_type_arg_step env type_itself) (generic_arg_list_step env type_itself)
+      (param_step env type_itself) (paren_args_step env type_itself) (path_type_step env type_itself)
+      (ret_type_step env type_itself) (type_arg_step env type_itself) (type_bound_step env type_itself)
+      (type_step env type_itself)
+
+  unfoldable pub read_assoc_type_arg : AstAssocTypeArg → Place → Arg
+  read_assoc_type_arg = fold-AssocTypeArg
+      type_readings.GenericArg type_readings.TypeKind type_readings.Path type_readings.PathSegment type_readings.AssocTypeArg
+      type_readings.GenericArgList type_readings.Param type_readings.ParenArgs type_readings.PathType type_readings.RetType
+      type_readings.TypeArg type_readings.TypeBound type_readings.Type_
+      (generic_arg_step env type_itself) (type_kind_step env type_itself) (path_step env type_itself)
+      (segment_step env type_itself) (assoc_type_arg_step env type_itself) (generic_arg_list_step env type_itself)
+      (param_step env type_itself) (paren_args_step env type_itself) (path_type_step env type_itself)
+      (ret_type_step env type_itself) (type_arg_step env type_itself) (type_bound_step env type_itself)
+      (type_step env type_itself)
+
+  unfoldable pub read_generic_arg_list : AstGenericArgList → Place → Args
+  read_generic_arg_list = fold-GenericArgList
+      type_readings.GenericArg type_readings.TypeKind type_readings.Path type_readings.PathSegment type_readings.AssocTypeArg
+      type_readings.GenericArgList type_readings.Param type_readings.ParenArgs type_readings.PathType type_readings.RetType
+      type_readings.TypeArg type_readings.TypeBound type_readings.Type_
+      (generic_arg_step env type_itself) (type_kind_step env type_itself) (path_step env type_itself)
+      (segment_step env type_itself) (assoc_type_arg_step env type_itself) (generic_arg_list_step env type_itself)
+      (param_step env type_itself) (paren_args_step env type_itself) (path_type_step env type_itself)
+      (ret_type_step env type_itself) (type_arg_step env type_itself) (type_bound_step env type_itself)
+      (type_step env type_itself)
+
+  unfoldable pub read_param : AstParam → Place → ParamReading
+  read_param = fold-Param
+      type_readings.GenericArg type_readings.TypeKind type_readings.Path type_readings.PathSegment type_readings.AssocTypeArg
+      type_readings.GenericArgList type_readings.Param type_readings.ParenArgs type_readings.PathType type_readings.RetType
+      type_readings.TypeArg type_readings.TypeBound type_readings.Type_
+      (generic_arg_step env type_itself) (type_kind_step env type_itself) (path_step env type_itself)
+      (segment_step env type_itself) (assoc_type_arg_step env type_itself) (generic_arg_list_step env type_itself)
+      (param_step env type_itself) (paren_args_step env type_itself) (path_type_step env type_itself)
+      (ret_type_step env type_itself) (type_arg_step env type_itself) (type_bound_step env type_itself)
+      (type_step env type_itself)
+
+  unfoldable pub read_paren_args : AstParenArgs → Place → Parts
+  read_paren_args = fold-ParenArgs
+      type_readings.GenericArg type_readings.TypeKind type_readings.Path type_readings.PathSegment type_readings.AssocTypeArg
+      type_readings.GenericArgList type_readings.Param type_readings.ParenArgs type_readings.PathType type_readings.RetType
+      type_readings.TypeArg type_readings.TypeBound type_readings.Type_
+      (generic_arg_step env type_itself) (type_kind_step env type_itself) (path_step env type_itself)
+      (segment_step env type_itself) (assoc_type_arg_step env type_itself) (generic_arg_list_step env type_itself)
+      (param_step env type_itself) (paren_args_step env type_itself) (path_type_step env type_itself)
+      (ret_type_step env type_itself) (type_arg_step env type_itself) (type_bound_step env type_itself)
+      (type_step env type_itself)
+
+  unfoldable pub read_path_type : AstPathType → Place → PathTypeReading
+  read_path_type = fold-PathType
+      type_readings.GenericArg type_readings.TypeKind type_readings.Path type_readings.PathSegment type_readings.AssocTypeArg
+      type_readings.GenericArgList type_readings.Param type_readings.ParenArgs type_readings.PathType type_readings.RetType
+      type_readings.TypeArg type_readings.TypeBound type_readings.Type_
+      (generic_arg_step env type_itself) (type_kind_step env type_itself) (path_step env type_itself)
+      (segment_step env type_itself) (assoc_type_arg_step env type_itself) (generic_arg_list_step env type_itself)
+      (param_step env type_itself) (paren_args_step env type_itself) (path_type_step env type_itself)
+      (ret_type_step env type_itself) (type_arg_step env type_itself) (type_bound_step env type_itself)
+      (type_step env type_itself)
+
+  unfoldable pub read_ret_type : AstRetType → Place → OptionType
+  read_ret_type = fold-RetType
+      type_readings.GenericArg type_readings.TypeKind type_readings.Path type_readings.PathSegment type_readings.AssocTypeArg
+      type_readings.GenericArgList type_readings.Param type_readings.ParenArgs type_readings.PathType type_readings.RetType
+      type_readings.TypeArg type_readings.TypeBound type_readings.Type_
+      (generic_arg_step env type_itself) (type_kind_step env type_itself) (path_step env type_itself)
+      (segment_step env type_itself) (assoc_type_arg_step env type_itself) (generic_arg_list_step env type_itself)
+      (param_step env type_itself) (paren_args_step env type_itself) (path_type_step env type_itself)
+      (ret_type_step env type_itself) (type_arg_step env type_itself) (type_bound_step env type_itself)
+      (type_step env type_itself)
+
+  unfoldable pub read_type_arg : AstTypeArg → Place → OptionType
+  read_type_arg = fold-TypeArg
+      type_readings.GenericArg type_readings.TypeKind type_readings.Path type_readings.PathSegment type_readings.AssocTypeArg
+      type_readings.GenericArgList type_readings.Param type_readings.ParenArgs type_readings.PathType type_readings.RetType
+      type_readings.TypeArg type_readings.TypeBound type_readings.Type_
+      (generic_arg_step env type_itself) (type_kind_step env type_itself) (path_step env type_itself)
+      (segment_step env type_itself) (assoc_type_arg_step env type_itself) (generic_arg_list_step env type_itself)
+      (param_step env type_itself) (paren_args_step env type_itself) (path_type_step env type_itself)
+      (ret_type_step env type_itself) (type_arg_step env type_itself) (type_bound_step env type_itself)
+      (type_step env type_itself)
+
+  unfoldable pub read_type_bound : AstTypeBound → Place → Bound
+  read_type_bound = fold-TypeBound
+      type_readings.GenericArg type_readings.TypeKind type_readings.Path type_readings.PathSegment type_readings.AssocTypeArg
+      type_readings.GenericArgList type_readings.Param type_readings.ParenArgs type_readings.PathType type_readings.RetType
+      type_readings.TypeArg type_readings.TypeBound type_readings.Type_
+      (generic_arg_step env type_itself) (type_kind_step env type_itself) (path_step env type_itself)
+      (segment_step env type_itself) (assoc_type_arg_step env type_itself) (generic_arg_list_step env type_itself)
+      (param_step env type_itself) (paren_args_step env type_itself) (path_type_step env type_itself)
+      (ret_type_step env type_itself) (type_arg_step env type_itself) (type_bound_step env type_itself)
+      (type_step env type_itself)
+
+  unfoldable pub read_type : AstType_ → Place → Type_
+  read_type = fold-Type_
+      type_readings.GenericArg type_readings.TypeKind type_readings.Path type_readings.PathSegment type_readings.AssocTypeArg
+      type_readings.GenericArgList type_readings.Param type_readings.ParenArgs type_readings.PathType type_readings.RetType
+      type_readings.TypeArg type_readings.TypeBound type_readings.Type_
+      (generic_arg_step env type_itself) (type_kind_step env type_itself) (path_step env type_itself)
+      (segment_step env type_itself) (assoc_type_arg_step env type_itself) (generic_arg_list_step env type_itself)
+      (param_step env type_itself) (paren_args_step env type_itself) (path_type_step env type_itself)
+      (ret_type_step env type_itself) (type_arg_step env type_itself) (type_bound_step env type_itself)
+      (type_step env type_itself)
+
+  abbrev pub type_reader : TypeReader written_types
+  type_reader = record {
+    generic_arg = read_generic_arg;
+    type_kind = read_type_kind;
+    path = read_path;
+    segment = read_segment;
+    assoc_type_arg = read_assoc_type_arg;
+    generic_arg_list = read_generic_arg_list;
+    param = read_param;
+    paren_args = read_paren_args;
+    path_type = read_path_type;
+    ret_type = read_ret_type;
+    type_arg = read_type_arg;
+    type_bound = read_type_bound;
+    type_ = read_type;
+  }

@@ -5,28 +5,52 @@ use Rattle.hir_syntax.specs.declared.ast.ExprKind.{ExprKind as AstExprKind, out-
 use Rattle.hir_syntax.specs.declared.ast.StmtKind.{StmtKind as AstStmtKind, out-StmtKind}
 use Rattle.hir_syntax.specs.declared.ast.BlockExpr.{BlockExpr as AstBlockExpr, out-BlockExpr}
 use Rattle.hir_syntax.specs.declared.ast.Expr.{Expr as AstExpr}
+use Rattle.hir_syntax.specs.declared.types.GenericArg.{GenericArg as AstGenericArg, out-GenericArg}
+use Rattle.hir_syntax.specs.declared.types.TypeKind.{TypeKind as AstTypeKind, out-TypeKind}
 use Rattle.hir_syntax.specs.declared.ast.Path.{Path as AstPath, out-Path}
-use Rattle.hir_syntax.specs.declared.ast.PathSegment.{PathSegment as AstPathSegment}
+use Rattle.hir_syntax.specs.declared.ast.PathSegment.{PathSegment as AstPathSegment, out-PathSegment}
+use Rattle.hir_syntax.specs.declared.types.AssocTypeArg.{AssocTypeArg as AstAssocTypeArg, out-AssocTypeArg}
+use Rattle.hir_syntax.specs.declared.types.GenericArgList.{GenericArgList as AstGenericArgList, out-GenericArgList}
+use Rattle.hir_syntax.specs.declared.types.Param.{Param as AstParam, out-Param}
+use Rattle.hir_syntax.specs.declared.types.ParenArgs.{ParenArgs as AstParenArgs, out-ParenArgs}
+use Rattle.hir_syntax.specs.declared.types.PathType.{PathType as AstPathType, out-PathType}
+use Rattle.hir_syntax.specs.declared.types.RetType.{RetType as AstRetType, out-RetType}
+use Rattle.hir_syntax.specs.declared.types.TypeArg.{TypeArg as AstTypeArg, out-TypeArg}
+use Rattle.hir_syntax.specs.declared.types.TypeBound.{TypeBound as AstTypeBound, out-TypeBound}
+use Rattle.hir_syntax.specs.declared.types.Type_.{Type_ as AstType_}
+use Rattle.hir_syntax.specs.declared.ast.RecordExprField.{RecordExprField as AstRecordExprField, out-RecordExprField}
+use Rattle.hir_syntax.specs.declared.ast.RecordExprFieldList.{RecordExprFieldList as AstRecordExprFieldList, out-RecordExprFieldList}
 use Rattle.hir_syntax.specs.declared.ast.Stmt.{Stmt as AstStmt}
 use Rattle.hir_syntax.specs.declared.ast.Label.{Label as AstLabel}
 use Rattle.hir_syntax.specs.declared.ast.Lifetime.{Lifetime as AstLifetime}
 use Rattle.hir_syntax.specs.declared.ast.ElseBranch.TheFolds.{fold-ElseBranch, fold-ExprKind, fold-StmtKind, fold-BlockExpr}
-use Rattle.hir_syntax.specs.declared.ast.ElseBranch.TheFolds.{fold-Expr, fold-Stmt}
+use Rattle.hir_syntax.specs.declared.ast.ElseBranch.TheFolds.{fold-Expr, fold-RecordExprField, fold-RecordExprFieldList, fold-Stmt}
 use Rattle.hir_syntax.specs.declared.node.NodeId.{NodeId}
 use Rattle.hir_syntax.specs.declared.node.TextRange.{TextRange}
+use Rattle.hir_syntax.specs.declared.node.AstPtr.{AstPtr}
 use Rattle.hir_store.specs.Pointers.{Pointer}
 use Rattle.hir_env.specs.declared.place.Place.{Place}
 use Rattle.hir_env.specs.Answers.{Answers}
 use Rattle.hir_env.specs.Spot.{Spot}
 use Rattle.hir_store.specs.declared.ids.BlockId.{BlockId}
-use Rattle.hir_env.specs.Layers.{BlockReading, StmtReading, Sorts, Reader, readings, itself}
+use Rattle.hir_env.specs.Layers.{BlockReading, StmtReading, RecordReading, Sorts, Reader, readings, itself}
 use Rattle.hir_env.specs.Answering.{in_file, ptr, site_of, label_of, jump_of, modified, expr_or_none, plain_or_none, exprs_of}
 use Rattle.hir_env.specs.Answering.{exprs_or_none, numbered, inside, asked, else_branch, expr_at, expr_kind, expr_step}
-use Rattle.hir_env.specs.Answering.{block_step, stmt_at, stmt_kind, stmt_step}
-use Rattle.hir_env.specs.Paths.{path_or_none, segment_or_absent, segments_of, first_of, rest_of, read_segment, path_step, read_path}
+use Rattle.hir_env.specs.Answering.{block_step, stmt_at, stmt_kind, stmt_step, field_at, field_step, record_step}
+use Rattle.hir_env.specs.Answering.{fields_of, spread_or_none, record_or_empty}
+use Rattle.hir_env.specs.Paths.{inside_impl, outside_impl}
+use Rattle.hir_env.specs.Paths.{path_or_none, segment_or_absent, segments_of, first_of, rest_of, type_or_none, types_of, parts_of}
+use Rattle.hir_env.specs.Paths.{params_or_none, is_varargs, answer_or_none, ret_or_none, parens_or_none, path_type_or_none}
+use Rattle.hir_env.specs.Paths.{arg_list_or_none, generic_args_of, bounds_of, type_at, generic_arg_step, path_step, segment_step}
+use Rattle.hir_env.specs.Paths.{assoc_type_arg_step, generic_arg_list_step, param_step, paren_args_step, path_type_step}
+use Rattle.hir_env.specs.Paths.{ret_type_step, type_arg_step, type_bound_step, read_generic_arg, read_path, read_segment}
+use Rattle.hir_env.specs.Paths.{read_assoc_type_arg, read_generic_arg_list, read_param, read_paren_args, read_path_type}
+use Rattle.hir_env.specs.Paths.{read_ret_type, read_type_arg, read_type_bound, read_type, type_reader}
+use Rattle.hir_env.specs.TypeLayers.{ParamReading, PathTypeReading}
 use Rattle.hir_env.specs.Answered as tree
-use Rattle.hir_env.specs.Answered.{Label, Jump, Path, OptionPath, Segments, Segment}
-use Rattle.hir_env.specs.Answered.{Expr, OptionExpr, Exprs, Block, OptionBlock, Stmts, Stmt}
+use Rattle.hir_env.specs.Answered.{Label, Jump, Type_, OptionType, Parts, Path, OptionPath, Segments, Segment}
+use Rattle.hir_env.specs.Answered.{SegmentArgs, OptionParens, OptionRet, OptionArgs, Args, Arg, Bounds, Bound}
+use Rattle.hir_env.specs.Answered.{Expr, OptionExpr, Exprs, Fields, Field, Spread, Block, OptionBlock, Stmts, Stmt}
 
 abbrev pub written : Sorts
 written = record {
@@ -35,39 +59,59 @@ written = record {
   StmtKind = AstStmtKind;
   BlockExpr = AstBlockExpr;
   Expr = AstExpr;
+  RecordExprField = AstRecordExprField;
+  RecordExprFieldList = AstRecordExprFieldList;
   Stmt = AstStmt;
 }
 
 module _ (env : Answers) where
   unfoldable pub read_else_branch : AstElseBranch → Place → Expr
-  read_else_branch = fold-ElseBranch readings.ElseBranch readings.ExprKind readings.StmtKind readings.BlockExpr readings.Expr readings.Stmt
-      (else_branch env itself) (expr_kind env itself) (stmt_kind env itself)
-      (block_step env itself) (expr_step env itself) (stmt_step env itself)
+  read_else_branch = fold-ElseBranch readings.ElseBranch readings.ExprKind readings.StmtKind readings.BlockExpr readings.Expr
+      readings.RecordExprField readings.RecordExprFieldList readings.Stmt
+      (else_branch env itself) (expr_kind env itself) (stmt_kind env itself) (block_step env itself) (expr_step env itself)
+      (field_step env itself) (record_step env itself) (stmt_step env itself)
 
-  unfoldable pub read_block : AstBlockExpr → BlockReading
-  read_block = fold-BlockExpr readings.ElseBranch readings.ExprKind readings.StmtKind readings.BlockExpr readings.Expr readings.Stmt
-      (else_branch env itself) (expr_kind env itself) (stmt_kind env itself)
-      (block_step env itself) (expr_step env itself) (stmt_step env itself)
-
-  unfoldable pub read_expr : AstExpr → Place → Expr
-  read_expr = fold-Expr readings.ElseBranch readings.ExprKind readings.StmtKind readings.BlockExpr readings.Expr readings.Stmt
-      (else_branch env itself) (expr_kind env itself) (stmt_kind env itself)
-      (block_step env itself) (expr_step env itself) (stmt_step env itself)
-
-  unfoldable pub read_stmt : AstStmt → Place → StmtReading
-  read_stmt = fold-Stmt readings.ElseBranch readings.ExprKind readings.StmtKind readings.BlockExpr readings.Expr readings.Stmt
-      (else_branch env itself) (expr_kind env itself) (stmt_kind env itself)
-      (block_step env itself) (expr_step env itself) (stmt_step env itself)
-
-  unfoldable pub read_expr_kind : AstExprKind → readings.ExprKind
-  read_expr_kind = fold-ExprKind readings.ElseBranch readings.ExprKind readings.StmtKind readings.BlockExpr readings.Expr readings.Stmt
-      (else_branch env itself) (expr_kind env itself) (stmt_kind env itself)
-      (block_step env itself) (expr_step env itself) (stmt_step env itself)
+  unfoldable pub read_expr_kind : AstExprKind → AstPtr → Place → Expr
+  read_expr_kind = fold-ExprKind readings.ElseBranch readings.ExprKind readings.StmtKind readings.BlockExpr readings.Expr
+      readings.RecordExprField readings.RecordExprFieldList readings.Stmt
+      (else_branch env itself) (expr_kind env itself) (stmt_kind env itself) (block_step env itself) (expr_step env itself)
+      (field_step env itself) (record_step env itself) (stmt_step env itself)
 
   unfoldable pub read_stmt_kind : AstStmtKind → Place → StmtReading
-  read_stmt_kind = fold-StmtKind readings.ElseBranch readings.ExprKind readings.StmtKind readings.BlockExpr readings.Expr readings.Stmt
-      (else_branch env itself) (expr_kind env itself) (stmt_kind env itself)
-      (block_step env itself) (expr_step env itself) (stmt_step env itself)
+  read_stmt_kind = fold-StmtKind readings.ElseBranch readings.ExprKind readings.StmtKind readings.BlockExpr readings.Expr
+      readings.RecordExprField readings.RecordExprFieldList readings.Stmt
+      (else_branch env itself) (expr_kind env itself) (stmt_kind env itself) (block_step env itself) (expr_step env itself)
+      (field_step env itself) (record_step env itself) (stmt_step env itself)
+
+  unfoldable pub read_block : AstBlockExpr → BlockReading
+  read_block = fold-BlockExpr readings.ElseBranch readings.ExprKind readings.StmtKind readings.BlockExpr readings.Expr
+      readings.RecordExprField readings.RecordExprFieldList readings.Stmt
+      (else_branch env itself) (expr_kind env itself) (stmt_kind env itself) (block_step env itself) (expr_step env itself)
+      (field_step env itself) (record_step env itself) (stmt_step env itself)
+
+  unfoldable pub read_expr : AstExpr → Place → Expr
+  read_expr = fold-Expr readings.ElseBranch readings.ExprKind readings.StmtKind readings.BlockExpr readings.Expr
+      readings.RecordExprField readings.RecordExprFieldList readings.Stmt
+      (else_branch env itself) (expr_kind env itself) (stmt_kind env itself) (block_step env itself) (expr_step env itself)
+      (field_step env itself) (record_step env itself) (stmt_step env itself)
+
+  unfoldable pub read_field : AstRecordExprField → Place → Field
+  read_field = fold-RecordExprField readings.ElseBranch readings.ExprKind readings.StmtKind readings.BlockExpr readings.Expr
+      readings.RecordExprField readings.RecordExprFieldList readings.Stmt
+      (else_branch env itself) (expr_kind env itself) (stmt_kind env itself) (block_step env itself) (expr_step env itself)
+      (field_step env itself) (record_step env itself) (stmt_step env itself)
+
+  unfoldable pub read_record : AstRecordExprFieldList → Place → RecordReading
+  read_record = fold-RecordExprFieldList readings.ElseBranch readings.ExprKind readings.StmtKind readings.BlockExpr readings.Expr
+      readings.RecordExprField readings.RecordExprFieldList readings.Stmt
+      (else_branch env itself) (expr_kind env itself) (stmt_kind env itself) (block_step env itself) (expr_step env itself)
+      (field_step env itself) (record_step env itself) (stmt_step env itself)
+
+  unfoldable pub read_stmt : AstStmt → Place → StmtReading
+  read_stmt = fold-Stmt readings.ElseBranch readings.ExprKind readings.StmtKind readings.BlockExpr readings.Expr
+      readings.RecordExprField readings.RecordExprFieldList readings.Stmt
+      (else_branch env itself) (expr_kind env itself) (stmt_kind env itself) (block_step env itself) (expr_step env itself)
+      (field_step env itself) (record_step env itself) (stmt_step env itself)
 
   abbrev pub reader : Reader written
   reader = record {
@@ -76,6 +120,8 @@ module _ (env : Answers) where
     stmt_kind = read_stmt_kind;
     block_expr = read_block;
     expr = read_expr;
+    field = read_field;
+    field_list = read_record;
     stmt = read_stmt;
   }
 
@@ -93,8 +139,47 @@ answered_block at b = (read_block at.answers b).own at.place
 abbrev pub answered_else : Spot → AstElseBranch → Expr
 answered_else at e = read_else_branch at.answers e at.place
 
+abbrev pub answered_field : Spot → AstRecordExprField → Field
+answered_field at x = read_field at.answers x at.place
+
+abbrev pub answered_record : Spot → AstRecordExprFieldList → RecordReading
+answered_record at x = read_record at.answers x at.place
+
+abbrev pub answered_type : Spot → AstType_ → Type_
+answered_type at x = read_type at.answers x at.place
+
+abbrev pub answered_param : Spot → AstParam → ParamReading
+answered_param at x = read_param at.answers x at.place
+
+abbrev pub answered_ret : Spot → AstRetType → OptionType
+answered_ret at x = read_ret_type at.answers x at.place
+
 abbrev pub answered_path : Spot → AstPath → Path
 answered_path at x = read_path at.answers x at.place
+
+abbrev pub answered_segment : Spot → AstPathSegment → Segment
+answered_segment at x = read_segment at.answers x at.place
+
+abbrev pub answered_path_type : Spot → AstPathType → PathTypeReading
+answered_path_type at x = read_path_type at.answers x at.place
+
+abbrev pub answered_paren_args : Spot → AstParenArgs → Parts
+answered_paren_args at x = read_paren_args at.answers x at.place
+
+abbrev pub answered_arg_list : Spot → AstGenericArgList → Args
+answered_arg_list at x = read_generic_arg_list at.answers x at.place
+
+abbrev pub answered_arg : Spot → AstGenericArg → Arg
+answered_arg at x = read_generic_arg at.answers x at.place
+
+abbrev pub answered_type_arg : Spot → AstTypeArg → OptionType
+answered_type_arg at x = read_type_arg at.answers x at.place
+
+abbrev pub answered_assoc_arg : Spot → AstAssocTypeArg → Arg
+answered_assoc_arg at x = read_assoc_type_arg at.answers x at.place
+
+abbrev pub answered_bound : Spot → AstTypeBound → Bound
+answered_bound at x = read_type_bound at.answers x at.place
 
 -- parts that may be absent, and lists
 abbrev pub expr_part : Spot → Option AstExpr → OptionExpr
@@ -112,6 +197,18 @@ exprs_part at es = exprs_of (read_expr at.answers) es at.place
 abbrev pub args_part : Spot → Option (List AstExpr) → Exprs
 args_part at es = exprs_or_none (read_expr at.answers) es at.place
 
+abbrev pub fields_part : Spot → List AstRecordExprField → Fields
+fields_part at fs = fields_of (read_field at.answers) fs at.place
+
+abbrev pub spread_part : Spot → Option AstExpr → Bool → Spread
+spread_part at e dots = spread_or_none (read_expr at.answers) e dots at.place
+
+abbrev pub record_part : Spot → Option AstRecordExprFieldList → RecordReading
+record_part at x = record_or_empty (read_record at.answers) x at.place
+
+abbrev pub type_part : Spot → Option AstType_ → OptionType
+type_part at t = type_or_none (read_type at.answers) t at.place
+
 abbrev pub path_part : Spot → Option AstPath → OptionPath
 path_part at x = path_or_none (read_path at.answers) x at.place
 
@@ -127,6 +224,39 @@ first_part at ss = first_of (read_segment at.answers) ss at.place
 
 abbrev pub rest_part : Spot → List (Option AstPathSegment) → Segments
 rest_part at ss = rest_of (read_segment at.answers) ss at.place
+
+abbrev pub path_type_part : Spot → Option AstPathType → Option PathTypeReading
+path_type_part at t = path_type_or_none (read_path_type at.answers) t at.place
+
+abbrev pub types_part : Spot → List AstType_ → Parts
+types_part at ts = types_of (read_type at.answers) ts at.place
+
+abbrev pub type_args_part : Spot → List AstTypeArg → Parts
+type_args_part at ts = parts_of (read_type_arg at.answers) ts at.place
+
+abbrev pub params_part : Spot → Option (List AstParam) → Parts
+params_part at ps = params_or_none (read_param at.answers) ps at.place
+
+abbrev pub varargs_part : Spot → Option (List AstParam) → Bool
+varargs_part at ps = is_varargs (read_param at.answers) ps at.place
+
+abbrev pub answer_part : Spot → Option AstRetType → OptionType
+answer_part at r = answer_or_none (read_ret_type at.answers) r at.place
+
+abbrev pub ret_part : Spot → Option AstRetType → OptionRet
+ret_part at r = ret_or_none (read_ret_type at.answers) r at.place
+
+abbrev pub parens_part : Spot → Option AstParenArgs → Option AstRetType → OptionParens
+parens_part at x r = parens_or_none (read_paren_args at.answers) x (ret_part at r) at.place
+
+abbrev pub arg_list_part : Spot → Option AstGenericArgList → OptionArgs
+arg_list_part at x = arg_list_or_none (read_generic_arg_list at.answers) x at.place
+
+abbrev pub generic_args_part : Spot → List AstGenericArg → Args
+generic_args_part at as' = generic_args_of (read_generic_arg at.answers) as' at.place
+
+abbrev pub bounds_part : Spot → List AstTypeBound → Bounds
+bounds_part at bs = bounds_of (read_type_bound at.answers) bs at.place
 
 abbrev pub label_part : Spot → Option AstLabel → Option Label
 label_part at l = option_map (label_of at.answers at.place) l
@@ -174,8 +304,58 @@ block_level at head b =
 abbrev pub else_level : Spot → AstElseBranch → Expr
 else_level at e = else_branch at.answers (reader at.answers) (out-ElseBranch e) at.place
 
-abbrev pub segment_level : Spot → AstPathSegment → Segment
-segment_level at s = read_segment at.answers s at.place
+abbrev pub field_level : Spot → AstRecordExprField → Field
+field_level at x = field_step at.answers (reader at.answers) (out-RecordExprField x) at.place
+
+abbrev pub record_level : Spot → AstRecordExprFieldList → RecordReading
+record_level at x = record_step at.answers (reader at.answers) (out-RecordExprFieldList x) at.place
+
+-- one level of a type or a path
+
+abbrev pub type_level : Spot → AstType_ → Type_
+type_level at x = type_at at.answers (type_reader at.answers) (out-TypeKind x.kind) at.place (pointer_at at x.id x.range)
+
+abbrev pub param_level : Spot → AstParam → ParamReading
+param_level at x = param_step at.answers (type_reader at.answers) (out-Param x) at.place
+
+abbrev pub ret_level : Spot → AstRetType → OptionType
+ret_level at x = ret_type_step at.answers (type_reader at.answers) (out-RetType x) at.place
 
 abbrev pub path_level : Spot → AstPath → Path
-path_level at x = path_step at.answers (read_path at.answers) (out-Path x) at.place
+path_level at x = path_step at.answers (type_reader at.answers) (out-Path x) at.place
+
+abbrev pub segment_level : Spot → AstPathSegment → Segment
+segment_level at x = segment_step at.answers (type_reader at.answers) (out-PathSegment x) at.place
+
+abbrev pub path_type_level : Spot → AstPathType → PathTypeReading
+path_type_level at x = path_type_step at.answers (type_reader at.answers) (out-PathType x) at.place
+
+abbrev pub paren_args_level : Spot → AstParenArgs → Parts
+paren_args_level at x = paren_args_step at.answers (type_reader at.answers) (out-ParenArgs x) at.place
+
+abbrev pub arg_list_level : Spot → AstGenericArgList → Args
+arg_list_level at x = generic_arg_list_step at.answers (type_reader at.answers) (out-GenericArgList x) at.place
+
+abbrev pub arg_level : Spot → AstGenericArg → Arg
+arg_level at x = generic_arg_step at.answers (type_reader at.answers) (out-GenericArg x) at.place
+
+abbrev pub type_arg_level : Spot → AstTypeArg → OptionType
+type_arg_level at x = type_arg_step at.answers (type_reader at.answers) (out-TypeArg x) at.place
+
+abbrev pub assoc_arg_level : Spot → AstAssocTypeArg → Arg
+assoc_arg_level at x = assoc_type_arg_step at.answers (type_reader at.answers) (out-AssocTypeArg x) at.place
+
+abbrev pub bound_level : Spot → AstTypeBound → Bound
+bound_level at x = type_bound_step at.answers (type_reader at.answers) (out-TypeBound x) at.place
+
+-- what stands behind the name of a segment
+abbrev pub segment_args_level : Spot → AstPathSegment → SegmentArgs
+segment_args_level at x = let level = out-PathSegment x in
+    tree.segment_args (arg_list_part at level.generics) (parens_part at level.parens level.ret) level.rtn
+
+-- the spots inside of an `impl`, and inside of a written binding
+abbrev pub in_impl : Spot → Spot
+in_impl at = record at { place = inside_impl at.place }
+
+abbrev pub in_binding : Spot → Spot
+in_binding at = record at { place = outside_impl at.place }

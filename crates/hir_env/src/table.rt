@@ -5,7 +5,7 @@ ghost use Rattle.hir_env.specs.Tables as spec;
 ghost use Rattle.hir_env.specs.NodeMap.{with_first, with_first_pred, with_first_context};
 
 use crate::env::LowerEnv;
-use crate::first_map::FirstMap;
+use hir_store::first_map::FirstMap;
 use hir_store::ids::{
     BlockId, CfgId, CrateId, CtxId, DefWithBodyId, HygieneId, ItemContainerId, MacroDefId, ModuleId,
 };

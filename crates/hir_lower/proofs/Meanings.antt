@@ -27,8 +27,9 @@ use Rattle.hir_one_result.specs.OneResult.{OneResult, fresh_owing}
 use Rattle.hir_one_result.proofs.TreeStands.{all_stand}
 use Rattle.hir_one_result.proofs.TreeFaults.{diagnostics_are}
 use Rattle.hir_one_result.proofs.TreeBlocks.{blocks_are}
-use Rattle.hir_one_result.proofs.TreeRooms.{all_fit}
+use Rattle.hir_one_result.proofs.Fits.{all_fit}
 use Rattle.hir_one_result.proofs.Whole.{one_results}
+use Rattle.hir_type_result.proofs.Named.{expr_types_once}
 use Rattle.hir_lower.specs.Roots.{RefusedAtEnd, StoresFromNothing, fresh, root_of, body_of, report_missing}
 use Rattle.hir_lower.specs.Stays.{Stays}
 use Rattle.hir_lower.proofs.Ways.{Went, went}
@@ -55,7 +56,7 @@ recorded_stays b (Ok i) c h = extends_trans h.stays (extends_root c.stored (root
 recorded_stays b (Err x) c h = h
 
 recorded_went : (b : Builder) (o : Checked ExprId) (c : Builder) → Went b.stored c.stored → Went b.stored (go_on o c recorded).1.stored
-recorded_went b (Ok i) c h = record { nodes = h.nodes; labels = h.labels; expr_ways = h.expr_ways; label_ways = h.label_ways }
+recorded_went b (Ok i) c h = record { exprs = h.exprs; labels = h.labels; types = h.types; lifetimes = h.lifetimes }
 recorded_went b (Err x) c h = h
 
 root_stays : (e : OptionExpr) (b : Builder) → Stays b.stored (root_of e b).1.stored
@@ -64,7 +65,13 @@ root_stays e b =
     let c = (lower_part e (closed b)).1 in
     let ways : Went b.stored (go_on o c recorded).1.stored = recorded_went b o c (went (part_leads e) (closed b)) in
     rw (root_steps e b)
-    (record { extends = recorded_stays b o c (keeping e (closed b)); exprs = ways.expr_ways; labels = ways.label_ways })
+    (record {
+      extends = recorded_stays b o c (keeping e (closed b));
+      exprs = ways.exprs.ways;
+      labels = ways.labels.ways;
+      types = ways.types.ways;
+      lifetimes = ways.lifetimes.ways;
+    })
 
 pub stays_unless : (e : OptionExpr) (b b' : Builder) (r : Checked ExprId) → Lowers HasExpr (root_of e) b r b'
     → r ≢ Err Memory → Stays b.stored b'.stored
@@ -129,14 +136,20 @@ root_rooted e b b' i d h =
             led = standing.led;
             labels = standing.labels;
             reached_once = λ depth le. reached_once e (closed b) p.inner i lowered later ext depth le;
+            types_reached_once = λ depth le more new. expr_types_once e (closed b) p.inner i paired p.is later ext depth le more new;
           };
       exprs = fits.exprs;
+      types = fits.types;
+      lifetimes = fits.lifetimes;
+      type_sources = fits.type_sources;
+      lifetime_sources = fits.lifetime_sources;
       roots = ap (λ rs. rs ++ root_at p.inner.stored.exprs.entries i ∷ []) kept.roots;
       more = faults.more;
       faults = faults.is;
       permuted = faults.permuted;
       blocks = blocks_are e (closed b) i p.inner paired p.is;
-      paired = record { exprs = after.exprs; labels = after.labels };
+      paired = record { exprs = after.exprs; labels = after.labels; types = after.types; lifetimes = after.lifetimes };
+      mapped = λ m. let x = kept.mapped paired m in record { types = x.types; lifetimes = x.lifetimes };
     })
 
 pub rooted_if : (e : OptionExpr) (b b' : Builder) (r : Checked ExprId) → Lowers HasExpr (root_of e) b r b' → Paired b.stored
@@ -156,11 +169,17 @@ unfolding storing.record_root
 root_whole e limit owed b' i h =
     let b = fresh_owing limit owed in
     let p = parts e b b' i h in
-    let done = root_rooted e b b' i (record { exprs = refl; labels = refl }) h in
+    let done = root_rooted e b b' i (record { exprs = refl; labels = refl; types = refl; lifetimes = refl }) h in
     let live = done.lives b'.stored (extends_refl b'.stored) in
     let P : Builder → Type 0 = λ x. OneResult (store_of x.stored) (map_of x.stored) owed e in record {
       result = subst P p.left (one_results limit owed e i p.inner p.is);
-      body = record { root = root_at b'.stored.exprs.entries i; only = done.roots; same = live.same; reached_once = live.reached_once };
+      body = record {
+        root = root_at b'.stored.exprs.entries i;
+        only = done.roots;
+        same = live.same;
+        reached_once = live.reached_once;
+        types_reached_once = λ depth le. live.types_reached_once depth le b'.stored.exprs.entries refl;
+      };
     }
 
 body_whole : (skip : Bool) (node : Pointer) (k : Option MissingBodyItemKind) (e : OptionExpr) (limit : ℕ) (b' : Builder) (i : ExprId)

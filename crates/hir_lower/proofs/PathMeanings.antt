@@ -1,42 +1,92 @@
 -- What is lowered as a path is what is written.
-use Rattle.std.proofs.Common.{◌≡◌, ◌≢◌, ◌∙◌, refl, sym, ap, true, Option, Some, None, option_map, Result, Ok, Err}
+use Rattle.std.proofs.Common.{◌≡◌, ◌≢◌, refl, sym, ap, subst, Option, Some, None, option_map, Result, Ok, Err}
 use Rattle.std.specs.Prelude.{IfOk, IsErrOf}
 use Rattle.hir_syntax.specs.declared.ast.Path.{Path as AstPath}
+use Rattle.hir_store.specs.Stored.{Stored, store_of, map_of}
+use Rattle.hir_store.specs.Storing.{Extends}
 use Rattle.hir_store.specs.declared.path.Path.{Path}
+use Rattle.hir_store.specs.declared.fault.StoreFault.{StoreFault}
 use Rattle.hir_store.specs.declared.fault.StoreFault.TheVariants.{Memory, Full}
+use Rattle.hir_env.specs.Answered.{OptionPath}
 use Rattle.hir_env.specs.Spot.{Spot}
 use Rattle.hir_data.specs.Reading.{stored_path}
-use Rattle.hir_data.specs.Written.{overcounts, written_path}
 use Rattle.hir_data.proofs.Segments.{segment_law}
 use Rattle.hir_lower_form.specs.Builder.{Builder}
 use Rattle.hir_lower_form.specs.Lowering.{Checked, SomeEnd}
+use Rattle.hir_lower_form.specs.Lower.{lower_path}
 use Rattle.hir_lower_form.specs.Methods.{LowersPath}
-use Rattle.hir_read_back.proofs.Walk.{path_law, path_stays}
-use Rattle.hir_lower.specs.Means.{BearsNames, whole_path}
+use Rattle.hir_steps.specs.Keeps.{KeepsAside, Paired}
+use Rattle.hir_steps.proofs.Aside.{paths_keep}
+use Rattle.hir_read_back.proofs.Now.{path_law}
+use Rattle.hir_one_result.specs.Laws.{Grown, GrownUnless}
+use Rattle.hir_one_result.specs.PathRoom.{whole_size}
+use Rattle.hir_one_result.specs.Room.{Short}
+use Rattle.hir_one_result.proofs.Fits.{paths_fit}
+use Rattle.hir_type_result.proofs.Named.{path_types_once}
+use Rattle.hir_lower.specs.Means.{BearsNames, PathRooted, ReadsBack, whole_path}
+use Rattle.hir_lower.specs.Stays.{Stays}
+use Rattle.hir_lower.proofs.Ways.{Went, went}
+use Rattle.hir_lower.proofs.TypeWays.{option_path_leads}
+
+extends_of : (b : Builder) (o : Checked (Option Path)) (c : Builder) → KeepsAside b o c → Extends b.stored c.stored
+extends_of b (Ok x) c h = h.0.stays
+extends_of b (Err e) c h = h
 
 -- what is so of a path that stands alone
 module _ (at : Spot) (x : AstPath) (b b' : Builder) where
   abbrev Alone : Checked (Option Path) → Type 0
   Alone r = LowersPath (whole_path at x) b r b'
 
-  pub data_if : (r : Checked (Option Path)) → Alone r → IfOk r (λ y. option_map stored_path y ≡ written_path (whole_path at x))
-  data_if (Ok y) l = path_law (whole_path at x) b b' y l.0
-  data_if (Err e) l = tt
+  pub data_if : (r : Checked (Option Path)) → Alone r → Paired b.stored → IfOk r (λ y. ReadsBack b'.stored y (whole_path at x))
+  data_if (Ok y) l d = λ later ext. path_law (whole_path at x) b b' y d l.0 later ext
+  data_if (Err e) l d = tt
 
-  pub names_if : (r : Checked (Option Path)) → Alone r → IfOk r (λ y. BearsNames x y)
-  names_if (Ok None) l = tt
-  names_if (Ok (Some y)) l =
-      λ alone present. segment_law at x (stored_path y) alone present (sym (path_law (whole_path at x) b b' (Some y) l.0))
-  names_if (Err e) l = tt
+  pub names_if : (r : Checked (Option Path)) → Alone r → Paired b.stored → IfOk r (λ y. BearsNames b'.stored x y)
+  names_if (Ok None) l d = tt
+  names_if (Ok (Some y)) l d = λ later ext alone plain.
+      segment_law at x (stored_path (store_of later) (map_of later) y) alone plain
+      (sym (path_law (whole_path at x) b b' (Some y) d l.0 later ext))
+  names_if (Err e) l d = tt
+
+  pub rooted_path_if : (r : Checked (Option Path)) → Alone r → Paired b.stored
+      → IfOk r (λ y. PathRooted b.stored b'.stored y (whole_path at x))
+  rooted_path_if (Ok y) l d =
+      let kept : KeepsAside b (Ok y) b' = subst (λ q. KeepsAside b q.0 q.1) l.0 (paths_keep (whole_path at x) b d) in
+      let grown : Grown (whole_size (whole_path at x)) b.stored b'.stored =
+      subst (λ q. GrownUnless (whole_size (whole_path at x)) b.stored q.0 q.1.stored) l.0 (paths_fit (whole_path at x) b) in
+      record {
+        reached_once = λ later ext depth le. path_types_once (whole_path at x) b b' y d l.0 later ext depth le;
+        grown = grown;
+        aside = kept.1;
+        roots = kept.0.roots;
+        paired = kept.0.paired d;
+        mapped = kept.0.mapped d;
+      }
+  rooted_path_if (Err e) l d = tt
 
   pub ends_if : (r : Checked (Option Path)) → Alone r → IsErrOf r Full → SomeEnd b'
   ends_if (Ok y) l is = cc
   ends_if (Err e) l is = let other : e ≢ Memory = λ m. cc in (l other).1
 
-  pub overcounts_if : (r : Checked (Option Path)) → Alone r → IsErrOf r Full → overcounts (whole_path at x)
-  overcounts_if (Ok y) l is = cc
-  overcounts_if (Err e) l is = let other : e ≢ Memory = λ m. cc in ((path_stays (whole_path at x) b b').1 e (l other).0).0
+  short_if : (e : StoreFault) → lower_path (whole_path at x) b ≡ (Err e, b') → Short (whole_size (whole_path at x)) b.stored
+  short_if e is = subst (λ q. GrownUnless (whole_size (whole_path at x)) b.stored q.0 q.1.stored) is (paths_fit (whole_path at x) b)
 
-  pub stays_if : (r : Checked (Option Path)) → Alone r → r ≢ Err Memory → b'.stored ≡ b.stored
-  stays_if (Ok y) l n = ap (λ (o : Builder). o.stored) ((path_stays (whole_path at x) b b').0 y l.0)
-  stays_if (Err e) l n = let other : e ≢ Memory = λ is. n (ap Err is) in ((path_stays (whole_path at x) b b').1 e (l other).0).1
+  pub path_too_large_if : (r : Checked (Option Path)) → Alone r → IsErrOf r Full → Short (whole_size (whole_path at x)) b.stored
+  path_too_large_if (Ok y) l is = cc
+  path_too_large_if (Err e) l is = let other : e ≢ Memory = λ m. cc in short_if e (l other).0
+
+  path_stays : Paired b.stored → Stays b.stored (lower_path (whole_path at x) b).1.stored
+  path_stays d =
+      let o = lower_path (whole_path at x) b in
+      let ways : Went b.stored o.1.stored = went (option_path_leads (whole_path at x)) b in record {
+        extends = extends_of b o.0 o.1 (paths_keep (whole_path at x) b d);
+        exprs = ways.exprs.ways;
+        labels = ways.labels.ways;
+        types = ways.types.ways;
+        lifetimes = ways.lifetimes.ways;
+      }
+
+  pub path_stays_if : (r : Checked (Option Path)) → Alone r → Paired b.stored → r ≢ Err Memory → Stays b.stored b'.stored
+  path_stays_if (Ok y) l d n = subst (λ q. Stays b.stored q.1.stored) l.0 (path_stays d)
+  path_stays_if (Err e) l d n =
+      let other : e ≢ Memory = λ is. n (ap Err is) in subst (λ q. Stays b.stored q.1.stored) (l other).0 (path_stays d)

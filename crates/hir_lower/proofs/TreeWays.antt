@@ -3,6 +3,9 @@ use Rattle.std.proofs.Common.{Bool, true, false, List, [], Option, Some, None}
 use Rattle.hir_store.specs.Pointers.{Pointer}
 use Rattle.hir_store.specs.declared.hir.Expr.{Expr as HirExpr}
 use Rattle.hir_store.specs.declared.path.Path.{Path as HirPath}
+use Rattle.hir_store.specs.declared.path.GenericArgs.{GenericArgs}
+use Rattle.hir_store.specs.declared.hir.RecordLitField.{RecordLitField}
+use Rattle.hir_store.specs.declared.hir.RecordSpread.{RecordSpread}
 use Rattle.hir_store.specs.declared.hir.Statement.{Statement}
 use Rattle.hir_store.specs.declared.name.Name.{Name}
 use Rattle.hir_store.specs.declared.diagnostics.AwaitLocation.{AwaitLocation}
@@ -11,21 +14,19 @@ use Rattle.hir_store.specs.declared.ids.HygieneId.{HygieneId}
 use Rattle.hir_store.specs.declared.ids.LabelId.{LabelId}
 use Rattle.hir_store.specs.declared.ids.BlockId.{BlockId}
 use Rattle.hir_env.specs.Answered as tree
-use Rattle.hir_env.specs.Answered.{Path, OptionPath, Segments, Segment}
-use Rattle.hir_env.specs.Answered.{Listing, Label, Jump, Expr, OptionExpr, Exprs, Block, OptionBlock, Stmts, Stmt}
+use Rattle.hir_env.specs.Answered.{Listing, Label, Jump, Expr, OptionExpr, Exprs, Fields, Field, Spread, Block, OptionBlock, Stmts, Stmt}
 use Rattle.hir_lower_form.specs.Lowering.{Lowering}
 use Rattle.hir_lower_form.specs.Lower.{ExprSteps, StoredContents, missing, some, if_form, loop_form, call_form, continue_form}
 use Rattle.hir_lower_form.specs.Lower.{break_form, paren_form, operand_form, operands_form, value_form, list_form}
-use Rattle.hir_lower_form.specs.declared.walk.PathWalk.{PathWalk}
-use Rattle.hir_lower_form.specs.declared.walk.Reading.{Reading}
-use Rattle.hir_lower_form.specs.declared.walk.Reading.TheVariants.{Refused, Ended, Open}
-use Rattle.hir_lower_form.specs.Walks.{at_first}
-use Rattle.hir_lower_form.specs.Paths.{proceed, whole, counted, read_segment, read_each, read_path, read_option, lower_path}
+use Rattle.hir_lower_form.specs.Types.{TypeSteps}
 use Rattle.hir_lower_form.specs.Lower.{path_form, method_call_form, await_form, block_form, labelled, kept, lower, lower_part}
+use Rattle.hir_lower_form.specs.Lower.{StoredFields, cast_form, offset_of_form, record_contents, record_of, record_form, field_form}
 use Rattle.hir_lower_form.specs.Lower.{present, kept_part, lower_each, lower_block, lower_block_part, lower_stmts, lower_stmt}
+use Rattle.hir_lower_form.specs.Lower.{lower_fields, lower_field, lower_spread}
+use Rattle.hir_lower.proofs.TypeWays.{args_part_leads, option_path_leads, type_part_leads}
 use Rattle.hir_lower.proofs.Ways.{Leading, any, since, then', makes, leading_pure, leading_report, leading_block, leading_close}
-use Rattle.hir_lower.proofs.Ways.{leading_count_out}
 use Rattle.hir_lower.proofs.Ways.{leading_jump, leading_alloc, leading_open, leading_point, leading_closed, leading_report_await}
+use Rattle.hir_lower.proofs.Ways.{leading_point_field}
 
 missing_leads : Leading since missing
 unfolding missing
@@ -84,10 +85,32 @@ module _ (at : Pointer) where
   list_leads (tree.tuple_of true) h = makes h (λ is. makes missing_leads (λ i. leading_alloc _ (Some at)))
   list_leads tree.array_of h = makes h (λ is. leading_alloc _ (Some at))
 
-  method_call_leads : {e : ExprSteps} (name : Name) {xs : Lowering (List ExprId)} → Leading since e → Leading any xs
-      → Leading since (method_call_form at e name xs)
+  method_call_leads : {e : ExprSteps} (name : Name) {xs : Lowering (List ExprId)} {as' : Lowering (Option GenericArgs)}
+      → Leading since e → Leading any xs → Leading any as' → Leading since (method_call_form at e name xs as')
   unfolding method_call_form
-  method_call_leads name he hx = makes he (λ i. makes hx (λ is. leading_alloc _ (Some at)))
+  method_call_leads name he hx ha = makes he (λ i. makes hx (λ is. makes ha (λ a. leading_alloc _ (Some at))))
+
+  cast_leads : {e : ExprSteps} {t : TypeSteps} → Leading since e → Leading any t → Leading since (cast_form at e t)
+  unfolding cast_form
+  cast_leads he ht = makes he (λ i. makes ht (λ j. leading_alloc _ (Some at)))
+
+  offset_of_leads : {t : TypeSteps} (names : List Name) → Leading any t → Leading since (offset_of_form at t names)
+  unfolding offset_of_form
+  offset_of_leads names h = makes h (λ i. leading_alloc _ (Some at))
+
+  record_of_leads : {contents : Lowering StoredFields} (p : Option HirPath) → Leading any contents
+      → Leading since (record_of at contents p)
+  record_of_leads None h = missing_leads
+  record_of_leads (Some p) h = makes h (λ r. leading_alloc _ (Some at))
+
+  record_leads : {p : Lowering (Option HirPath)} {contents : Lowering StoredFields} → Leading any p → Leading any contents
+      → Leading since (record_form at p contents)
+  unfolding record_form
+  record_leads hp h = makes hp (λ p. record_of_leads p h)
+
+  field_leads : (name : Name) {e : ExprSteps} → Leading since e → Leading any (field_form at name e)
+  unfolding field_form
+  field_leads name h = then' h (λ i. then' (leading_point_field i at) (λ u. leading_pure _))
 
   await_leads : (location : Option AwaitLocation) {e : ExprSteps} → Leading since e → Leading since (await_form at location e)
   unfolding await_form
@@ -98,6 +121,11 @@ module _ (at : Pointer) where
   unfolding block_form
   block_form_leads is_unsafe label number h = makes (leading_block number) (λ u. makes h (λ r. leading_alloc _ (Some at)))
 
+contents_lead : {fs : Lowering (List RecordLitField)} {s : Lowering RecordSpread} → Leading any fs → Leading any s
+    → Leading any (record_contents fs s)
+unfolding record_contents
+contents_lead hf hs = then' hf (λ xs. then' hs (λ x. leading_pure _))
+
 labelled_leads : (label : Option Label) {f : Option LabelId → ExprSteps} → ((n : Option LabelId) → Leading since (f n))
     → Leading since (labelled label f)
 unfolding labelled
@@ -107,51 +135,6 @@ labelled_leads (Some l) h = makes (leading_open l) (λ n. leading_closed (h (Som
 kept_leads : (e : Expr) {p : ExprSteps} → Leading since p → Leading any (kept e p)
 kept_leads (tree.disabled_expr at by e) h = then' (leading_report _) (λ u. leading_pure None)
 kept_leads e h = some_leads h
-
-counted_leads : (r : Option Reading) → Leading any (counted r)
-counted_leads (Some r) = leading_pure r
-counted_leads None = leading_count_out
-
-proceed_leads : (r : Reading) {f : PathWalk → Lowering Reading} → ((w : PathWalk) → Leading any (f w)) → Leading any (proceed r f)
-proceed_leads Refused h = leading_pure Refused
-proceed_leads (Ended w) h = leading_pure (Ended w)
-proceed_leads (Open w) h = h w
-
-whole_leads : {own : Lowering Reading} {outer : PathWalk → Lowering Reading} → Leading any own
-    → ((w : PathWalk) → Leading any (outer w)) → Leading any (whole own outer)
-unfolding whole
-whole_leads h k = then' h (λ r. proceed_leads r k)
-
-segment_leads : (first : Bool) (s : Segment) (w : PathWalk) → Leading any (read_segment first s w)
-segment_leads first tree.absent_segment w = leading_pure _
-segment_leads first tree.broken_segment w = leading_pure _
-segment_leads first (tree.name_segment n) w = leading_pure _
-segment_leads first tree.self_type_segment w = leading_pure _
-segment_leads false tree.crate_segment w = leading_pure _
-segment_leads true tree.crate_segment w = leading_pure _
-segment_leads false (tree.dollar_crate_segment root) w = leading_pure _
-segment_leads true (tree.dollar_crate_segment root) w = leading_pure _
-segment_leads false tree.self_segment w = leading_pure _
-segment_leads true tree.self_segment w = leading_pure _
-segment_leads first tree.super_segment w = counted_leads _
-
-segments_lead : (ss : Segments) (w : PathWalk) → Leading any (read_each ss w)
-segments_lead tree.no_segments w = leading_pure _
-segments_lead (tree.more_segments s ss) w = then' (segments_lead ss w) (λ r. proceed_leads r (λ v. segment_leads false s v))
-
-mutual
-  reading_leads : (p : Path) (w : PathWalk) → Leading any (read_path p w)
-  reading_leads (tree.path leading first rest use_) w = whole_leads
-      (then' (segments_lead rest w) (λ r. proceed_leads r (λ v. segment_leads true first (at_first leading v))))
-      (λ v. outer_leads use_ v)
-
-  outer_leads : (p : OptionPath) (w : PathWalk) → Leading any (read_option p w)
-  outer_leads tree.no_path w = leading_pure _
-  outer_leads (tree.some_path p) w = reading_leads p w
-
-option_path_leads : (p : OptionPath) → Leading any (lower_path p)
-option_path_leads tree.no_path = leading_pure None
-option_path_leads (tree.some_path p) = then' (reading_leads p _) (λ r. leading_pure _)
 
 mutual
   node_leads : (e : Expr) → Leading since (lower e)
@@ -170,11 +153,16 @@ mutual
   node_leads (tree.binary_expr at form a b) = operands_leads at _ (part_leads a) (part_leads b)
   node_leads (tree.lazy_expr at op a b) = operands_leads at _ (part_leads a) (part_leads b)
   node_leads (tree.list_expr at form es) = list_leads at form (each_leads [] es)
-  node_leads (tree.method_call_expr at e name es) = method_call_leads at name (part_leads e) (each_leads [] es)
+  node_leads (tree.method_call_expr at e name es as') =
+      method_call_leads at name (part_leads e) (each_leads [] es) (args_part_leads as')
   node_leads (tree.leaving_expr at form e) = value_leads at _ (present_leads e)
   node_leads (tree.become_expr at e) = operand_leads at _ (part_leads e)
   node_leads (tree.yield_expr at e) = value_leads at _ (present_leads e)
   node_leads (tree.await_expr at location e) = await_leads at location (part_leads e)
+  node_leads (tree.cast_expr at e t) = cast_leads at (part_leads e) (type_part_leads None t)
+  node_leads (tree.record_expr at x fs s) =
+      record_leads at (option_path_leads x) (contents_lead (fields_lead [] fs) (spread_leads s))
+  node_leads (tree.offset_of_expr at t names) = offset_of_leads at names (type_part_leads None t)
   node_leads (tree.nameless_expr at e) = operand_leads at _ (part_leads e)
 
   pub part_leads : (e : OptionExpr) → Leading since (lower_part e)
@@ -192,6 +180,20 @@ mutual
   each_leads : (done : List ExprId) (es : Exprs) → Leading any (lower_each done es)
   each_leads done tree.no_exprs = leading_pure done
   each_leads done (tree.more_exprs e es) = then' (kept_leads e (node_leads e)) (λ x. each_leads _ es)
+
+  fields_lead : (done : List RecordLitField) (fs : Fields) → Leading any (lower_fields done fs)
+  fields_lead done tree.no_fields = leading_pure done
+  fields_lead done (tree.more_fields f fs) = then' (one_field_leads f) (λ x. fields_lead _ fs)
+
+  one_field_leads : (f : Field) → Leading any (lower_field f)
+  one_field_leads (tree.disabled_field at by f) = then' (leading_report _) (λ u. leading_pure None)
+  one_field_leads tree.nameless_field = leading_pure None
+  one_field_leads (tree.named_field at name e) = field_leads at name (part_leads e)
+
+  spread_leads : (s : Spread) → Leading any (lower_spread s)
+  spread_leads tree.no_spread = leading_pure _
+  spread_leads tree.field_defaults = leading_pure _
+  spread_leads (tree.spread_of e) = then' (node_leads e) (λ i. leading_pure _)
 
   block_leads : (b : Block) → Leading since (lower_block b)
   block_leads (tree.block at is_unsafe label number ss e) =

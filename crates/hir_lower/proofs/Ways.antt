@@ -6,7 +6,7 @@ use Rattle.hir_store.specs.Pointers.{Pointer, same_pointer, found}
 use Rattle.hir_store.specs.Arenas.{Sourced, pointed, with_entry}
 use Rattle.hir_store.specs.Stored.{Stored}
 use Rattle.hir_store.specs.Storing as storing
-use Rattle.hir_store.specs.Storing.{expr_id, label_id}
+use Rattle.hir_store.specs.Storing.{expr_id, label_id, lifetime_id, type_id}
 use Rattle.hir_store.specs.declared.fault.StoreFault.TheVariants.{Full}
 use Rattle.hir_store.specs.declared.diagnostics.ExpressionStoreDiagnostics.{ExpressionStoreDiagnostics}
 use Rattle.hir_store.specs.declared.diagnostics.AwaitLocation.{AwaitLocation}
@@ -14,11 +14,16 @@ use Rattle.hir_store.specs.declared.hir.Expr.{Expr}
 use Rattle.hir_store.specs.declared.hir.Label.{Label as HirLabel}
 use Rattle.hir_store.specs.declared.ids.ExprId.{ExprId}
 use Rattle.hir_store.specs.declared.ids.LabelId.{LabelId}
+use Rattle.hir_store.specs.declared.ids.LifetimeRefId.{LifetimeRefId}
+use Rattle.hir_store.specs.declared.ids.TypeRefId.{TypeRefId}
+use Rattle.hir_store.specs.declared.type_ref.LifetimeRef.{LifetimeRef}
+use Rattle.hir_store.specs.declared.type_ref.TypeRef.{TypeRef}
 use Rattle.hir_store.specs.declared.ids.BlockId.{BlockId}
 use Rattle.hir_env.specs.Answered.{Label, Jump}
 use Rattle.hir_scope.specs.Ribs.{Target, reachable, unreachable, undeclared, target}
 use Rattle.hir_lower_form.specs.Builder.{Builder}
-use Rattle.hir_lower_form.specs.Lowering.{Checked, go_on, Lowering, ◌>>=◌, pure, alloc_expr, point, report}
+use Rattle.hir_lower_form.specs.Lowering.{Checked, go_on, Lowering, ◌>>=◌, pure, alloc_expr, alloc_lifetime, alloc_type, point, report}
+use Rattle.hir_lower_form.specs.Lowering.{point_field}
 use Rattle.hir_lower_form.specs.Lowering.{enter_block, open_label, close, jump_target, found_or_fault, open_as, report_await, count_out}
 use Rattle.hir_lower.specs.Stays.{LeadsOn}
 
@@ -65,6 +70,32 @@ module _ {I : Type 0} (place : I → ℕ) (n : ℕ) where
 on_sooner : {I : Type 0} (place : I → ℕ) (n m : ℕ) (a b : List (Pointer × I)) → n ≤ m → LeadsOn place m a b → LeadsOn place n a b
 on_sooner place n m a b le h = λ p t f. let x = h p t f in (x.0, (x.1.0, ⊎_elim (λ e. inl e) (λ l. inr (omega arith)) x.1.1))
 
+-- an arena with no entry lost, whose nodes lead on
+pub record Onward {E I : Type 0} (place : I → ℕ) (a b : Sourced E I) : Type 0 where
+  pub grown : length a.entries ≤ length b.entries
+  pub ways : LeadsOn place (length a.entries) a.map b.map
+
+module _ {E I : Type 0} (place : I → ℕ) where
+  onward_refl : (a : Sourced E I) → Onward place a a
+  onward_refl a = record { grown = omega arith; ways = on_refl place _ _ }
+
+  onward_trans : (a b c : Sourced E I) → Onward place a b → Onward place b c → Onward place a c
+  onward_trans a b c g h =
+      let n = g.grown in
+      let m = h.grown in record { grown = omega arith; ways = on_trans place _ _ _ _ g.ways (on_sooner place _ _ _ _ n h.ways) }
+
+  -- one entry more, with a number that is its place
+  onward_entry : (number : ℕ → I) → ((n : ℕ) → place (number n) ≡ n) → (a : Sourced E I) (x : E) (source : Option Pointer)
+      → Onward place a (with_entry number a x source)
+  onward_entry number placed a x source =
+      let grown = length-append a.entries (x ∷ []) in
+      let at = placed (length a.entries) in
+      record { grown = omega arith; ways = on_pointed place _ a.map source (number (length a.entries)) (omega (arith, at)) }
+
+-- an entry, where there is room for one
+abbrev pub made : {E I : Type 0} → (ℕ → I) → Bool → E → Option Pointer → Sourced E I → Checked I × Sourced E I
+made number t x source a = if t then (Ok (number (length a.entries)), with_entry number a x source) else (Err Full, a)
+
 -- what is stored
 
 abbrev expr_place : ExprId → ℕ
@@ -73,31 +104,45 @@ expr_place i = i.0
 abbrev label_place : LabelId → ℕ
 label_place n = n.0
 
-pub record Went (a b : Stored) : Type 0 where
-  pub nodes : length a.exprs.entries ≤ length b.exprs.entries
-  pub labels : length a.labels.entries ≤ length b.labels.entries
-  pub expr_ways : LeadsOn (λ i. i.0) (length a.exprs.entries) a.exprs.map b.exprs.map
-  pub label_ways : LeadsOn (λ n. n.0) (length a.labels.entries) a.labels.map b.labels.map
+abbrev type_place : TypeRefId → ℕ
+type_place i = i.0
 
-went_same : (a b : Stored) → b.exprs ≡ a.exprs → b.labels ≡ a.labels → Went a b
-went_same a b e l = rw (e, l) (record {
-  nodes = omega arith;
-  labels = omega arith;
-  expr_ways = on_refl expr_place _ _;
-  label_ways = on_refl label_place _ _;
+abbrev lifetime_place : LifetimeRefId → ℕ
+lifetime_place i = i.0
+
+pub record Went (a b : Stored) : Type 0 where
+  pub exprs : Onward expr_place a.exprs b.exprs
+  pub labels : Onward label_place a.labels b.labels
+  pub types : Onward type_place a.types b.types
+  pub lifetimes : Onward lifetime_place a.lifetimes b.lifetimes
+
+went_refl : (a : Stored) → Went a a
+went_refl a = record {
+  exprs = onward_refl expr_place _;
+  labels = onward_refl label_place _;
+  types = onward_refl type_place _;
+  lifetimes = onward_refl lifetime_place _;
+}
+
+-- the arenas are those of before
+abbrev Arenas : Stored → Stored → Type 0
+Arenas a b = (b.exprs ≡ a.exprs) × ((b.labels ≡ a.labels) × ((b.types ≡ a.types) × (b.lifetimes ≡ a.lifetimes)))
+
+went_same : (a b : Stored) → Arenas a b → Went a b
+went_same a b e = rw (e.0, e.1.0, e.1.1.0, e.1.1.1) (record {
+  exprs = onward_refl expr_place _;
+  labels = onward_refl label_place _;
+  types = onward_refl type_place _;
+  lifetimes = onward_refl lifetime_place _;
 })
 
 pub went_trans : (a b c : Stored) → Went a b → Went b c → Went a c
-went_trans a b c g h =
-    let n = g.nodes in
-    let l = g.labels in
-    let n' = h.nodes in
-    let l' = h.labels in record {
-      nodes = omega arith;
-      labels = omega arith;
-      expr_ways = on_trans expr_place _ _ _ _ g.expr_ways (on_sooner expr_place _ _ _ _ n h.expr_ways);
-      label_ways = on_trans label_place _ _ _ _ g.label_ways (on_sooner label_place _ _ _ _ l h.label_ways);
-    }
+went_trans a b c g h = record {
+  exprs = onward_trans expr_place _ _ _ g.exprs h.exprs;
+  labels = onward_trans label_place _ _ _ g.labels h.labels;
+  types = onward_trans type_place _ _ _ g.types h.types;
+  lifetimes = onward_trans lifetime_place _ _ _ g.lifetimes h.lifetimes;
+}
 
 -- steps
 
@@ -131,7 +176,7 @@ bound : {A B : Type 0} {L : Low A} {p : Lowering A} {f : A → Lowering B} (M : 
 bound {A = A} {B = B} {L = L} {p = p} {f = f} M less h k = record { goes = λ b. first b (p b).0 (p b).1 (h.goes b) }
   where
     second : (b b' : Builder) → Went b.stored b'.stored → (o : Checked B) (c : Builder) → Goes M b' o c → Goes M b o c
-    second b b' x (Ok e) c y = (went_trans _ _ _ x y.0, less _ _ e x.nodes y.1)
+    second b b' x (Ok e) c y = (went_trans _ _ _ x y.0, less _ _ e x.exprs.grown y.1)
     second b b' x (Err e) c y = went_trans _ _ _ x y
 
     first : (b : Builder) (o : Checked A) (c : Builder) → Goes L b o c → Goes M b (go_on o c f).0 (go_on o c f).1
@@ -148,15 +193,20 @@ pub makes : {A : Type 0} {L : Low A} {p : Lowering A} {f : A → Lowering ExprId
 makes h k = bound since (λ n m x le y. omega arith) h k
 
 pub leading_pure : {A : Type 0} (a : A) → Leading any (pure a)
-leading_pure a = record { goes = λ b. (went_same _ _ refl refl, tt) }
+leading_pure a = record { goes = λ b. (went_same _ _ (refl, (refl, (refl, refl))), tt) }
 
 pub leading_count_out : {A : Type 0} → Leading any (count_out {A = A})
 unfolding count_out
-leading_count_out = record { goes = λ b. went_same _ _ refl refl }
+leading_count_out = record { goes = λ b. went_same _ _ (refl, (refl, (refl, refl))) }
 
 pub leading_report : (d : ExpressionStoreDiagnostics) → Leading any (report d)
 unfolding report storing.report
-leading_report d = record { goes = λ b. (went_same _ _ refl refl, tt) }
+leading_report d = record { goes = λ b. (went_same _ _ (refl, (refl, (refl, refl))), tt) }
+
+-- where a value leads to is no way of a node
+pub leading_point_field : (i : ExprId) (at : Pointer) → Leading any (point_field i at)
+unfolding point_field storing.point_field
+leading_point_field i at = record { goes = λ b. (went_same _ _ (refl, (refl, (refl, refl))), tt) }
 
 pub leading_report_await : (at : Pointer) (location : Option AwaitLocation) → Leading any (report_await at location)
 unfolding report_await
@@ -166,11 +216,11 @@ leading_report_await at (Some l) = leading_report _
 pub leading_block : (n : Option BlockId) → Leading any (enter_block n)
 unfolding enter_block storing.enter_block
 leading_block None = leading_pure tt
-leading_block (Some n) = record { goes = λ b. (went_same _ _ refl refl, tt) }
+leading_block (Some n) = record { goes = λ b. (went_same _ _ (refl, (refl, (refl, refl))), tt) }
 
 pub leading_close : Leading any close
 unfolding close
-leading_close = record { goes = λ b. (went_same _ _ refl refl, tt) }
+leading_close = record { goes = λ b. (went_same _ _ (refl, (refl, (refl, refl))), tt) }
 
 pub leading_jump : (j : Option Jump) → Leading any (jump_target j)
 unfolding jump_target report storing.report
@@ -178,52 +228,78 @@ leading_jump None = leading_pure None
 leading_jump (Some j) = record { goes = λ b. by b (target j b.scopes) }
   where
     by : (b : Builder) (t : Target LabelId) → Goes any b (found_or_fault j t b).0 (found_or_fault j t b).1
-    by b (reachable n) = (went_same _ _ refl refl, tt)
-    by b unreachable = (went_same _ _ refl refl, tt)
-    by b undeclared = (went_same _ _ refl refl, tt)
-
-abbrev made_expr : Bool → Expr → Option Pointer → Sourced Expr ExprId → Checked ExprId × Sourced Expr ExprId
-made_expr t e source a = if t then (Ok (expr_id (length a.entries)), with_entry expr_id a e source) else (Err Full, a)
+    by b (reachable n) = (went_same _ _ (refl, (refl, (refl, refl))), tt)
+    by b unreachable = (went_same _ _ (refl, (refl, (refl, refl))), tt)
+    by b undeclared = (went_same _ _ (refl, (refl, (refl, refl))), tt)
 
 pub leading_alloc : (e : Expr) (source : Option Pointer) → Leading since (alloc_expr e source)
 unfolding alloc_expr storing.alloc_expr
 leading_alloc e source = record { goes = λ b. by b (nat_lt (length b.stored.exprs.entries) b.stored.exprs.limit) }
   where
     by : (b : Builder) (t : Bool)
-        → Goes since b (made_expr t e source b.stored.exprs).0
-        (record b { stored = record b.stored { exprs = (made_expr t e source b.stored.exprs).1 } })
-    by b true =
-        let xs = b.stored.exprs.entries in
-        let grown = length-append xs (e ∷ []) in (
-          record {
-            nodes = omega arith;
-            labels = omega arith;
-            expr_ways = on_pointed expr_place _ b.stored.exprs.map source (expr_id (length xs)) (omega arith);
-            label_ways = on_refl label_place _ _;
-          },
-          omega arith,
-        )
-    by b false = went_same _ _ refl refl
+        → Goes since b (made expr_id t e source b.stored.exprs).0
+        (record b { stored = record b.stored { exprs = (made expr_id t e source b.stored.exprs).1 } })
+    by b true = (
+      record {
+        exprs = onward_entry expr_place expr_id (λ n. refl) b.stored.exprs e source;
+        labels = onward_refl label_place _;
+        types = onward_refl type_place _;
+        lifetimes = onward_refl lifetime_place _;
+      },
+      omega arith,
+    )
+    by b false = went_refl b.stored
 
-abbrev made_label : Bool → HirLabel → Option Pointer → Sourced HirLabel LabelId → Checked LabelId × Sourced HirLabel LabelId
-made_label t l source a = if t then (Ok (label_id (length a.entries)), with_entry label_id a l source) else (Err Full, a)
+pub leading_alloc_type : (e : TypeRef) (source : Option Pointer) → Leading any (alloc_type e source)
+unfolding alloc_type storing.alloc_type
+leading_alloc_type e source = record { goes = λ b. by b (nat_lt (length b.stored.types.entries) b.stored.types.limit) }
+  where
+    by : (b : Builder) (t : Bool)
+        → Goes any b (made type_id t e source b.stored.types).0
+        (record b { stored = record b.stored { types = (made type_id t e source b.stored.types).1 } })
+    by b true = (
+      record {
+        exprs = onward_refl expr_place _;
+        labels = onward_refl label_place _;
+        types = onward_entry type_place type_id (λ n. refl) b.stored.types e source;
+        lifetimes = onward_refl lifetime_place _;
+      },
+      tt,
+    )
+    by b false = went_refl b.stored
+
+pub leading_alloc_lifetime : (e : LifetimeRef) (source : Option Pointer) → Leading any (alloc_lifetime e source)
+unfolding alloc_lifetime storing.alloc_lifetime
+leading_alloc_lifetime e source = record { goes = λ b. by b (nat_lt (length b.stored.lifetimes.entries) b.stored.lifetimes.limit) }
+  where
+    by : (b : Builder) (t : Bool)
+        → Goes any b (made lifetime_id t e source b.stored.lifetimes).0
+        (record b { stored = record b.stored { lifetimes = (made lifetime_id t e source b.stored.lifetimes).1 } })
+    by b true = (
+      record {
+        exprs = onward_refl expr_place _;
+        labels = onward_refl label_place _;
+        types = onward_refl type_place _;
+        lifetimes = onward_entry lifetime_place lifetime_id (λ n. refl) b.stored.lifetimes e source;
+      },
+      tt,
+    )
+    by b false = went_refl b.stored
 
 label_made : (l : HirLabel) (source : Option Pointer) (b : Builder) (t : Bool)
-    → Went b.stored (record b.stored { labels = (made_label t l source b.stored.labels).1 })
-label_made l source b true =
-    let xs = b.stored.labels.entries in
-    let grown = length-append xs (l ∷ []) in record {
-      nodes = omega arith;
-      labels = omega arith;
-      expr_ways = on_refl expr_place _ _;
-      label_ways = on_pointed label_place _ b.stored.labels.map source (label_id (length xs)) (omega arith);
-    }
-label_made l source b false = went_same _ _ refl refl
+    → Went b.stored (record b.stored { labels = (made label_id t l source b.stored.labels).1 })
+label_made l source b true = record {
+  exprs = onward_refl expr_place _;
+  labels = onward_entry label_place label_id (λ n. refl) b.stored.labels l source;
+  types = onward_refl type_place _;
+  lifetimes = onward_refl lifetime_place _;
+}
+label_made l source b false = went_refl b.stored
 
 -- the label is stored, and then opened
 abbrev opening : Label → Bool → Builder → Checked LabelId × Builder
 opening l t b =
-    let r = made_label t (record { name = l.name }) (Some l.pointer) b.stored.labels in
+    let r = made label_id t (record { name = l.name }) (Some l.pointer) b.stored.labels in
     go_on r.0 (record b { stored = record b.stored { labels = r.1 } }) (λ n. open_as l n >>= (λ _. pure n))
 
 pub leading_open : (l : Label) → Leading any (open_label l)
@@ -241,16 +317,18 @@ leading_point at {p = p} h = record { goes = λ b. by b (p b).0 (p b).1 (h.goes 
   where
     by : (b : Builder) (o : Checked ExprId) (c : Builder) → Goes since b o c
         → Goes since b (go_on o c (λ i. point at i >>= (λ _. pure i))).0 (go_on o c (λ i. point at i >>= (λ _. pure i))).1
-    by b (Ok i) c x =
-        let w = x.0 in (
-          record {
-            nodes = w.nodes;
-            labels = w.labels;
-            expr_ways = on_trans expr_place _ _ _ _ w.expr_ways (on_insert expr_place _ c.stored.exprs.map at i x.1);
-            label_ways = w.label_ways;
-          },
-          x.1,
-        )
+    by b (Ok i) c x = (
+      record {
+        exprs = record {
+          grown = x.0.exprs.grown;
+          ways = on_trans expr_place _ _ _ _ x.0.exprs.ways (on_insert expr_place _ c.stored.exprs.map at i x.1);
+        };
+        labels = x.0.labels;
+        types = x.0.types;
+        lifetimes = x.0.lifetimes;
+      },
+      x.1,
+    )
     by b (Err e) c x = x
 
 -- what is open is closed behind an expression

@@ -1,11 +1,19 @@
 -- What a lowered constant and a lowered body are, in words of meaning.
-use Rattle.std.specs.Prelude.{◌≡◌, ◌≤◌, ◌+◌, ℕ, Bool, true, false, List, [], ◌∷◌, ◌++◌, length, map, Option, Some, None, IsPermutation}
+use Rattle.std.specs.Prelude.{◌≡◌, ◌≤◌, ◌+◌, ℕ, Bool, true, false, List, [], ◌∷◌, ◌++◌, length, map, option_map, Option}
+use Rattle.std.specs.Prelude.{Some, None, IsPermutation}
 use Rattle.hir_syntax.specs.declared.node.AstPtr.{AstPtr}
 use Rattle.hir_syntax.specs.declared.ast.Expr.{Expr as AstExpr}
 use Rattle.hir_syntax.specs.declared.ast.Path.{Path as AstPath, out-Path}
+use Rattle.hir_syntax.specs.declared.types.Type_.{Type_ as AstType_}
 use Rattle.hir_store.specs.Pointers.{Pointer}
 use Rattle.hir_store.specs.Stored.{Store, SourceMap, Stored, store_of, map_of}
-use Rattle.hir_store.specs.Storing.{Extends, root_at}
+use Rattle.hir_store.specs.Arenas.{with_entry}
+use Rattle.hir_store.specs.Storing.{Extends, root_at, type_id}
+use Rattle.hir_store.specs.declared.ids.TypeRefId.{TypeRefId}
+use Rattle.hir_store.specs.declared.type_ref.TypeBound.{TypeBound}
+use Rattle.hir_store.specs.declared.type_ref.TypeRef.{TypeRef}
+use Rattle.hir_store.specs.declared.type_ref.TypeRef.TheVariants as ty
+use Rattle.hir_store.specs.declared.hir.Expr.{Expr as HirExpr}
 use Rattle.hir_store.specs.declared.ids.ExprId.{ExprId}
 use Rattle.hir_store.specs.declared.roots.ExprRoot.{ExprRoot}
 use Rattle.hir_store.specs.declared.path.Path.{Path}
@@ -17,26 +25,34 @@ use Rattle.hir_store.specs.declared.diagnostics.MissingBodyItemKind.{MissingBody
 use Rattle.hir_store.specs.declared.diagnostics.MissingBodyItemKind.TheVariants as kind
 use Rattle.hir_store.specs.declared.diagnostics.ExpressionStoreDiagnostics.TheVariants.{MissingBody}
 use Rattle.hir_env.specs.Spot.{Spot}
+use Rattle.hir_env.specs.declared.place.ImplTrait.{ImplTrait}
+use Rattle.hir_env.specs.declared.place.ImplTrait.TheVariants as mode
 use Rattle.hir_env.specs.Answering.{in_file}
 use Rattle.hir_env.specs.Answered as tree
-use Rattle.hir_env.specs.Answered.{OptionExpr, OptionPath}
-use Rattle.hir_env.specs.Whole.{answered_path, expr_part}
+use Rattle.hir_env.specs.Answered.{OptionExpr, OptionPath, OptionType}
+use Rattle.hir_env.specs.Whole.{answered_path, expr_part, type_part}
 use Rattle.hir_data.specs.Data.{path_names}
 use Rattle.hir_data.specs.Reading.{stored_path}
-use Rattle.hir_data.specs.Segments.{named_segments, none_missing, segment_name}
+use Rattle.hir_data.specs.Written.{written_path}
+use Rattle.hir_data.specs.Segments.{PlainTrait, Whole, first_trait, named_segments, segment_name}
 use Rattle.hir_meaning.specs.Same.{SameMeaning}
 use Rattle.hir_same_meaning.specs.Reached.{Spread, reached_to}
-use Rattle.hir_steps.specs.Keeps.{Paired}
+use Rattle.hir_steps.specs.Keeps.{Mapped, Paired, StaysAside}
 use Rattle.hir_one_result.specs.Blocks.{blocks_of_part}
 use Rattle.hir_one_result.specs.Diagnostics.{Faults, part_diagnostics}
-use Rattle.hir_one_result.specs.Room.{count_of_exprs}
+use Rattle.hir_one_result.specs.Laws.{Grown}
+use Rattle.hir_one_result.specs.PathRoom.{whole_size}
+use Rattle.hir_one_result.specs.Room.{count_of_exprs, count_of_lifetimes, count_of_types, lifetime_sources_of, type_sources_of}
 use Rattle.hir_one_result.specs.Leads.{Way, label_ways, Covers, CoversLabels, Led}
 use Rattle.hir_one_result.specs.Stands.{StandsPart}
+use Rattle.hir_type_result.specs.Named.{of_exprs}
+use Rattle.hir_type_result.specs.Reached.{of_path, of_present, types_reached}
 
 -- What is so of a root in a later store. Its expression does what the tree does; it stands for the tree, and each expression
 -- that came with it is what a written one became, or a missing one for an absent or disabled part or in front of a tuple with a
 -- leading comma; where the source map led by then it leads still, or by the ways of the tree; each label more is what a written
--- one became, and there are as many; each number that it reaches is reached once, and is one that lowering it gave out.
+-- one became, and there are as many; each number that it reaches is reached once, and is one that lowering it gave out, and so
+-- is each type that the expressions reach that came with it.
 pub record Lives (old new later : Stored) (i : ExprId) (e : OptionExpr) : Type 0 where
   pub same : SameMeaning (store_of later) (map_of later) i e
   pub ways : List Way
@@ -47,39 +63,81 @@ pub record Lives (old new later : Stored) (i : ExprId) (e : OptionExpr) : Type 0
   pub labels : length new.labels.entries ≡ length old.labels.entries + label_ways ways
   pub reached_once : (depth : ℕ) → length later.exprs.entries ≤ depth
       → Spread (length old.exprs.entries) (length new.exprs.entries) (reached_to later.exprs.entries depth i)
+  pub types_reached_once : (depth : ℕ) → length later.types.entries ≤ depth
+      → (more : List HirExpr) → new.exprs.entries ≡ old.exprs.entries ++ more
+      → Spread (length old.types.entries) (length new.types.entries) (of_exprs (types_reached later.types.entries depth) more)
 
--- What lowering a root leaves. It is the last of the recorded roots, to which all belongs that was stored since the
--- one before, as many expressions as the tree becomes; behind the faults and the blocks that were noted before come those
--- of the tree.
+-- What lowering a root leaves. It is the last of the recorded roots, to which all belongs that was stored since the one before:
+-- as many expressions as the tree becomes, and types and lifetimes from just those of its nodes that become one. Behind the
+-- faults and the blocks that were noted before come those of the tree.
 pub record Rooted (old new : Stored) (i : ExprId) (e : OptionExpr) : Type 0 where
   pub lives : (later : Stored) → Extends new later → Lives old new later i e
   pub exprs : length new.exprs.entries ≡ length old.exprs.entries + count_of_exprs e
+  pub types : length new.types.entries ≡ length old.types.entries + count_of_types e
+  pub lifetimes : length new.lifetimes.entries ≡ length old.lifetimes.entries + count_of_lifetimes e
+  pub type_sources : new.types.sources ≡ old.types.sources ++ type_sources_of e
+  pub lifetime_sources : new.lifetimes.sources ≡ old.lifetimes.sources ++ lifetime_sources_of e
   pub roots : new.roots ≡ old.roots ++ root_at new.exprs.entries i ∷ []
   pub more : Faults
   pub faults : new.diagnostics ≡ old.diagnostics ++ more
   pub permuted : IsPermutation (part_diagnostics [] e) more
   pub blocks : new.block_scopes ≡ old.block_scopes ++ blocks_of_part e
   pub paired : Paired new
+  pub mapped : Mapped old → Mapped new
 
--- the one recorded root does what the written body does, and reaches each expression in one way only
+-- The one recorded root does what the written body does, and reaches each expression in one way only. The expressions reach each
+-- type in one way only.
 pub record HasBody (store : Store) (source_map : SourceMap) (e : OptionExpr) : Type 0 where
   pub root : ExprRoot
   pub only : store.roots ≡ root ∷ []
   pub same : SameMeaning store source_map root.root e
   pub reached_once : (depth : ℕ) → length store.exprs ≤ depth → Spread 0 (length store.exprs) (reached_to store.exprs depth root.root)
+  pub types_reached_once : (depth : ℕ) → length store.types ≤ depth
+      → Spread 0 (length store.types) (of_exprs (types_reached store.types depth) store.exprs)
 
--- paths
+-- paths and types
 
--- a path, with all that the environment says of it
+-- with all that the environment says of them
 abbrev pub whole_path : Spot → AstPath → OptionPath
 whole_path at x = tree.some_path (answered_path at x)
 
--- The names of a lowered path are those of the written segments that bear one, where no use tree stands around it and no
--- segment is missing.
-abbrev pub BearsNames : AstPath → Option Path → Type 0
-BearsNames x None = Unit {0}
-BearsNames x (Some p) = (out-Path x).use_ ≡ None → none_missing (out-Path x).segs ≡ true
-    → map Some (path_names (stored_path p)) ≡ map segment_name (named_segments x)
+abbrev pub whole_type : Spot → Option AstType_ → OptionType
+whole_type at t = type_part at t
+
+-- what is read back of a stored path in each later store
+abbrev pub ReadsBack : Stored → Option Path → OptionPath → Type 0
+ReadsBack new r p = (later : Stored) → Extends new later → option_map (stored_path (store_of later) (map_of later)) r ≡ written_path p
+
+-- Its names are those of the written segments that bear one, where no use tree stands around it or its trait, no segment of
+-- either is missing, and its trait has no qualified type.
+abbrev pub BearsNames : Stored → AstPath → Option Path → Type 0
+BearsNames new x None = Unit {0}
+BearsNames new x (Some p) = (later : Stored) → Extends new later → Whole x → PlainTrait (first_trait (out-Path x).segs)
+    → map Some (path_names (stored_path (store_of later) (map_of later) p)) ≡ map segment_name (named_segments x)
+
+-- one type more, to which its node leads from now on
+pub record AddsType (old new : Stored) (i : TypeRefId) (ty : TypeRef) (at : Pointer) : Type 0 where
+  pub number : i ≡ type_id (length old.types.entries)
+  pub added : new ≡ record old { types = with_entry type_id old.types ty (Some at) }
+
+abbrev pub NoRoomForType : Stored → Type 0
+NoRoomForType old = old.types.limit ≤ length old.types.entries
+
+-- what an `impl` with these bounds becomes
+abbrev pub becomes : ImplTrait → List TypeBound → TypeRef
+becomes mode.Error bounds = ty.Error
+becomes mode.Opaque bounds = ty.ImplTrait bounds
+
+-- What lowering a path to r leaves: types and lifetimes from just those of its nodes that become one, and all else as it was. In
+-- each later store r reaches each type in one way only, and none that was stored before.
+pub record PathRooted (old new : Stored) (r : Option Path) (p : OptionPath) : Type 0 where
+  pub reached_once : (later : Stored) → Extends new later → (depth : ℕ) → length later.types.entries ≤ depth
+      → Spread (length old.types.entries) (length new.types.entries) (of_present (of_path (types_reached later.types.entries depth)) r)
+  pub grown : Grown (whole_size p) old new
+  pub aside : StaysAside old new
+  pub roots : new.roots ≡ old.roots
+  pub paired : Paired new
+  pub mapped : Mapped old → Mapped new
 
 -- bodies of items
 

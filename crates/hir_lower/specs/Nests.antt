@@ -5,17 +5,23 @@ use denote.Ref.{Bor, MutBor}
 use Rattle.hir_syntax.specs.declared.ast.Expr.{Expr as AstExpr}
 use Rattle.hir_syntax.specs.declared.ast.BlockExpr.{BlockExpr as AstBlockExpr}
 use Rattle.hir_syntax.specs.declared.ast.Path.{Path as AstPath}
+use Rattle.hir_syntax.specs.declared.types.Type_.{Type_ as AstType_}
+use Rattle.hir_syntax.specs.declared.types.GenericArgList.{GenericArgList as AstGenericArgList}
 use Rattle.hir_store.specs.Stored.{Stored}
 use Rattle.hir_store.specs.Range.{HasExpr, HasExprOption, HasLabelOption}
+use Rattle.hir_store.specs.declared.path.GenericArgs.{GenericArgs}
 use Rattle.hir_store.specs.declared.ids.ExprId.{ExprId}
 use Rattle.hir_store.specs.declared.ids.LabelId.{LabelId}
+use Rattle.hir_store.specs.declared.ids.TypeRefId.{TypeRefId}
 use Rattle.hir_env.specs.declared.place.Place.{Place}
 use Rattle.hir_env.specs.Answers.{Answers}
-use Rattle.hir_env.specs.Whole.{answered, answered_path, answered_plain}
+use Rattle.hir_env.specs.Answered as tree
+use Rattle.hir_env.specs.Answered.{Binder}
+use Rattle.hir_env.specs.Whole.{answered, answered_arg_list, answered_path, answered_plain, answered_type}
 use Rattle.hir_lower_form.specs.Builder.{Builder}
 use Rattle.hir_lower_form.specs.Lowering.{Lowering, Checked, Lowers}
 use Rattle.hir_lower_form.specs.Lower.{lower_kept, lower_inside}
-use Rattle.hir_lower_form.specs.Methods.{ReadsPath}
+use Rattle.hir_lower_form.specs.Methods.{HasWalk, LowersArgs, LowersType, ReadsPath}
 use Rattle.hir_lower_form.specs.declared.walk.PathWalk.{PathWalk}
 use Rattle.hir_lower_form.specs.declared.walk.Reading.{Reading}
 use Rattle.hir_lower.specs.Roots.{spot_at}
@@ -39,6 +45,18 @@ PathPre E = Global → Bor E → Place → MutBor Builder → PathWalk → Bor A
 abbrev pub PathPost : Type 0 → Type 1
 PathPost E = Global → Bor E → Place → MutBor Builder → PathWalk → Bor AstPath → Checked Reading → MutBor Builder → Type 0
 
+abbrev pub TypePre : Type 0 → Type 1
+TypePre E = Global → Bor E → Place → MutBor Builder → Bor (Option Binder) → Bor AstType_ → Type 0
+
+abbrev pub TypePost : Type 0 → Type 1
+TypePost E = Global → Bor E → Place → MutBor Builder → Bor (Option Binder) → Bor AstType_ → Checked TypeRefId → MutBor Builder → Type 0
+
+abbrev pub ArgsPre : Type 0 → Type 1
+ArgsPre E = Global → Bor E → Place → MutBor Builder → Bor AstGenericArgList → Type 0
+
+abbrev pub ArgsPost : Type 0 → Type 1
+ArgsPost E = Global → Bor E → Place → MutBor Builder → Bor AstGenericArgList → Checked (Option GenericArgs) → MutBor Builder → Type 0
+
 -- the function may be called on the expression, and then does what `node` says
 pub record Handles {E A : Type 0} (Has : Stored → A → Type 0) (node : Lowering A)
     (pre : Pre E) (post : Post E A) (env : E) (p : Place) (e : AstExpr) : Type 0 where
@@ -59,10 +77,26 @@ pub record HandlesBlock {E : Type 0} (answers : E → Answers)
 pub record HandlesPath {E : Type 0} (answers : E → Answers)
     (pre : PathPre E) (post : PathPost E) (env : E) (p : Place) (x : AstPath) : Type 0 where
   pub callable : (alloc : Global) (v : Bor E) (old : MutBor Builder) (walk : PathWalk) (b : Bor AstPath)
-      → v.now ≡ env → b.now ≡ x → pre alloc v p old walk b
+      → v.now ≡ env → b.now ≡ x → HasWalk old.now.stored walk → pre alloc v p old walk b
   pub reads : (alloc : Global) (v : Bor E) (old new : MutBor Builder) (walk : PathWalk) (b : Bor AstPath) (r : Checked Reading)
       → v.now ≡ env → b.now ≡ x → post alloc v p old walk b r new
       → ReadsPath (answered_path (spot_at (answers env) p) x) walk old.now r new.now
+
+pub record HandlesType {E : Type 0} (answers : E → Answers)
+    (pre : TypePre E) (post : TypePost E) (env : E) (p : Place) (t : AstType_) : Type 0 where
+  pub callable : (alloc : Global) (v : Bor E) (old : MutBor Builder) (binder : Bor (Option Binder)) (b : Bor AstType_)
+      → v.now ≡ env → b.now ≡ t → pre alloc v p old binder b
+  pub lowers : (alloc : Global) (v : Bor E) (old new : MutBor Builder) (binder : Bor (Option Binder)) (b : Bor AstType_)
+      (r : Checked TypeRefId) → v.now ≡ env → b.now ≡ t → post alloc v p old binder b r new
+      → LowersType binder.now (answered_type (spot_at (answers env) p) t) old.now r new.now
+
+pub record HandlesArgs {E : Type 0} (answers : E → Answers)
+    (pre : ArgsPre E) (post : ArgsPost E) (env : E) (p : Place) (l : AstGenericArgList) : Type 0 where
+  pub callable : (alloc : Global) (v : Bor E) (old : MutBor Builder) (b : Bor AstGenericArgList)
+      → v.now ≡ env → b.now ≡ l → pre alloc v p old b
+  pub lowers : (alloc : Global) (v : Bor E) (old new : MutBor Builder) (b : Bor AstGenericArgList) (r : Checked (Option GenericArgs))
+      → v.now ≡ env → b.now ≡ l → post alloc v p old b r new
+      → LowersArgs (tree.some_arg_list (answered_arg_list (spot_at (answers env) p) l)) old.now r new.now
 
 module _ {E : Type 0} (answers : E → Answers) where
   abbrev pub HandlesExpr : Pre E → Post E (Option ExprId) → E → Place → AstExpr → Type 0

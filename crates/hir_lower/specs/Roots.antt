@@ -16,6 +16,8 @@ use Rattle.hir_syntax.specs.declared.node.HirFileId.{HirFileId}
 use Rattle.hir_syntax.specs.declared.ast.Expr.{Expr as AstExpr}
 use Rattle.hir_store.specs.declared.ids.ModuleId.{ModuleId}
 use Rattle.hir_env.specs.declared.place.Place.{Place}
+use Rattle.hir_env.specs.declared.place.ImplTrait.{ImplTrait}
+use Rattle.hir_env.specs.declared.place.ImplTrait.TheVariants as becomes
 use Rattle.hir_env.specs.declared.place.LoweringMode.{LoweringMode}
 use Rattle.hir_env.specs.declared.place.LoweringMode.TheVariants.{Analysis}
 use Rattle.hir_env.specs.Answers.{Answers}
@@ -83,8 +85,37 @@ await_location (owner.VariantId _) = location.EnumVariant
 abbrev pub body_spot : Answers → DefWithBodyId → HirFileId → ModuleId → Spot
 body_spot env item file inside =
     let awaits_in = Some (await_location item) in
-    spot_at env (record { file_id = file; module_id = inside; mode = Analysis; await_location = awaits_in })
+    spot_at env (record {
+      file_id = file;
+      module_id = inside;
+      mode = Analysis;
+      await_location = awaits_in;
+      impl_trait = becomes.Error;
+      in_impl = false;
+    })
 
 -- where a collector reads, outside of a body
 abbrev pub outside_body : HirFileId → ModuleId → LoweringMode → Place
-outside_body file inside mode = record { file_id = file; module_id = inside; mode = mode; await_location = Some location.Unknown }
+outside_body file inside mode = record {
+  file_id = file;
+  module_id = inside;
+  mode = mode;
+  await_location = Some location.Unknown;
+  impl_trait = becomes.Error;
+  in_impl = false;
+}
+
+-- the same place, where an `impl` becomes this
+abbrev pub becoming : Place → ImplTrait → Place
+becoming p mode = record p { impl_trait = mode }
+
+-- where a type that stands alone is read: an `impl` stays one
+abbrev pub type_spot : Answers → HirFileId → ModuleId → Spot
+type_spot env file inside = spot_at env (becoming (outside_body file inside Analysis) becomes.Opaque)
+
+-- what the steps answer and store, from nothing
+pub record AnswersFromNothing {A : Type 0} (p : Lowering A) (limit : ℕ) (answer : A) (store : Store) (source_map : SourceMap) : Type 0 where
+  pub builder : Builder
+  pub done : p (fresh limit) ≡ (Ok answer, builder)
+  pub store_is : store ≡ store_of builder.stored
+  pub source_map_is : source_map ≡ map_of builder.stored

@@ -9,8 +9,11 @@ abbrev pub LeadsOn : {I : Type 0} → (I → ℕ) → ℕ → List (Pointer × I
 LeadsOn {I = I} place n old new =
     (p : Pointer) (t : I) → found old p ≡ Some t → (u : I) × ((found new p ≡ Some u) × ((u ≡ t) ⊎ (n ≤ place u)))
 
--- All that is stored in `old` is stored in `new`, and a node leads to where it led, or to an entry that came since.
+-- All that is stored in `old` is stored in `new`, and the value of a record's field leads to where it led; a node leads there
+-- too, or to an entry that came since.
 pub record Stays (old new : Stored) : Type 0 where
   pub extends : Extends old new
   pub exprs : LeadsOn (λ i. i.0) (length old.exprs.entries) old.exprs.map new.exprs.map
   pub labels : LeadsOn (λ n. n.0) (length old.labels.entries) old.labels.map new.labels.map
+  pub types : LeadsOn (λ i. i.0) (length old.types.entries) old.types.map new.types.map
+  pub lifetimes : LeadsOn (λ i. i.0) (length old.lifetimes.entries) old.lifetimes.map new.lifetimes.map

@@ -1,34 +1,36 @@
 //! The collector, which lowers trees into one store and stops for good after its first error.
 
-ghost use Rattle.std.specs.Prelude.{◌≡◌, ◌≢◌, false, true, Err, IfOk, IsErrOf, IsOkAnd, option_copied, option_map};
-ghost use Rattle.hir_store.specs.Range.{HasExpr, InRange};
+ghost use Rattle.std.specs.Prelude.{◌≡◌, ◌≢◌, false, true, Err, IfOk, IsErrOf, IsOkAnd, option_copied};
+ghost use Rattle.hir_store.specs.Range.{HasExpr, HasTypeParts, InRange};
 ghost use Rattle.hir_store.specs.Stored.{map_of, store_of};
+ghost use Rattle.hir_env.specs.Spot.{in_file};
 ghost use Rattle.hir_env.specs.Whole.{expr_part};
-ghost use Rattle.hir_data.specs.Reading.{stored_path};
-ghost use Rattle.hir_data.specs.Written.{overcounts, written_path};
 ghost use Rattle.hir_lower_form.specs.Lowering.{Lowers, SomeEnd};
 ghost use Rattle.hir_lower_form.specs.Methods.{LowersExprOpt};
 ghost use Rattle.hir_steps.specs.Keeps.{Paired};
-ghost use Rattle.hir_one_result.specs.Room.{TooLarge};
+ghost use Rattle.hir_one_result.specs.PathRoom.{whole_size};
+ghost use Rattle.hir_one_result.specs.Room.{Short, TooLarge};
 ghost use Rattle.hir_lower.specs.Calls.{Calls};
-ghost use Rattle.hir_lower.specs.Means.{BearsNames, Rooted, whole_path};
-ghost use Rattle.hir_lower.specs.Roots.{fresh, outside_body, root_of, spot_at};
+ghost use Rattle.hir_lower.specs.Means.{AddsType, BearsNames, NoRoomForType, PathRooted, ReadsBack, Rooted, whole_path};
+ghost use Rattle.hir_lower.specs.Roots.{becoming, fresh, outside_body, root_of, spot_at};
 ghost use Rattle.hir_lower.specs.Stays.{Stays};
 
 use crate::error::LowerError;
+use crate::impl_trait::ImplTraitLower;
 use crate::knot::{collect_expr, lower_path};
 use hir_env::env::LowerEnv;
-use hir_env::place::{LoweringMode, Place};
+use hir_env::place::{ImplTrait, LoweringMode, Place};
 use hir_lower_form::builder::BodyBuilder;
 use hir_store::builder::ExpressionStoreBuilder;
 use hir_store::diagnostics::AwaitLocation;
 use hir_store::fault::StoreFault;
-use hir_store::ids::{ExprId, ModuleId};
+use hir_store::ids::{ExprId, ModuleId, TypeRefId};
 use hir_store::path::Path;
 use hir_store::source_map::ExpressionStoreSourceMap;
 use hir_store::store::ExpressionStore;
+use hir_store::type_ref::TypeRef;
 use hir_syntax::ast;
-use hir_syntax::node::HirFileId;
+use hir_syntax::node::{AstPtr, HirFileId, InFile};
 use std::alloc::Global;
 
 /// A lowered constant.
@@ -99,14 +101,32 @@ fn lower_whole_path<E: LowerEnv>(
     path: &ast::Path,
 ) -> Result<Option<Path>, StoreFault>
     ensures data { let p = whole_path (spot_at (E.answers env.now) place) path.now in
-        IfOk result (λ r. option_map stored_path r ≡ written_path p) }
-    ensures segments { IfOk result (λ r. BearsNames path.now r) }
+        Paired state.old.stored → IfOk result (λ r. ReadsBack state.new.stored r p) }
+    ensures segments { Paired state.old.stored → IfOk result (λ r. BearsNames state.new.stored path.now r) }
+    ensures rooted { let p = whole_path (spot_at (E.answers env.now) place) path.now in
+        Paired state.old.stored → IfOk result (λ r. PathRooted state.old.stored state.new.stored r p) }
     ensures full { IsErrOf result StoreFault.Full → SomeEnd state.new }
     ensures too_large { let p = whole_path (spot_at (E.answers env.now) place) path.now in
-        IsErrOf result StoreFault.Full → overcounts p }
-    ensures stays { result ≢ Err StoreFault.Memory → state.new.stored ≡ state.old.stored }
+        IsErrOf result StoreFault.Full → Short (whole_size p) state.old.stored }
+    ensures stays { Paired state.old.stored → result ≢ Err StoreFault.Memory → Stays state.old.stored state.new.stored }
 {
     lower_path(alloc, env, place, state, path)
+}
+
+/// Stores a type from this node, and changes nothing else.
+fn add_type(
+    state: &mut BodyBuilder,
+    ty: TypeRef,
+    source: InFile<AstPtr>,
+) -> Result<TypeRefId, StoreFault>
+    requires { HasTypeParts state.old.stored ty }
+    ensures adds { IfOk result (λ i. AddsType state.old.stored state.new.stored i ty source) }
+    ensures full { IsErrOf result StoreFault.Full → SomeEnd state.new }
+    ensures no_room { IsErrOf result StoreFault.Full → NoRoomForType state.old.stored }
+    ensures unchanged { IsErrOf result StoreFault.Full → state.new.stored ≡ state.old.stored }
+    ensures scopes { result ≢ Err StoreFault.Memory → state.new.scopes ≡ state.old.scopes }
+{
+    state.alloc_type(ty, Some(source))
 }
 
 /// Lowers trees into one store.
@@ -173,6 +193,8 @@ impl<'db, E: LowerEnv> ExprCollector<'db, E> {
                 module_id: inside,
                 mode: lowering_mode,
                 await_location: Some(AwaitLocation::Unknown),
+                impl_trait: ImplTrait::Error,
+                in_impl: false,
             },
             state: BodyBuilder::new(alloc, limit),
             failed: false,
@@ -184,8 +206,9 @@ impl<'db, E: LowerEnv> ExprCollector<'db, E> {
     /// In each later store its expression does what the constant does, for every answerer and every number of turns
     /// that a loop may take; what is stored stands for the tree, and faults, blocks and ways of the source map come
     /// behind those of before. `Memory` where a growth was refused, `Full` where an arena has no room for the tree or
-    /// a path in the tree has more `super`s than 32 bits count, `Failed` after an error, and then nothing changes. All that
-    /// was stored is stored still, unless memory was refused, and a node leads to where it led, or to what came since.
+    /// a path in the tree has more `super`s than 32 bits count, `Failed` after an error, and then nothing changes. All
+    /// that was stored is stored still, unless memory was refused, and a node leads to where it led, or to what came
+    /// since.
     pub fn lower_const_arg(&mut self, arg: &ast::ConstArg) -> Result<ConstRef, LowerError>
         ensures calls { Calls self.old.failed self.old.state result self.new.state self.new.failed }
         ensures rooted { let e = expr_part (spot_at (E.answers self.old.db.now) self.old.place) arg.now.expr in
@@ -212,21 +235,31 @@ impl<'db, E: LowerEnv> ExprCollector<'db, E> {
         Ok(ConstRef { expr })
     }
 
-    /// Lowers a path (upstream's function of this name), or answers none where a segment that is read refuses it.
+    /// Lowers a path (upstream's function of this name), or answers none where a segment that is read refuses it; what an
+    /// `impl` in it becomes is the caller's choice.
     ///
-    /// It has the names of all segments that are read, those of use trees around it in front, and begins where they say.
-    /// Where no use tree stands around it and no segment is missing, its names are those of the written segments that bear
-    /// one. `Memory` where a growth was refused, `Full` where more `super`s are read than 32 bits count, `Failed` after an
-    /// error. What is stored stays as it is, unless memory was refused.
-    pub fn lower_path(&mut self, path: &ast::Path) -> Result<Option<Path>, LowerError>
+    /// It has the names of all segments that are read, those of use trees around it in front, with the arguments that stand
+    /// beside them, and begins where they say. Where no use tree stands around it or its trait, no segment of either is missing,
+    /// and the trait has no qualified type, its names are those of the written segments that bear one. `Memory` where a
+    /// growth was refused, `Full` where an arena has no room for its types and lifetimes or it has more `super`s than 32
+    /// bits count, `Failed` after an error. All that was stored is stored still, unless memory was refused, and nothing
+    /// comes behind it but as many types and lifetimes as the path becomes.
+    pub fn lower_path<I: ImplTraitLower>(
+        &mut self,
+        path: &ast::Path,
+        impl_trait: &mut I,
+    ) -> Result<Option<Path>, LowerError>
         ensures calls { Calls self.old.failed self.old.state result self.new.state self.new.failed }
-        ensures data { let p = whole_path (spot_at (E.answers self.old.db.now) self.old.place) path.now in
-            IfOk result (λ r. option_map stored_path r ≡ written_path p) }
-        ensures segments { IfOk result (λ r. BearsNames path.now r) }
+        ensures data { let at = spot_at (E.answers self.old.db.now) (becoming self.old.place (I.mode impl_trait.old)) in
+            IfOk result (λ r. ReadsBack self.new.state.stored r (whole_path at path.now)) }
+        ensures segments { IfOk result (λ r. BearsNames self.new.state.stored path.now r) }
+        ensures rooted { let at = spot_at (E.answers self.old.db.now) (becoming self.old.place (I.mode impl_trait.old)) in
+            IfOk result (λ r. PathRooted self.old.state.stored self.new.state.stored r (whole_path at path.now)) }
         ensures full { IsErrOf result LowerError.Full → SomeEnd self.new.state }
-        ensures too_large { let p = whole_path (spot_at (E.answers self.old.db.now) self.old.place) path.now in
-            IsErrOf result LowerError.Full → overcounts p }
-        ensures stays { result ≢ Err LowerError.Memory → self.new.state.stored ≡ self.old.state.stored }
+        ensures too_large { let at = spot_at (E.answers self.old.db.now) (becoming self.old.place (I.mode impl_trait.old)) in
+            IsErrOf result LowerError.Full → Short (whole_size (whole_path at path.now)) self.old.state.stored }
+        ensures stays { result ≢ Err LowerError.Memory → Stays self.old.state.stored self.new.state.stored }
+        ensures impl_trait { impl_trait.new ≡ impl_trait.old }
         ensures db { self.new.db ≡ self.old.db }
         ensures place { self.new.place ≡ self.old.place }
     {
@@ -234,9 +267,37 @@ impl<'db, E: LowerEnv> ExprCollector<'db, E> {
             return Err(LowerError::Failed);
         }
         self.failed = true;
-        let lowered = lower_whole_path(self.alloc, self.db, self.place, &mut self.state, path)?;
+        let place = Place {
+            impl_trait: impl_trait.mode(),
+            ..self.place
+        };
+        let lowered = lower_whole_path(self.alloc, self.db, place, &mut self.state, path)?;
         self.failed = false;
         Ok(lowered)
+    }
+
+    /// Stores a type from this node.
+    pub(crate) fn add_type(&mut self, ty: TypeRef, ptr: AstPtr) -> Result<TypeRefId, LowerError>
+        requires { HasTypeParts self.old.state.stored ty }
+        ensures calls { Calls self.old.failed self.old.state result self.new.state self.new.failed }
+        ensures adds { IfOk result (λ i. AddsType self.old.state.stored self.new.state.stored i ty (in_file self.old.place ptr)) }
+        ensures full { IsErrOf result LowerError.Full → NoRoomForType self.old.state.stored }
+        ensures unchanged { IsErrOf result LowerError.Full → self.new.state.stored ≡ self.old.state.stored }
+        ensures scopes { result ≢ Err LowerError.Memory → self.new.state.scopes ≡ self.old.state.scopes }
+        ensures db { self.new.db ≡ self.old.db }
+        ensures place { self.new.place ≡ self.old.place }
+    {
+        if self.failed {
+            return Err(LowerError::Failed);
+        }
+        self.failed = true;
+        let source = InFile {
+            file_id: self.place.file_id,
+            value: ptr,
+        };
+        let id = add_type(&mut self.state, ty, source)?;
+        self.failed = false;
+        Ok(id)
     }
 
     /// What is stored so far, after an error too. Each number in it is in range.

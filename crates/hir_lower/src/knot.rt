@@ -3,10 +3,11 @@
 ghost use Rattle.std.specs.Prelude.{◌≡◌, option_map};
 ghost use Rattle.hir_store.specs.Range.{HasLabelOption};
 ghost use Rattle.hir_env.specs.Answering.{inside as place_inside, numbered as number_at};
-ghost use Rattle.hir_env.specs.Answered.{some_path};
-ghost use Rattle.hir_env.specs.Whole.{answered, answered_path, answered_plain};
-ghost use Rattle.hir_lower_form.specs.Methods.{LowersExpr, LowersInside, LowersPath, MaybeLowersExpr, ReadsPath};
-ghost use Rattle.hir_lower.specs.Nests.{HandlesBlock, HandlesExpr, HandlesPath};
+ghost use Rattle.hir_env.specs.Answered.{some_arg_list, some_path};
+ghost use Rattle.hir_env.specs.Whole.{answered, answered_arg_list, answered_path, answered_plain, answered_type};
+ghost use Rattle.hir_lower_form.specs.Methods.{HasWalk, LowersArgs, LowersExpr, LowersInside, LowersPath, LowersType};
+ghost use Rattle.hir_lower_form.specs.Methods.{MaybeLowersExpr, ReadsPath};
+ghost use Rattle.hir_lower.specs.Nests.{HandlesArgs, HandlesBlock, HandlesExpr, HandlesPath, HandlesType};
 ghost use Rattle.hir_lower.specs.Roots.{spot_at};
 
 use hir_env::env::LowerEnv;
@@ -18,23 +19,27 @@ use hir_lower_form::parts::{LowerParts, Lowerer};
 use hir_lower_form::walk::{PathWalk, Reading, path_read};
 use hir_lower_path::path::path_node;
 use hir_lower_scope::labels::{LabelScopes, NoTarget};
+use hir_lower_type::args::args_node;
+use hir_lower_type::types::type_node;
 use hir_store::fault::StoreFault;
-use hir_store::ids::{BlockId, CfgId, CrateId, ExprId, HygieneId, LabelId, ModuleId};
+use hir_store::ids::{BlockId, CfgId, CrateId, ExprId, HygieneId, LabelId, ModuleId, TypeRefId};
 use hir_store::name::Name;
-use hir_store::path::Path;
-use hir_syntax::ast;
+use hir_store::path::{GenericArgs, Path};
 use hir_syntax::node::{InFile, NodeId, PredId};
+use hir_syntax::{Seq, ast};
 use std::alloc::Global;
 
 /// The functions that lower the parts of a form, at one place.
-#[derive_where(Clone, Copy; F, B, Q)]
-pub struct Handlers<'e, E, F, B, Q> {
+#[derive_where(Clone, Copy; F, B, Q, T, G)]
+pub struct Handlers<'e, E, F, B, Q, T, G> {
     alloc: Global,
     env: &'e E,
     place: Place,
     expr: F,
     block: B,
     path: Q,
+    type_ref: T,
+    args: G,
 }
 
 impl<
@@ -51,11 +56,28 @@ impl<
         &ast::BlockExpr,
     ) -> Result<ExprId, StoreFault>,
     Q: Fn(Global, &E, Place, &mut BodyBuilder, PathWalk, &ast::Path) -> Result<Reading, StoreFault>,
-> LowerParts for Handlers<'e, E, F, B, Q> {
+    T: Fn(
+        Global,
+        &E,
+        Place,
+        &mut BodyBuilder,
+        &Option<Seq<Name>>,
+        &ast::Type_,
+    ) -> Result<TypeRefId, StoreFault>,
+    G: Fn(
+        Global,
+        &E,
+        Place,
+        &mut BodyBuilder,
+        &ast::GenericArgList,
+    ) -> Result<Option<GenericArgs>, StoreFault>,
+> LowerParts for Handlers<'e, E, F, B, Q, T, G> {
     ghost can = { λ it. record {
       expr = HandlesExpr E.answers (F.pre it.expr) (F.post it.expr) it.env.now it.place;
       block = HandlesBlock E.answers (B.pre it.block) (B.post it.block) it.env.now it.place;
       path = HandlesPath E.answers (Q.pre it.path) (Q.post it.path) it.env.now;
+      type_ = HandlesType E.answers (T.pre it.type_ref) (T.post it.type_ref) it.env.now;
+      args = HandlesArgs E.answers (G.pre it.args) (G.post it.args) it.env.now;
     } };
 
     ghost spot = { λ it. spot_at (E.answers it.env.now) it.place };
@@ -118,6 +140,25 @@ impl<
     ) -> Result<Reading, StoreFault> {
         (self.path)(self.alloc, self.env, place, state, walk, node)
     }
+
+    fn lower_type(
+        &self,
+        state: &mut BodyBuilder,
+        place: Place,
+        binder: &Option<Seq<Name>>,
+        node: &ast::Type_,
+    ) -> Result<TypeRefId, StoreFault> {
+        (self.type_ref)(self.alloc, self.env, place, state, binder, node)
+    }
+
+    fn lower_args(
+        &self,
+        state: &mut BodyBuilder,
+        place: Place,
+        node: &ast::GenericArgList,
+    ) -> Result<Option<GenericArgs>, StoreFault> {
+        (self.args)(self.alloc, self.env, place, state, node)
+    }
 }
 
 /// The number and the module of a block, where numbers are asked for.
@@ -175,6 +216,8 @@ pub fn maybe_collect_expr<E: LowerEnv>(
             expr: maybe_collect_expr::<E>,
             block: collect_block_inside::<E>,
             path: read_path_segments::<E>,
+            type_ref: lower_type_node::<E>,
+            args: lower_arg_list::<E>,
         },
     };
     expr_node(&lowerer, state, node)
@@ -206,6 +249,8 @@ pub fn collect_block_inside<E: LowerEnv>(
             expr: maybe_collect_expr::<E>,
             block: collect_block_inside::<E>,
             path: read_path_segments::<E>,
+            type_ref: lower_type_node::<E>,
+            args: lower_arg_list::<E>,
         },
     };
     block_node(&lowerer, state, is_unsafe, label, block, node)
@@ -221,6 +266,7 @@ pub fn read_path_segments<E: LowerEnv>(
     walk: PathWalk,
     node: &ast::Path,
 ) -> Result<Reading, StoreFault>
+    requires { HasWalk state.old.stored walk }
     ensures { ReadsPath (answered_path (spot_at (E.answers env.now) place) node.now) walk state.old result state.new }
 {
     let lowerer = Lowerer {
@@ -232,12 +278,71 @@ pub fn read_path_segments<E: LowerEnv>(
             expr: maybe_collect_expr::<E>,
             block: collect_block_inside::<E>,
             path: read_path_segments::<E>,
+            type_ref: lower_type_node::<E>,
+            args: lower_arg_list::<E>,
         },
     };
     path_node(&lowerer, state, walk, node)
 }
 
+/// The type, with the binder of a `for` that stands directly around it.
+#[cycle(lower)]
+pub fn lower_type_node<E: LowerEnv>(
+    alloc: Global,
+    env: &E,
+    place: Place,
+    state: &mut BodyBuilder,
+    binder: &Option<Seq<Name>>,
+    node: &ast::Type_,
+) -> Result<TypeRefId, StoreFault>
+    ensures { LowersType binder.now (answered_type (spot_at (E.answers env.now) place) node.now) state.old result state.new }
+{
+    let lowerer = Lowerer {
+        alloc,
+        parts: Handlers {
+            alloc,
+            env,
+            place,
+            expr: maybe_collect_expr::<E>,
+            block: collect_block_inside::<E>,
+            path: read_path_segments::<E>,
+            type_ref: lower_type_node::<E>,
+            args: lower_arg_list::<E>,
+        },
+    };
+    type_node(&lowerer, state, binder, node)
+}
+
+/// The list of arguments, or none where it has neither an argument nor a binding.
+#[cycle(lower)]
+pub fn lower_arg_list<E: LowerEnv>(
+    alloc: Global,
+    env: &E,
+    place: Place,
+    state: &mut BodyBuilder,
+    node: &ast::GenericArgList,
+) -> Result<Option<GenericArgs>, StoreFault>
+    ensures { let at = spot_at (E.answers env.now) place in
+        LowersArgs (some_arg_list (answered_arg_list at node.now)) state.old result state.new }
+{
+    let lowerer = Lowerer {
+        alloc,
+        parts: Handlers {
+            alloc,
+            env,
+            place,
+            expr: maybe_collect_expr::<E>,
+            block: collect_block_inside::<E>,
+            path: read_path_segments::<E>,
+            type_ref: lower_type_node::<E>,
+            args: lower_arg_list::<E>,
+        },
+    };
+    args_node(&lowerer, state, node)
+}
+
 /// The path, or none where it is refused.
+#[tactic(auto, using(hir_lower_form::proofs::Walked::path_read_has))]
 pub fn lower_path<E: LowerEnv>(
     alloc: Global,
     env: &E,

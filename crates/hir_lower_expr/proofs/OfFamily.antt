@@ -11,6 +11,9 @@ use Rattle.hir_syntax.specs.declared.ast.Lifetime.{Lifetime as AstLifetime}
 use Rattle.hir_syntax.specs.declared.ast.Literal.{Literal as AstLiteral}
 use Rattle.hir_syntax.specs.declared.ast.Name.{Name as AstName}
 use Rattle.hir_syntax.specs.declared.ast.Path.{Path as AstPath}
+use Rattle.hir_syntax.specs.declared.ast.RecordExprFieldList.{RecordExprFieldList as AstFieldList}
+use Rattle.hir_syntax.specs.declared.types.Type_.{Type_ as AstType_}
+use Rattle.hir_syntax.specs.declared.types.GenericArgList.{GenericArgList as AstGenericArgList}
 use Rattle.hir_syntax.specs.declared.ast.BinaryOp.{BinaryOp}
 use Rattle.hir_syntax.specs.declared.ast.UnaryOp.{UnaryOp}
 use Rattle.hir_syntax.specs.declared.node.PredId.{PredId}
@@ -39,14 +42,15 @@ only_control k is no_if no_block no_loop no_continue no_break = by (out-ExprKind
 
 pub only_listing : (k : AstExprKind) → IsListing (out-ExprKind k)
     → ((f : Option AstExpr) (es : Option (List AstExpr)) → k ≡ kind.CallExpr f es → ⊥)
-    → ((e : Option AstExpr) (n : Option AstName) (es : Option (List AstExpr)) → k ≡ kind.MethodCallExpr e n es → ⊥)
+    → ((e : Option AstExpr) (n : Option AstName) (as' : Option AstGenericArgList) (es : Option (List AstExpr))
+    → k ≡ kind.MethodCallExpr e n as' es → ⊥)
     → ((comma : Bool) (es : List AstExpr) → k ≡ kind.TupleExpr comma es → ⊥)
     → ((es : List AstExpr) → k ≡ kind.ArrayExpr es → ⊥) → ⊥
 only_listing k is no_call no_methodcall no_tuple no_array = by (out-ExprKind k) refl is
   where
     by : (l : ExprKindLayer written) → out-ExprKind k ≡ l → IsListing l → ⊥
     by (ExprKind-F.CallExpr f es) h is = no_call f es (made k _ h ∙ kind.rolls-CallExpr f es)
-    by (ExprKind-F.MethodCallExpr e n es) h is = no_methodcall e n es (made k _ h ∙ kind.rolls-MethodCallExpr e n es)
+    by (ExprKind-F.MethodCallExpr e n as' es) h is = no_methodcall e n as' es (made k _ h ∙ kind.rolls-MethodCallExpr e n as' es)
     by (ExprKind-F.TupleExpr comma es) h is = no_tuple comma es (made k _ h ∙ kind.rolls-TupleExpr comma es)
     by (ExprKind-F.ArrayExpr es) h is = no_array es (made k _ h ∙ kind.rolls-ArrayExpr es)
     by _ h is = is
@@ -91,11 +95,18 @@ only_leaving k is no_return no_become no_yield no_yeet = by (out-ExprKind k) ref
     by (ExprKind-F.YeetExpr e) h is = no_yeet e (made k _ h ∙ kind.rolls-YeetExpr e)
     by _ h is = is
 
-pub only_typed : (k : AstExprKind) → IsTyped (out-ExprKind k) → ((x : Option AstPath) → k ≡ kind.PathExpr x → ⊥) → ⊥
-only_typed k is no_path = by (out-ExprKind k) refl is
+pub only_typed : (k : AstExprKind) → IsTyped (out-ExprKind k)
+    → ((x : Option AstPath) → k ≡ kind.PathExpr x → ⊥)
+    → ((e : Option AstExpr) (t : Option AstType_) → k ≡ kind.CastExpr e t → ⊥)
+    → ((x : Option AstPath) (l : Option AstFieldList) → k ≡ kind.RecordExpr x l → ⊥)
+    → ((t : Option AstType_) (ns : List AstName) → k ≡ kind.OffsetOfExpr t ns → ⊥) → ⊥
+only_typed k is no_path no_cast no_record no_offset = by (out-ExprKind k) refl is
   where
     by : (l : ExprKindLayer written) → out-ExprKind k ≡ l → IsTyped l → ⊥
     by (ExprKind-F.PathExpr x) h is = no_path x (made k _ h ∙ kind.rolls-PathExpr x)
+    by (ExprKind-F.CastExpr e t) h is = no_cast e t (made k _ h ∙ kind.rolls-CastExpr e t)
+    by (ExprKind-F.RecordExpr x l) h is = no_record x l (made k _ h ∙ kind.rolls-RecordExpr x l)
+    by (ExprKind-F.OffsetOfExpr t ns) h is = no_offset t ns (made k _ h ∙ kind.rolls-OffsetOfExpr t ns)
     by _ h is = is
 
 pub only_leaf : (k : AstExprKind) → IsLeaf (out-ExprKind k)

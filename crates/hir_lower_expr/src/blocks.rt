@@ -12,10 +12,10 @@ ghost use Rattle.hir_lower_form.specs.Methods.{HasContents, LowersExpr, LowersSt
 
 use hir_lower_form::builder::BodyBuilder;
 use hir_lower_form::parts::{LowerParts, Lowerer};
-use hir_store::builder::push_statement;
 use hir_store::fault::StoreFault;
 use hir_store::hir::{Expr, Statement};
 use hir_store::ids::{BlockId, ExprId, LabelId};
+use hir_store::lists::push_statement;
 use hir_syntax::{Seq, ast};
 
 /// The expression of a last statement that has no semicolon.

@@ -2,10 +2,11 @@
 
 ghost use Rattle.hir_env.specs.Answered as tree;
 ghost use Rattle.hir_env.specs.Answering.{name_or_missing};
-ghost use Rattle.hir_env.specs.Whole.{args_part, expr_part};
+ghost use Rattle.hir_env.specs.Whole.{arg_list_part, args_part, expr_part};
 ghost use Rattle.hir_lower_form.specs.Nests.{Each, IfPresent};
 ghost use Rattle.hir_lower_form.specs.Methods.{LowersExpr};
 
+use crate::here::args_here;
 use hir_lower_form::builder::BodyBuilder;
 use hir_lower_form::names::name_of;
 use hir_lower_form::parts::{LowerParts, Lowerer};
@@ -34,6 +35,7 @@ pub(crate) fn call_form<P: LowerParts>(
     state.alloc_expr(Expr::Call { callee, args }, Some(at))
 }
 
+/// The generic arguments behind the others.
 #[tactic(auto, unfolding(hir_lower_form::specs::Lower::method_call_form))]
 pub(crate) fn method_call_form<P: LowerParts>(
     lowerer: &Lowerer<P>,
@@ -41,21 +43,26 @@ pub(crate) fn method_call_form<P: LowerParts>(
     at: InFile<AstPtr>,
     receiver: &Option<Boxed<ast::Expr>>,
     name: &Option<ast::Name>,
+    generics: &Option<ast::GenericArgList>,
     args: &Option<Seq<ast::Expr>>,
 ) -> Result<ExprId, StoreFault>
     requires receiver { IfPresent (P.can lowerer.now.parts).expr receiver.now }
+    requires generics { IfPresent ((P.can lowerer.now.parts).args (P.spot lowerer.now.parts).place) generics.now }
     requires args { IfPresent (Each (P.can lowerer.now.parts).expr) args.now }
     ensures { LowersExpr (tree.method_call_expr at
         (expr_part (P.spot lowerer.now.parts) receiver.now)
         (name_or_missing name.now)
-        (args_part (P.spot lowerer.now.parts) args.now)) state.old result state.new }
+        (args_part (P.spot lowerer.now.parts) args.now)
+        (arg_list_part (P.spot lowerer.now.parts) generics.now)) state.old result state.new }
 {
     let receiver = lowerer.collect_expr_opt(state, receiver)?;
     let args = lowerer.arguments(state, args)?;
+    let generic_args = args_here(lowerer, state, generics)?;
     let method_name = name_of(name)?;
     let expr = Expr::MethodCall {
         receiver,
         method_name,
+        generic_args,
         args,
     };
     state.alloc_expr(expr, Some(at))

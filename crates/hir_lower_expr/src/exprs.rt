@@ -46,7 +46,10 @@ fn expr_form<P: LowerParts>(
         | ast::ExprKind::BecomeExpr { .. }
         | ast::ExprKind::YieldExpr { .. }
         | ast::ExprKind::YeetExpr { .. } => leaving_kind(lowerer, state, at, &node.kind),
-        ast::ExprKind::PathExpr { .. } => typed_kind(lowerer, state, at, &node.kind),
+        ast::ExprKind::PathExpr { .. }
+        | ast::ExprKind::CastExpr { .. }
+        | ast::ExprKind::RecordExpr { .. }
+        | ast::ExprKind::OffsetOfExpr { .. } => typed_kind(lowerer, state, at, &node.kind),
         ast::ExprKind::Literal(_)
         | ast::ExprKind::CfgPredExpr { .. }
         | ast::ExprKind::UnderscoreExpr

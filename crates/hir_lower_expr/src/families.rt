@@ -17,7 +17,8 @@ use crate::lists::{array_form, tuple_form};
 use crate::operators::{
     await_form, binary_form, field_form, index_form, prefix_form, reference_form,
 };
-use crate::typed::path_form;
+use crate::records::record_form;
+use crate::typed::{cast_form, offset_of_form, path_form};
 use hir_lower_form::builder::BodyBuilder;
 use hir_lower_form::parts::{LowerParts, Lowerer};
 use hir_store::fault::StoreFault;
@@ -70,8 +71,9 @@ pub(crate) fn listing_kind<P: LowerParts>(
         ast::ExprKind::MethodCallExpr {
             receiver,
             name,
+            generics,
             args,
-        } => method_call_form(lowerer, state, at, receiver, name, args),
+        } => method_call_form(lowerer, state, at, receiver, name, generics, args),
         ast::ExprKind::TupleExpr {
             leading_comma,
             fields,
@@ -145,7 +147,7 @@ pub(crate) fn leaving_kind<P: LowerParts>(
     }
 }
 
-/// What has a path.
+/// What has a path or a type.
 #[tactic(auto, using(crate::proofs::OfFamily::only_typed))]
 pub(crate) fn typed_kind<P: LowerParts>(
     lowerer: &Lowerer<P>,
@@ -159,6 +161,11 @@ pub(crate) fn typed_kind<P: LowerParts>(
 {
     match kind {
         ast::ExprKind::PathExpr { path } => path_form(lowerer, state, at, path),
+        ast::ExprKind::CastExpr { expr, ty } => cast_form(lowerer, state, at, expr, ty),
+        ast::ExprKind::RecordExpr { path, list } => record_form(lowerer, state, at, path, list),
+        ast::ExprKind::OffsetOfExpr { ty, fields } => offset_of_form(
+            lowerer, state, at, ty, fields,
+        ),
         _ => unreachable!(),
     }
 }

@@ -1,18 +1,23 @@
-//! Expressions with a path.
+//! Expressions with a path or a type.
 
+ghost use Rattle.std.specs.Prelude.{◌≡◌, IfOk};
 ghost use Rattle.hir_env.specs.Answered as tree;
-ghost use Rattle.hir_env.specs.Answering.{site_of};
-ghost use Rattle.hir_env.specs.Whole.{path_part};
+ghost use Rattle.hir_env.specs.Answering.{names_of, site_of};
+ghost use Rattle.hir_env.specs.Whole.{expr_part, path_part, type_part};
 ghost use Rattle.hir_lower_form.specs.Nests.{IfPresent};
 ghost use Rattle.hir_lower_form.specs.Methods.{LowersExpr};
 
+use crate::here::{path_here, type_here};
 use hir_lower_form::builder::BodyBuilder;
-use hir_lower_form::names::path_expr;
+use hir_lower_form::names::{names_of, path_expr};
 use hir_lower_form::parts::{LowerParts, Lowerer, site};
 use hir_store::fault::StoreFault;
+use hir_store::hir::Expr;
 use hir_store::ids::ExprId;
+use hir_store::name::Name;
 use hir_syntax::node::{AstPtr, InFile};
-use hir_syntax::{Boxed, ast};
+use hir_syntax::{Boxed, Seq, ast};
+use std::alloc::{AllocError, Global};
 
 /// A path that is absent or refused is missing.
 #[tactic(auto, unfolding(hir_lower_form::specs::Lower::path_form))]
@@ -27,6 +32,48 @@ pub(crate) fn path_form<P: LowerParts>(
         LowersExpr (tree.path_expr at (path_part spot path.now) (spot.answers.hygiene (site_of at))) state.old result state.new }
 {
     let hygiene = lowerer.parts.hygiene(site(at));
-    let path = lowerer.path_if_present(state, lowerer.parts.place(), path)?;
+    let path = path_here(lowerer, state, path)?;
     state.alloc_expr(path_expr(path, hygiene), Some(at))
+}
+
+#[tactic(auto, unfolding(hir_lower_form::specs::Lower::cast_form))]
+pub(crate) fn cast_form<P: LowerParts>(
+    lowerer: &Lowerer<P>,
+    state: &mut BodyBuilder,
+    at: InFile<AstPtr>,
+    operand: &Option<Boxed<ast::Expr>>,
+    ty: &Option<Boxed<ast::Type_>>,
+) -> Result<ExprId, StoreFault>
+    requires operand { IfPresent (P.can lowerer.now.parts).expr operand.now }
+    requires ty { IfPresent ((P.can lowerer.now.parts).type_ (P.spot lowerer.now.parts).place) ty.now }
+    ensures { let spot = P.spot lowerer.now.parts in
+        LowersExpr (tree.cast_expr at (expr_part spot operand.now) (type_part spot ty.now)) state.old result state.new }
+{
+    let expr = lowerer.collect_expr_opt(state, operand)?;
+    let type_ref = type_here(lowerer, state, ty)?;
+    state.alloc_expr(Expr::Cast { expr, type_ref }, Some(at))
+}
+
+/// The names that lead to the field.
+fn field_names(alloc: Global, names: &Seq<ast::Name>) -> Result<Seq<Name>, AllocError>
+    ensures { IfOk result (λ ns. ns ≡ names_of names.now) }
+{
+    names_of(alloc, names.as_slice())
+}
+
+#[tactic(auto, unfolding(hir_lower_form::specs::Lower::offset_of_form))]
+pub(crate) fn offset_of_form<P: LowerParts>(
+    lowerer: &Lowerer<P>,
+    state: &mut BodyBuilder,
+    at: InFile<AstPtr>,
+    ty: &Option<Boxed<ast::Type_>>,
+    names: &Seq<ast::Name>,
+) -> Result<ExprId, StoreFault>
+    requires { IfPresent ((P.can lowerer.now.parts).type_ (P.spot lowerer.now.parts).place) ty.now }
+    ensures { let container = type_part (P.spot lowerer.now.parts) ty.now in
+        LowersExpr (tree.offset_of_expr at container (names_of names.now)) state.old result state.new }
+{
+    let container = type_here(lowerer, state, ty)?;
+    let fields = field_names(lowerer.alloc, names)?;
+    state.alloc_expr(Expr::OffsetOf { container, fields }, Some(at))
 }

@@ -15,7 +15,7 @@ IsControl _ = ⊥
 -- with a list of parts
 abbrev pub IsListing : ExprKindLayer written → Type 0
 IsListing (ExprKind-F.CallExpr f es) = Unit {0}
-IsListing (ExprKind-F.MethodCallExpr e n es) = Unit {0}
+IsListing (ExprKind-F.MethodCallExpr e n as' es) = Unit {0}
 IsListing (ExprKind-F.TupleExpr comma es) = Unit {0}
 IsListing (ExprKind-F.ArrayExpr es) = Unit {0}
 IsListing _ = ⊥
@@ -43,9 +43,12 @@ IsLeaving (ExprKind-F.YieldExpr e) = Unit {0}
 IsLeaving (ExprKind-F.YeetExpr e) = Unit {0}
 IsLeaving _ = ⊥
 
--- with a path
+-- with a path or a type
 abbrev pub IsTyped : ExprKindLayer written → Type 0
 IsTyped (ExprKind-F.PathExpr x) = Unit {0}
+IsTyped (ExprKind-F.CastExpr e t) = Unit {0}
+IsTyped (ExprKind-F.RecordExpr x l) = Unit {0}
+IsTyped (ExprKind-F.OffsetOfExpr t ns) = Unit {0}
 IsTyped _ = ⊥
 
 -- without a part

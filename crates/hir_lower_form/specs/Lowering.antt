@@ -8,6 +8,10 @@ use Rattle.hir_store.specs.Storing.{Storing, SomeAtLimit}
 pub use Rattle.hir_store.specs.Storing.{Checked}
 use Rattle.hir_store.specs.declared.fault.StoreFault.TheVariants.{Memory, Full}
 use Rattle.hir_store.specs.declared.hir.Expr.{Expr}
+use Rattle.hir_store.specs.declared.type_ref.TypeRef.{TypeRef}
+use Rattle.hir_store.specs.declared.type_ref.LifetimeRef.{LifetimeRef}
+use Rattle.hir_store.specs.declared.ids.TypeRefId.{TypeRefId}
+use Rattle.hir_store.specs.declared.ids.LifetimeRefId.{LifetimeRefId}
 use Rattle.hir_store.specs.declared.ids.ExprId.{ExprId}
 use Rattle.hir_store.specs.declared.ids.LabelId.{LabelId}
 use Rattle.hir_store.specs.declared.ids.BlockId.{BlockId}
@@ -45,8 +49,17 @@ stored p = λ b. ((p b.stored).0, record b { stored = (p b.stored).1 })
 unfoldable pub alloc_expr : Expr → Option Pointer → Lowering ExprId
 alloc_expr e source = stored (storing.alloc_expr e source)
 
+unfoldable pub alloc_type : TypeRef → Option Pointer → Lowering TypeRefId
+alloc_type t source = stored (storing.alloc_type t source)
+
+unfoldable pub alloc_lifetime : LifetimeRef → Option Pointer → Lowering LifetimeRefId
+alloc_lifetime l source = stored (storing.alloc_lifetime l source)
+
 unfoldable pub point : Pointer → ExprId → Lowering (Unit {0})
 point node id = stored (storing.point node id)
+
+unfoldable pub point_field : ExprId → Pointer → Lowering (Unit {0})
+point_field id node = stored (storing.point_field id node)
 
 unfoldable pub report : ExpressionStoreDiagnostics → Lowering (Unit {0})
 report fault = stored (storing.report fault)

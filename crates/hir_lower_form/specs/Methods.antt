@@ -1,8 +1,18 @@
 -- What each kind of method does: the steps of one part, and what it answers.
-use Rattle.std.specs.Prelude.{Bool, List, [], Option, Some, None}
+use Rattle.std.specs.Prelude.{◌≤◌, length, Bool, List, [], Option, Some, None}
 use Rattle.hir_syntax.specs.declared.ast.BlockExpr.{BlockExpr as AstBlockExpr, out-BlockExpr}
 use Rattle.hir_store.specs.Stored.{Stored}
 use Rattle.hir_store.specs.Range.{HasExpr, HasExprOption, HasExprs, HasStatements, HasStatementOption}
+use Rattle.hir_store.specs.Range.{HasFields, HasSpread, past_field}
+use Rattle.hir_store.specs.Arenas.{past_option}
+use Rattle.hir_store.specs.declared.hir.RecordLitField.{RecordLitField}
+use Rattle.hir_env.specs.Layers.{RecordReading}
+use Rattle.hir_store.specs.Range.{Has, HasType, HasTypeOption, HasTypes, HasArgsOption, HasBounds, HasPathOption}
+use Rattle.hir_store.specs.declared.ids.TypeRefId.{TypeRefId}
+use Rattle.hir_store.specs.declared.path.GenericArgs.{GenericArgs}
+use Rattle.hir_store.specs.declared.type_ref.TypeBound.{TypeBound}
+use Rattle.hir_store.specs.declared.type_ref.UseArgRef.{UseArgRef}
+use Rattle.hir_store.specs.Past.{past_use_arg}
 use Rattle.hir_store.specs.declared.hir.Statement.{Statement}
 use Rattle.hir_store.specs.declared.ids.ExprId.{ExprId}
 use Rattle.hir_store.specs.declared.ids.LabelId.{LabelId}
@@ -13,16 +23,19 @@ use Rattle.hir_env.specs.Spot.{Spot}
 use Rattle.hir_env.specs.Answering.{expr_at}
 use Rattle.hir_env.specs.Answered as tree
 use Rattle.hir_env.specs.declared.place.Place.{Place}
-use Rattle.hir_env.specs.Answered.{Path, OptionPath, Segment, Expr, OptionExpr, Exprs, Block, OptionBlock, Stmts, Stmt}
+use Rattle.hir_env.specs.Answered.{Binder, Type_, OptionType, Parts, Path, OptionPath, Segment, OptionArgs, Bounds}
+use Rattle.hir_env.specs.Answered.{Expr, OptionExpr, Exprs, Block, OptionBlock, Stmts, Stmt}
 use Rattle.hir_env.specs.Whole.{expr_part, reader, stmts_part, pointer_at}
 use Rattle.hir_store.specs.declared.path.Path.{Path as HirPath}
 use Rattle.hir_lower_form.specs.Builder.{Builder}
-use Rattle.hir_lower_form.specs.Paths.{read_segment, read_path, lower_path}
+use Rattle.hir_lower_form.specs.Walks.{past_walk, past_reading}
+use Rattle.hir_lower_form.specs.Types.{past_lists}
+use Rattle.hir_lower_form.specs.declared.args.ArgLists.{ArgLists}
 use Rattle.hir_lower_form.specs.declared.walk.PathWalk.{PathWalk}
 use Rattle.hir_lower_form.specs.declared.walk.Reading.{Reading}
 use Rattle.hir_lower_form.specs.Lowering.{Lowering, Checked, Lowers, ◌>>=◌, pure}
 use Rattle.hir_lower_form.specs.Lower as spec
-use Rattle.hir_lower_form.specs.Lower.{ExprSteps, StoredContents}
+use Rattle.hir_lower_form.specs.Lower.{ExprSteps, StoredContents, StoredFields}
 
 abbrev pub LowersExpr : Expr → Builder → Checked ExprId → Builder → Type 0
 LowersExpr e old result new = Lowers HasExpr (spec.lower e) old result new
@@ -64,33 +77,70 @@ LowersBlockOpt b old result new = Lowers HasExpr (spec.lower_block_part b) old r
 abbrev pub LowersStmt : Stmt → Builder → Checked (Option Statement) → Builder → Type 0
 LowersStmt s old result new = Lowers HasStatementOption (spec.lower_stmt s) old result new
 
--- paths
+-- types and paths
 
 -- the spot with another place
 abbrev pub at_place : Spot → Place → Spot
 at_place at p = record at { place = p }
 
--- what is read of a path names no entry
-abbrev pub HasReading : Stored → Reading → Type 0
-HasReading s r = Unit {0}
+abbrev pub HasWalk : Stored → PathWalk → Type 0
+HasWalk s w = Has s (past_walk w)
 
-abbrev pub HasPathOption : Stored → Option HirPath → Type 0
-HasPathOption s p = Unit {0}
+abbrev pub HasReading : Stored → Reading → Type 0
+HasReading s r = Has s (past_reading r)
+
+abbrev pub HasLists : Stored → ArgLists → Type 0
+HasLists s l = Has s (past_lists l)
+
+abbrev pub HasUseArg : Stored → UseArgRef → Type 0
+HasUseArg s a = Has s (past_use_arg a)
+
+abbrev pub LowersType : Option Binder → Type_ → Builder → Checked TypeRefId → Builder → Type 0
+LowersType binder t old result new = Lowers HasType (spec.lower_type binder t) old result new
+
+-- an error where it is absent
+abbrev pub LowersTypeOpt : Option Binder → OptionType → Builder → Checked TypeRefId → Builder → Type 0
+LowersTypeOpt binder t old result new = Lowers HasType (spec.type_part binder t) old result new
+
+-- none where it is absent
+abbrev pub LowersTypeIfPresent : OptionType → Builder → Checked (Option TypeRefId) → Builder → Type 0
+LowersTypeIfPresent t old result new = Lowers HasTypeOption (spec.present_type t) old result new
+
+abbrev pub LowersParts : Parts → Builder → Checked (List TypeRefId) → Builder → Type 0
+LowersParts ts old result new = Lowers HasTypes (spec.lower_parts [] ts) old result new
+
+-- none where it is absent or yields nothing
+abbrev pub LowersArgs : OptionArgs → Builder → Checked (Option GenericArgs) → Builder → Type 0
+LowersArgs as' old result new = Lowers HasArgsOption (spec.args_part as') old result new
+
+abbrev pub LowersBounds : Bounds → Builder → Checked (List TypeBound) → Builder → Type 0
+LowersBounds bs old result new = Lowers HasBounds (spec.lower_bounds [] bs) old result new
 
 abbrev pub ReadsSegment : Bool → Segment → PathWalk → Builder → Checked Reading → Builder → Type 0
-ReadsSegment first s w old result new = Lowers HasReading (read_segment first s w) old result new
+ReadsSegment first s w old result new = Lowers HasReading (spec.read_segment first s w) old result new
 
 abbrev pub ReadsPath : Path → PathWalk → Builder → Checked Reading → Builder → Type 0
-ReadsPath p w old result new = Lowers HasReading (read_path p w) old result new
+ReadsPath p w old result new = Lowers HasReading (spec.read_path p w) old result new
 
 -- none where it is absent or refused
 abbrev pub LowersPath : OptionPath → Builder → Checked (Option HirPath) → Builder → Type 0
-LowersPath p old result new = Lowers HasPathOption (lower_path p) old result new
+LowersPath p old result new = Lowers HasPathOption (spec.lower_path p) old result new
 
 -- what upstream does to make an expression of one that may be disabled
 abbrev pub or_missing : Option ExprId → ExprSteps
 or_missing None = spec.missing
 or_missing (Some id) = pure id
+
+-- the contents of a record
+
+abbrev pub HasField : Stored → Option RecordLitField → Type 0
+HasField s f = past_option past_field f ≤ length s.exprs.entries
+
+abbrev pub HasRecord : Stored → StoredFields → Type 0
+HasRecord s c = HasFields s c.0 × HasSpread s c.1
+
+abbrev pub record_at : RecordReading → Lowering StoredFields
+record_at r = spec.record_contents (spec.lower_fields [] r.fields) (spec.lower_spread r.spread)
 
 -- the contents of a block
 

@@ -1,15 +1,20 @@
--- How an answered path is lowered: from its last segment to its first, then the path of the use tree around it.
-use Rattle.std.specs.Prelude.{Bool, true, false, Option, Some, None}
+-- What is done with what a segment says.
+use Rattle.std.specs.Prelude.{codes, Bool, true, false, List, [], ◌∷◌, Option, Some, None}
+use Rattle.hir_store.specs.Pointers.{Pointer}
+use Rattle.hir_store.specs.Generics.{of_args, of_binding}
+use Rattle.hir_store.specs.declared.ids.TypeRefId.{TypeRefId}
+use Rattle.hir_store.specs.declared.name.Name.{Name}
+use Rattle.hir_store.specs.declared.name.Name.TheVariants as name
+use Rattle.hir_store.specs.declared.path.GenericArgs.{GenericArgs}
+use Rattle.hir_store.specs.declared.path.GenericArg.TheVariants as arg
+use Rattle.hir_store.specs.declared.path.GenericArgsParentheses.TheVariants as parens
+use Rattle.hir_store.specs.declared.type_ref.TypeRef.TheVariants as ty
 use Rattle.hir_store.specs.declared.path.Path.{Path as HirPath}
-use Rattle.hir_store.specs.declared.path.PathKind.TheVariants as kind
-use Rattle.hir_env.specs.Answered as tree
-use Rattle.hir_env.specs.Answered.{Path, OptionPath, Segments, Segment}
 use Rattle.hir_lower_form.specs.declared.walk.PathWalk.{PathWalk}
 use Rattle.hir_lower_form.specs.declared.walk.Reading.{Reading}
 use Rattle.hir_lower_form.specs.declared.walk.Reading.TheVariants.{Refused, Ended, Open}
-use Rattle.hir_lower_form.specs.Lowering.{Lowering, ◌>>=◌, ◌>>◌, pure, count_out}
-use Rattle.hir_lower_form.specs.Walks.{start, at_first, missing_name, self_type_name, named, ended, crate_kind}
-use Rattle.hir_lower_form.specs.Walks.{self_read, super_read, path_read}
+use Rattle.hir_lower_form.specs.Lowering.{Lowering, ◌>>=◌, ◌>>◌, pure, count_out, alloc_type}
+use Rattle.hir_lower_form.specs.Walks.{projected}
 
 -- goes on with what stands before, unless the path is refused or ends here
 abbrev pub proceed : Reading → (PathWalk → Lowering Reading) → Lowering Reading
@@ -28,43 +33,51 @@ abbrev pub counted : Option Reading → Lowering Reading
 counted (Some r) = pure r
 counted None = count_out
 
-abbrev mutual
-  -- the segment, which is the first of its path or stands behind another
-  pub read_segment : Bool → Segment → PathWalk → Lowering Reading
-  read_segment first tree.absent_segment w = pure (named missing_name w)
-  read_segment first tree.broken_segment w = pure Refused
-  read_segment first (tree.name_segment n) w = pure (named n w)
-  read_segment first tree.self_type_segment w = pure (named self_type_name w)
-  read_segment false tree.crate_segment w = pure Refused
-  read_segment true tree.crate_segment w = pure (ended kind.Crate w)
-  read_segment false (tree.dollar_crate_segment root) w = pure Refused
-  read_segment true (tree.dollar_crate_segment root) w = pure (ended (crate_kind root) w)
-  read_segment false tree.self_segment w = pure Refused
-  read_segment true tree.self_segment w = pure (self_read w)
-  read_segment first tree.super_segment w = counted (super_read w)
+-- the trait's path is stored as a type too
+abbrev pub read_trait : TypeRefId → Pointer → PathWalk → Option HirPath → Lowering Reading
+read_trait t at w None = pure Refused
+read_trait t at w (Some p) = do
+  alloc_type (ty.Path p) (Some at)
+  pure (projected t p w)
 
-  -- those behind the first, from the last
-  pub read_each : Segments → PathWalk → Lowering Reading
-  read_each tree.no_segments w = pure (Open w)
-  read_each (tree.more_segments s ss) w = do
-    r ← read_each ss w
-    proceed r (read_segment false s)
+-- `<T as Trait>`
+unfoldable pub with_trait : Lowering (Option HirPath) → TypeRefId → Pointer → PathWalk → Lowering Reading
+with_trait trait t at w = do
+  p ← trait
+  read_trait t at w p
 
-  pub read_path : Path → PathWalk → Lowering Reading
-  read_path (tree.path leading first rest use_) w =
-      whole (read_each rest w >>= (λ r. proceed r (λ v. read_segment true first (at_first leading v)))) (read_option use_)
+-- ---- arguments of a segment
 
-  pub read_option : OptionPath → PathWalk → Lowering Reading
-  read_option tree.no_path w = pure (Open w)
-  read_option (tree.some_path p) w = read_path p w
+abbrev pub output_name : Name
+output_name = name.Text (codes "Output")
 
-  -- the path, or none where it is absent or refused
-  pub lower_path : OptionPath → Lowering (Option HirPath)
-  lower_path tree.no_path = pure None
-  lower_path (tree.some_path p) = do
-    r ← read_path p start
-    pure (path_read r)
+-- the arguments `(A) -> C`, of the tuple of its types and of what it answers
+abbrev pub sugared_args : TypeRefId → TypeRefId → GenericArgs
+sugared_args tuple output = of_args (arg.Type_ tuple ∷ []) false (of_binding output_name None (Some output) [] ∷ []) parens.ParenSugar
 
--- the segments of a path, without those of the use tree around it
-abbrev pub read_own : Bool → Segment → Segments → PathWalk → Lowering Reading
-read_own leading first rest w = read_each rest w >>= (λ r. proceed r (λ v. read_segment true first (at_first leading v)))
+unfoldable pub parens_form : Lowering (List TypeRefId) → Lowering TypeRefId → Lowering (Option GenericArgs)
+parens_form types output = do
+  ts ← types
+  t ← alloc_type (ty.Tuple ts) None
+  o ← output
+  pure (Some (sugared_args t o))
+
+-- `(..)`
+abbrev pub notation : GenericArgs
+notation = of_args [] false [] parens.ReturnTypeNotation
+
+-- it stands where nothing else was found
+abbrev pub or_notation : Option GenericArgs → Bool → Option GenericArgs
+or_notation None true = Some notation
+or_notation found written = found
+
+abbrev pub or_else : Option GenericArgs → Lowering (Option GenericArgs) → Lowering (Option GenericArgs)
+or_else (Some a) next = pure (Some a)
+or_else None next = next
+
+-- of `<..>`, `(A) -> C` and `(..)` the first that yields any
+unfoldable pub segment_args_form : Lowering (Option GenericArgs) → Lowering (Option GenericArgs) → Bool → Lowering (Option GenericArgs)
+segment_args_form args parens dots = do
+  a ← args
+  p ← or_else a parens
+  pure (or_notation p dots)

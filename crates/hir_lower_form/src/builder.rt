@@ -1,13 +1,14 @@
 //! What lowering works on.
 
 ghost use Rattle.std.specs.Prelude.{◌≡◌, Ok, Some, true};
-ghost use Rattle.hir_store.specs.Range.{HasExpr, HasLabel, HasLabelOption, HasNone, HasParts};
+ghost use Rattle.hir_store.specs.Range.{HasExpr, HasLabel, HasLabelOption, HasLifetime, HasNone, HasParts, HasType, HasTypeParts};
 ghost use Rattle.hir_store.specs.declared.fault.StoreFault.TheVariants.{Full};
 ghost use Rattle.hir_env.specs.Answering.{jump};
 ghost use Rattle.hir_lower_form.specs.Builder.{fresh};
 ghost use Rattle.hir_lower_form.specs.Lowering as spec;
 ghost use Rattle.hir_lower_form.specs.Lowering.{Lowers};
 ghost use Rattle.hir_lower_form.specs.Lower.{missing};
+ghost use Rattle.hir_lower_form.specs.Types.{error_type, unit_type};
 
 use crate::parts::LowerParts;
 use hir_lower_scope::labels::{LabelScopes, NoTarget};
@@ -15,8 +16,10 @@ use hir_store::builder::ExpressionStoreBuilder;
 use hir_store::diagnostics::{AwaitLocation, ExpressionStoreDiagnostics};
 use hir_store::fault::StoreFault;
 use hir_store::hir::{Expr, Label};
-use hir_store::ids::{BlockId, ExprId, HygieneId, LabelId};
+use hir_store::ids::{BlockId, ExprId, HygieneId, LabelId, LifetimeRefId, TypeRefId};
 use hir_store::name::Name;
+use hir_store::type_ref::{LifetimeRef, TypeRef};
+use hir_syntax::Seq;
 use hir_syntax::node::{AstPtr, InFile};
 use std::alloc::Global;
 use std::marker::Model;
@@ -43,8 +46,12 @@ impl Drop for BodyBuilder {
 
 impl Model for BodyBuilder {
     ghost use Rattle.hir_lower_form.specs.Builder.{Builder, RibsExist};
+    ghost use Rattle.hir_store.specs.contracts.path.GenericArgs as generic_args;
+    ghost use Rattle.std.specs.Coded.{codes};
 
     ghost Value = { Builder };
+
+    ghost coded = { Prim.hlevel (codes, generic_args.the_row.coded) };
 
     ghost view = { λ b. record { stored = b.store; scopes = b.scopes; counted_out = b.counted_out } };
 
@@ -76,6 +83,47 @@ impl BodyBuilder {
         self.store.alloc_expr(expr, source)
     }
 
+    /// Stores a type, to which its node, where it came from one, leads from now on.
+    #[tactic(auto, unfolding(crate::specs::Lowering::alloc_type))]
+    pub fn alloc_type(
+        &mut self,
+        ty: TypeRef,
+        source: Option<InFile<AstPtr>>,
+    ) -> Result<TypeRefId, StoreFault>
+        requires { HasTypeParts self.old.stored ty }
+        ensures { Lowers HasType (spec.alloc_type ty source) self.old result self.new }
+    {
+        self.store.alloc_type(ty, source)
+    }
+
+    /// Stores a lifetime, to which its node, where it came from one, leads from now on.
+    #[tactic(auto, unfolding(crate::specs::Lowering::alloc_lifetime))]
+    pub fn alloc_lifetime(
+        &mut self,
+        lifetime: LifetimeRef,
+        source: Option<InFile<AstPtr>>,
+    ) -> Result<LifetimeRefId, StoreFault>
+        ensures { Lowers HasLifetime (spec.alloc_lifetime lifetime source) self.old result self.new }
+    {
+        self.store.alloc_lifetime(lifetime, source)
+    }
+
+    /// Stores the type that stands for one that is not there, which comes from no node.
+    #[tactic(auto, unfolding(crate::specs::Types::error_type))]
+    pub fn error_type(&mut self) -> Result<TypeRefId, StoreFault>
+        ensures { Lowers HasType error_type self.old result self.new }
+    {
+        self.alloc_type(TypeRef::Error, None)
+    }
+
+    /// Stores `()`, which comes from no node.
+    #[tactic(auto, unfolding(crate::specs::Types::unit_type))]
+    pub fn unit_type(&mut self, alloc: Global) -> Result<TypeRefId, StoreFault>
+        ensures { Lowers HasType unit_type self.old result self.new }
+    {
+        self.alloc_type(TypeRef::Tuple(Seq::new(alloc)), None)
+    }
+
     /// Stores an expression that is not there, which comes from no node.
     #[tactic(auto, unfolding(crate::specs::Lower::missing))]
     pub fn missing_expr(&mut self) -> Result<ExprId, StoreFault>
@@ -91,6 +139,15 @@ impl BodyBuilder {
         ensures { Lowers HasNone (spec.point node id) self.old result self.new }
     {
         self.store.point(node, id)
+    }
+
+    /// Notes the field that an expression is the value of.
+    #[tactic(auto, unfolding(crate::specs::Lowering::point_field))]
+    pub fn point_field(&mut self, id: ExprId, node: InFile<AstPtr>) -> Result<(), StoreFault>
+        requires { HasExpr self.old.stored id }
+        ensures { Lowers HasNone (spec.point_field id node) self.old result self.new }
+    {
+        self.store.point_field(id, node)
     }
 
     #[tactic(auto, unfolding(crate::specs::Lowering::report))]

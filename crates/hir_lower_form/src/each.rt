@@ -6,9 +6,9 @@ ghost use Rattle.hir_lower_form.specs.Methods.{LowersEach};
 
 use crate::builder::BodyBuilder;
 use crate::parts::{LowerParts, Lowerer};
-use hir_store::builder::push_id;
 use hir_store::fault::StoreFault;
 use hir_store::ids::ExprId;
+use hir_store::lists::push_id;
 use hir_syntax::{Seq, ast};
 
 impl<P: LowerParts> Lowerer<P> {

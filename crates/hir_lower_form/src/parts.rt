@@ -3,25 +3,27 @@
 
 ghost use Rattle.std.specs.Prelude.{◌≡◌};
 ghost use Rattle.hir_store.specs.Range.{HasLabelOption};
-ghost use Rattle.hir_env.specs.Answering.{site_of};
-ghost use Rattle.hir_env.specs.Spot.{Spot};
-ghost use Rattle.hir_env.specs.Whole.{answered, answered_path, answered_plain, block_part, expr_part, path_part, pointer_at};
+ghost use Rattle.hir_env.specs.Answered as tree;
+ghost use Rattle.hir_env.specs.Spot.{Spot, in_file, ptr, site_of};
+ghost use Rattle.hir_env.specs.Whole.{answered, answered_arg_list, answered_path, answered_plain, answered_type};
+ghost use Rattle.hir_env.specs.Whole.{block_part, expr_part, pointer_at};
 ghost use Rattle.hir_scope.specs.Ribs.{search, sought_first};
 ghost use Rattle.hir_lower_scope.specs.Labels.{answer};
 ghost use Rattle.hir_lower_form.specs.Nests.{Claims, IfPresent};
 ghost use Rattle.hir_lower_form.specs.Methods.{LowersBlock, LowersBlockOpt, LowersExpr, LowersExprOpt, LowersIfPresent, LowersInside};
-ghost use Rattle.hir_lower_form.specs.Methods.{LowersPath, MaybeLowersExpr, MaybeLowersExprOpt, ReadsPath, at_place};
+ghost use Rattle.hir_lower_form.specs.Methods.{MaybeLowersExpr, MaybeLowersExprOpt};
+ghost use Rattle.hir_lower_form.specs.Methods.{HasWalk, LowersArgs, LowersType, ReadsPath, at_place};
 
 use crate::builder::BodyBuilder;
-use crate::walk::{PathWalk, Reading, path_read};
+use crate::walk::{PathWalk, Reading};
 use hir_env::place::Place;
 use hir_lower_scope::labels::{LabelScopes, NoTarget};
 use hir_store::fault::StoreFault;
-use hir_store::ids::{CfgId, CrateId, ExprId, HygieneId, LabelId};
+use hir_store::ids::{CfgId, CrateId, ExprId, HygieneId, LabelId, TypeRefId};
 use hir_store::name::Name;
-use hir_store::path::Path;
+use hir_store::path::GenericArgs;
 use hir_syntax::node::{AstPtr, InFile, NodeId, PredId, TextRange};
-use hir_syntax::{Boxed, ast};
+use hir_syntax::{Boxed, Seq, ast};
 use std::alloc::Global;
 
 /// What lowers the parts of a form at one place, and answers its questions there.
@@ -88,8 +90,31 @@ pub trait LowerParts {
         walk: PathWalk,
         node: &ast::Path,
     ) -> Result<Reading, StoreFault>
-        requires { (can self.now).path place node.now }
+        requires part { (can self.now).path place node.now }
+        requires walk { HasWalk state.old.stored walk }
         ensures { ReadsPath (answered_path (at_place (spot self.now) place) node.now) walk state.old result state.new };
+
+    /// The type, read at this place, with the lifetimes of the `for<..>` directly around it, where one stands there.
+    fn lower_type(
+        &self,
+        state: &mut BodyBuilder,
+        place: Place,
+        binder: &Option<Seq<Name>>,
+        node: &ast::Type_,
+    ) -> Result<TypeRefId, StoreFault>
+        requires { (can self.now).type_ place node.now }
+        ensures { LowersType binder.now (answered_type (at_place (spot self.now) place) node.now) state.old result state.new };
+
+    /// The arguments, read at this place, or none where the list yields nothing.
+    fn lower_args(
+        &self,
+        state: &mut BodyBuilder,
+        place: Place,
+        node: &ast::GenericArgList,
+    ) -> Result<Option<GenericArgs>, StoreFault>
+        requires { (can self.now).args place node.now }
+        ensures { LowersArgs (tree.some_arg_list (answered_arg_list (at_place (spot self.now) place) node.now))
+            state.old result state.new };
 }
 
 /// The node that a pointer leads to, as it is asked about.
@@ -99,6 +124,16 @@ pub fn site(pointer: InFile<AstPtr>) -> InFile<NodeId>
     InFile {
         file_id: pointer.file_id,
         value: pointer.value.node,
+    }
+}
+
+/// A node of the file of a place.
+pub fn pointer_in(place: Place, node: NodeId, range: TextRange) -> InFile<AstPtr>
+    ensures { result ≡ in_file place (ptr node range) }
+{
+    InFile {
+        file_id: place.file_id,
+        value: AstPtr { node, range },
     }
 }
 
@@ -113,10 +148,7 @@ impl<P: LowerParts> Lowerer<P> {
     pub fn pointer(&self, node: NodeId, range: TextRange) -> InFile<AstPtr>
         ensures { result ≡ pointer_at (P.spot self.now.parts) node range }
     {
-        InFile {
-            file_id: self.parts.place().file_id,
-            value: AstPtr { node, range },
-        }
+        pointer_in(self.parts.place(), node, range)
     }
 
     /// The expression, missing where a condition disables it.
@@ -204,26 +236,6 @@ impl<P: LowerParts> Lowerer<P> {
         match part {
             None => state.missing_expr(),
             Some(part) => self.collect_block(state, part.get()),
-        }
-    }
-
-    /// The path, read at this place, or none where it is absent or refused.
-    pub fn path_if_present(
-        &self,
-        state: &mut BodyBuilder,
-        place: Place,
-        part: &Option<Boxed<ast::Path>>,
-    ) -> Result<Option<Path>, StoreFault>
-        requires { IfPresent ((P.can self.now.parts).path place) part.now }
-        ensures { LowersPath (path_part (at_place (P.spot self.now.parts) place) part.now) state.old result state.new }
-    {
-        match part {
-            None => Ok(None),
-            Some(part) => {
-                let walk = PathWalk::new(self.alloc);
-                let reading = self.parts.read_path(state, place, walk, part.get())?;
-                Ok(path_read(reading))
-            }
         }
     }
 }

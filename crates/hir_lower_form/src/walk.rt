@@ -1,11 +1,13 @@
 //! What is read of a path so far.
 
-ghost use Rattle.std.specs.Prelude.{◌≡◌, IfOk};
+ghost use Rattle.std.specs.Prelude.{◌≡◌, map, reverse, IfOk, None};
+ghost use Rattle.hir_store.specs.Past.{join, past_generic, past_present};
 ghost use Rattle.hir_lower_form.specs.Walks as spec;
 
-use hir_store::ids::CrateId;
+use hir_store::ids::{CrateId, TypeRefId};
+use hir_store::lists::push_args;
 use hir_store::name::Name;
-use hir_store::path::{ModPath, Path, PathKind};
+use hir_store::path::{GenericArgs, ModPath, NormalPath, Path, PathKind};
 use hir_syntax::Seq;
 use std::alloc::{AllocError, Global};
 
@@ -13,7 +15,11 @@ use std::alloc::{AllocError, Global};
 #[derive(Drop)]
 pub struct PathWalk {
     pub kind: PathKind,
+    pub type_anchor: Option<TypeRefId>,
     pub names: Seq<Name>,
+    /// What stands beside each name.
+    pub args: Seq<Option<GenericArgs>>,
+    pub found_args: bool,
 }
 
 /// What follows a segment: the path is refused, it ends there, or it goes on.
@@ -48,6 +54,58 @@ fn one_more_super(kind: PathKind) -> Option<PathKind>
     }
 }
 
+#[tactic(auto, using(crate::proofs::Walked::no_args_push))]
+fn absent_args(alloc: Global, names: &Seq<Name>) -> Result<Seq<Option<GenericArgs>>, AllocError>
+    ensures { IfOk result (λ args. args ≡ map (λ n. None) names.now) }
+{
+    let mut args = Seq::new(alloc);
+    let mut left = names.as_slice();
+    while let [_, rest @ ..] = left {
+        args.push(None)?;
+        left = rest;
+    }
+    Ok(args)
+}
+
+/// The names of a path and what stands beside each.
+fn segments_of(alloc: Global, path: Path) -> Result<(ModPath, Seq<Option<GenericArgs>>), AllocError>
+    ensures { IfOk result (λ it. it ≡ (spec.mod_path path, spec.args_of path)) }
+{
+    match path {
+        Path::BarePath(mod_path) => {
+            let args = absent_args(alloc, &mod_path.segments)?;
+            Ok((mod_path, args))
+        }
+        Path::Normal(
+            NormalPath {
+                type_anchor: _,
+                mod_path,
+                generic_args,
+            },
+        ) => Ok((mod_path, generic_args)),
+    }
+}
+
+/// The arguments from the last to the first, the last behind one for `Self`.
+#[tactic(auto, using(crate::proofs::Walked::with_self_last))]
+fn args_with_self(
+    alloc: Global,
+    ty: TypeRefId,
+    mut args: Seq<Option<GenericArgs>>,
+) -> Result<Seq<Option<GenericArgs>>, AllocError>
+    ensures { IfOk result (λ all. all ≡ spec.with_self ty (reverse args)) }
+{
+    let last = match args.pop() {
+        Some(last) => last,
+        None => None,
+    };
+    let mut all = Seq::new(alloc);
+    all.push(Some(GenericArgs::with_self(alloc, last, ty)?))?;
+    args.reverse();
+    all.append(args)?;
+    Ok(all)
+}
+
 impl PathWalk {
     /// Nothing is read.
     pub fn new(alloc: Global) -> PathWalk
@@ -55,13 +113,17 @@ impl PathWalk {
     {
         PathWalk {
             kind: PathKind::Plain,
+            type_anchor: None,
             names: Seq::new(alloc),
+            args: Seq::new(alloc),
+            found_args: false,
         }
     }
 
     /// The walk at a first segment, which may bear a `::`.
     pub fn at_first(self, leading: bool) -> PathWalk
-        ensures { result ≡ spec.at_first leading self }
+        ensures value { result ≡ spec.at_first leading self }
+        ensures past { spec.past_walk result ≡ spec.past_walk self }
     {
         if leading {
             PathWalk {
@@ -73,11 +135,15 @@ impl PathWalk {
         }
     }
 
-    /// A further name, before those that are read.
-    pub fn named(mut self, name: Name) -> Result<Reading, AllocError>
-        ensures { IfOk result (λ r. r ≡ spec.named name self) }
+    /// A further name, before those that are read, with what stands beside it.
+    #[tactic(auto, using(hir_store::proofs::Past::join_assoc))]
+    pub fn named(mut self, name: Name, args: Option<GenericArgs>) -> Result<Reading, AllocError>
+        ensures value { IfOk result (λ r. r ≡ spec.named name args self) }
+        ensures past { IfOk result (λ r. spec.past_reading r ≡ join (spec.past_walk self) (past_present past_generic args)) }
     {
+        self.found_args = self.found_args || args.is_some();
         self.names.push(name)?;
+        push_args(&mut self.args, args)?;
         Ok(Reading::Open(self))
     }
 
@@ -112,21 +178,82 @@ impl PathWalk {
         }
     }
 
+    /// `<T>`.
+    pub fn anchored(self, ty: TypeRefId) -> Reading
+        ensures { result ≡ spec.anchored ty self }
+    {
+        Reading::Open(PathWalk {
+            kind: PathKind::Plain,
+            type_anchor: Some(ty),
+            ..self
+        })
+    }
+
+    /// `<T as Trait>`: the trait's names, with `T` before the arguments of the last.
+    pub fn projected(
+        mut self,
+        alloc: Global,
+        ty: TypeRefId,
+        path: Path,
+    ) -> Result<Reading, AllocError>
+        ensures { IfOk result (λ r. r ≡ spec.projected ty path self) }
+    {
+        let (ModPath { kind, mut segments }, args) = segments_of(alloc, path)?;
+        if segments.is_empty() {
+            return Ok(Reading::Refused);
+        }
+        segments.reverse();
+        self.names.append(segments)?;
+        self.args.append(args_with_self(alloc, ty, args)?)?;
+        self.kind = kind;
+        self.found_args = true;
+        Ok(Reading::Open(self))
+    }
+
     /// The path, all of whose segments are read.
     pub fn finished(self) -> Path
         ensures { result ≡ spec.finished self }
     {
-        let PathWalk { kind, mut names } = self;
-        let kind = if names.is_empty() && kind == PathKind::Plain {
+        let PathWalk {
+            kind,
+            type_anchor,
+            mut names,
+            mut args,
+            found_args,
+        } = self;
+        let kind = if names.is_empty() && kind == PathKind::Plain && type_anchor.is_none() {
             PathKind::Super(0)
         } else {
             kind
         };
         names.reverse();
-        Path::BarePath(ModPath {
+        let mod_path = ModPath {
             kind,
             segments: names,
+        };
+        if type_anchor.is_none() && !found_args {
+            return Path::BarePath(mod_path);
+        }
+        drop_last_self(&mut args);
+        args.reverse();
+        Path::Normal(NormalPath {
+            type_anchor,
+            mod_path,
+            generic_args: args,
         })
+    }
+}
+
+/// Nothing stands behind `<T as Trait>`, so its arguments go.
+fn drop_last_self(args: &mut Seq<Option<GenericArgs>>)
+    ensures { args.new ≡ spec.without_last_self args.old }
+{
+    let goes = match args.as_slice() {
+        [Some(last), ..] => last.has_self_type,
+        _ => false,
+    };
+    if goes {
+        args.set(0, None);
     }
 }
 

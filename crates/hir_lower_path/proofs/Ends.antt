@@ -8,7 +8,17 @@ use Rattle.hir_lower_form.specs.declared.walk.Reading.{Reading}
 use Rattle.hir_lower_form.specs.declared.walk.Reading.TheVariants.{Refused, Ended, Open}
 use Rattle.hir_lower_form.specs.Builder.{Builder}
 use Rattle.hir_lower_form.specs.Lowering.{Checked, Lowering, go_on, pure}
-use Rattle.hir_lower_form.specs.Paths.{proceed, read_each, read_segment}
+use Rattle.hir_lower_form.specs.Lower.{read_each, read_segment}
+use Rattle.hir_lower_form.specs.Nests.{Each}
+use Rattle.hir_lower_form.specs.Paths.{proceed}
+
+pub each_before : {A : Type 0} (P : A → Type 0) (xs : List A) (x : A) → Each P (xs ++ x ∷ []) → Each P xs
+each_before P [] x h = tt
+each_before P (y ∷ xs) x h = (h.0, each_before P xs x h.1)
+
+pub each_last : {A : Type 0} (P : A → Type 0) (xs : List A) (x : A) → Each P (xs ++ x ∷ []) → P x
+each_last P [] x h = h.0
+each_last P (y ∷ xs) x h = each_last P xs x h.1
 
 open_stays : (o : Checked Reading) (b : Builder) → (o, b) ≡ go_on o b (λ r. proceed r (λ v. pure (Open v)))
 open_stays (Ok Refused) b = refl

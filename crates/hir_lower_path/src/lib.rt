@@ -1,4 +1,5 @@
 //! How a path is read, segment by segment, with what lowers its parts handed in.
 #![tactic(auto)]
 
+mod args;
 pub mod path;

@@ -1,37 +1,49 @@
 //! A path is read from its last segment to its first, then the path of the use tree around it.
 
-ghost use Rattle.std.specs.Prelude.{◌≡◌, IfOk, false, true};
+ghost use Rattle.std.specs.Prelude.{None, false, true};
 ghost use Rattle.hir_syntax.specs.declared.ast.Path.{out-Path};
-ghost use Rattle.hir_env.specs.Paths.{named_segment};
-ghost use Rattle.hir_env.specs.Whole.{first_part, path_level, path_part, rest_part, segment_level, segment_part, segments_part};
-ghost use Rattle.hir_lower_form.specs.Lowering.{Lowers, pure};
-ghost use Rattle.hir_lower_form.specs.Methods.{HasReading, ReadsPath, ReadsSegment};
-ghost use Rattle.hir_lower_form.specs.Nests.{IfPresent, KidsPath};
-ghost use Rattle.hir_lower_form.specs.Paths as spec;
+ghost use Rattle.hir_syntax.specs.declared.ast.PathSegment.{out-PathSegment};
+ghost use Rattle.hir_store.specs.Range.{HasType};
+ghost use Rattle.hir_env.specs.Paths.{named_segment, qualified_segment};
+ghost use Rattle.hir_env.specs.Whole.{first_part, path_level, path_part, path_type_level, path_type_part, rest_part};
+ghost use Rattle.hir_env.specs.Whole.{segment_args_level, segment_level, segment_part, segments_part, type_part};
+ghost use Rattle.hir_lower_form.specs.Lowering.{Lowers};
+ghost use Rattle.hir_lower_form.specs.Methods.{HasReading, HasWalk, LowersPath, ReadsPath, ReadsSegment};
+ghost use Rattle.hir_lower_form.specs.Nests.{IfPresent, KidsName, KidsPath, KidsPresent, KidsQualified, KidsSegment};
+ghost use Rattle.hir_lower_form.specs.Nests.{KidsSegments, KidsTrait};
+ghost use Rattle.hir_lower_form.specs.Lower as spec;
+ghost use Rattle.hir_lower_form.specs.Paths as forms;
 ghost use Rattle.hir_lower_form.specs.Walks.{super_read};
 
+use crate::args::segment_args;
 use hir_lower_form::builder::BodyBuilder;
 use hir_lower_form::parts::{LowerParts, Lowerer};
 use hir_lower_form::walk::{PathWalk, Reading, crate_kind};
 use hir_store::fault::StoreFault;
+use hir_store::ids::TypeRefId;
 use hir_store::name::Name;
-use hir_store::path::PathKind;
+use hir_store::path::{Path, PathKind};
+use hir_store::type_ref::TypeRef;
 use hir_syntax::ast::SegmentKind;
 use hir_syntax::node::InFile;
 use hir_syntax::{Boxed, Text, ast};
-use std::alloc::AllocError;
 
-/// A name, or `$crate`, which may only be the first.
+/// A name with what stands behind it, or `$crate`, which may only be the first.
 fn name_form<P: LowerParts>(
     lowerer: &Lowerer<P>,
+    state: &mut BodyBuilder,
     walk: PathWalk,
     first: bool,
-    name: &Option<ast::Name>,
-) -> Result<Reading, AllocError>
+    node: &ast::PathSegment,
+) -> Result<Reading, StoreFault>
+    requires parts { let level = out-PathSegment node.now in
+        KidsName (P.can lowerer.now.parts) (P.spot lowerer.now.parts).place level.name level }
+    requires walk { HasWalk state.old.stored walk }
     ensures { let spot = P.spot lowerer.now.parts in
-        IfOk result (λ r. spec.read_segment first (named_segment spot.answers spot.place name.now) walk ≡ pure r) }
+        let level = named_segment spot.answers spot.place (out-PathSegment node.now).name (segment_args_level spot node.now) in
+        ReadsSegment first level walk state.old result state.new }
 {
-    let Some(name) = name else {
+    let Some(name) = &node.name else {
         return Ok(Reading::Refused);
     };
     if name.t.as_str() == "$crate" {
@@ -44,13 +56,78 @@ fn name_form<P: LowerParts>(
         };
         return Ok(walk.ended(crate_kind(lowerer.parts.crate_root(at))));
     }
-    walk.named(Name::Text(name.t.clone()?))
+    let args = segment_args(lowerer, state, node)?;
+    Ok(walk.named(Name::Text(name.t.clone()?), args)?)
+}
+
+fn trait_path<P: LowerParts>(
+    lowerer: &Lowerer<P>,
+    state: &mut BodyBuilder,
+    node: &ast::PathType,
+) -> Result<Option<Path>, StoreFault>
+    requires { KidsTrait (P.can lowerer.now.parts) (P.spot lowerer.now.parts).place node.now }
+    ensures { LowersPath (path_type_level (P.spot lowerer.now.parts) node.now).path state.old result state.new }
+{
+    lowerer.path_if_present(state, lowerer.parts.place(), &node.path)
+}
+
+/// `<T as Trait>`, whose path is stored as a type too.
+#[tactic(auto, using(hir_lower_form::proofs::Walked::projected_has), unfolding(hir_lower_form::specs::Paths::with_trait))]
+fn trait_form<P: LowerParts>(
+    lowerer: &Lowerer<P>,
+    state: &mut BodyBuilder,
+    walk: PathWalk,
+    ty: TypeRefId,
+    node: &ast::PathType,
+) -> Result<Reading, StoreFault>
+    requires parts { KidsTrait (P.can lowerer.now.parts) (P.spot lowerer.now.parts).place node.now }
+    requires walk { HasWalk state.old.stored walk }
+    requires ty { HasType state.old.stored ty }
+    ensures { let level = path_type_level (P.spot lowerer.now.parts) node.now in
+        Lowers HasReading (forms.with_trait (spec.lower_path level.path) ty level.pointer walk) state.old result state.new }
+{
+    let Some(path) = trait_path(lowerer, state, node)? else {
+        return Ok(Reading::Refused);
+    };
+    let at = lowerer.pointer(node.id, node.range);
+    let _ = state.alloc_type(TypeRef::Path(path.copy(lowerer.alloc)?), Some(at))?;
+    Ok(walk.projected(lowerer.alloc, ty, path)?)
+}
+
+/// `<T>` or `<T as Trait>`, which may only be the first.
+#[tactic(auto, using(hir_env::proofs::PathLevels::path_type_is_level, hir_lower_form::proofs::Walked::anchored_has))]
+fn qualified_form<P: LowerParts>(
+    lowerer: &Lowerer<P>,
+    state: &mut BodyBuilder,
+    walk: PathWalk,
+    first: bool,
+    ty: &Option<Boxed<ast::Type_>>,
+    trait_: &Option<ast::PathType>,
+) -> Result<Reading, StoreFault>
+    requires parts { KidsQualified (P.can lowerer.now.parts) (P.spot lowerer.now.parts).place ty.now trait_.now }
+    requires walk { HasWalk state.old.stored walk }
+    ensures { let spot = P.spot lowerer.now.parts in
+        ReadsSegment first (qualified_segment (type_part spot ty.now) (path_type_part spot trait_.now)) walk state.old result state.new }
+{
+    let Some(ty) = ty else {
+        return Ok(Reading::Refused);
+    };
+    if !first {
+        return Ok(Reading::Refused);
+    }
+    let place = lowerer.parts.place();
+    let id = lowerer.parts.lower_type(state, place, &None, ty.get())?;
+    match trait_ {
+        None => Ok(walk.anchored(id)),
+        Some(node) => trait_form(lowerer, state, walk, id, node),
+    }
 }
 
 /// One `super` more, where one more is counted.
-#[tactic(auto, unfolding(hir_lower_form::specs::Lowering::count_out))]
+#[tactic(auto, using(hir_lower_form::proofs::Walked::super_has), unfolding(hir_lower_form::specs::Lowering::count_out))]
 fn super_form(state: &mut BodyBuilder, walk: PathWalk) -> Result<Reading, StoreFault>
-    ensures { Lowers HasReading (spec.counted (super_read walk)) state.old result state.new }
+    requires { HasWalk state.old.stored walk }
+    ensures { Lowers HasReading (forms.counted (super_read walk)) state.old result state.new }
 {
     match walk.super_read() {
         Some(reading) => Ok(reading),
@@ -58,6 +135,7 @@ fn super_form(state: &mut BodyBuilder, walk: PathWalk) -> Result<Reading, StoreF
     }
 }
 
+#[tactic(auto, using(hir_lower_form::proofs::Walked::self_has))]
 fn segment_form<P: LowerParts>(
     lowerer: &Lowerer<P>,
     state: &mut BodyBuilder,
@@ -65,13 +143,16 @@ fn segment_form<P: LowerParts>(
     first: bool,
     node: &ast::PathSegment,
 ) -> Result<Reading, StoreFault>
+    requires parts { KidsSegment (P.can lowerer.now.parts) (P.spot lowerer.now.parts).place (out-PathSegment node.now) }
+    requires walk { HasWalk state.old.stored walk }
     ensures { ReadsSegment first (segment_level (P.spot lowerer.now.parts) node.now) walk state.old result state.new }
 {
     match node.seg {
         None => Ok(Reading::Refused),
-        Some(SegmentKind::Name) => Ok(name_form(lowerer, walk, first, &node.name)?),
+        Some(SegmentKind::Name) => name_form(lowerer, state, walk, first, node),
         Some(SegmentKind::SelfTypeKw) => {
-            Ok(walk.named(Name::Text(Text::new(lowerer.alloc, "Self")?))?)
+            let name = Name::Text(Text::new(lowerer.alloc, "Self")?);
+            Ok(walk.named(name, None)?)
         }
         Some(SegmentKind::CrateKw) => {
             if first {
@@ -88,10 +169,14 @@ fn segment_form<P: LowerParts>(
             }
         }
         Some(SegmentKind::SuperKw) => super_form(state, walk),
+        Some(SegmentKind::Qualified) => {
+            qualified_form(lowerer, state, walk, first, &node.ty, &node.trait_)
+        }
     }
 }
 
 /// A segment, or the missing name where it is absent.
+#[tactic(auto, using(hir_env::proofs::PathLevels::segment_is_level))]
 fn segment<P: LowerParts>(
     lowerer: &Lowerer<P>,
     state: &mut BodyBuilder,
@@ -99,22 +184,26 @@ fn segment<P: LowerParts>(
     first: bool,
     node: &Option<ast::PathSegment>,
 ) -> Result<Reading, StoreFault>
+    requires parts { KidsPresent (P.can lowerer.now.parts) (P.spot lowerer.now.parts).place node.now }
+    requires walk { HasWalk state.old.stored walk }
     ensures { ReadsSegment first (segment_part (P.spot lowerer.now.parts) node.now) walk state.old result state.new }
 {
     match node {
-        None => Ok(walk.named(Name::Missing)?),
+        None => Ok(walk.named(Name::Missing, None)?),
         Some(node) => segment_form(lowerer, state, walk, first, node),
     }
 }
 
 /// The segments behind the first, from the last.
-#[tactic(auto, using(crate::proofs::Ends::read_each_last))]
+#[tactic(auto, using(crate::proofs::Ends::each_before, crate::proofs::Ends::each_last, crate::proofs::Ends::read_each_last))]
 fn segments<P: LowerParts>(
     lowerer: &Lowerer<P>,
     state: &mut BodyBuilder,
     mut walk: PathWalk,
     mut left: &[Option<ast::PathSegment>],
 ) -> Result<Reading, StoreFault>
+    requires parts { KidsSegments (P.can lowerer.now.parts) (P.spot lowerer.now.parts).place left.now }
+    requires walk { HasWalk state.old.stored walk }
     ensures { Lowers HasReading (spec.read_each (segments_part (P.spot lowerer.now.parts) left.entry.now) walk) state.old result state.new }
 {
     while let Some((last, before)) = left.split_last() {
@@ -135,12 +224,14 @@ fn own_segments<P: LowerParts>(
     leading: bool,
     all: &[Option<ast::PathSegment>],
 ) -> Result<Reading, StoreFault>
+    requires parts { KidsSegments (P.can lowerer.now.parts) (P.spot lowerer.now.parts).place all.now }
+    requires walk { HasWalk state.old.stored walk }
     ensures { let spot = P.spot lowerer.now.parts in
         let own = spec.read_own leading (first_part spot all.now) (rest_part spot all.now) in
         Lowers HasReading (own walk) state.old result state.new }
 {
     let Some((first, rest)) = all.split_first() else {
-        return Ok(walk.at_first(leading).named(Name::Missing)?);
+        return Ok(walk.at_first(leading).named(Name::Missing, None)?);
     };
     match segments(lowerer, state, walk, rest)? {
         Reading::Open(walk) => segment(lowerer, state, walk.at_first(leading), true, first),
@@ -157,10 +248,12 @@ fn whole_path<P: LowerParts>(
     all: &[Option<ast::PathSegment>],
     outer: &Option<Boxed<ast::Path>>,
 ) -> Result<Reading, StoreFault>
-    requires { IfPresent ((P.can lowerer.now.parts).path (P.spot lowerer.now.parts).place) outer.now }
+    requires parts { KidsSegments (P.can lowerer.now.parts) (P.spot lowerer.now.parts).place all.now }
+    requires outer { IfPresent ((P.can lowerer.now.parts).path (P.spot lowerer.now.parts).place) outer.now }
+    requires walk { HasWalk state.old.stored walk }
     ensures { let spot = P.spot lowerer.now.parts in
         let own = spec.read_own leading (first_part spot all.now) (rest_part spot all.now) in
-        Lowers HasReading (spec.whole (own walk) (spec.read_option (path_part spot outer.now))) state.old result state.new }
+        Lowers HasReading (forms.whole (own walk) (spec.read_option (path_part spot outer.now))) state.old result state.new }
 {
     match own_segments(lowerer, state, walk, leading, all)? {
         Reading::Open(walk) => match outer {
@@ -181,7 +274,8 @@ pub fn path_node<P: LowerParts>(
     walk: PathWalk,
     node: &ast::Path,
 ) -> Result<Reading, StoreFault>
-    requires { KidsPath (P.can lowerer.now.parts) (P.spot lowerer.now.parts).place (out-Path node.now) }
+    requires parts { KidsPath (P.can lowerer.now.parts) (P.spot lowerer.now.parts).place (out-Path node.now) }
+    requires walk { HasWalk state.old.stored walk }
     ensures { ReadsPath (path_level (P.spot lowerer.now.parts) node.now) walk state.old result state.new }
 {
     whole_path(

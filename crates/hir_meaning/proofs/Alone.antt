@@ -2,14 +2,16 @@
 use Rattle.std.proofs.Common.{◌≡◌, ℕ, Bool, if◌then◌else◌, List, [], ◌∷◌, ◌++◌, Option, Some, None, refl, ap}
 use Rattle.hir_env.specs.Answering.{site_of}
 use Rattle.hir_env.specs.Answered as tree
-use Rattle.hir_env.specs.Answered.{Label, Expr, OptionExpr, Exprs, Block, OptionBlock, Stmts}
+use Rattle.hir_env.specs.Answered.{Label, Expr, OptionExpr, Exprs, Fields, Spread, Block, OptionBlock, Stmts}
 use Rattle.hir_scope.specs.Scopes.{Scope, loop_scope, barrier, outward, scopes_in_block}
 use Rattle.hir_scope.proofs.Alone.{nothing_outside}
-use Rattle.hir_meaning.specs.Run.{Value, unit, is_true, call, method_call, yielding, awaiting, break, continue, leave, became}
+use Rattle.hir_data.specs.Written.{written_path, written_type, written_args}
+use Rattle.hir_meaning.specs.Run.{Value, unit, is_true, call, method_call, cast, yielding, awaiting, break, continue, leave, became}
 use Rattle.hir_meaning.specs.Run.{ends, pure, ◌>>=◌, ◌>>◌, ask, tests, entering}
 use Rattle.hir_meaning.specs.Catching.{turn, loop}
-use Rattle.hir_meaning.specs.Left.{is_kept, is_left, is_last}
+use Rattle.hir_meaning.specs.Left.{is_kept, is_left, is_last, field_names}
 use Rattle.hir_meaning.specs.Syntax.{SyntaxRun, catching, run_expr, run_part, run_block_part, run_or_unit, run_each}
+use Rattle.hir_meaning.specs.Syntax.{spread_form, run_record, run_fields, run_spread}
 use Rattle.hir_meaning.specs.Syntax.{run_block, run_tail, run_stmts, unary_operation, run_binary, run_lazy, run_list, leaves_with}
 use Rattle.hir_meaning.specs.Rows.{RunsAlone}
 
@@ -42,8 +44,14 @@ module _ (turns : ℕ) (outer : List Scope) where
         run_binary form (part_alone a inner i) (part_alone b inner i) (Some (site_of at))
     expr_alone (tree.lazy_expr at op a b) inner = λ i. run_lazy op (part_alone a inner i) (part_alone b inner i) (Some (site_of at))
     expr_alone (tree.list_expr at form es) inner = λ i. run_list form (each_alone es inner i) (Some (site_of at))
-    expr_alone (tree.method_call_expr at e name es) inner = λ i.
-        part_alone e inner i >>= (λ v. each_alone es inner i >>= (λ vs. ask (method_call name) (v ∷ vs) (Some (site_of at))))
+    expr_alone (tree.method_call_expr at e name es generics) inner = λ i.
+        part_alone e inner i >>= (λ v. each_alone es inner i
+        >>= (λ vs. ask (method_call name (written_args generics)) (v ∷ vs) (Some (site_of at))))
+    expr_alone (tree.cast_expr at e t) inner = λ i.
+        part_alone e inner i >>= (λ v. ask (cast (written_type t)) (v ∷ []) (Some (site_of at)))
+    expr_alone (tree.record_expr at p fs s) inner = λ i.
+        run_record (written_path p) (field_names fs) (spread_form s) (fields_alone fs inner i) (spread_alone s inner i) (Some (site_of at))
+    expr_alone (tree.offset_of_expr at t names) inner = refl
     expr_alone (tree.leaving_expr at form e) inner = λ i. or_unit_alone e inner i >>= (λ v. ends (leave (leaves_with form v)))
     expr_alone (tree.become_expr at e) inner = λ i. part_alone e inner i >>= (λ v. ends (leave (became v)))
     expr_alone (tree.yield_expr at e) inner = λ i. or_unit_alone e inner i >>= (λ v. ask yielding (v ∷ []) (Some (site_of at)))
@@ -70,6 +78,18 @@ module _ (turns : ℕ) (outer : List Scope) where
         if is_kept e
         then (expr_alone e inner i >>= (λ v. each_alone es inner i >>= (λ vs. pure (v ∷ vs))))
         else each_alone es inner i
+
+    fields_alone : (fs : Fields) (inner : List Scope) → run_fields turns fs (inner ++ barrier ∷ outer) ≡ run_fields turns fs inner
+    fields_alone tree.no_fields inner = refl
+    fields_alone (tree.more_fields (tree.named_field at name e) fs) inner = λ i.
+        part_alone e inner i >>= (λ v. fields_alone fs inner i >>= (λ vs. pure (v ∷ vs)))
+    fields_alone (tree.more_fields tree.nameless_field fs) inner = fields_alone fs inner
+    fields_alone (tree.more_fields (tree.disabled_field at by f) fs) inner = fields_alone fs inner
+
+    spread_alone : (s : Spread) (inner : List Scope) → run_spread turns s (inner ++ barrier ∷ outer) ≡ run_spread turns s inner
+    spread_alone tree.no_spread inner = refl
+    spread_alone tree.field_defaults inner = refl
+    spread_alone (tree.spread_of e) inner = λ i. expr_alone e inner i >>= (λ v. pure (v ∷ []))
 
     block_alone : (b : Block) (inner : List Scope) → run_block turns b (inner ++ barrier ∷ outer) ≡ run_block turns b inner
     block_alone (tree.block at is_unsafe label number ss e) inner = rw (in_block_alone label inner)

@@ -5,6 +5,7 @@ use Rattle.hir_store.specs.declared.ids.CfgId.{CfgId}
 use Rattle.hir_env.specs.Answering.{site_of}
 use Rattle.hir_env.specs.Answered as tree
 use Rattle.hir_env.specs.Answered.{Expr, OptionExpr, Stmts, Stmt}
+use Rattle.hir_data.specs.Reading.{stored_path}
 use Rattle.hir_meaning.specs.Run.{Value, Event, entering, ends, event, ◌>>=◌, ◌>>◌}
 use Rattle.hir_meaning.specs.Catching.{loop, block}
 use Rattle.hir_scope.specs.Scopes.{Scope, scopes_in_block}
@@ -17,61 +18,61 @@ use Rattle.hir_meaning.specs.Rows.{MissingIsNoLiteral, ParenthesesAreSilent, Dis
 use Rattle.hir_meaning.specs.Turns.{EndsTheTurn, ContinuesTheOuter, BreaksTheOuter, HygienesDiffer, UndeclaredIsPlain, HasFreshTurns}
 
 pub leaves_the_loop : LeavesTheLoop
-unfolding ends event ◌>>=◌ loop block run_store run_to
+unfolding ends event ◌>>=◌ loop block run_store run_to stored_path
 leaves_the_loop = record { written = record { events = refl; ends = refl }; stored = record { events = refl; ends = refl } }
 
 pub leaves_the_block : LeavesTheBlock
-unfolding ends event ◌>>=◌ loop block run_store run_to
+unfolding ends event ◌>>=◌ loop block run_store run_to stored_path
 leaves_the_block = record { written = record { events = refl; ends = refl }; stored = record { events = refl; ends = refl } }
 
 pub has_no_turn : HasNoTurn
-unfolding ends event ◌>>=◌ loop block run_store run_to
+unfolding ends event ◌>>=◌ loop block run_store run_to stored_path
 has_no_turn = record { written = record { events = refl; ends = refl }; stored = record { events = refl; ends = refl } }
 
 pub strays_from_block : StraysFromBlock
-unfolding ends event ◌>>=◌ loop block run_store run_to
+unfolding ends event ◌>>=◌ loop block run_store run_to stored_path
 strays_from_block = record { written = record { events = refl; ends = refl }; stored = record { events = refl; ends = refl } }
 
 pub has_two_sites : HasTwoSites
-unfolding ends event ◌>>=◌ loop block run_store run_to
+unfolding ends event ◌>>=◌ loop block run_store run_to stored_path
 has_two_sites = record { written = record { events = refl; ends = refl }; stored = record { events = refl; ends = refl } }
 
 pub enters_its_number : EntersItsNumber
-unfolding ends event ◌>>=◌ loop block run_store run_to
+unfolding ends event ◌>>=◌ loop block run_store run_to stored_path
 enters_its_number = record { written = record { events = refl; ends = refl }; stored = record { events = refl; ends = refl } }
 
 pub ends_the_turn : EndsTheTurn
-unfolding ends event ◌>>=◌ loop block run_store run_to
+unfolding ends event ◌>>=◌ loop block run_store run_to stored_path
 ends_the_turn = record { written = record { events = refl; ends = refl }; stored = record { events = refl; ends = refl } }
 
 pub continues_the_outer : ContinuesTheOuter
-unfolding ends event ◌>>=◌ loop block run_store run_to
+unfolding ends event ◌>>=◌ loop block run_store run_to stored_path
 continues_the_outer = record { written = record { events = refl; ends = refl }; stored = record { events = refl; ends = refl } }
 
 pub breaks_the_outer : BreaksTheOuter
-unfolding ends event ◌>>=◌ loop block run_store run_to
+unfolding ends event ◌>>=◌ loop block run_store run_to stored_path
 breaks_the_outer = record { written = record { events = refl; ends = refl }; stored = record { events = refl; ends = refl } }
 
 pub has_fresh_turns : HasFreshTurns
-unfolding ends event ◌>>=◌ loop block run_store run_to
+unfolding ends event ◌>>=◌ loop block run_store run_to stored_path
 has_fresh_turns = record { written = record { events = refl; ends = refl }; stored = record { events = refl; ends = refl } }
 
 pub hygienes_differ : HygienesDiffer
-unfolding ends event ◌>>=◌ loop block run_store run_to
+unfolding ends event ◌>>=◌ loop block run_store run_to stored_path
 hygienes_differ = (
   record { written = record { events = refl; ends = refl }; stored = record { events = refl; ends = refl } },
   record { written = record { events = refl; ends = refl }; stored = record { events = refl; ends = refl } },
 )
 
 pub undeclared_is_plain : UndeclaredIsPlain
-unfolding ends event ◌>>=◌ loop block run_store run_to
+unfolding ends event ◌>>=◌ loop block run_store run_to stored_path
 undeclared_is_plain = (
   record { written = record { events = refl; ends = refl }; stored = record { events = refl; ends = refl } },
   record { written = record { events = refl; ends = refl }; stored = record { events = refl; ends = refl } },
 )
 
 pub runs_as_worked : RunsAsWorked
-unfolding ends event ◌>>=◌ loop block run_store run_to
+unfolding ends event ◌>>=◌ loop block run_store run_to stored_path
 runs_as_worked = (refl, refl)
 
 abbrev nothing_happened : List Event → Type 0
@@ -79,7 +80,7 @@ nothing_happened [] = Unit {0}
 nothing_happened (e ∷ es) = ⊥
 
 pub missing_is_no_literal : MissingIsNoLiteral
-unfolding ends event ◌>>=◌ run_store run_to
+unfolding ends event ◌>>=◌ run_store run_to stored_path
 missing_is_no_literal h = let e = h.events 0 [] in subst nothing_happened e tt
 
 pub parentheses_are_silent : ParenthesesAreSilent

@@ -1,5 +1,6 @@
 -- How small bodies end, computed.
 use Rattle.std.proofs.Common.{◌≡◌, ◌⊎◌, inl, inr, nat_eq, true≢false, [], refl, ap, subst}
+use Rattle.hir_data.specs.Reading.{stored_path}
 use Rattle.hir_meaning.specs.Run.{ends, event, ◌>>=◌}
 use Rattle.hir_meaning.specs.Catching.{loop, block}
 use Rattle.hir_meaning.specs.Store.{run_store, run_to}
@@ -10,23 +11,23 @@ use Rattle.hir_meaning.specs.Endings.{MissingEndsTheLoop, StraysWithItsValue, St
 use Rattle.hir_meaning.specs.Endings.{AnswersNoPastTheEnd, ValueEndsTheLoop, ForeignIsNotEnclosed}
 
 pub missing_ends_the_loop : MissingEndsTheLoop
-unfolding ends event ◌>>=◌ loop block run_store run_to
+unfolding ends event ◌>>=◌ loop block run_store run_to stored_path
 missing_ends_the_loop = record { written = record { events = refl; ends = refl }; stored = record { events = refl; ends = refl } }
 
 pub strays_with_its_value : StraysWithItsValue
-unfolding ends event ◌>>=◌ loop block run_store run_to
+unfolding ends event ◌>>=◌ loop block run_store run_to stored_path
 strays_with_its_value = record { written = record { events = refl; ends = refl }; stored = record { events = refl; ends = refl } }
 
 pub inner_label_hides : InnerLabelHides
-unfolding ends event ◌>>=◌ loop block run_store run_to
+unfolding ends event ◌>>=◌ loop block run_store run_to stored_path
 inner_label_hides = record { written = record { events = refl; ends = refl }; stored = record { events = refl; ends = refl } }
 
 pub continues_past_the_block : ContinuesPastTheBlock
-unfolding ends event ◌>>=◌ loop block run_store run_to
+unfolding ends event ◌>>=◌ loop block run_store run_to stored_path
 continues_past_the_block = record { written = record { events = refl; ends = refl }; stored = record { events = refl; ends = refl } }
 
 pub answers_no_past_the_end : AnswersNoPastTheEnd
-unfolding ends event ◌>>=◌ loop block run_store run_to
+unfolding ends event ◌>>=◌ loop block run_store run_to stored_path
 answers_no_past_the_end = record { written = record { events = refl; ends = refl }; stored = record { events = refl; ends = refl } }
 
 abbrev with_value : Ending → Type 0
@@ -36,7 +37,7 @@ with_value stray_continue = ⊥
 with_value (left x) = ⊥
 
 pub stray_is_no_value : StrayIsNoValue
-unfolding ends event ◌>>=◌ run_store run_to
+unfolding ends event ◌>>=◌ run_store run_to stored_path
 stray_is_no_value h = let e = h.endings 0 [] in subst with_value e tt
 
 pub value_ends_the_loop : ValueEndsTheLoop

@@ -2,6 +2,7 @@
 use Rattle.std.proofs.Common.{if◌then◌else◌, ◌∷◌, refl, ap}
 use Rattle.hir_env.specs.Answered as tree
 use Rattle.hir_env.specs.Answered.{Expr, Exprs}
+use Rattle.hir_data.specs.Reading.{stored_path, stored_args}
 use Rattle.hir_meaning.specs.Run.{ends, event, pure, ◌>>=◌}
 use Rattle.hir_meaning.specs.Catching.{loop, block}
 use Rattle.hir_meaning.specs.Left.{is_kept}
@@ -9,40 +10,40 @@ use Rattle.hir_meaning.specs.Syntax.{run_expr}
 use Rattle.hir_meaning.specs.Store.{run_store, run_to}
 use Rattle.hir_meaning.specs.Forms.{OperatesInOrder, DecidesByLeft, DecidesByRight, ReturnsFromInside, EmptyTupleIsSilent}
 use Rattle.hir_meaning.specs.Forms.{MissesItsFront, LeavesOutTheSecond, ElementIsNothing, EntersTheUnsafe}
-use Rattle.hir_meaning.specs.Forms.{MakesAPair, CallsTheMethod, YieldsUnit, YeetsItsValue}
+use Rattle.hir_meaning.specs.Forms.{MakesAPair, MakesARecord, MakesOfDefaults, CallsTheMethod, YieldsUnit, YeetsItsValue}
 
 pub operates_in_order : OperatesInOrder
-unfolding ends event ◌>>=◌ loop block run_store run_to
+unfolding ends event ◌>>=◌ loop block run_store run_to stored_path
 operates_in_order = record { written = record { events = refl; ends = refl }; stored = record { events = refl; ends = refl } }
 
 pub decides_by_left : DecidesByLeft
-unfolding ends event ◌>>=◌ loop block run_store run_to
+unfolding ends event ◌>>=◌ loop block run_store run_to stored_path
 decides_by_left = (
   record { written = record { events = refl; ends = refl }; stored = record { events = refl; ends = refl } },
   record { written = record { events = refl; ends = refl }; stored = record { events = refl; ends = refl } },
 )
 
 pub decides_by_right : DecidesByRight
-unfolding ends event ◌>>=◌ loop block run_store run_to
+unfolding ends event ◌>>=◌ loop block run_store run_to stored_path
 decides_by_right = (
   record { written = record { events = refl; ends = refl }; stored = record { events = refl; ends = refl } },
   record { written = record { events = refl; ends = refl }; stored = record { events = refl; ends = refl } },
 )
 
 pub returns_from_inside : ReturnsFromInside
-unfolding ends event ◌>>=◌ loop block run_store run_to
+unfolding ends event ◌>>=◌ loop block run_store run_to stored_path
 returns_from_inside = record { written = record { events = refl; ends = refl }; stored = record { events = refl; ends = refl } }
 
 pub empty_tuple_is_silent : EmptyTupleIsSilent
-unfolding ends event ◌>>=◌ loop block run_store run_to
+unfolding ends event ◌>>=◌ loop block run_store run_to stored_path
 empty_tuple_is_silent = record { written = record { events = refl; ends = refl }; stored = record { events = refl; ends = refl } }
 
 pub misses_its_front : MissesItsFront
-unfolding ends event ◌>>=◌ loop block run_store run_to
+unfolding ends event ◌>>=◌ loop block run_store run_to stored_path
 misses_its_front = record { written = record { events = refl; ends = refl }; stored = record { events = refl; ends = refl } }
 
 pub leaves_out_the_second : LeavesOutTheSecond
-unfolding ends event ◌>>=◌ loop block run_store run_to
+unfolding ends event ◌>>=◌ loop block run_store run_to stored_path
 leaves_out_the_second = record { written = record { events = refl; ends = refl }; stored = record { events = refl; ends = refl } }
 
 pub element_is_nothing : ElementIsNothing
@@ -52,24 +53,32 @@ element_is_nothing turns (tree.more_exprs x xs) after q by e ss = ap
     (element_is_nothing turns xs after q by e ss)
 
 pub enters_the_unsafe : EntersTheUnsafe
-unfolding ends event ◌>>=◌ loop block run_store run_to
+unfolding ends event ◌>>=◌ loop block run_store run_to stored_path
 enters_the_unsafe = (
   record { written = record { events = refl; ends = refl }; stored = record { events = refl; ends = refl } },
   record { written = record { events = refl; ends = refl }; stored = record { events = refl; ends = refl } },
 )
 
 pub makes_a_pair : MakesAPair
-unfolding ends event ◌>>=◌ loop block run_store run_to
+unfolding ends event ◌>>=◌ loop block run_store run_to stored_path
 makes_a_pair = record { written = record { events = refl; ends = refl }; stored = record { events = refl; ends = refl } }
 
 pub calls_the_method : CallsTheMethod
-unfolding ends event ◌>>=◌ loop block run_store run_to
+unfolding ends event ◌>>=◌ loop block run_store run_to stored_path stored_args
 calls_the_method = record { written = record { events = refl; ends = refl }; stored = record { events = refl; ends = refl } }
 
+pub makes_a_record : MakesARecord
+unfolding ends event ◌>>=◌ loop block run_store run_to stored_path
+makes_a_record = record { written = record { events = refl; ends = refl }; stored = record { events = refl; ends = refl } }
+
+pub makes_of_defaults : MakesOfDefaults
+unfolding ends event ◌>>=◌ loop block run_store run_to stored_path
+makes_of_defaults = record { written = record { events = refl; ends = refl }; stored = record { events = refl; ends = refl } }
+
 pub yields_unit : YieldsUnit
-unfolding ends event ◌>>=◌ loop block run_store run_to
+unfolding ends event ◌>>=◌ loop block run_store run_to stored_path
 yields_unit = record { written = record { events = refl; ends = refl }; stored = record { events = refl; ends = refl } }
 
 pub yeets_its_value : YeetsItsValue
-unfolding ends event ◌>>=◌ loop block run_store run_to
+unfolding ends event ◌>>=◌ loop block run_store run_to stored_path
 yeets_its_value = record { written = record { events = refl; ends = refl }; stored = record { events = refl; ends = refl } }

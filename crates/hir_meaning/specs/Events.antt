@@ -8,7 +8,7 @@ use Rattle.hir_store.specs.declared.hir.Rawness.{Rawness}
 use Rattle.hir_store.specs.declared.hir.Mutability.{Mutability}
 use Rattle.hir_store.specs.declared.name.Name.{Name}
 use Rattle.hir_env.specs.NodeMap.{Site}
-use Rattle.hir_data.specs.Data.{PathData}
+use Rattle.hir_data.specs.Data.{TypeData, PathData, OptionArgsData}
 use Rattle.hir_meaning.specs.Data.{LiteralData}
 
 -- a value: what an event was answered, `()`, or `true` or `false`
@@ -20,6 +20,12 @@ pub data Value : Type 0 where
 -- what is asked of a value (Rust Reference, `if` expressions)
 pub data Test : Type 0 where
   is_true : Test
+
+-- what stands behind the fields of a record: nothing, two dots, or two dots with a record, whose value is the last operand
+pub data SpreadForm : Type 0 where
+  no_spread : SpreadForm
+  field_defaults : SpreadForm
+  rest_of : SpreadForm
 
 -- what happens: a literal with its data, the read of a path with the hygiene that it is looked up with, a call, the
 -- entering of a block with its number and whether it is unsafe, a test; and what is done with the values of operands
@@ -38,7 +44,11 @@ pub data Operation : Type 0 where
   index : Operation
   tuple : Operation
   array : Operation
-  method_call : Name → Operation
+  method_call : Name → OptionArgsData → Operation
+  cast : TypeData → Operation
+  -- with the names of its fields
+  made_record : PathData → List Name → SpreadForm → Operation
+  offset_of : TypeData → List Name → Operation
   yielding : Operation
   awaiting : Operation
   test : Test → Operation

@@ -8,6 +8,7 @@ use Rattle.hir_syntax.specs.declared.ast.LogicOp.TheVariants as logic
 use Rattle.hir_store.specs.Pointers.{Pointer}
 use Rattle.hir_store.specs.declared.hir.Expr.{Expr as Stored}
 use Rattle.hir_store.specs.declared.hir.Expr.TheVariants as hir
+use Rattle.hir_store.specs.declared.hir.RecordSpread.TheVariants as spread
 use Rattle.hir_store.specs.declared.ids.BlockId.{BlockId}
 use Rattle.hir_store.specs.declared.ids.CfgId.{CfgId}
 use Rattle.hir_store.specs.declared.name.Name.{Name}
@@ -16,12 +17,13 @@ use Rattle.hir_env.specs.Answered as tree
 use Rattle.hir_env.specs.Answered.{Expr, OptionExpr, Exprs}
 use Rattle.hir_scope.specs.Scopes.{Scope}
 use Rattle.hir_meaning.specs.Run.{unit, answered, truth, Event, Answer, test, is_true, enter, operator, tuple, missing, returned}
-use Rattle.hir_meaning.specs.Run.{method_call, yielding, yeeted}
+use Rattle.hir_data.specs.Data.{no_args}
+use Rattle.hir_meaning.specs.Run.{method_call, made_record, field_defaults, rest_of, yielding, yeeted}
 use Rattle.hir_meaning.specs.Syntax.{run_each}
 use Rattle.hir_meaning.specs.Same.{ended, left}
 use Rattle.hir_meaning.specs.Small.{at, root, one, literal_at, name_at, in_braces, loop_of}
 use Rattle.hir_meaning.specs.Small.{id, stored_one, stored_name, stored_block, stored_loop}
-use Rattle.hir_meaning.specs.Small.{event_of, literal_event, read_name, Example, BothDo}
+use Rattle.hir_meaning.specs.Small.{path_of, bare_data, event_of, literal_event, read_name, Example, BothDo}
 use Rattle.hir_meaning.specs.Worked.{no}
 
 abbrev pub yes : ℕ → Answer
@@ -171,16 +173,58 @@ name_m = name.Text (109 ∷ [])
 
 abbrev pub method_called : Example
 method_called = record {
-  written = tree.some_expr (tree.method_call_expr (at 0) (tree.some_expr name_a) name_m (tree.more_exprs name_b tree.no_exprs));
-  nodes = (stored_a, Some 1) ∷ (stored_b, Some 2) ∷ (hir.MethodCall (id 0) name_m (id 1 ∷ []), Some 0) ∷ [];
+  written = tree.some_expr (tree.method_call_expr (at 0) (tree.some_expr name_a) name_m (tree.more_exprs name_b tree.no_exprs)
+      tree.no_arg_list);
+  nodes = (stored_a, Some 1) ∷ (stored_b, Some 2) ∷ (hir.MethodCall (id 0) name_m None (id 1 ∷ []), Some 0) ∷ [];
   root = 2;
 }
 
 -- The receiver is read, then the argument, and then the method of that name is called with both.
 abbrev pub CallsTheMethod : Type 0
 CallsTheMethod = BothDo method_called 0 (no 11 ∷ no 12 ∷ no 13 ∷ [])
-    (reads_a ∷ reads_b ∷ event_of (method_call name_m) (answered 11 ∷ answered 12 ∷ []) 0 ∷ [])
+    (reads_a ∷ reads_b ∷ event_of (method_call name_m no_args) (answered 11 ∷ answered 12 ∷ []) 0 ∷ [])
     (ended (answered 13))
+
+-- `c { m: a, m: a, ..b }` with a disabled second field
+
+abbrev pub record_made : Example
+record_made = record {
+  written = tree.some_expr (tree.record_expr (at 0) (path_of 99)
+      (tree.more_fields (tree.named_field (at 3) name_m (tree.some_expr name_a))
+      (tree.more_fields (tree.disabled_field (at 4) (record { 0 = 0 }) (tree.named_field (at 4) name_m (tree.some_expr name_a)))
+      tree.no_fields))
+      (tree.spread_of name_b));
+  nodes = (stored_a, Some 1)
+      ∷ (stored_b, Some 2)
+      ∷ (hir.RecordLit (stored_name 99) (record { name = name_m; expr = id 0 } ∷ []) (spread.Expr (id 1)), Some 0)
+      ∷ [];
+  root = 2;
+}
+
+-- The field is read, then the record that the others come from, and the record is made of both values.
+abbrev pub MakesARecord : Type 0
+MakesARecord = BothDo record_made 0 (no 11 ∷ no 12 ∷ no 13 ∷ [])
+    (reads_a ∷ reads_b
+    ∷ event_of (made_record (bare_data (name.Text (99 ∷ []))) (name_m ∷ []) rest_of) (answered 11 ∷ answered 12 ∷ []) 0 ∷ [])
+    (ended (answered 13))
+
+-- `c { m: a, .. }`
+
+abbrev pub record_of_defaults : Example
+record_of_defaults = record {
+  written = tree.some_expr (tree.record_expr (at 0) (path_of 99)
+      (tree.more_fields (tree.named_field (at 3) name_m (tree.some_expr name_a)) tree.no_fields) tree.field_defaults);
+  nodes = (stored_a, Some 1)
+      ∷ (hir.RecordLit (stored_name 99) (record { name = name_m; expr = id 0 } ∷ []) spread.FieldDefaults, Some 0)
+      ∷ [];
+  root = 1;
+}
+
+-- The field is read, and the record is made of its value, told that the others have their defaults.
+abbrev pub MakesOfDefaults : Type 0
+MakesOfDefaults = BothDo record_of_defaults 0 (no 11 ∷ no 12 ∷ [])
+    (reads_a ∷ event_of (made_record (bare_data (name.Text (99 ∷ []))) (name_m ∷ []) field_defaults) (answered 11 ∷ []) 0 ∷ [])
+    (ended (answered 12))
 
 -- `yield` and `do yeet 1`
 

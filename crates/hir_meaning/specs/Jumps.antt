@@ -1,9 +1,11 @@
 -- That each labelled jump that a stored body reaches names a loop or a block around it.
-use Rattle.std.specs.Prelude.{◌≡◌, ◌⊎◌, ℕ, zero, suc, length, List, [], ◌∷◌, Option, Some, None, slice_get}
+use Rattle.std.specs.Prelude.{◌≡◌, ◌⊎◌, ℕ, zero, suc, length, map, List, [], ◌∷◌, Option, Some, None, slice_get}
 use Rattle.hir_store.specs.declared.hir.Expr.{Expr}
 use Rattle.hir_store.specs.declared.hir.Expr.TheVariants as hir
 use Rattle.hir_store.specs.declared.hir.Statement.{Statement}
 use Rattle.hir_store.specs.declared.hir.Statement.TheVariants as statement
+use Rattle.hir_store.specs.declared.hir.RecordSpread.{RecordSpread}
+use Rattle.hir_store.specs.declared.hir.RecordSpread.TheVariants as spread
 use Rattle.hir_store.specs.declared.ids.ExprId.{ExprId}
 use Rattle.hir_store.specs.declared.ids.LabelId.{LabelId}
 use Rattle.hir_scope.specs.Each.{Each, IfPresent}
@@ -25,6 +27,10 @@ abbrev pub EachStatement : (ExprId → Type 0) → List Statement → Type 0
 EachStatement P [] = Unit {0}
 EachStatement P (statement.Item ∷ ss) = EachStatement P ss
 EachStatement P (statement.Expr i semi ∷ ss) = P i × EachStatement P ss
+
+abbrev pub OthersEnclosed : (ExprId → Type 0) → RecordSpread → Type 0
+OthersEnclosed P (spread.Expr i) = P i
+OthersEnclosed P others = Unit {0}
 
 -- The jumps of a node and of its parts name what encloses them; `ls` are the numbers around the node.
 module _ (Part : List LabelId → ExprId → Type 0) (ls : List LabelId) where
@@ -49,7 +55,10 @@ module _ (Part : List LabelId → ExprId → Type 0) (ls : List LabelId) where
   StoredEnclosed (hir.Index a b) = Part ls a × Part ls b
   StoredEnclosed (hir.Tuple es) = Each (Part ls) es
   StoredEnclosed (hir.Array es) = Each (Part ls) es
-  StoredEnclosed (hir.MethodCall e name es) = Part ls e × Each (Part ls) es
+  StoredEnclosed (hir.MethodCall e name generics es) = Part ls e × Each (Part ls) es
+  StoredEnclosed (hir.Cast e t) = Part ls e
+  StoredEnclosed (hir.RecordLit p fields others) = Each (Part ls) (map (λ f. f.expr) fields) × OthersEnclosed (Part ls) others
+  StoredEnclosed (hir.OffsetOf t names) = Unit {0}
   StoredEnclosed (hir.Return e) = IfPresent (Part ls) e
   StoredEnclosed (hir.Yeet e) = IfPresent (Part ls) e
   StoredEnclosed (hir.Yield e) = IfPresent (Part ls) e

@@ -1,8 +1,9 @@
 -- What conditions leave of lists, statements and tails (Rust Reference, conditional compilation; rust-analyzer, `check_cfg`
 -- and `collect_block_`). Anywhere else a disabled expression is a missing one.
-use Rattle.std.specs.Prelude.{Bool, true, false, not, ◌&&◌, ◌||◌}
+use Rattle.std.specs.Prelude.{Bool, true, false, not, ◌&&◌, ◌||◌, List, [], ◌∷◌}
 use Rattle.hir_env.specs.Answered as tree
-use Rattle.hir_env.specs.Answered.{Expr, OptionExpr, Stmts, Stmt}
+use Rattle.hir_store.specs.declared.name.Name.{Name}
+use Rattle.hir_env.specs.Answered.{Expr, OptionExpr, Fields, Stmts, Stmt}
 
 abbrev pub is_kept : Expr → Bool
 is_kept (tree.disabled_expr at by e) = false
@@ -11,6 +12,12 @@ is_kept _ = true
 abbrev pub is_left : OptionExpr → Bool
 is_left tree.no_expr = false
 is_left (tree.some_expr e) = is_kept e
+
+-- the names of a record's fields that are kept and have one
+abbrev pub field_names : Fields → List Name
+field_names tree.no_fields = []
+field_names (tree.more_fields (tree.named_field at n e) fs) = n ∷ field_names fs
+field_names (tree.more_fields f fs) = field_names fs
 
 abbrev pub stmt_is_left : Stmt → Bool
 stmt_is_left (tree.expr_stmt e semi) = is_left e

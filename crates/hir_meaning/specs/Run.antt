@@ -7,7 +7,9 @@ use Rattle.hir_syntax.specs.declared.ast.LogicOp.TheVariants as logic
 use Rattle.hir_env.specs.NodeMap.{Site}
 pub use Rattle.hir_meaning.specs.Events.{Value, answered, unit, truth, Test, is_true, Operation, literal, read, call, enter, test, Event}
 pub use Rattle.hir_meaning.specs.Events.{underscore, include_bytes, field, prefix, reference, operator, index, tuple, array}
-pub use Rattle.hir_meaning.specs.Events.{method_call, yielding, awaiting}
+pub use Rattle.hir_meaning.specs.Events.{method_call, cast, SpreadForm, no_spread, field_defaults, rest_of, made_record, offset_of}
+pub use Rattle.hir_meaning.specs.Events.{yielding}
+pub use Rattle.hir_meaning.specs.Events.{awaiting}
 pub use Rattle.hir_meaning.specs.Events.{Answer, Answerer, Leave, returned, became, yeeted, unmatched, missing, cut}
 pub use Rattle.hir_meaning.specs.Events.{Outcome, value, break, continue, leave, World}
 

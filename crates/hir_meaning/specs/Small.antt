@@ -9,6 +9,7 @@ use Rattle.hir_store.specs.declared.hir.Expr.TheVariants as hir
 use Rattle.hir_store.specs.declared.hir.Literal.{Literal}
 use Rattle.hir_store.specs.declared.hir.LoopSource.TheVariants as source
 use Rattle.hir_store.specs.declared.hir.Statement.{Statement}
+use Rattle.hir_store.specs.declared.name.Name.{Name}
 use Rattle.hir_store.specs.declared.name.Name.TheVariants as name
 use Rattle.hir_store.specs.declared.path.Path.{Path}
 use Rattle.hir_store.specs.declared.path.Path.TheVariants.{BarePath}
@@ -19,8 +20,8 @@ use Rattle.hir_store.specs.declared.ids.HygieneId.{HygieneId}
 use Rattle.hir_env.specs.Answering.{site_of}
 use Rattle.hir_env.specs.Tables.{contexts_of}
 use Rattle.hir_env.specs.Answered as tree
-use Rattle.hir_env.specs.Answered.{OptionPath, Label, Jump, Expr, OptionExpr, Block, Stmts}
-use Rattle.hir_data.specs.Data.{path_data}
+use Rattle.hir_env.specs.Answered.{OptionPath, SegmentArgs, Label, Jump, Expr, OptionExpr, Block, Stmts}
+use Rattle.hir_data.specs.Data.{PathData, path_data, no_type, more_names, no_names, no_args}
 use Rattle.hir_meaning.specs.Data.{literal_data}
 use Rattle.hir_meaning.specs.Run.{Value, Operation, literal, read, Event, event_at, Answerer, Body}
 use Rattle.hir_meaning.specs.Syntax.{written_body}
@@ -49,9 +50,13 @@ two = digit 50
 abbrev pub literal_at : ℕ → AstLiteral → Expr
 literal_at n l = tree.literal_expr (at n) l
 
+-- a name without arguments
+abbrev pub none_beside : SegmentArgs
+none_beside = tree.segment_args tree.no_arg_list tree.no_parens false
+
 -- the path of a name of one byte
 abbrev pub path_of : ℕ → OptionPath
-path_of c = tree.some_path (tree.path false (tree.name_segment (name.Text (c ∷ []))) tree.no_segments tree.no_path)
+path_of c = tree.some_path (tree.path false (tree.name_segment (name.Text (c ∷ [])) none_beside) tree.no_segments tree.no_path)
 
 abbrev pub name_at : ℕ → ℕ → Expr
 name_at c n = tree.path_expr (at n) (path_of c) root
@@ -95,14 +100,19 @@ StoredExprs = List (Stored × Option ℕ)
 
 -- a store of these alone
 abbrev pub only : StoredExprs → Store
-only ns = record { exprs = map (λ n. n.0) ns; labels = []; roots = [] }
+only ns = record { exprs = map (λ n. n.0) ns; labels = []; types = []; lifetimes = []; roots = [] }
 
 abbrev pub from : StoredExprs → SourceMap
 from ns = record {
   expr_sources = map (λ n. option_map at n.1) ns;
   label_sources = [];
+  type_sources = [];
+  lifetime_sources = [];
   expr_map = [];
   label_map = [];
+  types_map = [];
+  lifetime_map = [];
+  field_map_back = [];
   block_scopes = [];
   diagnostics = [];
 }
@@ -141,8 +151,11 @@ event_of o vs n = event_at o vs (Some (site_of (at n)))
 abbrev pub literal_event : AstLiteral → ℕ → Event
 literal_event l n = event_of (literal (literal_data l)) [] n
 
+abbrev pub bare_data : Name → PathData
+bare_data n = path_data Plain no_type (more_names n no_args no_names) true
+
 abbrev pub read_name : ℕ → Operation
-read_name c = read (path_data Plain (name.Text (c ∷ []) ∷ [])) root
+read_name c = read (bare_data (name.Text (c ∷ []))) root
 
 -- a body as it is written, and expressions, of which this one is the body as it is stored
 pub record Example : Type 0 where

@@ -1,6 +1,6 @@
 -- How a stored body runs: over a store and the sources of its expressions. It knows the stored forms and the
 -- numbers of labels, and nothing of the tree (rust-analyzer, `hir_def::hir::Expr`).
-use Rattle.std.specs.Prelude.{ℕ, zero, suc, Bool, false, nat_eq, if◌then◌else◌, List, [], ◌∷◌, length, slice_get}
+use Rattle.std.specs.Prelude.{ℕ, zero, suc, Bool, false, nat_eq, if◌then◌else◌, List, [], ◌∷◌, ◌++◌, map, length, slice_get}
 use Rattle.std.specs.Prelude.{Option, Some, None, option_map}
 use Rattle.hir_store.specs.Pointers.{flattened}
 use Rattle.hir_store.specs.Stored.{Store, SourceMap}
@@ -12,11 +12,13 @@ use Rattle.hir_store.specs.declared.ids.ExprId.{ExprId}
 use Rattle.hir_store.specs.declared.ids.LabelId.{LabelId}
 use Rattle.hir_env.specs.NodeMap.{Site}
 use Rattle.hir_env.specs.Answering.{site_of}
-use Rattle.hir_data.specs.Reading.{stored_path}
+use Rattle.hir_store.specs.declared.hir.RecordSpread.{RecordSpread}
+use Rattle.hir_store.specs.declared.hir.RecordSpread.TheVariants as spread
+use Rattle.hir_data.specs.Reading.{stored_path, stored_type, stored_args}
 use Rattle.hir_meaning.specs.Data.{literal_read}
 use Rattle.hir_meaning.specs.Run.{Value, unit, is_true, Operation, literal, read, call, break, continue, leave, missing, Body, Run}
 use Rattle.hir_meaning.specs.Run.{underscore, include_bytes, field, prefix, reference, operator, index, array, method_call}
-use Rattle.hir_meaning.specs.Run.{yielding, awaiting}
+use Rattle.hir_meaning.specs.Run.{yielding, awaiting, cast, SpreadForm, no_spread, field_defaults, rest_of, made_record, offset_of}
 use Rattle.hir_meaning.specs.Run.{returned, became, yeeted, made_tuple, lazily}
 use Rattle.hir_syntax.specs.declared.ast.BinaryOp.TheVariants as ast
 use Rattle.hir_meaning.specs.Run.{ends, pure, ◌>>=◌, ◌>>◌, ask, tests, entering}
@@ -55,6 +57,11 @@ abbrev pub past_block : Option LabelId → JumpLabel → Option JumpLabel
 past_block l None = Some None
 past_block l (Some k) = if is_named l k then None else Some (Some k)
 
+abbrev pub others_form : RecordSpread → SpreadForm
+others_form spread.None = no_spread
+others_form spread.FieldDefaults = field_defaults
+others_form (spread.Expr i) = rest_of
+
 -- parts of a node, with what runs them
 
 module _ (turns : ℕ) (part : ExprId → StoreRun Value) where
@@ -68,6 +75,14 @@ module _ (turns : ℕ) (part : ExprId → StoreRun Value) where
     v ← part i
     vs ← run_each is
     pure (v ∷ vs)
+
+  -- the value of the record that the other fields come from
+  abbrev pub run_others : RecordSpread → StoreRun (List Value)
+  run_others spread.None = pure []
+  run_others spread.FieldDefaults = pure []
+  run_others (spread.Expr i) = do
+    v ← part i
+    pure (v ∷ [])
 
   -- the statements in order, and then the tail
   abbrev pub run_statements : List Statement → Option ExprId → StoreRun Value
@@ -97,7 +112,7 @@ module _ (store : Store) (source_map : SourceMap) where
     abbrev pub run_stored : Expr → Option Site → StoreRun Value
     run_stored hir.Missing site = ends (leave missing)
     run_stored (hir.Literal l) site = ask (literal (literal_read l)) [] site
-    run_stored (hir.Path p h) site = ask (read (stored_path p) h) [] site
+    run_stored (hir.Path p h) site = ask (read (stored_path store source_map p) h) [] site
     run_stored (hir.Call f xs) site = do
       v ← part f
       vs ← run_each turns part xs
@@ -131,10 +146,16 @@ module _ (store : Store) (source_map : SourceMap) where
     run_stored (hir.Array es) site = do
       vs ← run_each turns part es
       ask array vs site
-    run_stored (hir.MethodCall e name es) site = do
+    run_stored (hir.MethodCall e name generics es) site = do
       v ← part e
       vs ← run_each turns part es
-      ask (method_call name) (v ∷ vs) site
+      ask (method_call name (stored_args store source_map generics)) (v ∷ vs) site
+    run_stored (hir.Cast e t) site = operand e (cast (stored_type store source_map t)) site
+    run_stored (hir.RecordLit p fields others) site = do
+      vs ← run_each turns part (map (λ f. f.expr) fields)
+      ws ← run_others turns part others
+      ask (made_record (stored_path store source_map p) (map (λ f. f.name) fields) (others_form others)) (vs ++ ws) site
+    run_stored (hir.OffsetOf t names) site = ask (offset_of (stored_type store source_map t) names) [] site
     run_stored (hir.Return e) site = do
       v ← run_or_unit turns part e
       ends (leave (returned v))

@@ -1,6 +1,7 @@
 -- How a written body runs: over the answered tree, by the rules of the Rust Reference for each form. It knows no store, no
 -- numbers and no stack of labels.
-use Rattle.std.specs.Prelude.{ℕ, Bool, true, false, List, [], ◌∷◌, Option, Some, None, if◌then◌else◌}
+use Rattle.std.specs.Prelude.{ℕ, Bool, true, false, List, [], ◌∷◌, ◌++◌, Option, Some, None, if◌then◌else◌}
+use Rattle.hir_store.specs.declared.name.Name.{Name}
 use Rattle.hir_store.specs.declared.ids.HygieneId.{HygieneId}
 use Rattle.hir_syntax.specs.declared.ast.LogicOp.{LogicOp}
 use Rattle.hir_syntax.specs.declared.ast.BinaryOp.TheVariants as ast
@@ -8,19 +9,19 @@ use Rattle.hir_env.specs.NodeMap.{Site}
 use Rattle.hir_env.specs.Answering.{site_of}
 use Rattle.hir_env.specs.Answered as tree
 use Rattle.hir_env.specs.Answered.{Leaf, Unary, Binary, Listing, Leaving}
-use Rattle.hir_env.specs.Answered.{Label, Expr, OptionExpr, Exprs, Block, OptionBlock, Stmts}
+use Rattle.hir_env.specs.Answered.{Label, Expr, OptionExpr, Exprs, Fields, Spread, Block, OptionBlock, Stmts}
 use Rattle.hir_meaning.specs.Run.{Value, unit, is_true, Operation, literal, read, call, break, continue, leave, missing, Body, Run}
 use Rattle.hir_meaning.specs.Run.{underscore, include_bytes, field, prefix, reference, operator, index, array, method_call}
-use Rattle.hir_meaning.specs.Run.{yielding, awaiting}
+use Rattle.hir_meaning.specs.Run.{yielding, awaiting, cast, SpreadForm, no_spread, field_defaults, rest_of, made_record, offset_of}
 use Rattle.hir_meaning.specs.Run.{Leave, returned, became, yeeted, made_tuple, lazily}
 use Rattle.hir_meaning.specs.Run.{ends, pure, ◌>>=◌, ◌>>◌, ask, tests, entering}
 use Rattle.hir_meaning.specs.Catching.{turn, loop, block}
 use Rattle.hir_scope.specs.Scopes.{Scope, loop_scope, Count, break_target, continue_target, outward, continue_past_block, scopes_in_block}
 use Rattle.hir_data.specs.Data.{PathData}
-use Rattle.hir_data.specs.Written.{written_path}
+use Rattle.hir_data.specs.Written.{written_path, written_type, written_args}
 use Rattle.hir_data.specs.Lookup.{lookup_hygiene}
 use Rattle.hir_meaning.specs.Data.{literal_data}
-use Rattle.hir_meaning.specs.Left.{is_kept, is_left, is_last}
+use Rattle.hir_meaning.specs.Left.{is_kept, is_left, is_last, field_names}
 
 -- it keeps nothing besides
 abbrev pub SyntaxRun : Type 0 → Type 0
@@ -83,6 +84,21 @@ abbrev pub catching : Option Label → SyntaxRun Value → SyntaxRun Value
 catching None m = m
 catching (Some l) m = block outward continue_past_block m
 
+abbrev pub spread_form : Spread → SpreadForm
+spread_form tree.no_spread = no_spread
+spread_form tree.field_defaults = field_defaults
+spread_form (tree.spread_of e) = rest_of
+
+-- A record has the values of its fields, and behind them that of the record that the others come from. One whose path is absent
+-- or refused is missing.
+abbrev pub run_record : Option PathData → List Name → SpreadForm → SyntaxRun (List Value) → SyntaxRun (List Value) → Option Site
+    → SyntaxRun Value
+run_record None names form fields others site = ends (leave missing)
+run_record (Some p) names form fields others site = do
+  vs ← fields
+  ws ← others
+  ask (made_record p names form) (vs ++ ws) site
+
 -- with so many turns at each entry of a loop
 module _ (turns : ℕ) where
   abbrev mutual
@@ -112,10 +128,16 @@ module _ (turns : ℕ) where
     run_expr (tree.binary_expr at form a b) ss = run_binary form (run_part a ss) (run_part b ss) (Some (site_of at))
     run_expr (tree.lazy_expr at op a b) ss = run_lazy op (run_part a ss) (run_part b ss) (Some (site_of at))
     run_expr (tree.list_expr at form es) ss = run_list form (run_each es ss) (Some (site_of at))
-    run_expr (tree.method_call_expr at e name es) ss = do
+    run_expr (tree.method_call_expr at e name es generics) ss = do
       v ← run_part e ss
       vs ← run_each es ss
-      ask (method_call name) (v ∷ vs) (Some (site_of at))
+      ask (method_call name (written_args generics)) (v ∷ vs) (Some (site_of at))
+    run_expr (tree.cast_expr at e t) ss = do
+      v ← run_part e ss
+      ask (cast (written_type t)) (v ∷ []) (Some (site_of at))
+    run_expr (tree.record_expr at p fs s) ss =
+        run_record (written_path p) (field_names fs) (spread_form s) (run_fields fs ss) (run_spread s ss) (Some (site_of at))
+    run_expr (tree.offset_of_expr at t names) ss = ask (offset_of (written_type t) names) [] (Some (site_of at))
     run_expr (tree.leaving_expr at form e) ss = do
       v ← run_or_unit e ss
       ends (leave (leaves_with form v))
@@ -151,6 +173,22 @@ module _ (turns : ℕ) where
       v ← run_expr e ss
       vs ← run_each es ss
       pure (v ∷ vs)) else run_each es ss
+
+    -- the fields that are kept and have a name, from left to right
+    pub run_fields : Fields → List Scope → SyntaxRun (List Value)
+    run_fields tree.no_fields ss = pure []
+    run_fields (tree.more_fields (tree.named_field at name e) fs) ss = do
+      v ← run_part e ss
+      vs ← run_fields fs ss
+      pure (v ∷ vs)
+    run_fields (tree.more_fields f fs) ss = run_fields fs ss
+
+    pub run_spread : Spread → List Scope → SyntaxRun (List Value)
+    run_spread tree.no_spread ss = pure []
+    run_spread tree.field_defaults ss = pure []
+    run_spread (tree.spread_of e) ss = do
+      v ← run_expr e ss
+      pure (v ∷ [])
 
     pub run_block : Block → List Scope → SyntaxRun Value
     run_block (tree.block at is_unsafe label number stmts tail) ss =

@@ -8,7 +8,8 @@ ghost use Rattle.hir_meaning.specs.Rows.{MissingIsNoLiteral, ParenthesesAreSilen
 ghost use Rattle.hir_meaning.specs.Turns.{EndsTheTurn, ContinuesTheOuter, BreaksTheOuter, HygienesDiffer, UndeclaredIsPlain, HasFreshTurns};
 ghost use Rattle.hir_meaning.specs.Forms.{OperatesInOrder, DecidesByLeft, DecidesByRight, ReturnsFromInside, EmptyTupleIsSilent};
 ghost use Rattle.hir_meaning.specs.Forms.{MissesItsFront, LeavesOutTheSecond, ElementIsNothing, EntersTheUnsafe};
-ghost use Rattle.hir_meaning.specs.Forms.{MakesAPair, CallsTheMethod, YieldsUnit, YeetsItsValue};
+ghost use Rattle.hir_meaning.specs.Forms.{MakesAPair, MakesARecord, MakesOfDefaults, CallsTheMethod, YieldsUnit, YeetsItsValue};
+ghost use Rattle.hir_meaning.specs.Typed.{CastsToItsType, NamesAnOffset, CallsWithArguments};
 ghost use Rattle.hir_meaning.specs.Endings.{MissingEndsTheLoop, StraysWithItsValue, StrayIsNoValue, InnerLabelHides};
 ghost use Rattle.hir_meaning.specs.Endings.{ContinuesPastTheBlock, AnswersNoPastTheEnd, ValueEndsTheLoop, ForeignIsNotEnclosed};
 
@@ -125,6 +126,31 @@ pub fn makes_a_pair()
 /// `a.m(b)` reads a, then b, and calls the method of that name with both.
 pub fn calls_the_method()
     ensures { CallsTheMethod }
+{}
+
+/// `c { m: a, m: a, ..b }` with a disabled second field is one record of the values of a and b.
+pub fn makes_a_record()
+    ensures { MakesARecord }
+{}
+
+/// `c { m: a, .. }` is one record of the value of a, whose other fields have their defaults.
+pub fn makes_of_defaults()
+    ensures { MakesOfDefaults }
+{}
+
+/// `a as !` reads a and casts its value to the type.
+pub fn casts_to_its_type()
+    ensures { CastsToItsType }
+{}
+
+/// `offset_of!(!, m.n)` is one event with the type, and the names in their order.
+pub fn names_an_offset()
+    ensures { NamesAnOffset }
+{}
+
+/// `a.m::<!>()` calls the method with the type as an argument.
+pub fn calls_with_arguments()
+    ensures { CallsWithArguments }
 {}
 
 /// `yield` yields unit, and its value is the answer.

@@ -1,19 +1,23 @@
 -- Small trees, worked out.
 use Rattle.std.proofs.Common.{slice_get, ◌≡◌, ◌∙◌, refl, sym, ap, Bool, true, false, List, [], ◌∷◌, ◌++◌, option_to_list, Option, Some}
-use Rattle.std.proofs.Common.{None}
+use Rattle.std.proofs.Common.{None, true≢false}
 use Rattle.hir_store.specs.Stored.{Store, SourceMap}
 use Rattle.hir_store.specs.declared.hir.Expr.{Expr as HirExpr}
 use Rattle.hir_store.specs.declared.hir.Expr.TheVariants as hir
 use Rattle.hir_store.specs.declared.hir.Statement.{Statement}
 use Rattle.hir_store.specs.declared.hir.Statement.TheVariants as statement
 use Rattle.hir_store.specs.declared.path.Path.{Path}
-use Rattle.hir_store.specs.declared.path.Path.TheVariants.{BarePath}
+use Rattle.hir_store.specs.declared.path.Path.TheVariants.{BarePath, Normal}
 use Rattle.hir_store.specs.declared.ids.ExprId.{ExprId}
 use Rattle.hir_syntax.specs.declared.ast.Literal.{Literal as AstLiteral}
 use Rattle.hir_store.specs.Pointers.{Pointer}
 use Rattle.hir_store.specs.declared.hir.Literal.{Literal}
-use Rattle.hir_data.specs.Data.{PathData, path_data}
-use Rattle.hir_data.specs.Reading.{stored_path}
+use Rattle.hir_data.specs.Data.{PathData, path_data, names_in}
+use Rattle.hir_store.specs.declared.path.GenericArgs.{GenericArgs}
+use Rattle.hir_data.specs.Data.{no_args}
+use Rattle.hir_data.specs.Rule.{is_list}
+use Rattle.hir_data.specs.Reading.{stored_path, stored_args}
+use Rattle.hir_read_back.proofs.Lookup.{names_read}
 use Rattle.hir_meaning.specs.Data.{LiteralData, literal_data}
 use Rattle.hir_meaning.specs.Contents.{BlockContents}
 use Rattle.hir_store.specs.declared.ids.CfgId.{CfgId}
@@ -23,12 +27,20 @@ use Rattle.hir_one_result.specs.Stands.{Absent, statement_of, StandsLiteral, Sta
 use Rattle.hir_one_result.specs.Worked.{Jumps, other, literal_first, Statements, EntersInOrder, Leaves, letter, block_id}
 use Rattle.hir_one_result.specs.Worked.{elements, PlainForms}
 
+-- the bare path of this data
 abbrev bare_path : PathData → Path
-bare_path (path_data k ns) = BarePath (record { kind = k; segments = ns })
+bare_path (path_data k t ns bare) = BarePath (record { kind = k; segments = names_in ns })
 
--- a path is what is read of it
-is_read : (path : Path) (p : PathData) → stored_path path ≡ p → path ≡ bare_path p
-is_read (BarePath m) p e = ap bare_path e
+abbrev bareness : PathData → Bool
+bareness (path_data k t ns bare) = bare
+
+-- a path whose data is bare is what is read of it
+is_read : (store : Store) (source_map : SourceMap) (path : Path) (p : PathData) → bareness p ≡ true
+    → stored_path store source_map path ≡ p → path ≡ bare_path p
+unfolding stored_path
+is_read store source_map (BarePath m) p b e =
+    ap (λ ns. BarePath (record { kind = m.kind; segments = ns })) (sym (names_read m.segments)) ∙ ap bare_path e
+is_read store source_map (Normal n) p b e = absurd (true≢false (sym b ∙ ap bareness (sym e)))
 
 pub jumps : Jumps
 jumps = record {
@@ -93,10 +105,10 @@ enters_in_order = refl
 
 pub leaves : Leaves
 leaves = record {
-  one_name = λ store source_map i ws h. h.2.0.stored ∙ ap (λ q. Some (hir.Path q other)) (is_read h.0 _ h.1);
-  two_names = λ store source_map i ws h. h.2.0.stored ∙ ap (λ q. Some (hir.Path q root)) (is_read h.0 _ h.1);
-  from_crate = λ store source_map i ws h. h.2.0.stored ∙ ap (λ q. Some (hir.Path q other)) (is_read h.0 _ h.1);
-  self_alone = λ store source_map i ws h. h.2.0.stored ∙ ap (λ q. Some (hir.Path q other)) (is_read h.0 _ h.1);
+  one_name = λ store source_map i ws h. h.2.0.stored ∙ ap (λ q. Some (hir.Path q other)) (is_read store source_map h.0 _ refl h.1);
+  two_names = λ store source_map i ws h. h.2.0.stored ∙ ap (λ q. Some (hir.Path q root)) (is_read store source_map h.0 _ refl h.1);
+  from_crate = λ store source_map i ws h. h.2.0.stored ∙ ap (λ q. Some (hir.Path q other)) (is_read store source_map h.0 _ refl h.1);
+  self_alone = λ store source_map i ws h. h.2.0.stored ∙ ap (λ q. Some (hir.Path q other)) (is_read store source_map h.0 _ refl h.1);
   refused = λ store source_map i ws h. h.0.stored;
   parentheses = λ store source_map i ws h. h.is ∙ (ap (λ l. l ++ h.right) h.first.2.1 ∙ ap (λ r. expr_way (at 1) i ∷ r) h.second);
 }
@@ -127,6 +139,12 @@ module _ (store : Store) (source_map : SourceMap) where
         stored = literal_stored (at 1) _ v c.3.left c.3.first.2;
       }
 
+-- what reads back as no list is none
+no_list : (store : Store) (source_map : SourceMap) (g : Option GenericArgs) → stored_args store source_map g ≡ no_args → g ≡ None
+unfolding stored_args
+no_list store source_map None e = refl
+no_list store source_map (Some a) e = absurd (true≢false (ap is_list e))
+
 abbrev numbered_block : List Statement → Option ExprId → Option HirExpr
 numbered_block ss tail = Some (hir.Block true None (Some (block_id 7)) ss tail)
 
@@ -140,13 +158,14 @@ plain_forms = record {
     second = literal_stored store source_map (at 2) _ h.1 h.3.second.left h.3.second.first;
   };
   calls = λ store source_map i ws h.
-      let c = h.3.second.first in
+      let c = h.4.second.first in
       let v = c.3.first.0 in
       let is = c.2 ∙ (ap (λ o. option_to_list o ++ c.1) c.3.first.1 ∙ ap (λ xs. v ∷ xs) c.3.second.0) in record {
         one = h.0;
         other = v;
-        whole = h.2.stored ∙ ap (λ xs. Some (hir.MethodCall h.0 (letter 109) xs)) is;
-        first = literal_stored store source_map (at 1) _ h.0 h.3.left h.3.first;
+        whole = h.3.stored ∙ (ap (λ xs. Some (hir.MethodCall h.0 (letter 109) h.2 xs)) is
+            ∙ ap (λ g. Some (hir.MethodCall h.0 (letter 109) g (v ∷ []))) (no_list store source_map h.2 h.4.second.second.first.0));
+        first = literal_stored store source_map (at 1) _ h.0 h.4.left h.4.first;
         second = literal_stored store source_map (at 2) _ v c.3.left c.3.first.2;
       };
   disabled_element = λ by store source_map i ws h.

@@ -1,5 +1,6 @@
 -- Steps whose answers stand for what is written, and the forms that are made of them.
-use Rattle.std.proofs.Common.{◌≡◌, ◌∙◌, refl, sym, ap, subst, List, [], ◌∷◌, length, length-append, slice_get, Option, Some, None}
+use Rattle.std.proofs.Common.{◌≡◌, ◌∙◌, refl, sym, ap, subst, List, [], ◌∷◌, length, length-append, slice_get}
+use Rattle.std.proofs.Common.{Option, Some, None, option_map}
 use Rattle.std.proofs.Common.{arith, Bool, true, false}
 use Rattle.indexmap.specs.IndexMap.{insert_entry}
 use Rattle.hir_syntax.specs.declared.ast.Literal.{Literal as AstLiteral}
@@ -21,24 +22,34 @@ use Rattle.hir_env.specs.Answered as tree
 use Rattle.hir_env.specs.Answered.{Leaf, Unary, Binary, Leaving, Listing, Label, Jump, OptionPath}
 use Rattle.hir_data.specs.Data.{PathData}
 use Rattle.hir_data.specs.Written.{written_path}
-use Rattle.hir_lower_form.specs.Paths.{lower_path}
-use Rattle.hir_read_back.proofs.Walk.{path_law}
-use Rattle.hir_steps.proofs.Aside.{Aside, path_aside}
+use Rattle.hir_read_back.proofs.Now.{path_now, type_now, args_now}
+use Rattle.hir_data.specs.Reading.{stored_path, stored_type, stored_args}
+use Rattle.hir_data.specs.Written.{written_type, written_args}
+use Rattle.hir_store.specs.declared.hir.RecordLitField.{RecordLitField}
+use Rattle.hir_store.specs.declared.hir.RecordSpread.{RecordSpread}
+use Rattle.hir_store.specs.declared.path.Path.{Path}
+use Rattle.hir_env.specs.Answered.{OptionType, OptionArgs}
+use Rattle.hir_lower_form.specs.Lower.{StoredFields, type_part, args_part, cast_form, offset_of_form, record_contents, record_of}
+use Rattle.hir_lower_form.specs.Lower.{record_form, field_form}
+use Rattle.hir_steps.proofs.Steps.{correct_point_field, with_field}
+use Rattle.hir_one_result.specs.Leads.{Way}
+use Rattle.hir_one_result.specs.Stands.{ReadsAs, StandsOverThree, StandsRecord}
+use Rattle.hir_steps.proofs.Aside.{Aside, part_aside, args_aside, path_aside}
 use Rattle.hir_lower_form.specs.Lowering.{Lowering, ◌>>=◌, pure, alloc_expr}
 use Rattle.hir_lower_form.specs.Lower.{ExprSteps, StoredContents, missing, some, if_form, loop_form, call_form, continue_form, break_form}
 use Rattle.hir_lower_form.specs.Lower.{stored_leaf, stored_unary, stored_binary, stored_leaving}
 use Rattle.hir_lower_form.specs.Lower.{operand_form, operands_form, value_form, list_form, method_call_form, await_form}
-use Rattle.hir_lower_form.specs.Lower.{paren_form, path_or_missing, path_form, block_form, labelled, settled, stored_literal}
+use Rattle.hir_lower_form.specs.Lower.{paren_form, path_or_missing, path_form, lower_path, block_form, labelled, settled, stored_literal}
 use Rattle.hir_steps.proofs.Frames.{Frame, loop_at, block_at, ribs}
 use Rattle.hir_steps.proofs.Steps.{Mark, Rel, Correct, Allocated, Opened, correct_bind, correct_as, correct_pure, correct_point}
 use Rattle.hir_steps.proofs.Steps.{correct_enter_block, correct_alloc, correct_opened, correct_target, with_fault, with_target, with_jump}
-use Rattle.hir_steps.proofs.Steps.{with_block, with_await, correct_report_await, correct_both, correct_such}
+use Rattle.hir_steps.proofs.Steps.{with_block, with_await, correct_report_await, correct_both}
 use Rattle.hir_one_result.specs.Forms.{leaf_form, unary_form, binary_form, leaving_form}
-use Rattle.hir_one_result.specs.Leads.{Ways, OneWay, OneMissing, OneLabelWay, ◌&◌}
+use Rattle.hir_one_result.specs.Leads.{Ways, OneWay, OneMissing, OneLabelWay, OneFieldWay, ◌&◌}
 use Rattle.hir_one_result.specs.Stands.{Open, Absent, There, ExprAt, LabelAt, StandsMissing, StandsAlone, StandsPath, StandsLiteral}
 use Rattle.hir_one_result.specs.Stands.{StandsOver, StandsOverTwo, StandsList, InLabel}
 use Rattle.hir_one_result.proofs.Leading.{Shown, shown_as, shown_none, shown_own, shown_label, shown_both, shown_swap, shown_after}
-use Rattle.hir_one_result.proofs.Leading.{shown_before, shown_unled, Moved, moved_same, OnlyNew, none_new}
+use Rattle.hir_one_result.proofs.Leading.{shown_before, shown_unled, shown_field, Moved, moved_same, moved_then, OnlyNew, none_new}
 use Rattle.hir_one_result.proofs.Data.{PathIs, path_is}
 
 abbrev pub Of : Type 0 → Type 1
@@ -54,33 +65,34 @@ pub record Shows {A : Type 0} (S : Of A) (final : Stored) (ps : List Frame) (m m
 -- what steps store, and where they lead
 
 pub moved_pure : {a b : Mark} → b ≡ a → Moved a.stored b.stored []
-moved_pure {a = a} e = moved_same a.stored a.stored (ap (λ m. m.stored) e) refl refl
+moved_pure {a = a} e = moved_same a.stored a.stored (ap (λ m. m.stored) e) refl refl refl
 
 pub moved_fault : (d : ExpressionStoreDiagnostics) {a b : Stored} → b ≡ with_fault d a → Moved a b []
-moved_fault d {a = a} e = moved_same a (with_fault d a) e refl refl
+moved_fault d {a = a} e = moved_same a (with_fault d a) e refl refl refl
 
-target_leads : {A : Type 0} (j : Jump) (t : Target A) (s : Stored)
-    → ((with_target j t s).exprs ≡ s.exprs) × ((with_target j t s).labels ≡ s.labels)
-target_leads j (reachable n) s = (refl, refl)
-target_leads j unreachable s = (refl, refl)
-target_leads j undeclared s = (refl, refl)
+-- the same expressions, labels and fields
+abbrev SameWays : Stored → Stored → Type 0
+SameWays a b = (b.exprs ≡ a.exprs) × (b.labels ≡ a.labels) × (b.field_map_back ≡ a.field_map_back)
 
-jump_leads : {A : Type 0} (j : Option Jump) (rs : List (Rib A)) (s : Stored)
-    → ((with_jump j rs s).exprs ≡ s.exprs) × ((with_jump j rs s).labels ≡ s.labels)
-jump_leads None rs s = (refl, refl)
+target_leads : {A : Type 0} (j : Jump) (t : Target A) (s : Stored) → SameWays s (with_target j t s)
+target_leads j (reachable n) s = (refl, refl, refl)
+target_leads j unreachable s = (refl, refl, refl)
+target_leads j undeclared s = (refl, refl, refl)
+
+jump_leads : {A : Type 0} (j : Option Jump) (rs : List (Rib A)) (s : Stored) → SameWays s (with_jump j rs s)
+jump_leads None rs s = (refl, refl, refl)
 jump_leads (Some j) rs s = target_leads j (target j rs) s
 
 moved_jump : (j : Option Jump) (ps : List Frame) (a : Stored) {b : Stored} → b ≡ with_jump j (ribs ps) a → Moved a b []
-moved_jump j ps a is = let same = jump_leads j (ribs ps) a in moved_same a (with_jump j (ribs ps) a) is same.0 same.1
+moved_jump j ps a is = let same = jump_leads j (ribs ps) a in moved_same a (with_jump j (ribs ps) a) is same.0 same.1 same.2
 
-block_leads : (n : Option BlockId) (s : Stored) → ((with_block n s).exprs ≡ s.exprs) × ((with_block n s).labels ≡ s.labels)
-block_leads None s = (refl, refl)
-block_leads (Some n) s = (refl, refl)
+block_leads : (n : Option BlockId) (s : Stored) → SameWays s (with_block n s)
+block_leads None s = (refl, refl, refl)
+block_leads (Some n) s = (refl, refl, refl)
 
-await_leads : (at : Pointer) (location : Option AwaitLocation) (s : Stored)
-    → ((with_await at location s).exprs ≡ s.exprs) × ((with_await at location s).labels ≡ s.labels)
-await_leads at None s = (refl, refl)
-await_leads at (Some location) s = (refl, refl)
+await_leads : (at : Pointer) (location : Option AwaitLocation) (s : Stored) → SameWays s (with_await at location s)
+await_leads at None s = (refl, refl, refl)
+await_leads at (Some location) s = (refl, refl, refl)
 
 module _ {e : HirExpr} {final : Stored} {ps : List Frame} {m m' : Mark} {i : ExprId} where
   pub expr_at : {at : Option Pointer} → Allocated e at final ps m m' i → Placed final i e at
@@ -104,10 +116,12 @@ module _ {e : HirExpr} {final : Stored} {ps : List Frame} {m m' : Mark} {i : Exp
       (ap (λ s. s.exprs.map) row.stored
       ∙ ap (λ n. insert_entry same_pointer m.stored.exprs.map at (expr_id n)) (sym (row.number ∙ row.last)))
       (ap (λ s. s.labels) row.stored)
+      (ap (λ s. s.field_map_back) row.stored)
       (one_more row)
 
   unled : Allocated e None final ps m m' i → Shown (OneMissing i) m.stored m'.stored
-  unled row = shown_unled i (ap (λ s. s.exprs.map) row.stored) (ap (λ s. s.labels) row.stored) (one_more row)
+  unled row = shown_unled i (ap (λ s. s.exprs.map) row.stored) (ap (λ s. s.labels) row.stored)
+      (ap (λ s. s.field_map_back) row.stored) (one_more row)
 
 module _ {A B : Type 0} {at : Label → LabelId → Frame} {l : Label} {R : LabelId → Rel A} {Q : LabelId → A → Rel B}
     {final : Stored} {ps : List Frame} {m m' : Mark} {b : B} where
@@ -123,6 +137,7 @@ module _ {A B : Type 0} {at : Label → LabelId → Frame} {l : Label} {R : Labe
       (ap (λ s. s.exprs) row.stored)
       (ap (λ s. s.labels.map) row.stored
       ∙ ap (λ n. insert_entry same_pointer m.stored.labels.map l.pointer (label_id n)) (sym (row.new ∙ row.last)))
+      (ap (λ s. s.field_map_back) row.stored)
       (ap (λ s. length s.labels.entries) row.stored ∙ length-append m.stored.labels.entries (record { name = l.name } ∷ []))
       (row.new ∙ row.last)
 
@@ -164,11 +179,11 @@ leaf_stands at form = correct_as (alone_stands (stored_leaf form) at) (λ final 
     record { shown = shown_as row.shown (λ ws y. (subst (λ e. Placed final i e (Some at)) (leaf_is form) y.0, y.1)) })
 
 moved_aside : {A : Type 0} {final : Stored} {ps : List Frame} {m m' : Mark} {a : A} → Aside final ps m m' a → Moved m.stored m'.stored []
-moved_aside {m' = m'} row = moved_same _ m'.stored refl row.exprs_are row.labels_are
+moved_aside {m' = m'} row = moved_same _ m'.stored refl row.exprs_are row.labels_are row.field_map_back
 
 path_shown : {final : Stored} {qs : List Frame} {m m' : Mark} {i : ExprId} (at : Pointer) (h : HygieneId) (d : Option PathData)
     (e : HirExpr)
-    → PathIs d h e → Allocated e (Some at) final qs m m' i
+    → PathIs (store_of final) (map_of final) d h e → Allocated e (Some at) final qs m m' i
     → Shown (StandsPath (store_of final) (map_of final) at d h i) m.stored m'.stored
 path_shown {final = final} {i = i} at h None e is row =
     shown_as (own row) (λ ws y. (subst (λ z. Placed final i z (Some at)) is (expr_at row), y))
@@ -180,11 +195,11 @@ pub path_stands : (at : Pointer) (p : OptionPath) (h : HygieneId)
     (Shows (λ final rs i. StandsPath (store_of final) (map_of final) at (written_path p) h i))
 unfolding path_form
 path_stands at p h = correct_as
-    (correct_bind (correct_both (path_aside p) (correct_such (path_aside p) (path_law p)))
-    (λ r. correct_alloc (path_or_missing h r) (Some at)))
+    (correct_bind (correct_both (path_aside p) (path_now p)) (λ r. correct_alloc (path_or_missing h r) (Some at)))
     (λ final ps m m' i g row. record {
       shown = shown_after (moved_aside row.first.one)
-          (path_shown at h (written_path p) (path_or_missing h row.one) (path_is row.one (written_path p) h row.first.other.is) row.second);
+          (path_shown at h (written_path p) (path_or_missing h row.one)
+          (path_is (store_of final) (map_of final) row.one (written_path p) h row.first.other.is) row.second);
     })
 
 pub literal_stands : (at : Pointer) (l : AstLiteral)
@@ -194,7 +209,28 @@ literal_stands at l =
     correct_as (alone_stands (hir.Literal (stored_literal l)) at) (λ final ps m m' i g row.
     record { shown = shown_as row.shown (λ ws y. (stored_literal l, refl, y)) })
 
+-- parts that are no expressions
+
+type_shown : (t : OptionType)
+    → Correct (type_part None t) (Shows (λ final rs i. ReadsAs (stored_type (store_of final) (map_of final)) (written_type t) i))
+type_shown t = correct_as (correct_both (part_aside None t) (type_now t)) (λ final ps m m' i g row.
+    record { shown = shown_none (moved_aside row.one) (row.other.is, refl) })
+
+args_shown : (a : OptionArgs)
+    → Correct (args_part a) (Shows (λ final rs r. ReadsAs (stored_args (store_of final) (map_of final)) (written_args a) r))
+args_shown a = correct_as (correct_both (args_aside a) (args_now a)) (λ final ps m m' i g row.
+    record { shown = shown_none (moved_aside row.one) (row.other.is, refl) })
+
 -- forms
+
+pub contents_stand : {fs : Lowering (List RecordLitField)} {s : Lowering RecordSpread} {F : Of (List RecordLitField)}
+    {O : Of RecordSpread} → Correct fs (Shows F) → Correct s (Shows O)
+    → Correct (record_contents fs s) (Shows (λ final rs r. F final rs r.0 & O final rs r.1))
+unfolding record_contents
+contents_stand {F = F} {O = O} hf hs = correct_as (correct_bind hf (λ fs. correct_bind hs (λ s. correct_pure (fs, s))))
+    (λ final ps m m' r g row. let s = row.second in
+    let both = shown_before (shown_both row.first.shown s.first.shown) (moved_pure s.second.still) in
+    record { shown = shown_as both (λ ws y. subst (λ c. (F final (ribs ps) c.0 & O final (ribs ps) c.1) ws) (sym s.second.is) y) })
 
 pub present_none : {A : Type 0} → Correct {A = Option A} (pure None) (Shows (λ final rs o. Absent o))
 present_none = correct_as (correct_pure None) (λ final ps m m' o g row. record { shown = shown_none (moved_pure row.still) (row.is, refl) })
@@ -287,12 +323,76 @@ module _ (at : Pointer) where
   list_stands (tree.tuple_of true) h = over_two (λ is i. refl) h missing_stands
   list_stands tree.array_of h = over (λ is. refl) h
 
-  pub method_call_stands : (name : Name) {e : ExprSteps} {xs : Lowering (List ExprId)} {S : Of ExprId} {X : Of (List ExprId)}
-      → Correct e (Shows S) → Correct xs (Shows X)
-      → Correct (method_call_form at e name xs) (Shows (λ final rs i. StandsOverTwo (store_of final) (map_of final)
-      (λ receiver arguments. hir.MethodCall receiver name arguments) at (λ x. S final rs x) (λ is. X final rs is) i))
+  pub method_call_stands : (name : Name) (g : OptionArgs) {e : ExprSteps} {xs : Lowering (List ExprId)} {S : Of ExprId}
+      {X : Of (List ExprId)} → Correct e (Shows S) → Correct xs (Shows X)
+      → Correct (method_call_form at e name xs (args_part g)) (Shows (λ final rs i. StandsOverThree (store_of final) (map_of final)
+      (λ receiver arguments a. hir.MethodCall receiver name a arguments) at (λ x. S final rs x) (λ is. X final rs is)
+      (ReadsAs (stored_args (store_of final) (map_of final)) (written_args g)) i))
   unfolding method_call_form
-  method_call_stands name he hx = over_two (λ i is. refl) he hx
+  method_call_stands name g he hx = correct_as (correct_bind he (λ i. correct_bind hx (λ is. correct_bind (args_shown g)
+      (λ a. correct_alloc (hir.MethodCall i name a is) (Some at))))) (λ final ps m m' i u row.
+      let r = row.second in
+      let s = r.second in
+      let parts = shown_both row.first.shown (shown_both r.first.shown (shown_both s.first.shown (own s.second))) in
+      record { shown = shown_as parts (λ ws x. (row.one, r.one, s.one, expr_at s.second, x)) })
+
+  pub cast_stands : (t : OptionType) {e : ExprSteps} {S : Of ExprId} → Correct e (Shows S)
+      → Correct (cast_form at e (type_part None t)) (Shows (λ final rs i. StandsOverTwo (store_of final) (map_of final) hir.Cast at
+      (λ x. S final rs x) (ReadsAs (stored_type (store_of final) (map_of final)) (written_type t)) i))
+  unfolding cast_form
+  cast_stands t h = over_two (λ e i. refl) h (type_shown t)
+
+  pub offset_of_stands : (t : OptionType) (names : List Name)
+      → Correct (offset_of_form at (type_part None t) names) (Shows (λ final rs i. StandsOver (store_of final) (map_of final)
+      (λ container. hir.OffsetOf container names) at (ReadsAs (stored_type (store_of final) (map_of final)) (written_type t)) i))
+  unfolding offset_of_form
+  offset_of_stands t names = over (λ i. refl) (type_shown t)
+
+  -- what a record is, where the path became this
+  abbrev record_over : Option Path → Of StoredFields → Of ExprId
+  record_over None S final rs i = StandsMissing (store_of final) (map_of final) i
+  record_over (Some p) S final rs i =
+      StandsOver (store_of final) (map_of final) (λ r. hir.RecordLit p r.0 r.1) at (λ r. S final rs r) i
+
+  record_of_stands : {c : Lowering StoredFields} {S : Of StoredFields} → Correct c (Shows S) → (p : Option Path)
+      → Correct (record_of at c p) (Shows (record_over p S))
+  record_of_stands h None = missing_stands
+  record_of_stands h (Some p) = over (λ r. refl) h
+
+  record_is : (final : Stored) (rs : Open) (S : Of StoredFields) (i : ExprId) (o : Option Path) (d : Option PathData)
+      → option_map (stored_path (store_of final) (map_of final)) o ≡ d → (ws : List Way) → record_over o S final rs i ws
+      → StandsRecord (store_of final) (map_of final) at d (λ r. S final rs r) i ws
+  record_is final rs S i o d e ws h =
+      subst (λ k. StandsRecord (store_of final) (map_of final) at k (λ r. S final rs r) i ws) e (by o h)
+    where
+      by : (o : Option Path) → record_over o S final rs i ws
+          → StandsRecord (store_of final) (map_of final) at (option_map (stored_path (store_of final) (map_of final)) o)
+          (λ r. S final rs r) i ws
+      by None h = h
+      by (Some p) h = (p, h.0, h.1, record { left = []; right = ws; is = refl; first = (refl, refl); second = h.2 })
+
+  pub record_stands : (p : OptionPath) {c : Lowering StoredFields} {S : Of StoredFields} → Correct c (Shows S)
+      → Correct (record_form at (lower_path p) c)
+      (Shows (λ final rs i. StandsRecord (store_of final) (map_of final) at (written_path p) (λ r. S final rs r) i))
+  unfolding record_form
+  record_stands p {S = S} h = correct_as
+      (correct_bind (correct_both (path_aside p) (path_now p)) (λ o. record_of_stands h o))
+      (λ final ps m m' i g row. record {
+        shown = shown_after (moved_aside row.first.one) (shown_as row.second.shown
+            (record_is final (ribs ps) S i row.one (written_path p) row.first.other.is));
+      })
+
+  -- a field: its value, which leads to it
+  pub field_stands : (name : Name) {e : ExprSteps} {S : Of ExprId} → Correct e (Shows S)
+      → Correct (field_form at name e) (Shows (λ final rs o ws. (value : ExprId) × (o ≡ Some (record { name = name; expr = value }))
+      × (S final rs value & OneFieldWay value at) ws))
+  unfolding field_form
+  field_stands name h = correct_as (correct_bind h (λ i. correct_bind (correct_point_field i at) (λ u. correct_pure _)))
+      (λ final ps m m' o g row. let r = row.second in
+      let before = row.middle.stored in
+      let leads = shown_field before (with_field row.one at before) row.one at r.first.stored refl refl refl in
+      let both = shown_both row.first.shown (shown_before leads (moved_pure r.second.still)) in
+      record { shown = shown_as both (λ ws y. (row.one, r.second.is, y)) })
 
   pub await_stands : (location : Option AwaitLocation) {e : ExprSteps} {S : Of ExprId} → Correct e (Shows S)
       → Correct (await_form at location e)
@@ -303,7 +403,7 @@ module _ (at : Pointer) where
       (λ final ps m m' i g row.
       let r = row.second in
       let same = await_leads at location row.middle.stored in
-      let moved = moved_same row.middle.stored (with_await at location row.middle.stored) r.first.stored same.0 same.1 in
+      let moved = moved_same row.middle.stored (with_await at location row.middle.stored) r.first.stored same.0 same.1 same.2 in
       let parts = shown_both (shown_before row.first.shown moved) (own r.second) in
       record { shown = shown_as parts (λ ws x. (row.one, expr_at r.second, x)) })
 
@@ -335,6 +435,7 @@ module _ (at : Pointer) where
       let r = row.second in
       let own : Shown (OneWay at row.one) row.middle.stored r.middle.stored =
       shown_own at row.one (ap (λ s. s.exprs.map) r.first.stored) (ap (λ s. s.labels) r.first.stored)
+      (ap (λ s. s.field_map_back) r.first.stored)
       (none_new row.middle.stored r.middle.stored (ap (λ s. s.exprs.entries) r.first.stored)) in
       let x = shown_before (shown_both row.first.shown own) (moved_pure r.second.still) in
       record { shown = subst (λ k. Shown (S final (ribs ps) k & OneWay at k) m.stored m'.stored) (sym r.second.is) x })
@@ -352,7 +453,7 @@ module _ (at : Pointer) where
       (λ final ps m m' i g row.
       let same = block_leads number m.stored in
       let r = row.second in
-      let moved = moved_same m.stored (with_block number m.stored) row.first.stored same.0 same.1 in
+      let moved = moved_same m.stored (with_block number m.stored) row.first.stored same.0 same.1 same.2 in
       record { shown = shown_after moved (shown_as (shown_both r.first.shown (own r.second)) (λ ws x. (r.one, expr_at r.second, x))) })
 
 pub labelled_stands : (label : Option Label) {f : Option LabelId → ExprSteps} {S : Stored → Open → Option LabelId → ExprId → Ways}

@@ -1,5 +1,5 @@
 -- Steps that add to one of the lists of what is stored: which they are, and what the forms add that are made of them.
-use Rattle.std.proofs.Common.{◌≡◌, ◌∙◌, refl, sym, ap, subst, List, [], ◌∷◌, ◌++◌, append_assoc, append-nil, Option, Some, None}
+use Rattle.std.proofs.Common.{◌≡◌, ◌∙◌, refl, sym, ap, subst, List, [], ◌∷◌, ◌++◌, append_assoc, append-nil, Option, Some, None, option_map}
 use Rattle.std.proofs.Common.{Bool, true, false}
 use Rattle.hir_store.specs.Pointers.{Pointer}
 use Rattle.hir_store.specs.Stored.{Stored}
@@ -25,7 +25,21 @@ use Rattle.hir_lower_form.specs.Lowering.{open_label, close, jump_target}
 use Rattle.hir_lower_form.specs.Lower.{ExprSteps, StoredContents, missing, some, if_form, loop_form, call_form, continue_form, break_form}
 use Rattle.hir_lower_form.specs.Lower.{operand_form, operands_form, value_form, list_form, method_call_form, await_form}
 use Rattle.hir_lower_form.specs.Lower.{paren_form, path_form, block_form, labelled}
-use Rattle.hir_steps.proofs.Aside.{Aside}
+use Rattle.hir_store.specs.Stored.{store_of, map_of}
+use Rattle.hir_store.specs.declared.hir.RecordLitField.{RecordLitField}
+use Rattle.hir_store.specs.declared.hir.RecordSpread.{RecordSpread}
+use Rattle.hir_store.specs.declared.path.GenericArgs.{GenericArgs}
+use Rattle.hir_env.specs.Answered.{OptionPath}
+use Rattle.hir_data.specs.Reading.{stored_path}
+use Rattle.hir_data.specs.Written.{written_path}
+use Rattle.hir_read_back.proofs.Now.{path_now}
+use Rattle.hir_lower_form.specs.Lowering.{point_field}
+use Rattle.hir_lower_form.specs.Types.{TypeSteps}
+use Rattle.hir_lower_form.specs.Lower.{StoredFields, lower_path, cast_form, offset_of_form, record_contents, record_of, record_form}
+use Rattle.hir_lower_form.specs.Lower.{field_form}
+use Rattle.hir_one_result.specs.Blocks.{where_some}
+use Rattle.hir_steps.proofs.Steps.{correct_both, correct_point_field, with_field}
+use Rattle.hir_steps.proofs.Aside.{Aside, path_aside}
 use Rattle.hir_steps.proofs.Frames.{Frame, loop_at, block_at, ribs}
 use Rattle.hir_steps.proofs.Steps.{Mark, Correct, correct_bind, correct_as, correct_pure, correct_report, correct_report_await}
 use Rattle.hir_steps.proofs.Steps.{correct_point}
@@ -121,6 +135,11 @@ module _ {X : Type 0} (L : Listing X) where
   pub tells_aside : {A : Type 0} {p : Lowering A} → Correct p Aside → Correct p (Tells nothing)
   tells_aside h = correct_as h (λ final ps m m' a g row.
       record { told = λ ss e. added_none (L.unchanged m.stored m'.stored row.diagnostics row.block_scopes) })
+
+  pub tells_point_field : (i : ExprId) (at : Pointer) → Correct (point_field i at) (Tells nothing)
+  tells_point_field i at =
+      correct_as (correct_point_field i at) (λ final ps m m' u g row.
+      record { told = λ ss e. added_none (ap L.list row.stored ∙ L.unchanged m.stored (with_field i at m.stored) refl refl) })
 
   pub tells_report : (d : ExpressionStoreDiagnostics) → Correct (report d) (Tells (λ ss. L.of_faults (d ∷ [])))
   tells_report d =
@@ -263,10 +282,52 @@ module _ {X : Type 0} (L : Listing X) where
     list_tells (tree.tuple_of true) h = tells_end h (λ is. tells_end missing_tells (λ i. tells_alloc _ _))
     list_tells tree.array_of h = tells_end h (λ is. tells_alloc _ _)
 
-    pub method_call_tells : (name : Name) {D E : List Scope → List X} {e : ExprSteps} {xs : Lowering (List ExprId)} → Correct e (Tells D)
-        → Correct xs (Tells E) → Correct (method_call_form at e name xs) (Tells (λ ss. D ss ++ E ss))
+    pub method_call_tells : (name : Name) {D E : List Scope → List X} {e : ExprSteps} {xs : Lowering (List ExprId)}
+        {as' : Lowering (Option GenericArgs)} → Correct e (Tells D) → Correct xs (Tells E) → Correct as' Aside
+        → Correct (method_call_form at e name xs as') (Tells (λ ss. D ss ++ E ss))
     unfolding method_call_form
-    method_call_tells name he hx = tells_bind he (λ i. tells_end hx (λ is. tells_alloc _ _))
+    method_call_tells name he hx ha =
+        tells_bind he (λ i. tells_end hx (λ is. tells_end (tells_aside ha) (λ g. tells_alloc _ _)))
+
+    pub cast_tells : {D : List Scope → List X} {e : ExprSteps} {t : TypeSteps} → Correct e (Tells D) → Correct t Aside
+        → Correct (cast_form at e t) (Tells D)
+    unfolding cast_form
+    cast_tells he ht = tells_end he (λ i. tells_end (tells_aside ht) (λ t. tells_alloc _ _))
+
+    pub offset_of_tells : (names : List Name) {t : TypeSteps} → Correct t Aside → Correct (offset_of_form at t names) (Tells nothing)
+    unfolding offset_of_form
+    offset_of_tells names ht = tells_end (tells_aside ht) (λ t. tells_alloc _ _)
+
+    record_of_tells : {D : List Scope → List X} {c : Lowering StoredFields} → Correct c (Tells D) → (p : Option Path)
+        → Correct (record_of at c p) (Tells (λ ss. where_some p (D ss)))
+    record_of_tells h None = missing_tells
+    record_of_tells h (Some p) = tells_end h (λ r. tells_alloc _ _)
+
+    -- where the path became this
+    kept_where : {A B : Type 0} (f : A → B) (o : Option A) (d : Option B) → option_map f o ≡ d → (xs : List X)
+        → where_some o xs ≡ where_some d xs
+    kept_where {A = A} f o d e xs = by o ∙ ap (λ k. where_some k xs) e
+      where
+        by : (k : Option A) → where_some k xs ≡ where_some (option_map f k) xs
+        by None = refl
+        by (Some a) = refl
+
+    pub record_tells : (p : OptionPath) {D : List Scope → List X} {c : Lowering StoredFields} → Correct c (Tells D)
+        → Correct (record_form at (lower_path p) c) (Tells (λ ss. where_some (written_path p) (D ss)))
+    unfolding record_form
+    record_tells p {D = D} h = correct_as
+        (correct_bind (correct_both (tells_aside (path_aside p)) (path_now p)) (λ o. record_of_tells h o))
+        (λ final ps m m' i g row. record {
+          told = λ ss e.
+              let added = added_then (row.first.one.told ss e) (row.second.told ss e) in
+              let is = kept_where (stored_path (store_of final) (map_of final)) row.one (written_path p) row.first.other.is (D ss) in
+              subst (λ xs. Added xs m.stored m'.stored) is added;
+        })
+
+    pub field_tells : (name : Name) {D : List Scope → List X} {e : ExprSteps} → Correct e (Tells D)
+        → Correct (field_form at name e) (Tells D)
+    unfolding field_form
+    field_tells name h = tells_end h (λ i. tells_end (tells_point_field i at) (λ u. tells_pure _))
 
     pub await_tells : (location : Option AwaitLocation) {D : List Scope → List X} {e : ExprSteps} → Correct e (Tells D)
         → Correct (await_form at location e) (Tells (λ ss. D ss ++ L.of_faults (await_faults at location)))
@@ -278,6 +339,11 @@ module _ {X : Type 0} (L : Listing X) where
         → Correct (block_form at is_unsafe label number c) (Tells (λ ss. L.of_block number ++ D ss))
     unfolding block_form
     block_form_tells is_unsafe label number h = tells_bind (tells_enter_block number) (λ u. tells_end h (λ r. tells_alloc _ _))
+
+  pub contents_tells : {D E : List Scope → List X} {fs : Lowering (List RecordLitField)} {s : Lowering RecordSpread} → Correct fs (Tells D)
+      → Correct s (Tells E) → Correct (record_contents fs s) (Tells (λ ss. D ss ++ E ss))
+  unfolding record_contents
+  contents_tells hf hs = tells_bind hf (λ fs. tells_end hs (λ s. tells_pure (fs, s)))
 
   pub labelled_tells : (label : Option Label) {D : List Scope → List X} {f : Option LabelId → ExprSteps}
       → ((n : Option LabelId) → Correct (f n) (Tells D))

@@ -6,14 +6,17 @@ use Rattle.hir_store.specs.declared.ids.ExprId.{ExprId}
 use Rattle.hir_store.specs.declared.ids.BlockId.{BlockId}
 use Rattle.hir_store.proofs.Range.{extends_refl}
 use Rattle.hir_env.specs.Answered as tree
-use Rattle.hir_env.specs.Answered.{Expr, OptionExpr, Exprs, Block, OptionBlock, Stmts, Stmt}
+use Rattle.hir_store.specs.declared.hir.RecordLitField.{RecordLitField}
+use Rattle.hir_lower_form.specs.Lower.{lower_fields, lower_field, lower_spread}
+use Rattle.hir_env.specs.Answered.{Fields, Field, Spread, Expr, OptionExpr, Exprs, Block, OptionBlock, Stmts, Stmt}
 use Rattle.hir_lower_form.specs.Lowering.{Lowering}
 use Rattle.hir_lower_form.specs.Lower.{ExprSteps, kept, lower, lower_part, present, kept_part, lower_each, lower_block, lower_block_part}
 use Rattle.hir_lower_form.specs.Lower.{lower_stmts, lower_stmt}
-use Rattle.hir_steps.proofs.Aside.{path_aside}
+use Rattle.hir_steps.proofs.Aside.{part_aside, args_aside, path_aside}
 use Rattle.hir_steps.proofs.Frames.{frames, ribs}
 use Rattle.hir_steps.proofs.Steps.{Correct}
 use Rattle.hir_steps.proofs.Steps.{with_block}
+use Rattle.hir_one_result.specs.Blocks.{blocks_of_fields, blocks_of_field, blocks_of_spread}
 use Rattle.hir_one_result.specs.Blocks.{blocks_of, blocks_of_part, blocks_of_each, blocks_of_block, blocks_of_block_part, blocks_of_stmts}
 use Rattle.hir_one_result.specs.Blocks.{blocks_of_stmt}
 use Rattle.hir_one_result.specs.Laws.{BlocksAre}
@@ -22,6 +25,7 @@ use Rattle.hir_one_result.proofs.AfterLowering.{after_lowering}
 use Rattle.hir_one_result.proofs.Telling.{Listing, Tells, tells_bind, tells_as, tells_end, tells_pure, tells_some, tells_report}
 use Rattle.hir_one_result.proofs.Telling.{missing_tells, if_tells, loop_tells, call_tells, continue_tells, break_tells, paren_tells}
 use Rattle.hir_one_result.proofs.Telling.{operand_tells, operands_tells, value_tells, list_tells, method_call_tells, await_tells}
+use Rattle.hir_one_result.proofs.Telling.{cast_tells, record_tells, offset_of_tells, field_tells, contents_tells}
 use Rattle.hir_one_result.proofs.Telling.{path_tells, block_form_tells, labelled_tells, tells_alloc}
 
 entered_block : (n : Option BlockId) (s : Stored) → (with_block n s).block_scopes ≡ s.block_scopes ++ option_to_list n
@@ -72,7 +76,12 @@ mutual
   node_blocks (tree.binary_expr at form a b) = operands_tells entered at _ (part_blocks a) (part_blocks b)
   node_blocks (tree.lazy_expr at op a b) = operands_tells entered at _ (part_blocks a) (part_blocks b)
   node_blocks (tree.list_expr at form es) = list_tells entered at form (each_blocks [] es)
-  node_blocks (tree.method_call_expr at e name es) = method_call_tells entered at name (part_blocks e) (each_blocks [] es)
+  node_blocks (tree.method_call_expr at e name es generics) =
+      method_call_tells entered at name (part_blocks e) (each_blocks [] es) (args_aside generics)
+  node_blocks (tree.cast_expr at e t) = cast_tells entered at (part_blocks e) (part_aside None t)
+  node_blocks (tree.record_expr at p fs s) =
+      record_tells entered at p (contents_tells entered (fields_blocks [] fs) (spread_blocks s))
+  node_blocks (tree.offset_of_expr at t names) = offset_of_tells entered at names (part_aside None t)
   node_blocks (tree.leaving_expr at form e) = value_tells entered at _ (present_blocks e)
   node_blocks (tree.become_expr at e) = operand_tells entered at _ (part_blocks e)
   node_blocks (tree.yield_expr at e) = value_tells entered at _ (present_blocks e)
@@ -95,6 +104,20 @@ mutual
   each_blocks : (done : List ExprId) (es : Exprs) → Enters (blocks_of_each es) (lower_each done es)
   each_blocks done tree.no_exprs = tells_pure entered done
   each_blocks done (tree.more_exprs e es) = tells_bind entered (kept_blocks e (node_blocks e)) (λ x. each_blocks _ es)
+
+  fields_blocks : (done : List RecordLitField) (fs : Fields) → Enters (blocks_of_fields fs) (lower_fields done fs)
+  fields_blocks done tree.no_fields = tells_pure entered done
+  fields_blocks done (tree.more_fields f fs) = tells_bind entered (one_field_blocks f) (λ x. fields_blocks _ fs)
+
+  one_field_blocks : (f : Field) → Enters (blocks_of_field f) (lower_field f)
+  one_field_blocks (tree.disabled_field at by f) = tells_end entered (tells_report entered _) (λ u. tells_pure entered None)
+  one_field_blocks tree.nameless_field = tells_pure entered None
+  one_field_blocks (tree.named_field at name e) = field_tells entered at name (part_blocks e)
+
+  spread_blocks : (s : Spread) → Enters (blocks_of_spread s) (lower_spread s)
+  spread_blocks tree.no_spread = tells_pure entered _
+  spread_blocks tree.field_defaults = tells_pure entered _
+  spread_blocks (tree.spread_of e) = tells_end entered (node_blocks e) (λ i. tells_pure entered _)
 
   block_blocks : (b : Block) → Enters (blocks_of_block b) (lower_block b)
   block_blocks (tree.block at is_unsafe label number ss e) =

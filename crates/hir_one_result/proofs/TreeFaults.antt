@@ -10,14 +10,17 @@ use Rattle.hir_store.specs.declared.diagnostics.ExpressionStoreDiagnostics.{Expr
 use Rattle.hir_store.proofs.Range.{extends_refl}
 use Rattle.hir_scope.specs.Scopes.{Scope}
 use Rattle.hir_env.specs.Answered as tree
-use Rattle.hir_env.specs.Answered.{Expr, OptionExpr, Exprs, Block, OptionBlock, Stmts, Stmt}
+use Rattle.hir_store.specs.declared.hir.RecordLitField.{RecordLitField}
+use Rattle.hir_lower_form.specs.Lower.{lower_fields, lower_field, lower_spread}
+use Rattle.hir_env.specs.Answered.{Fields, Field, Spread, Expr, OptionExpr, Exprs, Block, OptionBlock, Stmts, Stmt}
 use Rattle.hir_lower_form.specs.Lowering.{Lowering}
 use Rattle.hir_lower_form.specs.Lower.{ExprSteps, push_some, kept, lower, lower_part, present, kept_part, lower_each, lower_block}
 use Rattle.hir_lower_form.specs.Lower.{lower_block_part, lower_stmts}
-use Rattle.hir_steps.proofs.Aside.{path_aside}
+use Rattle.hir_steps.proofs.Aside.{part_aside, args_aside, path_aside}
 use Rattle.hir_steps.proofs.Frames.{ribs_frames}
 use Rattle.hir_steps.proofs.Steps.{Correct}
 use Rattle.hir_steps.proofs.Steps.{with_block}
+use Rattle.hir_one_result.specs.Diagnostics.{fields_diagnostics, field_diagnostics, spread_diagnostics}
 use Rattle.hir_one_result.specs.Diagnostics.{Faults, Around, diagnostics, part_diagnostics, each_diagnostics, block_diagnostics}
 use Rattle.hir_one_result.specs.Diagnostics.{block_part_diagnostics, contents_diagnostics}
 use Rattle.hir_one_result.specs.Laws.{DiagnosticsAre}
@@ -25,6 +28,7 @@ use Rattle.hir_one_result.proofs.AfterLowering.{after_lowering}
 use Rattle.hir_one_result.proofs.Telling.{Listing, Tells, tells_bind, tells_as, tells_end, tells_pure, tells_some, tells_report}
 use Rattle.hir_one_result.proofs.Telling.{missing_tells, if_tells, loop_tells, call_tells, continue_tells, break_tells, paren_tells}
 use Rattle.hir_one_result.proofs.Telling.{operand_tells, operands_tells, value_tells, list_tells, method_call_tells, await_tells}
+use Rattle.hir_one_result.proofs.Telling.{cast_tells, record_tells, offset_of_tells, field_tells, contents_tells}
 use Rattle.hir_one_result.proofs.Telling.{path_tells, block_form_tells, labelled_tells, tells_alloc}
 
 no_fault_in_block : (n : Option BlockId) (s : Stored) → (with_block n s).diagnostics ≡ s.diagnostics ++ []
@@ -78,7 +82,12 @@ mutual
   node_faults (tree.binary_expr at form a b) = operands_tells reported at _ (part_faults a) (part_faults b)
   node_faults (tree.lazy_expr at op a b) = operands_tells reported at _ (part_faults a) (part_faults b)
   node_faults (tree.list_expr at form es) = list_tells reported at form (each_faults [] es)
-  node_faults (tree.method_call_expr at e name es) = method_call_tells reported at name (part_faults e) (each_faults [] es)
+  node_faults (tree.method_call_expr at e name es generics) =
+      method_call_tells reported at name (part_faults e) (each_faults [] es) (args_aside generics)
+  node_faults (tree.cast_expr at e t) = cast_tells reported at (part_faults e) (part_aside None t)
+  node_faults (tree.record_expr at p fs s) =
+      record_tells reported at p (contents_tells reported (fields_faults [] fs) (spread_faults s))
+  node_faults (tree.offset_of_expr at t names) = offset_of_tells reported at names (part_aside None t)
   node_faults (tree.leaving_expr at form e) = value_tells reported at _ (present_faults e)
   node_faults (tree.become_expr at e) = operand_tells reported at _ (part_faults e)
   node_faults (tree.yield_expr at e) = value_tells reported at _ (present_faults e)
@@ -100,6 +109,20 @@ mutual
   each_faults : (done : List ExprId) (es : Exprs) → Reports (λ ss. each_diagnostics ss es) (lower_each done es)
   each_faults done tree.no_exprs = tells_pure reported done
   each_faults done (tree.more_exprs e es) = tells_bind reported (kept_faults e (node_faults e)) (λ x. each_faults _ es)
+
+  fields_faults : (done : List RecordLitField) (fs : Fields) → Reports (λ ss. fields_diagnostics ss fs) (lower_fields done fs)
+  fields_faults done tree.no_fields = tells_pure reported done
+  fields_faults done (tree.more_fields f fs) = tells_bind reported (one_field_faults f) (λ x. fields_faults _ fs)
+
+  one_field_faults : (f : Field) → Reports (λ ss. field_diagnostics ss f) (lower_field f)
+  one_field_faults (tree.disabled_field at by f) = tells_end reported (tells_report reported _) (λ u. tells_pure reported None)
+  one_field_faults tree.nameless_field = tells_pure reported None
+  one_field_faults (tree.named_field at name e) = field_tells reported at name (part_faults e)
+
+  spread_faults : (s : Spread) → Reports (λ ss. spread_diagnostics ss s) (lower_spread s)
+  spread_faults tree.no_spread = tells_pure reported _
+  spread_faults tree.field_defaults = tells_pure reported _
+  spread_faults (tree.spread_of e) = tells_end reported (node_faults e) (λ i. tells_pure reported _)
 
   block_faults : (b : Block) → Reports (λ ss. block_diagnostics ss b) (lower_block b)
   block_faults (tree.block at is_unsafe label number ss e) =

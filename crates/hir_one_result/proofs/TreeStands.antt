@@ -11,7 +11,12 @@ use Rattle.hir_store.specs.declared.ids.BlockId.{BlockId}
 use Rattle.hir_store.specs.Pointers.{Pointer}
 use Rattle.hir_store.specs.declared.diagnostics.ExpressionStoreDiagnostics.TheVariants.{InactiveCode}
 use Rattle.hir_env.specs.Answered as tree
-use Rattle.hir_env.specs.Answered.{Expr, OptionExpr, Exprs, Block, OptionBlock, Stmts}
+use Rattle.hir_store.specs.declared.hir.RecordLitField.{RecordLitField}
+use Rattle.hir_store.specs.declared.hir.RecordSpread.TheVariants as spread
+use Rattle.hir_env.specs.Answered.{Expr, OptionExpr, Exprs, Fields, Spread, Block, OptionBlock, Stmts}
+use Rattle.hir_lower_form.specs.Lower.{lower_fields, lower_spread}
+use Rattle.hir_one_result.specs.Stands.{StandsFields, StandsOthers}
+use Rattle.hir_one_result.proofs.Standing.{cast_stands, record_stands, offset_of_stands, field_stands, contents_stand}
 use Rattle.hir_meaning.specs.Left.{is_kept, is_left, gives_value}
 use Rattle.hir_meaning.specs.Contents.{BlockContents}
 use Rattle.hir_lower_form.specs.Lowering.{Lowering, ◌>>=◌, pure}
@@ -20,7 +25,7 @@ use Rattle.hir_lower_form.specs.Lower.{kept_part}
 use Rattle.hir_lower_form.specs.Lower.{lower_each, lower_block, lower_block_part, lower_stmts}
 use Rattle.hir_steps.proofs.Frames.{ribs, ribs_frames}
 use Rattle.hir_steps.proofs.Steps.{Correct, correct_bind, correct_as, correct_pure, correct_report}
-use Rattle.hir_one_result.specs.Leads.{Ways, OneWay, ◌&◌}
+use Rattle.hir_one_result.specs.Leads.{Ways, OneWay, OneFieldWay, ◌&◌}
 use Rattle.hir_one_result.specs.Stands.{Open, ThereIf, statement_of, Stands, StandsPart, StandsPresent, StandsKept, StandsEach, StandsBlock}
 use Rattle.hir_one_result.specs.Stands.{StandsBlockPart, StandsContents}
 use Rattle.hir_one_result.specs.Laws.{AllStand}
@@ -58,11 +63,24 @@ module _ (final : Stored) where
   abbrev each : Open → Exprs → List ExprId → Ways
   each = StandsEach (store_of final) (map_of final)
 
+  abbrev fields : Open → Fields → List RecordLitField → Ways
+  fields = StandsFields (store_of final) (map_of final)
+
   abbrev kept_or_none : Open → OptionExpr → Option ExprId → Ways
   kept_or_none = StandsKept (store_of final) (map_of final)
 
   abbrev contents : Open → Stmts → OptionExpr → List Statement → Option ExprId → Ways
   contents rs ss e = StandsContents (store_of final) (map_of final) rs ss (λ around o. kept_or_none around e o)
+
+all_fields_stand : (fs : Fields) {p : Lowering (List RecordLitField)} → Correct p (Shows (λ final rs is. Behind [] (fields final rs fs) is))
+    → Correct p (Shows (λ final rs is. fields final rs fs is))
+all_fields_stand fs h =
+    correct_as h (λ final ps m m' is g row. record { shown = behind_none (fields final (ribs ps) fs) row.shown })
+
+-- one that is left out
+left_out : {A : Type 0} (S : List A → Ways) (done : List A) (o : Option A) {is : List A} {a b : Stored} → o ≡ None
+    → Shown (Behind (push_some done o) S is) a b → Shown (Behind done S is) a b
+left_out S done o {is = is} {a = a} {b = b} e x = subst (λ z. Shown (Behind (push_some done z) S is) a b) e x
 
 all_stand_for : (es : Exprs) {p : Lowering (List ExprId)} → Correct p (Shows (λ final rs is. Behind [] (each final rs es) is))
     → Correct p (Shows (λ final rs is. each final rs es is))
@@ -111,7 +129,12 @@ mutual
   node_stands (tree.binary_expr at form a b) = operands_stand at (binary_is form) (part_stands a) (part_stands b)
   node_stands (tree.lazy_expr at op a b) = operands_stand at (λ i j. refl) (part_stands a) (part_stands b)
   node_stands (tree.list_expr at form es) = list_stands at form (all_stand_for es (each_stands [] es))
-  node_stands (tree.method_call_expr at e name es) = method_call_stands at name (part_stands e) (all_stand_for es (each_stands [] es))
+  node_stands (tree.method_call_expr at e name es generics) =
+      method_call_stands at name generics (part_stands e) (all_stand_for es (each_stands [] es))
+  node_stands (tree.cast_expr at e t) = cast_stands at t (part_stands e)
+  node_stands (tree.record_expr at p fs s) =
+      record_stands at p (contents_stand (all_fields_stand fs (fields_stand [] fs)) (others_stand s))
+  node_stands (tree.offset_of_expr at t names) = offset_of_stands at t names
   node_stands (tree.leaving_expr at form e) = value_stands at (leaving_is form) (present_stands e)
   node_stands (tree.become_expr at e) = operand_stands at (λ i. refl) (part_stands e)
   node_stands (tree.yield_expr at e) = value_stands at (λ o. refl) (present_stands e)
@@ -142,6 +165,45 @@ mutual
         shown = shown_as (shown_both row.first.shown others)
             (λ ws y. (option_to_list row.one ++ r.shown.0, r.shown.1 ∙ push_append done row.one r.shown.0, (row.one, r.shown.0, refl, y)));
       })
+
+  fields_stand : (done : List RecordLitField) (fs : Fields)
+      → Correct (lower_fields done fs) (Shows (λ final rs is. Behind done (fields final rs fs) is))
+  fields_stand done tree.no_fields = correct_as (correct_pure done) (λ final ps m m' is g row.
+      record { shown = shown_none (moved_pure row.still) ([], row.is ∙ sym (append-nil done), (refl, refl)) })
+  fields_stand done (tree.more_fields (tree.disabled_field at by f) fs) = correct_as
+      (correct_bind (correct_bind (correct_report _) (λ u. correct_pure None)) (λ x. fields_stand (push_some done x) fs))
+      (λ final ps m m' is g row.
+      let moved = moved_then (moved_fault (InactiveCode at by) row.first.first.stored) (moved_pure row.first.second.still) in
+      record { shown = shown_after moved (left_out (fields final (ribs ps) fs) done row.one row.first.second.is row.second.shown) })
+  fields_stand done (tree.more_fields tree.nameless_field fs) = correct_as
+      (correct_bind (correct_pure None) (λ x. fields_stand (push_some done x) fs))
+      (λ final ps m m' is g row.
+      record {
+        shown = shown_after (moved_pure row.first.still)
+            (left_out (fields final (ribs ps) fs) done row.one row.first.is row.second.shown);
+      })
+  fields_stand done (tree.more_fields (tree.named_field at name e) fs) = correct_as
+      (correct_bind (field_stands at name (part_stands e)) (λ x. fields_stand (push_some done x) fs))
+      (λ final ps m m' is g row.
+      let s = row.first.shown in
+      let q = row.second.shown in
+      let v = s.shown.0 in
+      let field : RecordLitField = record { name = name; expr = v } in
+      let w = s.shown.2 in
+      let others : Shown (fields final (ribs ps) fs q.shown.0) row.middle.stored m'.stored =
+      record { ways = q.ways; shown = q.shown.2; moved = q.moved } in
+      let is' = q.shown.1 ∙ (push_append done row.one q.shown.0 ∙ ap (λ o. done ++ (option_to_list o ++ q.shown.0)) s.shown.1) in
+      let own : Shown (part final (ribs ps) e v & OneFieldWay v at) m.stored row.middle.stored =
+      record { ways = s.ways; shown = w; moved = s.moved } in
+      record { shown = shown_as (shown_both own others) (λ ws y. (field ∷ q.shown.0, is', (v, q.shown.0, refl, y))) })
+
+  others_stand : (s : Spread) → Correct (lower_spread s) (Shows (λ final rs o. StandsOthers (store_of final) (map_of final) rs s o))
+  others_stand tree.no_spread = correct_as (correct_pure spread.None) (λ final ps m m' o g row.
+      record { shown = shown_none (moved_pure row.still) (row.is, refl) })
+  others_stand tree.field_defaults = correct_as (correct_pure spread.FieldDefaults) (λ final ps m m' o g row.
+      record { shown = shown_none (moved_pure row.still) (row.is, refl) })
+  others_stand (tree.spread_of e) = correct_as (correct_bind (node_stands e) (λ i. correct_pure (spread.Expr i))) (λ final ps m m' o g row.
+      record { shown = shown_as (shown_before row.first.shown (moved_pure row.second.still)) (λ ws y. (row.one, row.second.is, y)) })
 
   block_stands : (b : Block) → Correct (lower_block b) (Shows (λ final rs i. StandsBlock (store_of final) (map_of final) rs b i))
   block_stands (tree.block at is_unsafe label number ss e) =

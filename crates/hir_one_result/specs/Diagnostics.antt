@@ -8,7 +8,9 @@ use Rattle.hir_store.specs.declared.diagnostics.ExpressionStoreDiagnostics.TheVa
 use Rattle.hir_store.specs.declared.diagnostics.AwaitLocation.{AwaitLocation}
 use Rattle.hir_store.specs.Pointers.{Pointer}
 use Rattle.hir_env.specs.Answered as tree
-use Rattle.hir_env.specs.Answered.{Jump, Expr, OptionExpr, Exprs, Block, OptionBlock, Stmts}
+use Rattle.hir_env.specs.Answered.{Jump, Expr, OptionExpr, Exprs, Fields, Field, Spread, Block, OptionBlock, Stmts}
+use Rattle.hir_data.specs.Written.{written_path}
+use Rattle.hir_one_result.specs.Blocks.{where_some}
 use Rattle.hir_scope.specs.Ribs.{Rib, Target, reachable, unreachable, undeclared, target, map_ribs}
 use Rattle.hir_scope.specs.Scopes.{Scope, loop_scope, ribs, scopes_in_block}
 
@@ -46,7 +48,10 @@ abbrev mutual
   diagnostics ss (tree.binary_expr at form a b) = part_diagnostics ss a ++ part_diagnostics ss b
   diagnostics ss (tree.lazy_expr at op a b) = part_diagnostics ss a ++ part_diagnostics ss b
   diagnostics ss (tree.list_expr at form es) = each_diagnostics ss es
-  diagnostics ss (tree.method_call_expr at e name es) = part_diagnostics ss e ++ each_diagnostics ss es
+  diagnostics ss (tree.method_call_expr at e name es generics) = part_diagnostics ss e ++ each_diagnostics ss es
+  diagnostics ss (tree.cast_expr at e t) = part_diagnostics ss e
+  diagnostics ss (tree.record_expr at p fs s) = where_some (written_path p) (fields_diagnostics ss fs ++ spread_diagnostics ss s)
+  diagnostics ss (tree.offset_of_expr at t names) = []
   diagnostics ss (tree.leaving_expr at form e) = part_diagnostics ss e
   diagnostics ss (tree.become_expr at e) = part_diagnostics ss e
   diagnostics ss (tree.yield_expr at e) = part_diagnostics ss e
@@ -60,6 +65,21 @@ abbrev mutual
   pub each_diagnostics : List Scope → Exprs → Faults
   each_diagnostics ss tree.no_exprs = []
   each_diagnostics ss (tree.more_exprs e es) = diagnostics ss e ++ each_diagnostics ss es
+
+  pub fields_diagnostics : List Scope → Fields → Faults
+  fields_diagnostics ss tree.no_fields = []
+  fields_diagnostics ss (tree.more_fields f fs) = field_diagnostics ss f ++ fields_diagnostics ss fs
+
+  -- a field without a name isn't read, where no condition disables it
+  pub field_diagnostics : List Scope → Field → Faults
+  field_diagnostics ss (tree.disabled_field at by f) = InactiveCode at by ∷ []
+  field_diagnostics ss tree.nameless_field = []
+  field_diagnostics ss (tree.named_field at name e) = part_diagnostics ss e
+
+  pub spread_diagnostics : List Scope → Spread → Faults
+  spread_diagnostics ss tree.no_spread = []
+  spread_diagnostics ss tree.field_defaults = []
+  spread_diagnostics ss (tree.spread_of e) = diagnostics ss e
 
   pub block_diagnostics : List Scope → Block → Faults
   block_diagnostics ss (tree.block at is_unsafe label number stmts tail) =

@@ -1,20 +1,22 @@
 -- What lowering a tree does to what is stored.
-use Rattle.std.specs.Prelude.{◌≡◌, ◌+◌, List, ◌++◌, length, Ok, Err, IsPermutation}
+use Rattle.std.specs.Prelude.{◌≡◌, ◌+◌, List, ◌++◌, length, Option, Ok, Err, IsPermutation}
 use Rattle.hir_store.specs.Stored.{Stored, store_of, map_of}
 use Rattle.hir_store.specs.Storing.{Checked, Extends}
 use Rattle.hir_store.specs.declared.ids.ExprId.{ExprId}
 use Rattle.hir_store.specs.declared.ids.LabelId.{LabelId}
-use Rattle.hir_env.specs.Answered.{OptionExpr}
+use Rattle.hir_env.specs.Answered.{Binder, OptionType, OptionPath, OptionExpr}
 use Rattle.hir_scope.specs.Ribs.{Rib}
 use Rattle.hir_scope.specs.Scopes.{Scope}
 use Rattle.hir_lower_form.specs.Builder.{Builder}
-use Rattle.hir_lower_form.specs.Lower.{lower_part}
+use Rattle.hir_lower_form.specs.Lower.{type_part, lower_path, lower_part}
 use Rattle.hir_steps.specs.Keeps.{Paired}
 use Rattle.hir_one_result.specs.Leads.{Way, label_ways, Covers, CoversLabels, Led}
 use Rattle.hir_one_result.specs.Stands.{StandsPart}
 use Rattle.hir_one_result.specs.Diagnostics.{Faults, part_diagnostics, Around}
 use Rattle.hir_one_result.specs.Blocks.{blocks_of_part}
-use Rattle.hir_one_result.specs.Room.{TooLarge, count_of_exprs, count_of_labels}
+use Rattle.hir_one_result.specs.Size.{Size}
+use Rattle.hir_one_result.specs.PathRoom.{type_part_size, whole_size}
+use Rattle.hir_one_result.specs.Room.{Short, size_part}
 
 -- what is claimed where the tree is lowered into a `Paired` store
 abbrev pub WhereLowered : (OptionExpr → Builder → ExprId → Builder → Type 0) → Type 0
@@ -61,15 +63,34 @@ BlocksAre = WhereLowered (λ e old id new. new.stored.block_scopes ≡ old.store
 
 -- numbers
 
--- so many expressions and labels come behind those that were stored
-pub record Fits (e : OptionExpr) (old new : Stored) : Type 0 where
-  pub exprs : length new.exprs.entries ≡ length old.exprs.entries + count_of_exprs e
-  pub labels : length new.labels.entries ≡ length old.labels.entries + count_of_labels e
+-- So many expressions and labels come behind those that were stored, and types and lifetimes with these sources.
+pub record Grown (n : Size) (old new : Stored) : Type 0 where
+  pub exprs : length new.exprs.entries ≡ length old.exprs.entries + n.exprs
+  pub labels : length new.labels.entries ≡ length old.labels.entries + n.labels
+  pub types : length new.types.entries ≡ length old.types.entries + length n.types
+  pub lifetimes : length new.lifetimes.entries ≡ length old.lifetimes.entries + length n.lifetimes
+  pub type_sources : new.types.sources ≡ old.types.sources ++ n.types
+  pub lifetime_sources : new.lifetimes.sources ≡ old.lifetimes.sources ++ n.lifetimes
 
 -- where lowering is refused there is no room for them
+abbrev pub GrownUnless : {A : Type 0} → Size → Stored → Checked A → Stored → Type 0
+GrownUnless n old (Ok a) new = Grown n old new
+GrownUnless n old (Err fault) new = Short n old
+
+abbrev pub Fits : OptionExpr → Stored → Stored → Type 0
+Fits e old new = Grown (size_part e) old new
+
 abbrev pub FitsUnless : OptionExpr → Stored → Checked ExprId → Stored → Type 0
-FitsUnless e old (Ok id) new = Fits e old new
-FitsUnless e old (Err fault) new = TooLarge old e
+FitsUnless e old result new = GrownUnless (size_part e) old result new
 
 abbrev pub AllFit : Type 0
 AllFit = (e : OptionExpr) (old : Builder) → FitsUnless e old.stored (lower_part e old).0 (lower_part e old).1.stored
+
+-- so it is of types and paths by themselves
+
+abbrev pub TypesFit : Type 0
+TypesFit = (binder : Option Binder) (t : OptionType) (old : Builder)
+    → GrownUnless (type_part_size t) old.stored (type_part binder t old).0 (type_part binder t old).1.stored
+
+abbrev pub PathsFit : Type 0
+PathsFit = (p : OptionPath) (old : Builder) → GrownUnless (whole_size p) old.stored (lower_path p old).0 (lower_path p old).1.stored

@@ -1,38 +1,14 @@
--- How large a tree is: how many expressions and labels it becomes. Each written expression becomes one, but parentheses become
--- none besides what is in them. An absent or disabled part is one missing expression, or none where the form knows none, and
--- so is what stands in front of a tuple with a leading comma. Nothing in a disabled node becomes anything.
-use Rattle.std.specs.Prelude.{ℕ, ◌+◌, ◌<◌, ◌⊎◌, Bool, Option, Some, None, true, false, length}
+-- How large a tree is, by its parts in the order in which they are lowered. Each written expression becomes one, but
+-- parentheses become none besides what is in them. An absent or disabled part is one missing expression, or none where the form
+-- knows none, and so is what stands in front of a tuple with a leading comma. Nothing in a disabled node becomes anything.
+use Rattle.std.specs.Prelude.{ℕ, ◌+◌, ◌<◌, ◌⊎◌, List, Option, Some, None, true, false, is_some, length}
+use Rattle.hir_store.specs.Pointers.{Pointer}
 use Rattle.hir_store.specs.Stored.{Stored}
 use Rattle.hir_env.specs.Answered as tree
-use Rattle.hir_env.specs.Answered.{OptionPath, Listing, Label, Expr, OptionExpr, Exprs, Block, OptionBlock, Stmts, Stmt}
-use Rattle.hir_data.specs.Written.{overcounts}
+use Rattle.hir_env.specs.Answered.{Listing, Label, Expr, OptionExpr, Exprs, Fields, Field, Spread, Block, OptionBlock, Stmts, Stmt}
 use Rattle.hir_meaning.specs.Left.{is_kept}
-
-pub record Size : Type 1 where
-  pub exprs : ℕ
-  pub labels : ℕ
-  -- some path that is read has more `super`s than are counted
-  pub overcounts : Type 0
-
-abbrev pub nothing : Size
-nothing = record { exprs = 0; labels = 0; overcounts = ⊥ }
-
-abbrev pub an_expr : Size
-an_expr = record { exprs = 1; labels = 0; overcounts = ⊥ }
-
-abbrev pub a_label : Size
-a_label = record { exprs = 0; labels = 1; overcounts = ⊥ }
-
-abbrev pub a_path : OptionPath → Size
-a_path p = record { exprs = 0; labels = 0; overcounts = overcounts p }
-
-infixr 20 ◌∪◌
-abbrev pub ◌∪◌ : Size → Size → Size
-a ∪ b = record { exprs = a.exprs + b.exprs; labels = a.labels + b.labels; overcounts = a.overcounts ⊎ b.overcounts }
-
-abbrev pub if_kept : Bool → Size → Size
-if_kept true a = a
-if_kept false a = nothing
+use Rattle.hir_one_result.specs.Size.{Size, nothing, an_expr, a_label, ◌∪◌, if_so}
+use Rattle.hir_one_result.specs.PathRoom.{whole_read, whole_size, type_part_size, args_size}
 
 abbrev pub label_size : Option Label → Size
 label_size None = nothing
@@ -47,11 +23,12 @@ front_size tree.array_of = nothing
 abbrev mutual
   pub size : Expr → Size
   size (tree.disabled_expr at by e) = an_expr
-  size (tree.if_expr at c t e) = size_part c ∪ block_part_size t ∪ size_present e ∪ an_expr
+  -- the branches are lowered before the condition
+  size (tree.if_expr at c t e) = block_part_size t ∪ size_present e ∪ size_part c ∪ an_expr
   size (tree.block_expr b) = block_size b
   size (tree.loop_expr at label b) = label_size label ∪ block_part_size b ∪ an_expr
   size (tree.call_expr at f es) = size_part f ∪ size_each es ∪ an_expr
-  size (tree.path_expr at p h) = a_path p ∪ an_expr
+  size (tree.path_expr at p h) = whole_size p ∪ an_expr
   size (tree.continue_expr at jump) = an_expr
   size (tree.break_expr at jump e) = size_present e ∪ an_expr
   size (tree.paren_expr at e) = size_part e
@@ -61,7 +38,11 @@ abbrev mutual
   size (tree.binary_expr at form a b) = size_part a ∪ size_part b ∪ an_expr
   size (tree.lazy_expr at op a b) = size_part a ∪ size_part b ∪ an_expr
   size (tree.list_expr at form es) = size_each es ∪ front_size form ∪ an_expr
-  size (tree.method_call_expr at e name es) = size_part e ∪ size_each es ∪ an_expr
+  size (tree.method_call_expr at e name es generics) = size_part e ∪ size_each es ∪ args_size generics ∪ an_expr
+  size (tree.cast_expr at e t) = size_part e ∪ type_part_size t ∪ an_expr
+  -- where the path is absent or refused nothing else is read
+  size (tree.record_expr at p fs s) = whole_size p ∪ if_so (is_some (whole_read p)) (fields_size fs ∪ spread_size s) ∪ an_expr
+  size (tree.offset_of_expr at t names) = type_part_size t ∪ an_expr
   size (tree.leaving_expr at form e) = size_present e ∪ an_expr
   size (tree.become_expr at e) = size_part e ∪ an_expr
   size (tree.yield_expr at e) = size_present e ∪ an_expr
@@ -80,11 +61,25 @@ abbrev mutual
   -- of a part that is left out where it is absent or disabled
   pub size_kept : OptionExpr → Size
   size_kept tree.no_expr = nothing
-  size_kept (tree.some_expr e) = if_kept (is_kept e) (size e)
+  size_kept (tree.some_expr e) = if_so (is_kept e) (size e)
 
   pub size_each : Exprs → Size
   size_each tree.no_exprs = nothing
-  size_each (tree.more_exprs e es) = if_kept (is_kept e) (size e) ∪ size_each es
+  size_each (tree.more_exprs e es) = if_so (is_kept e) (size e) ∪ size_each es
+
+  pub fields_size : Fields → Size
+  fields_size tree.no_fields = nothing
+  fields_size (tree.more_fields f fs) = field_size f ∪ fields_size fs
+
+  pub field_size : Field → Size
+  field_size (tree.disabled_field at by f) = nothing
+  field_size tree.nameless_field = nothing
+  field_size (tree.named_field at name e) = size_part e
+
+  pub spread_size : Spread → Size
+  spread_size tree.no_spread = nothing
+  spread_size tree.field_defaults = nothing
+  spread_size (tree.spread_of e) = size e
 
   pub block_size : Block → Size
   block_size (tree.block at is_unsafe label number ss e) = label_size label ∪ stmts_size ss ∪ size_kept e ∪ an_expr
@@ -107,13 +102,28 @@ count_of_exprs e = (size_part e).exprs
 abbrev pub count_of_labels : OptionExpr → ℕ
 count_of_labels e = (size_part e).labels
 
--- some path of the tree that is read has more `super`s than are counted
-abbrev pub Overcounts : OptionExpr → Type 0
-Overcounts e = (size_part e).overcounts
+-- where the types and lifetimes come from that a tree becomes, in the order in which they are stored
 
--- There is no room for the tree behind what is stored: it becomes more expressions, or more labels, than the arenas have room for,
--- or a path in it counts too far.
+abbrev pub type_sources_of : OptionExpr → List (Option Pointer)
+type_sources_of e = (size_part e).types
+
+abbrev pub lifetime_sources_of : OptionExpr → List (Option Pointer)
+lifetime_sources_of e = (size_part e).lifetimes
+
+abbrev pub count_of_types : OptionExpr → ℕ
+count_of_types e = length (type_sources_of e)
+
+abbrev pub count_of_lifetimes : OptionExpr → ℕ
+count_of_lifetimes e = length (lifetime_sources_of e)
+
+-- There is no room for so much behind what is stored: some arena would hold more than it may, or a path counts too far.
+abbrev pub Short : Size → Stored → Type 0
+Short n s =
+    (s.exprs.limit < length s.exprs.entries + n.exprs)
+    ⊎ ((s.labels.limit < length s.labels.entries + n.labels)
+    ⊎ ((s.types.limit < length s.types.entries + length n.types)
+    ⊎ ((s.lifetimes.limit < length s.lifetimes.entries + length n.lifetimes) ⊎ n.overcounts)))
+
+-- behind what is stored there is no room for the tree
 abbrev pub TooLarge : Stored → OptionExpr → Type 0
-TooLarge s e =
-    (s.exprs.limit < length s.exprs.entries + count_of_exprs e)
-    ⊎ ((s.labels.limit < length s.labels.entries + count_of_labels e) ⊎ Overcounts e)
+TooLarge s e = Short (size_part e) s

@@ -12,22 +12,25 @@ use Rattle.hir_store.specs.declared.hir.LoopSource.TheVariants as source
 use Rattle.hir_store.specs.declared.hir.Statement.{Statement}
 use Rattle.hir_store.specs.declared.hir.Statement.TheVariants as statement
 use Rattle.hir_store.specs.declared.hir.Literal.{Literal}
+use Rattle.hir_store.specs.declared.hir.RecordLitField.{RecordLitField}
+use Rattle.hir_store.specs.declared.hir.RecordSpread.{RecordSpread}
+use Rattle.hir_store.specs.declared.hir.RecordSpread.TheVariants as spread
 use Rattle.hir_store.specs.declared.path.Path.{Path}
 use Rattle.hir_store.specs.declared.ids.ExprId.{ExprId}
 use Rattle.hir_store.specs.declared.ids.LabelId.{LabelId}
 use Rattle.hir_store.specs.declared.ids.HygieneId.{HygieneId}
 use Rattle.hir_scope.specs.Ribs.{Rib, label_rib, jump_number}
 use Rattle.hir_env.specs.Answered as tree
-use Rattle.hir_env.specs.Answered.{Listing, Label, Expr, OptionExpr, Exprs, Block, OptionBlock, Stmts}
+use Rattle.hir_env.specs.Answered.{Listing, Label, Expr, OptionExpr, Exprs, Fields, Spread, Block, OptionBlock, Stmts}
 use Rattle.hir_data.specs.Data.{PathData}
-use Rattle.hir_data.specs.Reading.{stored_path}
-use Rattle.hir_data.specs.Written.{written_path}
+use Rattle.hir_data.specs.Reading.{stored_path, stored_type, stored_args}
+use Rattle.hir_data.specs.Written.{written_path, written_type, written_args}
 use Rattle.hir_data.specs.Lookup.{lookup_hygiene}
 use Rattle.hir_meaning.specs.Data.{literal_data, literal_read}
 use Rattle.hir_meaning.specs.Left.{is_kept, is_left, gives_value}
 use Rattle.hir_meaning.specs.Contents.{BlockContents}
 use Rattle.hir_one_result.specs.Forms.{leaf_form, unary_form, binary_form, lazy_form, leaving_form}
-use Rattle.hir_one_result.specs.Leads.{Ways, No, OneWay, OneMissing, OneLabelWay, ◌&◌}
+use Rattle.hir_one_result.specs.Leads.{Ways, No, OneWay, OneMissing, OneLabelWay, OneFieldWay, ◌&◌}
 
 -- the numbers of the labels that are open, innermost first
 abbrev pub Open : Type 0
@@ -47,6 +50,10 @@ There {A = A} S o = λ ws. (a : A) × (o ≡ Some a) × S a ws
 abbrev pub ThereIf : {A : Type 0} → Bool → (A → Ways) → Option A → Ways
 ThereIf true S o = There S o
 ThereIf false S o = Absent o
+
+-- a part that is no expression: it reads back as this
+abbrev pub ReadsAs : {A D : Type 0} → (A → D) → D → A → Ways
+ReadsAs read d a = λ ws. (read a ≡ d) × No ws
 
 abbrev pub statement_of : Bool → Option ExprId → Option Statement
 statement_of semi o = option_map (λ id. statement.Expr id semi) o
@@ -79,6 +86,20 @@ module _ (store : Store) (source_map : SourceMap) where
   StandsOverTwo {A = A} {B = B} form at S T i = λ ws.
       (one : A) × (other : B) × ExprAt i (form one other) (Some at) × (S one & T other & OneWay at i) ws
 
+  abbrev pub StandsOverThree : {A B C : Type 0} → (A → B → C → HirExpr) → Pointer → (A → Ways) → (B → Ways) → (C → Ways) → ExprId → Ways
+  StandsOverThree {A = A} {B = B} {C = C} form at S T U i = λ ws.
+      (one : A) × (other : B) × (third : C) × ExprAt i (form one other third) (Some at) × (S one & T other & U third & OneWay at i) ws
+
+  -- of what is stored for a record: its fields, and what the others come from
+  abbrev pub StoredRecord : Type 0
+  StoredRecord = List RecordLitField × RecordSpread
+
+  -- where the path is absent or refused it is missing, without a node
+  abbrev pub StandsRecord : Pointer → Option PathData → (StoredRecord → Ways) → ExprId → Ways
+  StandsRecord at None S i = StandsMissing i
+  StandsRecord at (Some d) S i =
+      StandsOverTwo (λ path r. hir.RecordLit path r.0 r.1) at (ReadsAs (stored_path store source_map) d) S i
+
   -- in front of a tuple with a leading comma stands a missing element
   abbrev pub StandsList : Pointer → Listing → (List ExprId → Ways) → ExprId → Ways
   StandsList at (tree.tuple_of false) S i = StandsOver hir.Tuple at S i
@@ -88,7 +109,8 @@ module _ (store : Store) (source_map : SourceMap) where
   -- It is read as it was written. An absent or refused path is a missing expression.
   abbrev pub StandsPath : Pointer → Option PathData → HygieneId → ExprId → Ways
   StandsPath at None h i = StandsAlone hir.Missing at i
-  StandsPath at (Some p) h i = λ ws. (path : Path) × (stored_path path ≡ p) × StandsAlone (hir.Path path (lookup_hygiene p h)) at i ws
+  StandsPath at (Some p) h i = λ ws.
+      (path : Path) × (stored_path store source_map path ≡ p) × StandsAlone (hir.Path path (lookup_hygiene p h)) at i ws
 
   abbrev pub StandsLiteral : Pointer → AstLiteral → ExprId → Ways
   StandsLiteral at l i = λ ws. (literal : Literal) × (literal_read literal ≡ literal_data l) × StandsAlone (hir.Literal literal) at i ws
@@ -124,9 +146,15 @@ module _ (store : Store) (source_map : SourceMap) where
     Stands rs (tree.binary_expr at form a b) i = StandsOverTwo (binary_form form) at (λ x. StandsPart rs a x) (λ y. StandsPart rs b y) i
     Stands rs (tree.lazy_expr at op a b) i = StandsOverTwo (lazy_form op) at (λ x. StandsPart rs a x) (λ y. StandsPart rs b y) i
     Stands rs (tree.list_expr at form es) i = StandsList at form (λ is. StandsEach rs es is) i
-    Stands rs (tree.method_call_expr at e name es) i =
-        StandsOverTwo (λ receiver arguments. hir.MethodCall receiver name arguments) at
-        (λ x. StandsPart rs e x) (λ is. StandsEach rs es is) i
+    Stands rs (tree.method_call_expr at e name es generics) i =
+        StandsOverThree (λ receiver arguments g. hir.MethodCall receiver name g arguments) at
+        (λ x. StandsPart rs e x) (λ is. StandsEach rs es is) (ReadsAs (stored_args store source_map) (written_args generics)) i
+    Stands rs (tree.cast_expr at e t) i =
+        StandsOverTwo hir.Cast at (λ x. StandsPart rs e x) (ReadsAs (stored_type store source_map) (written_type t)) i
+    Stands rs (tree.record_expr at p fs s) i =
+        StandsRecord at (written_path p) (λ r. StandsFields rs fs r.0 & StandsOthers rs s r.1) i
+    Stands rs (tree.offset_of_expr at t names) i =
+        StandsOver (λ container. hir.OffsetOf container names) at (ReadsAs (stored_type store source_map) (written_type t)) i
     Stands rs (tree.leaving_expr at form e) i = StandsOver (leaving_form form) at (λ o. StandsPresent rs e o) i
     Stands rs (tree.become_expr at e) i = StandsOver hir.Become at (λ x. StandsPart rs e x) i
     Stands rs (tree.yield_expr at e) i = StandsOver hir.Yield at (λ o. StandsPresent rs e o) i
@@ -151,6 +179,19 @@ module _ (store : Store) (source_map : SourceMap) where
     StandsEach rs (tree.more_exprs e es) is = λ ws.
         (o : Option ExprId) × (others : List ExprId) × (is ≡ option_to_list o ++ others)
         × (ThereIf (is_kept e) (λ i. Stands rs e i) o & StandsEach rs es others) ws
+
+    -- a disabled field becomes nothing, and so does one without a name
+    pub StandsFields : Open → Fields → List RecordLitField → Ways
+    StandsFields rs tree.no_fields is = λ ws. (is ≡ []) × No ws
+    StandsFields rs (tree.more_fields (tree.named_field at name e) fs) is = λ ws.
+        (value : ExprId) × (others : List RecordLitField) × (is ≡ record { name = name; expr = value } ∷ others)
+        × ((StandsPart rs e value & OneFieldWay value at) & StandsFields rs fs others) ws
+    StandsFields rs (tree.more_fields f fs) is = StandsFields rs fs is
+
+    pub StandsOthers : Open → Spread → RecordSpread → Ways
+    StandsOthers rs tree.no_spread o = λ ws. (o ≡ spread.None) × No ws
+    StandsOthers rs tree.field_defaults o = λ ws. (o ≡ spread.FieldDefaults) × No ws
+    StandsOthers rs (tree.spread_of e) o = λ ws. (value : ExprId) × (o ≡ spread.Expr value) × Stands rs e value ws
 
     -- it has what its statements and its tail became, of which the last statement may be its tail
     pub StandsBlock : Open → Block → ExprId → Ways

@@ -20,7 +20,7 @@ use Rattle.hir_env.specs.Answered as tree
 use Rattle.hir_env.specs.Answered.{Segment, Expr, OptionExpr, Exprs, Block, Stmts}
 use Rattle.hir_data.specs.Worked.{whole}
 use Rattle.hir_meaning.specs.Small.{at, root, one, two, literal_at, label_with, label_a, jump_a, first, in_braces, loop_of}
-use Rattle.hir_meaning.specs.Small.{stored_one, stored_two}
+use Rattle.hir_meaning.specs.Small.{stored_one, stored_two, none_beside}
 pub use Rattle.hir_meaning.specs.Turns.{other}
 use Rattle.hir_meaning.specs.Forms.{plus}
 use Rattle.hir_one_result.specs.Leads.{Way, expr_way}
@@ -114,7 +114,7 @@ abbrev pub letter : ℕ → Name
 letter c = name.Text (c ∷ [])
 
 abbrev pub named : ℕ → Segment
-named c = tree.name_segment (letter c)
+named c = tree.name_segment (letter c) none_beside
 
 pub record Leaves : Type 0 where
   pub one_name : StoredAs [] (tree.path_expr (at 0) (whole (named 97) []) other)
@@ -155,7 +155,7 @@ IsStoredWith e x left right = (store : Store) (source_map : SourceMap) (i : Expr
 
 -- `1.m(2)`
 abbrev pub call_m : Expr
-call_m = tree.method_call_expr (at 0) (literal_part 1) (letter 109) (tree.more_exprs (literal_at 2 two) tree.no_exprs)
+call_m = tree.method_call_expr (at 0) (literal_part 1) (letter 109) (tree.more_exprs (literal_at 2 two) tree.no_exprs) tree.no_arg_list
 
 -- a literal, and then what is disabled
 abbrev pub elements : CfgId → Exprs
@@ -178,7 +178,7 @@ two_blocks = tree.binary_expr (at 1) (tree.operator plus) (tree.some_expr unsafe
 
 pub record PlainForms : Type 0 where
   pub adds : IsStoredWith sum_expr (λ left right. hir.BinaryOp plus left right) stored_one stored_two
-  pub calls : IsStoredWith call_m (λ receiver argument. hir.MethodCall receiver (letter 109) (argument ∷ [])) stored_one stored_two
+  pub calls : IsStoredWith call_m (λ receiver argument. hir.MethodCall receiver (letter 109) None (argument ∷ [])) stored_one stored_two
   pub disabled_element : (by : CfgId) → StoredOver (half_tuple by false) (λ v. hir.Tuple (v ∷ []))
   pub leading_comma : (by : CfgId) → IsStoredWith (half_tuple by true) (λ front v. hir.Tuple (front ∷ v ∷ [])) hir.Missing stored_one
   pub awaits : (location : AwaitLocation) → diagnostics [] (await_break (Some location))

@@ -1,12 +1,14 @@
 -- A stored path is looked up as what is read of it.
-use Rattle.std.proofs.Common.{arith, ◌≡◌, refl, ap, ℕ, suc, false, if◌then◌else◌, nat_le, length, List, [], ◌∷◌}
+use Rattle.std.proofs.Common.{arith, ◌≡◌, ◌∙◌, refl, sym, ap, ℕ, suc, false, if◌then◌else◌, nat_le, length, List, [], ◌∷◌}
+use Rattle.hir_store.specs.Stored.{Store, SourceMap}
 use Rattle.hir_store.specs.declared.ids.HygieneId.{HygieneId}
 use Rattle.hir_store.specs.declared.name.Name.{Name}
 use Rattle.hir_store.specs.declared.path.Path.{Path}
-use Rattle.hir_store.specs.declared.path.Path.TheVariants.{BarePath}
+use Rattle.hir_store.specs.declared.path.Path.TheVariants.{BarePath, Normal}
 use Rattle.hir_lower_form.specs.Lower.{path_hygiene}
+use Rattle.hir_data.specs.Data.{names_in}
 use Rattle.hir_data.specs.Lookup.{hygiene_for, lookup_hygiene}
-use Rattle.hir_data.specs.Reading.{stored_path}
+use Rattle.hir_data.specs.Reading.{names_alone, stored_path}
 
 at_least_two : (k : ℕ) → nat_le (suc (suc k)) 1 ≡ false
 at_least_two k = grind arith
@@ -19,5 +21,12 @@ hygiene_is [] h = refl
 hygiene_is (n ∷ []) h = refl
 hygiene_is (n ∷ (m ∷ ns)) h = ap (λ b. if b then h else record { 0 = 0 }) (at_least_two (length ns))
 
-pub looked_up : (p : Path) (h : HygieneId) → path_hygiene p h ≡ lookup_hygiene (stored_path p) h
-looked_up (BarePath p) h = hygiene_is p.segments h
+pub names_read : (ns : List Name) → names_in (names_alone ns) ≡ ns
+names_read [] = refl
+names_read (n ∷ ns) = ap (λ ms. n ∷ ms) (names_read ns)
+
+pub looked_up : (store : Store) (source_map : SourceMap) (p : Path) (h : HygieneId)
+    → path_hygiene p h ≡ lookup_hygiene (stored_path store source_map p) h
+unfolding stored_path
+looked_up store source_map (BarePath p) h = hygiene_is p.segments h ∙ ap (λ ns. hygiene_for ns h) (sym (names_read p.segments))
+looked_up store source_map (Normal p) h = refl

@@ -1,40 +1,45 @@
 -- The walk and the rule, segment by segment.
 use Rattle.std.proofs.Common.{arith, ◌≡◌, ◌≤◌, ◌∙◌, refl, sym, ap, subst, ℕ, zero, suc, ◌+◌, List, [], ◌∷◌, ◌++◌}
-use Rattle.std.proofs.Common.{Option, Some, None, Ok, Err, Bool, true, false}
-use Rattle.std.specs.Prelude.{reverse, ◌&&◌, ◌||◌, not, is_some, if◌then◌else◌, nat_lt, ◌^◌, option_map}
-use Rattle.std.proofs.lemmas.List.{reverse-append, reverse-reverse}
-use Rattle.std.proofs.lemmas.Bool.{ltb-false}
-use Rattle.hir_store.specs.declared.fault.StoreFault.{StoreFault}
+use Rattle.std.proofs.Common.{Option, Some, None, Bool, true, false}
+use Rattle.std.specs.Prelude.{reverse, map, ◌&&◌, ◌||◌, not, is_some, is_none, if◌then◌else◌, nat_lt, ◌^◌, option_map}
+use Rattle.std.proofs.lemmas.List.{reverse-append, reverse-reverse, map-append}
+use Rattle.hir_store.specs.Pointers.{Pointer}
+use Rattle.hir_store.specs.Stored.{Stored, store_of, map_of}
+use Rattle.hir_store.specs.Generics.{self_first}
 use Rattle.hir_store.specs.declared.ids.CrateId.{CrateId}
+use Rattle.hir_store.specs.declared.ids.TypeRefId.{TypeRefId}
 use Rattle.hir_store.specs.declared.name.Name.{Name}
 use Rattle.hir_store.specs.declared.path.PathKind.{PathKind}
 use Rattle.hir_store.specs.declared.path.PathKind.TheVariants as kind
+use Rattle.hir_store.specs.declared.path.GenericArgs.{GenericArgs}
 use Rattle.hir_store.specs.declared.path.Path.{Path as HirPath}
+use Rattle.hir_store.specs.declared.path.Path.TheVariants.{BarePath, Normal}
 use Rattle.hir_env.specs.Answered as tree
 use Rattle.hir_env.specs.Answered.{Path, OptionPath, Segments, Segment}
 use Rattle.hir_lower_form.specs.declared.walk.PathWalk.{PathWalk}
 use Rattle.hir_lower_form.specs.declared.walk.Reading.{Reading}
 use Rattle.hir_lower_form.specs.declared.walk.Reading.TheVariants.{Refused, Ended, Open}
-use Rattle.hir_lower_form.specs.Builder.{Builder}
-use Rattle.hir_lower_form.specs.Lowering.{Checked, Lowering, go_on, pure, count_out}
 use Rattle.hir_lower_form.specs.Walks as walks
-use Rattle.hir_lower_form.specs.Walks.{start, at_first, add_name, self_read, super_read, finished, path_read, missing_name, self_type_name}
-use Rattle.hir_lower_form.specs.Paths as steps
-use Rattle.hir_lower_form.specs.Paths.{proceed, whole, lower_path}
-use Rattle.hir_data.specs.Data.{path_data}
+use Rattle.hir_lower_form.specs.Walks.{start, at_first, add_name, self_read, anchored, add_trait, projected, mod_path, args_of}
+use Rattle.hir_lower_form.specs.Walks.{with_self, without_last_self, finished, own_path}
+use Rattle.hir_data.specs.Data as datum
+use Rattle.hir_data.specs.Data.{TypeData, OptionArgsData, no_args, some_args, PathData, NamesData}
 use Rattle.hir_data.specs.Rule as rule
-use Rattle.hir_data.specs.Rule.{What, Item, broken, named, root, self_, super_, empty_list, plain_kind, supers}
-use Rattle.hir_data.specs.Rule.{ends, ended, read, refuses, refused, set_kind, one_more, supers_left, counted, open_kind}
-use Rattle.hir_data.specs.Rule.{ending_self, read_kind, own_kind, data_of, data_read, supers_in}
+use Rattle.hir_data.specs.Rule.{Named, PathRead, What, Item, broken, named, root, self_, super_, anchor, projection, empty_list}
+use Rattle.hir_data.specs.Rule.{plain_kind, supers}
+use Rattle.hir_data.specs.Rule.{ends, ended, read, refuses, refused, set_kind, supers_left, counted, open_kind, first_behind_self}
+use Rattle.hir_data.specs.Rule.{last_behind_self, first_without_self, last_without_self, ending_self, read_kind, own_kind, anchor_of, found}
+use Rattle.hir_data.specs.Rule.{is_list, anchor_data, names_data, data_of, read_of, path_read}
+use Rattle.hir_data.specs.Reading.{names_alone, names_beside, present_layer}
 use Rattle.hir_data.specs.Written as written
-use Rattle.hir_data.specs.Written.{written_path, overcounts}
-use Rattle.hir_data.specs.Reading.{stored_path}
+use Rattle.hir_read_back.proofs.Layers.{a_list, a_path, within}
+use Rattle.hir_read_back.proofs.Generics.{self_first_read, self_flag}
 
 abbrev holds : Bool → Type 0
 holds true = Unit {0}
 holds false = ⊥
 
-clash : true ≡ false → ⊥
+pub clash : true ≡ false → ⊥
 clash h = subst holds h tt
 
 -- ---- one word for each
@@ -57,19 +62,46 @@ same_crate : (c : Option CrateId) → walks.crate_kind c ≡ written.crate_kind 
 same_crate None = refl
 same_crate (Some c) = refl
 
-empty_reversed : (ns : List Name) → walks.no_names (reverse ns) ≡ empty_list ns
-empty_reversed [] = refl
-empty_reversed (n ∷ ns) = ap walks.no_names (reverse-append (n ∷ []) ns) ∙ snoc (reverse ns) n
-  where
-    snoc : (xs : List Name) (x : Name) → walks.no_names (xs ++ x ∷ []) ≡ false
-    snoc [] x = refl
-    snoc (y ∷ xs) x = refl
+-- ---- lists
 
--- ---- lists of items
+abbrev name_at : Named → Name
+name_at n = n.name
+
+abbrev args_at : Named → OptionArgsData
+args_at n = n.args
+
+map_reverse : {A B : Type 0} (f : A → B) (xs : List A) → map f (reverse xs) ≡ reverse (map f xs)
+map_reverse f [] = refl
+map_reverse f (x ∷ xs) =
+    ap (map f) (reverse-append (x ∷ []) xs)
+    ∙ (map-append f (reverse xs) (x ∷ [])
+    ∙ (ap (λ l. l ++ f x ∷ []) (map_reverse f xs)
+    ∙ sym (reverse-append (f x ∷ []) (map f xs))))
+
+no_names_snoc : (xs : List Name) (x : Name) → walks.no_names (xs ++ x ∷ []) ≡ false
+no_names_snoc [] x = refl
+no_names_snoc (y ∷ xs) x = refl
+
+-- as many in the order of reading
+empty_names : (ns : List Named) → walks.no_names (map name_at (reverse ns)) ≡ empty_list ns
+empty_names [] = refl
+empty_names (n ∷ ns) =
+    ap (λ xs. walks.no_names (map name_at xs)) (reverse-append (n ∷ []) ns)
+    ∙ (ap walks.no_names (map-append name_at (reverse ns) (n ∷ [])) ∙ no_names_snoc (map name_at (reverse ns)) n.name)
+
+empty_mapped : (ns : List Named) → walks.no_names (map name_at ns) ≡ empty_list ns
+empty_mapped [] = refl
+empty_mapped (n ∷ ns) = refl
 
 or_true : (a b : Bool) → b ≡ true → (a || b) ≡ true
 or_true false b h = h
 or_true true b h = refl
+
+or_swap : (a b c d : Bool) → a ≡ c → b ≡ d → (a || b) ≡ (d || c)
+or_swap false false c d e f = rw (← e) (rw (← f) refl)
+or_swap false true c d e f = rw (← e) (rw (← f) refl)
+or_swap true false c d e f = rw (← e) (rw (← f) refl)
+or_swap true true c d e f = rw (← e) (rw (← f) refl)
 
 read_whole : (is : List Item) → ended is ≡ false → read is ≡ is
 read_whole [] h = refl
@@ -79,221 +111,451 @@ read_whole (i ∷ is) h = by (ends i.what (rule.names is)) h
     by false h = rw h refl
     by true h = absurd (clash h)
 
--- ---- what a walk that has read these items has found
+-- ---- what a walk that has read these items has found, when so many types are stored
 
-record Reads (k : PathKind) (is : List Item) (w : PathWalk) : Type 0 where
-  kind : w.kind ≡ k
-  names : w.names ≡ reverse (rule.names is)
+abbrev none_beside : List Name → List (Option GenericArgs)
+none_beside xs = map (λ n. None) xs
 
-abbrev Says : List Item → Reading → Type 0
-Says is Refused = refused (read is) ≡ true
-Says is (Open w) = (ended is ≡ false) × (refused is ≡ false) × Reads (open_kind is) is w
-Says is (Ended w) = (ended is ≡ true) × (refused (read is) ≡ false) × Reads (read_kind (read is)) (read is) w
+-- what stands beside each name
+abbrev lists : Stored → ℕ → List (Option GenericArgs) → List OptionArgsData
+lists final d as' = map (a_list final (within final d)) as'
 
-abbrev Over : List Item → Type 0
-Over is = 2 ^ 32 ≤ supers_in (read is)
+abbrev anchor_read : Stored → ℕ → Option TypeRefId → Option TypeData
+anchor_read final d t = option_map (within final d).type t
 
-abbrev over : Builder → Builder
-over b = record b { counted_out = true }
+pub record Found (final : Stored) (n : ℕ) (k : PathKind) (is : List Item) (w : PathWalk) : Type 0 where
+  pub kind : w.kind ≡ k
+  pub names : w.names ≡ map name_at (reverse (rule.names is))
+  pub args : (d : ℕ) → n ≤ d → lists final d w.args ≡ map args_at (reverse (rule.names is))
+  pub anchor : (d : ℕ) → n ≤ d → anchor_read final d w.type_anchor ≡ anchor_of is
+  pub found : w.found_args ≡ found is
+  pub bare : w.found_args ≡ false → w.args ≡ none_beside w.names
 
-abbrev After : List Item → Builder → Checked Reading → Builder → Type 0
-After is b (Ok r) b' = Says is r × (b' ≡ b)
-After is b (Err e) b' = Over is × (b' ≡ over b)
+abbrev pub Says : Stored → ℕ → List Item → Reading → Type 0
+Says final n is Refused = refused (read is) ≡ true
+Says final n is (Open w) = (ended is ≡ false) × (refused is ≡ false) × Found final n (open_kind is) is w
+Says final n is (Ended w) = (ended is ≡ true) × (refused (read is) ≡ false) × Found final n (read_kind (read is)) (read is) w
+
+-- more may be stored since
+found_later : {final : Stored} {n n' : ℕ} {k : PathKind} {is : List Item} {w : PathWalk} → n ≤ n' → Found final n k is w
+    → Found final n' k is w
+found_later le h = record {
+  kind = h.kind;
+  names = h.names;
+  args = λ d m. h.args d (omega (le, m, arith));
+  anchor = λ d m. h.anchor d (omega (le, m, arith));
+  found = h.found;
+  bare = h.bare;
+}
+
+pub says_later : (final : Stored) (n n' : ℕ) (is : List Item) (r : Reading) → n ≤ n' → Says final n is r → Says final n' is r
+says_later final n n' is Refused le h = h
+says_later final n n' is (Open w) le h = (h.0, h.1, found_later le h.2)
+says_later final n n' is (Ended w) le h = (h.0, h.1, found_later le h.2)
+
+-- of items that say the same of a walk
+found_same : {final : Stored} {n : ℕ} {k k' : PathKind} {is js : List Item} {w w' : PathWalk} → Found final n k is w
+    → w'.kind ≡ k' → w'.names ≡ w.names → w'.args ≡ w.args → w'.type_anchor ≡ w.type_anchor → w'.found_args ≡ w.found_args
+    → rule.names js ≡ rule.names is → anchor_of js ≡ anchor_of is → found js ≡ found is → Found final n k' js w'
+found_same {final = final} h k ns as' t f nj aj fj = record {
+  kind = k;
+  names = ns ∙ (h.names ∙ ap (λ xs. map name_at (reverse xs)) (sym nj));
+  args = λ d m. ap (lists final d) as' ∙ (h.args d m ∙ ap (λ xs. map args_at (reverse xs)) (sym nj));
+  anchor = λ d m. ap (anchor_read final d) t ∙ (h.anchor d m ∙ sym aj);
+  found = f ∙ (h.found ∙ sym fj);
+  bare = λ b. as' ∙ (h.bare (sym f ∙ b) ∙ ap none_beside (sym ns));
+}
 
 -- ---- one segment more
 
-abbrev item : Bool → What → Item
+abbrev pub item : Bool → What → Item
 item leading x = record { leading = leading; what = x }
 
 abbrev kind_at : Bool → List Item → PathKind
 kind_at leading is = if leading then kind.Abs else open_kind is
 
-at_first_reads : (l : Bool) (is : List Item) (w : PathWalk)
-    → Reads (open_kind is) is w → Reads (kind_at l is) is (at_first l w)
-at_first_reads false is w h = h
-at_first_reads true is w h = record { kind = refl; names = h.names }
+module _ (final : Stored) (n : ℕ) where
+  at_first_found : (l : Bool) (is : List Item) (w : PathWalk) → Found final n (open_kind is) is w
+      → Found final n (kind_at l is) is (at_first l w)
+  at_first_found false is w h = h
+  at_first_found true is w h = found_same h refl refl refl refl refl refl refl refl
 
-names_more : (is : List Item) (n : Name) (xs : List Name) → xs ≡ reverse (rule.names is) → xs ++ n ∷ [] ≡ reverse (n ∷ rule.names is)
-names_more is n xs e = ap (λ l. l ++ n ∷ []) e ∙ sym (reverse-append (n ∷ []) (rule.names is))
+  map_more : {A : Type 0} (f : Named → A) (ns xs : List Named) → map f (reverse (ns ++ xs)) ≡ map f (reverse xs) ++ map f (reverse ns)
+  map_more f ns xs = ap (map f) (reverse-append ns xs) ∙ map-append f (reverse xs) (reverse ns)
 
-says_named : (l : Bool) (is : List Item) (n : Name) (w : PathWalk) → Says is (Open w)
-    → Says (item l (named n) ∷ is) (Open (add_name n (at_first l w)))
-says_named false is n w h = (h.0, h.1, record { kind = h.2.kind; names = names_more is n w.names h.2.names })
-says_named true is n w h = (h.0, h.1, record { kind = refl; names = names_more is n w.names h.2.names })
+  -- names
+  some_listed : (g : Option GenericArgs) → is_some g ≡ is_list (a_list final (within final n) g)
+  some_listed None = refl
+  some_listed (Some g) = refl
 
-says_refused : (i : Item) (is : List Item) (w : PathWalk) → refuses i.what ≡ true → Says is (Open w) → Says (i ∷ is) Refused
-says_refused i is w r h = rw (h.0, r) refl
+  none_more : (xs : List Name) (as' : List (Option GenericArgs)) (x : Name) → as' ≡ none_beside xs
+      → as' ++ None ∷ [] ≡ none_beside (xs ++ x ∷ [])
+  none_more xs as' x e = ap (λ l. l ++ None ∷ []) e ∙ sym (map-append (λ y. None) xs (x ∷ []))
 
--- `crate` and `$crate`
-says_root : (l : Bool) (is : List Item) (k : PathKind) (w : PathWalk) → Says is (Open w)
-    → Says (item l (root k) ∷ is) (Ended (record (at_first l w) { kind = k }))
-says_root l is k w h = (refl, rw h.0 h.1, rw h.0 (by l))
-  where
-    by : (l : Bool) → Reads k (item l (root k) ∷ is) (record (at_first l w) { kind = k })
-    by false = record { kind = refl; names = h.2.names }
-    by true = record { kind = refl; names = h.2.names }
+  bare_named : (w : PathWalk) (x : Name) (g : Option GenericArgs) → (w.found_args ≡ false → w.args ≡ none_beside w.names)
+      → (w.found_args || is_some g) ≡ false → w.args ++ g ∷ [] ≡ none_beside (w.names ++ x ∷ [])
+  bare_named w x None h f = none_more w.names w.args x (h (first w.found_args f))
+    where
+      first : (b : Bool) → (b || false) ≡ false → b ≡ false
+      first false f = refl
+      first true f = f
+  bare_named w x (Some g) h f = by w.found_args f
+    where
+      by : (b : Bool) → (b || true) ≡ false → w.args ++ Some g ∷ [] ≡ none_beside (w.names ++ x ∷ [])
+      by false f = absurd (clash f)
+      by true f = absurd (clash f)
 
-walk_empty : (k : PathKind) (is : List Item) (w : PathWalk) → Reads k is w → walks.no_names w.names ≡ empty_list (rule.names is)
-walk_empty k is w h = ap walks.no_names h.names ∙ empty_reversed (rule.names is)
+  -- these arguments read so
+  abbrev Lists : Option GenericArgs → OptionArgsData → Type 0
+  Lists g x = (d : ℕ) → n ≤ d → a_list final (within final d) g ≡ x
 
--- `self`
-kind_self : (l : Bool) (is : List Item) → open_kind (item l self_ ∷ is) ≡ kind_at l is
-kind_self false is = refl
-kind_self true is = refl
+  found_named : (k : PathKind) (l : Bool) (is : List Item) (x : Named) (g : Option GenericArgs) (w : PathWalk) → Lists g x.args
+      → Found final n k is w → Found final n k (item l (named x) ∷ is) (add_name x.name g w)
+  found_named k l is x g w e h = record {
+    kind = h.kind;
+    names = ap (λ xs. xs ++ x.name ∷ []) h.names ∙ sym (map_more name_at (x ∷ []) (rule.names is));
+    args = λ d le. map-append (a_list final (within final d)) w.args (g ∷ [])
+        ∙ ((λ j. h.args d le j ++ e d le j ∷ []) ∙ sym (map_more args_at (x ∷ []) (rule.names is)));
+    anchor = h.anchor;
+    found = or_swap w.found_args (is_some g) (found is) (is_list x.args) h.found (some_listed g ∙ ap is_list (e n (omega arith)));
+    bare = bare_named w x.name g h.bare;
+  }
 
-self_says : (l : Bool) (is : List Item) (w : PathWalk) → ended is ≡ false → refused is ≡ false → Reads (kind_at l is) is w
-    → Says (item l self_ ∷ is) (self_read w)
-self_says l is w e r h = by (walks.no_names w.names) (walk_empty (kind_at l is) is w h)
-  where
-    by : (b : Bool) → b ≡ empty_list (rule.names is)
-        → Says (item l self_ ∷ is) (if b then Open w else Ended (record w { kind = walks.self_kind w.kind }))
-    by true m = (rw (← m) e, r, record { kind = h.kind ∙ sym (kind_self l is); names = h.names })
-    by false m = (
-      rw (← m) refl,
-      rw e r,
-      rw e (rw (← m) (rw (kind_self l is) (record {
-        kind = ap kind.Super (same_supers w.kind ∙ ap supers h.kind);
-        names = h.names;
-      }))),
-    )
+  pub says_named : (l : Bool) (is : List Item) (x : Named) (g : Option GenericArgs) (w : PathWalk) → Lists g x.args
+      → Says final n is (Open w) → Says final n (item l (named x) ∷ is) (Open (add_name x.name g (at_first l w)))
+  says_named false is x g w e h = (h.0, h.1, found_named (open_kind is) false is x g w e h.2)
+  says_named true is x g w e h = (h.0, h.1, found_named kind.Abs true is x g (at_first true w) e (at_first_found true is w h.2))
 
-says_self : (l : Bool) (is : List Item) (w : PathWalk) → Says is (Open w) → Says (item l self_ ∷ is) (self_read (at_first l w))
-says_self l is w h = self_says l is (at_first l w) h.0 h.1 (at_first_reads l is w h.2)
+  pub says_refused : (i : Item) (is : List Item) (w : PathWalk) → refuses i.what ≡ true → Says final n is (Open w)
+      → Says final n (i ∷ is) Refused
+  says_refused i is w r h = rw (h.0, r) refl
 
--- `super`
-super_counted : (k : PathKind) (n : ℕ) → kind.Super (supers (counted k n) + 1) ≡ kind.Super (supers k + suc n)
-super_counted k zero = refl
-super_counted k (suc n) = ap kind.Super (omega arith)
+  -- `crate` and `$crate`
+  pub says_root : (l : Bool) (is : List Item) (k : PathKind) (w : PathWalk) → Says final n is (Open w)
+      → Says final n (item l (root k) ∷ is) (Ended (record (at_first l w) { kind = k }))
+  says_root l is k w h = (refl, rw h.0 h.1, rw h.0 (by l))
+    where
+      by : (l : Bool) → Found final n k (item l (root k) ∷ is) (record (at_first l w) { kind = k })
+      by false = found_same h.2 refl refl refl refl refl refl refl refl
+      by true = found_same h.2 refl refl refl refl refl refl refl refl
 
-kind_super : (l : Bool) (is : List Item) → kind.Super (supers (kind_at l is) + 1) ≡ open_kind (item l super_ ∷ is)
-kind_super false is = super_counted (set_kind is) (supers_left is)
-kind_super true is = refl
+  pub says_dollar : (l : Bool) (is : List Item) (c : Option CrateId) (w : PathWalk) → Says final n is (Open w)
+      → Says final n (item l (root (written.crate_kind c)) ∷ is) (Ended (record (at_first l w) { kind = walks.crate_kind c }))
+  says_dollar l is c w h =
+      subst (λ k. Says final n (item l (root k) ∷ is) (Ended (record (at_first l w) { kind = walks.crate_kind c }))) (same_crate c)
+      (says_root l is (walks.crate_kind c) w h)
 
-super_says : (l : Bool) (is : List Item) (w : PathWalk) → ended is ≡ false → refused is ≡ false → Reads (kind_at l is) is w
-    → Says (item l super_ ∷ is) (Open (record w { kind = kind.Super (walks.supers w.kind + 1) }))
-super_says l is w e r h = (
-  e,
-  r,
-  record {
-    kind = ap (λ n. kind.Super (n + 1)) (same_supers w.kind ∙ ap supers h.kind) ∙ kind_super l is;
+  walk_empty : (k : PathKind) (is : List Item) (w : PathWalk) → Found final n k is w → walks.no_names w.names ≡ empty_list (rule.names is)
+  walk_empty k is w h = ap walks.no_names h.names ∙ empty_names (rule.names is)
+
+  -- `self`
+  kind_self : (l : Bool) (is : List Item) → open_kind (item l self_ ∷ is) ≡ kind_at l is
+  kind_self false is = refl
+  kind_self true is = refl
+
+  self_says : (l : Bool) (is : List Item) (w : PathWalk) → ended is ≡ false → refused is ≡ false → Found final n (kind_at l is) is w
+      → Says final n (item l self_ ∷ is) (self_read w)
+  self_says l is w e r h = by (walks.no_names w.names) (walk_empty (kind_at l is) is w h)
+    where
+      by : (b : Bool) → b ≡ empty_list (rule.names is)
+          → Says final n (item l self_ ∷ is) (if b then Open w else Ended (record w { kind = walks.self_kind w.kind }))
+      by true m = (rw (← m) e, r, found_same h (h.kind ∙ sym (kind_self l is)) refl refl refl refl refl refl refl)
+      by false m = (
+        rw (← m) refl,
+        rw e r,
+        rw e (rw (← m) (rw (kind_self l is)
+            (found_same h (ap kind.Super (same_supers w.kind ∙ ap supers h.kind)) refl refl refl refl refl refl refl))),
+      )
+
+  pub says_self : (l : Bool) (is : List Item) (w : PathWalk) → Says final n is (Open w)
+      → Says final n (item l self_ ∷ is) (self_read (at_first l w))
+  says_self l is w h = self_says l is (at_first l w) h.0 h.1 (at_first_found l is w h.2)
+
+  -- `super`
+  super_counted : (k : PathKind) (m : ℕ) → kind.Super (supers (counted k m) + 1) ≡ kind.Super (supers k + suc m)
+  super_counted k zero = refl
+  super_counted k (suc m) = ap kind.Super (omega arith)
+
+  kind_super : (l : Bool) (is : List Item) → kind.Super (supers (kind_at l is) + 1) ≡ open_kind (item l super_ ∷ is)
+  kind_super false is = super_counted (set_kind is) (supers_left is)
+  kind_super true is = refl
+
+  super_says : (l : Bool) (is : List Item) (w : PathWalk) → ended is ≡ false → refused is ≡ false → Found final n (kind_at l is) is w
+      → Says final n (item l super_ ∷ is) (Open (record w { kind = kind.Super (walks.supers w.kind + 1) }))
+  super_says l is w e r h = (
+    e,
+    r,
+    found_same h (ap (λ m. kind.Super (m + 1)) (same_supers w.kind ∙ ap supers h.kind) ∙ kind_super l is)
+        refl refl refl refl refl refl refl,
+  )
+
+  pub says_super : (l : Bool) (is : List Item) (w : PathWalk) → Says final n is (Open w)
+      → Says final n (item l super_ ∷ is) (Open (record (at_first l w) { kind = kind.Super (walks.supers (at_first l w).kind + 1) }))
+  says_super l is w h = super_says l is (at_first l w) h.0 h.1 (at_first_found l is w h.2)
+
+  -- `<T>`
+  abbrev Types : TypeRefId → TypeData → Type 0
+  Types id t = (d : ℕ) → n ≤ d → (within final d).type id ≡ t
+
+  found_anchor : (k : PathKind) (l : Bool) (is : List Item) (t : TypeData) (id : TypeRefId) (w : PathWalk) → Types id t
+      → Found final n k is w
+      → Found final n kind.Plain (item l (anchor t) ∷ is) (record w { kind = kind.Plain; type_anchor = Some id })
+  found_anchor k l is t id w e h = record {
+    kind = refl;
     names = h.names;
-  },
-)
+    args = h.args;
+    anchor = λ d le. ap Some (e d le);
+    found = h.found;
+    bare = h.bare;
+  }
 
--- no more are counted than are read
+  pub says_anchor : (l : Bool) (is : List Item) (t : TypeData) (id : TypeRefId) (w : PathWalk) → Types id t → Says final n is (Open w)
+      → Says final n (item l (anchor t) ∷ is) (anchored id (at_first l w))
+  says_anchor l is t id w e h = (h.0, h.1, found_anchor (kind_at l is) l is t id (at_first l w) e (at_first_found l is w h.2))
 
-second_false : (a b : Bool) → (a || b) ≡ false → b ≡ false
-second_false false b h = h
-second_false true b h = absurd (clash h)
+  -- ---- a whole path
 
-nothing_set : (is : List Item) → ended is ≡ false → supers (set_kind is) ≡ 0
-nothing_set [] h = refl
-nothing_set (i ∷ is) h = by (λ e. nothing_set is e) i.leading i.what h
-  where
-    last : (ended is ≡ false → supers (set_kind is) ≡ 0) → (l : Bool) → ended is ≡ false
-        → supers (rule.kind_or (if l then Some kind.Abs else None) (set_kind is)) ≡ 0
-    last k false h = k h
-    last k true h = refl
+  -- without names the kind and the rest stand alone
+  abbrev is_bare : HirPath → Bool
+  is_bare (BarePath p) = true
+  is_bare (Normal p) = false
 
-    by : (ended is ≡ false → supers (set_kind is) ≡ 0) → (l : Bool) (x : What) → (ends x (rule.names is) || ended is) ≡ false
-        → supers (rule.kind_or (rule.sets l x) (set_kind is)) ≡ 0
-    by k l broken h = last k l h
-    by k l (named n) h = last k l h
-    by k l (root r) h = absurd (clash h)
-    by k l self_ h = last k l (second_false (not (empty_list (rule.names is))) (ended is) h)
-    by k l super_ h = last k l h
+  abbrev anchor_in : HirPath → Option TypeRefId
+  anchor_in (BarePath p) = None
+  anchor_in (Normal p) = p.type_anchor
 
-more_left : (x : What) (m n : ℕ) → m ≤ n → one_more x m ≤ one_more x n
-more_left broken m n h = h
-more_left (named y) m n h = h
-more_left (root k) m n h = h
-more_left self_ m n h = h
-more_left super_ m n h = omega arith
+  pub record Matches (x : PathRead) (p : HirPath) : Type 0 where
+    pub kind : (mod_path p).kind ≡ x.kind
+    pub names : (mod_path p).segments ≡ map name_at x.names
+    pub args : (d : ℕ) → n ≤ d → lists final d (args_of p) ≡ map args_at x.names
+    pub anchor : (d : ℕ) → n ≤ d → anchor_read final d (anchor_in p) ≡ x.anchor
+    pub bare : is_bare p ≡ x.bare
 
-left_read : (is : List Item) → supers_left is ≤ supers_in is
-left_read [] = omega arith
-left_read (i ∷ is) =
-    let sets = is_some (rule.sets i.leading i.what) in
-    more_left i.what (if sets then 0 else supers_left is) (supers_in is) (by sets (left_read is))
-  where
-    by : (b : Bool) → supers_left is ≤ supers_in is → (if b then 0 else supers_left is) ≤ supers_in is
-    by true h = omega arith
-    by false h = h
+  -- ---- `<T as Trait>`
 
-supers_open : (k : PathKind) (n : ℕ) → supers k ≡ 0 → supers (counted k n) ≤ n
-supers_open k zero h = rw h (omega arith)
-supers_open k (suc n) h = rw h (omega arith)
+  names_last : (t : TypeData) (ns : List Named) → map name_at (first_behind_self t ns) ≡ map name_at ns
+  names_last t [] = refl
+  names_last t (x ∷ ns) = refl
 
-supers_at : (l : Bool) (is : List Item) → ended is ≡ false → supers (kind_at l is) ≤ supers_in is
-supers_at true is h = omega arith
-supers_at false is h =
-    let a : supers (open_kind is) ≤ supers_left is = supers_open (set_kind is) (supers_left is) (nothing_set is h) in
-    let b : supers_left is ≤ supers_in is = left_read is in
-    omega (a, b, arith)
+  abbrev first_put : TypeData → List OptionArgsData → List OptionArgsData
+  first_put t [] = []
+  first_put t (x ∷ xs) = rule.self_first t x ∷ xs
 
-one_over : (i : Item) (is : List Item) → Over is → Over (i ∷ is)
-one_over i is h = by (ended is) refl
-  where
-    up : (x : What) (n : ℕ) → n ≤ one_more x n
-    up broken n = omega arith
-    up (named y) n = omega arith
-    up (root k) n = omega arith
-    up self_ n = omega arith
-    up super_ n = omega arith
+  args_put : (t : TypeData) (ns : List Named) → map args_at (first_behind_self t ns) ≡ first_put t (map args_at ns)
+  args_put t [] = refl
+  args_put t (x ∷ ns) = refl
 
-    by : (b : Bool) → ended is ≡ b → 2 ^ 32 ≤ supers_in (if b then read is else i ∷ is)
-    by true e = h
-    by false e =
-        let a : 2 ^ 32 ≤ supers_in is = rw (read_whole is e) at h in
-        let b : supers_in is ≤ one_more i.what (supers_in is) = up i.what (supers_in is) in
-        omega (a, b, arith)
+  args_last : (t : TypeData) (id : TypeRefId) (ns : List Named) (as' : List (Option GenericArgs)) (d : ℕ) → n ≤ d → Types id t
+      → empty_list ns ≡ false → lists final d as' ≡ map args_at ns
+      → lists final d (with_self id as') ≡ map args_at (first_behind_self t ns)
+  args_last t id [] as' d le g e h = absurd (clash e)
+  args_last t id (x ∷ ns) [] d le g e h = absurd (clash (ap empty_list h))
+  args_last t id (x ∷ ns) (a ∷ as') d le g e h =
+      ap (λ b. b ∷ lists final d as') (self_first_read (store_of final) (map_of final) (within final d) id a
+      ∙ ap (λ u. rule.self_first u (a_list final (within final d) a)) (g d le))
+      ∙ (ap (first_put t) h ∙ sym (args_put t (x ∷ ns)))
 
-over_by_one : (l : Bool) (is : List Item) (w : PathWalk) → ended is ≡ false → Reads (kind_at l is) is w
-    → 2 ^ 32 ≤ walks.supers w.kind + 1 → Over (item l super_ ∷ is)
-over_by_one l is w e h n =
-    let a : walks.supers w.kind ≡ supers (kind_at l is) = same_supers w.kind ∙ ap supers h.kind in
-    let b : supers (kind_at l is) ≤ supers_in is = supers_at l is e in
-    let c : 2 ^ 32 ≤ suc (supers_in is) = omega (a, b, n, arith) in
-    rw e c
+  empty_reversed : (ns : List Named) → empty_list (reverse ns) ≡ empty_list ns
+  empty_reversed [] = refl
+  empty_reversed (x ∷ ns) = ap empty_list (reverse-append (x ∷ []) ns) ∙ snoc (reverse ns) x
+    where
+      snoc : (xs : List Named) (y : Named) → empty_list (xs ++ y ∷ []) ≡ false
+      snoc [] y = refl
+      snoc (z ∷ xs) y = refl
 
-abbrev counts : PathWalk → Bool → Option PathKind
-counts w c = if c then Some (kind.Super (walks.supers w.kind + 1)) else None
+  found_trait : (k : PathKind) (l : Bool) (is : List Item) (t : TypeData) (id : TypeRefId) (x : PathRead) (p : HirPath) (w : PathWalk)
+      → Types id t → Matches x p → empty_list x.names ≡ false → Found final n k is w
+      → Found final n x.kind (item l (projection t (Some x)) ∷ is) (add_trait id p w)
+  found_trait k l is t id x p w g m e h =
+      let ns = last_behind_self t x.names in
+      let back : reverse ns ≡ first_behind_self t (reverse x.names) = reverse-reverse (first_behind_self t (reverse x.names)) in
+      record {
+        kind = m.kind;
+        names = (λ j. h.names j ++ (ap reverse m.names ∙ (sym (map_reverse name_at x.names)
+            ∙ (sym (names_last t (reverse x.names)) ∙ ap (map name_at) (sym back)))) j)
+            ∙ sym (map_more name_at ns (rule.names is));
+        args = λ d le. map-append (a_list final (within final d)) w.args (with_self id (reverse (args_of p)))
+            ∙ ((λ j. h.args d le j ++ (args_last t id (reverse x.names) (reverse (args_of p)) d le g (empty_reversed x.names ∙ e)
+            (map_reverse (a_list final (within final d)) (args_of p) ∙ (ap reverse (m.args d le) ∙ sym (map_reverse args_at x.names)))
+            ∙ ap (map args_at) (sym back)) j)
+            ∙ sym (map_more args_at ns (rule.names is)));
+        anchor = h.anchor;
+        found = refl;
+        bare = λ f. absurd (clash f);
+      }
 
-abbrev super_step : PathWalk → Bool → Lowering Reading
-super_step w c = steps.counted (option_map (λ k. Open (record w { kind = k })) (counts w c))
+  pub says_trait : (l : Bool) (is : List Item) (t : TypeData) (id : TypeRefId) (x : PathRead) (p : HirPath) (w : PathWalk) → Types id t
+      → Matches x p → Says final n is (Open w) → Says final n (item l (projection t (Some x)) ∷ is) (projected id p (at_first l w))
+  says_trait l is t id x p w g m h = by (walks.no_names (mod_path p).segments) (ap walks.no_names m.names ∙ empty_mapped x.names)
+    where
+      by : (c : Bool) → c ≡ empty_list x.names
+          → Says final n (item l (projection t (Some x)) ∷ is) (if c then Refused else Open (add_trait id p (at_first l w)))
+      by true e = says_refused (item l (projection t (Some x))) is w (sym e) h
+      by false e = (
+        h.0,
+        rw (← e) h.1,
+        found_trait (kind_at l is) l is t id x p (at_first l w) g m (sym e) (at_first_found l is w h.2),
+      )
 
-after_super : (l : Bool) (is : List Item) (w : PathWalk) (b : Builder) → ended is ≡ false → refused is ≡ false
-    → Reads (kind_at l is) is w
-    → After (item l super_ ∷ is) b (steps.counted (super_read w) b).0 (steps.counted (super_read w) b).1
-unfolding count_out
-after_super l is w b e r h = by (nat_lt (walks.supers w.kind + 1) (2 ^ 32)) refl
-  where
-    by : (c : Bool) → nat_lt (walks.supers w.kind + 1) (2 ^ 32) ≡ c
-        → After (item l super_ ∷ is) b (super_step w c b).0 (super_step w c b).1
-    by true n = (super_says l is w e r h, refl)
-    by false n = (over_by_one l is w e h (ltb-false (walks.supers w.kind + 1) (2 ^ 32) n), refl)
+  -- ---- the end of a walk
 
--- ---- segments before those that are read
+  not_ending : (x : What) (ns : List Named) (b : Bool) → (ends x ns || b) ≡ false → ending_self x ns ≡ false
+  not_ending self_ ns b h = by (not (empty_list ns)) h
+    where
+      by : (c : Bool) → (c || b) ≡ false → c ≡ false
+      by false h = refl
+      by true h = h
+  not_ending broken ns b h = refl
+  not_ending (named x) ns b h = refl
+  not_ending (root k) ns b h = refl
+  not_ending super_ ns b h = refl
+  not_ending (anchor t) ns b h = refl
+  not_ending (projection t x) ns b h = refl
 
--- it doesn't go on
-abbrev Settled : Checked Reading → Type 0
-Settled (Ok (Open w)) = ⊥
-Settled _ = Unit {0}
+  open_is_read : (is : List Item) → ended is ≡ false → open_kind is ≡ read_kind is
+  open_is_read [] h = refl
+  open_is_read (i ∷ is) h = rw (not_ending i.what (rule.names is) (ended is) h) refl
 
-refused_still : (i : Item) (is : List Item) → refused (read is) ≡ true → refused (read (i ∷ is)) ≡ true
-refused_still i is h = by (ended is) refl
-  where
-    by : (b : Bool) → ended is ≡ b → refused (if b then read is else i ∷ is) ≡ true
-    by true e = h
-    by false e = or_true (refuses i.what) (refused is) (rw (read_whole is e) at h)
+  none_read : (d : ℕ) (t : Option TypeRefId) → is_none (anchor_read final d t) ≡ is_none t
+  none_read d None = refl
+  none_read d (Some t) = refl
 
-one_settled : (b : Builder) (r : Checked Reading) (b' : Builder) → Settled r → (i : Item) (is : List Item)
-    → After is b r b' → After (i ∷ is) b r b'
-one_settled b (Err e) b' s i is h = (one_over i is h.0, h.1)
-one_settled b (Ok Refused) b' s i is h = (refused_still i is h.0, h.1)
-one_settled b (Ok (Ended w)) b' s i is h =
-    ((or_true (ends i.what (rule.names is)) (ended is) h.0.0, rw h.0.0 h.0.1, rw h.0.0 h.0.2), h.1)
-one_settled b (Ok (Open w)) b' s i is h = absurd s
+  anchored_same : (is : List Item) (k : PathKind) (w : PathWalk) → Found final n k is w → is_none w.type_anchor ≡ is_none (anchor_of is)
+  anchored_same is k w h = sym (none_read n w.type_anchor) ∙ ap is_none (h.anchor n (omega arith))
+
+  own_kind_same : (is : List Item) (w : PathWalk) → Found final n (read_kind is) is w
+      → walks.own_kind w ≡ own_kind (read_kind is) (rule.names is) (anchor_of is)
+  own_kind_same is w h = λ j. if walk_empty (read_kind is) is w h j && (same_plain w.kind ∙ ap plain_kind h.kind) j
+      && anchored_same is (read_kind is) w h j then kind.Super 0 else h.kind j
+
+  names_without : (ns : List Named) → map name_at (first_without_self ns) ≡ map name_at ns
+  names_without [] = refl
+  names_without (x ∷ ns) = refl
+
+  final_names : (is : List Item) (w : PathWalk) → Found final n (read_kind is) is w
+      → reverse w.names ≡ map name_at (last_without_self (rule.names is))
+  final_names is w h =
+      ap reverse (h.names ∙ sym (names_without (reverse (rule.names is))))
+      ∙ sym (map_reverse name_at (first_without_self (reverse (rule.names is))))
+
+  abbrev first_cut : List OptionArgsData → List OptionArgsData
+  first_cut [] = []
+  first_cut (x ∷ xs) = rule.without_self x ∷ xs
+
+  args_cut : (ns : List Named) → map args_at (first_without_self ns) ≡ first_cut (map args_at ns)
+  args_cut [] = refl
+  args_cut (x ∷ ns) = refl
+
+  cut_read : (d : ℕ) (as' : List (Option GenericArgs)) → lists final d (without_last_self as') ≡ first_cut (lists final d as')
+  cut_read d [] = refl
+  cut_read d (None ∷ as') = refl
+  cut_read d (Some a ∷ as') = ap (λ x. x ∷ lists final d as') (by (walks.has_self a)
+      ∙ ap (λ b. if b then no_args else a_list final (within final d) (Some a))
+      (sym (self_flag (store_of final) (map_of final) (within final d) a)))
+    where
+      by : (b : Bool) → a_list final (within final d) (if b then None else Some a)
+          ≡ (if b then no_args else a_list final (within final d) (Some a))
+      by true = refl
+      by false = refl
+
+  final_args : (is : List Item) (w : PathWalk) → Found final n (read_kind is) is w → (d : ℕ) → n ≤ d
+      → lists final d (reverse (without_last_self w.args)) ≡ map args_at (last_without_self (rule.names is))
+  final_args is w h d le =
+      map_reverse (a_list final (within final d)) (without_last_self w.args)
+      ∙ (ap reverse (cut_read d w.args ∙ (ap first_cut (h.args d le) ∙ sym (args_cut (reverse (rule.names is)))))
+      ∙ sym (map_reverse args_at (first_without_self (reverse (rule.names is)))))
+
+  none_without : (xs : List Name) → without_last_self (none_beside xs) ≡ none_beside xs
+  none_without [] = refl
+  none_without (x ∷ xs) = refl
+
+  both : (a b : Bool) → (a && not b) ≡ true → (a ≡ true) × (b ≡ false)
+  both false b h = absurd (clash (sym h))
+  both true false h = (refl, refl)
+  both true true h = absurd (clash (sym h))
+
+  none_is : (t : Option TypeRefId) → is_none t ≡ true → t ≡ None
+  none_is None h = refl
+  none_is (Some t) h = absurd (clash (sym h))
+
+  abbrev made : PathWalk → Bool → HirPath
+  made w b = if b then BarePath (own_path w) else Normal (walks.normal_path w)
+
+  finished_matches : (is : List Item) (w : PathWalk) → Found final n (read_kind is) is w → Matches (read_of is) (finished w)
+  finished_matches is w h =
+      by (is_none w.type_anchor && not w.found_args) refl (λ j. anchored_same is (read_kind is) w h j && not (h.found j))
+    where
+      by : (b : Bool) → (is_none w.type_anchor && not w.found_args) ≡ b
+          → (is_none w.type_anchor && not w.found_args) ≡ (is_none (anchor_of is) && not (found is)) → Matches (read_of is) (made w b)
+      by true e f =
+          let bare = both (is_none w.type_anchor) w.found_args e in
+          record {
+            kind = own_kind_same is w h;
+            names = final_names is w h;
+            args = λ d le. ap (lists final d) (sym (ap (λ as'. reverse (without_last_self as')) (h.bare bare.1)
+                ∙ (ap reverse (none_without w.names) ∙ sym (map_reverse (λ y. None) w.names)))) ∙ final_args is w h d le;
+            anchor = λ d le. ap (anchor_read final d) (sym (none_is w.type_anchor bare.0)) ∙ h.anchor d le;
+            bare = sym e ∙ f;
+          }
+      by false e f = record {
+        kind = own_kind_same is w h;
+        names = final_names is w h;
+        args = final_args is w h;
+        anchor = h.anchor;
+        bare = sym e ∙ f;
+      }
+
+  abbrev pub Answers : Option PathRead → Option HirPath → Type 0
+  Answers None None = Unit {0}
+  Answers None (Some p) = ⊥
+  Answers (Some x) None = ⊥
+  Answers (Some x) (Some p) = Matches x p
+
+  pub says_answers : (is : List Item) (r : Reading) → Says final n is r → Answers (path_read (read is)) (walks.path_read r)
+  says_answers is Refused h = rw h tt
+  says_answers is (Ended w) h = rw h.1 (finished_matches (read is) w h.2)
+  says_answers is (Open w) h =
+      rw (read_whole is h.0) (rw h.1 (finished_matches is w (subst (λ k. Found final n k is w) (open_is_read is h.0) h.2)))
+
+  -- ---- as data
+
+  beside_none : (d : ℕ) (xs : List Name) → names_alone xs ≡ names_beside xs (lists final d (none_beside xs))
+  beside_none d [] = refl
+  beside_none d (x ∷ xs) = ap (datum.more_names x no_args) (beside_none d xs)
+
+  beside_data : (ns : List Named) → names_beside (map name_at ns) (map args_at ns) ≡ names_data ns
+  beside_data [] = refl
+  beside_data (x ∷ ns) = ap (datum.more_names x.name x.args) (beside_data ns)
+
+  present_data : (d : ℕ) (t : Option TypeRefId)
+      → present_layer (store_of final) (map_of final) (within final d) t ≡ anchor_data (anchor_read final d t)
+  present_data d None = refl
+  present_data d (Some t) = refl
+
+  pub matches_read : (x : PathRead) (p : HirPath) → Matches x p → (d : ℕ) → n ≤ d → a_path final (within final d) p ≡ data_of x
+  matches_read x (BarePath p) m d le = λ j. datum.path_data (m.kind j) (anchor_data (m.anchor d le j))
+      ((beside_none d p.segments ∙ ((λ i. names_beside (m.names i) (m.args d le i)) ∙ beside_data x.names)) j) (m.bare j)
+  matches_read x (Normal p) m d le = λ j. datum.path_data (m.kind j)
+      ((present_data d p.type_anchor ∙ ap anchor_data (m.anchor d le)) j)
+      (((λ i. names_beside (m.names i) (m.args d le i)) ∙ beside_data x.names) j) (m.bare j)
+
+  -- ---- segments before those that are read
+
+  abbrev pub Closed : Reading → Type 0
+  Closed (Open w) = ⊥
+  Closed r = Unit {0}
+
+  refused_still : (i : Item) (is : List Item) → refused (read is) ≡ true → refused (read (i ∷ is)) ≡ true
+  refused_still i is h = by (ended is) refl
+    where
+      by : (b : Bool) → ended is ≡ b → refused (if b then read is else i ∷ is) ≡ true
+      by true e = h
+      by false e = or_true (refuses i.what) (refused is) (rw (read_whole is e) at h)
+
+  pub one_closed : (r : Reading) → Closed r → (i : Item) (is : List Item) → Says final n is r → Says final n (i ∷ is) r
+  one_closed Refused c i is h = refused_still i is h
+  one_closed (Ended w) c i is h = (or_true (ends i.what (rule.names is)) (ended is) h.0, rw h.0 h.1, rw h.0 h.2)
+  one_closed (Open w) c i is h = absurd c
 
 -- what stays behind one more stays behind all
 module _ (Holds : List Item → Type 0) (one : (i : Item) (is : List Item) → Holds is → Holds (i ∷ is)) where
@@ -307,147 +569,24 @@ module _ (Holds : List Item → Type 0) (one : (i : Item) (is : List Item) → H
         outer_still use_ (item leading (written.what true first) ∷ written.items rest is)
         (one (item leading (written.what true first)) (written.items rest is) (items_still rest is h))
 
-    outer_still : (p : OptionPath) (is : List Item) → Holds is → Holds (written.outer p is)
+    pub outer_still : (p : OptionPath) (is : List Item) → Holds is → Holds (written.outer p is)
     outer_still tree.no_path is h = h
     outer_still (tree.some_path p) is h = path_still p is h
 
-outer_settled : (b : Builder) (p : OptionPath) (is : List Item) (r : Checked Reading) (b' : Builder) → Settled r
-    → After is b r b' → After (written.outer p is) b r b'
-outer_settled b p is r b' s h = outer_still (λ js. After js b r b') (one_settled b r b' s) p is h
+pub outer_closed : (final : Stored) (n : ℕ) (p : OptionPath) (r : Reading) → Closed final n r → (is : List Item) → Says final n is r
+    → Says final n (written.outer p is) r
+outer_closed final n p r c is h = outer_still (λ js. Says final n js r) (one_closed final n r c) p is h
 
--- goes on, if it does
-then_after : (is js : List Item) (f : PathWalk → Lowering Reading) (b : Builder) (r : Checked Reading) (b' : Builder)
-    → ((x : Checked Reading) (c : Builder) → Settled x → After is b x c → After js b x c) → After is b r b'
-    → ((w : PathWalk) → Says is (Open w) → After js b (f w b).0 (f w b).1)
-    → After js b (go_on r b' (λ x. proceed x f)).0 (go_on r b' (λ x. proceed x f)).1
-then_after is js f b (Err e) b' settled h k = settled (Err e) b' tt h
-then_after is js f b (Ok Refused) b' settled h k = settled (Ok Refused) b' tt h
-then_after is js f b (Ok (Ended w)) b' settled h k = settled (Ok (Ended w)) b' tt h
-then_after is js f b (Ok (Open w)) b' settled h k = subst (λ c. After js b (f w c).0 (f w c).1) (sym h.1) (k w h.0)
-
-then_item : (i : Item) (is : List Item) (f : PathWalk → Lowering Reading) (b : Builder) (r : Checked Reading) (b' : Builder)
-    → After is b r b'
-    → ((w : PathWalk) → Says is (Open w) → After (i ∷ is) b (f w b).0 (f w b).1)
-    → After (i ∷ is) b (go_on r b' (λ x. proceed x f)).0 (go_on r b' (λ x. proceed x f)).1
-then_item i is f b r b' = then_after is (i ∷ is) f b r b' (λ x c s. one_settled b x c s i is)
-
--- ---- the walk
-
-says_dollar : (l : Bool) (is : List Item) (c : Option CrateId) (w : PathWalk) → Says is (Open w)
-    → Says (item l (root (written.crate_kind c)) ∷ is) (Ended (record (at_first l w) { kind = walks.crate_kind c }))
-says_dollar l is c w h =
-    subst (λ k. Says (item l (root k) ∷ is) (Ended (record (at_first l w) { kind = walks.crate_kind c }))) (same_crate c)
-    (says_root l is (walks.crate_kind c) w h)
-
-first_says : (l : Bool) (s : Segment) (is : List Item) (w : PathWalk) (b : Builder) → Says is (Open w)
-    → let o = steps.read_segment true s (at_first l w) b in After (item l (written.what true s) ∷ is) b o.0 o.1
-first_says l tree.absent_segment is w b h = (says_named l is missing_name w h, refl)
-first_says l tree.broken_segment is w b h = (says_refused (item l broken) is w refl h, refl)
-first_says l (tree.name_segment n) is w b h = (says_named l is n w h, refl)
-first_says l tree.self_type_segment is w b h = (says_named l is self_type_name w h, refl)
-first_says l tree.crate_segment is w b h = (says_root l is kind.Crate w h, refl)
-first_says l (tree.dollar_crate_segment c) is w b h = (says_dollar l is c w h, refl)
-first_says l tree.self_segment is w b h = (says_self l is w h, refl)
-first_says l tree.super_segment is w b h = after_super l is (at_first l w) b h.0 h.1 (at_first_reads l is w h.2)
-
-behind_says : (s : Segment) (is : List Item) (w : PathWalk) (b : Builder) → Says is (Open w)
-    → After (item false (written.what false s) ∷ is) b (steps.read_segment false s w b).0 (steps.read_segment false s w b).1
-behind_says tree.absent_segment is w b h = (says_named false is missing_name w h, refl)
-behind_says tree.broken_segment is w b h = (says_refused (item false broken) is w refl h, refl)
-behind_says (tree.name_segment n) is w b h = (says_named false is n w h, refl)
-behind_says tree.self_type_segment is w b h = (says_named false is self_type_name w h, refl)
-behind_says tree.crate_segment is w b h = (says_refused (item false broken) is w refl h, refl)
-behind_says (tree.dollar_crate_segment c) is w b h = (says_refused (item false broken) is w refl h, refl)
-behind_says tree.self_segment is w b h = (says_refused (item false broken) is w refl h, refl)
-behind_says tree.super_segment is w b h = after_super false is w b h.0 h.1 h.2
-
-each_says : (ss : Segments) (is : List Item) (w : PathWalk) (b : Builder) → Says is (Open w)
-    → After (written.items ss is) b (steps.read_each ss w b).0 (steps.read_each ss w b).1
-each_says tree.no_segments is w b h = (h, refl)
-each_says (tree.more_segments s ss) is w b h =
-    let o = steps.read_each ss w b in
-    then_item (item false (written.what false s)) (written.items ss is) (steps.read_segment false s) b o.0 o.1 (each_says ss is w b h)
-    (λ v k. behind_says s (written.items ss is) v b k)
-
--- the segments of a path, without those of the use tree around it
-own_says : (leading : Bool) (first : Segment) (rest : Segments) (is : List Item) (w : PathWalk) (b : Builder) → Says is (Open w)
-    → let o = steps.read_own leading first rest w b in After (item leading (written.what true first) ∷ written.items rest is) b o.0 o.1
-own_says leading first rest is w b h =
-    let o = steps.read_each rest w b in
-    then_item (item leading (written.what true first)) (written.items rest is)
-    (λ v. steps.read_segment true first (at_first leading v)) b o.0 o.1
-    (each_says rest is w b h) (λ v k. first_says leading first (written.items rest is) v b k)
-
-mutual
-  unfolding whole
-
-  path_says : (p : Path) (is : List Item) (w : PathWalk) (b : Builder) → Says is (Open w)
-      → After (written.segments p is) b (steps.read_path p w b).0 (steps.read_path p w b).1
-  path_says (tree.path leading first rest use_) is w b h =
-      let js = item leading (written.what true first) ∷ written.items rest is in
-      let o = steps.read_own leading first rest w b in
-      then_after js (written.outer use_ js) (steps.read_option use_) b o.0 o.1 (λ x c s. outer_settled b use_ js x c s)
-      (own_says leading first rest is w b h) (λ v k. outer_says use_ js v b k)
-
-  outer_says : (p : OptionPath) (is : List Item) (w : PathWalk) (b : Builder) → Says is (Open w)
-      → After (written.outer p is) b (steps.read_option p w b).0 (steps.read_option p w b).1
-  outer_says tree.no_path is w b h = (h, refl)
-  outer_says (tree.some_path p) is w b h = path_says p is w b h
-
--- ---- the whole path
-
-not_ending : (x : What) (ns : List Name) (b : Bool) → (ends x ns || b) ≡ false → ending_self x ns ≡ false
-not_ending self_ ns b h = by (not (empty_list ns)) h
-  where
-    by : (c : Bool) → (c || b) ≡ false → c ≡ false
-    by false h = refl
-    by true h = h
-not_ending broken ns b h = refl
-not_ending (named n) ns b h = refl
-not_ending (root k) ns b h = refl
-not_ending super_ ns b h = refl
-
-open_is_read : (is : List Item) → ended is ≡ false → open_kind is ≡ read_kind is
-open_is_read [] h = refl
-open_is_read (i ∷ is) h = rw (not_ending i.what (rule.names is) (ended is) h) refl
-
-own_kind_same : (is : List Item) (w : PathWalk) → Reads (read_kind is) is w → walks.own_kind w ≡ own_kind (read_kind is) (rule.names is)
-own_kind_same is w h =
-    λ j. if walk_empty (read_kind is) is w h j && (same_plain w.kind ∙ ap plain_kind h.kind) j then kind.Super 0 else h.kind j
-
-finished_data : (is : List Item) (w : PathWalk) → Reads (read_kind is) is w → stored_path (finished w) ≡ data_of is
-finished_data is w h = λ j. path_data (own_kind_same is w h j) ((ap reverse h.names ∙ reverse-reverse (rule.names is)) j)
-
-says_answers : (is : List Item) (r : Reading) → Says is r → option_map stored_path (path_read r) ≡ data_read (read is)
-says_answers is Refused h = rw h refl
-says_answers is (Ended w) h = rw h.1 (ap Some (finished_data (read is) w h.2))
-says_answers is (Open w) h =
-    rw (read_whole is h.0) (rw h.1 (ap Some (finished_data is w (subst (λ k. Reads k is w) (open_is_read is h.0) h.2))))
-
-abbrev Told : OptionPath → Builder → Checked (Option HirPath) → Builder → Type 0
-Told p b (Ok r) b' = (option_map stored_path r ≡ written_path p) × (b' ≡ b)
-Told p b (Err e) b' = overcounts p × (b' ≡ over b)
-
-told : (p : Path) (b : Builder) (r : Checked Reading) (b' : Builder) → After (written.segments p []) b r b'
-    → let o = go_on r b' (λ x. pure (path_read x)) in Told (tree.some_path p) b o.0 o.1
-told p b (Ok r) b' h = (says_answers (written.segments p []) r h.0, h.1)
-told p b (Err e) b' h = h
-
-begins : Says [] (Open start)
-begins = (refl, refl, record { kind = refl; names = refl })
-
-lowered : (p : OptionPath) (b : Builder) → Told p b (lower_path p b).0 (lower_path p b).1
-lowered tree.no_path b = (refl, refl)
-lowered (tree.some_path p) b = let o = steps.read_path p start b in told p b o.0 o.1 (path_says p [] start b begins)
-
-pub path_law : (p : OptionPath) (o o' : Builder) (r : Option HirPath)
-    → lower_path p o ≡ (Ok r, o') → option_map stored_path r ≡ written_path p
-path_law p o o' r e = (subst (λ x. Told p o x.0 x.1) e (lowered p o)).0
-
-pub path_stays : (p : OptionPath) (o o' : Builder)
-    → ((r : Option HirPath) → lower_path p o ≡ (Ok r, o') → o' ≡ o)
-    × ((e : StoreFault) → lower_path p o ≡ (Err e, o') → overcounts p × (o'.stored ≡ o.stored))
-path_stays p o o' = (
-  λ r e. (subst (λ x. Told p o x.0 x.1) e (lowered p o)).1,
-  λ x e. let t : Told p o (Err x) o' = subst (λ y. Told p o y.0 y.1) e (lowered p o) in (t.0, ap (λ b. b.stored) t.1),
+pub begins : (final : Stored) (n : ℕ) → Says final n [] (Open start)
+begins final n = (
+  refl,
+  refl,
+  record {
+    kind = refl;
+    names = refl;
+    args = λ d le. refl;
+    anchor = λ d le. refl;
+    found = refl;
+    bare = λ f. refl;
+  },
 )

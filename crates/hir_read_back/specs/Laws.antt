@@ -1,20 +1,27 @@
--- What lowering stores reads back as the data of what is written.
-use Rattle.std.specs.Prelude.{◌≡◌, Option, option_map, Ok, Err}
-use Rattle.hir_store.specs.declared.fault.StoreFault.{StoreFault}
+-- What lowering stores for a path, a type or a list of arguments reads back, in what is stored by then and in all that is
+-- stored later, as what is written.
+use Rattle.std.specs.Prelude.{◌≡◌, None, Option, option_map, Ok}
+use Rattle.hir_store.specs.Stored.{Stored, store_of, map_of}
+use Rattle.hir_store.specs.Storing.{Extends}
+use Rattle.hir_store.specs.declared.ids.TypeRefId.{TypeRefId}
+use Rattle.hir_store.specs.declared.path.GenericArgs.{GenericArgs}
 use Rattle.hir_store.specs.declared.path.Path.{Path as HirPath}
-use Rattle.hir_env.specs.Answered.{OptionPath}
+use Rattle.hir_env.specs.Answered.{OptionType, OptionPath, OptionArgs}
 use Rattle.hir_lower_form.specs.Builder.{Builder}
-use Rattle.hir_lower_form.specs.Paths.{lower_path}
-use Rattle.hir_data.specs.Written.{written_path, overcounts}
-use Rattle.hir_data.specs.Reading.{stored_path}
+use Rattle.hir_lower_form.specs.Lower.{type_part, lower_path, args_part}
+use Rattle.hir_steps.specs.Keeps.{Paired}
+use Rattle.hir_data.specs.Written.{written_type, written_path, written_args}
+use Rattle.hir_data.specs.Reading.{stored_type, stored_path, stored_args}
 
--- The path that is answered has the data of the one that is written; none is answered where that is absent or refused.
+-- none is answered where the path is absent or refused
 abbrev pub PathLaw : Type 0
-PathLaw = (p : OptionPath) (o o' : Builder) (r : Option HirPath)
-    → lower_path p o ≡ (Ok r, o') → option_map stored_path r ≡ written_path p
+PathLaw = (p : OptionPath) (o o' : Builder) (r : Option HirPath) → Paired o.stored → lower_path p o ≡ (Ok r, o')
+    → (final : Stored) → Extends o'.stored final → option_map (stored_path (store_of final) (map_of final)) r ≡ written_path p
 
--- Nothing is stored for a path, and it is refused only for more `super`s than are counted.
-abbrev pub PathStays : Type 0
-PathStays = (p : OptionPath) (o o' : Builder)
-    → ((r : Option HirPath) → lower_path p o ≡ (Ok r, o') → o' ≡ o)
-    × ((e : StoreFault) → lower_path p o ≡ (Err e, o') → overcounts p × (o'.stored ≡ o.stored))
+abbrev pub TypeLaw : Type 0
+TypeLaw = (t : OptionType) (o o' : Builder) (i : TypeRefId) → Paired o.stored → type_part None t o ≡ (Ok i, o')
+    → (final : Stored) → Extends o'.stored final → stored_type (store_of final) (map_of final) i ≡ written_type t
+
+abbrev pub ArgsLaw : Type 0
+ArgsLaw = (a : OptionArgs) (o o' : Builder) (r : Option GenericArgs) → Paired o.stored → args_part a o ≡ (Ok r, o')
+    → (final : Stored) → Extends o'.stored final → stored_args (store_of final) (map_of final) r ≡ written_args a

@@ -108,13 +108,6 @@ module _ (at : Pointer) where
       Nodes.goes_front_missing (goes_within (omega arith) r.first) (goes_within (omega arith) row.first) r.second)
   list_fine tree.array_of h = form1_fine at array_is h
 
-  pub method_call_fine : (name : Name) {p : ExprSteps} {q : Lowering (List ExprId)} {x : Walk Value} {y : Walk (List Value)}
-      → Correct p (Runs one x) → Correct q (Runs many y)
-      → Correct (method_call_form at p name q)
-      (Runs one (λ turns ss. x turns ss >>= (λ v. y turns ss >>= (λ vs. ask (method_call name) (v ∷ vs) here))))
-  unfolding method_call_form
-  method_call_fine name hp hq = event2_fine at (record { runs = λ w a b. refl; jumps = λ P ls a b h. h }) hp hq
-
   pub await_fine : (location : Option AwaitLocation) {p : ExprSteps} {x : Walk Value} → Correct p (Runs one x)
       → Correct (await_form at location p) (Runs one (finished at x (asks awaiting (λ v. v ∷ []))))
   unfolding await_form

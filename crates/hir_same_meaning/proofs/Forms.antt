@@ -3,7 +3,7 @@ use Rattle.std.proofs.Common.{◌≡◌, ℕ, suc, ◌≤◌, Bool, true, false,
 use Rattle.std.proofs.Common.{append_assoc, Option, Some, None, Ok, Err, option_map, refl, sym, subst, ◌∙◌, arith}
 use Rattle.hir_syntax.specs.declared.ast.Literal.{Literal as AstLiteral}
 use Rattle.hir_store.specs.Pointers.{Pointer}
-use Rattle.hir_store.specs.Stored.{Stored}
+use Rattle.hir_store.specs.Stored.{Stored, store_of, map_of}
 use Rattle.hir_store.specs.declared.hir.Expr.TheVariants as hir
 use Rattle.hir_store.specs.declared.hir.LoopSource.TheVariants as source
 use Rattle.hir_store.specs.declared.hir.Statement.{Statement}
@@ -23,13 +23,12 @@ use Rattle.hir_lower_form.specs.Builder.{Builder}
 use Rattle.hir_lower_form.specs.Lowering.{Checked, Lowering, ◌>>=◌, pure, alloc_expr, report}
 use Rattle.hir_lower_form.specs.Lower.{ExprSteps, StoredContents, push_some, missing, some, if_form, loop_form, call_form}
 use Rattle.hir_lower_form.specs.Lower.{continue_form, break_form}
-use Rattle.hir_lower_form.specs.Lower.{paren_form, stored_literal, path_or_missing, path_form, settled}
-use Rattle.hir_lower_form.specs.Paths.{lower_path}
+use Rattle.hir_lower_form.specs.Lower.{paren_form, stored_literal, path_or_missing, path_form, lower_path, settled}
 use Rattle.hir_lower_form.specs.Lower.{settled_block, block_form, labelled, kept}
 use Rattle.hir_data.specs.Data.{PathData}
 use Rattle.hir_data.specs.Reading.{stored_path}
 use Rattle.hir_data.specs.Written.{written_path}
-use Rattle.hir_read_back.proofs.Walk.{path_law}
+use Rattle.hir_read_back.proofs.Now.{path_now}
 use Rattle.hir_read_back.proofs.Lookup.{looked_up}
 use Rattle.hir_data.specs.Lookup.{lookup_hygiene}
 use Rattle.hir_meaning.specs.Data.{literal_data}
@@ -42,8 +41,6 @@ use Rattle.hir_meaning.specs.Syntax.{SyntaxRun, run_path, run_stmts, run_tail, c
 use Rattle.hir_steps.proofs.Frames.{Frame, plain_loop, loop_at, block_at, Falls}
 use Rattle.hir_steps.proofs.Steps.{Mark, Grows, Rel, Holds, Correct, Allocated, correct_bind, correct_as, correct_pure}
 use Rattle.hir_steps.proofs.Steps.{correct_report, correct_point, correct_enter_block, correct_alloc, correct_opened, correct_target}
-use Rattle.hir_steps.proofs.Steps.{correct_such}
-use Rattle.hir_steps.proofs.Aside.{path_aside}
 use Rattle.hir_same_meaning.proofs.Targets.{break_meets, continue_meets, among}
 use Rattle.hir_same_meaning.proofs.Relation.{same_ask}
 use Rattle.hir_same_meaning.proofs.Senses.{Walk, one, optional, many, contents, Goes, Runs, Wider, goes_within, goes_at}
@@ -138,26 +135,31 @@ module _ (at : Pointer) where
 
 -- paths
 
+-- how a path is read in a final store
+abbrev path_in : Stored → Path → PathData
+path_in final p = stored_path (store_of final) (map_of final) p
+
 -- what is stored for a path is read as this
 goes_path : {labels : ℕ} {m m' : Mark} {final : Stored} {ps qs : List Frame} {i : ExprId} (at : Pointer) (h : HygieneId)
-    (r : Option Path) (d : Option PathData) → option_map stored_path r ≡ d
+    (r : Option Path) (d : Option PathData) → option_map (path_in final) r ≡ d
     → Allocated (path_or_missing h r) (Some at) final qs m m' i
     → Goes labels m'.nodes one (λ turns ss. run_path d h (Some (site_of at))) final ps i
 goes_path {labels = labels} {m = m} {m' = m'} {final = final} {ps = ps} {qs = qs} {i = i} at h r d is a =
     subst (λ k. Goes labels m'.nodes one (λ turns ss. run_path k h (Some (site_of at))) final ps i) is (by r a)
   where
     by : (r : Option Path) → Allocated (path_or_missing h r) (Some at) final qs m m' i
-        → Goes labels m'.nodes one (λ turns ss. run_path (option_map stored_path r) h (Some (site_of at))) final ps i
+        → Goes labels m'.nodes one (λ turns ss. run_path (option_map (path_in final) r) h (Some (site_of at))) final ps i
     by None a = Nodes.goes_missing a
     by (Some p) a = goes_at a
-        (λ turns d le f. rw (looked_up p h) (same_ask (read (stored_path p) (lookup_hygiene (stored_path p) h)) [] (Some (site_of at))))
+        (λ turns d le f. rw (looked_up (store_of final) (map_of final) p h)
+        (same_ask (read (path_in final p) (lookup_hygiene (path_in final p) h)) [] (Some (site_of at))))
         (λ d le. tt)
 
 pub path_fine : (at : Pointer) (p : OptionPath) (h : HygieneId)
     → Correct (path_form at h (lower_path p)) (Runs one (λ turns ss. run_path (written_path p) h (Some (site_of at))))
 unfolding path_form
 path_fine at p h = correct_as
-    (correct_bind (correct_such (path_aside p) (path_law p)) (λ r. correct_alloc (path_or_missing h r) (Some at)))
+    (correct_bind (path_now p) (λ r. correct_alloc (path_or_missing h r) (Some at)))
     (λ final ps m m' i g row. goes_path at h row.one (written_path p) row.first.is row.second)
 
 -- what is kept

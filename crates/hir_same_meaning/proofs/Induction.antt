@@ -1,22 +1,26 @@
 -- Each tree becomes what runs as it is written.
-use Rattle.std.proofs.Common.{Bool, List, [], ◌∷◌, ◌++◌, Option}
+use Rattle.std.proofs.Common.{Bool, List, [], ◌∷◌, ◌++◌, Option, None, refl}
 use Rattle.hir_store.specs.declared.hir.Statement.{Statement}
 use Rattle.hir_store.specs.declared.hir.Statement.TheVariants as statement
+use Rattle.hir_store.specs.declared.hir.RecordLitField.{RecordLitField}
+use Rattle.hir_store.specs.declared.hir.RecordSpread.TheVariants as spread
+use Rattle.hir_store.specs.declared.diagnostics.ExpressionStoreDiagnostics.TheVariants.{InactiveCode}
 use Rattle.hir_store.specs.declared.ids.ExprId.{ExprId}
 use Rattle.hir_env.specs.Answered as tree
-use Rattle.hir_env.specs.Answered.{Expr, OptionExpr, Exprs, Block, OptionBlock, Stmts, Stmt}
+use Rattle.hir_env.specs.Answered.{Expr, OptionExpr, Exprs, Fields, Spread, Block, OptionBlock, Stmts, Stmt}
 use Rattle.hir_lower_form.specs.Lower.{push_some, lower, lower_part, present, kept_part, lower_each, lower_block, lower_block_part}
-use Rattle.hir_lower_form.specs.Lower.{lower_stmts}
+use Rattle.hir_lower_form.specs.Lower.{lower_stmts, lower_fields, lower_spread}
 use Rattle.hir_lower_form.specs.Lowering.{Lowering}
 use Rattle.hir_meaning.specs.Run.{Value}
-use Rattle.hir_meaning.specs.Left.{is_kept, is_left}
-use Rattle.hir_meaning.specs.Syntax.{run_expr, run_block_part, run_or_unit, run_each, run_block}
-use Rattle.hir_steps.proofs.Steps.{Correct, correct_bind, correct_as, correct_pure}
+use Rattle.hir_meaning.specs.Left.{is_kept, is_left, field_names}
+use Rattle.hir_meaning.specs.Syntax.{run_expr, run_block_part, run_or_unit, run_each, run_block, spread_form, run_fields, run_spread}
+use Rattle.hir_steps.proofs.Steps.{Correct, correct_bind, correct_as, correct_pure, correct_report}
 use Rattle.hir_same_meaning.proofs.Senses.{Walk, one, optional, many, Runs}
 use Rattle.hir_same_meaning.proofs.Blocks.{part_walk, KeptIs}
 use Rattle.hir_same_meaning.proofs.Nodes
 use Rattle.hir_same_meaning.proofs.Forms
 use Rattle.hir_same_meaning.proofs.Families
+use Rattle.hir_same_meaning.proofs.Typed
 
 mutual
   pub expr_fine : (e : Expr) → Correct (lower e) (Runs one (λ turns. run_expr turns e))
@@ -35,7 +39,12 @@ mutual
   expr_fine (tree.binary_expr at form a b) = Families.binary_fine at form (part_fine a) (part_fine b)
   expr_fine (tree.lazy_expr at op a b) = Families.lazy_fine at op (part_fine a) (part_fine b)
   expr_fine (tree.list_expr at form es) = Families.list_fine at form (Forms.pushed_all (each_fine es []))
-  expr_fine (tree.method_call_expr at e name es) = Families.method_call_fine at name (part_fine e) (Forms.pushed_all (each_fine es []))
+  expr_fine (tree.method_call_expr at e name es generics) =
+      Typed.method_call_fine at name generics (part_fine e) (Forms.pushed_all (each_fine es []))
+  expr_fine (tree.cast_expr at e t) = Typed.cast_fine at t (part_fine e)
+  expr_fine (tree.record_expr at p fs s) =
+      Typed.record_fine at (field_names fs) (spread_form s) p (Typed.contents_fine (fields_fine fs []) (spread_fine s))
+  expr_fine (tree.offset_of_expr at t names) = Typed.offset_of_fine at t names
   expr_fine (tree.leaving_expr at form e) = Families.value_fine at (Families.leaving_is form) (present_fine e)
   expr_fine (tree.become_expr at e) = Families.operand_fine at Families.become_is (part_fine e)
   expr_fine (tree.yield_expr at e) = Families.value_fine at Families.yield_is (present_fine e)
@@ -64,6 +73,28 @@ mutual
   each_fine (tree.more_exprs e es) done = correct_as (correct_bind (Forms.kept_fine e (expr_fine e)) (λ o. each_fine es (push_some done o)))
       (λ final ps m m' r g row. Forms.each_more (is_kept e) (λ turns. run_expr turns e) (λ turns. run_each turns es)
       done row.one row.before row.after row.first row.second)
+
+  fields_fine : (fs : Fields) (done : List RecordLitField)
+      → Correct (lower_fields done fs) (Forms.Pushed done (Typed.FieldsAre (field_names fs) (λ turns. run_fields turns fs)))
+  fields_fine tree.no_fields done =
+      correct_as (correct_pure done) (λ final ps m m' r g row. Forms.pushed_none done row.is Typed.fields_none)
+  fields_fine (tree.more_fields (tree.disabled_field at by f) fs) done = correct_as
+      (correct_bind (correct_bind (correct_report (InactiveCode at by)) (λ u. correct_pure None)) (λ o. fields_fine fs (push_some done o)))
+      (λ final ps m m' r g row. Typed.fields_skip done row.one row.first.second.is row.before row.second)
+  fields_fine (tree.more_fields tree.nameless_field fs) done = correct_as
+      (correct_bind (correct_pure None) (λ o. fields_fine fs (push_some done o)))
+      (λ final ps m m' r g row. Typed.fields_skip done row.one row.first.is row.before row.second)
+  fields_fine (tree.more_fields (tree.named_field at name e) fs) done = correct_as
+      (correct_bind (Typed.field_fine at name (part_fine e)) (λ o. fields_fine fs (push_some done o)))
+      (λ final ps m m' r g row. Typed.fields_more done row.one row.before row.after row.first row.second)
+
+  spread_fine : (s : Spread) → Correct (lower_spread s) (Typed.OthersAre (spread_form s) (λ turns. run_spread turns s))
+  spread_fine tree.no_spread = correct_as (correct_pure spread.None)
+      (λ final ps m m' o g row. rw row.is (record { form_is = refl; rel = Nodes.goes_no_others }))
+  spread_fine tree.field_defaults = correct_as (correct_pure spread.FieldDefaults)
+      (λ final ps m m' o g row. rw row.is (record { form_is = refl; rel = Nodes.goes_defaults }))
+  spread_fine (tree.spread_of e) = correct_as (correct_bind (expr_fine e) (λ i. correct_pure (spread.Expr i)))
+      (λ final ps m m' o g row. rw (row.second.is, row.second.still) (record { form_is = refl; rel = Nodes.goes_other row.first }))
 
   pub block_is_fine : (b : Block) → Correct (lower_block b) (Runs one (λ turns. run_block turns b))
   block_is_fine (tree.block at is_unsafe label number ss e) =

@@ -7,6 +7,7 @@ pub mod Blocks
 pub mod Strict
 pub mod Forms
 pub mod Families
+pub mod Typed
 pub mod Induction
 pub mod Spread
 pub mod Owned

@@ -6,6 +6,7 @@ use Rattle.hir_store.specs.Pointers.{Pointer}
 use Rattle.hir_store.specs.Stored.{Stored}
 use Rattle.hir_store.specs.declared.hir.Expr.TheVariants as hir
 use Rattle.hir_store.specs.declared.hir.LoopSource.TheVariants as source
+use Rattle.hir_store.specs.declared.hir.RecordSpread.TheVariants as spread
 use Rattle.hir_store.specs.declared.hir.Statement.{Statement}
 use Rattle.hir_store.specs.declared.ids.ExprId.{ExprId}
 use Rattle.hir_store.specs.declared.ids.LabelId.{LabelId}
@@ -23,7 +24,7 @@ use Rattle.hir_steps.proofs.Steps.{Mark, Allocated}
 use Rattle.hir_same_meaning.proofs.Views.{Numbered, number, numbers, loop_frame, loop_numbers, count_break, count_continue}
 use Rattle.hir_same_meaning.proofs.Relation.{same_ends, same_pure, same_bind, same_tests, same_if, same_turns, same_loop}
 use Rattle.hir_same_meaning.proofs.Relation.{same_lazily, same_stop, same_block, same_plain_block, same_entering}
-use Rattle.hir_same_meaning.proofs.Senses.{Walk, one, optional, many, contents, Goes, goes_at}
+use Rattle.hir_same_meaning.proofs.Senses.{Walk, one, optional, many, others, contents, Goes, goes_at}
 
 module _ {labels : ℕ} {m m' : Mark} {at : Option Pointer} {final : Stored} {ps qs : List Frame} {i : ExprId} where
   pub goes_missing : Allocated hir.Missing at final qs m m' i → Goes labels m'.nodes one (λ turns ss. ends (leave missing)) final ps i
@@ -119,3 +120,13 @@ module _ {labels nodes : ℕ} {final : Stored} {ps : List Frame} where
     same = λ turns d le f. same_bind (h.same turns d le f) (λ v. same_bind (hs.same turns d le f) (λ vs. same_pure (v ∷ vs)));
     jumps = λ d le. (h.jumps d le, hs.jumps d le);
   }
+
+  pub goes_no_others : Goes labels nodes others (λ turns ss. pure []) final ps spread.None
+  goes_no_others = record { same = λ turns d le f. same_pure []; jumps = λ d le. tt }
+
+  pub goes_defaults : Goes labels nodes others (λ turns ss. pure []) final ps spread.FieldDefaults
+  goes_defaults = record { same = λ turns d le f. same_pure []; jumps = λ d le. tt }
+
+  pub goes_other : {x : Walk Value} {i : ExprId} → Goes labels nodes one x final ps i
+      → Goes labels nodes others (λ turns ss. x turns ss >>= (λ v. pure (v ∷ []))) final ps (spread.Expr i)
+  goes_other h = record { same = λ turns d le f. same_bind (h.same turns d le f) (λ v. same_pure (v ∷ [])); jumps = h.jumps }

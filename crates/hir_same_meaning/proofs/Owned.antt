@@ -10,6 +10,9 @@ use Rattle.hir_store.specs.declared.hir.Statement.{Statement}
 use Rattle.hir_store.specs.declared.hir.Statement.TheVariants as statement
 use Rattle.hir_store.specs.declared.name.Name.{Name}
 use Rattle.hir_store.specs.declared.path.Path.{Path}
+use Rattle.hir_store.specs.declared.hir.RecordLitField.{RecordLitField}
+use Rattle.hir_store.specs.declared.hir.RecordSpread.{RecordSpread}
+use Rattle.hir_store.specs.declared.hir.RecordSpread.TheVariants as spread
 use Rattle.hir_store.specs.declared.ids.ExprId.{ExprId}
 use Rattle.hir_store.specs.declared.ids.LabelId.{LabelId}
 use Rattle.hir_store.specs.declared.ids.BlockId.{BlockId}
@@ -19,20 +22,23 @@ use Rattle.hir_store.specs.declared.diagnostics.AwaitLocation.{AwaitLocation}
 use Rattle.hir_store.specs.declared.diagnostics.ExpressionStoreDiagnostics.TheVariants.{InactiveCode}
 use Rattle.hir_env.specs.Answered as tree
 use Rattle.hir_env.specs.Answered.{Leaf, Unary, Binary, Listing, Leaving}
-use Rattle.hir_env.specs.Answered.{OptionPath, Label, Jump, Expr, OptionExpr, Exprs, Block, OptionBlock, Stmts, Stmt}
+use Rattle.hir_env.specs.Answered.{OptionType, OptionPath, OptionArgs, Label, Jump, Expr, OptionExpr, Exprs, Fields, Field}
+use Rattle.hir_env.specs.Answered.{Block, OptionBlock, Stmts, Stmt}
 use Rattle.hir_lower_form.specs.Lowering.{Lowering, ◌>>=◌, pure, alloc_expr, report}
 use Rattle.hir_lower_form.specs.Lower.{ExprSteps, push_some, missing, some, if_form, loop_form, call_form, continue_form, break_form}
-use Rattle.hir_lower_form.specs.Lower.{paren_form, path_or_missing, path_form, settled, settled_block, StoredContents, block_form}
-use Rattle.hir_lower_form.specs.Paths.{lower_path}
+use Rattle.hir_lower_form.specs.Lower.{paren_form, path_or_missing, path_form, lower_path, settled, settled_block, StoredContents}
+use Rattle.hir_lower_form.specs.Lower.{block_form}
 use Rattle.hir_lower_form.specs.Lower.{labelled, kept, lower, lower_part, present, kept_part, lower_each, lower_block, lower_block_part}
+use Rattle.hir_lower_form.specs.Lower.{StoredFields, type_part, args_part, cast_form, offset_of_form, record_contents, record_of}
+use Rattle.hir_lower_form.specs.Lower.{record_form, field_form, lower_fields, lower_field, lower_spread}
 use Rattle.hir_lower_form.specs.Lower.{lower_stmts, stored_leaf, stored_unary, stored_binary, stored_lazy, stored_leaving}
 use Rattle.hir_lower_form.specs.Lower.{operand_form, operands_form, value_form, list_form, method_call_form, await_form}
-use Rattle.hir_same_meaning.specs.Reached.{of_some, of_each, of_statement, of_statements, below, reached_to, Spread}
+use Rattle.hir_same_meaning.specs.Reached.{of_some, of_each, of_fields, of_others, of_statement, of_statements, below, reached_to, Spread}
 use Rattle.hir_steps.proofs.Frames.{Frame, loop_at, block_at}
 use Rattle.hir_steps.proofs.Steps.{Mark, Grows, Rel, Correct, Allocated, correct_bind, correct_as, correct_pure}
 use Rattle.hir_steps.proofs.Steps.{correct_report, correct_report_await, correct_point, correct_enter_block, correct_alloc}
-use Rattle.hir_steps.proofs.Steps.{correct_opened, correct_target}
-use Rattle.hir_steps.proofs.Aside.{path_aside}
+use Rattle.hir_steps.proofs.Steps.{correct_opened, correct_target, correct_point_field}
+use Rattle.hir_steps.proofs.Aside.{part_aside, args_aside, path_aside}
 use Rattle.hir_same_meaning.proofs.Spread.{spread_none, spread_wider, spread_append, spread_node}
 use Rattle.hir_same_meaning.proofs.Forms.{Pushed, pushed_none, pushed_one, correct_statement}
 
@@ -118,6 +124,23 @@ leaving_below : (form : Leaving) (f : ExprId → List ℕ) (o : Option ExprId) �
 leaving_below tree.returning f o = refl
 leaving_below tree.yeeting f o = refl
 
+abbrev of_record : (ExprId → List ℕ) → StoredFields → List ℕ
+of_record f r = of_fields f r.0 ++ of_others f r.1
+
+abbrev of_field : (ExprId → List ℕ) → Option RecordLitField → List ℕ
+of_field f None = []
+of_field f (Some x) = f x.expr
+
+contents_owns : {p : Lowering (List RecordLitField)} {q : Lowering RecordSpread} → Correct p (OwnsAs of_fields)
+    → Correct q (OwnsAs of_others) → Correct (record_contents p q) (OwnsAs of_record)
+unfolding record_contents
+contents_owns hp hq = correct_as (correct_bind hp (λ fs. correct_bind hq (λ s. correct_pure (fs, s))))
+    (λ final ps m m' r g row. let s = row.second in rw s.second.is
+    (record {
+      spread = λ d le. spread_append m.nodes m'.nodes (inl (omega arith)) (omega arith)
+          (row.first.spread d (omega arith)) (s.first.spread d (omega arith));
+    }))
+
 module _ (at : Pointer) where
   operand_owns : (make : ExprId → HirExpr) {p : ExprSteps} → ((f : ExprId → List ℕ) (i : ExprId) → below f (make i) ≡ f i) → Correct p Owns
       → Correct (operand_form at make p) Owns
@@ -146,10 +169,44 @@ module _ (at : Pointer) where
       (r.first.spread d le) (row.first.spread d (omega arith))))
   list_owns tree.array_of h = owns1 hir.Array (Some at) (λ f es. refl) h
 
-  method_call_owns : (name : Name) {p : ExprSteps} {q : Lowering (List ExprId)} → Correct p Owns → Correct q (OwnsAs of_each)
-      → Correct (method_call_form at p name q) Owns
+  method_call_owns : (name : Name) (g : OptionArgs) {p : ExprSteps} {q : Lowering (List ExprId)} → Correct p Owns
+      → Correct q (OwnsAs of_each) → Correct (method_call_form at p name q (args_part g)) Owns
   unfolding method_call_form
-  method_call_owns name hp hq = owns2 (λ e es. hir.MethodCall e name es) (Some at) (λ f e es. refl) hp hq
+  method_call_owns name g hp hq = correct_as (correct_bind hp (λ e. correct_bind hq (λ es. correct_bind (args_aside g)
+      (λ a. correct_alloc (hir.MethodCall e name a es) (Some at)))))
+      (λ final ps m m' i u row. let r = row.second in let s = r.second in
+      owns_at m s.second (omega arith) (λ d le. spread_append m.nodes s.middle.nodes (inl (omega arith)) (omega arith)
+      (row.first.spread d (omega arith)) (r.first.spread d (omega arith))))
+
+  -- the type reaches no expression
+  cast_owns : (t : OptionType) {p : ExprSteps} → Correct p Owns → Correct (cast_form at p (type_part None t)) Owns
+  unfolding cast_form
+  cast_owns t h = correct_as (correct_bind h (λ e. correct_bind (part_aside None t) (λ i. correct_alloc (hir.Cast e i) (Some at))))
+      (λ final ps m m' i g row. let r = row.second in
+      owns_at m r.second (omega arith) (λ d le. spread_wider m.nodes r.middle.nodes (omega arith) (omega arith)
+      (row.first.spread d (omega arith))))
+
+  offset_of_owns : (t : OptionType) (names : List Name) → Correct (offset_of_form at (type_part None t) names) Owns
+  unfolding offset_of_form
+  offset_of_owns t names = correct_as (correct_bind (part_aside None t) (λ i. correct_alloc (hir.OffsetOf i names) (Some at)))
+      (λ final ps m m' i g row. owns_at m row.second (omega arith) (λ d le. spread_none m.nodes row.middle.nodes))
+
+  record_of_owns : {c : Lowering StoredFields} → Correct c (OwnsAs of_record) → (p : Option Path) → Correct (record_of at c p) Owns
+  record_of_owns h None = missing_owns
+  record_of_owns h (Some p) = owns1 (λ r. hir.RecordLit p r.0 r.1) (Some at) (λ f r. refl) h
+
+  record_owns : (p : OptionPath) {c : Lowering StoredFields} → Correct c (OwnsAs of_record) → Correct (record_form at (lower_path p) c) Owns
+  unfolding record_form
+  record_owns p h = correct_as (correct_bind (path_aside p) (λ o. record_of_owns h o))
+      (λ final ps m m' i g row.
+      record { spread = λ d le. spread_wider m.nodes m'.nodes (omega arith) (omega arith) (row.second.spread d le) })
+
+  -- a field's value has its numbers
+  field_owns : (name : Name) {p : ExprSteps} → Correct p Owns → Correct (field_form at name p) (OwnsAs of_field)
+  unfolding field_form
+  field_owns name h = correct_as (correct_bind h (λ i. correct_bind (correct_point_field i at) (λ u. correct_pure _)))
+      (λ final ps m m' o g row. let r = row.second in rw r.second.is
+      (record { spread = λ d le. spread_wider m.nodes m'.nodes (omega arith) (omega arith) (row.first.spread d (omega arith)) }))
 
   await_owns : (location : Option AwaitLocation) {p : ExprSteps} → Correct p Owns → Correct (await_form at location p) Owns
   unfolding await_form
@@ -243,6 +300,25 @@ each_more {m = m} {m' = m'} done (Some i) g g' h p = record {
     spread = λ d le. spread_append m.nodes m'.nodes (inl (omega arith)) (omega arith) (h.spread d (omega arith)) (p.rel.spread d le);
   };
 }
+
+fields_more : {final : Stored} {ps : List Frame} {m m1 m' : Mark} {r : List RecordLitField} (done : List RecordLitField)
+    (o : Option RecordLitField) → Grows m m1 → Grows m1 m' → OwnsAs of_field final ps m m1 o
+    → Pushed (push_some done o) (OwnsAs of_fields) final ps m1 m' r → Pushed done (OwnsAs of_fields) final ps m m' r
+fields_more {m = m} {m' = m'} done None g g' h p = record {
+  new = p.new;
+  is = p.is;
+  rel = record { spread = λ d le. spread_wider m.nodes m'.nodes (omega arith) (omega arith) (p.rel.spread d le) };
+}
+fields_more {m = m} {m' = m'} done (Some x) g g' h p = record {
+  new = x ∷ p.new;
+  is = pushed_one done x p.new p.is;
+  rel = record {
+    spread = λ d le. spread_append m.nodes m'.nodes (inl (omega arith)) (omega arith) (h.spread d (omega arith)) (p.rel.spread d le);
+  };
+}
+
+fields_own_all : {p : Lowering (List RecordLitField)} → Correct p (Pushed [] (OwnsAs of_fields)) → Correct p (OwnsAs of_fields)
+fields_own_all h = correct_as h (λ final ps m m' r g row. rw row.is row.rel)
 
 -- the statements are pushed on those that stand
 record Filled (done : List Statement) (final : Stored) (ps : List Frame) (m m' : Mark) (r : StoredContents) : Type 0 where
@@ -344,7 +420,11 @@ mutual
   expr_owns (tree.binary_expr at form a b) = operands_owns at (stored_binary form) (binary_below form) (part_owns a) (part_owns b)
   expr_owns (tree.lazy_expr at op a b) = operands_owns at (stored_lazy op) (λ f i j. refl) (part_owns a) (part_owns b)
   expr_owns (tree.list_expr at form es) = list_owns at form (each_owns_all (each_owns es []))
-  expr_owns (tree.method_call_expr at e name es) = method_call_owns at name (part_owns e) (each_owns_all (each_owns es []))
+  expr_owns (tree.method_call_expr at e name es generics) =
+      method_call_owns at name generics (part_owns e) (each_owns_all (each_owns es []))
+  expr_owns (tree.cast_expr at e t) = cast_owns at t (part_owns e)
+  expr_owns (tree.record_expr at p fs s) = record_owns at p (contents_owns (fields_own_all (fields_own fs [])) (spread_owns s))
+  expr_owns (tree.offset_of_expr at t names) = offset_of_owns at t names
   expr_owns (tree.leaving_expr at form e) = value_owns at (stored_leaving form) (leaving_below form) (present_owns e)
   expr_owns (tree.become_expr at e) = operand_owns at hir.Become (λ f i. refl) (part_owns e)
   expr_owns (tree.yield_expr at e) = value_owns at hir.Yield (λ f o. refl) (present_owns e)
@@ -372,6 +452,27 @@ mutual
       (λ final ps m m' r g row. pushed_none done row.is (owns_none [] (λ f. refl)))
   each_owns (tree.more_exprs e es) done = correct_as (correct_bind (kept_owns e (expr_owns e)) (λ o. each_owns es (push_some done o)))
       (λ final ps m m' r g row. each_more done row.one row.before row.after row.first row.second)
+
+  fields_own : (fs : Fields) (done : List RecordLitField) → Correct (lower_fields done fs) (Pushed done (OwnsAs of_fields))
+  fields_own tree.no_fields done = correct_as (correct_pure done)
+      (λ final ps m m' r g row. pushed_none done row.is (owns_none [] (λ f. refl)))
+  fields_own (tree.more_fields f fs) done = correct_as (correct_bind (one_field_owns f) (λ o. fields_own fs (push_some done o)))
+      (λ final ps m m' r g row. fields_more done row.one row.before row.after row.first row.second)
+
+  one_field_owns : (f : Field) → Correct (lower_field f) (OwnsAs of_field)
+  one_field_owns (tree.disabled_field at by f) = correct_as (correct_bind (correct_report (InactiveCode at by)) (λ u. correct_pure None))
+      (λ final ps m m' o g row. rw row.second.is (owns_none None (λ f. refl)))
+  one_field_owns tree.nameless_field = correct_as (correct_pure None)
+      (λ final ps m m' o g row. rw row.is (owns_none None (λ f. refl)))
+  one_field_owns (tree.named_field at name e) = field_owns at name (part_owns e)
+
+  spread_owns : (s : tree.Spread) → Correct (lower_spread s) (OwnsAs of_others)
+  spread_owns tree.no_spread = correct_as (correct_pure spread.None)
+      (λ final ps m m' o g row. rw row.is (owns_none spread.None (λ f. refl)))
+  spread_owns tree.field_defaults = correct_as (correct_pure spread.FieldDefaults)
+      (λ final ps m m' o g row. rw row.is (owns_none spread.FieldDefaults (λ f. refl)))
+  spread_owns (tree.spread_of e) = correct_as (correct_bind (expr_owns e) (λ i. correct_pure (spread.Expr i)))
+      (λ final ps m m' o g row. rw (row.second.is, row.second.still) (record { spread = row.first.spread }))
 
   block_is_owns : (b : Block) → Correct (lower_block b) Owns
   block_is_owns (tree.block at is_unsafe label number ss e) = block_owns at is_unsafe label number (stmts_owns (kept_part_owns e) ss [])

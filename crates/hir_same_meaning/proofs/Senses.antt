@@ -4,15 +4,16 @@ use Rattle.hir_store.specs.Pointers.{Pointer}
 use Rattle.hir_store.specs.Stored.{Stored, store_of, map_of}
 use Rattle.hir_store.specs.declared.hir.Expr.{Expr}
 use Rattle.hir_store.specs.declared.hir.Statement.{Statement}
+use Rattle.hir_store.specs.declared.hir.RecordSpread.{RecordSpread}
 use Rattle.hir_store.specs.declared.ids.ExprId.{ExprId}
 use Rattle.hir_env.specs.NodeMap.{Site}
 use Rattle.hir_env.specs.Answering.{site_of}
 use Rattle.hir_meaning.specs.Run.{Value}
 use Rattle.hir_scope.specs.Scopes.{Scope}
 use Rattle.hir_meaning.specs.Syntax.{SyntaxRun}
-use Rattle.hir_meaning.specs.Store.{StoreRun, run_or_unit, run_each, run_statements, run_stored, run_to}
+use Rattle.hir_meaning.specs.Store.{StoreRun, run_or_unit, run_each, run_others, run_statements, run_stored, run_to}
 use Rattle.hir_scope.specs.Each.{Each, IfPresent}
-use Rattle.hir_meaning.specs.Jumps.{EachStatement, StoredEnclosed, EnclosedTo}
+use Rattle.hir_meaning.specs.Jumps.{EachStatement, OthersEnclosed, StoredEnclosed, EnclosedTo}
 use Rattle.hir_steps.proofs.Frames.{Frame, scopes, Falls, falls_more}
 use Rattle.hir_steps.proofs.Steps.{Mark, Rel, Allocated}
 use Rattle.hir_same_meaning.proofs.Views.{numbers}
@@ -30,7 +31,7 @@ run_in final d turns = run_to (store_of final) (map_of final) d turns
 abbrev pub node_in : Stored → ℕ → ℕ → Expr → Option Site → StoreRun Value
 node_in final d turns e site = run_stored (store_of final) (map_of final) turns (run_in final d turns) e site
 
--- how numbers are read: one, an optional one, a list, the contents of a block
+-- how numbers are read: one, an optional one, a list, what the other fields of a record come from, the contents of a block
 pub record Reading (A B : Type 0) : Type 1 where
   pub run : ℕ → (ExprId → StoreRun Value) → A → StoreRun B
   pub Jumps : (ExprId → Type 0) → A → Type 0
@@ -43,6 +44,9 @@ optional = record { run = run_or_unit; Jumps = IfPresent }
 
 abbrev pub many : Reading (List ExprId) (List Value)
 many = record { run = run_each; Jumps = Each }
+
+abbrev pub others : Reading RecordSpread (List Value)
+others = record { run = run_others; Jumps = OthersEnclosed }
 
 abbrev pub contents : Reading (List Statement × Option ExprId) Value
 contents = record { run = λ turns part r. run_statements turns part r.0 r.1; Jumps = λ P r. EachStatement P r.0 × IfPresent P r.1 }

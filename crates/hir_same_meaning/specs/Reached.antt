@@ -1,9 +1,12 @@
 -- Which numbers a stored body reaches, and that it reaches each in one way only.
-use Rattle.std.specs.Prelude.{◌≢◌, ℕ, zero, suc, ◌<◌, ◌≤◌, length, List, [], ◌∷◌, ◌++◌, Option, Some, None, slice_get}
+use Rattle.std.specs.Prelude.{◌≢◌, ℕ, zero, suc, ◌<◌, ◌≤◌, length, map, List, [], ◌∷◌, ◌++◌, Option, Some, None, slice_get}
 use Rattle.hir_store.specs.declared.hir.Expr.{Expr}
 use Rattle.hir_store.specs.declared.hir.Expr.TheVariants as hir
 use Rattle.hir_store.specs.declared.hir.Statement.{Statement}
 use Rattle.hir_store.specs.declared.hir.Statement.TheVariants as statement
+use Rattle.hir_store.specs.declared.hir.RecordLitField.{RecordLitField}
+use Rattle.hir_store.specs.declared.hir.RecordSpread.{RecordSpread}
+use Rattle.hir_store.specs.declared.hir.RecordSpread.TheVariants as spread
 use Rattle.hir_store.specs.declared.ids.ExprId.{ExprId}
 use Rattle.hir_scope.specs.Each.{Each}
 use Rattle.hir_same_meaning.specs.Headline.{InLaterStores}
@@ -18,6 +21,13 @@ module _ (f : ExprId → List ℕ) where
   abbrev pub of_each : List ExprId → List ℕ
   of_each [] = []
   of_each (i ∷ is) = f i ++ of_each is
+
+  abbrev pub of_fields : List RecordLitField → List ℕ
+  of_fields fields = of_each (map (λ x. x.expr) fields)
+
+  abbrev pub of_others : RecordSpread → List ℕ
+  of_others (spread.Expr i) = f i
+  of_others others = []
 
   abbrev pub of_statement : Statement → List ℕ
   of_statement statement.Item = []
@@ -48,7 +58,10 @@ module _ (f : ExprId → List ℕ) where
   below (hir.Index a b) = f a ++ f b
   below (hir.Tuple es) = of_each es
   below (hir.Array es) = of_each es
-  below (hir.MethodCall e name es) = f e ++ of_each es
+  below (hir.MethodCall e name generics es) = f e ++ of_each es
+  below (hir.Cast e t) = f e
+  below (hir.RecordLit p fields others) = of_fields fields ++ of_others others
+  below (hir.OffsetOf t names) = []
   below (hir.Return e) = of_some e
   below (hir.Yeet e) = of_some e
   below (hir.Yield e) = of_some e

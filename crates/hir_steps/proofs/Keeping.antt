@@ -4,6 +4,9 @@ use Rattle.hir_store.specs.Pointers.{Pointer}
 use Rattle.hir_store.specs.Stored.{Stored}
 use Rattle.hir_store.specs.declared.hir.Expr.{Expr as HirExpr}
 use Rattle.hir_store.specs.declared.hir.Statement.{Statement}
+use Rattle.hir_store.specs.declared.hir.RecordLitField.{RecordLitField}
+use Rattle.hir_store.specs.declared.hir.RecordSpread.{RecordSpread}
+use Rattle.hir_store.specs.declared.path.GenericArgs.{GenericArgs}
 use Rattle.hir_store.specs.declared.name.Name.{Name}
 use Rattle.hir_store.specs.declared.path.Path.{Path}
 use Rattle.hir_store.specs.declared.diagnostics.AwaitLocation.{AwaitLocation}
@@ -12,19 +15,23 @@ use Rattle.hir_store.specs.declared.ids.LabelId.{LabelId}
 use Rattle.hir_store.specs.declared.ids.BlockId.{BlockId}
 use Rattle.hir_store.specs.declared.ids.HygieneId.{HygieneId}
 use Rattle.hir_env.specs.Answered as tree
-use Rattle.hir_env.specs.Answered.{Listing, Label, Jump, Expr, OptionExpr, Exprs, Block, OptionBlock, Stmts, Stmt}
+use Rattle.hir_env.specs.Answered.{Listing, Label, Jump, Expr, OptionExpr, Exprs, Fields, Field, Spread, Block, OptionBlock}
+use Rattle.hir_env.specs.Answered.{Stmts, Stmt}
 use Rattle.hir_lower_form.specs.Builder.{Builder}
 use Rattle.hir_lower_form.specs.Lowering.{Checked, Lowering, ◌>>=◌, alloc_expr}
 use Rattle.hir_lower_form.specs.Lower.{ExprSteps, StoredContents, missing, some, if_form, loop_form, call_form, continue_form}
 use Rattle.hir_lower_form.specs.Lower.{break_form, paren_form, path_form, operand_form, operands_form, value_form, list_form}
+use Rattle.hir_lower_form.specs.Types.{TypeSteps}
+use Rattle.hir_lower_form.specs.Lower.{StoredFields, cast_form, offset_of_form, record_contents, record_of, record_form, field_form}
+use Rattle.hir_lower_form.specs.Lower.{lower_fields, lower_field, lower_spread}
 use Rattle.hir_lower_form.specs.Lower.{method_call_form, await_form, block_form, labelled, kept, lower, lower_part}
 use Rattle.hir_lower_form.specs.Lower.{present, kept_part, lower_each, lower_block, lower_block_part, lower_stmts}
 use Rattle.hir_lower_form.specs.Lower.{lower_stmt}
 use Rattle.hir_steps.specs.Keeps.{Keeps, Keeping}
 use Rattle.hir_steps.proofs.Frames.{Frame, loop_at, block_at, frames, ribs_frames}
-use Rattle.hir_steps.proofs.Aside.{path_aside}
+use Rattle.hir_steps.proofs.Aside.{part_aside, args_aside, path_aside}
 use Rattle.hir_steps.proofs.Steps.{Mark, Rel, Holds, Correct, correct_bind, correct_as, correct_pure, correct_report}
-use Rattle.hir_steps.proofs.Steps.{correct_report_await, correct_point, correct_enter_block, correct_alloc}
+use Rattle.hir_steps.proofs.Steps.{correct_report_await, correct_point_field, correct_point, correct_enter_block, correct_alloc}
 use Rattle.hir_steps.proofs.Steps.{correct_opened, correct_target}
 
 pub record Any {A : Type 0} (final : Stored) (ps : List Frame) (m m' : Mark) (a : A) : Type 0 where
@@ -95,10 +102,30 @@ module _ (at : Pointer) where
   list_any (tree.tuple_of true) h = then' h (λ is. then' missing_any (λ i. stored_any _ at))
   list_any tree.array_of h = then' h (λ is. stored_any _ at)
 
-  method_call_any : {e : ExprSteps} (name : Name) {xs : Lowering (List ExprId)} → Correct e Any → Correct xs Any
-      → Correct (method_call_form at e name xs) Any
+  method_call_any : {e : ExprSteps} (name : Name) {xs : Lowering (List ExprId)} {as' : Lowering (Option GenericArgs)} → Correct e Any
+      → Correct xs Any → Correct as' Any → Correct (method_call_form at e name xs as') Any
   unfolding method_call_form
-  method_call_any name he hx = then' he (λ i. then' hx (λ is. stored_any _ at))
+  method_call_any name he hx ha = then' he (λ i. then' hx (λ is. then' ha (λ g. stored_any _ at)))
+
+  cast_any : {e : ExprSteps} {t : TypeSteps} → Correct e Any → Correct t Any → Correct (cast_form at e t) Any
+  unfolding cast_form
+  cast_any he ht = then' he (λ i. then' ht (λ t. stored_any _ at))
+
+  offset_of_any : {t : TypeSteps} (names : List Name) → Correct t Any → Correct (offset_of_form at t names) Any
+  unfolding offset_of_form
+  offset_of_any names h = then' h (λ t. stored_any _ at)
+
+  record_of_any : {c : Lowering StoredFields} → Correct c Any → (p : Option Path) → Correct (record_of at c p) Any
+  record_of_any h None = missing_any
+  record_of_any h (Some p) = then' h (λ r. stored_any _ at)
+
+  record_any : {p : Lowering (Option Path)} {c : Lowering StoredFields} → Correct p Any → Correct c Any → Correct (record_form at p c) Any
+  unfolding record_form
+  record_any hp hc = then' hp (λ p. record_of_any hc p)
+
+  field_any : (name : Name) {e : ExprSteps} → Correct e Any → Correct (field_form at name e) Any
+  unfolding field_form
+  field_any name h = then' h (λ i. then' (any (correct_point_field i at)) (λ u. any (correct_pure _)))
 
   await_any : (location : Option AwaitLocation) {e : ExprSteps} → Correct e Any → Correct (await_form at location e) Any
   unfolding await_form
@@ -108,6 +135,11 @@ module _ (at : Pointer) where
       → Correct (block_form at is_unsafe label number c) Any
   unfolding block_form
   block_form_any is_unsafe label number h = then' (any (correct_enter_block number)) (λ u. then' h (λ r. stored_any _ at))
+
+contents_any : {fs : Lowering (List RecordLitField)} {s : Lowering RecordSpread} → Correct fs Any → Correct s Any
+    → Correct (record_contents fs s) Any
+unfolding record_contents
+contents_any hf hs = then' hf (λ fs. then' hs (λ s. any (correct_pure (fs, s))))
 
 labelled_any : (label : Option Label) {f : Option LabelId → ExprSteps} → ((n : Option LabelId) → Correct (f n) Any)
     → Correct (labelled label f) Any
@@ -136,7 +168,11 @@ mutual
   node_any (tree.binary_expr at form a b) = operands_any at _ (part_any a) (part_any b)
   node_any (tree.lazy_expr at op a b) = operands_any at _ (part_any a) (part_any b)
   node_any (tree.list_expr at form es) = list_any at form (each_any [] es)
-  node_any (tree.method_call_expr at e name es) = method_call_any at name (part_any e) (each_any [] es)
+  node_any (tree.method_call_expr at e name es generics) =
+      method_call_any at name (part_any e) (each_any [] es) (any (args_aside generics))
+  node_any (tree.cast_expr at e t) = cast_any at (part_any e) (any (part_aside None t))
+  node_any (tree.record_expr at p fs s) = record_any at (any (path_aside p)) (contents_any (fields_any [] fs) (spread_any s))
+  node_any (tree.offset_of_expr at t names) = offset_of_any at names (any (part_aside None t))
   node_any (tree.leaving_expr at form e) = value_any at _ (present_any e)
   node_any (tree.become_expr at e) = operand_any at _ (part_any e)
   node_any (tree.yield_expr at e) = value_any at _ (present_any e)
@@ -158,6 +194,20 @@ mutual
   each_any : (done : List ExprId) (es : Exprs) → Correct (lower_each done es) Any
   each_any done tree.no_exprs = any (correct_pure done)
   each_any done (tree.more_exprs e es) = then' (kept_any e (node_any e)) (λ x. each_any _ es)
+
+  fields_any : (done : List RecordLitField) (fs : Fields) → Correct (lower_fields done fs) Any
+  fields_any done tree.no_fields = any (correct_pure done)
+  fields_any done (tree.more_fields f fs) = then' (one_field_any f) (λ x. fields_any _ fs)
+
+  one_field_any : (f : Field) → Correct (lower_field f) Any
+  one_field_any (tree.disabled_field at by f) = then' (any (correct_report _)) (λ u. any (correct_pure None))
+  one_field_any tree.nameless_field = any (correct_pure None)
+  one_field_any (tree.named_field at name e) = field_any at name (part_any e)
+
+  spread_any : (s : Spread) → Correct (lower_spread s) Any
+  spread_any tree.no_spread = any (correct_pure _)
+  spread_any tree.field_defaults = any (correct_pure _)
+  spread_any (tree.spread_of e) = then' (node_any e) (λ i. any (correct_pure _))
 
   block_any : (b : Block) → Correct (lower_block b) Any
   block_any (tree.block at is_unsafe label number ss e) =

@@ -8,7 +8,8 @@ use Rattle.hir_store.specs.Pointers.{Pointer}
 use Rattle.hir_store.specs.Arenas.{Sourced, Prefix, with_entry, with_way}
 use Rattle.hir_store.specs.Stored.{Stored}
 use Rattle.hir_store.specs.Storing as storing
-use Rattle.hir_store.specs.Storing.{Extends, expr_id, label_id}
+use Rattle.hir_store.specs.FirstMap.{with_first_by}
+use Rattle.hir_store.specs.Storing.{Extends, expr_id, label_id, same_expr}
 use Rattle.hir_store.specs.declared.fault.StoreFault.TheVariants.{Full}
 use Rattle.hir_store.specs.declared.hir.Expr.{Expr}
 use Rattle.hir_store.specs.declared.hir.Label.{Label as HirLabel}
@@ -21,182 +22,27 @@ use Rattle.hir_store.specs.declared.diagnostics.ExpressionStoreDiagnostics.TheVa
 use Rattle.hir_store.specs.declared.diagnostics.ExpressionStoreDiagnostics.TheVariants.{UnreachableLabel}
 use Rattle.hir_store.specs.declared.diagnostics.AwaitLocation.{AwaitLocation}
 use Rattle.hir_store.proofs.Arenas.{continues_refl, continues_entry, prefix_refl}
-use Rattle.hir_store.proofs.Range.{extends_refl, extends_trans, extends_point, extends_report, extends_block}
+use Rattle.hir_store.proofs.Range.{extends_refl, extends_trans, extends_point, extends_field, extends_report, extends_block}
 use Rattle.hir_env.specs.Answered.{Label, Jump}
 use Rattle.hir_scope.specs.Ribs.{Rib, Target, reachable, unreachable, undeclared, target, number_found, jump_number}
 use Rattle.hir_lower_scope.specs.Labels.{rest}
 use Rattle.hir_lower_form.specs.Builder.{Builder}
-use Rattle.hir_lower_form.specs.Lowering.{Checked, go_on, Lowering, ◌>>=◌, pure, alloc_expr, point, report}
+use Rattle.hir_lower_form.specs.Lowering.{Checked, go_on, Lowering, ◌>>=◌, pure, alloc_expr, point, point_field, report}
 use Rattle.hir_lower_form.specs.Lowering.{report_await, enter_block, open_label, close, jump_target, found_or_fault, count_out}
-use Rattle.hir_steps.specs.Keeps.{Paired, KeepsAll}
+use Rattle.hir_steps.specs.Keeps.{Paired, Mapped, KeepsAll}
 use Rattle.hir_steps.proofs.Frames.{Frame, rib, ribs}
-
--- how far it has come: how many expressions and labels there are, and all that is stored
-pub record Mark : Type 0 where
-  pub nodes : ℕ
-  pub labels : ℕ
-  pub stored : Stored
-
-abbrev pub mark : Builder → Mark
-mark b = record { nodes = length b.stored.exprs.entries; labels = length b.stored.labels.entries; stored = b.stored }
-
-pub record Grows (m m' : Mark) : Type 0 where
-  pub nodes : m.nodes ≤ m'.nodes
-  pub labels : m.labels ≤ m'.labels
-
--- of a final store, the frames around, the marks before and after, and what was answered
-abbrev pub Rel : Type 0 → Type 1
-Rel A = Stored → List Frame → Mark → Mark → A → Type 0
-
-pub record Answers {A : Type 0} (R : Rel A) (final : Stored) (ps : List Frame) (b b' : Builder) (a : A) : Type 0 where
-  pub kept : KeepsAll b b'
-  pub grows : Grows (mark b) (mark b')
-  pub in_final : Paired b.stored → Extends b'.stored final → R final ps (mark b) (mark b') a
-
-abbrev pub Holds : {A : Type 0} → Rel A → Stored → List Frame → Builder → Checked A → Builder → Type 0
-Holds R final ps b (Ok a) b' = Answers R final ps b b' a
-Holds R final ps b (Err e) b' = Extends b.stored b'.stored
-
--- Wherever p answers, what it answers is so in each store that begins with what was stored. Nothing is lost, where it is refused too.
-pub record Correct {A : Type 0} (p : Lowering A) (R : Rel A) : Type 0 where
-  pub holds : (final : Stored) (ps : List Frame) (b : Builder) → b.scopes ≡ ribs ps → Holds R final ps b (p b).0 (p b).1
-
--- one after another
-pub record Seq {A B : Type 0} (R : Rel A) (Q : A → Rel B) (final : Stored) (ps : List Frame) (m m' : Mark) (b : B) : Type 0 where
-  pub middle : Mark
-  pub one : A
-  pub before : Grows m middle
-  pub after : Grows middle m'
-  pub first : R final ps m middle one
-  pub second : Q one final ps middle m' b
-
-grows_trans : {m m' m'' : Mark} → Grows m m' → Grows m' m'' → Grows m m''
-grows_trans g h = record { nodes = omega arith; labels = omega arith }
-
-grows_refl : (m : Mark) → Grows m m
-grows_refl m = record { nodes = omega arith; labels = omega arith }
-
-kept_trans : {a b c : Builder} → KeepsAll a b → KeepsAll b c → KeepsAll a c
-kept_trans g h = record {
-  scopes = h.scopes ∙ g.scopes;
-  roots = h.roots ∙ g.roots;
-  paired = λ d. h.paired (g.paired d);
-  stays = extends_trans g.stays h.stays;
-}
-
-pub correct_bind : {A B : Type 0} {p : Lowering A} {R : Rel A} {f : A → Lowering B} {Q : A → Rel B} → Correct p R
-    → ((a : A) → Correct (f a) (Q a)) → Correct (p >>= f) (Seq R Q)
-correct_bind {A = A} {B = B} {p = p} {R = R} {f = f} {Q = Q} h k =
-    record { holds = λ final ps b r. first final ps b r (p b).0 (p b).1 (h.holds final ps b r) }
-  where
-    second : (final : Stored) (ps : List Frame) (b b' : Builder) (a : A) → Answers R final ps b b' a → (o : Checked B) (c : Builder)
-        → Holds (Q a) final ps b' o c → Holds (Seq R Q) final ps b o c
-    second final ps b b' a x (Ok e) c y = record {
-      kept = kept_trans x.kept y.kept;
-      grows = grows_trans x.grows y.grows;
-      in_final = λ d pre. record {
-        middle = mark b';
-        one = a;
-        before = x.grows;
-        after = y.grows;
-        first = x.in_final d (extends_trans y.kept.stays pre);
-        second = y.in_final (x.kept.paired d) pre;
-      };
-    }
-    second final ps b b' a x (Err e) c y = extends_trans x.kept.stays y
-
-    first : (final : Stored) (ps : List Frame) (b : Builder) → b.scopes ≡ ribs ps → (o : Checked A) (c : Builder)
-        → Holds R final ps b o c → Holds (Seq R Q) final ps b (go_on o c f).0 (go_on o c f).1
-    first final ps b r (Ok a) c x = second final ps b c a x (f a c).0 (f a c).1 ((k a).holds final ps c (x.kept.scopes ∙ r))
-    first final ps b r (Err e) c x = x
-
--- less of what is so
-pub correct_as : {A : Type 0} {p : Lowering A} {R Q : Rel A} → Correct p R
-    → ((final : Stored) (ps : List Frame) (m m' : Mark) (a : A) → Grows m m' → R final ps m m' a → Q final ps m m' a) → Correct p Q
-correct_as {A = A} {p = p} {R = R} {Q = Q} h less = record { holds = λ final ps b r. go final ps b (p b).0 (p b).1 (h.holds final ps b r) }
-  where
-    go : (final : Stored) (ps : List Frame) (b : Builder) (o : Checked A) (c : Builder) → Holds R final ps b o c → Holds Q final ps b o c
-    go final ps b (Ok a) c y = record {
-      kept = y.kept;
-      grows = y.grows;
-      in_final = λ d pre. less final ps (mark b) (mark c) a y.grows (y.in_final d pre);
-    }
-    go final ps b (Err e) c y = y
-
--- both of one lowering
-pub record Both {A : Type 0} (R Q : Rel A) (final : Stored) (ps : List Frame) (m m' : Mark) (a : A) : Type 0 where
-  pub one : R final ps m m' a
-  pub other : Q final ps m m' a
-
-pub correct_both : {A : Type 0} {p : Lowering A} {R Q : Rel A} → Correct p R → Correct p Q → Correct p (Both R Q)
-correct_both {A = A} {p = p} {R = R} {Q = Q} h k =
-    record { holds = λ final ps b r. go final ps b (p b).0 (p b).1 (h.holds final ps b r) (k.holds final ps b r) }
-  where
-    go : (final : Stored) (ps : List Frame) (b : Builder) (o : Checked A) (c : Builder) → Holds R final ps b o c
-        → Holds Q final ps b o c → Holds (Both R Q) final ps b o c
-    go final ps b (Ok a) c y z = record {
-      kept = y.kept;
-      grows = y.grows;
-      in_final = λ d pre. record { one = y.in_final d pre; other = z.in_final d pre };
-    }
-    go final ps b (Err e) c y z = y
-
--- what every answer is
-pub record Such {A : Type 0} (P : A → Type 0) (final : Stored) (ps : List Frame) (m m' : Mark) (a : A) : Type 0 where
-  pub is : P a
-
-pub correct_such : {A : Type 0} {p : Lowering A} {R : Rel A} {P : A → Type 0} → Correct p R
-    → ((b b' : Builder) (a : A) → p b ≡ (Ok a, b') → P a) → Correct p (Such P)
-correct_such {A = A} {p = p} {R = R} {P = P} h each =
-    record { holds = λ final ps b r. go final ps b (p b).0 (p b).1 refl (h.holds final ps b r) }
-  where
-    go : (final : Stored) (ps : List Frame) (b : Builder) (o : Checked A) (c : Builder) → p b ≡ (o, c) → Holds R final ps b o c
-        → Holds (Such P) final ps b o c
-    go final ps b (Ok a) c e y = record { kept = y.kept; grows = y.grows; in_final = λ d pre. record { is = each b c a e } }
-    go final ps b (Err f) c e y = y
-
-longer : {A : Type 0} {xs ys : List A} → Prefix xs ys → length xs ≤ length ys
-longer {xs = xs} p = let e = ap length p.is in let n = length-append xs p.more in omega arith
-
--- what is stored by then is in the final store
-pub record InStore {A : Type 0} (R : Rel A) (final : Stored) (ps : List Frame) (m m' : Mark) (a : A) : Type 0 where
-  pub rel : R final ps m m' a
-  pub nodes : m'.nodes ≤ length final.exprs.entries
-  pub labels : m'.labels ≤ length final.labels.entries
-
-pub correct_in_store : {A : Type 0} {p : Lowering A} {R : Rel A} → Correct p R → Correct p (InStore R)
-correct_in_store {A = A} {p = p} {R = R} h = record { holds = λ final ps b r. go final ps b (p b).0 (p b).1 (h.holds final ps b r) }
-  where
-    go : (final : Stored) (ps : List Frame) (b : Builder) (o : Checked A) (c : Builder) → Holds R final ps b o c
-        → Holds (InStore R) final ps b o c
-    go final ps b (Ok a) c y = record {
-      kept = y.kept;
-      grows = y.grows;
-      in_final = λ d pre. record { rel = y.in_final d pre; nodes = longer pre.exprs.entries; labels = longer pre.labels.entries };
-    }
-    go final ps b (Err e) c y = y
-
--- steps that store no expression
-
-pub record IsPure {A : Type 0} (a : A) (final : Stored) (ps : List Frame) (m m' : Mark) (b : A) : Type 0 where
-  pub is : b ≡ a
-  pub still : m' ≡ m
-
-pub correct_pure : {A : Type 0} (a : A) → Correct (pure a) (IsPure a)
-correct_pure a = record {
-  holds = λ final ps b r. record {
-    kept = record { scopes = refl; roots = refl; paired = λ d. d; stays = extends_refl b.stored };
-    grows = grows_refl (mark b);
-    in_final = λ d pre. record { is = refl; still = refl };
-  };
-}
+pub use Rattle.hir_steps.proofs.Logic.{Mark, mark, Grows, Rel, Answers, Holds, Correct, Seq, Both, InStore, IsPure, kept_still}
+pub use Rattle.hir_steps.proofs.Logic.{correct_bind, correct_as, correct_both, correct_in_store, correct_pure}
+pub use Rattle.hir_steps.proofs.TypeSteps.{AllocatedType, AllocatedLifetime, with_type, with_lifetime, correct_alloc_type}
+pub use Rattle.hir_steps.proofs.TypeSteps.{correct_alloc_lifetime}
+use Rattle.hir_steps.proofs.Logic.{grows_refl, in_prefix, one_more}
 
 -- refused at the end of a counter
 pub correct_count_out : {A : Type 0} (R : Rel A) → Correct {A = A} count_out R
 unfolding count_out
 correct_count_out R = record { holds = λ final ps b r. extends_refl b.stored }
 
--- it writes, as f says, and stores no expression and no label
+-- it writes, as f says, and stores no expression, label, type or lifetime
 pub record Writes {A : Type 0} (a : A) (f : Stored → Stored) (final : Stored) (ps : List Frame) (m m' : Mark) (b : A) : Type 0 where
   pub is : b ≡ a
   pub nodes : m'.nodes ≡ m.nodes
@@ -213,6 +59,9 @@ abbrev pub with_block : Option BlockId → Stored → Stored
 with_block None s = s
 with_block (Some n) s = record s { block_scopes = s.block_scopes ++ n ∷ [] }
 
+abbrev pub with_field : ExprId → Pointer → Stored → Stored
+with_field id p s = record s { field_map_back = with_first_by same_expr s.field_map_back id p }
+
 -- the fault of what awaits in this
 abbrev pub with_await : Pointer → Option AwaitLocation → Stored → Stored
 with_await node None s = s
@@ -225,10 +74,11 @@ correct_report fault = record {
     kept = record {
       scopes = refl;
       roots = refl;
-      paired = λ d. record { exprs = d.exprs; labels = d.labels };
+      paired = λ d. record { exprs = d.exprs; labels = d.labels; types = d.types; lifetimes = d.lifetimes };
+      mapped = λ d w. record { types = w.types; lifetimes = w.lifetimes };
       stays = extends_report b.stored fault;
     };
-    grows = record { nodes = omega arith; labels = omega arith };
+    grows = record { nodes = omega arith; labels = omega arith; types = omega arith; lifetimes = omega arith };
     in_final = λ d pre. record { is = refl; nodes = refl; labels = refl; stored = refl };
   };
 }
@@ -255,10 +105,27 @@ correct_point node id = record {
     kept = record {
       scopes = refl;
       roots = refl;
-      paired = λ d. record { exprs = d.exprs; labels = d.labels };
+      paired = λ d. record { exprs = d.exprs; labels = d.labels; types = d.types; lifetimes = d.lifetimes };
+      mapped = λ d w. record { types = w.types; lifetimes = w.lifetimes };
       stays = extends_point b.stored node id;
     };
-    grows = record { nodes = omega arith; labels = omega arith };
+    grows = record { nodes = omega arith; labels = omega arith; types = omega arith; lifetimes = omega arith };
+    in_final = λ d pre. record { is = refl; nodes = refl; labels = refl; stored = refl };
+  };
+}
+
+pub correct_point_field : (id : ExprId) (node : Pointer) → Correct (point_field id node) (Writes tt (with_field id node))
+unfolding point_field storing.point_field
+correct_point_field id node = record {
+  holds = λ final ps b r. record {
+    kept = record {
+      scopes = refl;
+      roots = refl;
+      paired = λ d. record { exprs = d.exprs; labels = d.labels; types = d.types; lifetimes = d.lifetimes };
+      mapped = λ d w. record { types = w.types; lifetimes = w.lifetimes };
+      stays = extends_field b.stored id node;
+    };
+    grows = record { nodes = omega arith; labels = omega arith; types = omega arith; lifetimes = omega arith };
     in_final = λ d pre. record { is = refl; nodes = refl; labels = refl; stored = refl };
   };
 }
@@ -271,10 +138,11 @@ correct_enter_block (Some n) = record {
     kept = record {
       scopes = refl;
       roots = refl;
-      paired = λ d. record { exprs = d.exprs; labels = d.labels };
+      paired = λ d. record { exprs = d.exprs; labels = d.labels; types = d.types; lifetimes = d.lifetimes };
+      mapped = λ d w. record { types = w.types; lifetimes = w.lifetimes };
       stays = extends_block b.stored n;
     };
-    grows = record { nodes = omega arith; labels = omega arith };
+    grows = record { nodes = omega arith; labels = omega arith; types = omega arith; lifetimes = omega arith };
     in_final = λ d pre. record { is = refl; nodes = refl; labels = refl; stored = refl };
   };
 }
@@ -292,22 +160,6 @@ pub record Allocated (e : Expr) (source : Option Pointer) (final : Stored) (ps :
   pub labels : m'.labels ≡ m.labels
   pub last : m.nodes ≡ length m.stored.exprs.entries
   pub stored : m'.stored ≡ with_expr e source m.stored
-
-at_end : {A : Type 0} (xs : List A) (x : A) (more : List A) → slice_get ((xs ++ x ∷ []) ++ more) (length xs) ≡ Some x
-at_end xs x more =
-    let e : (xs ++ x ∷ []) ++ more ≡ xs ++ x ∷ more = append_assoc xs (x ∷ []) more in
-    let n = length-append xs (x ∷ more) in
-    let lt : length xs < length (xs ++ x ∷ more) = omega arith in
-    rw e (slice_get-get_or (xs ++ x ∷ more) (length xs) x lt ∙ ap Some (get_or-append_seam xs x more x))
-
-in_prefix : {A : Type 0} (xs : List A) (x : A) {final : List A} (n : ℕ) → n ≡ length xs → Prefix (xs ++ x ∷ []) final
-    → slice_get final n ≡ Some x
-in_prefix xs x {final = final} n e p =
-    ap (λ f. slice_get f n) p.is ∙ (ap (λ k. slice_get ((xs ++ x ∷ []) ++ p.more) k) e ∙ at_end xs x p.more)
-
-one_more : {A B : Type 0} (xs : List A) (x : A) (ys : List B) (y : B) → length ys ≡ length xs
-    → length (ys ++ y ∷ []) ≡ length (xs ++ x ∷ [])
-one_more xs x ys y e = length-append ys (y ∷ []) ∙ ap (λ n. n + 1) e ∙ sym (length-append xs (x ∷ []))
 
 -- an entry more, where the limit allows one
 abbrev made_expr : Bool → Expr → Option Pointer → Sourced Expr ExprId → Checked ExprId × Sourced Expr ExprId
@@ -328,16 +180,20 @@ correct_alloc e source = record { holds = λ final ps b r. go final ps b (nat_lt
           kept = record {
             scopes = refl;
             roots = refl;
-            paired = λ d. record { exprs = one_more xs e ss source d.exprs; labels = d.labels };
+            paired = λ d. record { exprs = one_more xs e ss source d.exprs; labels = d.labels; types = d.types; lifetimes = d.lifetimes };
+            mapped = λ d w. record { types = w.types; lifetimes = w.lifetimes };
             stays = record {
               exprs = continues_entry expr_id s.exprs e source;
               labels = continues_refl s.labels;
+              types = continues_refl s.types;
+              lifetimes = continues_refl s.lifetimes;
               roots = prefix_refl s.roots;
+              field_map_back = prefix_refl s.field_map_back;
               block_scopes = prefix_refl s.block_scopes;
               diagnostics = prefix_refl s.diagnostics;
             };
           };
-          grows = record { nodes = omega arith; labels = omega arith };
+          grows = record { nodes = omega arith; labels = omega arith; types = omega arith; lifetimes = omega arith };
           in_final = λ d pre. record {
             number = refl;
             here = in_prefix xs e (length xs) refl pre.exprs.entries;
@@ -367,6 +223,7 @@ pub record Opened {A B : Type 0} (at : Label → LabelId → Frame) (l : Label) 
   pub from : slice_get final.labels.sources m.labels ≡ Some (Some l.pointer)
   pub labels : entered.labels ≡ suc m.labels
   pub nodes : entered.nodes ≡ m.nodes
+  pub types : entered.types ≡ m.types
   pub last : m.labels ≡ length m.stored.labels.entries
   pub stored : entered.stored ≡ with_label l m.stored
   pub before : Grows entered left
@@ -379,10 +236,13 @@ record Opening (l : Label) (b : Builder) (n : LabelId) (b' : Builder) : Type 0 w
   scopes : b'.scopes ≡ rib l n ∷ b.scopes
   roots : b'.stored.roots ≡ b.stored.roots
   paired : Paired b.stored → Paired b'.stored
+  mapped : Paired b.stored → Mapped b.stored → Mapped b'.stored
   stays : Extends b.stored b'.stored
   number : n.0 ≡ length b.stored.labels.entries
   labels : length b'.stored.labels.entries ≡ suc (length b.stored.labels.entries)
   nodes : length b'.stored.exprs.entries ≡ length b.stored.exprs.entries
+  types : length b'.stored.types.entries ≡ length b.stored.types.entries
+  lifetimes : length b'.stored.lifetimes.entries ≡ length b.stored.lifetimes.entries
   stored : b'.stored ≡ with_label l b.stored
   here : (final : Stored) → Extends b'.stored final
       → slice_get final.labels.entries (length b.stored.labels.entries) ≡ Some (record { name = l.name })
@@ -415,17 +275,28 @@ opens l b = go (nat_lt (length b.stored.labels.entries) b.stored.labels.limit)
         let grown = length-append xs (x ∷ []) in record {
           scopes = refl;
           roots = refl;
-          paired = λ d. record { exprs = d.exprs; labels = one_more xs x ss (Some l.pointer) d.labels };
+          paired = λ d. record {
+            exprs = d.exprs;
+            labels = one_more xs x ss (Some l.pointer) d.labels;
+            types = d.types;
+            lifetimes = d.lifetimes;
+          };
+          mapped = λ d w. record { types = w.types; lifetimes = w.lifetimes };
           stays = record {
             exprs = continues_refl s.exprs;
             labels = continues_entry label_id s.labels x (Some l.pointer);
+            types = continues_refl s.types;
+            lifetimes = continues_refl s.lifetimes;
             roots = prefix_refl s.roots;
+            field_map_back = prefix_refl s.field_map_back;
             block_scopes = prefix_refl s.block_scopes;
             diagnostics = prefix_refl s.diagnostics;
           };
           number = refl;
           labels = omega arith;
           nodes = refl;
+          types = refl;
+          lifetimes = refl;
           stored = refl;
           here = λ final e. in_prefix xs x (length xs) refl e.labels.entries;
           from = λ d final e. in_prefix ss (Some l.pointer) (length xs) (sym d.labels) e.labels.sources;
@@ -455,6 +326,7 @@ correct_opened {A = A} {B = B} at l {p = p} {R = R} {f = f} {Q = Q} frame hp hf 
         scopes = y.kept.scopes ∙ ap rest (x.kept.scopes ∙ h.scopes);
         roots = y.kept.roots ∙ (x.kept.roots ∙ h.roots);
         paired = λ d. y.kept.paired (x.kept.paired (h.paired d));
+        mapped = λ d w. y.kept.mapped (x.kept.paired (h.paired d)) (x.kept.mapped (h.paired d) (h.mapped d w));
         stays = extends_trans h.stays (extends_trans x.kept.stays y.kept.stays);
       };
       grows =
@@ -462,7 +334,9 @@ correct_opened {A = A} {B = B} at l {p = p} {R = R} {f = f} {Q = Q} frame hp hf 
           let g' = y.grows in
           let e' = h.labels in
           let e'' = h.nodes in
-          record { nodes = omega arith; labels = omega arith };
+          let t = h.types in
+          let f = h.lifetimes in
+          record { nodes = omega arith; labels = omega arith; types = omega arith; lifetimes = omega arith };
       in_final = λ d pre.
           let past : Extends b2.stored final = extends_trans y.kept.stays pre in
           let open' : Extends b1.stored final = extends_trans x.kept.stays past in
@@ -476,6 +350,7 @@ correct_opened {A = A} {B = B} at l {p = p} {R = R} {f = f} {Q = Q} frame hp hf 
             from = h.from d final open';
             labels = h.labels;
             nodes = h.nodes;
+            types = h.types;
             last = refl;
             stored = h.stored;
             before = x.grows;
@@ -523,7 +398,7 @@ pub correct_target : (j : Option Jump) → Correct (jump_target j) (Targeted j)
 unfolding jump_target report storing.report
 correct_target None = record {
   holds = λ final ps b r. record {
-    kept = record { scopes = refl; roots = refl; paired = λ d. d; stays = extends_refl b.stored };
+    kept = kept_still b;
     grows = grows_refl (mark b);
     in_final = λ d pre. record { is = refl; nodes = refl; labels = refl; stored = refl };
   };
@@ -533,7 +408,7 @@ correct_target (Some j) = record { holds = λ final ps b r. go final ps b (targe
     go : (final : Stored) (ps : List Frame) (b : Builder) (o : Target LabelId) → o ≡ target j (ribs ps)
         → Holds (Targeted (Some j)) final ps b (found_or_fault j o b).0 (found_or_fault j o b).1
     go final ps b (reachable n) e = record {
-      kept = record { scopes = refl; roots = refl; paired = λ d. d; stays = extends_refl b.stored };
+      kept = kept_still b;
       grows = grows_refl (mark b);
       in_final = λ d pre. record { is = ap number_found e; nodes = refl; labels = refl; stored = ap (λ t. with_target j t b.stored) e };
     }
@@ -541,19 +416,21 @@ correct_target (Some j) = record { holds = λ final ps b r. go final ps b (targe
       kept = record {
         scopes = refl;
         roots = refl;
-        paired = λ d. record { exprs = d.exprs; labels = d.labels };
+        paired = λ d. record { exprs = d.exprs; labels = d.labels; types = d.types; lifetimes = d.lifetimes };
+        mapped = λ d w. record { types = w.types; lifetimes = w.lifetimes };
         stays = extends_report b.stored (UnreachableLabel j.pointer j.name);
       };
-      grows = record { nodes = omega arith; labels = omega arith };
+      grows = record { nodes = omega arith; labels = omega arith; types = omega arith; lifetimes = omega arith };
       in_final = λ d pre. record { is = ap number_found e; nodes = refl; labels = refl; stored = ap (λ t. with_target j t b.stored) e };
     }
     go final ps b undeclared e = record {
       kept = record {
         scopes = refl;
         roots = refl;
-        paired = λ d. record { exprs = d.exprs; labels = d.labels };
+        paired = λ d. record { exprs = d.exprs; labels = d.labels; types = d.types; lifetimes = d.lifetimes };
+        mapped = λ d w. record { types = w.types; lifetimes = w.lifetimes };
         stays = extends_report b.stored (UndeclaredLabel j.pointer j.name);
       };
-      grows = record { nodes = omega arith; labels = omega arith };
+      grows = record { nodes = omega arith; labels = omega arith; types = omega arith; lifetimes = omega arith };
       in_final = λ d pre. record { is = ap number_found e; nodes = refl; labels = refl; stored = ap (λ t. with_target j t b.stored) e };
     }

@@ -1,20 +1,29 @@
 -- What lowering leaves as it was.
-use Rattle.std.specs.Prelude.{◌≡◌, length, Ok, Err}
+use Rattle.std.specs.Prelude.{◌≡◌, length, Option, Ok, Err}
+use Rattle.hir_store.specs.Arenas.{MapsBack}
 use Rattle.hir_store.specs.Stored.{Stored}
 use Rattle.hir_store.specs.Storing.{Checked, Extends}
-use Rattle.hir_env.specs.Answered.{OptionExpr}
+use Rattle.hir_env.specs.Answered.{Binder, OptionType, OptionPath, OptionExpr}
 use Rattle.hir_lower_form.specs.Builder.{Builder}
-use Rattle.hir_lower_form.specs.Lower.{lower_part}
+use Rattle.hir_lower_form.specs.Lower.{type_part, lower_path, lower_part}
 
 -- each entry has its source: an empty store is so, and stays so
 pub record Paired (s : Stored) : Type 0 where
   pub exprs : length s.exprs.sources ≡ length s.exprs.entries
   pub labels : length s.labels.sources ≡ length s.labels.entries
+  pub types : length s.types.sources ≡ length s.types.entries
+  pub lifetimes : length s.lifetimes.sources ≡ length s.lifetimes.entries
+
+-- the nodes of types and lifetimes lead to them, and no other node does: so it is in an empty store, and stays
+pub record Mapped (s : Stored) : Type 0 where
+  pub types : MapsBack (λ i. i.0) s.types
+  pub lifetimes : MapsBack (λ i. i.0) s.lifetimes
 
 pub record KeepsAll (b b' : Builder) : Type 0 where
   pub scopes : b'.scopes ≡ b.scopes
   pub roots : b'.stored.roots ≡ b.stored.roots
   pub paired : Paired b.stored → Paired b'.stored
+  pub mapped : Paired b.stored → Mapped b.stored → Mapped b'.stored
   pub stays : Extends b.stored b'.stored
 
 -- after a refusal something may be open, but nothing is lost
@@ -24,3 +33,22 @@ Keeps b (Err e) b' = Extends b.stored b'.stored
 
 abbrev pub Keeping : Type 0
 Keeping = (e : OptionExpr) (b : Builder) → Keeps b (lower_part e b).0 (lower_part e b).1
+
+-- types and paths store beside expressions and labels, report nothing and enter no block
+pub record StaysAside (old new : Stored) : Type 0 where
+  pub exprs : new.exprs ≡ old.exprs
+  pub labels : new.labels ≡ old.labels
+  pub diagnostics : new.diagnostics ≡ old.diagnostics
+  pub block_scopes : new.block_scopes ≡ old.block_scopes
+  pub field_map_back : new.field_map_back ≡ old.field_map_back
+
+abbrev pub KeepsAside : {A : Type 0} → Builder → Checked A → Builder → Type 0
+KeepsAside b (Ok a) b' = KeepsAll b b' × StaysAside b.stored b'.stored
+KeepsAside b (Err e) b' = Extends b.stored b'.stored
+
+abbrev pub TypesKeep : Type 0
+TypesKeep = (binder : Option Binder) (t : OptionType) (b : Builder) → Paired b.stored
+    → KeepsAside b (type_part binder t b).0 (type_part binder t b).1
+
+abbrev pub PathsKeep : Type 0
+PathsKeep = (p : OptionPath) (b : Builder) → Paired b.stored → KeepsAside b (lower_path p b).0 (lower_path p b).1

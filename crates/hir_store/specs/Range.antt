@@ -1,14 +1,28 @@
 -- Which entries an entry names, and that they exist.
 use Rattle.std.specs.Prelude.{◌≡◌, ℕ, suc, ◌≤◌, max, List, length, Option}
 use Rattle.hir_store.specs.Arenas.{past, past_option}
-use Rattle.hir_store.specs.Stored.{Stored, Store, SourceMap}
+use Rattle.hir_store.specs.Stored.{Stored, Store, SourceMap, store_of}
+use Rattle.hir_store.specs.Past.{Past, Within, past_arg, past_binding, past_bound, past_bounds, past_each, past_generic}
+use Rattle.hir_store.specs.Past.{past_lifetime_id, past_path, past_present, past_type, past_type_id, past_type_ids, past_use_args}
 use Rattle.hir_store.specs.declared.hir.Expr.{Expr}
 use Rattle.hir_store.specs.declared.hir.Expr.TheVariants as hir
 use Rattle.hir_store.specs.declared.hir.Statement.{Statement}
 use Rattle.hir_store.specs.declared.hir.Statement.TheVariants as statement
+use Rattle.hir_store.specs.declared.hir.RecordLitField.{RecordLitField}
+use Rattle.hir_store.specs.declared.hir.RecordSpread.{RecordSpread}
+use Rattle.hir_store.specs.declared.hir.RecordSpread.TheVariants as spread
 use Rattle.hir_store.specs.declared.roots.ExprRoot.{ExprRoot}
 use Rattle.hir_store.specs.declared.ids.ExprId.{ExprId}
 use Rattle.hir_store.specs.declared.ids.LabelId.{LabelId}
+use Rattle.hir_store.specs.declared.ids.TypeRefId.{TypeRefId}
+use Rattle.hir_store.specs.declared.ids.LifetimeRefId.{LifetimeRefId}
+use Rattle.hir_store.specs.declared.path.Path.{Path}
+use Rattle.hir_store.specs.declared.path.GenericArg.{GenericArg}
+use Rattle.hir_store.specs.declared.path.GenericArgs.{GenericArgs}
+use Rattle.hir_store.specs.declared.path.AssociatedTypeBinding.{AssociatedTypeBinding}
+use Rattle.hir_store.specs.declared.type_ref.UseArgRef.{UseArgRef}
+use Rattle.hir_store.specs.declared.type_ref.TypeBound.{TypeBound}
+use Rattle.hir_store.specs.declared.type_ref.TypeRef.{TypeRef}
 
 -- ---- the least number above those that are named, for each arena
 
@@ -22,17 +36,27 @@ abbrev pub past_statement : Statement → ℕ
 past_statement (statement.Expr id semi) = suc id.0
 past_statement statement.Item = 0
 
+abbrev pub past_field : RecordLitField → ℕ
+past_field f = suc f.expr.0
+
+abbrev pub past_spread : RecordSpread → ℕ
+past_spread (spread.Expr id) = suc id.0
+past_spread _ = 0
+
 abbrev pub past_root : ExprRoot → ℕ
 past_root r = max (suc r.root.0) r.exprs_end.0
 
 -- the expressions that an expression names
 abbrev pub exprs_in : Expr → ℕ
+exprs_in (hir.Path p hygiene) = (past_path p).exprs
 exprs_in (hir.If c t e) = max (suc c.0) (max (suc t.0) (past_option past_expr e))
 exprs_in (hir.Block is_unsafe label id ss tail) = max (past past_statement ss) (past_option past_expr tail)
 exprs_in (hir.Loop b label source) = suc b.0
 exprs_in (hir.Call f es) = max (suc f.0) (past past_expr es)
 exprs_in (hir.Break label e) = past_option past_expr e
-exprs_in (hir.MethodCall receiver name es) = max (suc receiver.0) (past past_expr es)
+exprs_in (hir.MethodCall receiver name generics es) =
+    max (suc receiver.0) (max (past_present past_generic generics).exprs (past past_expr es))
+exprs_in (hir.RecordLit p fields spread) = max (past_path p).exprs (max (past past_field fields) (past_spread spread))
 exprs_in (hir.Field e name) = suc e.0
 exprs_in (hir.UnaryOp op e) = suc e.0
 exprs_in (hir.BinaryOp op lhs rhs) = max (suc lhs.0) (suc rhs.0)
@@ -45,6 +69,7 @@ exprs_in (hir.Become e) = suc e.0
 exprs_in (hir.Yield e) = past_option past_expr e
 exprs_in (hir.Yeet e) = past_option past_expr e
 exprs_in (hir.Await e) = suc e.0
+exprs_in (hir.Cast e type_ref) = suc e.0
 exprs_in _ = 0
 
 -- the labels that it names
@@ -54,6 +79,21 @@ labels_in (hir.Loop b label source) = past_option past_label label
 labels_in (hir.Continue label) = past_option past_label label
 labels_in (hir.Break label e) = past_option past_label label
 labels_in _ = 0
+
+-- the types and the lifetimes that it names
+abbrev pub types_in : Expr → ℕ
+types_in (hir.Path p hygiene) = (past_path p).types
+types_in (hir.MethodCall receiver name generics es) = (past_present past_generic generics).types
+types_in (hir.RecordLit p fields spread) = (past_path p).types
+types_in (hir.Cast e type_ref) = suc type_ref.0
+types_in (hir.OffsetOf container fields) = suc container.0
+types_in _ = 0
+
+abbrev pub lifetimes_in : Expr → ℕ
+lifetimes_in (hir.Path p hygiene) = (past_path p).lifetimes
+lifetimes_in (hir.MethodCall receiver name generics es) = (past_present past_generic generics).lifetimes
+lifetimes_in (hir.RecordLit p fields spread) = (past_path p).lifetimes
+lifetimes_in _ = 0
 
 -- ---- what is named exists
 
@@ -75,28 +115,98 @@ HasStatementOption s o = past_option past_statement o ≤ length s.exprs.entries
 abbrev pub HasStatements : Stored → List Statement → Type 0
 HasStatements s ss = past past_statement ss ≤ length s.exprs.entries
 
+abbrev pub HasFields : Stored → List RecordLitField → Type 0
+HasFields s fs = past past_field fs ≤ length s.exprs.entries
+
+abbrev pub HasSpread : Stored → RecordSpread → Type 0
+HasSpread s r = past_spread r ≤ length s.exprs.entries
+
 abbrev pub HasLabel : Stored → LabelId → Type 0
 HasLabel s id = suc id.0 ≤ length s.labels.entries
 
 abbrev pub HasLabelOption : Stored → Option LabelId → Type 0
 HasLabelOption s o = past_option past_label o ≤ length s.labels.entries
 
+-- what this lies past exists
+abbrev pub Has : Stored → Past → Type 0
+Has s p = Within (store_of s) p
+
+abbrev pub HasType : Stored → TypeRefId → Type 0
+HasType s id = suc id.0 ≤ length s.types.entries
+
+abbrev pub HasTypeOption : Stored → Option TypeRefId → Type 0
+HasTypeOption s o = Has s (past_present past_type_id o)
+
+abbrev pub HasTypes : Stored → List TypeRefId → Type 0
+HasTypes s ids = Has s (past_type_ids ids)
+
+abbrev pub HasLifetime : Stored → LifetimeRefId → Type 0
+HasLifetime s id = suc id.0 ≤ length s.lifetimes.entries
+
+abbrev pub HasLifetimeOption : Stored → Option LifetimeRefId → Type 0
+HasLifetimeOption s o = Has s (past_present past_lifetime_id o)
+
+abbrev pub HasArg : Stored → GenericArg → Type 0
+HasArg s a = Has s (past_arg a)
+
+abbrev pub HasArgs : Stored → GenericArgs → Type 0
+HasArgs s a = Has s (past_generic a)
+
+abbrev pub HasArgsOption : Stored → Option GenericArgs → Type 0
+HasArgsOption s o = Has s (past_present past_generic o)
+
+abbrev pub HasBinding : Stored → AssociatedTypeBinding → Type 0
+HasBinding s b = Has s (past_binding b)
+
+abbrev pub HasBound : Stored → TypeBound → Type 0
+HasBound s b = Has s (past_bound b)
+
+abbrev pub HasBounds : Stored → List TypeBound → Type 0
+HasBounds s bs = Has s (past_bounds bs)
+
+abbrev pub HasUseArgs : Stored → List UseArgRef → Type 0
+HasUseArgs s as' = Has s (past_use_args as')
+
+abbrev pub HasPath : Stored → Path → Type 0
+HasPath s p = Has s (past_path p)
+
+abbrev pub HasPathOption : Stored → Option Path → Type 0
+HasPathOption s o = Has s (past_present past_path o)
+
+-- the parts of a type
+abbrev pub HasTypeParts : Stored → TypeRef → Type 0
+HasTypeParts s t = Has s (past_type t)
+
 -- the parts of an expression
 abbrev pub HasParts : Stored → Expr → Type 0
-HasParts s e = (exprs_in e ≤ length s.exprs.entries) × (labels_in e ≤ length s.labels.entries)
+HasParts s e =
+    (exprs_in e ≤ length s.exprs.entries) × (labels_in e ≤ length s.labels.entries)
+    × (types_in e ≤ length s.types.entries) × (lifetimes_in e ≤ length s.lifetimes.entries)
 
 -- every number in the store is in range
 pub record StoreInRange (s : Store) : Type 0 where
   pub exprs : past exprs_in s.exprs ≤ length s.exprs
   pub labels : past labels_in s.exprs ≤ length s.labels
+  pub types : past types_in s.exprs ≤ length s.types
+  pub lifetimes : past lifetimes_in s.exprs ≤ length s.lifetimes
+  pub of_types : Within s (past_each past_type s.types)
   pub roots : past past_root s.roots ≤ length s.exprs
+
+-- every number in what is stored so far is in range, but for the ways to what is stored
+abbrev pub InRangeSoFar : Stored → Type 0
+InRangeSoFar s = StoreInRange (store_of s) × (past (λ e. past_expr e.0) s.field_map_back ≤ length s.exprs.entries)
 
 -- every number in the source map is one of the store, and each entry has its source
 pub record MapInRange (s : Store) (m : SourceMap) : Type 0 where
   pub expr_sources : length m.expr_sources ≡ length s.exprs
   pub label_sources : length m.label_sources ≡ length s.labels
+  pub type_sources : length m.type_sources ≡ length s.types
+  pub lifetime_sources : length m.lifetime_sources ≡ length s.lifetimes
   pub exprs : past (λ way. past_expr way.1) m.expr_map ≤ length s.exprs
   pub labels : past (λ way. past_label way.1) m.label_map ≤ length s.labels
+  pub fields : past (λ e. past_expr e.0) m.field_map_back ≤ length s.exprs
+  pub types : past (λ way. suc way.1.0) m.types_map ≤ length s.types
+  pub lifetimes : past (λ way. suc way.1.0) m.lifetime_map ≤ length s.lifetimes
 
 pub record InRange (s : Store) (m : SourceMap) : Type 0 where
   pub store : StoreInRange s
@@ -104,4 +214,6 @@ pub record InRange (s : Store) (m : SourceMap) : Type 0 where
 
 -- no arena is shorter in `new` than in `old`
 abbrev pub Grows : Stored → Stored → Type 0
-Grows old new = (length old.exprs.entries ≤ length new.exprs.entries) × (length old.labels.entries ≤ length new.labels.entries)
+Grows old new =
+    (length old.exprs.entries ≤ length new.exprs.entries) × (length old.labels.entries ≤ length new.labels.entries)
+    × (length old.types.entries ≤ length new.types.entries) × (length old.lifetimes.entries ≤ length new.lifetimes.entries)

@@ -1,5 +1,5 @@
 -- The first fault of a document.
-use Rattle.std.specs.Prelude.{◌≡◌, ℕ, ◌==◌, Bool, true, not, ◌&&◌, List, Option, Some, None, is_some, codes, replicate, nat_lt}
+use Rattle.std.specs.Prelude.{◌≡◌, ℕ, ◌==◌, Bool, true, not, ◌&&◌, ◌||◌, List, Option, Some, None, is_some, codes, replicate, nat_lt}
 use Rattle.std.specs.Prelude.{option_and_then, Result, Ok, Err, if◌then◌else◌}
 use Rattle.serde_json.specs.Data.{Data, Items, no_items}
 use Rattle.serde_json.specs.Find.{get, as_array, as_bool, as_object}
@@ -72,15 +72,16 @@ root_of d = root_in (get (codes "root") d)
 abbrev pub use_root : List (Option Kind) → Items → Group → ℕ → List ℕ → Option (List ℕ)
 use_root kinds ns g root levels = if count ns == 0 then Some levels else (if is_of_group kinds g root then use_at 1 levels root else None)
 
--- of the tree: the root, each node in order, the environment, whether each node is used, and none too deep
-abbrev pub whole_tree : List (Option Kind) → Items → Group → Data → List ℕ → Result (List ℕ) Fault
-whole_tree kinds ns g d levels = do
+-- of the tree: the root, each node in order, the environment, whether each node is used, and none too deep; an optional
+-- one may lack its nodes
+abbrev pub whole_tree : List (Option Kind) → Items → Group → Bool → Data → List ℕ → Result (List ℕ) Fault
+whole_tree kinds ns g optional d levels = do
   root ← there (root_of d) fault.Root
   first ← there (use_root kinds ns g root levels) fault.Root
   next ← nodes_from kinds 0 ns first
   _ ← env_if_there (get (codes "env") d)
   used ← all_levels next
-  _ ← wanted (not (count ns == 0)) fault.NoTree
+  _ ← wanted (optional || not (count ns == 0)) fault.NoTree
   Ok used
 
 abbrev fault_in : Result (List ℕ) Fault → Option Fault
@@ -88,13 +89,14 @@ fault_in (Ok levels) = None
 fault_in (Err f) = Some f
 
 -- the first fault of a tree, all of whose nodes are unused at first
-abbrev pub tree_fault : Group → Data → Items → Option Fault
-tree_fault g d ns = fault_in (whole_tree (kinds_of ns) ns g d (replicate (count ns) 0))
+abbrev pub tree_fault : Group → Bool → Data → Items → Option Fault
+tree_fault g optional d ns = fault_in (whole_tree (kinds_of ns) ns g optional d (replicate (count ns) 0))
 
--- the first fault of a document with at most so many nodes and a root of the group, none where it is one
-abbrev pub document_fault : ℕ → Group → Data → Option Fault
-document_fault most g d = if is_document d
-    then (if nat_lt most (count (nodes d)) then Some fault.TooManyNodes else tree_fault g d (nodes d))
+-- the first fault of a document with at most so many nodes and a root of the group, which may be optional; none where it
+-- is one
+abbrev pub document_fault : ℕ → Group → Bool → Data → Option Fault
+document_fault most g optional d = if is_document d
+    then (if nat_lt most (count (nodes d)) then Some fault.TooManyNodes else tree_fault g optional d (nodes d))
     else Some fault.NotADocument
 
 -- the fault is the first one; memory may be refused for any document

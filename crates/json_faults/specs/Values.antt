@@ -62,10 +62,11 @@ word_among words (Some text) = has_word words text
 abbrev pub is_word : List (List ℕ) → Data → Bool
 is_word words d = word_among words (as_str d)
 
--- a text may stand in place of a name or a lifetime
+-- a text may stand in place of a name or a lifetime, also where either may stand
 abbrev pub takes_text : Group → Bool
 takes_text group.Name = true
 takes_text group.Lifetime = true
+takes_text group.UseArg = true
 takes_text _ = false
 
 -- what may stand for a part of a group: a number, and also a text or null where these may

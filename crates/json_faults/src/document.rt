@@ -133,11 +133,12 @@ fn check_tree(
     kinds: &[Option<Kind>],
     nodes: &[Value],
     wanted: Group,
+    optional: bool,
     document: &Value,
     levels: &mut [u16],
 ) -> Result<(), Fault>
     requires { length levels.old ≡ length nodes.now }
-    ensures { Walks (spec.whole_tree kinds.now (items_view nodes.now) wanted (view document.now) levels.old) result levels.new }
+    ensures { Walks (spec.whole_tree kinds.now (items_view nodes.now) wanted optional (view document.now) levels.old) result levels.new }
 {
     let Some(root) = root_of(document) else {
         return Err(Fault::Root);
@@ -148,7 +149,7 @@ fn check_tree(
     check_each(kinds, nodes, levels)?;
     check_env(document.get("env"))?;
     check_levels(levels)?;
-    if is_missing(nodes) {
+    if !optional && is_missing(nodes) {
         return Err(Fault::NoTree);
     }
     Ok(())
@@ -174,18 +175,19 @@ fn kinds_in(alloc: Global, document: &Value) -> Result<Option<Vec<Option<Kind>>>
     whole_kinds_of(alloc, nodes(document))
 }
 
-/// The kinds of the nodes of a document that has no fault: it has at most so many nodes, and its root is of the group.
-/// Where it has one, the first; `Memory` where memory is refused.
+/// The kinds of the nodes of a document that has no fault: it has at most so many nodes, and a root of the group, or no
+/// node where the root is optional. Where it has one, the first; `Memory` where memory is refused.
 #[tactic(auto, using(crate::proofs::Items::count_items, crate::proofs::Beside::frame_nodes))]
 pub fn checked_kinds(
     alloc: Global,
     most: usize,
     wanted: Group,
+    optional: bool,
     document: &Value,
 ) -> Result<Vec<Option<Kind>>, Refusal>
-    ensures sound { OnOk result (spec.document_fault most wanted (view document.now) ≡ None) }
+    ensures sound { OnOk result (spec.document_fault most wanted optional (view document.now) ≡ None) }
     ensures kinds { IfOk result (λ kinds. kinds.items ≡ kinds_of (spec.nodes (view document.now))) }
-    ensures fault { IfErr result (λ e. IsRefusalFor (spec.document_fault most wanted (view document.now)) e) }
+    ensures fault { IfErr result (λ e. IsRefusalFor (spec.document_fault most wanted optional (view document.now)) e) }
 {
     if !has_frame(document) {
         return Err(Refusal::Fault(Fault::NotADocument));
@@ -205,6 +207,7 @@ pub fn checked_kinds(
         kinds.as_slice(),
         nodes,
         wanted,
+        optional,
         document,
         levels.as_mut_slice(),
     )?;

@@ -90,7 +90,7 @@ pub fn is_word(set: Words, value: &Value) -> bool
 fn takes_text(group: Group) -> bool
     ensures { result ≡ takes_text group }
 {
-    matches!(group, Group::Name | Group::Lifetime)
+    matches!(group, Group::Name | Group::Lifetime | Group::UseArg)
 }
 
 fn is_part(group: Group, nulls: bool, value: &Value) -> bool

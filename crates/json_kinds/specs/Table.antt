@@ -88,7 +88,7 @@ row kind.MethodCallExpr = record {
   groups = group.Expr ∷ [];
   fields = (codes "receiver" ∶ sort.Part group.Expr)
       ∷ (codes "name" ∶ sort.Part group.Name)
-      ∷ (codes "generics" ∶ sort.NotYet)
+      ∷ (codes "generics" ∶ sort.Part group.GenericArgs)
       ∷ (codes "args" ∶ sort.List group.Expr)
       ∷ [];
 }
@@ -164,12 +164,99 @@ row kind.UnderscoreExpr = record { word = codes "UnderscoreExpr"; groups = group
 row kind.IncludeBytesExpr = record { word = codes "IncludeBytesExpr"; groups = group.Expr ∷ []; fields = [] }
 row kind.AsmExpr = record { word = codes "AsmExpr"; groups = group.Expr ∷ []; fields = [] }
 row kind.FormatArgsExpr = record { word = codes "FormatArgsExpr"; groups = group.Expr ∷ []; fields = [] }
+row kind.CastExpr = record {
+  word = codes "CastExpr";
+  groups = group.Expr ∷ [];
+  fields = (codes "expr" ∶ sort.Part group.Expr) ∷ (codes "ty" ∶ sort.Part group.Type_) ∷ [];
+}
+row kind.RecordExpr = record {
+  word = codes "RecordExpr";
+  groups = group.Expr ∷ [];
+  fields = (codes "path" ∶ sort.Part group.Path) ∷ (codes "list" ∶ sort.Part group.RecordList) ∷ [];
+}
+row kind.OffsetOfExpr = record {
+  word = codes "OffsetOfExpr";
+  groups = group.Expr ∷ [];
+  fields = (codes "ty" ∶ sort.Part group.Type_) ∷ (codes "fields" ∶ sort.List group.Name) ∷ [];
+}
+row kind.RecordExprFieldList = record {
+  word = codes "RecordExprFieldList";
+  groups = group.RecordList ∷ [];
+  fields = (codes "fields" ∶ sort.List group.RecordField)
+      ∷ (codes "spread" ∶ sort.Part group.Expr)
+      ∷ (codes "dotdot" ∶ sort.Flag)
+      ∷ [];
+}
+row kind.RecordExprField = record {
+  word = codes "RecordExprField";
+  groups = group.RecordField ∷ [];
+  fields = (codes "name" ∶ sort.Part group.Name) ∷ (codes "expr" ∶ sort.Part group.Expr) ∷ [];
+}
 row kind.ExprStmt = record {
   word = codes "ExprStmt";
   groups = group.Stmt ∷ [];
   fields = (codes "expr" ∶ sort.Part group.Expr) ∷ (codes "semi" ∶ sort.Flag) ∷ [];
 }
 row kind.Item = record { word = codes "Item"; groups = group.Stmt ∷ []; fields = [] }
+row kind.ParenType = record {
+  word = codes "ParenType";
+  groups = group.Type_ ∷ [];
+  fields = (codes "ty" ∶ sort.Part group.Type_) ∷ [];
+}
+row kind.SliceType = record {
+  word = codes "SliceType";
+  groups = group.Type_ ∷ [];
+  fields = (codes "ty" ∶ sort.Part group.Type_) ∷ [];
+}
+row kind.TupleType = record {
+  word = codes "TupleType";
+  groups = group.Type_ ∷ [];
+  fields = (codes "fields" ∶ sort.List group.Type_) ∷ [];
+}
+row kind.PathType = record {
+  word = codes "PathType";
+  groups = group.Type_ ∷ group.PathType ∷ [];
+  fields = (codes "path" ∶ sort.Part group.Path) ∷ [];
+}
+row kind.PtrType = record {
+  word = codes "PtrType";
+  groups = group.Type_ ∷ [];
+  fields = (codes "mut" ∶ sort.Flag) ∷ (codes "ty" ∶ sort.Part group.Type_) ∷ [];
+}
+row kind.RefType = record {
+  word = codes "RefType";
+  groups = group.Type_ ∷ [];
+  fields = (codes "lifetime" ∶ sort.Part group.Lifetime)
+      ∷ (codes "mut" ∶ sort.Flag)
+      ∷ (codes "ty" ∶ sort.Part group.Type_)
+      ∷ [];
+}
+row kind.FnPtrType = record {
+  word = codes "FnPtrType";
+  groups = group.Type_ ∷ [];
+  fields = (codes "unsafe" ∶ sort.Flag)
+      ∷ (codes "abi" ∶ sort.TextIfThere)
+      ∷ (codes "params" ∶ sort.List group.Param)
+      ∷ (codes "ret" ∶ sort.Part group.Ret)
+      ∷ [];
+}
+row kind.ForType = record {
+  word = codes "ForType";
+  groups = group.Type_ ∷ [];
+  fields = (codes "binder" ∶ sort.Part group.Binder) ∷ (codes "ty" ∶ sort.Part group.Type_) ∷ [];
+}
+row kind.ImplTraitType = record {
+  word = codes "ImplTraitType";
+  groups = group.Type_ ∷ [];
+  fields = (codes "bounds" ∶ sort.List group.Bound) ∷ [];
+}
+row kind.DynTraitType = record {
+  word = codes "DynTraitType";
+  groups = group.Type_ ∷ [];
+  fields = (codes "bounds" ∶ sort.List group.Bound) ∷ [];
+}
+row kind.NeverType = record { word = codes "NeverType"; groups = group.Type_ ∷ []; fields = [] }
+row kind.InferType = record { word = codes "InferType"; groups = group.Type_ ∷ []; fields = [] }
 row kind.Path = record {
   word = codes "Path";
   groups = group.Path ∷ [];
@@ -184,12 +271,72 @@ row kind.PathSegment = record {
   groups = group.Segment ∷ [];
   fields = (codes "seg" ∶ sort.WordIfThere words.Segments)
       ∷ (codes "name" ∶ sort.Part group.Name)
-      ∷ (codes "generics" ∶ sort.NotYet)
-      ∷ (codes "parens" ∶ sort.NotYet)
-      ∷ (codes "ret" ∶ sort.NotYet)
-      ∷ (codes "rtn" ∶ sort.NotYet)
-      ∷ (codes "ty" ∶ sort.NotYet)
-      ∷ (codes "trait" ∶ sort.NotYet)
+      ∷ (codes "generics" ∶ sort.Part group.GenericArgs)
+      ∷ (codes "parens" ∶ sort.Part group.ParenArgs)
+      ∷ (codes "ret" ∶ sort.Part group.Ret)
+      ∷ (codes "rtn" ∶ sort.Flag)
+      ∷ (codes "ty" ∶ sort.Part group.Type_)
+      ∷ (codes "trait" ∶ sort.Part group.PathType)
+      ∷ [];
+}
+row kind.GenericArgList = record {
+  word = codes "GenericArgList";
+  groups = group.GenericArgs ∷ [];
+  fields = (codes "args" ∶ sort.List group.GenericArg) ∷ [];
+}
+row kind.TypeArg = record {
+  word = codes "TypeArg";
+  groups = group.GenericArg ∷ group.TypeArg ∷ [];
+  fields = (codes "ty" ∶ sort.Part group.Type_) ∷ [];
+}
+row kind.AssocTypeArg = record {
+  word = codes "AssocTypeArg";
+  groups = group.GenericArg ∷ [];
+  fields = (codes "name" ∶ sort.Part group.Name)
+      ∷ (codes "params" ∶ sort.Flag)
+      ∷ (codes "generics" ∶ sort.Part group.GenericArgs)
+      ∷ (codes "rtn" ∶ sort.Flag)
+      ∷ (codes "ty" ∶ sort.Part group.Type_)
+      ∷ (codes "bounds" ∶ sort.List group.Bound)
+      ∷ [];
+}
+row kind.LifetimeArg = record {
+  word = codes "LifetimeArg";
+  groups = group.GenericArg ∷ [];
+  fields = (codes "lifetime" ∶ sort.Part group.Lifetime) ∷ [];
+}
+row kind.ParenArgs = record {
+  word = codes "ParenArgs";
+  groups = group.ParenArgs ∷ [];
+  fields = (codes "args" ∶ sort.List group.TypeArg) ∷ [];
+}
+row kind.TypeBound = record {
+  word = codes "TypeBound";
+  groups = group.Bound ∷ [];
+  fields = (codes "b" ∶ sort.WordIfThere words.Bounds)
+      ∷ (codes "ty" ∶ sort.Part group.PathType)
+      ∷ (codes "binder" ∶ sort.Part group.Binder)
+      ∷ (codes "maybe" ∶ sort.Flag)
+      ∷ (codes "lifetime" ∶ sort.Part group.Lifetime)
+      ∷ (codes "uses" ∶ sort.List group.UseArg)
+      ∷ [];
+}
+row kind.ForBinder = record {
+  word = codes "ForBinder";
+  groups = group.Binder ∷ [];
+  fields = (codes "params" ∶ sort.ListWithNulls group.Lifetime) ∷ [];
+}
+row kind.RetType = record {
+  word = codes "RetType";
+  groups = group.Ret ∷ [];
+  fields = (codes "ty" ∶ sort.Part group.Type_) ∷ [];
+}
+row kind.Param = record {
+  word = codes "Param";
+  groups = group.Param ∷ [];
+  fields = (codes "pat" ∶ sort.NotYet)
+      ∷ (codes "ty" ∶ sort.Part group.Type_)
+      ∷ (codes "variadic" ∶ sort.Flag)
       ∷ [];
 }
 row kind.Label = record {
@@ -199,12 +346,12 @@ row kind.Label = record {
 }
 row kind.Lifetime = record {
   word = codes "Lifetime";
-  groups = group.Lifetime ∷ [];
+  groups = group.Lifetime ∷ group.UseArg ∷ [];
   fields = (codes "t" ∶ sort.Text) ∷ [];
 }
 row kind.Name = record {
   word = codes "Name";
-  groups = group.Name ∷ [];
+  groups = group.Name ∷ group.UseArg ∷ [];
   fields = (codes "t" ∶ sort.Text) ∷ [];
 }
 row kind.Fn = record {
@@ -235,9 +382,29 @@ abbrev pub keywords : List Kind
 keywords = kind.ReturnExpr ∷ kind.BecomeExpr ∷ kind.YieldExpr ∷ kind.YeetExpr ∷ kind.AwaitExpr
     ∷ kind.CfgPredExpr ∷ kind.UnderscoreExpr ∷ kind.IncludeBytesExpr ∷ kind.AsmExpr ∷ kind.FormatArgsExpr ∷ []
 
+-- expressions with types or paths, and the parts of a record
+abbrev pub typed : List Kind
+typed = kind.CastExpr ∷ kind.RecordExpr ∷ kind.OffsetOfExpr ∷ kind.RecordExprFieldList ∷ kind.RecordExprField ∷ []
+
+-- types made of types, paths and lifetimes
+abbrev pub types : List Kind
+types = kind.ParenType ∷ kind.SliceType ∷ kind.TupleType ∷ kind.PathType ∷ kind.PtrType ∷ kind.RefType ∷ []
+
+-- types with parameters or bounds, and those that are a word
+abbrev pub other_types : List Kind
+other_types = kind.FnPtrType ∷ kind.ForType ∷ kind.ImplTraitType ∷ kind.DynTraitType ∷ kind.NeverType ∷ kind.InferType ∷ []
+
+-- paths, and what stands beside a name
+abbrev pub paths : List Kind
+paths = kind.Path ∷ kind.PathSegment ∷ kind.GenericArgList ∷ kind.TypeArg ∷ kind.AssocTypeArg ∷ kind.LifetimeArg ∷ []
+
+-- other parts of types
+abbrev pub type_parts : List Kind
+type_parts = kind.ParenArgs ∷ kind.TypeBound ∷ kind.ForBinder ∷ kind.RetType ∷ kind.Param ∷ []
+
 -- all other kinds
 abbrev pub others : List Kind
-others = kind.ExprStmt ∷ kind.Item ∷ kind.Path ∷ kind.PathSegment ∷ kind.Label ∷ kind.Lifetime ∷ kind.Name ∷ kind.Fn ∷ []
+others = kind.ExprStmt ∷ kind.Item ∷ kind.Label ∷ kind.Lifetime ∷ kind.Name ∷ kind.Fn ∷ []
 
 -- the first of some kinds with a word
 abbrev pub kind_with : List Kind → List ℕ → Option Kind
@@ -245,4 +412,6 @@ kind_with ks t = with_word (λ k. (row k).word) ks t
 
 -- the kind with a word
 abbrev pub kind_of : List ℕ → Option Kind
-kind_of t = or_else (kind_with exprs t) (or_else (kind_with operations t) (or_else (kind_with keywords t) (kind_with others t)))
+kind_of t = or_else (kind_with exprs t) (or_else (kind_with operations t) (or_else (kind_with keywords t) (or_else (kind_with typed t)
+    (or_else (kind_with types t) (or_else (kind_with other_types t) (or_else (kind_with paths t) (or_else (kind_with type_parts t)
+    (kind_with others t))))))))

@@ -8,7 +8,7 @@ literals = codes "str" ∷ codes "bytestr" ∷ codes "cstr" ∷ codes "char" ∷
 
 -- what a segment of a path is written as
 abbrev segments : List (List ℕ)
-segments = codes "name" ∷ codes "self" ∷ codes "crate" ∷ codes "super" ∷ codes "Self" ∷ []
+segments = codes "name" ∷ codes "self" ∷ codes "crate" ∷ codes "super" ∷ codes "Self" ∷ codes "type" ∷ []
 
 abbrev comparisons : List (List ℕ)
 comparisons = codes "==" ∷ codes "!=" ∷ codes "<=" ∷ codes "<" ∷ codes ">=" ∷ codes ">" ∷ []
@@ -24,6 +24,7 @@ binary_ops = codes "||" ∷ codes "&&" ∷ (comparisons ++ (ariths ++ map (λ w.
 abbrev pub words : Words → List (List ℕ)
 words set.Literals = literals
 words set.Segments = segments
+words set.Bounds = codes "path" ∷ codes "use" ∷ codes "lifetime" ∷ []
 words set.Modifiers = codes "unsafe" ∷ []
 words set.UnaryOps = codes "*" ∷ codes "!" ∷ codes "-" ∷ []
 words set.BinaryOps = binary_ops

@@ -10,7 +10,10 @@ use crate::field::Sort::{
     Word, WordIfThere,
 };
 use crate::group::Group;
-use crate::group::Group::{Block, Else, Expr, Fn, Label, Lifetime, Name, Path, Segment, Stmt};
+use crate::group::Group::{
+    Binder, Block, Bound, Else, Expr, Fn, GenericArg, GenericArgs, Label, Lifetime, Name, Param,
+    ParenArgs, Path, PathType, RecordField, RecordList, Ret, Segment, Stmt, Type_, TypeArg, UseArg,
+};
 use crate::kind::Kind;
 use crate::words::Words;
 
@@ -29,7 +32,7 @@ macro_rules! kinds {
             BreakExpr [Expr] { "lifetime": Part(Lifetime), "expr": Part(Expr) }
             ParenExpr [Expr] { "expr": Part(Expr) }
             Literal [Expr] { "lit": Word(Words::Literals), "t": LiteralText, "suffix": TextIfThere }
-            MethodCallExpr [Expr] { "receiver": Part(Expr), "name": Part(Name), "generics": NotYet, "args": List(Expr) }
+            MethodCallExpr [Expr] { "receiver": Part(Expr), "name": Part(Name), "generics": Part(GenericArgs), "args": List(Expr) }
             FieldExpr [Expr] { "expr": Part(Expr), "name": Part(Name) }
             PrefixExpr [Expr] { "op": WordIfThere(Words::UnaryOps), "expr": Part(Expr) }
             BinExpr [Expr] { "op": WordIfThere(Words::BinaryOps), "lhs": Part(Expr), "rhs": Part(Expr) }
@@ -47,16 +50,48 @@ macro_rules! kinds {
             IncludeBytesExpr [Expr] {  }
             AsmExpr [Expr] {  }
             FormatArgsExpr [Expr] {  }
+            CastExpr [Expr] { "expr": Part(Expr), "ty": Part(Type_) }
+            RecordExpr [Expr] { "path": Part(Path), "list": Part(RecordList) }
+            OffsetOfExpr [Expr] { "ty": Part(Type_), "fields": List(Name) }
+            RecordExprFieldList [RecordList] { "fields": List(RecordField), "spread": Part(Expr), "dotdot": Flag }
+            RecordExprField [RecordField] { "name": Part(Name), "expr": Part(Expr) }
             ExprStmt [Stmt] { "expr": Part(Expr), "semi": Flag }
             Item [Stmt] {  }
+            ParenType [Type_] { "ty": Part(Type_) }
+            SliceType [Type_] { "ty": Part(Type_) }
+            TupleType [Type_] { "fields": List(Type_) }
+            PathType [Type_ PathType] { "path": Part(Path) }
+            PtrType [Type_] { "mut": Flag, "ty": Part(Type_) }
+            RefType [Type_] { "lifetime": Part(Lifetime), "mut": Flag, "ty": Part(Type_) }
+            FnPtrType [Type_] { "unsafe": Flag, "abi": TextIfThere, "params": List(Param), "ret": Part(Ret) }
+            ForType [Type_] { "binder": Part(Binder), "ty": Part(Type_) }
+            ImplTraitType [Type_] { "bounds": List(Bound) }
+            DynTraitType [Type_] { "bounds": List(Bound) }
+            NeverType [Type_] {  }
+            InferType [Type_] {  }
             Path [Path] { "leading": Flag, "in_macro": NotYet, "use": Part(Path), "segs": ListWithNulls(Segment) }
             PathSegment [Segment] {
-                "seg": WordIfThere(Words::Segments), "name": Part(Name), "generics": NotYet, "parens": NotYet,
-                "ret": NotYet, "rtn": NotYet, "ty": NotYet, "trait": NotYet
+                "seg": WordIfThere(Words::Segments), "name": Part(Name), "generics": Part(GenericArgs), "parens": Part(ParenArgs),
+                "ret": Part(Ret), "rtn": Flag, "ty": Part(Type_), "trait": Part(PathType)
             }
+            GenericArgList [GenericArgs] { "args": List(GenericArg) }
+            TypeArg [GenericArg TypeArg] { "ty": Part(Type_) }
+            AssocTypeArg [GenericArg] {
+                "name": Part(Name), "params": Flag, "generics": Part(GenericArgs), "rtn": Flag, "ty": Part(Type_),
+                "bounds": List(Bound)
+            }
+            LifetimeArg [GenericArg] { "lifetime": Part(Lifetime) }
+            ParenArgs [ParenArgs] { "args": List(TypeArg) }
+            TypeBound [Bound] {
+                "b": WordIfThere(Words::Bounds), "ty": Part(PathType), "binder": Part(Binder), "maybe": Flag,
+                "lifetime": Part(Lifetime), "uses": List(UseArg)
+            }
+            ForBinder [Binder] { "params": ListWithNulls(Lifetime) }
+            RetType [Ret] { "ty": Part(Type_) }
+            Param [Param] { "pat": NotYet, "ty": Part(Type_), "variadic": Flag }
             Label [Label] { "lifetime": Part(Lifetime) }
-            Lifetime [Lifetime] { "t": Text }
-            Name [Name] { "t": Text }
+            Lifetime [Lifetime UseArg] { "t": Text }
+            Name [Name UseArg] { "t": Text }
             Fn [Fn] {
                 "generics": NotYet, "where": NotYet, "params": NotYet, "ret": NotYet, "body": Part(Expr), "async": NotYet, "gen": NotYet
             }
@@ -109,6 +144,19 @@ fn operations(word: &str) -> Option<Kind>
     }
 }
 
+fn typed(word: &str) -> Option<Kind>
+    ensures { result ≡ kind_with spec.typed word.now }
+{
+    match word {
+        "CastExpr" => Some(Kind::CastExpr),
+        "RecordExpr" => Some(Kind::RecordExpr),
+        "OffsetOfExpr" => Some(Kind::OffsetOfExpr),
+        "RecordExprFieldList" => Some(Kind::RecordExprFieldList),
+        "RecordExprField" => Some(Kind::RecordExprField),
+        _ => None,
+    }
+}
+
 fn keywords(word: &str) -> Option<Kind>
     ensures { result ≡ kind_with spec.keywords word.now }
 {
@@ -127,14 +175,67 @@ fn keywords(word: &str) -> Option<Kind>
     }
 }
 
+fn types(word: &str) -> Option<Kind>
+    ensures { result ≡ kind_with spec.types word.now }
+{
+    match word {
+        "ParenType" => Some(Kind::ParenType),
+        "SliceType" => Some(Kind::SliceType),
+        "TupleType" => Some(Kind::TupleType),
+        "PathType" => Some(Kind::PathType),
+        "PtrType" => Some(Kind::PtrType),
+        "RefType" => Some(Kind::RefType),
+        _ => None,
+    }
+}
+
+fn other_types(word: &str) -> Option<Kind>
+    ensures { result ≡ kind_with spec.other_types word.now }
+{
+    match word {
+        "FnPtrType" => Some(Kind::FnPtrType),
+        "ForType" => Some(Kind::ForType),
+        "ImplTraitType" => Some(Kind::ImplTraitType),
+        "DynTraitType" => Some(Kind::DynTraitType),
+        "NeverType" => Some(Kind::NeverType),
+        "InferType" => Some(Kind::InferType),
+        _ => None,
+    }
+}
+
+fn paths(word: &str) -> Option<Kind>
+    ensures { result ≡ kind_with spec.paths word.now }
+{
+    match word {
+        "Path" => Some(Kind::Path),
+        "PathSegment" => Some(Kind::PathSegment),
+        "GenericArgList" => Some(Kind::GenericArgList),
+        "TypeArg" => Some(Kind::TypeArg),
+        "AssocTypeArg" => Some(Kind::AssocTypeArg),
+        "LifetimeArg" => Some(Kind::LifetimeArg),
+        _ => None,
+    }
+}
+
+fn type_parts(word: &str) -> Option<Kind>
+    ensures { result ≡ kind_with spec.type_parts word.now }
+{
+    match word {
+        "ParenArgs" => Some(Kind::ParenArgs),
+        "TypeBound" => Some(Kind::TypeBound),
+        "ForBinder" => Some(Kind::ForBinder),
+        "RetType" => Some(Kind::RetType),
+        "Param" => Some(Kind::Param),
+        _ => None,
+    }
+}
+
 fn others(word: &str) -> Option<Kind>
     ensures { result ≡ kind_with spec.others word.now }
 {
     match word {
         "ExprStmt" => Some(Kind::ExprStmt),
         "Item" => Some(Kind::Item),
-        "Path" => Some(Kind::Path),
-        "PathSegment" => Some(Kind::PathSegment),
         "Label" => Some(Kind::Label),
         "Lifetime" => Some(Kind::Lifetime),
         "Name" => Some(Kind::Name),
@@ -155,6 +256,21 @@ impl Kind {
             return Some(kind);
         }
         if let Some(kind) = keywords(word) {
+            return Some(kind);
+        }
+        if let Some(kind) = typed(word) {
+            return Some(kind);
+        }
+        if let Some(kind) = types(word) {
+            return Some(kind);
+        }
+        if let Some(kind) = other_types(word) {
+            return Some(kind);
+        }
+        if let Some(kind) = paths(word) {
+            return Some(kind);
+        }
+        if let Some(kind) = type_parts(word) {
             return Some(kind);
         }
         others(word)

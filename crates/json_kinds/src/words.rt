@@ -8,6 +8,7 @@ ghost use Rattle.json_kinds.specs.Words.{words};
 pub enum Words {
     Literals,
     Segments,
+    Bounds,
     Modifiers,
     UnaryOps,
     BinaryOps,
@@ -22,7 +23,8 @@ impl Words {
     {
         match self {
             Words::Literals => &["str", "bytestr", "cstr", "char", "bool", "int", "float"],
-            Words::Segments => &["name", "self", "crate", "super", "Self"],
+            Words::Segments => &["name", "self", "crate", "super", "Self", "type"],
+            Words::Bounds => &["path", "use", "lifetime"],
             Words::Modifiers => &["unsafe"],
             Words::UnaryOps => &["*", "!", "-"],
             Words::BinaryOps => &[

@@ -8,11 +8,11 @@ use Rattle.hir_syntax.specs.declared.node.PredId.{PredId}
 use Rattle.json_faults.specs.Values.{small_of}
 use Rattle.json_kinds.specs.declared.kind.Kind.{Kind}
 use Rattle.json_kinds.specs.declared.kind.Kind.TheVariants as kind
-use Rattle.json_nodes.specs.Groups.{as_expr, as_block, as_else, as_path, as_label}
+use Rattle.json_nodes.specs.Groups.{as_expr, as_block, as_else, as_path, as_label, as_lifetime, as_name, as_generic_args}
 use Rattle.json_nodes.specs.Fields.{flag_of}
 use Rattle.json_nodes.specs.Literals.{literal_of}
 use Rattle.json_nodes.specs.Operators.{unary_op_in, binary_op_in}
-use Rattle.json_nodes.specs.Parts.{Here, part_in, list_in, list_if_there, lifetime_in, name_in}
+use Rattle.json_nodes.specs.Parts.{Here, part_in, list_in, list_if_there}
 
 -- what steers the order of running
 unfoldable pub flow : Here → Kind → Option ExprKind
@@ -21,8 +21,8 @@ flow h kind.IfExpr = Some (expr.IfExpr
     (part_in h as_block (codes "then"))
     (part_in h as_else (codes "else")))
 flow h kind.LoopExpr = Some (expr.LoopExpr (part_in h as_label (codes "label")) (part_in h as_block (codes "body")))
-flow h kind.ContinueExpr = Some (expr.ContinueExpr (lifetime_in h (codes "lifetime")))
-flow h kind.BreakExpr = Some (expr.BreakExpr (lifetime_in h (codes "lifetime")) (part_in h as_expr (codes "expr")))
+flow h kind.ContinueExpr = Some (expr.ContinueExpr (part_in h as_lifetime (codes "lifetime")))
+flow h kind.BreakExpr = Some (expr.BreakExpr (part_in h as_lifetime (codes "lifetime")) (part_in h as_expr (codes "expr")))
 flow h _ = None
 
 -- calls, paths, parentheses and literals
@@ -44,9 +44,12 @@ operation h _ = None
 
 -- what names a member, or lists its elements
 unfoldable pub member : Here → Kind → Option ExprKind
-member h kind.MethodCallExpr =
-    Some (expr.MethodCallExpr (part_in h as_expr (codes "receiver")) (name_in h (codes "name")) (list_if_there h as_expr (codes "args")))
-member h kind.FieldExpr = Some (expr.FieldExpr (part_in h as_expr (codes "expr")) (name_in h (codes "name")))
+member h kind.MethodCallExpr = Some (expr.MethodCallExpr
+    (part_in h as_expr (codes "receiver"))
+    (part_in h as_name (codes "name"))
+    (part_in h as_generic_args (codes "generics"))
+    (list_if_there h as_expr (codes "args")))
+member h kind.FieldExpr = Some (expr.FieldExpr (part_in h as_expr (codes "expr")) (part_in h as_name (codes "name")))
 member h kind.TupleExpr = Some (expr.TupleExpr (flag_of (get (codes "leading_comma") h.value)) (list_in h as_expr (codes "fields")))
 member h kind.ArrayExpr = Some (expr.ArrayExpr (list_in h as_expr (codes "elems")))
 member h _ = None

@@ -6,4 +6,8 @@ pub mod Nodes
 pub mod Operators
 pub mod Exprs
 pub mod Paths
+pub mod Types
+pub mod Typed
+pub mod Args
+pub mod Bounds
 pub mod Others

@@ -10,8 +10,8 @@ use Rattle.hir_syntax.specs.declared.ast.Fn.{Fn}
 use Rattle.json_kinds.specs.declared.kind.Kind.{Kind}
 use Rattle.json_kinds.specs.declared.kind.Kind.TheVariants as kind
 use Rattle.json_nodes.specs.Fields.{flag_of, text_in}
-use Rattle.json_nodes.specs.Groups.{as_expr, as_stmt, as_label}
-use Rattle.json_nodes.specs.Parts.{Here, part_in, list_in, lifetime_in}
+use Rattle.json_nodes.specs.Groups.{as_expr, as_stmt, as_label, as_lifetime}
+use Rattle.json_nodes.specs.Parts.{Here, part_in, list_in}
 use Rattle.json_nodes.specs.declared.part.AnyPart.{AnyPart}
 use Rattle.json_nodes.specs.declared.part.AnyPart.TheVariants as part
 
@@ -40,7 +40,7 @@ other h kind.BlockExpr = Some (part.Block (roll-BlockExpr (record {
   stmts = list_in h as_stmt (codes "stmts");
   tail = part_in h as_expr (codes "tail");
 })))
-other h kind.Label = Some (part.Label (record { id = h.id; range = h.range; lifetime = lifetime_in h (codes "lifetime") }))
+other h kind.Label = Some (part.Label (record { id = h.id; range = h.range; lifetime = part_in h as_lifetime (codes "lifetime") }))
 other h kind.Lifetime = lifetime h
 other h kind.Name = name h
 other h _ = None

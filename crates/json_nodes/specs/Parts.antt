@@ -3,12 +3,10 @@ use Rattle.std.specs.Prelude.{ℕ, List, [], ◌∷◌, Option, Some, None, opti
 use Rattle.serde_json.specs.Data.{Data, null, boolean, number, string, array, object, Items, no_items, item}
 use Rattle.serde_json.specs.Find.{as_array, as_str, get}
 use Rattle.json_faults.specs.Values.{small_of}
-use Rattle.hir_syntax.specs.declared.ast.Lifetime.{Lifetime}
-use Rattle.hir_syntax.specs.declared.ast.Name.{Name}
 use Rattle.hir_syntax.specs.declared.node.NodeId.{NodeId}
 use Rattle.hir_syntax.specs.declared.node.TextRange.{TextRange}
-use Rattle.json_nodes.specs.Groups.{as_lifetime, as_name}
 use Rattle.json_nodes.specs.declared.part.AnyPart.{AnyPart}
+use Rattle.json_nodes.specs.declared.part.AnyPart.TheVariants as part
 
 -- a node, with what stands at each node
 pub record Here : Type 0 where
@@ -26,7 +24,7 @@ or_null f (string s) = option_map Some (f (string s))
 or_null f (array ds) = option_map Some (f (array ds))
 or_null f (object ms) = option_map Some (f (object ms))
 
--- what a text makes, or else the other
+-- what a text is, or else the other
 abbrev pub text_or : {T : Type 0} → (List ℕ → T) → Option T → Option (List ℕ) → Option T
 text_or made other None = other
 text_or made other (Some t) = Some (made t)
@@ -46,9 +44,13 @@ listed f None = []
 listed f (Some ds) = all_read f ds
 
 module _ (h : Here) where
-  -- the part at a node, by its index
+  -- a text, which has the number and the range of the node that holds it, or what stands at a node, by its index
+  abbrev pub any_part : Data → Option AnyPart
+  any_part d = text_or (λ t. part.Text h.id h.range t) (option_and_then h.part (small_of d)) (as_str d)
+
+  -- the same as a part of a group
   abbrev pub child : {T : Type 0} → (AnyPart → Option T) → Data → Option T
-  child as_group d = option_and_then as_group (option_and_then h.part (small_of d))
+  child as_group d = option_and_then as_group (any_part d)
 
   abbrev pub items_in : List ℕ → Option Items
   items_in name = option_and_then as_array (get name h.value)
@@ -64,16 +66,3 @@ module _ (h : Here) where
 
   abbrev pub list_with_nulls_in : {T : Type 0} → (AnyPart → Option T) → List ℕ → List (Option T)
   list_with_nulls_in as_group name = listed (or_null (child as_group)) (items_in name)
-
-  -- a text in place of a node has the number and the range of the node that holds it
-  abbrev pub lifetime : Data → Option Lifetime
-  lifetime d = text_or (λ t. record { id = h.id; range = h.range; t = t }) (child as_lifetime d) (as_str d)
-
-  abbrev pub name : Data → Option Name
-  name d = text_or (λ t. record { id = h.id; range = h.range; t = t }) (child as_name d) (as_str d)
-
-  abbrev pub lifetime_in : List ℕ → Option Lifetime
-  lifetime_in field = option_and_then lifetime (get field h.value)
-
-  abbrev pub name_in : List ℕ → Option Name
-  name_in field = option_and_then name (get field h.value)

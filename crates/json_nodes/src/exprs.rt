@@ -6,7 +6,7 @@ ghost use Rattle.json_nodes.specs.Nodes.{here};
 
 use crate::literal::literal;
 use crate::node::{Node, ReadParts};
-use hir_syntax::ast::{BlockExpr, ElseBranch, Expr, ExprKind, Label, Path};
+use hir_syntax::ast::{BlockExpr, ElseBranch, Expr, ExprKind, Label, Lifetime, Path};
 use json_kinds::kind::Kind;
 use std::alloc::AllocError;
 
@@ -27,10 +27,10 @@ pub fn flow<P: ReadParts>(node: &Node<'_, P>, kind: Kind) -> Result<Option<ExprK
             body: node.boxed::<BlockExpr>("body")?,
         })),
         Kind::ContinueExpr => Ok(Some(ExprKind::ContinueExpr {
-            lifetime: node.lifetime("lifetime")?,
+            lifetime: node.part::<Lifetime>("lifetime")?,
         })),
         Kind::BreakExpr => Ok(Some(ExprKind::BreakExpr {
-            lifetime: node.lifetime("lifetime")?,
+            lifetime: node.part::<Lifetime>("lifetime")?,
             expr: node.boxed::<Expr>("expr")?,
         })),
         _ => Ok(None),

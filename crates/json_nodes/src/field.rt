@@ -1,13 +1,15 @@
 //! Fields of one value. One that does not hold what it may says nothing, as if it were absent.
 
-ghost use Rattle.std.specs.Prelude.{◌≡◌, Some, codes, option_and_then, option_map};
+ghost use Rattle.std.specs.Prelude.{◌≡◌, IfOk, Some, codes, option_and_then, option_map};
 ghost use Rattle.serde_json.specs.View.{view, items_view};
 ghost use Rattle.serde_json.specs.Find.{as_array, get};
 ghost use Rattle.json_nodes.specs.Fields.{number_or, range_in, range_of, flag_of, text_in};
 
+use hir_syntax::Text;
 use hir_syntax::node::TextRange;
 use json_faults::value::small;
 use serde_json::Value;
+use std::alloc::{AllocError, Global};
 
 /// The number of 32 bits in a field, another where there is none.
 pub fn number_or(node: &Value, name: &str, other: u32) -> u32
@@ -66,4 +68,14 @@ pub fn text<'a>(node: &'a Value, name: &str) -> Option<&'a str>
     ensures { option_map (λ text. text.now) result ≡ text_in name.now (view node.entry.now) }
 {
     node.get(name)?.as_str()
+}
+
+/// A copy of the text in a field, likewise.
+pub fn own_text(alloc: Global, node: &Value, name: &str) -> Result<Option<Text>, AllocError>
+    ensures { IfOk result (λ t. t ≡ text_in name.now (view node.now)) }
+{
+    match text(node, name) {
+        Some(text) => Ok(Some(Text::new(alloc, text)?)),
+        None => Ok(None),
+    }
 }

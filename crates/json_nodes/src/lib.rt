@@ -1,6 +1,8 @@
 //! What a node of each kind says: its fields, and the parts that it names.
 #![tactic(auto)]
 
+pub mod args;
+pub mod bounds;
 pub mod exprs;
 pub mod field;
 pub mod leaving;
@@ -13,3 +15,5 @@ pub mod others;
 pub mod part;
 pub mod partless;
 pub mod paths;
+pub mod typed;
+pub mod types;

@@ -6,7 +6,7 @@ ghost use Rattle.json_nodes.specs.Nodes.{here};
 
 use crate::field::flag;
 use crate::node::{Node, ReadParts};
-use hir_syntax::ast::{Expr, ExprKind};
+use hir_syntax::ast::{Expr, ExprKind, GenericArgList, Name};
 use json_kinds::kind::Kind;
 use std::alloc::AllocError;
 
@@ -19,12 +19,13 @@ pub fn member<P: ReadParts>(node: &Node<'_, P>, kind: Kind) -> Result<Option<Exp
     match kind {
         Kind::MethodCallExpr => Ok(Some(ExprKind::MethodCallExpr {
             receiver: node.boxed::<Expr>("receiver")?,
-            name: node.name("name")?,
+            name: node.part::<Name>("name")?,
+            generics: node.part::<GenericArgList>("generics")?,
             args: node.list_if_there::<Expr>("args")?,
         })),
         Kind::FieldExpr => Ok(Some(ExprKind::FieldExpr {
             expr: node.boxed::<Expr>("expr")?,
-            name: node.name("name")?,
+            name: node.part::<Name>("name")?,
         })),
         Kind::TupleExpr => Ok(Some(ExprKind::TupleExpr {
             leading_comma: flag(node.value, "leading_comma"),

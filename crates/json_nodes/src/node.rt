@@ -1,15 +1,13 @@
 //! A node and its fields.
 
-ghost use Rattle.std.specs.Prelude.{◌≡◌, ℕ, IfOk, Option, option_and_then, option_map};
+ghost use Rattle.std.specs.Prelude.{◌≡◌, ℕ, IfOk, Option, option_map};
 ghost use Rattle.serde_json.specs.View.{view, items_view};
-ghost use Rattle.json_faults.specs.Values.{small_of};
 ghost use Rattle.json_nodes.specs.Parts as spec;
 ghost use Rattle.json_nodes.specs.Parts.{all_read, or_null};
 ghost use Rattle.json_nodes.specs.Nodes.{here};
 ghost use Rattle.json_nodes.specs.declared.part.AnyPart.{AnyPart};
 
 use crate::part::{AnyPart, Part};
-use hir_syntax::ast::{Lifetime, Name};
 use hir_syntax::node::{NodeId, TextRange};
 use hir_syntax::{Boxed, Seq, Text};
 use json_faults::value::small;
@@ -43,17 +41,22 @@ pub struct Node<'a, P> {
 }
 
 impl<P: ReadParts> Node<'_, P> {
+    /// What stands at the index in a value, or the text that it is.
     fn part_in(&self, value: &Value) -> Result<Option<AnyPart>, AllocError>
         requires { P.can self.now.parts.now }
-        ensures { IfOk result (λ part. part ≡ option_and_then (P.parts self.now.parts.now) (small_of (view value.now))) }
+        ensures { IfOk result (λ part. part ≡ spec.any_part (here P.parts self.now) (view value.now)) }
     {
+        if let Some(text) = value.as_str() {
+            let text = Text::new(self.alloc, text)?;
+            return Ok(Some(AnyPart::Text(self.id, self.range, text)));
+        }
         match small(value) {
             Some(at) => self.parts.part_at(self.alloc, at),
             None => Ok(None),
         }
     }
 
-    /// The part that stands at the index in a value.
+    /// The part that a value is or names.
     fn child<T: Part>(&self, value: &Value) -> Result<Option<T>, AllocError>
         requires { P.can self.now.parts.now }
         ensures { IfOk result (λ part. part ≡ spec.child (here P.parts self.now) T.as_group (view value.now)) }
@@ -93,7 +96,7 @@ impl<P: ReadParts> Node<'_, P> {
         Some(self.value.get(field)?.as_array()?.as_slice())
     }
 
-    /// The parts at the indices in values.
+    /// The parts that values are or name.
     fn children<T: Part>(&self, items: &[Value]) -> Result<Seq<T>, AllocError>
         requires { P.can self.now.parts.now }
         ensures { IfOk result (λ parts. parts ≡ all_read (spec.child (here P.parts self.now) T.as_group) (items_view items.now)) }
@@ -160,56 +163,6 @@ impl<P: ReadParts> Node<'_, P> {
         match self.items(field) {
             Some(items) => self.children_or_nulls(items),
             None => Ok(Seq::new(self.alloc)),
-        }
-    }
-
-    fn lifetime_of(&self, value: &Value) -> Result<Option<Lifetime>, AllocError>
-        requires { P.can self.now.parts.now }
-        ensures { IfOk result (λ lifetime. lifetime ≡ spec.lifetime (here P.parts self.now) (view value.now)) }
-    {
-        match value.as_str() {
-            None => self.child(value),
-            Some(text) => Ok(Some(Lifetime {
-                id: self.id,
-                range: self.range,
-                t: Text::new(self.alloc, text)?,
-            })),
-        }
-    }
-
-    fn name_of(&self, value: &Value) -> Result<Option<Name>, AllocError>
-        requires { P.can self.now.parts.now }
-        ensures { IfOk result (λ name. name ≡ spec.name (here P.parts self.now) (view value.now)) }
-    {
-        match value.as_str() {
-            None => self.child(value),
-            Some(text) => Ok(Some(Name {
-                id: self.id,
-                range: self.range,
-                t: Text::new(self.alloc, text)?,
-            })),
-        }
-    }
-
-    /// The lifetime in a field. A text there is a lifetime with the number and range of this node.
-    pub fn lifetime(&self, field: &str) -> Result<Option<Lifetime>, AllocError>
-        requires { P.can self.now.parts.now }
-        ensures { IfOk result (λ lifetime. lifetime ≡ spec.lifetime_in (here P.parts self.now) field.now) }
-    {
-        match self.value.get(field) {
-            Some(value) => self.lifetime_of(value),
-            None => Ok(None),
-        }
-    }
-
-    /// The name in a field, likewise.
-    pub fn name(&self, field: &str) -> Result<Option<Name>, AllocError>
-        requires { P.can self.now.parts.now }
-        ensures { IfOk result (λ name. name ≡ spec.name_in (here P.parts self.now) field.now) }
-    {
-        match self.value.get(field) {
-            Some(value) => self.name_of(value),
-            None => Ok(None),
         }
     }
 }

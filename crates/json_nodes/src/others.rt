@@ -6,14 +6,14 @@ ghost use Rattle.json_nodes.specs.Fields.{text_in};
 ghost use Rattle.json_nodes.specs.Others as spec;
 ghost use Rattle.json_nodes.specs.Nodes.{here};
 
-use crate::field::{flag, text};
+use crate::field::{flag, own_text, text};
 use crate::node::{Node, ReadParts};
 use crate::part::AnyPart;
-use hir_syntax::Text;
+use hir_syntax::Boxed;
 use hir_syntax::ast::{BlockExpr, BlockModifier, Expr, Fn, Label, Lifetime, Name, Stmt, StmtKind};
 use json_kinds::kind::Kind;
 use serde_json::Value;
-use std::alloc::{AllocError, Global};
+use std::alloc::AllocError;
 
 #[tactic(auto, unfolding(crate::specs::Others::statement))]
 pub fn statement<P: ReadParts>(
@@ -42,20 +42,10 @@ fn modifier(node: &Value) -> Option<BlockModifier>
     }
 }
 
-/// A copy of the text that a name or a lifetime is.
-fn own_text(alloc: Global, node: &Value) -> Result<Option<Text>, AllocError>
-    ensures { IfOk result (λ t. t ≡ text_in (codes "t") (view node.now)) }
-{
-    match text(node, "t") {
-        Some(text) => Ok(Some(Text::new(alloc, text)?)),
-        None => Ok(None),
-    }
-}
-
 fn lifetime<P: ReadParts>(node: &Node<'_, P>) -> Result<Option<AnyPart>, AllocError>
     ensures { IfOk result (λ part. part ≡ spec.lifetime (here P.parts node.now)) }
 {
-    match own_text(node.alloc, node.value)? {
+    match own_text(node.alloc, node.value, "t")? {
         Some(t) => Ok(Some(AnyPart::Lifetime(Lifetime {
             id: node.id,
             range: node.range,
@@ -68,7 +58,7 @@ fn lifetime<P: ReadParts>(node: &Node<'_, P>) -> Result<Option<AnyPart>, AllocEr
 fn name<P: ReadParts>(node: &Node<'_, P>) -> Result<Option<AnyPart>, AllocError>
     ensures { IfOk result (λ part. part ≡ spec.name (here P.parts node.now)) }
 {
-    match own_text(node.alloc, node.value)? {
+    match own_text(node.alloc, node.value, "t")? {
         Some(t) => Ok(Some(AnyPart::Name(Name {
             id: node.id,
             range: node.range,
@@ -85,19 +75,25 @@ pub fn other<P: ReadParts>(node: &Node<'_, P>, kind: Kind) -> Result<Option<AnyP
     ensures { IfOk result (λ part. part ≡ spec.other (here P.parts node.now) kind) }
 {
     match kind {
-        Kind::BlockExpr => Ok(Some(AnyPart::Block(BlockExpr {
-            id: node.id,
-            range: node.range,
-            mod_: modifier(node.value),
-            label: node.part::<Label>("label")?,
-            stmts: node.list::<Stmt>("stmts")?,
-            tail: node.boxed::<Expr>("tail")?,
-        }))),
-        Kind::Label => Ok(Some(AnyPart::Label(Label {
-            id: node.id,
-            range: node.range,
-            lifetime: node.lifetime("lifetime")?,
-        }))),
+        Kind::BlockExpr => {
+            let block = BlockExpr {
+                id: node.id,
+                range: node.range,
+                mod_: modifier(node.value),
+                label: node.part::<Label>("label")?,
+                stmts: node.list::<Stmt>("stmts")?,
+                tail: node.boxed::<Expr>("tail")?,
+            };
+            Ok(Some(AnyPart::Block(Boxed::new(node.alloc, block)?)))
+        }
+        Kind::Label => {
+            let label = Label {
+                id: node.id,
+                range: node.range,
+                lifetime: node.part::<Lifetime>("lifetime")?,
+            };
+            Ok(Some(AnyPart::Label(Boxed::new(node.alloc, label)?)))
+        }
         Kind::Lifetime => lifetime(node),
         Kind::Name => name(node),
         _ => Ok(None),

@@ -9,7 +9,10 @@ ghost use Rattle.json_nodes.specs.Paths as spec;
 use crate::field::{flag, text};
 use crate::node::{Node, ReadParts};
 use crate::part::AnyPart;
-use hir_syntax::ast::{Path, PathSegment, SegmentKind};
+use hir_syntax::Boxed;
+use hir_syntax::ast::{
+    GenericArgList, Name, ParenArgs, Path, PathSegment, PathType, RetType, SegmentKind, Type_,
+};
 use json_kinds::kind::Kind;
 use serde_json::Value;
 use std::alloc::AllocError;
@@ -24,6 +27,7 @@ fn segment_kind_of(word: &str) -> Option<SegmentKind>
         "crate" => Some(SegmentKind::CrateKw),
         "super" => Some(SegmentKind::SuperKw),
         "Self" => Some(SegmentKind::SelfTypeKw),
+        "type" => Some(SegmentKind::Qualified),
         _ => None,
     }
 }
@@ -39,12 +43,25 @@ fn segment<P: ReadParts>(node: &Node<'_, P>) -> Result<PathSegment, AllocError>
     requires { P.can node.now.parts.now }
     ensures { IfOk result (λ segment. segment ≡ spec.segment (here P.parts node.now)) }
 {
-    Ok(PathSegment {
+    let mut segment = PathSegment {
         id: node.id,
         range: node.range,
         seg: segment_kind(node.value),
-        name: node.name("name")?,
-    })
+        name: None,
+        generics: None,
+        parens: None,
+        ret: None,
+        rtn: flag(node.value, "rtn"),
+        ty: None,
+        trait_: None,
+    };
+    segment.name = node.part::<Name>("name")?;
+    segment.generics = node.part::<GenericArgList>("generics")?;
+    segment.parens = node.part::<ParenArgs>("parens")?;
+    segment.ret = node.part::<RetType>("ret")?;
+    segment.ty = node.boxed::<Type_>("ty")?;
+    segment.trait_ = node.part::<PathType>("trait")?;
+    Ok(segment)
 }
 
 /// A path.
@@ -68,8 +85,8 @@ pub fn of_path<P: ReadParts>(node: &Node<'_, P>, kind: Kind) -> Result<Option<An
     ensures { IfOk result (λ part. part ≡ spec.of_path (here P.parts node.now) kind) }
 {
     match kind {
-        Kind::Path => Ok(Some(AnyPart::Path(path(node)?))),
-        Kind::PathSegment => Ok(Some(AnyPart::Segment(segment(node)?))),
+        Kind::Path => Ok(Some(AnyPart::Path(Boxed::new(node.alloc, path(node)?)?))),
+        Kind::PathSegment => Ok(Some(AnyPart::Segment(Boxed::new(node.alloc, segment(node)?)?))),
         _ => Ok(None),
     }
 }

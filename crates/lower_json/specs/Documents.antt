@@ -80,12 +80,23 @@ mode_of d = mode_where (unwrap_or (option_and_then as_bool (get (codes "analysis
 abbrev pub group_of : Root → Group
 group_of root.Fn = group.Fn
 group_of root.Path = group.Path
+group_of root.Type_ = group.Type_
+
+-- a document may lack it
+abbrev pub is_optional : Root → Bool
+is_optional root.Fn = false
+is_optional root.Path = false
+is_optional root.Type_ = true
 
 abbrev pub tree_of : Root → Data → Tree
 tree_of want d = tree_at want (kinds_of (nodes d)) (nodes d) (number_or 0 (get (codes "root") d))
 
+-- whether the body is skipped, which it isn't where the document doesn't say
+abbrev pub skip_of : Data → Bool
+skip_of d = flag_of (get (codes "skip") d)
+
 abbrev pub env_of : Data → Tables
-env_of d = record (tables_of (container_of d) (get (codes "env") d)) { skip = flag_of (get (codes "skip") d) }
+env_of d = record (tables_of (container_of d) (get (codes "env") d)) { skip = skip_of d }
 
 -- what a document says
 abbrev pub document_of : Root → Data → Document
@@ -99,7 +110,7 @@ document_of want d = record {
 
 -- the first fault of a document with such a root, of at most so many nodes
 abbrev pub first_fault : Root → Data → Option Fault
-first_fault want d = document_fault 1000000 (group_of want) d
+first_fault want d = document_fault 1000000 (group_of want) (is_optional want) d
 
 -- the text is a document without fault with such a root, and says that
 pub record IsDocument (want : Root) (text : List ℕ) (x : Document) : Type 0 where

@@ -11,6 +11,11 @@ use Rattle.json_nodes.specs.Exprs.{flow, plain, operation, member, leaving, part
 use Rattle.json_nodes.specs.Fields.{number_or, range_of}
 use Rattle.json_nodes.specs.Others.{statement, other, function}
 use Rattle.json_nodes.specs.Paths.{path, of_path}
+use Rattle.json_nodes.specs.Types.{of_type}
+use Rattle.json_nodes.specs.Typed.{typed, of_record}
+use Rattle.json_nodes.specs.Args.{of_args}
+use Rattle.json_nodes.specs.Bounds.{of_bound}
+use Rattle.json_nodes.specs.Groups.{as_type}
 use Rattle.json_nodes.specs.Parts.{Here}
 use Rattle.json_kinds.specs.ByWord.{or_else}
 use Rattle.json_nodes.specs.declared.part.AnyPart.{AnyPart}
@@ -26,14 +31,17 @@ of_expr h kind.IfExpr x = part.If (record { id = h.id; range = h.range; kind = x
 of_expr h _ x = part.Expr (record { id = h.id; range = h.range; kind = x })
 
 abbrev pub expr_kind : Here → Kind → Option ExprKind
-expr_kind h k =
-    or_else (flow h k) (or_else (plain h k) (or_else (operation h k) (or_else (member h k) (or_else (leaving h k) (partless h.value k)))))
+expr_kind h k = or_else (flow h k) (or_else (plain h k) (or_else (operation h k) (or_else (member h k)
+    (or_else (leaving h k) (or_else (typed h k) (partless h.value k))))))
 
 abbrev pub of_stmt : Here → StmtKind → AnyPart
 of_stmt h x = part.Stmt (record { id = h.id; range = h.range; kind = x })
 
+abbrev pub other_than_path : Here → Kind → Option AnyPart
+other_than_path h k = or_else (of_type h k) (or_else (of_args h k) (or_else (of_bound h k) (or_else (of_record h k) (other h k))))
+
 abbrev pub other_than_expr : Here → Kind → Option AnyPart
-other_than_expr h k = or_else (option_map (of_stmt h) (statement h k)) (or_else (of_path h k) (other h k))
+other_than_expr h k = or_else (option_map (of_stmt h) (statement h k)) (or_else (of_path h k) (other_than_path h k))
 
 -- what stands at a node of each kind
 unfoldable pub of_kind : Here → Kind → Option AnyPart
@@ -53,11 +61,13 @@ part_at (suc n) kinds ns at = option_and_then
     (λ d. option_and_then (of_kind (node_at (part_at n kinds ns) at d)) (kind_at kinds at))
     (get_item at ns)
 
--- the tree whose root is such a node
-abbrev pub tree_of : Root → Here → Tree
-tree_of root.Fn h = tree.Fn (function h)
-tree_of root.Path h = tree.Path (path h)
+-- the tree whose root is such a node, of a kind
+abbrev pub tree_of : Root → Option Kind → Here → Tree
+tree_of root.Fn k h = tree.Fn (function h)
+tree_of root.Path k h = tree.Path (path h)
+tree_of root.Type_ k h = tree.Type_ (option_and_then as_type (option_and_then (of_kind h) k))
 
 -- the tree at a node, on at most 256 levels; past the end its root says nothing
 unfoldable pub tree_at : Root → List (Option Kind) → Items → ℕ → Tree
-tree_at want kinds ns at = tree_of want (node_at (part_at 255 kinds ns) at (unwrap_or (get_item at ns) null))
+tree_at want kinds ns at =
+    tree_of want (kind_at kinds at) (node_at (part_at 255 kinds ns) at (unwrap_or (get_item at ns) null))

@@ -3,19 +3,22 @@
 use hir_env::place::LoweringMode;
 use hir_env::table::TableEnv;
 use hir_store::ids::DefWithBodyId;
-use hir_syntax::ast::{Fn, Path};
+use hir_syntax::ast::{Fn, Path, Type_};
 
 /// What the root of a document has to be.
 #[derive(Clone, Copy, Debug, PartialEq, Eq)]
 pub enum Root {
     Fn,
     Path,
+    /// A type, or nothing at all.
+    Type_,
 }
 
 /// The tree of a document, by its root.
 pub enum Tree {
     Fn(Fn),
     Path(Path),
+    Type_(Option<Type_>),
 }
 
 impl Drop for Tree {
@@ -23,6 +26,7 @@ impl Drop for Tree {
         match self {
             Tree::Fn(_) => {}
             Tree::Path(_) => {}
+            Tree::Type_(_) => {}
         }
     }
 }

@@ -5,12 +5,12 @@ ghost use Rattle.serde_json.specs.Read.{read};
 ghost use Rattle.serde_json.specs.View.{view};
 ghost use Rattle.json_faults.specs.Documents.{nodes};
 ghost use Rattle.json_faults.specs.Kinds.{kinds_of};
-ghost use Rattle.lower_json.specs.Documents.{group_of, document_of, first_fault, tree_of, IsDocument};
+ghost use Rattle.lower_json.specs.Documents.{group_of, is_optional, document_of, first_fault, tree_of, IsDocument};
 ghost use Rattle.lower_json.specs.Faults.{IsErrorOf, IsTextError};
 
 use crate::document::{Document, Root, Tree};
 use crate::fault::{Fault, ReadError};
-use crate::heading::{container, mode, owner};
+use crate::heading::{container, mode, owner, skip};
 use crate::tables::tables;
 use crate::tree::read_tree_at;
 use json_faults::document::{checked_kinds, nodes};
@@ -29,7 +29,15 @@ fn group(root: Root) -> Group
     match root {
         Root::Fn => Group::Fn,
         Root::Path => Group::Path,
+        Root::Type_ => Group::Type_,
     }
+}
+
+/// Whether a document may lack the root.
+fn is_optional(root: Root) -> bool
+    ensures { result ≡ is_optional root }
+{
+    matches!(root, Root::Type_)
 }
 
 fn parse(alloc: Global, text: &[u8]) -> Result<Value, ReadError>
@@ -80,7 +88,7 @@ fn read_document(
 {
     let tree = tree(alloc, want, kinds, document)?;
     let mut env = tables(alloc, document, container(document))?;
-    env.set_skip(flag(document, "skip"));
+    env.set_skip(skip(document));
     Ok(Document {
         tree,
         owner: owner(document),
@@ -95,7 +103,7 @@ fn read_value(alloc: Global, want: Root, document: &Value) -> Result<Document, R
     ensures document { IfOk result (λ d. d ≡ document_of want (view document.now)) }
     ensures fault { IfErr result (λ e. IsErrorOf want (view document.now) e) }
 {
-    let kinds = checked_kinds(alloc, MOST_NODES, group(want), document)?;
+    let kinds = checked_kinds(alloc, MOST_NODES, group(want), is_optional(want), document)?;
     Ok(read_document(alloc, want, kinds.as_slice(), document)?)
 }
 

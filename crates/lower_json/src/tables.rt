@@ -203,8 +203,8 @@ fn name_all(tables: &mut TableEnv, entries: &[Value]) -> Result<(), AllocError>
 }
 
 fn frame_all(tables: &mut TableEnv, entries: &[Value]) -> Result<(), AllocError>
-    ensures entries { let all = items_view entries.now in
-        OnOk result (tables.new.contexts ≡ with_all with_first_context context_of all tables.old.contexts) }
+    ensures entries { let es = items_view entries.now in
+        OnOk result (tables.new.contexts ≡ with_all with_first_context context_of es tables.old.contexts) }
     ensures others { OnOk result (tables.new ≡ record tables.old { contexts = tables.new.contexts }) }
 {
     for entry in entries {

@@ -1,18 +1,22 @@
 //! The trees of a list of nodes.
 
-ghost use Rattle.std.specs.Prelude.{◌≡◌, IfOk, Some};
+ghost use Rattle.std.specs.Prelude.{◌≡◌, IfOk, Some, option_and_then};
 ghost use Rattle.serde_json.specs.View.{view, items_view};
+ghost use Rattle.json_nodes.specs.Groups.{as_type};
 ghost use Rattle.json_nodes.specs.Nodes.{here};
 ghost use Rattle.lower_json.specs.Reads.{Reads};
 ghost use Rattle.lower_json.specs.Reading as spec;
 ghost use Rattle.lower_json.specs.Reading.{of_kind, expr_kind, node_at, tree_of, tree_at};
 
 use crate::document::{Root, Tree};
-use hir_syntax::ast::{Expr, ExprKind, Stmt};
+use hir_syntax::Boxed;
+use hir_syntax::ast::{Expr, ExprKind, Stmt, Type_};
 use hir_syntax::node::NodeId;
 use json_faults::kinds::kind_at;
 use json_faults::value::item_at;
 use json_kinds::kind::Kind;
+use json_nodes::args::of_args;
+use json_nodes::bounds::of_bound;
 use json_nodes::exprs::{flow, plain};
 use json_nodes::field::{number_or, range};
 use json_nodes::leaving::leaving;
@@ -20,9 +24,11 @@ use json_nodes::members::member;
 use json_nodes::node::{Node, ReadParts};
 use json_nodes::operations::operation;
 use json_nodes::others::{function, other, statement};
-use json_nodes::part::AnyPart;
+use json_nodes::part::{AnyPart, Part};
 use json_nodes::partless::partless;
 use json_nodes::paths::{of_path, path};
+use json_nodes::typed::{of_record, typed};
+use json_nodes::types::of_type;
 use serde_json::Value;
 use std::alloc::{AllocError, Global};
 
@@ -70,22 +76,52 @@ fn expr_kind<P: ReadParts>(node: &Node<'_, P>, kind: Kind) -> Result<Option<Expr
     if let Some(expr) = leaving(node, kind)? {
         return Ok(Some(expr));
     }
+    if let Some(expr) = typed(node, kind)? {
+        return Ok(Some(expr));
+    }
     Ok(partless(node.value, kind))
 }
 
 /// The expression of a kind. An `if` is told from others, since it may follow `else`.
-fn of_expr<P: ReadParts>(node: &Node<'_, P>, kind: Kind, expr: ExprKind) -> AnyPart
-    ensures { result ≡ spec.of_expr (here P.parts node.now) kind expr }
+fn of_expr<P: ReadParts>(
+    node: &Node<'_, P>,
+    kind: Kind,
+    expr: ExprKind,
+) -> Result<AnyPart, AllocError>
+    ensures { IfOk result (λ part. part ≡ spec.of_expr (here P.parts node.now) kind expr) }
 {
     let expr = Expr {
         id: node.id,
         range: node.range,
         kind: expr,
     };
+    let expr = Boxed::new(node.alloc, expr)?;
     match kind {
-        Kind::IfExpr => AnyPart::If(expr),
-        _ => AnyPart::Expr(expr),
+        Kind::IfExpr => Ok(AnyPart::If(expr)),
+        _ => Ok(AnyPart::Expr(expr)),
     }
+}
+
+fn other_than_path<P: ReadParts>(
+    node: &Node<'_, P>,
+    kind: Kind,
+) -> Result<Option<AnyPart>, AllocError>
+    requires { P.can node.now.parts.now }
+    ensures { IfOk result (λ part. part ≡ spec.other_than_path (here P.parts node.now) kind) }
+{
+    if let Some(part) = of_type(node, kind)? {
+        return Ok(Some(part));
+    }
+    if let Some(part) = of_args(node, kind)? {
+        return Ok(Some(part));
+    }
+    if let Some(part) = of_bound(node, kind)? {
+        return Ok(Some(part));
+    }
+    if let Some(part) = of_record(node, kind)? {
+        return Ok(Some(part));
+    }
+    other(node, kind)
 }
 
 fn other_than_expr<P: ReadParts>(
@@ -96,16 +132,17 @@ fn other_than_expr<P: ReadParts>(
     ensures { IfOk result (λ part. part ≡ spec.other_than_expr (here P.parts node.now) kind) }
 {
     if let Some(kind) = statement(node, kind)? {
-        return Ok(Some(AnyPart::Stmt(Stmt {
+        let stmt = Stmt {
             id: node.id,
             range: node.range,
             kind,
-        })));
+        };
+        return Ok(Some(AnyPart::Stmt(Boxed::new(node.alloc, stmt)?)));
     }
-    if let Some(part) = of_path(node, kind)? {
-        return Ok(Some(part));
+    match of_path(node, kind)? {
+        Some(part) => Ok(Some(part)),
+        None => other_than_path(node, kind),
     }
-    other(node, kind)
 }
 
 /// What stands at a node of a kind.
@@ -115,7 +152,7 @@ fn of_kind<P: ReadParts>(node: &Node<'_, P>, kind: Kind) -> Result<Option<AnyPar
     ensures { IfOk result (λ part. part ≡ of_kind (here P.parts node.now) kind) }
 {
     match expr_kind(node, kind)? {
-        Some(expr) => Ok(Some(of_expr(node, kind, expr))),
+        Some(expr) => Ok(Some(of_expr(node, kind, expr)?)),
         None => other_than_expr(node, kind),
     }
 }
@@ -176,20 +213,39 @@ fn read_part(
     part_at(alloc, &inside, value, at, kind)
 }
 
+/// The type that stands at a node, if one does.
+fn type_of<P: ReadParts>(
+    node: &Node<'_, P>,
+    kind: Option<Kind>,
+) -> Result<Option<Type_>, AllocError>
+    requires { P.can node.now.parts.now }
+    ensures { IfOk result (λ ty. ty ≡ option_and_then as_type (option_and_then (of_kind (here P.parts node.now)) kind)) }
+{
+    let Some(kind) = kind else {
+        return Ok(None);
+    };
+    match of_kind(node, kind)? {
+        Some(part) => Type_::from_part(node.alloc, part),
+        None => Ok(None),
+    }
+}
+
 fn tree_of<P: ReadParts>(
     alloc: Global,
     want: Root,
+    kind: Option<Kind>,
     parts: &P,
     value: &Value,
     at: u32,
 ) -> Result<Tree, AllocError>
     requires { P.can parts.now }
-    ensures { IfOk result (λ tree. tree ≡ tree_of want (node_at (P.parts parts.now) at (view value.now))) }
+    ensures { IfOk result (λ tree. tree ≡ tree_of want kind (node_at (P.parts parts.now) at (view value.now))) }
 {
     let node = node_at(alloc, parts, value, at);
     match want {
         Root::Fn => Ok(Tree::Fn(function(&node)?)),
         Root::Path => Ok(Tree::Path(path(&node)?)),
+        Root::Type_ => Ok(Tree::Type_(type_of(&node, kind)?)),
     }
 }
 
@@ -210,8 +266,9 @@ pub fn read_tree_at(
         levels: LEVELS_BELOW,
         read: read_part,
     };
+    let kind = kind_at(kinds, root as usize);
     match item_at(nodes, root as usize) {
-        Some(value) => tree_of(alloc, want, &inside, value, root),
-        None => tree_of(alloc, want, &inside, &Value::Null, root),
+        Some(value) => tree_of(alloc, want, kind, &inside, value, root),
+        None => tree_of(alloc, want, kind, &inside, &Value::Null, root),
     }
 }

@@ -8,11 +8,12 @@ use Rattle.lower_run.specs.declared.mode.Mode.TheVariants as mode
 -- the word of a mode
 abbrev pub mode_word : Mode → List ℕ
 mode_word mode.Path = codes "path"
+mode_word mode.Type_ = codes "type"
 mode_word mode.Body = codes "body"
 
 -- the mode whose word it is
 abbrev pub mode_with : List ℕ → Option Mode
-mode_with word = find (λ m. bytes_eq word (mode_word m)) (mode.Path ∷ mode.Body ∷ [])
+mode_with word = find (λ m. bytes_eq word (mode_word m)) (mode.Path ∷ mode.Type_ ∷ mode.Body ∷ [])
 
 -- the mode that words call for: exactly one word, which is a mode's
 abbrev pub called : {W : Type 0} → (W → List ℕ) → List W → Option Mode
@@ -23,4 +24,5 @@ called text (w ∷ v ∷ vs) = None
 -- what the root of a document has to be
 abbrev pub root_of : Mode → Root
 root_of mode.Path = root.Path
+root_of mode.Type_ = root.Type_
 root_of mode.Body = root.Fn

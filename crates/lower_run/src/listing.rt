@@ -3,10 +3,12 @@
 mod lines;
 mod numbering;
 mod printer;
+mod types;
 mod waiting;
 mod words;
 mod writer;
 
+use hir_store::ids::TypeRefId;
 use hir_store::path::Path;
 use hir_store::source_map::ExpressionStoreSourceMap;
 use hir_store::store::ExpressionStore;
@@ -33,16 +35,31 @@ pub fn body_listing(
 
 /// The listing of a path: a line with it, or that it is refused; where it isn't, one for each name of the written
 /// segments and one past the last; then as for a body. Only memory can fail.
-pub fn path_listing(
+pub fn path_listing<'a>(
     alloc: Global,
-    path: Option<&Path>,
+    path: Option<&'a Path>,
     written: &ast::Path,
+    store: &'a ExpressionStore,
+    source_map: &'a ExpressionStoreSourceMap,
+    sources: bool,
+) -> Result<String, AllocError> {
+    let mut printer = Printer::new(alloc, store, source_map, sources);
+    let printed = printer.path_listing(path, written);
+    let text = printer.finish();
+    printed?;
+    Ok(text)
+}
+
+/// The listing of a type: a line with it, then as for a body. Only memory can fail.
+pub fn type_listing(
+    alloc: Global,
+    ty: TypeRefId,
     store: &ExpressionStore,
     source_map: &ExpressionStoreSourceMap,
     sources: bool,
 ) -> Result<String, AllocError> {
     let mut printer = Printer::new(alloc, store, source_map, sources);
-    let printed = printer.path_listing(path, written);
+    let printed = printer.type_listing(ty);
     let text = printer.finish();
     printed?;
     Ok(text)

@@ -10,6 +10,7 @@ use std::convert::AsStr;
 #[derive(Clone, Copy, Debug, PartialEq, Eq)]
 pub enum Mode {
     Path,
+    Type_,
     Body,
 }
 
@@ -19,6 +20,7 @@ impl Mode {
     {
         match word {
             "path" => Some(Mode::Path),
+            "type" => Some(Mode::Type_),
             "body" => Some(Mode::Body),
             _ => None,
         }
@@ -42,6 +44,7 @@ impl Mode {
     {
         match self {
             Mode::Path => Root::Path,
+            Mode::Type_ => Root::Type_,
             Mode::Body => Root::Fn,
         }
     }

@@ -7,15 +7,15 @@ ghost use Rattle.std.specs.Io.KnownBytes.{Appends};
 
 use crate::failure::Failure;
 use crate::input::read_all;
-use crate::listing::{body_listing, path_listing};
+use crate::listing::{body_listing, path_listing, type_listing};
 use crate::mode::Mode;
-use hir_lower::{ExprCollector, LowerError, lower_body};
+use hir_lower::{ErrorImplTrait, ExprCollector, LowerError, lower_body, lower_type_ref};
 use hir_store::ids::ModuleId;
 use hir_store::path::Path;
 use hir_store::source_map::ExpressionStoreSourceMap;
 use hir_store::store::ExpressionStore;
 use hir_syntax::ast;
-use hir_syntax::node::{AstPtr, HirFileId};
+use hir_syntax::node::{AstPtr, HirFileId, InFile};
 use lower_json::document::{Document, Tree};
 use lower_json::read::read_tree;
 use std::alloc::Global;
@@ -61,7 +61,7 @@ fn lowered_path(
         HirFileId(0),
         document.mode,
     );
-    let lowered = collector.lower_path(path)?;
+    let lowered = collector.lower_path(path, &mut ErrorImplTrait)?;
     let (store, source_map) = collector.into_store()?;
     Ok((lowered, store, source_map))
 }
@@ -85,6 +85,25 @@ fn listed_path(alloc: Global, document: &Document, path: &ast::Path) -> Result<S
     listed.map_err(|_| Failure::Memory)
 }
 
+/// The listing of a type, which may be absent.
+fn listed_type(
+    alloc: Global,
+    document: &Document,
+    ty: Option<&ast::Type_>,
+) -> Result<String, Failure>
+    ensures { IfErr result (λ e. (e ≡ Failure.Memory) ⊎ (e ≡ Failure.Full)) }
+{
+    let written = InFile {
+        file_id: HirFileId(0),
+        value: ty,
+    };
+    let (store, source_map, lowered) = lower_type_ref(alloc, &document.env, ModuleId(0), written)?;
+    let listed = type_listing(alloc, lowered, &store, &source_map, document.sources);
+    drop(store);
+    drop(source_map);
+    listed.map_err(|_| Failure::Memory)
+}
+
 /// The listing of a document's tree.
 fn document_listing(alloc: Global, document: &Document) -> Result<String, Failure>
     ensures { IfErr result (λ e. (e ≡ Failure.Memory) ⊎ (e ≡ Failure.Full)) }
@@ -92,6 +111,7 @@ fn document_listing(alloc: Global, document: &Document) -> Result<String, Failur
     match &document.tree {
         Tree::Fn(item) => listed_body(alloc, document, item),
         Tree::Path(path) => listed_path(alloc, document, path),
+        Tree::Type_(ty) => listed_type(alloc, document, ty.as_ref()),
     }
 }
 

@@ -13,3 +13,7 @@ mod listings;
 mod paths;
 #[cfg(test)]
 mod streams;
+#[cfg(test)]
+mod types;
+#[cfg(test)]
+mod ways_back;

@@ -57,6 +57,12 @@ fn path_of_f(alloc: Global) -> Result<Expr, AllocError> {
         range: range(4),
         seg: Some(SegmentKind::Name),
         name: Some(name),
+        generics: None,
+        parens: None,
+        ret: None,
+        rtn: false,
+        ty: None,
+        trait_: None,
     }))?;
     let path = Path {
         id: NodeId(3),

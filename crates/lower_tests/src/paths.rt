@@ -2,7 +2,7 @@
 
 use hir_env::place::LoweringMode;
 use hir_env::table::TableEnv;
-use hir_lower::{ExprCollector, LowerError, hir_segment_to_ast_segment};
+use hir_lower::{ErrorImplTrait, ExprCollector, LowerError, hir_segment_to_ast_segment};
 use hir_store::ids::{ItemContainerId, ModuleId};
 use hir_syntax::ast::{ConstArg, Path};
 use hir_syntax::node::{HirFileId, NodeId, TextRange};
@@ -34,7 +34,7 @@ fn nodes_of(document: &Document) -> Option<[Option<NodeId>; 4]> {
             node_of(path, 2),
             node_of(path, 3),
         ]),
-        Tree::Fn(_) => None,
+        Tree::Fn(_) | Tree::Type_(_) => None,
     }
 }
 
@@ -63,7 +63,7 @@ fn no_constant() -> ConstArg {
 
 /// Whether the path has a lowered form, or why that isn't said.
 fn lowered(collector: &mut ExprCollector<'_, TableEnv>, path: &Path) -> Result<bool, LowerError> {
-    let lowered = collector.lower_path(path)?;
+    let lowered = collector.lower_path(path, &mut ErrorImplTrait)?;
     let is_some = lowered.is_some();
     drop(lowered);
     Ok(is_some)
@@ -100,7 +100,7 @@ fn without_room_in_text(alloc: Global, text: &str) -> Result<Option<Answers>, Re
     let document = read_tree(alloc, Root::Path, text.as_bytes())?;
     let answers = match &document.tree {
         Tree::Path(path) => Some(without_room(alloc, path)),
-        Tree::Fn(_) => None,
+        Tree::Fn(_) | Tree::Type_(_) => None,
     };
     drop(document);
     Ok(answers)

@@ -1,5 +1,11 @@
-use Rattle.hir_one_result.proofs.TreeRooms.{all_fit}
+use Rattle.hir_one_result.proofs.Fits.{all_fit, types_fit, paths_fit}
 use Rattle.hir_one_result.proofs.numbers.Goals as goal
 
-pub returns : goal.returns
-returns c = all_fit
+pub returns-clause-trees : goal.returns-clause-trees
+returns-clause-trees c = all_fit
+
+pub returns-clause-types : goal.returns-clause-types
+returns-clause-types c = types_fit
+
+pub returns-clause-paths : goal.returns-clause-paths
+returns-clause-paths c = paths_fit

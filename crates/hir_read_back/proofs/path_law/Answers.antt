@@ -1,4 +1,4 @@
-use Rattle.hir_read_back.proofs.Walk.{path_law as proved}
+use Rattle.hir_read_back.proofs.Now.{path_law as proved}
 use Rattle.hir_read_back.proofs.path_law.Goals as goal
 
 pub returns : goal.returns

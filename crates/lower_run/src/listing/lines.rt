@@ -1,43 +1,48 @@
-//! The lines of paths and segments, labels and diagnostics.
+//! The lines of segments, labels and diagnostics.
 
 use super::words::{await_word, missing_body_word};
 use super::writer::Writer;
-use hir_lower::segment_name;
+use hir_lower::{named_parts, segment_name};
 use hir_store::diagnostics::ExpressionStoreDiagnostics;
-use hir_store::ids::{HygieneId, LabelId};
-use hir_store::path::Path;
+use hir_store::ids::LabelId;
 use hir_store::source_map::ExpressionStoreSourceMap;
 use hir_store::store::ExpressionStore;
-use hir_syntax::ast::PathSegment;
+use hir_syntax::ast::{Path, PathSegment};
 use hir_syntax::node::{AstPtr, InFile};
 use std::alloc::AllocError;
 
-/// Adds the line of a path.
-pub fn path(writer: &mut Writer, path: &Path) -> Result<(), AllocError> {
-    writer.word("path ")?;
-    writer.path(path, HygieneId::ROOT)?;
-    writer.word("\n")
-}
-
-fn segment_line(writer: &mut Writer, number: usize, name: &str) -> Result<(), AllocError> {
+fn segment_line(writer: &mut Writer, number: u32, name: &str) -> Result<(), AllocError> {
     writer.numbered("segment ", number)?;
     writer.word(" ")?;
     writer.word(name)?;
     writer.word("\n")
 }
 
-/// Adds a line for each written segment that bears a name, the k-th with the number k, and one that says that there
-/// are no more.
-pub fn segments(writer: &mut Writer, segments: &[Option<PathSegment>]) -> Result<(), AllocError> {
-    let mut number: usize = 0;
+/// Adds a line for each of these segments that stands for a name, numbered from a number on, and answers the next one.
+/// A document has far fewer segments than there are numbers.
+fn segment_lines(
+    writer: &mut Writer,
+    first: u32,
+    segments: &[Option<PathSegment>],
+) -> Result<u32, AllocError> {
+    let mut number = first;
     for segment in segments {
         if let Some(segment) = segment
             && let Some(name) = segment_name(segment)
         {
             segment_line(writer, number, name)?;
-            number += 1;
+            number = number.saturating_add(1);
         }
     }
+    Ok(number)
+}
+
+/// Adds a line for each written segment that bears a name, the k-th with the number k, and one that says that there
+/// are no more. The segments of a trait stand in place of the one that it qualifies.
+pub fn segments(writer: &mut Writer, path: &Path) -> Result<(), AllocError> {
+    let (of_trait, rest) = named_parts(path);
+    let number = segment_lines(writer, 0, of_trait)?;
+    let number = segment_lines(writer, number, rest)?;
     segment_line(writer, number, "None")
 }
 

@@ -5,18 +5,20 @@ use super::numbering::Numbering;
 use super::waiting::{Piece, Waiting};
 use super::words::{expr_word, statement_word};
 use super::writer::Writer;
-use hir_store::hir::Statement;
-use hir_store::ids::{ExprId, LabelId};
-use hir_store::path::Path;
+use hir_store::hir::{RecordLitField, Statement};
+use hir_store::ids::{ExprId, HygieneId, LabelId, LifetimeRefId, TypeRefId};
+use hir_store::name::Name;
+use hir_store::path::{AssociatedTypeBinding, GenericArg, GenericArgs, Path};
 use hir_store::source_map::ExpressionStoreSourceMap;
 use hir_store::store::ExpressionStore;
+use hir_store::type_ref::{TypeBound, UseArgRef};
 use hir_syntax::ast;
 use std::alloc::{AllocError, Global};
 
-/// Prints the expressions of a store.
+/// Prints what a store holds: expressions, paths and types.
 ///
-/// What is still to be printed waits in a list, so that a deep body takes memory and no stack, and each stored
-/// expression is looked at once.
+/// What is still to be printed waits in a list, so that a deep body or type takes memory and no stack, and each
+/// stored part is looked at once.
 pub struct Printer<'a> {
     store: &'a ExpressionStore,
     source_map: &'a ExpressionStoreSourceMap,
@@ -75,17 +77,31 @@ impl<'a> Printer<'a> {
     /// Prints the whole listing of a path: the path, the names of its segments, then as for a body.
     pub fn path_listing(
         &mut self,
-        path: Option<&Path>,
+        path: Option<&'a Path>,
         written: &ast::Path,
     ) -> Result<(), AllocError> {
+        self.writer.word("path ")?;
         match path {
             Some(path) => {
-                lines::path(&mut self.writer, path)?;
-                lines::segments(&mut self.writer, written.segs.as_slice())?;
+                self.line(Piece::Path(path, HygieneId::ROOT))?;
+                lines::segments(&mut self.writer, written)?;
             }
-            None => self.writer.word("path None\n")?,
+            None => self.writer.word("None\n")?,
         }
         self.others()
+    }
+
+    /// Prints the whole listing of a type: the type, then as for a body.
+    pub fn type_listing(&mut self, ty: TypeRefId) -> Result<(), AllocError> {
+        self.writer.word("type ")?;
+        self.line(Piece::Type_(ty))?;
+        self.others()
+    }
+
+    /// Prints a piece and ends the line.
+    fn line(&mut self, piece: Piece<'a>) -> Result<(), AllocError> {
+        self.whole(piece)?;
+        self.writer.word("\n")
     }
 
     /// Prints the labels by number, then the diagnostics.
@@ -103,17 +119,17 @@ impl<'a> Printer<'a> {
     fn body(&mut self) -> Result<(), AllocError> {
         self.writer.word("body ")?;
         match self.store.expr_roots().last() {
-            Some(root) => self.expr(root.root)?,
+            Some(root) => self.whole(Piece::Expr(root.root))?,
             None => self.writer.word("-")?,
         }
         self.writer.word("\n")
     }
 
-    /// Prints an expression with all that it reaches.
+    /// Prints a piece with all that it reaches.
     ///
     /// A store is a tree, so the pieces run out; the count of turns is there for the proof that the loop ends.
-    fn expr(&mut self, id: ExprId) -> Result<(), AllocError> {
-        self.waiting.push(Piece::Expr(id))?;
+    fn whole(&mut self, piece: Piece<'a>) -> Result<(), AllocError> {
+        self.waiting.push(piece)?;
         for _ in 0..u64::MAX {
             let Some(piece) = self.waiting.pop() else {
                 break;
@@ -135,8 +151,177 @@ impl<'a> Printer<'a> {
             Piece::Label(id) => self.label(id),
             Piece::Block(id) => self.writer.numbered("b", id.0),
             Piece::Name(name) => self.writer.name(name),
-            Piece::Path(path, hygiene) => self.writer.path(path, hygiene),
             Piece::Literal(literal) => self.writer.literal(literal),
+            Piece::Names(names) => self.writer.names(names),
+            Piece::FieldList(fields) => self.waiting.push_all(&[
+                Piece::Word("["),
+                Piece::Fields("", fields),
+                Piece::Word("]"),
+            ]),
+            Piece::Fields(before, fields) => self.fields(before, fields),
+            Piece::Path(_, _)
+            | Piece::Hygiene(_)
+            | Piece::PathKind(_)
+            | Piece::ModPath(_)
+            | Piece::Segments(_, _, _)
+            | Piece::GenericArgs(_)
+            | Piece::Args(_, _)
+            | Piece::Bindings(_, _)
+            | Piece::Binding(_) => self.path_piece(piece),
+            Piece::Type_(_)
+            | Piece::Types(_, _)
+            | Piece::Lifetime(_)
+            | Piece::Bounds(_, _)
+            | Piece::Bound(_)
+            | Piece::UseArgs(_, _)
+            | Piece::Binder(_) => self.type_piece(piece),
+        }
+    }
+
+    /// Prints what stands before the first of these, and lets them wait.
+    fn fields(
+        &mut self,
+        before: &'static str,
+        fields: &'a [RecordLitField],
+    ) -> Result<(), AllocError> {
+        let Some((first, rest)) = fields.split_first() else {
+            return Ok(());
+        };
+        self.waiting.push_all(&[
+            Piece::Name(&first.name),
+            Piece::Word(" "),
+            Piece::Expr(first.expr),
+            Piece::Word(")"),
+            Piece::Fields(" ", rest),
+        ])?;
+        self.writer.word(before)?;
+        self.writer.word("(")
+    }
+
+    /// A piece of a path.
+    fn path_piece(&mut self, piece: Piece<'a>) -> Result<(), AllocError> {
+        match piece {
+            Piece::Path(path, hygiene) => {
+                self.waiting.push(Piece::Hygiene(hygiene))?;
+                self.waiting.push_path(path)
+            }
+            Piece::Hygiene(hygiene) => self.writer.hygiene(hygiene),
+            Piece::PathKind(kind) => self.writer.path_kind(kind),
+            Piece::ModPath(path) => self.writer.mod_path(path),
+            Piece::Segments(before, names, args) => self.segments(before, names, args),
+            Piece::GenericArgs(args) => self.waiting.push_generic_args(args),
+            Piece::Args(before, args) => self.args(before, args),
+            Piece::Bindings(before, bindings) => self.bindings(before, bindings),
+            Piece::Binding(binding) => self.waiting.push_binding(binding),
+            _ => Ok(()),
+        }
+    }
+
+    /// A piece of a type.
+    fn type_piece(&mut self, piece: Piece<'a>) -> Result<(), AllocError> {
+        match piece {
+            Piece::Type_(id) => self.open_type(id),
+            Piece::Types(before, types) => self.types(before, types),
+            Piece::Lifetime(id) => self.lifetime(id),
+            Piece::Bounds(before, bounds) => self.bounds(before, bounds),
+            Piece::Bound(bound) => self.waiting.push_bound(bound),
+            Piece::UseArgs(before, args) => self.use_args(before, args),
+            Piece::Binder(names) => self.writer.binder(names),
+            _ => Ok(()),
+        }
+    }
+
+    /// Prints what stands before the first of these names, and lets it wait with its arguments, and the others.
+    fn segments(
+        &mut self,
+        before: &'static str,
+        names: &'a [Name],
+        args: &'a [Option<GenericArgs>],
+    ) -> Result<(), AllocError> {
+        let Some((name, names)) = names.split_first() else {
+            return Ok(());
+        };
+        let (of_name, args) = match args.split_first() {
+            Some((of_name, args)) => (of_name.as_ref(), args),
+            None => (None, args),
+        };
+        self.waiting.push(Piece::Segments("::", names, args))?;
+        if let Some(of_name) = of_name {
+            self.waiting.push(Piece::GenericArgs(of_name))?;
+        }
+        self.writer.word(before)?;
+        self.writer.name(name)
+    }
+
+    /// Prints what stands before the first of these arguments, and lets them wait; likewise below.
+    fn args(&mut self, before: &'static str, args: &'a [GenericArg]) -> Result<(), AllocError> {
+        let Some((first, rest)) = args.split_first() else {
+            return Ok(());
+        };
+        self.waiting.push(Piece::Args(", ", rest))?;
+        self.waiting.push(match first {
+            GenericArg::Type_(id) => Piece::Type_(*id),
+            GenericArg::Lifetime(id) => Piece::Lifetime(*id),
+        })?;
+        self.writer.word(before)
+    }
+
+    fn bindings(
+        &mut self,
+        before: &'static str,
+        bindings: &'a [AssociatedTypeBinding],
+    ) -> Result<(), AllocError> {
+        let Some((first, rest)) = bindings.split_first() else {
+            return Ok(());
+        };
+        self.waiting.push(Piece::Bindings(", ", rest))?;
+        self.waiting.push(Piece::Binding(first))?;
+        self.writer.word(before)
+    }
+
+    fn types(&mut self, before: &'static str, types: &'a [TypeRefId]) -> Result<(), AllocError> {
+        let Some((first, rest)) = types.split_first() else {
+            return Ok(());
+        };
+        self.waiting.push(Piece::Types(", ", rest))?;
+        self.waiting.push(Piece::Type_(*first))?;
+        self.writer.word(before)
+    }
+
+    fn bounds(&mut self, before: &'static str, bounds: &'a [TypeBound]) -> Result<(), AllocError> {
+        let Some((first, rest)) = bounds.split_first() else {
+            return Ok(());
+        };
+        self.waiting.push(Piece::Bounds(" + ", rest))?;
+        self.waiting.push(Piece::Bound(first))?;
+        self.writer.word(before)
+    }
+
+    fn use_args(&mut self, before: &'static str, args: &'a [UseArgRef]) -> Result<(), AllocError> {
+        let Some((first, rest)) = args.split_first() else {
+            return Ok(());
+        };
+        self.waiting.push(Piece::UseArgs(", ", rest))?;
+        self.waiting.push(match first {
+            UseArgRef::Name(name) => Piece::Name(name),
+            UseArgRef::Lifetime(id) => Piece::Lifetime(*id),
+        })?;
+        self.writer.word(before)
+    }
+
+    /// Lets the parts of a type wait. A number past the store's end, which no store holds, prints as an error.
+    fn open_type(&mut self, id: TypeRefId) -> Result<(), AllocError> {
+        match self.store.type_ref(id) {
+            Some(ty) => self.waiting.push_type(ty),
+            None => self.writer.word("{error}"),
+        }
+    }
+
+    /// Prints a lifetime, likewise.
+    fn lifetime(&mut self, id: LifetimeRefId) -> Result<(), AllocError> {
+        match self.store.lifetime(id) {
+            Some(lifetime) => self.writer.lifetime(lifetime),
+            None => self.writer.word("'{error}"),
         }
     }
 

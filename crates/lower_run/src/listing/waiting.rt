@@ -3,10 +3,11 @@
 use super::words::{
     binary_word, loop_word, mutability_word, rawness_word, unary_word, unsafe_word,
 };
-use hir_store::hir::{Expr, Literal, Statement};
-use hir_store::ids::{BlockId, ExprId, HygieneId, LabelId};
+use hir_store::hir::{Expr, Literal, RecordLitField, RecordSpread, Statement};
+use hir_store::ids::{BlockId, ExprId, HygieneId, LabelId, LifetimeRefId, TypeRefId};
 use hir_store::name::Name;
-use hir_store::path::Path;
+use hir_store::path::{AssociatedTypeBinding, GenericArg, GenericArgs, ModPath, Path, PathKind};
+use hir_store::type_ref::{TypeBound, UseArgRef};
 use std::alloc::{AllocError, Global};
 
 /// A piece of a listing.
@@ -27,6 +28,30 @@ pub enum Piece<'a> {
     Name(&'a Name),
     Path(&'a Path, HygieneId),
     Literal(&'a Literal),
+    /// Names as a list.
+    Names(&'a [Name]),
+    /// The fields of a record as a list.
+    FieldList(&'a [RecordLitField]),
+    Hygiene(HygieneId),
+    PathKind(PathKind),
+    /// A path without arguments.
+    ModPath(&'a ModPath),
+    /// What stands before the first of these names, the names, and the arguments of each.
+    Segments(&'static str, &'a [Name], &'a [Option<GenericArgs>]),
+    GenericArgs(&'a GenericArgs),
+    /// What stands before the first of these, and they; likewise below.
+    Args(&'static str, &'a [GenericArg]),
+    Fields(&'static str, &'a [RecordLitField]),
+    Bindings(&'static str, &'a [AssociatedTypeBinding]),
+    Binding(&'a AssociatedTypeBinding),
+    Type_(TypeRefId),
+    Types(&'static str, &'a [TypeRefId]),
+    Lifetime(LifetimeRefId),
+    Bounds(&'static str, &'a [TypeBound]),
+    Bound(&'a TypeBound),
+    UseArgs(&'static str, &'a [UseArgRef]),
+    /// The names of the lifetimes of a `for<..>`.
+    Binder(&'a [Name]),
 }
 
 const ABSENT: Piece<'static> = Piece::Word("-");
@@ -52,6 +77,21 @@ fn block_or_absent(block: Option<BlockId>) -> Piece<'static> {
     }
 }
 
+fn args_or_absent(args: &Option<GenericArgs>) -> Piece<'_> {
+    match args {
+        Some(args) => Piece::GenericArgs(args),
+        None => ABSENT,
+    }
+}
+
+fn spread_or_absent(spread: RecordSpread) -> Piece<'static> {
+    match spread {
+        RecordSpread::None => ABSENT,
+        RecordSpread::FieldDefaults => Piece::Word(".."),
+        RecordSpread::Expr(id) => Piece::Expr(id),
+    }
+}
+
 /// The pieces that wait. The next one stands last.
 #[derive(Drop)]
 pub struct Waiting<'a> {
@@ -73,6 +113,14 @@ impl<'a> Waiting<'a> {
     /// Lets a piece wait before all others.
     pub fn push(&mut self, piece: Piece<'a>) -> Result<(), AllocError> {
         self.pieces.push(piece)?;
+        Ok(())
+    }
+
+    /// Lets these wait before all others, in their order.
+    pub fn push_all(&mut self, pieces: &[Piece<'a>]) -> Result<(), AllocError> {
+        for piece in pieces.iter().rev() {
+            self.push(*piece)?;
+        }
         Ok(())
     }
 
@@ -101,6 +149,9 @@ impl<'a> Waiting<'a> {
             | Expr::BinaryOp { .. }
             | Expr::Index { .. }
             | Expr::Ref { .. } => self.push_operation_parts(expr),
+            Expr::Cast { .. } | Expr::RecordLit { .. } | Expr::OffsetOf { .. } => {
+                self.push_typed_parts(expr)
+            }
         }
     }
 
@@ -157,11 +208,12 @@ impl<'a> Waiting<'a> {
             Expr::MethodCall {
                 receiver,
                 method_name,
+                generic_args,
                 args,
             } => self.push_parts(&[
                 Piece::Expr(*receiver),
                 Piece::Name(method_name),
-                ABSENT,
+                args_or_absent(generic_args),
                 Piece::Exprs(args.as_slice()),
             ]),
             Expr::Field { expr, name } => self.push_parts(&[Piece::Expr(*expr), Piece::Name(name)]),
@@ -186,6 +238,30 @@ impl<'a> Waiting<'a> {
                 Piece::Word(rawness_word(*rawness)),
                 Piece::Word(mutability_word(*mutability)),
                 Piece::Expr(*expr),
+            ]),
+            _ => self.push_parts(&[]),
+        }
+    }
+
+    /// The same of what holds a type or a path beside its operands.
+    fn push_typed_parts(&mut self, expr: &'a Expr) -> Result<(), AllocError> {
+        match expr {
+            Expr::Cast { expr, type_ref } => self.push_parts(&[
+                Piece::Expr(*expr),
+                Piece::Type_(*type_ref),
+            ]),
+            Expr::RecordLit {
+                path,
+                fields,
+                spread,
+            } => self.push_parts(&[
+                Piece::Path(path, HygieneId::ROOT),
+                Piece::FieldList(fields.as_slice()),
+                spread_or_absent(*spread),
+            ]),
+            Expr::OffsetOf { container, fields } => self.push_parts(&[
+                Piece::Type_(*container),
+                Piece::Names(fields.as_slice()),
             ]),
             _ => self.push_parts(&[]),
         }

@@ -2,6 +2,7 @@
 
 use hir_store::diagnostics::{AwaitLocation, MissingBodyItemKind};
 use hir_store::hir::{Expr, LoopSource, Mutability, Rawness, Statement};
+use hir_store::type_ref::ExternAbi;
 use hir_syntax::ast::{ArithOp, BinaryOp, CmpOp, LogicOp, Ordering, UnaryOp};
 
 /// The kind that an expression begins with.
@@ -29,6 +30,9 @@ pub fn expr_word(expr: &Expr) -> &'static str {
         Expr::Yield { .. } => "Yield",
         Expr::Yeet { .. } => "Yeet",
         Expr::Await { .. } => "Await",
+        Expr::Cast { .. } => "Cast",
+        Expr::RecordLit { .. } => "RecordLit",
+        Expr::OffsetOf { .. } => "OffsetOf",
         Expr::Underscore => "Underscore",
         Expr::IncludeBytes => "IncludeBytes",
     }
@@ -155,5 +159,26 @@ pub fn missing_body_word(kind: MissingBodyItemKind) -> &'static str {
         MissingBodyItemKind::Static => "diag MissingBody Static",
         MissingBodyItemKind::Const => "diag MissingBody Const",
         MissingBodyItemKind::AssocConst => "diag MissingBody AssocConst",
+    }
+}
+
+/// What stands before a function pointer of the ABI.
+pub fn extern_word(abi: ExternAbi) -> &'static str {
+    match abi {
+        ExternAbi::Rust => "",
+        ExternAbi::C => "extern \"C\" ",
+        ExternAbi::CUnwind => "extern \"C-unwind\" ",
+        ExternAbi::System => "extern \"system\" ",
+        ExternAbi::SystemUnwind => "extern \"system-unwind\" ",
+        ExternAbi::Cdecl => "extern \"cdecl\" ",
+        ExternAbi::Stdcall => "extern \"stdcall\" ",
+        ExternAbi::Fastcall => "extern \"fastcall\" ",
+        ExternAbi::Vectorcall => "extern \"vectorcall\" ",
+        ExternAbi::Thiscall => "extern \"thiscall\" ",
+        ExternAbi::Aapcs => "extern \"aapcs\" ",
+        ExternAbi::Win64 => "extern \"win64\" ",
+        ExternAbi::Sysv64 => "extern \"sysv64\" ",
+        ExternAbi::Efiapi => "extern \"efiapi\" ",
+        ExternAbi::RustCall => "extern \"rust-call\" ",
     }
 }

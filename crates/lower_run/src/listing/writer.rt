@@ -1,10 +1,12 @@
 //! The text of what has no parts.
 
 use super::numbering::Numbering;
+use super::types::before_first_name;
 use hir_store::hir::Literal;
 use hir_store::ids::HygieneId;
 use hir_store::name::Name;
-use hir_store::path::{ModPath, Path, PathKind};
+use hir_store::path::{ModPath, PathKind};
+use hir_store::type_ref::LifetimeRef;
 use hir_syntax::ast::LiteralKind;
 use hir_syntax::node::{AstPtr, InFile};
 use std::alloc::{AllocError, Global};
@@ -87,23 +89,18 @@ impl Writer {
         }
     }
 
-    /// Adds a path: where it begins and its names, joined by `::`, then `!h` where its hygiene h isn't the root's.
-    pub fn path(&mut self, path: &Path, hygiene: HygieneId) -> Result<(), AllocError> {
-        match path {
-            Path::BarePath(path) => self.mod_path(path)?,
-        }
+    /// Adds `!h` for a hygiene h other than the root's.
+    pub fn hygiene(&mut self, hygiene: HygieneId) -> Result<(), AllocError> {
         if hygiene == HygieneId::ROOT {
             return Ok(());
         }
         self.numbered("!", hygiene.0)
     }
 
-    fn mod_path(&mut self, path: &ModPath) -> Result<(), AllocError> {
+    /// Adds a path without arguments: where it begins and its names, joined by `::`.
+    pub fn mod_path(&mut self, path: &ModPath) -> Result<(), AllocError> {
         self.path_kind(path.kind)?;
-        let mut before = match path.kind {
-            PathKind::Plain | PathKind::Abs => "",
-            _ => "::",
-        };
+        let mut before = before_first_name(path.kind);
         for name in path.segments.as_slice() {
             self.word(before)?;
             self.name(name)?;
@@ -112,8 +109,40 @@ impl Writer {
         Ok(())
     }
 
+    /// Adds names as a list.
+    pub fn names(&mut self, names: &[Name]) -> Result<(), AllocError> {
+        let mut before = "[";
+        for name in names {
+            self.word(before)?;
+            self.name(name)?;
+            before = " ";
+        }
+        self.word(if names.is_empty() { "[]" } else { "]" })
+    }
+
+    /// Adds a lifetime.
+    pub fn lifetime(&mut self, lifetime: &LifetimeRef) -> Result<(), AllocError> {
+        match lifetime {
+            LifetimeRef::Named(name) => self.name(name),
+            LifetimeRef::Static => self.word("'static"),
+            LifetimeRef::Placeholder => self.word("'_"),
+            LifetimeRef::Error => self.word("'{error}"),
+        }
+    }
+
+    /// Adds `for<..>` with these lifetimes, and a space.
+    pub fn binder(&mut self, names: &[Name]) -> Result<(), AllocError> {
+        let mut before = "for<";
+        for name in names {
+            self.word(before)?;
+            self.name(name)?;
+            before = ", ";
+        }
+        self.word(if names.is_empty() { "for<> " } else { "> " })
+    }
+
     /// Adds where a path begins: nothing or `::`, a keyword, `super` n times, or a crate's root by its number.
-    fn path_kind(&mut self, kind: PathKind) -> Result<(), AllocError> {
+    pub fn path_kind(&mut self, kind: PathKind) -> Result<(), AllocError> {
         match kind {
             PathKind::Plain => Ok(()),
             PathKind::Abs => self.word("::"),

@@ -2,15 +2,18 @@ use Rattle.std.proofs.Common.{arith, ap, ℕ, suc, sym, ◌∙◌, ◌≡◌, �
 use Rattle.hir_syntax.specs.declared.ast.ExprKind.{out-ExprKind}
 use Rattle.hir_syntax.specs.declared.ast.BlockExpr.{out-BlockExpr}
 use Rattle.hir_syntax.specs.declared.ast.Path.{out-Path}
+use Rattle.hir_syntax.specs.declared.types.TypeKind.{out-TypeKind}
+use Rattle.hir_syntax.specs.declared.types.GenericArgList.{out-GenericArgList}
 use Rattle.hir_env.specs.Answering.{ptr, numbered}
 use Rattle.hir_env.specs.declared.place.Place.{Place}
-use Rattle.hir_env.specs.Count.{count_block, count_path, count_stmts, count_option_expr}
+use Rattle.hir_env.specs.Count.{count_args, count_block, count_path, count_stmts, count_option_expr, count_type}
 use Rattle.hir_env.specs.Whole.{answered_plain, expr_part, pointer_at, stmts_part}
 use Rattle.hir_env.proofs.Levels.{expr_is_level, plain_is_level}
-use Rattle.hir_env.proofs.PathLevels.{path_is_level}
-use Rattle.hir_lower.specs.Nests.{HandlesExpr, HandlesBlock, HandlesPath}
+use Rattle.hir_env.proofs.PathLevels.{arg_list_is_level, path_is_level, type_is_level}
+use Rattle.hir_lower.specs.Nests.{HandlesArgs, HandlesExpr, HandlesBlock, HandlesPath, HandlesType}
 use Rattle.hir_lower.specs.Roots.{spot_at}
-use Rattle.hir_lower.proofs.Kids.{kids_expr, kids_block, kids_path, expr_below, in_inside}
+use Rattle.hir_lower.proofs.Kids.{kids_expr, kids_block, expr_below, in_inside}
+use Rattle.hir_lower.proofs.TypeKids.{kids_args, kids_path, kids_type}
 use Rattle.hir_lower.proofs.knot.+lower.Goals as goal
 
 pub maybe_collect_expr-returns : goal.maybe_collect_expr-returns
@@ -24,7 +27,8 @@ maybe_collect_expr-expr_node-requires g t c =
     let at = spot_at env c.args.place in
     let size = expr_below at c.args.node.now in
     kids_expr env (HandlesExpr g.E.LowerEnv.answers _ _ c.args.env.now) (HandlesBlock g.E.LowerEnv.answers _ _ c.args.env.now)
-    (HandlesPath g.E.LowerEnv.answers _ _ c.args.env.now) t
+    (HandlesPath g.E.LowerEnv.answers _ _ c.args.env.now) (HandlesType g.E.LowerEnv.answers _ _ c.args.env.now)
+    (HandlesArgs g.E.LowerEnv.answers _ _ c.args.env.now) t
     (λ p e h. record {
       callable = λ alloc v old b same is. (rw same (rw is h), λ a m. m);
       lowers = λ alloc v old new b r same is q. rw (← is) (rw (← same) q.2);
@@ -34,8 +38,16 @@ maybe_collect_expr-expr_node-requires g t c =
       lowers = λ alloc v old new is_unsafe label n r same is q. rw (← is) (rw (← same) q.3);
     })
     (λ p x h. record {
-      callable = λ alloc v old walk b same is. (rw same (rw is h), λ a m. m);
+      callable = λ alloc v old walk b same is has. (rw same (rw is h), ((λ a m. m), has));
       reads = λ alloc v old new walk b r same is q. rw (← is) (rw (← same) q.3);
+    })
+    (λ p x h. record {
+      callable = λ alloc v old binder b same is. (rw same (rw is h), λ a m. m);
+      lowers = λ alloc v old new binder b r same is q. rw (← is) (rw (← same) q.2);
+    })
+    (λ p x h. record {
+      callable = λ alloc v old b same is. (rw same (rw is h), λ a m. m);
+      lowers = λ alloc v old new b r same is q. rw (← is) (rw (← same) q.2);
     })
     c.args.place (pointer_at at c.args.node.now.id c.args.node.now.range) (out-ExprKind c.args.node.now.kind) (omega (arith, d, size))
 
@@ -58,7 +70,8 @@ collect_block_inside-block_node-requires-clause-parts g t c =
     let size : count_block (answered_plain (spot_at env c.args.place) c.args.node.now) ≡ level c.inside-inner.result =
     ap count_block (plain_is_level (spot_at env c.args.place) c.args.node.now) ∙ ap level (sym inner) in
     kids_block env (HandlesExpr g.E.LowerEnv.answers _ _ c.args.env.now) (HandlesBlock g.E.LowerEnv.answers _ _ c.args.env.now)
-    (HandlesPath g.E.LowerEnv.answers _ _ c.args.env.now) t
+    (HandlesPath g.E.LowerEnv.answers _ _ c.args.env.now) (HandlesType g.E.LowerEnv.answers _ _ c.args.env.now)
+    (HandlesArgs g.E.LowerEnv.answers _ _ c.args.env.now) t
     (λ p e h. record {
       callable = λ alloc v old b same is. (rw same (rw is h), λ a m. m);
       lowers = λ alloc v old new b r same is q. rw (← is) (rw (← same) q.2);
@@ -68,8 +81,16 @@ collect_block_inside-block_node-requires-clause-parts g t c =
       lowers = λ alloc v old new is_unsafe label n r same is q. rw (← is) (rw (← same) q.3);
     })
     (λ p x h. record {
-      callable = λ alloc v old walk b same is. (rw same (rw is h), λ a m. m);
+      callable = λ alloc v old walk b same is has. (rw same (rw is h), ((λ a m. m), has));
       reads = λ alloc v old new walk b r same is q. rw (← is) (rw (← same) q.3);
+    })
+    (λ p x h. record {
+      callable = λ alloc v old binder b same is. (rw same (rw is h), λ a m. m);
+      lowers = λ alloc v old new binder b r same is q. rw (← is) (rw (← same) q.2);
+    })
+    (λ p x h. record {
+      callable = λ alloc v old b same is. (rw same (rw is h), λ a m. m);
+      lowers = λ alloc v old new b r same is q. rw (← is) (rw (← same) q.2);
     })
     c.inside-inner.result c.args.node.now (omega (arith, d, size))
 
@@ -77,16 +98,92 @@ pub read_path_segments-returns : goal.read_path_segments-returns
 read_path_segments-returns g t c =
     rw (path_is_level (spot_at (g.E.LowerEnv.answers c.args.env.now) c.args.place) c.args.node.now) c.path_node.ensures
 
-pub read_path_segments-path_node-requires : goal.read_path_segments-path_node-requires
-read_path_segments-path_node-requires g t c =
+pub read_path_segments-path_node-requires-clause-parts : goal.read_path_segments-path_node-requires-clause-parts
+read_path_segments-path_node-requires-clause-parts g t c =
     let d = c.decreases in
     let env = g.E.LowerEnv.answers c.args.env.now in
     let size = ap count_path (path_is_level (spot_at env c.args.place) c.args.node.now) in
-    kids_path env (λ p e. Unit {0}) (λ p b. Unit {0})
-    (HandlesPath g.E.LowerEnv.answers _ _ c.args.env.now) t
-    (λ p e h. tt) (λ p b h. tt)
-    (λ p x h. record {
-      callable = λ alloc v old walk b same is. (rw same (rw is h), λ a m. m);
-      reads = λ alloc v old new walk b r same is q. rw (← is) (rw (← same) q.3);
+    kids_path env (record {
+      expr = λ e. Unit {0};
+      block = λ b. Unit {0};
+      path = HandlesPath g.E.LowerEnv.answers _ _ c.args.env.now;
+      type_ = HandlesType g.E.LowerEnv.answers _ _ c.args.env.now;
+      args = HandlesArgs g.E.LowerEnv.answers _ _ c.args.env.now;
+    }) t
+    (record {
+      types = λ p x h. record {
+        callable = λ alloc v old binder b same is. (rw same (rw is h), λ a m. m);
+        lowers = λ alloc v old new binder b r same is q. rw (← is) (rw (← same) q.2);
+      };
+      paths = λ p x h. record {
+        callable = λ alloc v old walk b same is has. (rw same (rw is h), ((λ a m. m), has));
+        reads = λ alloc v old new walk b r same is q. rw (← is) (rw (← same) q.3);
+      };
+      lists = λ p x h. record {
+        callable = λ alloc v old b same is. (rw same (rw is h), λ a m. m);
+        lowers = λ alloc v old new b r same is q. rw (← is) (rw (← same) q.2);
+      };
     })
     c.args.place (out-Path c.args.node.now) (omega (arith, d, size))
+
+pub lower_type_node-returns : goal.lower_type_node-returns
+lower_type_node-returns g t c =
+    rw (type_is_level (spot_at (g.E.LowerEnv.answers c.args.env.now) c.args.place) c.args.node.now) c.type_node.ensures
+
+pub lower_type_node-type_node-requires : goal.lower_type_node-type_node-requires
+lower_type_node-type_node-requires g t c =
+    let d = c.decreases in
+    let env = g.E.LowerEnv.answers c.args.env.now in
+    let at = spot_at env c.args.place in
+    let size = ap count_type (type_is_level at c.args.node.now) in
+    kids_type env (record {
+      expr = λ e. Unit {0};
+      block = λ b. Unit {0};
+      path = HandlesPath g.E.LowerEnv.answers _ _ c.args.env.now;
+      type_ = HandlesType g.E.LowerEnv.answers _ _ c.args.env.now;
+      args = λ p l. Unit {0};
+    }) t
+    (record {
+      types = λ p x h. record {
+        callable = λ alloc v old binder b same is. (rw same (rw is h), λ a m. m);
+        lowers = λ alloc v old new binder b r same is q. rw (← is) (rw (← same) q.2);
+      };
+      paths = λ p x h. record {
+        callable = λ alloc v old walk b same is has. (rw same (rw is h), ((λ a m. m), has));
+        reads = λ alloc v old new walk b r same is q. rw (← is) (rw (← same) q.3);
+      };
+      lists = λ p x h. tt;
+    })
+    c.args.place (pointer_at at c.args.node.now.id c.args.node.now.range) (out-TypeKind c.args.node.now.kind) (omega (arith, d, size))
+
+pub lower_arg_list-returns : goal.lower_arg_list-returns
+lower_arg_list-returns g t c =
+    rw (arg_list_is_level (spot_at (g.E.LowerEnv.answers c.args.env.now) c.args.place) c.args.node.now) c.args_node.ensures
+
+pub lower_arg_list-args_node-requires : goal.lower_arg_list-args_node-requires
+lower_arg_list-args_node-requires g t c =
+    let d = c.decreases in
+    let env = g.E.LowerEnv.answers c.args.env.now in
+    let size = ap count_args (arg_list_is_level (spot_at env c.args.place) c.args.node.now) in
+    kids_args env (record {
+      expr = HandlesExpr g.E.LowerEnv.answers _ _ c.args.env.now c.args.place;
+      block = HandlesBlock g.E.LowerEnv.answers _ _ c.args.env.now c.args.place;
+      path = HandlesPath g.E.LowerEnv.answers _ _ c.args.env.now;
+      type_ = HandlesType g.E.LowerEnv.answers _ _ c.args.env.now;
+      args = HandlesArgs g.E.LowerEnv.answers _ _ c.args.env.now;
+    }) t
+    (record {
+      types = λ p x h. record {
+        callable = λ alloc v old binder b same is. (rw same (rw is h), λ a m. m);
+        lowers = λ alloc v old new binder b r same is q. rw (← is) (rw (← same) q.2);
+      };
+      paths = λ p x h. record {
+        callable = λ alloc v old walk b same is has. (rw same (rw is h), ((λ a m. m), has));
+        reads = λ alloc v old new walk b r same is q. rw (← is) (rw (← same) q.3);
+      };
+      lists = λ p x h. record {
+        callable = λ alloc v old b same is. (rw same (rw is h), λ a m. m);
+        lowers = λ alloc v old new b r same is q. rw (← is) (rw (← same) q.2);
+      };
+    })
+    c.args.place (out-GenericArgList c.args.node.now) (omega (arith, d, size))

@@ -1,4 +1,4 @@
-use Rattle.std.proofs.Common.{◌≡◌, subst}
+use Rattle.std.proofs.Common.{subst}
 use Rattle.hir_store.specs.declared.builder.ExpressionStoreBuilder.TheView.{view}
 use Rattle.hir_store.specs.Stored.{Stored, map_of, store_of}
 use Rattle.hir_store.specs.Range.{InRange}
@@ -10,7 +10,19 @@ returns-clause-in_range c =
     let P : Stored → Type 0 = λ v. InRange (store_of v) (map_of v) in
     let exprs = c.split-exprs.ensures.kept in
     let labels = c.split-labels.ensures.kept in
+    let types = c.split-types.ensures.kept in
+    let lifetimes = c.split-lifetimes.ensures.kept in
     subst P c.self.view_is (record {
-      store = c.self.invariant;
-      source_map = record { expr_sources = exprs.as_many; label_sources = labels.as_many; exprs = exprs.ways; labels = labels.ways };
+      store = c.self.invariant.0;
+      source_map = record {
+        expr_sources = exprs.as_many;
+        label_sources = labels.as_many;
+        type_sources = types.as_many;
+        lifetime_sources = lifetimes.as_many;
+        exprs = exprs.ways;
+        labels = labels.ways;
+        fields = c.self.invariant.1;
+        types = types.ways;
+        lifetimes = lifetimes.ways;
+      };
     })

@@ -1,4 +1,4 @@
-use Rattle.std.proofs.Common.{◌≡◌, subst}
+use Rattle.std.proofs.Common.{subst}
 use Rattle.hir_store.specs.Stored.{Stored, map_of, store_of}
 use Rattle.hir_store.specs.Range.{InRange}
 use Rattle.hir_store.proofs.builder.ExpressionStoreBuilder.in_range.Goals as goal
@@ -8,7 +8,19 @@ returns c =
     let P : Stored → Type 0 = λ v. InRange (store_of v) (map_of v) in
     let exprs = c.kept.ensures in
     let labels = c.kept-2.ensures in
+    let types = c.kept-3.ensures in
+    let lifetimes = c.kept-4.ensures in
     subst P c.self.view_is (record {
-      store = c.self.invariant;
-      source_map = record { expr_sources = exprs.as_many; label_sources = labels.as_many; exprs = exprs.ways; labels = labels.ways };
+      store = c.self.invariant.0;
+      source_map = record {
+        expr_sources = exprs.as_many;
+        label_sources = labels.as_many;
+        type_sources = types.as_many;
+        lifetime_sources = lifetimes.as_many;
+        exprs = exprs.ways;
+        labels = labels.ways;
+        fields = c.self.invariant.1;
+        types = types.ways;
+        lifetimes = lifetimes.ways;
+      };
     })

@@ -1,0 +1,55 @@
+-- The written arguments and bindings that those of a stored list came from: the ways back from them.
+use Rattle.std.specs.Prelude.{◌≡◌, if◌then◌else◌, Bool, true, false, ◌&&◌, not, List, [], ◌∷◌, map, Some, is_some}
+use Rattle.hir_syntax.specs.declared.types.GenericArg.{GenericArg as AstGenericArg, out-GenericArg}
+use Rattle.hir_syntax.specs.declared.types.GenericArg.TheOpen.{GenericArg-F}
+use Rattle.hir_syntax.specs.declared.types.AssocTypeArg.{AssocTypeArg as AstAssocTypeArg, out-AssocTypeArg}
+use Rattle.hir_syntax.specs.declared.types.GenericArgList.{GenericArgList as AstGenericArgList, out-GenericArgList}
+use Rattle.hir_env.specs.Spot.{Spot}
+use Rattle.hir_env.specs.TypeLayers.{GenericArgLayer}
+use Rattle.hir_env.specs.Paths.{written_types}
+use Rattle.hir_env.specs.Whole.{answered_arg, answered_assoc_arg, answered_arg_list}
+use Rattle.hir_data.specs.Data.{ArgumentData, ArgumentsData, no_arguments, more_arguments, BindingData, BindingsData, no_bindings}
+use Rattle.hir_data.specs.Data.{more_bindings}
+use Rattle.hir_data.specs.Written.{arguments_of, argument_of, bindings_of, binding_of}
+
+-- each but a binding and a lifetime that is absent
+abbrev pub argument_stands : GenericArgLayer written_types → Bool
+argument_stands (GenericArg-F.TypeArg x) = true
+argument_stands (GenericArg-F.AssocTypeArg x) = false
+argument_stands (GenericArg-F.LifetimeArg x) = is_some x.lifetime
+
+abbrev pub arguments_among : List AstGenericArg → List AstGenericArg
+arguments_among [] = []
+arguments_among (a ∷ as') = if argument_stands (out-GenericArg a) then a ∷ arguments_among as' else arguments_among as'
+
+abbrev pub kept_args : AstGenericArgList → List AstGenericArg
+kept_args l = arguments_among (out-GenericArgList l).args
+
+-- one that has a name and no parameter list
+abbrev pub binding_stands : AstAssocTypeArg → Bool
+binding_stands b = let level = out-AssocTypeArg b in not level.params && is_some level.name
+
+abbrev pub put_written : GenericArgLayer written_types → List AstAssocTypeArg → List AstAssocTypeArg
+put_written (GenericArg-F.AssocTypeArg b) bs = if binding_stands b then b ∷ bs else bs
+put_written a bs = bs
+
+abbrev pub bindings_among : List AstGenericArg → List AstAssocTypeArg
+bindings_among [] = []
+bindings_among (a ∷ as') = put_written (out-GenericArg a) (bindings_among as')
+
+abbrev pub kept_bindings : AstGenericArgList → List AstAssocTypeArg
+kept_bindings l = bindings_among (out-GenericArgList l).args
+
+abbrev pub arguments_in : ArgumentsData → List ArgumentData
+arguments_in no_arguments = []
+arguments_in (more_arguments a as') = a ∷ arguments_in as'
+
+abbrev pub bindings_in : BindingsData → List BindingData
+bindings_in no_bindings = []
+bindings_in (more_bindings b bs) = b ∷ bindings_in bs
+
+-- The arguments of a list are those of its kept ones, in their order, and its bindings are those of its kept ones.
+abbrev pub ArgumentLaw : Type 0
+ArgumentLaw = (at : Spot) (l : AstGenericArgList)
+    → (map Some (arguments_in (arguments_of (answered_arg_list at l))) ≡ map (λ a. argument_of (answered_arg at a)) (kept_args l))
+    × (map Some (bindings_in (bindings_of (answered_arg_list at l))) ≡ map (λ b. binding_of (answered_assoc_arg at b)) (kept_bindings l))

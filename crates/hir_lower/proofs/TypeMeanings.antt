@@ -1,0 +1,106 @@
+-- What is stored as a type is one more.
+use Rattle.std.proofs.Common.{arith, ◌≡◌, ◌≢◌, ◌∙◌, refl, sym, ap, subst, ℕ, ◌≤◌, Bool, true, false, nat_lt, length}
+use Rattle.std.proofs.Common.{Option, Some, None, Ok, Err}
+use Rattle.std.proofs.lemmas.Bool.Decides.{nat_tests}
+use Rattle.std.specs.Prelude.{IfOk, IsErrOf, Result}
+use Rattle.hir_store.specs.Pointers.{Pointer}
+use Rattle.hir_syntax.specs.declared.types.Type_.{Type_ as AstType_}
+use Rattle.hir_store.specs.Stored.{Stored, Store, SourceMap, store_of, map_of}
+use Rattle.hir_store.specs.Storing as storing
+use Rattle.hir_store.specs.Storing.{type_id}
+use Rattle.hir_store.specs.Range.{HasType}
+use Rattle.hir_store.specs.declared.fault.StoreFault.TheVariants.{Memory, Full}
+use Rattle.hir_store.specs.declared.ids.TypeRefId.{TypeRefId}
+use Rattle.hir_store.specs.declared.type_ref.TypeRef.{TypeRef}
+use Rattle.hir_env.specs.Spot.{Spot}
+use Rattle.hir_lower_form.specs.Builder.{Builder}
+use Rattle.hir_lower_form.specs.Lower.{type_part}
+use Rattle.hir_lower_form.specs.Lowering.{Checked, Lowers, SomeEnd, alloc_type}
+use Rattle.hir_type_result.specs.TypeResult.{TypeResult, TypeTooLarge}
+use Rattle.hir_type_result.proofs.Whole.{refused_types, type_results}
+use Rattle.hir_lower.specs.Means.{AddsType, NoRoomForType, whole_type}
+use Rattle.hir_lower.specs.Roots.{AnswersFromNothing, RefusedAtEnd}
+use Rattle.hir_lower.proofs.Ways.{made}
+
+-- what the step does
+abbrev after : Bool → Builder → TypeRef → Pointer → Checked TypeRefId × Builder
+after t b ty at =
+    let r = made type_id t ty (Some at) b.stored.types in (r.0, record b { stored = record b.stored { types = r.1 } })
+
+alloc_is : (b : Builder) (ty : TypeRef) (at : Pointer)
+    → alloc_type ty (Some at) b ≡ after (nat_lt (length b.stored.types.entries) b.stored.types.limit) b ty at
+unfolding alloc_type storing.alloc_type
+alloc_is b ty at = refl
+
+module _ (b b' : Builder) (ty : TypeRef) (at : Pointer) where
+  abbrev Alone : Checked TypeRefId → Type 0
+  Alone r = Lowers HasType (alloc_type ty (Some at)) b r b'
+
+  added : (t : Bool) (i : TypeRefId) → after t b ty at ≡ (Ok i, b') → AddsType b.stored b'.stored i ty at
+  added true i e =
+      let ok = ap (λ (q : Checked TypeRefId × Builder). q.0) e in
+      let same : type_id (length b.stored.types.entries) ≡ i = cc in
+      record { number = sym same; added = sym (ap (λ (q : Checked TypeRefId × Builder). q.1.stored) e) }
+  added false i e = let no = ap (λ (q : Checked TypeRefId × Builder). q.0) e in cc
+
+  pub adds_if : (r : Checked TypeRefId) → Alone r → IfOk r (λ i. AddsType b.stored b'.stored i ty at)
+  adds_if (Ok i) l = added (nat_lt (length b.stored.types.entries) b.stored.types.limit) i (sym (alloc_is b ty at) ∙ l.0)
+  adds_if (Err e) l = tt
+
+  record Refused : Type 0 where
+    room : NoRoomForType b.stored
+    same : b'.stored ≡ b.stored
+
+  refused : (t : Bool) → nat_lt (length b.stored.types.entries) b.stored.types.limit ≡ t → after t b ty at ≡ (Err Full, b') → Refused
+  refused true is e = let no = ap (λ (q : Checked TypeRefId × Builder). q.0) e in cc
+  refused false is e = record { room = grind (arith, nat_tests); same = sym (ap (λ (q : Checked TypeRefId × Builder). q.1.stored) e) }
+
+  refused_if : (r : Checked TypeRefId) → Alone r → IsErrOf r Full → Refused
+  refused_if (Ok i) l is = cc
+  refused_if (Err e) l is =
+      let other : e ≢ Memory = λ m. cc in
+      let full : e ≡ Full = cc in
+      refused (nat_lt (length b.stored.types.entries) b.stored.types.limit) refl
+      (sym (alloc_is b ty at) ∙ subst (λ x. alloc_type ty (Some at) b ≡ (Err x, b')) full (l other).0)
+
+  pub ends_of_type_if : (r : Checked TypeRefId) → Alone r → IsErrOf r Full → SomeEnd b'
+  ends_of_type_if (Ok i) l is = cc
+  ends_of_type_if (Err e) l is = let other : e ≢ Memory = λ m. cc in (l other).1
+
+  pub no_room_if : (r : Checked TypeRefId) → Alone r → IsErrOf r Full → NoRoomForType b.stored
+  no_room_if r l is = (refused_if r l is).room
+
+  pub unchanged_if : (r : Checked TypeRefId) → Alone r → IsErrOf r Full → b'.stored ≡ b.stored
+  unchanged_if r l is = (refused_if r l is).same
+
+  still : (t : Bool) → (after t b ty at).1.scopes ≡ b.scopes
+  still true = refl
+  still false = refl
+
+  after_is : (after (nat_lt (length b.stored.types.entries) b.stored.types.limit) b ty at).1.scopes ≡ b.scopes
+  after_is = still (nat_lt (length b.stored.types.entries) b.stored.types.limit)
+
+  pub scopes_if : (r : Checked TypeRefId) → Alone r → r ≢ Err Memory → b'.scopes ≡ b.scopes
+  scopes_if (Ok i) l n = sym (ap (λ (q : Checked TypeRefId × Builder). q.1.scopes) (sym (alloc_is b ty at) ∙ l.0)) ∙ after_is
+  scopes_if (Err e) l n =
+      let other : e ≢ Memory = λ is. n (ap Err is) in
+      sym (ap (λ (q : Checked TypeRefId × Builder). q.1.scopes) (sym (alloc_is b ty at) ∙ (l other).0)) ∙ after_is
+
+-- a type that stands alone, lowered from nothing
+module _ (at : Spot) (x : Option AstType_) (limit : ℕ) where
+  type_result : (i : TypeRefId) (store : Store) (source_map : SourceMap)
+      → AnswersFromNothing (type_part None (whole_type at x)) limit i store source_map → TypeResult store source_map i (whole_type at x)
+  type_result i store source_map s =
+      let w = type_results limit (whole_type at x) i s.builder s.done in
+      let P : Store → Type 0 = λ y. TypeResult y source_map i (whole_type at x) in
+      let Q : SourceMap → Type 0 = λ m. TypeResult (store_of s.builder.stored) m i (whole_type at x) in
+      subst P (sym s.store_is) (subst Q (sym s.source_map_is) w)
+
+  pub type_result_if : {A E : Type 0} (store : A → Store) (source_map : A → SourceMap) (id : A → TypeRefId) (r : Result A E)
+      → IfOk r (λ a. AnswersFromNothing (type_part None (whole_type at x)) limit (id a) (store a) (source_map a))
+      → IfOk r (λ a. TypeResult (store a) (source_map a) (id a) (whole_type at x))
+  type_result_if store source_map id (Ok a) h = type_result (id a) (store a) (source_map a) h
+  type_result_if store source_map id (Err e) h = tt
+
+  pub type_too_large : RefusedAtEnd (type_part None (whole_type at x)) limit → TypeTooLarge limit (whole_type at x)
+  type_too_large r = refused_types limit (whole_type at x) Full r.builder r.refused

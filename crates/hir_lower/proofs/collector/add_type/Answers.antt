@@ -1,0 +1,17 @@
+use Rattle.hir_lower.proofs.TypeMeanings.{adds_if, ends_of_type_if, no_room_if, scopes_if, unchanged_if}
+use Rattle.hir_lower.proofs.collector.add_type.Goals as goal
+
+pub returns-clause-adds : goal.returns-clause-adds
+returns-clause-adds c = adds_if _ _ _ _ c.alloc_type.result c.alloc_type.ensures
+
+pub returns-clause-full : goal.returns-clause-full
+returns-clause-full c = λ is. ends_of_type_if _ _ _ _ c.alloc_type.result c.alloc_type.ensures is
+
+pub returns-clause-no_room : goal.returns-clause-no_room
+returns-clause-no_room c = λ is. no_room_if _ _ _ _ c.alloc_type.result c.alloc_type.ensures is
+
+pub returns-clause-unchanged : goal.returns-clause-unchanged
+returns-clause-unchanged c = λ is. unchanged_if _ _ _ _ c.alloc_type.result c.alloc_type.ensures is
+
+pub returns-clause-scopes : goal.returns-clause-scopes
+returns-clause-scopes c = λ n. scopes_if _ _ _ _ c.alloc_type.result c.alloc_type.ensures n

@@ -1,0 +1,108 @@
+//! What becomes of an `impl` in a path that is lowered by itself.
+
+ghost use Rattle.std.specs.Prelude.{◌≡◌, ◌≢◌, Err, IfOk, IsErrOf};
+ghost use Rattle.hir_store.specs.Range.{HasBounds};
+ghost use Rattle.hir_env.specs.Spot.{in_file};
+ghost use Rattle.hir_env.specs.declared.place.ImplTrait.{ImplTrait as Mode};
+ghost use Rattle.hir_lower.specs.Calls.{Calls};
+ghost use Rattle.hir_lower.specs.Means.{AddsType, NoRoomForType, becomes};
+
+use crate::collector::ExprCollector;
+use crate::error::LowerError;
+use hir_env::env::LowerEnv;
+use hir_env::place::ImplTrait;
+use hir_store::ids::TypeRefId;
+use hir_store::type_ref::{TypeBound, TypeRef};
+use hir_syntax::Seq;
+use hir_syntax::node::AstPtr;
+
+/// What an `impl` becomes, where the caller of `ExprCollector::lower_path` chooses.
+pub trait ImplTraitLower {
+    /// What it becomes.
+    ghost mode: { Self → Mode };
+
+    /// What an `impl` becomes.
+    fn mode(&self) -> ImplTrait
+        ensures { result ≡ mode self.now };
+
+    /// Stores what an `impl` at the node becomes, which has these bounds.
+    fn lower<E: LowerEnv>(
+        &mut self,
+        collector: &mut ExprCollector<'_, E>,
+        ptr: AstPtr,
+        bounds: Seq<TypeBound>,
+    ) -> Result<TypeRefId, LowerError>
+        requires { HasBounds collector.old.state.stored bounds }
+        ensures calls { Calls collector.old.failed collector.old.state result collector.new.state collector.new.failed }
+        ensures adds { let at = in_file collector.old.place ptr in
+            IfOk result (λ i. AddsType collector.old.state.stored collector.new.state.stored i (becomes (mode self.old) bounds) at) }
+        ensures full { IsErrOf result LowerError.Full → NoRoomForType collector.old.state.stored }
+        ensures unchanged { IsErrOf result LowerError.Full → collector.new.state.stored ≡ collector.old.state.stored }
+        ensures scopes { result ≢ Err LowerError.Memory → collector.new.state.scopes ≡ collector.old.state.scopes }
+        ensures db { collector.new.db ≡ collector.old.db }
+        ensures place { collector.new.place ≡ collector.old.place };
+}
+
+/// An `impl` becomes an error.
+#[derive(Clone, Copy, Debug)]
+pub struct ErrorImplTrait;
+
+/// An `impl` stays one.
+#[derive(Clone, Copy, Debug)]
+pub struct OpaqueImplTrait;
+
+impl ImplTraitLower for ErrorImplTrait {
+    ghost mode = { λ it. Mode.Error };
+
+    fn mode(&self) -> ImplTrait {
+        ImplTrait::Error
+    }
+
+    fn lower<E: LowerEnv>(
+        &mut self,
+        collector: &mut ExprCollector<'_, E>,
+        ptr: AstPtr,
+        bounds: Seq<TypeBound>,
+    ) -> Result<TypeRefId, LowerError> {
+        impl_trait_error_allocator(collector, ptr, bounds)
+    }
+}
+
+impl ImplTraitLower for OpaqueImplTrait {
+    ghost mode = { λ it. Mode.Opaque };
+
+    fn mode(&self) -> ImplTrait {
+        ImplTrait::Opaque
+    }
+
+    fn lower<E: LowerEnv>(
+        &mut self,
+        collector: &mut ExprCollector<'_, E>,
+        ptr: AstPtr,
+        bounds: Seq<TypeBound>,
+    ) -> Result<TypeRefId, LowerError> {
+        collector.add_type(TypeRef::ImplTrait(bounds), ptr)
+    }
+}
+
+/// Stores one error type, to which the node leads from now on, and drops the bounds (upstream's function of this name).
+///
+/// Nothing else changes. `Memory` where a growth was refused, `Full` where the arena of types stands at its limit, `Failed`
+/// after an error; the bounds are dropped then too.
+pub fn impl_trait_error_allocator<E: LowerEnv>(
+    collector: &mut ExprCollector<'_, E>,
+    ptr: AstPtr,
+    bounds: Seq<TypeBound>,
+) -> Result<TypeRefId, LowerError>
+    ensures calls { Calls collector.old.failed collector.old.state result collector.new.state collector.new.failed }
+    ensures adds { let at = in_file collector.old.place ptr in
+        IfOk result (λ i. AddsType collector.old.state.stored collector.new.state.stored i TypeRef.Error at) }
+    ensures full { IsErrOf result LowerError.Full → NoRoomForType collector.old.state.stored }
+    ensures unchanged { IsErrOf result LowerError.Full → collector.new.state.stored ≡ collector.old.state.stored }
+    ensures scopes { result ≢ Err LowerError.Memory → collector.new.state.scopes ≡ collector.old.state.scopes }
+    ensures db { collector.new.db ≡ collector.old.db }
+    ensures place { collector.new.place ≡ collector.old.place }
+{
+    drop(bounds);
+    collector.add_type(TypeRef::Error, ptr)
+}

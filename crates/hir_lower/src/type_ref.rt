@@ -1,0 +1,100 @@
+//! Types that stand alone.
+
+ghost use Rattle.std.specs.Prelude.{◌≡◌, ◌≢◌, None, IfOk, IsErrOf, option_copied};
+ghost use Rattle.hir_store.specs.Range.{HasType, InRange};
+ghost use Rattle.hir_lower_form.specs.Lower.{type_part};
+ghost use Rattle.hir_lower_form.specs.Lowering.{Lowers};
+ghost use Rattle.hir_type_result.specs.TypeResult.{TypeResult, TypeTooLarge};
+ghost use Rattle.hir_lower.specs.Means.{whole_type};
+ghost use Rattle.hir_lower.specs.Roots.{AnswersFromNothing, RefusedAtEnd, spot_at, type_spot};
+
+use crate::error::LowerError;
+use crate::knot::lower_type_node;
+use hir_env::env::LowerEnv;
+use hir_env::place::{ImplTrait, LoweringMode, Place};
+use hir_lower_form::builder::BodyBuilder;
+use hir_store::diagnostics::AwaitLocation;
+use hir_store::fault::StoreFault;
+use hir_store::ids::{ModuleId, TypeRefId};
+use hir_store::source_map::ExpressionStoreSourceMap;
+use hir_store::store::ExpressionStore;
+use hir_syntax::ast;
+use hir_syntax::node::InFile;
+use std::alloc::Global;
+
+/// The type, or an error without source where it is absent.
+fn lower_type_opt<E: LowerEnv>(
+    alloc: Global,
+    env: &E,
+    place: Place,
+    state: &mut BodyBuilder,
+    node: Option<&ast::Type_>,
+) -> Result<TypeRefId, StoreFault>
+    ensures { let spot = spot_at (E.answers env.now) place in
+        Lowers HasType (type_part None (whole_type spot (option_copied node.entry))) state.old result state.new }
+{
+    match node {
+        None => state.error_type(),
+        Some(node) => lower_type_node(alloc, env, place, state, &None, node),
+    }
+}
+
+/// The steps of `lower_type_ref`, with what they store.
+fn type_steps<E: LowerEnv>(
+    alloc: Global,
+    db: &E,
+    inside: ModuleId,
+    type_ref: InFile<Option<&ast::Type_>>,
+) -> Result<(ExpressionStore, ExpressionStoreSourceMap, TypeRefId), LowerError>
+    ensures stores { let at = type_spot (E.answers db.now) type_ref.entry.file_id inside in
+        let t = type_part None (whole_type at (option_copied type_ref.entry.value)) in
+        IfOk result (λ r. AnswersFromNothing t 4294967295 r.2 r.0 r.1) }
+    ensures in_range { IfOk result (λ r. InRange r.0 r.1) }
+    ensures full { let at = type_spot (E.answers db.now) type_ref.entry.file_id inside in
+        let t = type_part None (whole_type at (option_copied type_ref.entry.value)) in
+        IsErrOf result LowerError.Full → RefusedAtEnd t 4294967295 }
+    ensures own { result ≢ Err LowerError.Failed }
+{
+    let place = Place {
+        file_id: type_ref.file_id,
+        module_id: inside,
+        mode: LoweringMode::Analysis,
+        await_location: Some(AwaitLocation::Unknown),
+        impl_trait: ImplTrait::Opaque,
+        in_impl: false,
+    };
+    let mut state = BodyBuilder::new(alloc, u32::MAX);
+    match lower_type_opt(alloc, db, place, &mut state, type_ref.value) {
+        Ok(id) => {
+            let (store, source_map) = state.into_store().finish();
+            Ok((store, source_map, id))
+        }
+        Err(fault) => {
+            drop(state);
+            Err(LowerError::from(fault))
+        }
+    }
+}
+
+/// Lowers a type that stands alone (upstream's function of this name); where it is absent it is an error without source.
+///
+/// The stored type is what is written, with the node that each part came from; as many types and lifetimes are stored as the
+/// tree becomes, and nothing else; the source map leads from each node of one to it, and from nowhere else; each type that
+/// the answered one names is named in one way only. Each number in store and source map is in range. An `impl` stays one.
+/// `Memory` where a growth was refused; `Full` only where the tree becomes more types or lifetimes than the arenas have room
+/// for, or a path in it has more `super`s than 32 bits count; never `Failed`.
+pub fn lower_type_ref<E: LowerEnv>(
+    alloc: Global,
+    db: &E,
+    inside: ModuleId,
+    type_ref: InFile<Option<&ast::Type_>>,
+) -> Result<(ExpressionStore, ExpressionStoreSourceMap, TypeRefId), LowerError>
+    ensures type_result { let at = type_spot (E.answers db.now) type_ref.entry.file_id inside in
+        IfOk result (λ r. TypeResult r.0 r.1 r.2 (whole_type at (option_copied type_ref.entry.value))) }
+    ensures in_range { IfOk result (λ r. InRange r.0 r.1) }
+    ensures too_large { let at = type_spot (E.answers db.now) type_ref.entry.file_id inside in
+        IsErrOf result LowerError.Full → TypeTooLarge 4294967295 (whole_type at (option_copied type_ref.entry.value)) }
+    ensures own { result ≢ Err LowerError.Failed }
+{
+    type_steps(alloc, db, inside, type_ref)
+}

@@ -1,0 +1,148 @@
+//! What stands behind the name of a segment: `<..>`, `(A) -> C` or `(..)`.
+
+ghost use Rattle.std.specs.Prelude.{◌≡◌, IfOk, None};
+ghost use Rattle.hir_syntax.specs.declared.ast.PathSegment.{out-PathSegment};
+ghost use Rattle.hir_syntax.specs.declared.types.ParenArgs.{out-ParenArgs};
+ghost use Rattle.hir_store.specs.Range.{HasArgsOption, HasType};
+ghost use Rattle.hir_env.specs.Whole.{answered_paren_args, parens_part, paren_args_level, ret_level, ret_part, segment_args_level};
+ghost use Rattle.hir_env.specs.Whole.{type_args_part};
+ghost use Rattle.hir_lower_form.specs.Lowering.{Lowers};
+ghost use Rattle.hir_lower_form.specs.Lower as spec;
+ghost use Rattle.hir_lower_form.specs.Paths as forms;
+ghost use Rattle.hir_lower_form.specs.Methods.{LowersParts, LowersTypeOpt};
+ghost use Rattle.hir_lower_form.specs.Nests.{Each, IfPresent, KidsParens, KidsRet, KidsSegmentArgs, KidsTypeArg};
+
+use hir_lower_form::args::or_notation;
+use hir_lower_form::builder::BodyBuilder;
+use hir_lower_form::parts::{LowerParts, Lowerer};
+use hir_store::fault::StoreFault;
+use hir_store::ids::TypeRefId;
+use hir_store::lists::push_type;
+use hir_store::name::Name;
+use hir_store::path::{AssociatedTypeBinding, GenericArg, GenericArgs, GenericArgsParentheses};
+use hir_store::type_ref::TypeRef;
+use hir_syntax::{Seq, Text, ast};
+use std::alloc::{AllocError, Global};
+
+fn type_args<P: LowerParts>(
+    lowerer: &Lowerer<P>,
+    state: &mut BodyBuilder,
+    mut left: &[ast::TypeArg],
+) -> Result<Seq<TypeRefId>, StoreFault>
+    requires { Each (KidsTypeArg (P.can lowerer.now.parts) (P.spot lowerer.now.parts).place) left.now }
+    ensures { LowersParts (type_args_part (P.spot lowerer.now.parts) left.entry.now) state.old result state.new }
+{
+    let mut done = Seq::new(lowerer.alloc);
+    while let [one, rest @ ..] = left {
+        let id = lowerer.type_arg(state, lowerer.parts.place(), one)?;
+        push_type(&mut done, id)?;
+        left = rest;
+    }
+    Ok(done)
+}
+
+fn types_inside<P: LowerParts>(
+    lowerer: &Lowerer<P>,
+    state: &mut BodyBuilder,
+    node: &ast::ParenArgs,
+) -> Result<Seq<TypeRefId>, StoreFault>
+    requires { Each (KidsTypeArg (P.can lowerer.now.parts) (P.spot lowerer.now.parts).place) (out-ParenArgs node.now).args }
+    ensures { LowersParts (paren_args_level (P.spot lowerer.now.parts) node.now) state.old result state.new }
+{
+    type_args(lowerer, state, node.args.as_slice())
+}
+
+/// The types in `(A, B)`.
+fn paren_types<P: LowerParts>(
+    lowerer: &Lowerer<P>,
+    state: &mut BodyBuilder,
+    node: &ast::ParenArgs,
+) -> Result<Seq<TypeRefId>, StoreFault>
+    requires { Each (KidsTypeArg (P.can lowerer.now.parts) (P.spot lowerer.now.parts).place) (out-ParenArgs node.now).args }
+    ensures { LowersParts (answered_paren_args (P.spot lowerer.now.parts) node.now) state.old result state.new }
+{
+    types_inside(lowerer, state, node)
+}
+
+fn output_type<P: LowerParts>(
+    lowerer: &Lowerer<P>,
+    state: &mut BodyBuilder,
+    node: &ast::RetType,
+) -> Result<TypeRefId, StoreFault>
+    requires { KidsRet (P.can lowerer.now.parts) (P.spot lowerer.now.parts).place node.now }
+    ensures { LowersTypeOpt None (ret_level (P.spot lowerer.now.parts) node.now) state.old result state.new }
+{
+    lowerer.type_or_error(state, lowerer.parts.place(), &None, &node.ty)
+}
+
+/// What `-> C` says: `()` where it is absent, and an error where it has no type.
+#[tactic(auto, using(hir_env::proofs::PathLevels::ret_is_level))]
+fn output<P: LowerParts>(
+    lowerer: &Lowerer<P>,
+    state: &mut BodyBuilder,
+    ret: &Option<ast::RetType>,
+) -> Result<TypeRefId, StoreFault>
+    requires { IfPresent (KidsRet (P.can lowerer.now.parts) (P.spot lowerer.now.parts).place) ret.now }
+    ensures { Lowers HasType (spec.output_part (ret_part (P.spot lowerer.now.parts) ret.now)) state.old result state.new }
+{
+    match ret {
+        None => state.unit_type(lowerer.alloc),
+        Some(ret) => output_type(lowerer, state, ret),
+    }
+}
+
+/// The arguments for this tuple of types, and this one that is answered.
+fn sugared_args(
+    alloc: Global,
+    tuple: TypeRefId,
+    output: TypeRefId,
+) -> Result<GenericArgs, AllocError>
+    ensures { IfOk result (λ args. args ≡ forms.sugared_args tuple output) }
+{
+    let mut args = Seq::new(alloc);
+    args.push(GenericArg::Type_(tuple))?;
+    let name = Name::Text(Text::new(alloc, "Output")?);
+    let mut bindings = Seq::new(alloc);
+    bindings.push(AssociatedTypeBinding::new(name, None, Some(output), Seq::new(alloc)))?;
+    Ok(GenericArgs::new(args, bindings, GenericArgsParentheses::ParenSugar))
+}
+
+/// `(A) -> C`. Without `(A)` nothing is read.
+#[tactic(auto, using(crate::proofs::Sugar::sugared_has), unfolding(hir_lower_form::specs::Paths::parens_form))]
+fn parens<P: LowerParts>(
+    lowerer: &Lowerer<P>,
+    state: &mut BodyBuilder,
+    parens: &Option<ast::ParenArgs>,
+    ret: &Option<ast::RetType>,
+) -> Result<Option<GenericArgs>, StoreFault>
+    requires { KidsParens (P.can lowerer.now.parts) (P.spot lowerer.now.parts).place parens.now ret.now }
+    ensures { let read = parens_part (P.spot lowerer.now.parts) parens.now ret.now in
+        Lowers HasArgsOption (spec.parens_part read) state.old result state.new }
+{
+    let Some(parens) = parens else {
+        return Ok(None);
+    };
+    let types = paren_types(lowerer, state, parens)?;
+    let tuple = state.alloc_type(TypeRef::Tuple(types), None)?;
+    let output = output(lowerer, state, ret)?;
+    Ok(Some(sugared_args(lowerer.alloc, tuple, output)?))
+}
+
+/// Of `<..>`, `(A) -> C` and `(..)` the first that yields any.
+#[tactic(auto, unfolding(hir_lower_form::specs::Paths::segment_args_form))]
+pub(crate) fn segment_args<P: LowerParts>(
+    lowerer: &Lowerer<P>,
+    state: &mut BodyBuilder,
+    node: &ast::PathSegment,
+) -> Result<Option<GenericArgs>, StoreFault>
+    requires { KidsSegmentArgs (P.can lowerer.now.parts) (P.spot lowerer.now.parts).place (out-PathSegment node.now) }
+    ensures { let level = segment_args_level (P.spot lowerer.now.parts) node.now in
+        Lowers HasArgsOption (spec.lower_segment_args level) state.old result state.new }
+{
+    let place = lowerer.parts.place();
+    let found = match lowerer.args_if_present(state, place, &node.generics)? {
+        Some(args) => Some(args),
+        None => parens(lowerer, state, &node.parens, &node.ret)?,
+    };
+    Ok(or_notation(lowerer.alloc, found, node.rtn))
+}

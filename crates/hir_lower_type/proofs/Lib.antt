@@ -1,0 +1,2 @@
+pub mod BoundsExist
+pub mod Params

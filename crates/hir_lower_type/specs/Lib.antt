@@ -1,0 +1,3 @@
+pub mod Abis
+pub mod Bounds
+pub mod Params

@@ -1,0 +1,159 @@
+//! Lists of arguments.
+
+ghost use Rattle.std.specs.Prelude.{[]};
+ghost use Rattle.hir_syntax.specs.declared.types.AssocTypeArg.{out-AssocTypeArg};
+ghost use Rattle.hir_syntax.specs.declared.types.GenericArg.{out-GenericArg};
+ghost use Rattle.hir_syntax.specs.declared.types.GenericArgList.{out-GenericArgList};
+ghost use Rattle.hir_store.specs.declared.name.Name.TheVariants as name;
+ghost use Rattle.hir_store.specs.Range.{HasBinding};
+ghost use Rattle.hir_env.specs.Answered as tree;
+ghost use Rattle.hir_env.specs.Whole.{answered_arg, answered_assoc_arg, arg_level, arg_list_level, arg_list_part, assoc_arg_level};
+ghost use Rattle.hir_env.specs.Whole.{bounds_part, generic_args_part, type_part};
+ghost use Rattle.hir_lower_form.specs.Lowering.{Lowers};
+ghost use Rattle.hir_lower_form.specs.Lower as spec;
+ghost use Rattle.hir_lower_form.specs.Types as forms;
+ghost use Rattle.hir_lower_form.specs.Methods.{HasLists, LowersArgs, at_place};
+ghost use Rattle.hir_lower_form.specs.Nests.{Each, KidsArg, KidsArgs, KidsAssoc, KidsBinding};
+
+use crate::bounds::bounds;
+use crate::lifetimes::lifetime;
+use crate::places::outside_impl;
+use hir_env::place::Place;
+use hir_lower_form::args::{ArgLists, or_notation};
+use hir_lower_form::builder::BodyBuilder;
+use hir_lower_form::parts::{LowerParts, Lowerer};
+use hir_store::fault::StoreFault;
+use hir_store::name::Name;
+use hir_store::path::{AssociatedTypeBinding, GenericArg, GenericArgs};
+use hir_syntax::ast;
+
+/// A binding, whose parts are read at this place: its arguments, its type, its bounds.
+#[tactic(auto, unfolding(hir_lower_form::specs::Types::binding_form))]
+fn binding_form<P: LowerParts>(
+    lowerer: &Lowerer<P>,
+    state: &mut BodyBuilder,
+    place: Place,
+    written: &ast::Name,
+    node: &ast::AssocTypeArg,
+) -> Result<AssociatedTypeBinding, StoreFault>
+    requires { KidsBinding (P.can lowerer.now.parts) place (out-AssocTypeArg node.now) }
+    ensures { let inner = at_place (P.spot lowerer.now.parts) place in
+        let level = out-AssocTypeArg node.now in
+        Lowers HasBinding (forms.binding_form (name.Text written.now.t) level.rtn
+        (spec.args_part (arg_list_part inner level.generics))
+        (spec.present_type (type_part inner level.ty))
+        (spec.lower_bounds [] (bounds_part inner level.bounds))) state.old result state.new }
+{
+    let args = lowerer.args_if_present(state, place, &node.generics)?;
+    let args = or_notation(lowerer.alloc, args, node.rtn);
+    let ty = lowerer.type_if_present(state, place, &node.ty)?;
+    let bounds = bounds(lowerer, state, place, &node.bounds)?;
+    Ok(AssociatedTypeBinding::new(Name::Text(written.t.clone()?), args, ty, bounds))
+}
+
+/// A binding with a parameter list, and one without a name, is skipped.
+fn assoc_form<P: LowerParts>(
+    lowerer: &Lowerer<P>,
+    state: &mut BodyBuilder,
+    lists: ArgLists,
+    node: &ast::AssocTypeArg,
+) -> Result<ArgLists, StoreFault>
+    requires parts { KidsAssoc (P.can lowerer.now.parts) (P.spot lowerer.now.parts).place (out-AssocTypeArg node.now) }
+    requires lists { HasLists state.old.stored lists }
+    ensures { Lowers HasLists (spec.lower_arg lists (assoc_arg_level (P.spot lowerer.now.parts) node.now)) state.old result state.new }
+{
+    if node.params {
+        return Ok(lists);
+    }
+    let Some(name) = &node.name else {
+        return Ok(lists);
+    };
+    let place = outside_impl(lowerer.parts.place());
+    let binding = binding_form(lowerer, state, place, name, node)?;
+    Ok(lists.with_binding(binding)?)
+}
+
+fn assoc_arg<P: LowerParts>(
+    lowerer: &Lowerer<P>,
+    state: &mut BodyBuilder,
+    lists: ArgLists,
+    node: &ast::AssocTypeArg,
+) -> Result<ArgLists, StoreFault>
+    requires parts { KidsAssoc (P.can lowerer.now.parts) (P.spot lowerer.now.parts).place (out-AssocTypeArg node.now) }
+    requires lists { HasLists state.old.stored lists }
+    ensures { Lowers HasLists (spec.lower_arg lists (answered_assoc_arg (P.spot lowerer.now.parts) node.now)) state.old result state.new }
+{
+    assoc_form(lowerer, state, lists, node)
+}
+
+fn arg_form<P: LowerParts>(
+    lowerer: &Lowerer<P>,
+    state: &mut BodyBuilder,
+    lists: ArgLists,
+    node: &ast::GenericArg,
+) -> Result<ArgLists, StoreFault>
+    requires parts { KidsArg (P.can lowerer.now.parts) (P.spot lowerer.now.parts).place (out-GenericArg node.now) }
+    requires lists { HasLists state.old.stored lists }
+    ensures { Lowers HasLists (spec.lower_arg lists (arg_level (P.spot lowerer.now.parts) node.now)) state.old result state.new }
+{
+    match node {
+        ast::GenericArg::TypeArg(node) => {
+            let id = lowerer.type_arg(state, lowerer.parts.place(), node)?;
+            Ok(lists.with_arg(GenericArg::Type_(id))?)
+        }
+        ast::GenericArg::AssocTypeArg(node) => assoc_arg(lowerer, state, lists, node),
+        ast::GenericArg::LifetimeArg(node) => match &node.lifetime {
+            None => Ok(lists),
+            Some(written) => {
+                let id = lifetime(state, lowerer.parts.place(), written)?;
+                Ok(lists.with_arg(GenericArg::Lifetime(id))?)
+            }
+        },
+    }
+}
+
+fn arg<P: LowerParts>(
+    lowerer: &Lowerer<P>,
+    state: &mut BodyBuilder,
+    lists: ArgLists,
+    node: &ast::GenericArg,
+) -> Result<ArgLists, StoreFault>
+    requires parts { KidsArg (P.can lowerer.now.parts) (P.spot lowerer.now.parts).place (out-GenericArg node.now) }
+    requires lists { HasLists state.old.stored lists }
+    ensures { Lowers HasLists (spec.lower_arg lists (answered_arg (P.spot lowerer.now.parts) node.now)) state.old result state.new }
+{
+    arg_form(lowerer, state, lists, node)
+}
+
+fn args<P: LowerParts>(
+    lowerer: &Lowerer<P>,
+    state: &mut BodyBuilder,
+    mut lists: ArgLists,
+    mut left: &[ast::GenericArg],
+) -> Result<ArgLists, StoreFault>
+    requires parts { let place = (P.spot lowerer.now.parts).place in
+        Each (λ a. KidsArg (P.can lowerer.now.parts) place (out-GenericArg a)) left.now }
+    requires lists { HasLists state.old.stored lists }
+    ensures { let all = generic_args_part (P.spot lowerer.now.parts) left.entry.now in
+        Lowers HasLists (spec.lower_args lists all) state.old result state.new }
+{
+    while let [one, rest @ ..] = left {
+        lists = arg(lowerer, state, lists, one)?;
+        left = rest;
+    }
+    Ok(lists)
+}
+
+/// The arguments of a list that is read here, or none where it yields nothing.
+pub fn args_node<P: LowerParts>(
+    lowerer: &Lowerer<P>,
+    state: &mut BodyBuilder,
+    node: &ast::GenericArgList,
+) -> Result<Option<GenericArgs>, StoreFault>
+    requires { KidsArgs (P.can lowerer.now.parts) (P.spot lowerer.now.parts).place (out-GenericArgList node.now) }
+    ensures { LowersArgs (tree.some_arg_list (arg_list_level (P.spot lowerer.now.parts) node.now)) state.old result state.new }
+{
+    let lists = ArgLists::new(lowerer.alloc);
+    let lists = args(lowerer, state, lists, node.args.as_slice())?;
+    Ok(lists.yielded())
+}

@@ -1,0 +1,191 @@
+//! Bounds.
+
+ghost use Rattle.std.specs.Prelude.{◌≡◌, [], map};
+ghost use Rattle.hir_syntax.specs.declared.types.TypeBound.{out-TypeBound};
+ghost use Rattle.hir_store.specs.Range.{HasBound, HasUseArgs};
+ghost use Rattle.hir_env.specs.Paths.{binder_of, use_of};
+ghost use Rattle.hir_env.specs.Whole.{answered_bound, answered_path_type, bound_level, bounds_part, path_type_level};
+ghost use Rattle.hir_lower_form.specs.Lowering.{Lowers};
+ghost use Rattle.hir_lower_form.specs.Lower as spec;
+ghost use Rattle.hir_lower_form.specs.Types as forms;
+ghost use Rattle.hir_lower_form.specs.Methods.{HasUseArg, LowersBounds, LowersPath, at_place};
+ghost use Rattle.hir_lower_form.specs.Nests.{KidsBound, KidsBounds, KidsTrait};
+ghost use Rattle.hir_lower_type.specs.Bounds.{LowersPathBound};
+
+use crate::lifetimes::{binder, lifetime};
+use hir_env::place::Place;
+use hir_lower_form::builder::BodyBuilder;
+use hir_lower_form::parts::{LowerParts, Lowerer, pointer_in};
+use hir_store::fault::StoreFault;
+use hir_store::ids::TypeRefId;
+use hir_store::lists::{push_bound, push_use_arg};
+use hir_store::name::Name;
+use hir_store::path::Path;
+use hir_store::type_ref::{TraitBoundModifier, TypeBound, TypeRef, UseArgRef};
+use hir_syntax::{Seq, ast};
+
+fn trait_path<P: LowerParts>(
+    lowerer: &Lowerer<P>,
+    state: &mut BodyBuilder,
+    place: Place,
+    node: &ast::PathType,
+) -> Result<Option<Path>, StoreFault>
+    requires { KidsTrait (P.can lowerer.now.parts) place node.now }
+    ensures { LowersPath (path_type_level (at_place (P.spot lowerer.now.parts) place) node.now).path state.old result state.new }
+{
+    lowerer.path_if_present(state, place, &node.path)
+}
+
+/// A bound by a trait that is stored as a type. Behind a binder that isn't empty no `?` counts.
+fn stored_path_bound(maybe: bool, names: Seq<Name>, ty: TypeRefId) -> TypeBound
+    ensures { result ≡ forms.stored_path_bound maybe names ty }
+{
+    if !names.is_empty() {
+        return TypeBound::ForLifetime(names, ty);
+    }
+    if maybe {
+        TypeBound::Path(ty, TraitBoundModifier::Maybe)
+    } else {
+        TypeBound::Path(ty, TraitBoundModifier::None)
+    }
+}
+
+#[tactic(auto, using(crate::proofs::BoundsExist::path_bound_has), unfolding(hir_lower_form::specs::Types::path_bound_form))]
+fn path_bound_form<P: LowerParts>(
+    lowerer: &Lowerer<P>,
+    state: &mut BodyBuilder,
+    place: Place,
+    node: &ast::PathType,
+    maybe: bool,
+    written: &Option<ast::ForBinder>,
+) -> Result<TypeBound, StoreFault>
+    requires { KidsTrait (P.can lowerer.now.parts) place node.now }
+    ensures { let level = path_type_level (at_place (P.spot lowerer.now.parts) place) node.now in
+        LowersPathBound level maybe (binder_of written.now) state.old result state.new }
+{
+    let Some(path) = trait_path(lowerer, state, place, node)? else {
+        return Ok(TypeBound::Error);
+    };
+    let at = pointer_in(place, node.id, node.range);
+    let ty = state.alloc_type(TypeRef::Path(path), Some(at))?;
+    let names = binder(lowerer.alloc, written)?;
+    Ok(stored_path_bound(maybe, names, ty))
+}
+
+/// A bound by a trait, and an error where its path is absent or refused.
+fn path_bound<P: LowerParts>(
+    lowerer: &Lowerer<P>,
+    state: &mut BodyBuilder,
+    place: Place,
+    node: &ast::PathType,
+    maybe: bool,
+    written: &Option<ast::ForBinder>,
+) -> Result<TypeBound, StoreFault>
+    requires { KidsTrait (P.can lowerer.now.parts) place node.now }
+    ensures { let read = answered_path_type (at_place (P.spot lowerer.now.parts) place) node.now in
+        LowersPathBound read maybe (binder_of written.now) state.old result state.new }
+{
+    path_bound_form(lowerer, state, place, node, maybe, written)
+}
+
+/// What a `use<..>` names.
+fn use_arg(
+    state: &mut BodyBuilder,
+    place: Place,
+    written: &ast::UseArg,
+) -> Result<UseArgRef, StoreFault>
+    ensures { Lowers HasUseArg (forms.lower_use (use_of place written.now)) state.old result state.new }
+{
+    match written {
+        ast::UseArg::Name(name) => Ok(UseArgRef::Name(Name::Text(name.t.clone()?))),
+        ast::UseArg::Lifetime(written) => Ok(UseArgRef::Lifetime(lifetime(state, place, written)?)),
+    }
+}
+
+fn use_args<P: LowerParts>(
+    lowerer: &Lowerer<P>,
+    state: &mut BodyBuilder,
+    place: Place,
+    mut left: &[ast::UseArg],
+) -> Result<Seq<UseArgRef>, StoreFault>
+    ensures { Lowers HasUseArgs (forms.lower_uses [] (map (use_of place) left.entry.now)) state.old result state.new }
+{
+    let mut done = Seq::new(lowerer.alloc);
+    while let [one, rest @ ..] = left {
+        let arg = use_arg(state, place, one)?;
+        push_use_arg(&mut done, arg)?;
+        left = rest;
+    }
+    Ok(done)
+}
+
+fn bound_form<P: LowerParts>(
+    lowerer: &Lowerer<P>,
+    state: &mut BodyBuilder,
+    place: Place,
+    node: &ast::TypeBound,
+) -> Result<TypeBound, StoreFault>
+    requires { KidsBound (P.can lowerer.now.parts) place (out-TypeBound node.now) }
+    ensures { let level = bound_level (at_place (P.spot lowerer.now.parts) place) node.now in
+        Lowers HasBound (spec.lower_bound level) state.old result state.new }
+{
+    match (node.b, &node.ty, &node.lifetime) {
+        (Some(ast::BoundKind::Path), Some(ty), _) => {
+            path_bound(lowerer, state, place, ty, node.maybe, &node.binder)
+        }
+        (Some(ast::BoundKind::Lifetime), _, Some(written)) => {
+            Ok(TypeBound::Lifetime(lifetime(state, place, written)?))
+        }
+        (Some(ast::BoundKind::Use), _, _) => Ok(TypeBound::Use(use_args(
+            lowerer,
+            state,
+            place,
+            node.uses.as_slice(),
+        )?)),
+        _ => Ok(TypeBound::Error),
+    }
+}
+
+fn bound<P: LowerParts>(
+    lowerer: &Lowerer<P>,
+    state: &mut BodyBuilder,
+    place: Place,
+    node: &ast::TypeBound,
+) -> Result<TypeBound, StoreFault>
+    requires { KidsBound (P.can lowerer.now.parts) place (out-TypeBound node.now) }
+    ensures { let read = answered_bound (at_place (P.spot lowerer.now.parts) place) node.now in
+        Lowers HasBound (spec.lower_bound read) state.old result state.new }
+{
+    bound_form(lowerer, state, place, node)
+}
+
+fn each_bound<P: LowerParts>(
+    lowerer: &Lowerer<P>,
+    state: &mut BodyBuilder,
+    place: Place,
+    mut left: &[ast::TypeBound],
+) -> Result<Seq<TypeBound>, StoreFault>
+    requires { KidsBounds (P.can lowerer.now.parts) place left.now }
+    ensures { LowersBounds (bounds_part (at_place (P.spot lowerer.now.parts) place) left.entry.now) state.old result state.new }
+{
+    let mut done = Seq::new(lowerer.alloc);
+    while let [one, rest @ ..] = left {
+        let bound = bound(lowerer, state, place, one)?;
+        push_bound(&mut done, bound)?;
+        left = rest;
+    }
+    Ok(done)
+}
+
+/// The bounds, read at this place.
+pub(crate) fn bounds<P: LowerParts>(
+    lowerer: &Lowerer<P>,
+    state: &mut BodyBuilder,
+    place: Place,
+    all: &Seq<ast::TypeBound>,
+) -> Result<Seq<TypeBound>, StoreFault>
+    requires { KidsBounds (P.can lowerer.now.parts) place all.now }
+    ensures { LowersBounds (bounds_part (at_place (P.spot lowerer.now.parts) place) all.now) state.old result state.new }
+{
+    each_bound(lowerer, state, place, all.as_slice())
+}

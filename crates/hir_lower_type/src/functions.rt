@@ -1,0 +1,242 @@
+//! Function pointers.
+
+ghost use Rattle.std.specs.Prelude.{◌≡◌, IfOk, false};
+ghost use Rattle.hir_syntax.specs.declared.types.Param.{out-Param};
+ghost use Rattle.hir_store.specs.Range.{HasType, HasTypeOption};
+ghost use Rattle.hir_env.specs.Answered as tree;
+ghost use Rattle.hir_env.specs.Answered.{FnHead};
+ghost use Rattle.hir_env.specs.Paths as of;
+ghost use Rattle.hir_env.specs.Whole.{answer_part, answered_param, param_level, params_part, ret_level, varargs_part};
+ghost use Rattle.hir_lower_form.specs.Lowering.{Lowers};
+ghost use Rattle.hir_lower_form.specs.Lower as spec;
+ghost use Rattle.hir_lower_form.specs.Methods.{LowersParts, LowersType};
+ghost use Rattle.hir_lower_form.specs.Nests.{Each, IfPresent, KidsParam, KidsRet};
+ghost use Rattle.hir_lower_type.specs.Abis.{abi_later};
+ghost use Rattle.hir_lower_type.specs.Params.{lower_param, params_at, variadic_last};
+
+use hir_lower_form::builder::BodyBuilder;
+use hir_lower_form::parts::{LowerParts, Lowerer};
+use hir_store::fault::StoreFault;
+use hir_store::ids::TypeRefId;
+use hir_store::lists::push_type;
+use hir_store::name::{Name, copy_names};
+use hir_store::type_ref::{ExternAbi, FnType, TypeRef};
+use hir_syntax::node::{AstPtr, InFile};
+use hir_syntax::{Seq, Text, ast};
+use std::alloc::AllocError;
+
+/// The ABI of this text, where it is one of the later half; any other is `C`.
+fn later_abi(text: &Text) -> ExternAbi
+    ensures { result ≡ abi_later text.now }
+{
+    let text = text.as_str();
+    if text == "vectorcall" {
+        ExternAbi::Vectorcall
+    } else if text == "thiscall" {
+        ExternAbi::Thiscall
+    } else if text == "aapcs" {
+        ExternAbi::Aapcs
+    } else if text == "win64" {
+        ExternAbi::Win64
+    } else if text == "sysv64" {
+        ExternAbi::Sysv64
+    } else if text == "efiapi" {
+        ExternAbi::Efiapi
+    } else if text == "rust-call" {
+        ExternAbi::RustCall
+    } else {
+        ExternAbi::C
+    }
+}
+
+/// The ABI of this text; any other is `C`.
+fn named_abi(written: &Text) -> ExternAbi
+    ensures { result ≡ of.abi_named written.now }
+{
+    let text = written.as_str();
+    if text == "Rust" {
+        ExternAbi::Rust
+    } else if text == "C-unwind" {
+        ExternAbi::CUnwind
+    } else if text == "system" {
+        ExternAbi::System
+    } else if text == "system-unwind" {
+        ExternAbi::SystemUnwind
+    } else if text == "cdecl" {
+        ExternAbi::Cdecl
+    } else if text == "stdcall" {
+        ExternAbi::Stdcall
+    } else if text == "fastcall" {
+        ExternAbi::Fastcall
+    } else {
+        later_abi(written)
+    }
+}
+
+/// The ABI: where none is written it is `Rust`.
+fn abi(written: &Option<Text>) -> ExternAbi
+    ensures { result ≡ of.abi_of written.now }
+{
+    match written {
+        None => ExternAbi::Rust,
+        Some(text) => named_abi(text),
+    }
+}
+
+fn param_form<P: LowerParts>(
+    lowerer: &Lowerer<P>,
+    state: &mut BodyBuilder,
+    node: &ast::Param,
+) -> Result<Option<TypeRefId>, StoreFault>
+    requires { KidsParam (P.can lowerer.now.parts) (P.spot lowerer.now.parts).place (out-Param node.now) }
+    ensures { Lowers HasTypeOption (lower_param (param_level (P.spot lowerer.now.parts) node.now)) state.old result state.new }
+{
+    if node.variadic {
+        return Ok(None);
+    }
+    let place = lowerer.parts.place();
+    Ok(Some(lowerer.type_or_error(state, place, &None, &node.ty)?))
+}
+
+/// The type of a parameter, none where it is variadic.
+fn param<P: LowerParts>(
+    lowerer: &Lowerer<P>,
+    state: &mut BodyBuilder,
+    node: &ast::Param,
+) -> Result<Option<TypeRefId>, StoreFault>
+    requires { KidsParam (P.can lowerer.now.parts) (P.spot lowerer.now.parts).place (out-Param node.now) }
+    ensures { Lowers HasTypeOption (lower_param (answered_param (P.spot lowerer.now.parts) node.now)) state.old result state.new }
+{
+    param_form(lowerer, state, node)
+}
+
+/// The types of the parameters that aren't variadic.
+#[tactic(auto, using(crate::proofs::Params::params_more))]
+fn params<P: LowerParts>(
+    lowerer: &Lowerer<P>,
+    state: &mut BodyBuilder,
+    mut left: &[ast::Param],
+) -> Result<Seq<TypeRefId>, StoreFault>
+    requires { Each (λ x. KidsParam (P.can lowerer.now.parts) (P.spot lowerer.now.parts).place (out-Param x)) left.now }
+    ensures { LowersParts (params_at (P.spot lowerer.now.parts) left.entry.now) state.old result state.new }
+{
+    let mut done = Seq::new(lowerer.alloc);
+    while let [one, rest @ ..] = left {
+        if let Some(id) = param(lowerer, state, one)? {
+            push_type(&mut done, id)?;
+        }
+        left = rest;
+    }
+    Ok(done)
+}
+
+fn params_if_present<P: LowerParts>(
+    lowerer: &Lowerer<P>,
+    state: &mut BodyBuilder,
+    all: &Option<Seq<ast::Param>>,
+) -> Result<Seq<TypeRefId>, StoreFault>
+    requires { IfPresent (Each (λ x. KidsParam (P.can lowerer.now.parts) (P.spot lowerer.now.parts).place (out-Param x))) all.now }
+    ensures { LowersParts (params_part (P.spot lowerer.now.parts) all.now) state.old result state.new }
+{
+    match all {
+        None => Ok(Seq::new(lowerer.alloc)),
+        Some(all) => params(lowerer, state, all.as_slice()),
+    }
+}
+
+fn last_variadic(all: &Seq<ast::Param>) -> bool
+    ensures { result ≡ variadic_last false all.now }
+{
+    let mut variadic = false;
+    let mut left = all.as_slice();
+    while let [one, rest @ ..] = left {
+        variadic = one.variadic;
+        left = rest;
+    }
+    variadic
+}
+
+/// Whether the last of the parameters is variadic.
+#[tactic(auto, using(crate::proofs::Params::variadic_is))]
+fn is_varargs<P: LowerParts>(lowerer: &Lowerer<P>, all: &Option<Seq<ast::Param>>) -> bool
+    ensures { result ≡ varargs_part (P.spot lowerer.now.parts) all.now }
+{
+    match all {
+        None => false,
+        Some(all) => last_variadic(all),
+    }
+}
+
+fn answer_type<P: LowerParts>(
+    lowerer: &Lowerer<P>,
+    state: &mut BodyBuilder,
+    node: &ast::RetType,
+) -> Result<TypeRefId, StoreFault>
+    requires { KidsRet (P.can lowerer.now.parts) (P.spot lowerer.now.parts).place node.now }
+    ensures { Lowers HasType (spec.type_or_unit (ret_level (P.spot lowerer.now.parts) node.now)) state.old result state.new }
+{
+    match &node.ty {
+        None => state.unit_type(lowerer.alloc),
+        Some(ty) => {
+            let place = lowerer.parts.place();
+            lowerer.parts.lower_type(state, place, &None, ty.get())
+        }
+    }
+}
+
+/// What a function pointer returns: `()` where no type is written.
+#[tactic(auto, using(hir_env::proofs::PathLevels::ret_is_level))]
+fn answer<P: LowerParts>(
+    lowerer: &Lowerer<P>,
+    state: &mut BodyBuilder,
+    ret: &Option<ast::RetType>,
+) -> Result<TypeRefId, StoreFault>
+    requires { IfPresent (KidsRet (P.can lowerer.now.parts) (P.spot lowerer.now.parts).place) ret.now }
+    ensures { Lowers HasType (spec.type_or_unit (answer_part (P.spot lowerer.now.parts) ret.now)) state.old result state.new }
+{
+    match ret {
+        None => state.unit_type(lowerer.alloc),
+        Some(ret) => answer_type(lowerer, state, ret),
+    }
+}
+
+fn binder_copy(binder: &Option<Seq<Name>>) -> Result<Option<Seq<Name>>, AllocError>
+    ensures { IfOk result (λ copy. copy ≡ binder.now) }
+{
+    match binder {
+        None => Ok(None),
+        Some(names) => Ok(Some(copy_names(names)?)),
+    }
+}
+
+/// What it returns is lowered first.
+#[tactic(auto, unfolding(hir_lower_form::specs::Types::fn_type_form))]
+pub(crate) fn fn_form<P: LowerParts>(
+    lowerer: &Lowerer<P>,
+    state: &mut BodyBuilder,
+    at: InFile<AstPtr>,
+    binder: &Option<Seq<Name>>,
+    is_unsafe: bool,
+    written: &Option<Text>,
+    all: &Option<Seq<ast::Param>>,
+    ret: &Option<ast::RetType>,
+) -> Result<TypeRefId, StoreFault>
+    requires params { IfPresent (Each (λ x. KidsParam (P.can lowerer.now.parts) (P.spot lowerer.now.parts).place (out-Param x))) all.now }
+    requires ret { IfPresent (KidsRet (P.can lowerer.now.parts) (P.spot lowerer.now.parts).place) ret.now }
+    ensures { let spot = P.spot lowerer.now.parts in
+        let head : FnHead = record { is_unsafe = is_unsafe; abi = of.abi_of written.now; is_varargs = varargs_part spot all.now } in
+        LowersType binder.now (tree.fn_type at head (params_part spot all.now) (answer_part spot ret.now)) state.old result state.new }
+{
+    let output = answer(lowerer, state, ret)?;
+    let mut params = params_if_present(lowerer, state, all)?;
+    push_type(&mut params, output)?;
+    let binder = binder_copy(binder)?;
+    let ty = TypeRef::Fn(FnType {
+        params,
+        is_varargs: is_varargs(lowerer, all),
+        is_unsafe,
+        abi: abi(written),
+        binder,
+    });
+    state.alloc_type(ty, Some(at))
+}

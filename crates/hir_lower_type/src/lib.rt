@@ -1,0 +1,10 @@
+//! Forms of types, arguments and bounds. No form calls lowering; what lowers its parts is handed in.
+#![tactic(auto)]
+
+pub mod args;
+mod bounds;
+mod functions;
+mod lifetimes;
+mod places;
+mod simple;
+pub mod types;

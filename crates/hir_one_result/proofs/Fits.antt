@@ -1,0 +1,33 @@
+-- What is lowered fits, or there is no room for it.
+use Rattle.std.proofs.Common.{Ok, Err}
+use Rattle.hir_lower_form.specs.Builder.{Builder}
+use Rattle.hir_lower_form.specs.Lowering.{Checked, Lowering}
+use Rattle.hir_one_result.specs.Size.{Size}
+use Rattle.hir_one_result.specs.Laws.{GrownUnless, AllFit, TypesFit, PathsFit}
+use Rattle.hir_one_result.proofs.Rooms.{Room, Takes}
+use Rattle.hir_one_result.proofs.Tellings.{takes_of}
+use Rattle.hir_one_result.proofs.PathRooms.{type_part_takes, path_tells}
+use Rattle.hir_one_result.proofs.TreeRooms.{part_takes}
+
+fits : {A : Type 0} {n : Size} {p : Lowering A} → Takes n p → (old : Builder) → GrownUnless n old.stored (p old).0 (p old).1.stored
+fits {A = A} {n = n} {p = p} h old = by (p old).0 (p old).1 (h.takes old)
+  where
+    by : (o : Checked A) (new : Builder) → Room n old o new → GrownUnless n old.stored o new.stored
+    by (Ok a) new h = record {
+      exprs = h.exprs;
+      labels = h.labels;
+      types = h.types;
+      lifetimes = h.lifetimes;
+      type_sources = h.type_sources;
+      lifetime_sources = h.lifetime_sources;
+    }
+    by (Err f) new h = h
+
+pub all_fit : AllFit
+all_fit e old = fits (part_takes e) old
+
+pub types_fit : TypesFit
+types_fit binder t old = fits (type_part_takes binder t) old
+
+pub paths_fit : PathsFit
+paths_fit p old = fits (takes_of (path_tells p)) old

@@ -1,0 +1,74 @@
+-- What is answered, read in the whole store.
+use Rattle.std.proofs.Common.{◌≡◌, refl, ap, subst, ℕ, ◌≤◌, length, List, Option, Some, None, option_map, Ok}
+use Rattle.hir_store.specs.Stored.{Stored, store_of, map_of}
+use Rattle.hir_store.specs.Storing.{Checked, Extends}
+use Rattle.hir_store.specs.declared.ids.TypeRefId.{TypeRefId}
+use Rattle.hir_store.specs.declared.path.GenericArgs.{GenericArgs}
+use Rattle.hir_store.specs.declared.path.Path.{Path as HirPath}
+use Rattle.hir_env.specs.Answered.{OptionType, OptionPath, OptionArgs}
+use Rattle.hir_lower_form.specs.Builder.{Builder}
+use Rattle.hir_lower_form.specs.Lowering.{Lowering}
+use Rattle.hir_lower_form.specs.Lower.{type_part, lower_path, args_part}
+use Rattle.hir_steps.specs.Keeps.{Paired}
+use Rattle.hir_steps.proofs.Frames.{Frame, frames, ribs_frames}
+use Rattle.hir_steps.proofs.Steps.{Mark, mark, Rel, Holds, Correct, correct_as, correct_in_store}
+use Rattle.hir_data.specs.Data.{TypeData, PathData, OptionArgsData}
+use Rattle.hir_data.specs.Rule.{PathRead, data_of}
+use Rattle.hir_data.specs.Written.{written_type, written_path, written_args, path_of}
+use Rattle.hir_data.specs.Reading.{stored_type, stored_path, stored_args}
+use Rattle.hir_read_back.proofs.Walk.{Answers, matches_read}
+use Rattle.hir_read_back.proofs.Tree.{part_reads, path_reads, list_reads}
+
+pub record TypeNow (x : TypeData) (final : Stored) (ps : List Frame) (m m' : Mark) (i : TypeRefId) : Type 0 where
+  pub is : stored_type (store_of final) (map_of final) i ≡ x
+
+pub type_now : (t : OptionType) → Correct (type_part None t) (TypeNow (written_type t))
+unfolding stored_type
+type_now t = correct_as (correct_in_store (part_reads None t))
+    (λ final ps m m' i g row. record { is = row.rel.is (length final.types.entries) row.types })
+
+pub record ArgsNow (x : OptionArgsData) (final : Stored) (ps : List Frame) (m m' : Mark) (a : Option GenericArgs) : Type 0 where
+  pub is : stored_args (store_of final) (map_of final) a ≡ x
+
+pub args_now : (a : OptionArgs) → Correct (args_part a) (ArgsNow (written_args a))
+unfolding stored_args
+args_now a = correct_as (correct_in_store (list_reads a))
+    (λ final ps m m' r g row. record { is = row.rel.is (length final.types.entries) row.types })
+
+-- on both sides nothing, or a path with this data
+pub record PathNow (y : Option PathData) (final : Stored) (ps : List Frame) (m m' : Mark) (o : Option HirPath) : Type 0 where
+  pub is : option_map (stored_path (store_of final) (map_of final)) o ≡ y
+
+pub path_now : (p : OptionPath) → Correct (lower_path p) (PathNow (written_path p))
+unfolding stored_path
+path_now p = correct_as (correct_in_store (path_reads p))
+    (λ final ps m m' o g row. record { is = go final m'.types (path_of p) o row.rel.is row.types })
+  where
+    go : (final : Stored) (n : ℕ) (y : Option PathRead) (o : Option HirPath) → Answers final n y o → n ≤ length final.types.entries
+        → option_map (stored_path (store_of final) (map_of final)) o ≡ option_map data_of y
+    go final n None None h le = refl
+    go final n None (Some p) h le = absurd h
+    go final n (Some x) None h le = absurd h
+    go final n (Some x) (Some p) h le = ap Some (matches_read final n x p h (length final.types.entries) le)
+
+-- ---- laws
+
+-- what a step that is correct answers
+answered : {A : Type 0} {p : Lowering A} {R : Rel A} → Correct p R → (o o' : Builder) (a : A) → Paired o.stored → p o ≡ (Ok a, o')
+    → (final : Stored) → Extends o'.stored final → R final (frames o.scopes) (mark o) (mark o') a
+answered {R = R} h o o' a d e final x =
+    let ps = frames o.scopes in
+    let held : Holds R final ps o (Ok a) o' = subst (λ r. Holds R final ps o r.0 r.1) e (h.holds final ps o (ribs_frames o.scopes)) in
+    held.in_final d x
+
+pub path_law : (p : OptionPath) (o o' : Builder) (r : Option HirPath) → Paired o.stored → lower_path p o ≡ (Ok r, o')
+    → (final : Stored) → Extends o'.stored final → option_map (stored_path (store_of final) (map_of final)) r ≡ written_path p
+path_law p o o' r d e final x = (answered (path_now p) o o' r d e final x).is
+
+pub type_law : (t : OptionType) (o o' : Builder) (i : TypeRefId) → Paired o.stored → type_part None t o ≡ (Ok i, o')
+    → (final : Stored) → Extends o'.stored final → stored_type (store_of final) (map_of final) i ≡ written_type t
+type_law t o o' i d e final x = (answered (type_now t) o o' i d e final x).is
+
+pub args_law : (a : OptionArgs) (o o' : Builder) (r : Option GenericArgs) → Paired o.stored → args_part a o ≡ (Ok r, o')
+    → (final : Stored) → Extends o'.stored final → stored_args (store_of final) (map_of final) r ≡ written_args a
+args_law a o o' r d e final x = (answered (args_now a) o o' r d e final x).is

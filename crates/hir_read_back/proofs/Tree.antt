@@ -1,0 +1,172 @@
+-- What lowering stores for a tree reads back as what is written: by induction, a line for each kind.
+use Rattle.std.proofs.Common.{refl, Option, Some, None, Bool, true, false, List, [], ◌∷◌}
+use Rattle.hir_store.specs.declared.ids.TypeRefId.{TypeRefId}
+use Rattle.hir_store.specs.declared.name.Name.{Name}
+use Rattle.hir_store.specs.declared.path.PathKind.TheVariants as kind
+use Rattle.hir_store.specs.declared.path.GenericArg.TheVariants as arg
+use Rattle.hir_store.specs.declared.type_ref.TypeRef.TheVariants as ty
+use Rattle.hir_store.specs.declared.type_ref.TypeBound.{TypeBound}
+use Rattle.hir_store.specs.declared.type_ref.TypeBound.TheVariants as bound
+use Rattle.hir_env.specs.Answered as tree
+use Rattle.hir_env.specs.Answered.{Binder, Type_, OptionType, Parts, Path, OptionPath, Segments, Segment, SegmentArgs, OptionParens}
+use Rattle.hir_env.specs.Answered.{OptionRet, OptionArgs, Args, Arg, Bounds, Bound}
+use Rattle.hir_lower_form.specs.declared.args.ArgLists.{ArgLists}
+use Rattle.hir_lower_form.specs.declared.walk.PathWalk.{PathWalk}
+use Rattle.hir_lower_form.specs.declared.walk.Reading.TheVariants.{Refused, Ended, Open}
+use Rattle.hir_lower_form.specs.Lowering.{Lowering, ◌>>=◌, pure}
+use Rattle.hir_lower_form.specs.Walks as walks
+use Rattle.hir_lower_form.specs.Walks.{start, at_first, missing_name, self_type_name}
+use Rattle.hir_lower_form.specs.Paths.{proceed, whole}
+use Rattle.hir_lower_form.specs.Types.{no_lists}
+use Rattle.hir_lower_form.specs.Lower as lower
+use Rattle.hir_steps.proofs.Steps.{Correct}
+use Rattle.hir_data.specs.Data as datum
+use Rattle.hir_data.specs.Data.{TypesData, no_args}
+use Rattle.hir_data.specs.Rule.{Item, broken, named}
+use Rattle.hir_data.specs.Written as written
+use Rattle.hir_read_back.proofs.Layers.{a_type, types_before, maybe_type, a_bound, many_bounds, a_list, Reads, value0, Pushed}
+use Rattle.hir_read_back.proofs.Layers.{pushed_all, type0}
+use Rattle.hir_read_back.proofs.Types as kinds
+use Rattle.hir_read_back.proofs.Types.{Grown, Listed}
+use Rattle.hir_read_back.proofs.Walk.{item, says_named, says_refused, says_root, says_dollar, says_self, one_closed, outer_closed}
+use Rattle.hir_read_back.proofs.Going.{Goes, goes_at_once, then_goes, named_goes, super_goes, anchor_goes, trait_goes}
+use Rattle.hir_read_back.proofs.Going.{PathIs, none_is, path_is, path_type_reads, path_bound_reads}
+
+-- a name without arguments
+bare_goes : (l : Bool) (x : Name) (w : PathWalk) → Correct (pure (walks.named x None (at_first l w)))
+    (Goes (Open w) (λ is. item l (named (record { name = x; args = no_args })) ∷ is))
+bare_goes l x w = goes_at_once (walks.named x None (at_first l w))
+    (λ final n is h. says_named final n l is (record { name = x; args = no_args }) None w (λ d le. refl) h)
+
+-- what refuses the path
+broken_goes : (l : Bool) (w : PathWalk) → Correct (pure Refused) (Goes (Open w) (λ is. item l broken ∷ is))
+broken_goes l w = goes_at_once Refused (λ final n is h. says_refused final n (item l broken) is w refl h)
+
+mutual
+  unfolding whole
+
+  -- ---- types
+
+  type_reads : (b : Option Binder) (t : Type_) → Correct (lower.lower_type b t) (Reads a_type (written.type_data b t))
+  type_reads b (tree.paren_type t) = part_reads b t
+  type_reads b (tree.for_type binder t) = part_reads (Some binder) t
+  type_reads b (tree.leaf_type at l) = kinds.leaf_reads at l
+  type_reads b (tree.over_type at u t) = kinds.over_reads at u (part_reads None t)
+  type_reads b (tree.tuple_type at ps) = kinds.tuple_reads at (pushed_all (parts_read ps datum.no_types []))
+  type_reads b (tree.path_type at p) = path_type_reads (written.path_of p) at (path_reads p)
+  type_reads b (tree.ref_type at l m t) = kinds.ref_reads at m (part_reads None t) (kinds.lifetime_option_reads l)
+  type_reads b (tree.fn_type at h ps r) =
+      kinds.fn_reads at b h (ret_reads r) (pushed_all (parts_read ps (datum.more_types (written.ret_data r) datum.no_types) []))
+  type_reads b (tree.impl_type at mode bs) = kinds.impl_reads at mode (pushed_all (bounds_read bs []))
+  type_reads b (tree.nested_impl at) = type0 ty.Error (Some at) (λ final r. refl)
+  type_reads b (tree.dyn_type at bs) = kinds.dyn_reads at (pushed_all (bounds_read bs []))
+
+  pub part_reads : (b : Option Binder) (t : OptionType) → Correct (lower.type_part b t) (Reads a_type (written.part_data b t))
+  part_reads b tree.no_type = kinds.error_type_reads
+  part_reads b (tree.some_type t) = type_reads b t
+
+  ret_reads : (t : OptionType) → Correct (lower.type_or_unit t) (Reads a_type (written.ret_data t))
+  ret_reads tree.no_type = kinds.unit_type_reads
+  ret_reads (tree.some_type t) = type_reads None t
+
+  pub present_reads : (t : OptionType) → Correct (lower.present_type t) (Reads maybe_type (written.present_data t))
+  present_reads tree.no_type = value0 {l = maybe_type} None (λ final r. refl)
+  present_reads (tree.some_type t) = kinds.present_reads (type_reads None t)
+
+  parts_read : (ps : Parts) (behind : TypesData) (done : List TypeRefId)
+      → Correct (lower.lower_parts done ps) (Pushed done (Reads (types_before behind) (written.parts_data ps behind)))
+  parts_read tree.no_parts behind done = kinds.types_none behind done
+  parts_read (tree.more_parts p ps) behind done = kinds.types_more behind (part_reads None p) (parts_read ps behind) done
+
+  -- ---- bounds
+
+  bounds_read : (bs : Bounds) (done : List TypeBound)
+      → Correct (lower.lower_bounds done bs) (Pushed done (Reads many_bounds (written.bounds_data bs)))
+  bounds_read tree.no_bounds done = kinds.bounds_none done
+  bounds_read (tree.more_bounds b bs) done = kinds.bounds_more (bound_reads b) (bounds_read bs) done
+
+  bound_reads : (b : Bound) → Correct (lower.lower_bound b) (Reads a_bound (written.bound_data b))
+  bound_reads tree.error_bound = value0 {l = a_bound} bound.Error (λ final r. refl)
+  bound_reads (tree.path_bound at p maybe binder) = path_bound_reads (written.path_of p) at maybe binder (path_reads p)
+  bound_reads (tree.lifetime_bound l) = kinds.lifetime_bound_reads l
+  bound_reads (tree.use_bound us) = kinds.uses_bound_reads us
+
+  -- ---- arguments
+
+  pub list_reads : (as' : OptionArgs) → Correct (lower.args_part as') (Reads a_list (written.list_data as'))
+  list_reads tree.no_arg_list = value0 {l = a_list} None (λ final r. refl)
+  list_reads (tree.some_arg_list as') = kinds.list_reads (args_listed as' no_lists)
+
+  args_listed : (as' : Args) (l : ArgLists)
+      → Correct (lower.lower_args l as') (Listed l (written.arguments_of as') (written.bindings_of as'))
+  args_listed tree.no_args l = kinds.none_listed l
+  args_listed (tree.more_args a as') l = kinds.more_listed l (arg_grown a l) (args_listed as')
+
+  arg_grown : (a : Arg) (l : ArgLists) → Correct (lower.lower_arg l a)
+      (Grown l (written.put_argument (written.argument_of a)) (written.put_binding (written.binding_of a)))
+  arg_grown tree.skipped_arg l = kinds.skipped_grown l
+  arg_grown (tree.type_arg t) l = kinds.argument_grown l arg.Type_ datum.type_argument (part_reads None t) (λ final r a. refl)
+  arg_grown (tree.lifetime_arg l') l =
+      kinds.argument_grown l arg.Lifetime datum.lifetime_argument (kinds.lifetime_reads l') (λ final r a. refl)
+  arg_grown (tree.assoc_arg n as' dots t bs) l =
+      kinds.binding_grown l (kinds.binding_reads n dots (list_reads as') (present_reads t) (pushed_all (bounds_read bs [])))
+
+  parens_reads : (p : OptionParens) → Correct (lower.parens_part p) (Reads a_list (written.parens_data p))
+  parens_reads tree.no_parens = value0 {l = a_list} None (λ final r. refl)
+  parens_reads (tree.some_parens ps r) = kinds.parens_reads (pushed_all (parts_read ps datum.no_types [])) (output_reads r)
+
+  output_reads : (r : OptionRet) → Correct (lower.output_part r) (Reads a_type (written.output_data r))
+  output_reads tree.no_ret = kinds.unit_type_reads
+  output_reads (tree.some_ret t) = part_reads None t
+
+  segment_args_reads : (a : SegmentArgs) → Correct (lower.lower_segment_args a) (Reads a_list (written.segment_args_data a))
+  segment_args_reads (tree.segment_args as' ps dots) = kinds.segment_args_reads dots (list_reads as') (parens_reads ps)
+
+  -- ---- paths
+
+  first_goes : (l : Bool) (s : Segment) (w : PathWalk)
+      → Correct (lower.read_segment true s (at_first l w)) (Goes (Open w) (λ is. item l (written.what true s) ∷ is))
+  first_goes l tree.absent_segment w = bare_goes l missing_name w
+  first_goes l tree.broken_segment w = broken_goes l w
+  first_goes l (tree.name_segment n a) w = named_goes l n w (segment_args_reads a)
+  first_goes l tree.self_type_segment w = bare_goes l self_type_name w
+  first_goes l tree.crate_segment w = goes_at_once _ (λ final n is h. says_root final n l is kind.Crate w h)
+  first_goes l (tree.dollar_crate_segment c) w = goes_at_once _ (λ final n is h. says_dollar final n l is c w h)
+  first_goes l tree.self_segment w = goes_at_once _ (λ final n is h. says_self final n l is w h)
+  first_goes l tree.super_segment w = super_goes l w
+  first_goes l (tree.type_segment t) w = anchor_goes l w (type_reads None t)
+  first_goes l (tree.trait_segment t at p) w = trait_goes (written.path_of p) l at w (type_reads None t) (path_reads p)
+
+  behind_goes : (s : Segment) (w : PathWalk)
+      → Correct (lower.read_segment false s w) (Goes (Open w) (λ is. item false (written.what false s) ∷ is))
+  behind_goes tree.absent_segment w = bare_goes false missing_name w
+  behind_goes tree.broken_segment w = broken_goes false w
+  behind_goes (tree.name_segment n a) w = named_goes false n w (segment_args_reads a)
+  behind_goes tree.self_type_segment w = bare_goes false self_type_name w
+  behind_goes tree.crate_segment w = broken_goes false w
+  behind_goes (tree.dollar_crate_segment c) w = broken_goes false w
+  behind_goes tree.self_segment w = broken_goes false w
+  behind_goes tree.super_segment w = super_goes false w
+  behind_goes (tree.type_segment t) w = broken_goes false w
+  behind_goes (tree.trait_segment t at p) w = broken_goes false w
+
+  each_goes : (ss : Segments) (w : PathWalk) → Correct (lower.read_each ss w) (Goes (Open w) (written.items ss))
+  each_goes tree.no_segments w = goes_at_once (Open w) (λ final n is h. h)
+  each_goes (tree.more_segments s ss) w =
+      then_goes {add = written.items ss} {more = λ is. item false (written.what false s) ∷ is} (each_goes ss w)
+      (λ final n r c is h. one_closed final n r c (item false (written.what false s)) is h) (behind_goes s)
+
+  path_goes : (p : Path) (w : PathWalk) → Correct (lower.read_path p w) (Goes (Open w) (written.segments p))
+  path_goes (tree.path leading first rest use_) w =
+      then_goes {add = λ is. item leading (written.what true first) ∷ written.items rest is} {more = written.outer use_}
+      (then_goes {add = written.items rest} {more = λ is. item leading (written.what true first) ∷ is} (each_goes rest w)
+      (λ final n r c is h. one_closed final n r c (item leading (written.what true first)) is h) (first_goes leading first))
+      (λ final n r c is h. outer_closed final n use_ r c is h) (outer_goes use_)
+
+  outer_goes : (p : OptionPath) (w : PathWalk) → Correct (lower.read_option p w) (Goes (Open w) (written.outer p))
+  outer_goes tree.no_path w = goes_at_once (Open w) (λ final n is h. h)
+  outer_goes (tree.some_path p) w = path_goes p w
+
+  pub path_reads : (p : OptionPath) → Correct (lower.lower_path p) (PathIs (written.path_of p))
+  path_reads tree.no_path = none_is
+  path_reads (tree.some_path p) = path_is {add = written.segments p} (path_goes p start)

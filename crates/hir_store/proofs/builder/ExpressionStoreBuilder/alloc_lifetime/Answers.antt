@@ -1,0 +1,25 @@
+use Rattle.std.proofs.Common.{subst}
+use Rattle.hir_store.specs.declared.builder.ExpressionStoreBuilder.TheView.{view}
+use Rattle.hir_store.specs.Stored.{Stored}
+use Rattle.hir_store.specs.Range.{HasLifetime}
+use Rattle.hir_store.specs.Storing.{Extends, Stores, alloc_lifetime}
+use Rattle.hir_store.proofs.Range.{range_lifetime, stores_lifetime, extends_lifetime}
+use Rattle.hir_store.proofs.builder.ExpressionStoreBuilder.alloc_lifetime.Goals as goal
+
+pub invariant_of-self : goal.invariant_of-self
+invariant_of-self c =
+    let s : Stored = view c.self.inside in
+    range_lifetime s c.args.lifetime c.args.source _ _ c.alloc.ensures c.self.invariant
+
+pub returns-clause-stored : goal.returns-clause-stored
+returns-clause-stored c =
+    let s : Stored = view c.self.inside in
+    let P : Stored → Type 0 = λ v.
+    Stores HasLifetime (alloc_lifetime c.args.lifetime c.args.source) v c.alloc.result (record s { lifetimes = c.alloc.new.self }) in
+    subst P c.self.view_is (stores_lifetime s c.args.lifetime c.args.source _ _ c.alloc.ensures)
+
+pub returns-clause-stays : goal.returns-clause-stays
+returns-clause-stays c =
+    let s : Stored = view c.self.inside in
+    let P : Stored → Type 0 = λ v. Extends v (record s { lifetimes = c.alloc.new.self }) in
+    subst P c.self.view_is (extends_lifetime s c.args.lifetime c.args.source _ _ c.alloc.ensures)

@@ -1,0 +1,105 @@
+//! Lists that grow by one, and what their items name.
+
+ghost use Rattle.std.specs.Prelude.{◌≡◌, ◌∷◌, ◌++◌, [], max, suc, OnOk};
+ghost use Rattle.hir_store.specs.Arenas.{past};
+ghost use Rattle.hir_store.specs.Range.{past_expr, past_field, past_statement};
+ghost use Rattle.hir_store.specs.Past.{join, past_arg, past_arg_lists, past_args, past_binding, past_bindings, past_bound, past_bounds};
+ghost use Rattle.hir_store.specs.Past.{past_generic, past_present, past_type_id, past_type_ids, past_use_arg, past_use_args};
+
+use crate::hir::{RecordLitField, Statement};
+use crate::ids::{ExprId, TypeRefId};
+use crate::path::{AssociatedTypeBinding, GenericArg, GenericArgs};
+use crate::type_ref::{TypeBound, UseArgRef};
+use hir_syntax::Seq;
+use std::alloc::AllocError;
+
+/// Adds a number to a list of an expression's parts.
+#[tactic(auto, using(crate::proofs::Arenas::past_push))]
+pub fn push_id(ids: &mut Seq<ExprId>, id: ExprId) -> Result<(), AllocError>
+    ensures ids { OnOk result (ids.new ≡ ids.old ++ id ∷ []) }
+    ensures past { OnOk result (past past_expr ids.new ≡ max (past past_expr ids.old) (suc id.0)) }
+{
+    ids.push(id)
+}
+
+/// Adds a statement to those of a block.
+#[tactic(auto, using(crate::proofs::Arenas::past_push))]
+pub fn push_statement(
+    statements: &mut Seq<Statement>,
+    statement: Statement,
+) -> Result<(), AllocError>
+    ensures statements { OnOk result (statements.new ≡ statements.old ++ statement ∷ []) }
+    ensures past { OnOk result (past past_statement statements.new
+        ≡ max (past past_statement statements.old) (past_statement statement)) }
+{
+    statements.push(statement)
+}
+
+/// Adds a field to those of a record.
+#[tactic(auto, using(crate::proofs::Arenas::past_push))]
+pub fn push_field(fields: &mut Seq<RecordLitField>, field: RecordLitField) -> Result<(), AllocError>
+    ensures fields { OnOk result (fields.new ≡ fields.old ++ field ∷ []) }
+    ensures past { OnOk result (past past_field fields.new ≡ max (past past_field fields.old) (suc field.expr.0)) }
+{
+    fields.push(field)
+}
+
+/// Adds a type to a list.
+#[tactic(auto, using(crate::proofs::Past::type_ids_push))]
+pub fn push_type(types: &mut Seq<TypeRefId>, ty: TypeRefId) -> Result<(), AllocError>
+    ensures items { OnOk result (types.new ≡ types.old ++ ty ∷ []) }
+    ensures past { OnOk result (past_type_ids types.new ≡ join (past_type_ids types.old) (past_type_id ty)) }
+{
+    types.push(ty)
+}
+
+/// Adds an argument to those of a segment.
+#[tactic(auto, using(crate::proofs::Past::args_push))]
+pub fn push_arg(args: &mut Seq<GenericArg>, arg: GenericArg) -> Result<(), AllocError>
+    ensures items { OnOk result (args.new ≡ args.old ++ arg ∷ []) }
+    ensures past { OnOk result (past_args args.new ≡ join (past_args args.old) (past_arg arg)) }
+{
+    args.push(arg)
+}
+
+/// Adds a binding to those of a segment.
+#[tactic(auto, using(crate::proofs::Past::bindings_push))]
+pub fn push_binding(
+    bindings: &mut Seq<AssociatedTypeBinding>,
+    binding: AssociatedTypeBinding,
+) -> Result<(), AllocError>
+    ensures items { OnOk result (bindings.new ≡ bindings.old ++ binding ∷ []) }
+    ensures past { OnOk result (past_bindings bindings.new ≡ join (past_bindings bindings.old) (past_binding binding)) }
+{
+    bindings.push(binding)
+}
+
+/// Adds a bound to a list.
+#[tactic(auto, using(crate::proofs::Past::bounds_push))]
+pub fn push_bound(bounds: &mut Seq<TypeBound>, bound: TypeBound) -> Result<(), AllocError>
+    ensures items { OnOk result (bounds.new ≡ bounds.old ++ bound ∷ []) }
+    ensures past { OnOk result (past_bounds bounds.new ≡ join (past_bounds bounds.old) (past_bound bound)) }
+{
+    bounds.push(bound)
+}
+
+/// Adds what a `use<..>` names.
+#[tactic(auto, using(crate::proofs::Past::use_args_push))]
+pub fn push_use_arg(args: &mut Seq<UseArgRef>, arg: UseArgRef) -> Result<(), AllocError>
+    ensures items { OnOk result (args.new ≡ args.old ++ arg ∷ []) }
+    ensures past { OnOk result (past_use_args args.new ≡ join (past_use_args args.old) (past_use_arg arg)) }
+{
+    args.push(arg)
+}
+
+/// Adds the arguments of a segment to those of the segments.
+#[tactic(auto, using(crate::proofs::Past::arg_lists_push))]
+pub fn push_args(
+    lists: &mut Seq<Option<GenericArgs>>,
+    args: Option<GenericArgs>,
+) -> Result<(), AllocError>
+    ensures items { OnOk result (lists.new ≡ lists.old ++ args ∷ []) }
+    ensures past { OnOk result (past_arg_lists lists.new ≡ join (past_arg_lists lists.old) (past_present past_generic args)) }
+{
+    lists.push(args)
+}

@@ -1,0 +1,355 @@
+//! Types, and the arguments and bounds in them.
+
+use crate::ast::{Lifetime, Name, Path};
+use crate::boxed::Boxed;
+use crate::node::{NodeId, TextRange};
+use crate::seq::Seq;
+use crate::text::Text;
+
+/// A type.
+#[cycle(types)]
+pub struct Type_ {
+    pub id: NodeId,
+    pub range: TextRange,
+    pub kind: TypeKind,
+}
+
+impl Drop for Type_ {
+    #[cycle(types_drop)]
+    fn drop(self) {
+        let Type_ {
+            id: _,
+            range: _,
+            kind: _,
+        } = self;
+    }
+}
+
+#[cycle(types)]
+pub enum TypeKind {
+    ParenType {
+        ty: Option<Boxed<Type_>>,
+    },
+    SliceType {
+        ty: Option<Boxed<Type_>>,
+    },
+    TupleType {
+        fields: Seq<Type_>,
+    },
+    PathType {
+        path: Option<Boxed<Path>>,
+    },
+    PtrType {
+        mut_: bool,
+        ty: Option<Boxed<Type_>>,
+    },
+    RefType {
+        lifetime: Option<Lifetime>,
+        mut_: bool,
+        ty: Option<Boxed<Type_>>,
+    },
+    FnPtrType {
+        unsafe_: bool,
+        /// The text of an `extern`, empty where it has none.
+        abi: Option<Text>,
+        params: Option<Seq<Param>>,
+        ret: Option<RetType>,
+    },
+    ForType {
+        binder: Option<ForBinder>,
+        ty: Option<Boxed<Type_>>,
+    },
+    ImplTraitType {
+        bounds: Seq<TypeBound>,
+    },
+    DynTraitType {
+        bounds: Seq<TypeBound>,
+    },
+    NeverType,
+    InferType,
+}
+
+impl Drop for TypeKind {
+    #[cycle(types_drop)]
+    fn drop(self) {
+        match self {
+            TypeKind::ParenType { ty: _ } => {}
+            TypeKind::SliceType { ty: _ } => {}
+            TypeKind::TupleType { fields: _ } => {}
+            TypeKind::PathType { path: _ } => {}
+            TypeKind::PtrType { mut_: _, ty: _ } => {}
+            TypeKind::RefType {
+                lifetime: _,
+                mut_: _,
+                ty: _,
+            } => {}
+            TypeKind::FnPtrType {
+                unsafe_: _,
+                abi: _,
+                params: _,
+                ret: _,
+            } => {}
+            TypeKind::ForType { binder: _, ty: _ } => {}
+            TypeKind::ImplTraitType { bounds: _ } => {}
+            TypeKind::DynTraitType { bounds: _ } => {}
+            TypeKind::NeverType => {}
+            TypeKind::InferType => {}
+        }
+    }
+}
+
+/// A parameter of a function pointer. A variadic one is `...`.
+#[cycle(types)]
+pub struct Param {
+    pub id: NodeId,
+    pub range: TextRange,
+    pub ty: Option<Boxed<Type_>>,
+    pub variadic: bool,
+}
+
+impl Drop for Param {
+    #[cycle(types_drop)]
+    fn drop(self) {
+        let Param {
+            id: _,
+            range: _,
+            ty: _,
+            variadic: _,
+        } = self;
+    }
+}
+
+/// `-> T`.
+#[cycle(types)]
+pub struct RetType {
+    pub id: NodeId,
+    pub range: TextRange,
+    pub ty: Option<Boxed<Type_>>,
+}
+
+impl Drop for RetType {
+    #[cycle(types_drop)]
+    fn drop(self) {
+        let RetType {
+            id: _,
+            range: _,
+            ty: _,
+        } = self;
+    }
+}
+
+/// A bound of a type. One without a kind, a path without `ty` and a lifetime without `lifetime` are errors.
+#[cycle(types)]
+pub struct TypeBound {
+    pub id: NodeId,
+    pub range: TextRange,
+    pub b: Option<BoundKind>,
+    /// The path of a trait.
+    pub ty: Option<PathType>,
+    /// `for<..>` in front of the path.
+    pub binder: Option<ForBinder>,
+    /// Whether `?` stands in front of the path.
+    pub maybe: bool,
+    pub lifetime: Option<Lifetime>,
+    /// What a `use<..>` names.
+    pub uses: Seq<UseArg>,
+}
+
+impl Drop for TypeBound {
+    #[cycle(types_drop)]
+    fn drop(self) {
+        let TypeBound {
+            id: _,
+            range: _,
+            b: _,
+            ty: _,
+            binder: _,
+            maybe: _,
+            lifetime: _,
+            uses: _,
+        } = self;
+    }
+}
+
+/// What a bound is written as.
+#[derive(Clone, Copy, Debug, PartialEq, Eq)]
+pub enum BoundKind {
+    Path,
+    Use,
+    Lifetime,
+}
+
+/// The lifetimes that `for` introduces. One that a broken text lacks is `None`.
+pub struct ForBinder {
+    pub id: NodeId,
+    pub range: TextRange,
+    pub params: Seq<Option<Lifetime>>,
+}
+
+impl Drop for ForBinder {
+    fn drop(self) {
+        let ForBinder {
+            id: _,
+            range: _,
+            params: _,
+        } = self;
+    }
+}
+
+/// What a `use<..>` names.
+pub enum UseArg {
+    Lifetime(Lifetime),
+    Name(Name),
+}
+
+impl Drop for UseArg {
+    fn drop(self) {
+        match self {
+            UseArg::Lifetime(_) => {}
+            UseArg::Name(_) => {}
+        }
+    }
+}
+
+/// The path of a trait.
+#[cycle(types)]
+pub struct PathType {
+    pub id: NodeId,
+    pub range: TextRange,
+    pub path: Option<Boxed<Path>>,
+}
+
+impl Drop for PathType {
+    #[cycle(types_drop)]
+    fn drop(self) {
+        let PathType {
+            id: _,
+            range: _,
+            path: _,
+        } = self;
+    }
+}
+
+/// `<..>` behind a name.
+#[cycle(types)]
+pub struct GenericArgList {
+    pub id: NodeId,
+    pub range: TextRange,
+    pub args: Seq<GenericArg>,
+}
+
+impl Drop for GenericArgList {
+    #[cycle(types_drop)]
+    fn drop(self) {
+        let GenericArgList {
+            id: _,
+            range: _,
+            args: _,
+        } = self;
+    }
+}
+
+#[cycle(types)]
+pub enum GenericArg {
+    TypeArg(TypeArg),
+    AssocTypeArg(AssocTypeArg),
+    LifetimeArg(LifetimeArg),
+}
+
+impl Drop for GenericArg {
+    #[cycle(types_drop)]
+    fn drop(self) {
+        match self {
+            GenericArg::TypeArg(_) => {}
+            GenericArg::AssocTypeArg(_) => {}
+            GenericArg::LifetimeArg(_) => {}
+        }
+    }
+}
+
+/// A type as an argument.
+#[cycle(types)]
+pub struct TypeArg {
+    pub id: NodeId,
+    pub range: TextRange,
+    pub ty: Option<Boxed<Type_>>,
+}
+
+impl Drop for TypeArg {
+    #[cycle(types_drop)]
+    fn drop(self) {
+        let TypeArg {
+            id: _,
+            range: _,
+            ty: _,
+        } = self;
+    }
+}
+
+/// `N = T` or `N: B` as an argument.
+#[cycle(types)]
+pub struct AssocTypeArg {
+    pub id: NodeId,
+    pub range: TextRange,
+    pub name: Option<Name>,
+    /// Whether `(..)` with types in it stands behind the name.
+    pub params: bool,
+    /// `<..>` behind the name.
+    pub generics: Option<GenericArgList>,
+    /// Whether `(..)` with two dots in it stands behind the name.
+    pub rtn: bool,
+    pub ty: Option<Boxed<Type_>>,
+    pub bounds: Seq<TypeBound>,
+}
+
+impl Drop for AssocTypeArg {
+    #[cycle(types_drop)]
+    fn drop(self) {
+        let AssocTypeArg {
+            id: _,
+            range: _,
+            name: _,
+            params: _,
+            generics: _,
+            rtn: _,
+            ty: _,
+            bounds: _,
+        } = self;
+    }
+}
+
+/// A lifetime as an argument.
+pub struct LifetimeArg {
+    pub id: NodeId,
+    pub range: TextRange,
+    pub lifetime: Option<Lifetime>,
+}
+
+impl Drop for LifetimeArg {
+    fn drop(self) {
+        let LifetimeArg {
+            id: _,
+            range: _,
+            lifetime: _,
+        } = self;
+    }
+}
+
+/// `(A, B)` behind a name.
+#[cycle(types)]
+pub struct ParenArgs {
+    pub id: NodeId,
+    pub range: TextRange,
+    pub args: Seq<TypeArg>,
+}
+
+impl Drop for ParenArgs {
+    #[cycle(types_drop)]
+    fn drop(self) {
+        let ParenArgs {
+            id: _,
+            range: _,
+            args: _,
+        } = self;
+    }
+}

@@ -1,0 +1,9 @@
+pub mod Counted
+pub mod Numbers
+pub mod Adding
+pub mod Owned
+pub mod Once
+pub mod Naming
+pub mod Named
+pub mod Refused
+pub mod Whole

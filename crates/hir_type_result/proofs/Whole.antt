@@ -1,0 +1,68 @@
+-- What is stored where one type was lowered is one result of its tree.
+use Rattle.std.proofs.Common.{arith, refl, ap, subst, ℕ, None, Ok, inl, inr}
+use Rattle.hir_store.proofs.Maps.{maps_back_none}
+use Rattle.hir_store.proofs.Range.{extends_refl}
+use Rattle.hir_lower_form.specs.Builder.{fresh}
+use Rattle.hir_read_back.proofs.Now.{type_law}
+use Rattle.hir_steps.specs.Keeps.{Paired, Mapped, KeepsAll, StaysAside, KeepsAside}
+use Rattle.hir_steps.proofs.Aside.{types_keep}
+use Rattle.hir_one_result.specs.Laws.{Grown, GrownUnless}
+use Rattle.hir_one_result.specs.PathRoom.{type_part_size}
+use Rattle.hir_one_result.specs.Room.{Short}
+use Rattle.hir_one_result.proofs.Fits.{types_fit}
+use Rattle.hir_one_result.proofs.Whole.{lead_back}
+use Rattle.hir_type_result.specs.TypeResult.{TypeResults, RefusedTypes, TypeTooLarge}
+use Rattle.hir_type_result.proofs.Once.{reached_once}
+use Rattle.hir_type_result.proofs.Refused.{part_aside}
+
+nothing_paired : (limit : ℕ) → Paired (fresh limit).stored
+nothing_paired limit = record { exprs = refl; labels = refl; types = refl; lifetimes = refl }
+
+nothing_mapped : (limit : ℕ) → Mapped (fresh limit).stored
+nothing_mapped limit = record { types = maps_back_none (λ i. i.0) limit; lifetimes = maps_back_none (λ i. i.0) limit }
+
+pub type_results : TypeResults
+type_results limit t i new is =
+    let old = fresh limit in
+    let none = nothing_paired limit in
+    let keeps : KeepsAside old (Ok i) new = subst (λ r. KeepsAside old r.0 r.1) is (types_keep None t old none) in
+    let kept : KeepsAll old new = keeps.0 in
+    let aside : StaysAside old.stored new.stored = keeps.1 in
+    let paired = kept.paired none in
+    let mapped = kept.mapped none (nothing_mapped limit) in
+    let fits : Grown (type_part_size t) old.stored new.stored =
+    subst (λ r. GrownUnless (type_part_size t) old.stored r.0 r.1.stored) is (types_fit None t old) in
+    let stays = extends_refl new.stored in record {
+      reads_back = type_law t old new i none is new.stored stays;
+      types = let n = fits.types in omega arith;
+      lifetimes = let n = fits.lifetimes in omega arith;
+      type_sources = fits.type_sources;
+      lifetime_sources = fits.lifetime_sources;
+      type_ways = lead_back (λ i. i.0) new.stored.types mapped.types;
+      lifetime_ways = lead_back (λ i. i.0) new.stored.lifetimes mapped.lifetimes;
+      reached_once = reached_once None t old new i none is new.stored stays;
+      alone = record {
+        exprs = ap (λ a. a.entries) aside.exprs;
+        labels = ap (λ a. a.entries) aside.labels;
+        roots = kept.roots;
+        expr_sources = ap (λ a. a.sources) aside.exprs;
+        label_sources = ap (λ a. a.sources) aside.labels;
+        expr_ways = ap (λ a. a.map) aside.exprs;
+        label_ways = ap (λ a. a.map) aside.labels;
+        field_ways = aside.field_map_back;
+        blocks = aside.block_scopes;
+        faults = aside.diagnostics;
+      };
+    }
+
+pub refused_types : RefusedTypes
+refused_types limit t fault new is =
+    let old = fresh limit in
+    by (subst (λ r. GrownUnless (type_part_size t) old.stored r.0 r.1.stored) is (types_fit None t old))
+  where
+    by : Short (type_part_size t) (fresh limit).stored → TypeTooLarge limit t
+    by (inl exprs) = let none = (part_aside t).exprs in absurd (omega arith)
+    by (inr (inl labels)) = let none = (part_aside t).labels in absurd (omega arith)
+    by (inr (inr (inl types))) = inl (omega (arith, types))
+    by (inr (inr (inr (inl lifetimes)))) = inr (inl (omega (arith, lifetimes)))
+    by (inr (inr (inr (inr over)))) = inr (inr over)

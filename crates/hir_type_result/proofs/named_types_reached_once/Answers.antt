@@ -1,0 +1,8 @@
+use Rattle.hir_type_result.proofs.Named.{expr_types_once, path_types_once}
+use Rattle.hir_type_result.proofs.named_types_reached_once.Goals as goal
+
+pub returns-clause-paths : goal.returns-clause-paths
+returns-clause-paths c = path_types_once
+
+pub returns-clause-exprs : goal.returns-clause-exprs
+returns-clause-exprs c = expr_types_once

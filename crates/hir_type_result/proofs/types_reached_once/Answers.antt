@@ -1,0 +1,5 @@
+use Rattle.hir_type_result.proofs.Once.{reached_once as proved}
+use Rattle.hir_type_result.proofs.types_reached_once.Goals as goal
+
+pub returns : goal.returns
+returns c = proved

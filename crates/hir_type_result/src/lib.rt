@@ -1,0 +1,30 @@
+//! Store and source map of a type that is lowered by itself are one result of its tree. Each law is the contract of an
+//! empty function.
+#![tactic(auto)]
+
+ghost use Rattle.hir_type_result.specs.TypeResult.{TypeResults, RefusedTypes};
+ghost use Rattle.hir_type_result.specs.Reached.{TypesReachedOnce};
+ghost use Rattle.hir_type_result.specs.Named.{ExprTypesReachedOnce, PathTypesReachedOnce};
+
+/// Each type that a lowered one reaches, through its parts, is one that its lowering stored, and is reached in one way.
+pub fn types_reached_once()
+    ensures { TypesReachedOnce }
+{}
+
+/// Each type that a lowered path reaches, or that the expressions of a lowered tree do, is one that its lowering stored, and
+/// is reached in one way.
+pub fn named_types_reached_once()
+    ensures paths { PathTypesReachedOnce }
+    ensures exprs { ExprTypesReachedOnce }
+{}
+
+/// A type, lowered into an empty store, is one result of its tree.
+pub fn type_results()
+    ensures { TypeResults }
+{}
+
+/// Lowering a type into an empty store is refused only where there is no room for as many types and lifetimes as are
+/// counted in it, or where a path counts further than is counted.
+pub fn refused_types()
+    ensures { RefusedTypes }
+{}

@@ -1,0 +1,52 @@
+-- Arguments of names.
+use Rattle.std.specs.Prelude.{codes, Option, Some, None}
+use Rattle.serde_json.specs.Find.{get}
+use Rattle.hir_syntax.specs.declared.types.AssocTypeArg.{AssocTypeArg, roll-AssocTypeArg}
+use Rattle.hir_syntax.specs.declared.types.GenericArg.TheVariants as arg
+use Rattle.hir_syntax.specs.declared.types.GenericArgList.{roll-GenericArgList}
+use Rattle.hir_syntax.specs.declared.types.ParenArgs.{roll-ParenArgs}
+use Rattle.hir_syntax.specs.declared.types.TypeArg.{roll-TypeArg}
+use Rattle.json_kinds.specs.declared.kind.Kind.{Kind}
+use Rattle.json_kinds.specs.declared.kind.Kind.TheVariants as kind
+use Rattle.json_nodes.specs.Fields.{flag_of}
+use Rattle.json_nodes.specs.Groups.{as_type, as_name, as_lifetime, as_generic_args, as_generic_arg, as_type_arg, as_bound}
+use Rattle.json_nodes.specs.Parts.{Here, part_in, list_in}
+use Rattle.json_nodes.specs.declared.part.AnyPart.{AnyPart}
+use Rattle.json_nodes.specs.declared.part.AnyPart.TheVariants as part
+
+unfoldable pub assoc_arg : Here → AssocTypeArg
+assoc_arg h = roll-AssocTypeArg (record {
+  id = h.id;
+  range = h.range;
+  name = part_in h as_name (codes "name");
+  params = flag_of (get (codes "params") h.value);
+  generics = part_in h as_generic_args (codes "generics");
+  rtn = flag_of (get (codes "rtn") h.value);
+  ty = part_in h as_type (codes "ty");
+  bounds = list_in h as_bound (codes "bounds");
+})
+
+-- an argument, or a list of some
+unfoldable pub of_args : Here → Kind → Option AnyPart
+of_args h kind.GenericArgList = Some (part.GenericArgs (roll-GenericArgList (record {
+  id = h.id;
+  range = h.range;
+  args = list_in h as_generic_arg (codes "args");
+})))
+of_args h kind.TypeArg = Some (part.TypeArg (roll-TypeArg (record {
+  id = h.id;
+  range = h.range;
+  ty = part_in h as_type (codes "ty");
+})))
+of_args h kind.AssocTypeArg = Some (part.GenericArg (arg.AssocTypeArg (assoc_arg h)))
+of_args h kind.LifetimeArg = Some (part.GenericArg (arg.LifetimeArg (record {
+  id = h.id;
+  range = h.range;
+  lifetime = part_in h as_lifetime (codes "lifetime");
+})))
+of_args h kind.ParenArgs = Some (part.ParenArgs (roll-ParenArgs (record {
+  id = h.id;
+  range = h.range;
+  args = list_in h as_type_arg (codes "args");
+})))
+of_args h _ = None

@@ -1,0 +1,80 @@
+//! Arguments of names.
+
+ghost use Rattle.std.specs.Prelude.{◌≡◌, IfOk};
+ghost use Rattle.json_nodes.specs.Args as spec;
+ghost use Rattle.json_nodes.specs.Nodes.{here};
+
+use crate::field::flag;
+use crate::node::{Node, ReadParts};
+use crate::part::AnyPart;
+use hir_syntax::Boxed;
+use hir_syntax::ast::{
+    AssocTypeArg, GenericArg, GenericArgList, Lifetime, LifetimeArg, Name, ParenArgs, Type_,
+    TypeArg, TypeBound,
+};
+use json_kinds::kind::Kind;
+use std::alloc::AllocError;
+
+#[tactic(auto, unfolding(crate::specs::Args::assoc_arg))]
+fn assoc_arg<P: ReadParts>(node: &Node<'_, P>) -> Result<AssocTypeArg, AllocError>
+    requires { P.can node.now.parts.now }
+    ensures { IfOk result (λ arg. arg ≡ spec.assoc_arg (here P.parts node.now)) }
+{
+    Ok(AssocTypeArg {
+        id: node.id,
+        range: node.range,
+        name: node.part::<Name>("name")?,
+        params: flag(node.value, "params"),
+        generics: node.part::<GenericArgList>("generics")?,
+        rtn: flag(node.value, "rtn"),
+        ty: node.boxed::<Type_>("ty")?,
+        bounds: node.list::<TypeBound>("bounds")?,
+    })
+}
+
+/// An argument, or a list of some.
+#[tactic(auto, unfolding(crate::specs::Args::of_args))]
+pub fn of_args<P: ReadParts>(node: &Node<'_, P>, kind: Kind) -> Result<Option<AnyPart>, AllocError>
+    requires { P.can node.now.parts.now }
+    ensures { IfOk result (λ part. part ≡ spec.of_args (here P.parts node.now) kind) }
+{
+    match kind {
+        Kind::GenericArgList => {
+            let args = GenericArgList {
+                id: node.id,
+                range: node.range,
+                args: node.list::<GenericArg>("args")?,
+            };
+            Ok(Some(AnyPart::GenericArgs(Boxed::new(node.alloc, args)?)))
+        }
+        Kind::TypeArg => {
+            let arg = TypeArg {
+                id: node.id,
+                range: node.range,
+                ty: node.boxed::<Type_>("ty")?,
+            };
+            Ok(Some(AnyPart::TypeArg(Boxed::new(node.alloc, arg)?)))
+        }
+        Kind::AssocTypeArg => {
+            let arg = GenericArg::AssocTypeArg(assoc_arg(node)?);
+            Ok(Some(AnyPart::GenericArg(Boxed::new(node.alloc, arg)?)))
+        }
+        Kind::LifetimeArg => {
+            let arg = GenericArg::LifetimeArg(LifetimeArg {
+                id: node.id,
+                range: node.range,
+                lifetime: node.part::<Lifetime>("lifetime")?,
+            });
+            Ok(Some(AnyPart::GenericArg(Boxed::new(node.alloc, arg)?)))
+        }
+        Kind::ParenArgs => {
+            let args = ParenArgs {
+                id: node.id,
+                range: node.range,
+                args: node.list::<TypeArg>("args")?,
+            };
+            Ok(Some(AnyPart::ParenArgs(Boxed::new(node.alloc, args)?)))
+        }
+        _ => Ok(None),
+    }
+}

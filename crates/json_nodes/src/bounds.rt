@@ -1,0 +1,90 @@
+//! Bounds, binders, parameters and return types.
+
+ghost use Rattle.std.specs.Prelude.{◌≡◌, IfOk, codes, option_and_then};
+ghost use Rattle.serde_json.specs.View.{view};
+ghost use Rattle.json_nodes.specs.Bounds as spec;
+ghost use Rattle.json_nodes.specs.Fields.{text_in};
+ghost use Rattle.json_nodes.specs.Nodes.{here};
+
+use crate::field::{flag, text};
+use crate::node::{Node, ReadParts};
+use crate::part::AnyPart;
+use hir_syntax::Boxed;
+use hir_syntax::ast::{
+    BoundKind, ForBinder, Lifetime, Param, PathType, RetType, Type_, TypeBound, UseArg,
+};
+use json_kinds::kind::Kind;
+use serde_json::Value;
+use std::alloc::AllocError;
+
+/// The kind with that word.
+fn bound_kind_of(word: &str) -> Option<BoundKind>
+    ensures { result ≡ spec.bound_kind_of word.now }
+{
+    match word {
+        "path" => Some(BoundKind::Path),
+        "use" => Some(BoundKind::Use),
+        "lifetime" => Some(BoundKind::Lifetime),
+        _ => None,
+    }
+}
+
+fn bound_kind(node: &Value) -> Option<BoundKind>
+    ensures { result ≡ option_and_then spec.bound_kind_of (text_in (codes "b") (view node.now)) }
+{
+    bound_kind_of(text(node, "b")?)
+}
+
+#[tactic(auto, unfolding(crate::specs::Bounds::bound))]
+fn bound<P: ReadParts>(node: &Node<'_, P>) -> Result<TypeBound, AllocError>
+    requires { P.can node.now.parts.now }
+    ensures { IfOk result (λ bound. bound ≡ spec.bound (here P.parts node.now)) }
+{
+    Ok(TypeBound {
+        id: node.id,
+        range: node.range,
+        b: bound_kind(node.value),
+        ty: node.part::<PathType>("ty")?,
+        binder: node.part::<ForBinder>("binder")?,
+        maybe: flag(node.value, "maybe"),
+        lifetime: node.part::<Lifetime>("lifetime")?,
+        uses: node.list::<UseArg>("uses")?,
+    })
+}
+
+/// A bound, or what else stands beside types.
+#[tactic(auto, unfolding(crate::specs::Bounds::of_bound))]
+pub fn of_bound<P: ReadParts>(node: &Node<'_, P>, kind: Kind) -> Result<Option<AnyPart>, AllocError>
+    requires { P.can node.now.parts.now }
+    ensures { IfOk result (λ part. part ≡ spec.of_bound (here P.parts node.now) kind) }
+{
+    match kind {
+        Kind::TypeBound => Ok(Some(AnyPart::Bound(Boxed::new(node.alloc, bound(node)?)?))),
+        Kind::ForBinder => {
+            let binder = ForBinder {
+                id: node.id,
+                range: node.range,
+                params: node.list_with_nulls::<Lifetime>("params")?,
+            };
+            Ok(Some(AnyPart::Binder(Boxed::new(node.alloc, binder)?)))
+        }
+        Kind::RetType => {
+            let ret = RetType {
+                id: node.id,
+                range: node.range,
+                ty: node.boxed::<Type_>("ty")?,
+            };
+            Ok(Some(AnyPart::Ret(Boxed::new(node.alloc, ret)?)))
+        }
+        Kind::Param => {
+            let param = Param {
+                id: node.id,
+                range: node.range,
+                ty: node.boxed::<Type_>("ty")?,
+                variadic: flag(node.value, "variadic"),
+            };
+            Ok(Some(AnyPart::Param(Boxed::new(node.alloc, param)?)))
+        }
+        _ => Ok(None),
+    }
+}

@@ -1,0 +1,182 @@
+//! What an `impl` becomes where the caller chooses, and types for which there is no room.
+
+use hir_env::place::LoweringMode;
+use hir_env::table::TableEnv;
+use hir_lower::{
+    ErrorImplTrait, ExprCollector, ImplTraitLower, LowerError, OpaqueImplTrait,
+    impl_trait_error_allocator,
+};
+use hir_store::ids::{ItemContainerId, ModuleId, TypeRefId};
+use hir_syntax::Seq;
+use hir_syntax::ast::Path;
+use hir_syntax::node::{AstPtr, HirFileId, NodeId, TextRange};
+use lower_json::document::{Document, Root, Tree};
+use lower_json::fault::ReadError;
+use lower_json::read::read_tree;
+use lower_run::listing::{path_listing, type_listing};
+use std::alloc::Global;
+use std::test::Fail;
+
+const POINTER: AstPtr = AstPtr {
+    node: NodeId(4),
+    range: TextRange { start: 4, end: 5 },
+};
+
+/// `A<impl B>`.
+const IMPL_IN_A_PATH: &str = r#"{"nodes": [
+    {"k": "Path", "segs": [1]},
+    {"k": "PathSegment", "seg": "name", "name": "A", "generics": 2},
+    {"k": "GenericArgList", "args": [3]},
+    {"k": "TypeArg", "ty": 4},
+    {"k": "ImplTraitType", "bounds": [5]},
+    {"k": "TypeBound", "b": "path", "ty": 6},
+    {"k": "PathType", "path": 7},
+    {"k": "Path", "segs": [8]},
+    {"k": "PathSegment", "seg": "name", "name": "B"}
+]}"#;
+
+fn table(alloc: Global) -> TableEnv {
+    TableEnv::new(alloc, ItemContainerId::ModuleId(ModuleId(0)))
+}
+
+fn collector(alloc: Global, env: &TableEnv, limit: u32) -> ExprCollector<'_, TableEnv> {
+    ExprCollector::with_limit(
+        alloc,
+        env,
+        ModuleId(0),
+        HirFileId(0),
+        LoweringMode::Analysis,
+        limit,
+    )
+}
+
+/// The listing of a type in a collector.
+fn listed(
+    alloc: Global,
+    collector: ExprCollector<'_, TableEnv>,
+    ty: TypeRefId,
+) -> Result<String, LowerError> {
+    match collector.into_store() {
+        Ok((store, source_map)) => {
+            let text = type_listing(alloc, ty, &store, &source_map, false);
+            drop(store);
+            drop(source_map);
+            text.map_err(|_| LowerError::Memory)
+        }
+        Err(error) => Err(error),
+    }
+}
+
+fn error_listed(alloc: Global) -> Result<String, LowerError> {
+    let env = table(alloc);
+    let mut collector = collector(alloc, &env, 1);
+    let stored = impl_trait_error_allocator(&mut collector, POINTER, Seq::new(alloc));
+    let text = match stored {
+        Ok(ty) => listed(alloc, collector, ty),
+        Err(error) => {
+            drop(collector);
+            Err(error)
+        }
+    };
+    drop(env);
+    text
+}
+
+#[test]
+fn an_impl_without_bounds_becomes_an_error(rt: HostRuntime) -> Result<(), Fail> {
+    let text = error_listed(rt.alloc())?;
+    assert_eq!(rt; text.as_str(), "type {error}\n");
+    Ok(())
+}
+
+/// The listing of what an `impl` without bounds becomes.
+fn becomes<I: ImplTraitLower>(alloc: Global, choice: &mut I) -> Result<String, LowerError> {
+    let env = table(alloc);
+    let mut collector = collector(alloc, &env, 1);
+    let stored = choice.lower(&mut collector, POINTER, Seq::new(alloc));
+    let text = match stored {
+        Ok(ty) => listed(alloc, collector, ty),
+        Err(error) => {
+            drop(collector);
+            Err(error)
+        }
+    };
+    drop(env);
+    text
+}
+
+#[test]
+fn an_impl_becomes_what_the_caller_chooses(rt: HostRuntime) -> Result<(), Fail> {
+    let error = becomes(rt.alloc(), &mut ErrorImplTrait)?;
+    assert_eq!(rt; error.as_str(), "type {error}\n");
+    let opaque = becomes(rt.alloc(), &mut OpaqueImplTrait)?;
+    assert_eq!(rt; opaque.as_str(), "type impl\n");
+    Ok(())
+}
+
+/// The listing of a path in which an `impl` stays, where there is room for so many types and lifetimes each.
+fn opaque_listed(alloc: Global, path: &Path, limit: u32) -> Result<String, LowerError> {
+    let env = table(alloc);
+    let mut collector = collector(alloc, &env, limit);
+    let text = match collector.lower_path(path, &mut OpaqueImplTrait) {
+        Ok(lowered) => {
+            let text = match collector.into_store() {
+                Ok((store, source_map)) => {
+                    let text = path_listing(
+                        alloc,
+                        lowered.as_ref(),
+                        path,
+                        &store,
+                        &source_map,
+                        false,
+                    );
+                    drop(store);
+                    drop(source_map);
+                    text.map_err(|_| LowerError::Memory)
+                }
+                Err(error) => Err(error),
+            };
+            drop(lowered);
+            text
+        }
+        Err(error) => {
+            drop(collector);
+            Err(error)
+        }
+    };
+    drop(env);
+    text
+}
+
+fn opaque_in(alloc: Global, document: &Document, limit: u32) -> Option<Result<String, LowerError>> {
+    match &document.tree {
+        Tree::Path(path) => Some(opaque_listed(alloc, path, limit)),
+        Tree::Fn(_) | Tree::Type_(_) => None,
+    }
+}
+
+fn opaque_in_text(
+    alloc: Global,
+    text: &str,
+    limit: u32,
+) -> Result<Option<Result<String, LowerError>>, ReadError> {
+    let document = read_tree(alloc, Root::Path, text.as_bytes())?;
+    let listed = opaque_in(alloc, &document, limit);
+    drop(document);
+    Ok(listed)
+}
+
+#[test]
+fn an_impl_in_a_path_stays_where_the_caller_chooses(rt: HostRuntime) -> Result<(), Fail> {
+    let listed = opaque_in_text(rt.alloc(), IMPL_IN_A_PATH, 2)?;
+    let text = "path A::<impl B>\nsegment 0 A\nsegment 1 None\n";
+    assert!(rt; matches!(&listed, Some(Ok(found)) if found.as_str() == text));
+    Ok(())
+}
+
+#[test]
+fn a_path_of_two_types_does_not_fit_where_one_may_be_stored(rt: HostRuntime) -> Result<(), Fail> {
+    let listed = opaque_in_text(rt.alloc(), IMPL_IN_A_PATH, 1)?;
+    assert!(rt; matches!(listed, Some(Err(LowerError::Full))));
+    Ok(())
+}

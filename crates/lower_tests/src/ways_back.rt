@@ -1,0 +1,152 @@
+//! The ways back from the parts of what is stored to the written nodes.
+
+use hir_lower::{
+    Body, BodySourceMap, hir_assoc_type_binding_to_ast, hir_generic_arg_to_ast, lower_body,
+};
+use hir_store::hir::Expr;
+use hir_store::ids::{ConstId, DefWithBodyId, ExprId, ModuleId};
+use hir_store::store::ExpressionStore;
+use hir_syntax::ast::{Fn, GenericArg, GenericArgList, Path};
+use hir_syntax::node::{AstPtr, HirFileId, NodeId};
+use lower_json::document::{Document, Root, Tree};
+use lower_json::fault::ReadError;
+use lower_json::read::read_tree;
+use std::alloc::Global;
+
+/// `A<T, 'x, B = u8>`.
+const ARGUMENTS: &str = r#"{"nodes": [
+    {"k": "Path", "segs": [1]},
+    {"k": "PathSegment", "seg": "name", "name": "A", "generics": 2},
+    {"k": "GenericArgList", "args": [3, 7, 8]},
+    {"k": "TypeArg", "ty": 4},
+    {"k": "PathType", "path": 5},
+    {"k": "Path", "segs": [6]},
+    {"k": "PathSegment", "seg": "name", "name": "T"},
+    {"k": "LifetimeArg", "lifetime": "'x"},
+    {"k": "AssocTypeArg", "name": "B", "ty": 9},
+    {"k": "PathType", "path": 10},
+    {"k": "Path", "segs": [11]},
+    {"k": "PathSegment", "seg": "name", "name": "u8"}
+]}"#;
+
+fn node_of(arg: &GenericArg) -> NodeId {
+    match arg {
+        GenericArg::TypeArg(arg) => arg.id,
+        GenericArg::AssocTypeArg(arg) => arg.id,
+        GenericArg::LifetimeArg(arg) => arg.id,
+    }
+}
+
+fn arg_node(list: &GenericArgList, at: u32) -> Option<NodeId> {
+    Some(node_of(hir_generic_arg_to_ast(list, at, false)?))
+}
+
+fn binding_node(list: &GenericArgList, at: u32) -> Option<NodeId> {
+    Some(hir_assoc_type_binding_to_ast(list, at)?.id)
+}
+
+/// The first three arguments, the one behind `Self`, and the first two bindings.
+type Lent = ([Option<NodeId>; 3], Option<NodeId>, [Option<NodeId>; 2]);
+
+fn lent(list: &GenericArgList) -> Lent {
+    let args = [arg_node(list, 0), arg_node(list, 1), arg_node(list, 2)];
+    let behind_self = hir_generic_arg_to_ast(list, 1, true).map(node_of);
+    let bindings = [binding_node(list, 0), binding_node(list, 1)];
+    (args, behind_self, bindings)
+}
+
+fn lent_in(path: &Path) -> Option<Lent> {
+    match path.segs.as_slice() {
+        [Some(segment)] => Some(lent(segment.generics.as_ref()?)),
+        _ => None,
+    }
+}
+
+fn lent_in_text(alloc: Global, text: &str) -> Result<Option<Lent>, ReadError> {
+    let document = read_tree(alloc, Root::Path, text.as_bytes())?;
+    let lent = match &document.tree {
+        Tree::Path(path) => lent_in(path),
+        Tree::Fn(_) | Tree::Type_(_) => None,
+    };
+    drop(document);
+    Ok(lent)
+}
+
+#[test]
+fn arguments_and_bindings_are_lent(rt: HostRuntime) {
+    let args = [Some(NodeId(3)), Some(NodeId(7)), None];
+    let bindings = [Some(NodeId(8)), None];
+    assert_eq!(rt;
+        lent_in_text(rt.alloc(), ARGUMENTS),
+        Ok(Some((args, Some(NodeId(3)), bindings)))
+    );
+}
+
+/// The constant `S { a: b }`.
+const RECORD: &str = r#"{"owner": "const", "nodes": [
+    {"k": "Fn", "body": 1},
+    {"k": "RecordExpr", "path": 2, "list": 4},
+    {"k": "Path", "segs": [3]},
+    {"k": "PathSegment", "seg": "name", "name": "S"},
+    {"k": "RecordExprFieldList", "fields": [5]},
+    {"k": "RecordExprField", "name": "a", "expr": 6},
+    {"k": "PathExpr", "path": 7},
+    {"k": "Path", "segs": [8]},
+    {"k": "PathSegment", "seg": "name", "name": "b"}
+]}"#;
+
+fn first_value(store: &ExpressionStore, record: ExprId) -> Option<ExprId> {
+    match store.expr(record)? {
+        Expr::RecordLit { fields, .. } => Some(fields.as_slice().first()?.expr),
+        _ => None,
+    }
+}
+
+/// The node of the field that the first value of the body's record comes from.
+fn field_node(body: &Body, source_map: &BodySourceMap) -> Option<NodeId> {
+    let record = body.store.expr_roots().last()?.root;
+    let value = first_value(&body.store, record)?;
+    Some(source_map.store.field_syntax(value)?.value.node)
+}
+
+fn field_node_in(alloc: Global, document: &Document, item: &Fn) -> Option<NodeId> {
+    let lowered = lower_body(
+        alloc,
+        &document.env,
+        DefWithBodyId::ConstId(ConstId(0)),
+        AstPtr {
+            node: item.id,
+            range: item.range,
+        },
+        HirFileId(0),
+        ModuleId(0),
+        None,
+        item.body.as_ref(),
+        false,
+        false,
+    );
+    match lowered {
+        Ok((body, source_map)) => {
+            let node = field_node(&body, &source_map);
+            drop(body);
+            drop(source_map);
+            node
+        }
+        Err(_) => None,
+    }
+}
+
+fn field_node_in_text(alloc: Global, text: &str) -> Result<Option<NodeId>, ReadError> {
+    let document = read_tree(alloc, Root::Fn, text.as_bytes())?;
+    let node = match &document.tree {
+        Tree::Fn(item) => field_node_in(alloc, &document, item),
+        Tree::Path(_) | Tree::Type_(_) => None,
+    };
+    drop(document);
+    Ok(node)
+}
+
+#[test]
+fn a_value_comes_from_its_field(rt: HostRuntime) {
+    assert_eq!(rt; field_node_in_text(rt.alloc(), RECORD), Ok(Some(NodeId(5))));
+}
