@@ -28,15 +28,19 @@ use hir_store::ids::{ExprId, ModuleId, TypeRefId};
 use hir_store::path::Path;
 use hir_store::source_map::ExpressionStoreSourceMap;
 use hir_store::store::ExpressionStore;
-use hir_store::type_ref::TypeRef;
-use hir_syntax::ast;
+use hir_store::type_ref::{ConstRef, TypeRef};
+use hir_syntax::{Boxed, ast};
 use hir_syntax::node::{AstPtr, HirFileId, InFile};
 use std::alloc::Global;
 
-/// A lowered constant.
-#[derive(Clone, Copy, Debug, PartialEq, Eq)]
-pub struct ConstRef {
-    pub expr: ExprId,
+/// The expression in a box, where there is one.
+fn unboxed(expr: &Option<Boxed<ast::Expr>>) -> Option<&ast::Expr>
+    ensures { option_copied result ≡ expr.now }
+{
+    match expr {
+        None => None,
+        Some(expr) => Some(expr.get()),
+    }
 }
 
 /// The expression, missing where it is absent or a condition disables it.
@@ -202,8 +206,9 @@ impl<'db, E: LowerEnv> ExprCollector<'db, E> {
     /// In each later store its expression does what the constant does, for every answerer and every number of turns
     /// that a loop may take; what is stored stands for the tree, and faults, blocks and ways of the source map come
     /// behind those of before. `Memory` where a growth was refused, `Full` where an arena has no room for the tree or
-    /// a path in the tree has more `super`s than 32 bits count, `Failed` after an error, and then nothing changes. All that was stored is stored still, unless memory was
-    /// refused, and a node leads to where it led, or to what came since.
+    /// a path in the tree has more `super`s than 32 bits count, `Failed` after an error, and then nothing changes. All
+    /// that was stored is stored still, unless memory was refused, and a node leads to where it led, or to what came
+    /// since.
     pub fn lower_const_arg(&mut self, arg: &ast::ConstArg) -> Result<ConstRef, LowerError>
         ensures calls { Calls self.old.failed self.old.state result self.new.state self.new.failed }
         ensures rooted { let e = expr_part (spot_at (E.answers self.old.db.now) self.old.place) arg.now.expr in
@@ -224,7 +229,7 @@ impl<'db, E: LowerEnv> ExprCollector<'db, E> {
             self.db,
             self.place,
             &mut self.state,
-            arg.expr.as_ref(),
+            unboxed(&arg.expr),
         )?;
         self.failed = false;
         Ok(ConstRef { expr })
