@@ -51,6 +51,7 @@ argument_is at a = ap (λ x. is_some (argument_of x)) (arg_is_level at a) ∙ by
     by (GenericArg-F.TypeArg x) = refl
     by (GenericArg-F.AssocTypeArg b) = ap is_some (assoc_is_none at b)
     by (GenericArg-F.LifetimeArg x) = lifetime_is at.place x.lifetime
+    by (GenericArg-F.ConstArg x) = refl
 
 binding_is : (params : Bool) (n : Option AstName) (a : OptionArgs) (dots : Bool) (t : OptionType) (bs : Bounds)
     → is_some (binding_of (of.binding_of params n a dots t bs)) ≡ (not params && is_some n)
@@ -113,6 +114,7 @@ one_binding at a bs xs e = ap (λ x. map Some (bindings_in (put_binding (binding
     by (GenericArg-F.TypeArg x) = e
     by (GenericArg-F.AssocTypeArg b) = put_bound (bound at) b bs xs (binding_stands b) (assoc_is at b) e
     by (GenericArg-F.LifetimeArg x) = ap (λ y. map Some (bindings_in (put_binding y xs))) (lifetime_binds at.place x.lifetime) ∙ e
+    by (GenericArg-F.ConstArg x) = e
 
 all_bindings : (at : Spot) (as' : List AstGenericArg)
     → map Some (bindings_in (bindings_of (listed at as'))) ≡ map (bound at) (bindings_among as')

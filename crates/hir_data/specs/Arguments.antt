@@ -16,6 +16,7 @@ abbrev pub argument_stands : GenericArgLayer written → Bool
 argument_stands (GenericArg-F.TypeArg x) = true
 argument_stands (GenericArg-F.AssocTypeArg x) = false
 argument_stands (GenericArg-F.LifetimeArg x) = is_some x.lifetime
+argument_stands (GenericArg-F.ConstArg x) = true
 
 abbrev pub arguments_among : List AstGenericArg → List AstGenericArg
 arguments_among [] = []

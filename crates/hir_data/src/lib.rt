@@ -6,7 +6,7 @@ ghost use Rattle.hir_data.specs.Arguments.{ArgumentLaw};
 ghost use Rattle.hir_data.specs.Segments.{SegmentLaw};
 ghost use Rattle.hir_data.specs.Worked.{SuperAfterSelf, KeywordsInside, CrateHidesSupers, DollarCrateIsARoot, SupersInside};
 ghost use Rattle.hir_data.specs.Worked.{SelfAlone, UseTreesStandInFront, AbsentIsMissing};
-ghost use Rattle.hir_data.specs.Worked.{TraitInPlace, TypeInFront, OutputIsBound, BinderOfFunctions};
+ghost use Rattle.hir_data.specs.Worked.{TraitInPlace, TypeInFront, OutputIsBound, BinderOfFunctions, LengthsBySites};
 ghost use Rattle.hir_data.specs.Worked.{BoundsOfKinds, FirstOfLists, BindingsOfLists};
 
 /// The names of a path are those of its named segments, where no use tree stands around it and no segment is missing.
@@ -93,4 +93,10 @@ pub fn takes_the_first_list()
 /// A list has its bindings apart from its arguments; in `N<T>(..)` the dots don't count; a list of nothing is none.
 pub fn reads_bindings()
     ensures { BindingsOfLists }
+{}
+
+/// The length of an array is named by the node of its expression, through parentheses; one that becomes a missing
+/// expression without node by none.
+pub fn names_lengths_by_sites()
+    ensures { LengthsBySites }
 {}

@@ -14,7 +14,7 @@ use Rattle.hir_store.proofs.Range.{extends_refl, extends_root, extends_trans}
 use Rattle.hir_env.specs.Answered as tree
 use Rattle.hir_env.specs.Answered.{OptionExpr}
 use Rattle.hir_lower_form.specs.Builder.{Builder}
-use Rattle.hir_lower_form.specs.Lowering.{Checked, Lowering, Lowers, go_on, close_labels, record_root, report}
+use Rattle.hir_lower_form.specs.Lowering.{Checked, Lowering, Lowers, go_on, close_labels, enter_root, outside_root, record_root, report}
 use Rattle.hir_lower_form.specs.Lower.{lower_part}
 use Rattle.hir_steps.specs.Keeps.{KeepsAll, Keeps, Paired}
 use Rattle.hir_steps.proofs.Keeping.{keeping}
@@ -36,17 +36,21 @@ use Rattle.hir_lower.proofs.Ways.{Went, went}
 use Rattle.hir_lower.proofs.TreeWays.{part_leads}
 use Rattle.hir_lower.specs.Means.{Rooted, HasBody, body_fault, unless_skipped, missing_fault, owed_faults}
 
+-- inside of a root no label is open
 abbrev closed : Builder → Builder
-closed b = record b { scopes = [] }
+closed b = record b { scopes = []; in_root = true }
 
 abbrev rooted : Builder → ExprId → Builder
-rooted b i = record b { stored = record b.stored { roots = b.stored.roots ++ root_at b.stored.exprs.entries i ∷ [] } }
+rooted b i = record b {
+  stored = record b.stored { roots = b.stored.roots ++ root_at b.stored.exprs.entries i ∷ [] };
+  in_root = false;
+}
 
 abbrev recorded : ExprId → Lowering ExprId
 recorded i = λ t. (Ok i, rooted t i)
 
 root_steps : (e : OptionExpr) (b : Builder) → root_of e b ≡ go_on (lower_part e (closed b)).0 (lower_part e (closed b)).1 recorded
-unfolding root_of close_labels record_root storing.record_root
+unfolding root_of close_labels enter_root record_root outside_root storing.record_root
 root_steps e b = refl
 
 -- nothing is lost
@@ -143,7 +147,7 @@ root_rooted e b b' i d h =
       lifetimes = fits.lifetimes;
       type_sources = fits.type_sources;
       lifetime_sources = fits.lifetime_sources;
-      roots = ap (λ rs. rs ++ root_at p.inner.stored.exprs.entries i ∷ []) kept.roots;
+      roots = ap (λ rs. rs ++ root_at p.inner.stored.exprs.entries i ∷ []) (kept.roots refl);
       more = faults.more;
       faults = faults.is;
       permuted = faults.permuted;

@@ -26,7 +26,7 @@ use Rattle.hir_type_result.proofs.Named.{path_types_once}
 use Rattle.hir_lower.specs.Means.{BearsNames, PathRooted, ReadsBack, whole_path}
 use Rattle.hir_lower.specs.Stays.{Stays}
 use Rattle.hir_lower.proofs.Ways.{Went, went}
-use Rattle.hir_lower.proofs.TypeWays.{option_path_leads}
+use Rattle.hir_lower.proofs.TreeWays.{option_path_leads}
 
 extends_of : (b : Builder) (o : Checked (Option Path)) (c : Builder) → KeepsAside b o c → Extends b.stored c.stored
 extends_of b (Ok x) c h = h.0.stays

@@ -1,6 +1,8 @@
 -- The parts of a type, of a path and of a list of arguments are smaller than the whole, as they are answered.
 use Rattle.std.proofs.Common.{arith, ◌≡◌, refl, ap, ℕ, suc, ◌<◌, ◌≤◌, ◌+◌, Bool, true, false, Option, Some, None, List, [], ◌∷◌}
 use Rattle.std.specs.Prelude.{codes, bytes_eq, if◌then◌else◌, map, option_map}
+use Rattle.hir_syntax.specs.declared.ast.ConstArg.{ConstArg as AstConstArg, out-ConstArg}
+use Rattle.hir_syntax.specs.declared.ast.Expr.{Expr as AstExpr}
 use Rattle.hir_syntax.specs.declared.ast.Name.{Name as AstName}
 use Rattle.hir_syntax.specs.declared.ast.Path.{Path as AstPath}
 use Rattle.hir_syntax.specs.declared.ast.PathSegment.{PathSegment as AstSegment, out-PathSegment}
@@ -33,21 +35,24 @@ use Rattle.hir_env.specs.TypeLayers.{GenericArgLayer, TypeKindLayer, AssocTypeAr
 use Rattle.hir_env.specs.TypeLayers.{PathLayer, PathSegmentLayer, TypeBoundLayer}
 use Rattle.hir_env.specs.Count.{count_type, count_option_type, count_parts, count_path, count_option_path, count_segments, count_segment}
 use Rattle.hir_env.specs.Count.{count_segment_args, count_option_parens, count_option_ret, count_option_args, count_args, count_arg}
-use Rattle.hir_env.specs.Count.{count_bounds, count_bound}
+use Rattle.hir_env.specs.Count.{count_bounds, count_bound, count_constant}
 use Rattle.hir_env.specs.Whole.{answered_type, answered_path, answered_arg_list, type_part, path_part, arg_list_part, types_part}
 use Rattle.hir_env.specs.Whole.{type_args_part, params_part, answer_part, ret_part, parens_part, path_type_part, segment_part}
-use Rattle.hir_env.specs.Whole.{segments_part, first_part, rest_part, generic_args_part, bounds_part}
+use Rattle.hir_env.specs.Whole.{segments_part, first_part, rest_part, generic_args_part, bounds_part, answered_constant, constant_part}
+use Rattle.hir_env.proofs.Levels.{constant_is_level}
 use Rattle.hir_env.proofs.PathLevels.{param_is_level, ret_is_level, segment_is_level, path_type_is_level, paren_args_is_level}
 use Rattle.hir_env.proofs.PathLevels.{arg_is_level, type_arg_is_level, assoc_arg_is_level, bound_is_level}
 use Rattle.hir_lower_form.specs.Nests.{Claims, IfPresent, Each, KidsTypeArg, KidsRet, KidsParam, KidsTrait, KidsBound, KidsBounds, KidsImpl}
 use Rattle.hir_lower_form.specs.Nests.{Unless, KidsBinding, KidsAssoc, KidsType, KidsArg, KidsArgs, KidsParens, KidsSegmentArgs, KidsName}
-use Rattle.hir_lower_form.specs.Nests.{KidsQualified, KidsSegment, KidsSegments, KidsPath}
+use Rattle.hir_lower_form.specs.Nests.{KidsQualified, KidsSegment, KidsSegments, KidsPath, const_expr}
+use Rattle.hir_lower_form.specs.Methods.{constant_at}
 use Rattle.hir_lower.specs.Roots.{spot_at}
 
 -- what holds of each node smaller than n, at whatever place it is read
 pub record Below (env : Answers) (C : Claims) (n : ℕ) : Type 0 where
   pub types : (p : Place) (t : AstType_) → count_type (answered_type (spot_at env p) t) < n → C.type_ p t
   pub paths : (p : Place) (x : AstPath) → count_path (answered_path (spot_at env p) x) < n → C.path p x
+  pub constants : (p : Place) (e : Option AstExpr) → count_constant (constant_at (spot_at env p) e) < n → C.constant p e
   pub lists : (p : Place) (l : AstGenericArgList) → suc (count_args (answered_arg_list (spot_at env p) l)) < n → C.args p l
 
 module _ (env : Answers) (C : Claims) (n : ℕ) (below : Below env C n) where
@@ -62,6 +67,16 @@ module _ (env : Answers) (C : Claims) (n : ℕ) (below : Below env C n) where
   list : (p : Place) (o : Option AstGenericArgList) → count_option_args (arg_list_part (spot_at env p) o) < n → IfPresent (C.args p) o
   list p None h = tt
   list p (Some l) h = below.lists p l h
+
+  const_arg : (p : Place) (x : AstConstArg) → count_constant (answered_constant (spot_at env p) x) < n
+      → C.constant p (out-ConstArg x).expr
+  const_arg p x h =
+      let s = ap count_constant (constant_is_level (spot_at env p) x) in
+      below.constants p (out-ConstArg x).expr (omega (arith, h, s))
+
+  constant : (p : Place) (o : Option AstConstArg) → count_constant (constant_part (spot_at env p) o) < n → C.constant p (const_expr o)
+  constant p None h = below.constants p None h
+  constant p (Some x) h = const_arg p x h
 
   types : (p : Place) (ts : List AstType_) → count_parts (types_part (spot_at env p) ts) < n → Each (C.type_ p) ts
   types p [] h = tt
@@ -139,6 +154,7 @@ module _ (env : Answers) (C : Claims) (n : ℕ) (below : Below env C n) where
       → count_type (of.type_at env (reader env) k p at) ≤ n → KidsType C p k
   kids_type p at (TypeKind-F.ParenType t) h = type_ p t (omega (arith, h))
   kids_type p at (TypeKind-F.SliceType t) h = type_ p t (omega (arith, h))
+  kids_type p at (TypeKind-F.ArrayType t c) h = (constant p c (omega (arith, h)), type_ p t (omega (arith, h)))
   kids_type p at (TypeKind-F.TupleType ts) h = types p ts (omega (arith, h))
   kids_type p at (TypeKind-F.PathType x) h = path_below p x (omega (arith, h))
   kids_type p at (TypeKind-F.PtrType m t) h = type_ p t (omega (arith, h))
@@ -172,6 +188,7 @@ module _ (env : Answers) (C : Claims) (n : ℕ) (below : Below env C n) where
   arg p (GenericArg-F.AssocTypeArg x) h =
       let s = ap count_arg (assoc_arg_is_level (spot_at env p) x) in assoc p (out-AssocTypeArg x) (omega (arith, h, s))
   arg p (GenericArg-F.LifetimeArg x) h = tt
+  arg p (GenericArg-F.ConstArg x) h = const_arg p x h
 
   args : (p : Place) (as' : List AstGenericArg) → count_args (generic_args_part (spot_at env p) as') < n
       → Each (λ a. KidsArg C p (out-GenericArg a)) as'

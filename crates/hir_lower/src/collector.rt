@@ -72,8 +72,10 @@ fn root_steps<E: LowerEnv>(
         Lowers HasExpr (root_of (expr_part spot (option_copied expr.entry))) state.old result state.new }
 {
     state.close_labels(alloc);
+    let _ = state.enter_root();
     let root = collect_expr_opt(alloc, env, place, state, expr)?;
     state.record_root(root)?;
+    state.outside_root();
     Ok(root)
 }
 

@@ -4,13 +4,15 @@ ghost use Rattle.std.specs.Prelude.{◌≡◌, option_map};
 ghost use Rattle.hir_store.specs.Range.{HasLabelOption};
 ghost use Rattle.hir_env.specs.Answering.{inside as place_inside, numbered as number_at};
 ghost use Rattle.hir_env.specs.Answered.{some_arg_list, some_path};
+ghost use Rattle.hir_env.specs.Paths.{inside_constant as place_inside_constant};
 ghost use Rattle.hir_env.specs.Whole.{answered, answered_arg_list, answered_path, answered_plain, answered_type};
-ghost use Rattle.hir_lower_form.specs.Methods.{HasWalk, LowersArgs, LowersExpr, LowersInside, LowersPath, LowersType, MaybeLowersExpr, ReadsPath};
-ghost use Rattle.hir_lower.specs.Nests.{HandlesArgs, HandlesBlock, HandlesExpr, HandlesPath, HandlesType};
+ghost use Rattle.hir_lower_form.specs.Methods.{HasWalk, LowersArgs, LowersConstant, LowersExpr, LowersInside, LowersPath, LowersType};
+ghost use Rattle.hir_lower_form.specs.Methods.{MaybeLowersExpr, ReadsPath, constant_at};
+ghost use Rattle.hir_lower.specs.Nests.{HandlesArgs, HandlesBlock, HandlesConstant, HandlesExpr, HandlesPath, HandlesType};
 ghost use Rattle.hir_lower.specs.Roots.{spot_at};
 
 use hir_env::env::LowerEnv;
-use hir_env::place::{LoweringMode, Place};
+use hir_env::place::{ImplTrait, LoweringMode, Place};
 use hir_lower_expr::blocks::block_node;
 use hir_lower_expr::exprs::expr_node;
 use hir_lower_form::builder::BodyBuilder;
@@ -24,13 +26,14 @@ use hir_store::fault::StoreFault;
 use hir_store::ids::{BlockId, CfgId, CrateId, ExprId, HygieneId, LabelId, ModuleId, TypeRefId};
 use hir_store::name::Name;
 use hir_store::path::{GenericArgs, Path};
-use hir_syntax::{Seq, ast};
+use hir_store::type_ref::ConstRef;
+use hir_syntax::{Boxed, Seq, ast};
 use hir_syntax::node::{InFile, NodeId, PredId};
 use std::alloc::Global;
 
 /// The functions that lower the parts of a form, at one place.
-#[derive_where(Clone, Copy; F, B, Q, T, G)]
-pub struct Handlers<'e, E, F, B, Q, T, G> {
+#[derive_where(Clone, Copy; F, B, Q, T, G, K)]
+pub struct Handlers<'e, E, F, B, Q, T, G, K> {
     alloc: Global,
     env: &'e E,
     place: Place,
@@ -39,6 +42,7 @@ pub struct Handlers<'e, E, F, B, Q, T, G> {
     path: Q,
     type_ref: T,
     args: G,
+    constant: K,
 }
 
 impl<
@@ -57,13 +61,15 @@ impl<
     Q: Fn(Global, &E, Place, &mut BodyBuilder, PathWalk, &ast::Path) -> Result<Reading, StoreFault>,
     T: Fn(Global, &E, Place, &mut BodyBuilder, &Option<Seq<Name>>, &ast::Type_) -> Result<TypeRefId, StoreFault>,
     G: Fn(Global, &E, Place, &mut BodyBuilder, &ast::GenericArgList) -> Result<Option<GenericArgs>, StoreFault>,
-> LowerParts for Handlers<'e, E, F, B, Q, T, G> {
+    K: Fn(Global, &E, Place, &mut BodyBuilder, &Option<Boxed<ast::Expr>>) -> Result<ConstRef, StoreFault>,
+> LowerParts for Handlers<'e, E, F, B, Q, T, G, K> {
     ghost can = { λ it. record {
       expr = HandlesExpr E.answers (F.pre it.expr) (F.post it.expr) it.env.now it.place;
       block = HandlesBlock E.answers (B.pre it.block) (B.post it.block) it.env.now it.place;
       path = HandlesPath E.answers (Q.pre it.path) (Q.post it.path) it.env.now;
       type_ = HandlesType E.answers (T.pre it.type_ref) (T.post it.type_ref) it.env.now;
       args = HandlesArgs E.answers (G.pre it.args) (G.post it.args) it.env.now;
+      constant = HandlesConstant E.answers (K.pre it.constant) (K.post it.constant) it.env.now;
     } };
 
     ghost spot = { λ it. spot_at (E.answers it.env.now) it.place };
@@ -145,6 +151,15 @@ impl<
     ) -> Result<Option<GenericArgs>, StoreFault> {
         (self.args)(self.alloc, self.env, place, state, node)
     }
+
+    fn collect_constant(
+        &self,
+        state: &mut BodyBuilder,
+        place: Place,
+        expr: &Option<Boxed<ast::Expr>>,
+    ) -> Result<ConstRef, StoreFault> {
+        (self.constant)(self.alloc, self.env, place, state, expr)
+    }
 }
 
 /// The number and the module of a block, where numbers are asked for.
@@ -170,6 +185,17 @@ pub fn inside(place: Place, number: Option<(BlockId, ModuleId)>) -> Place
     match number {
         None => place,
         Some((_, module_id)) => Place { module_id, ..place },
+    }
+}
+
+/// Where the expression of a constant is read that is written at this place.
+pub fn inside_constant(place: Place) -> Place
+    ensures { result ≡ place_inside_constant place }
+{
+    Place {
+        impl_trait: ImplTrait::Error,
+        in_root: true,
+        ..place
     }
 }
 
@@ -204,6 +230,7 @@ pub fn maybe_collect_expr<E: LowerEnv>(
             path: read_path_segments::<E>,
             type_ref: lower_type_node::<E>,
             args: lower_arg_list::<E>,
+            constant: lower_constant::<E>,
         },
     };
     expr_node(&lowerer, state, node)
@@ -237,6 +264,7 @@ pub fn collect_block_inside<E: LowerEnv>(
             path: read_path_segments::<E>,
             type_ref: lower_type_node::<E>,
             args: lower_arg_list::<E>,
+            constant: lower_constant::<E>,
         },
     };
     block_node(&lowerer, state, is_unsafe, label, block, node)
@@ -266,6 +294,7 @@ pub fn read_path_segments<E: LowerEnv>(
             path: read_path_segments::<E>,
             type_ref: lower_type_node::<E>,
             args: lower_arg_list::<E>,
+            constant: lower_constant::<E>,
         },
     };
     path_node(&lowerer, state, walk, node)
@@ -294,6 +323,7 @@ pub fn lower_type_node<E: LowerEnv>(
             path: read_path_segments::<E>,
             type_ref: lower_type_node::<E>,
             args: lower_arg_list::<E>,
+            constant: lower_constant::<E>,
         },
     };
     type_node(&lowerer, state, binder, node)
@@ -322,9 +352,39 @@ pub fn lower_arg_list<E: LowerEnv>(
             path: read_path_segments::<E>,
             type_ref: lower_type_node::<E>,
             args: lower_arg_list::<E>,
+            constant: lower_constant::<E>,
         },
     };
     args_node(&lowerer, state, node)
+}
+
+/// The constant with this expression that is written at this place.
+#[cycle(lower)]
+pub fn lower_constant<E: LowerEnv>(
+    alloc: Global,
+    env: &E,
+    place: Place,
+    state: &mut BodyBuilder,
+    expr: &Option<Boxed<ast::Expr>>,
+) -> Result<ConstRef, StoreFault>
+    ensures { LowersConstant (constant_at (spot_at (E.answers env.now) place) expr.now) state.old result state.new }
+{
+    let inner = inside_constant(place);
+    let lowerer = Lowerer {
+        alloc,
+        parts: Handlers {
+            alloc,
+            env,
+            place: inner,
+            expr: maybe_collect_expr::<E>,
+            block: collect_block_inside::<E>,
+            path: read_path_segments::<E>,
+            type_ref: lower_type_node::<E>,
+            args: lower_arg_list::<E>,
+            constant: lower_constant::<E>,
+        },
+    };
+    lowerer.constant_form(state, expr)
 }
 
 /// The path, or none where it is refused.

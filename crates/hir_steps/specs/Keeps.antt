@@ -1,5 +1,5 @@
 -- What lowering leaves as it was.
-use Rattle.std.specs.Prelude.{◌≡◌, length, Option, Ok, Err}
+use Rattle.std.specs.Prelude.{◌≡◌, true, length, Option, Ok, Err}
 use Rattle.hir_store.specs.Arenas.{MapsBack}
 use Rattle.hir_store.specs.Stored.{Stored}
 use Rattle.hir_store.specs.Storing.{Checked, Extends}
@@ -21,7 +21,9 @@ pub record Mapped (s : Stored) : Type 0 where
 
 pub record KeepsAll (b b' : Builder) : Type 0 where
   pub scopes : b'.scopes ≡ b.scopes
-  pub roots : b'.stored.roots ≡ b.stored.roots
+  pub in_root : b'.in_root ≡ b.in_root
+  -- inside of a root none is recorded
+  pub roots : b.in_root ≡ true → b'.stored.roots ≡ b.stored.roots
   pub paired : Paired b.stored → Paired b'.stored
   pub mapped : Paired b.stored → Mapped b.stored → Mapped b'.stored
   pub stays : Extends b.stored b'.stored
