@@ -19,7 +19,7 @@ use Rattle.hir_steps.specs.Keeps.{KeepsAside, Paired}
 use Rattle.hir_steps.proofs.Aside.{paths_keep}
 use Rattle.hir_read_back.proofs.Now.{path_law}
 use Rattle.hir_one_result.specs.Laws.{Grown, GrownUnless}
-use Rattle.hir_one_result.specs.PathRoom.{whole_size}
+use Rattle.hir_one_result.specs.Room.{whole_size}
 use Rattle.hir_one_result.specs.Room.{Short}
 use Rattle.hir_one_result.proofs.Fits.{paths_fit}
 use Rattle.hir_type_result.proofs.Named.{path_types_once}

@@ -8,7 +8,7 @@ ghost use Rattle.hir_env.specs.Whole.{expr_part};
 ghost use Rattle.hir_lower_form.specs.Lowering.{Lowers, SomeEnd};
 ghost use Rattle.hir_lower_form.specs.Methods.{LowersExprOpt};
 ghost use Rattle.hir_steps.specs.Keeps.{Paired};
-ghost use Rattle.hir_one_result.specs.PathRoom.{whole_size};
+ghost use Rattle.hir_one_result.specs.Room.{whole_size};
 ghost use Rattle.hir_one_result.specs.Room.{Short, TooLarge};
 ghost use Rattle.hir_lower.specs.Calls.{Calls};
 ghost use Rattle.hir_lower.specs.Means.{AddsType, BearsNames, NoRoomForType, PathRooted, ReadsBack, Rooted, whole_path};
@@ -110,7 +110,7 @@ fn lower_whole_path<E: LowerEnv>(
         Paired state.old.stored → IfOk result (λ r. ReadsBack state.new.stored r p) }
     ensures segments { Paired state.old.stored → IfOk result (λ r. BearsNames state.new.stored path.now r) }
     ensures rooted { let p = whole_path (spot_at (E.answers env.now) place) path.now in
-        Paired state.old.stored → IfOk result (λ r. PathRooted state.old.stored state.new.stored r p) }
+        Paired state.old.stored → IfOk result (λ r. PathRooted state.old.in_root state.old.stored state.new.stored r p) }
     ensures full { IsErrOf result StoreFault.Full → SomeEnd state.new }
     ensures too_large { let p = whole_path (spot_at (E.answers env.now) place) path.now in
         IsErrOf result StoreFault.Full → Short (whole_size p) state.old.stored }
@@ -244,8 +244,8 @@ impl<'db, E: LowerEnv> ExprCollector<'db, E> {
     /// beside them, and begins where they say. Where no use tree stands around it and no segment is missing, nor any of its
     /// trait's, its names are those of the written segments that bear one. `Memory` where a growth was refused, `Full` where
     /// an arena has no room for its types and lifetimes or it has more `super`s than 32 bits count, `Failed` after an error.
-    /// All that was stored is stored still, unless memory was refused, and nothing comes behind it but as many types and
-    /// lifetimes as the path becomes.
+    /// All that was stored is stored still, unless memory was refused, and nothing comes behind it but the path's types, its
+    /// lifetimes and its constants, each of which is recorded as a root, also where the path is refused.
     pub fn lower_path<I: ImplTraitLower>(
         &mut self,
         path: &ast::Path,
@@ -256,7 +256,8 @@ impl<'db, E: LowerEnv> ExprCollector<'db, E> {
             IfOk result (λ r. ReadsBack self.new.state.stored r (whole_path at path.now)) }
         ensures segments { IfOk result (λ r. BearsNames self.new.state.stored path.now r) }
         ensures rooted { let at = spot_at (E.answers self.old.db.now) (becoming self.old.place (I.mode impl_trait.old)) in
-            IfOk result (λ r. PathRooted self.old.state.stored self.new.state.stored r (whole_path at path.now)) }
+            IfOk result (λ r. PathRooted self.old.state.in_root self.old.state.stored self.new.state.stored r
+                (whole_path at path.now)) }
         ensures full { IsErrOf result LowerError.Full → SomeEnd self.new.state }
         ensures too_large { let at = spot_at (E.answers self.old.db.now) (becoming self.old.place (I.mode impl_trait.old)) in
             IsErrOf result LowerError.Full → Short (whole_size (whole_path at path.now)) self.old.state.stored }

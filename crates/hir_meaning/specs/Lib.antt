@@ -7,6 +7,8 @@ pub mod Contents
 pub mod Syntax
 pub mod Store
 pub mod Jumps
+pub mod Inner
+pub mod InnerRows
 pub mod Same
 pub mod Small
 pub mod Rows

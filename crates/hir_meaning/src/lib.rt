@@ -11,6 +11,7 @@ ghost use Rattle.hir_meaning.specs.Forms.{MissesItsFront, LeavesOutTheSecond, El
 ghost use Rattle.hir_meaning.specs.Forms.{MakesAPair, MakesARecord, CallsTheMethod, YieldsUnit, YeetsItsValue};
 ghost use Rattle.hir_meaning.specs.Endings.{MissingEndsTheLoop, StraysWithItsValue, StrayIsNoValue, InnerLabelHides};
 ghost use Rattle.hir_meaning.specs.Endings.{ContinuesPastTheBlock, AnswersNoPastTheEnd, ValueEndsTheLoop, ForeignIsNotEnclosed};
+ghost use Rattle.hir_meaning.specs.InnerRows.{InnerBodiesInOrder};
 
 /// `'a: { loop { break 'a 1 } }` with one turn is the literal and its value.
 pub fn leaves_the_loop()
@@ -205,4 +206,10 @@ pub fn value_ends_the_loop()
 /// A jump for a label that is not around it is not enclosed.
 pub fn foreign_is_not_enclosed()
     ensures { ForeignIsNotEnclosed }
+{}
+
+/// The bodies inside `[[!; a]; b]` are a and b, inside `[!; a as [!; b]]` the cast and b; inside a refused path, and in
+/// arguments that go again, there are none.
+pub fn inner_bodies_in_order()
+    ensures { InnerBodiesInOrder }
 {}

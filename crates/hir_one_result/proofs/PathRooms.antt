@@ -48,11 +48,12 @@ use Rattle.hir_one_result.specs.Size.{Size, nothing, a_type, a_lifetime, a_super
 use Rattle.hir_one_result.specs.PathRoom as room
 use Rattle.hir_one_result.specs.PathRoom.{Seen, nothing_seen, Read, refused, ended, goes_on, after, at_first, anew, one_more, self_read}
 use Rattle.hir_one_result.specs.PathRoom.{found, projected, segment_read, segments_read, path_read, outer_read, whole_read, own_read}
-use Rattle.hir_one_result.specs.PathRoom.{any_arg, yields, before, lifetime_size, use_size, uses_size, type_size, type_part_size}
-use Rattle.hir_one_result.specs.PathRoom.{present_size}
-use Rattle.hir_one_result.specs.PathRoom.{parts_size, segment_size, segments_size, path_size, outer_size, whole_size, beside_size}
-use Rattle.hir_one_result.specs.PathRoom.{parens_size}
-use Rattle.hir_one_result.specs.PathRoom.{output_size, args_size, each_arg_size, arg_size, bounds_size, bound_size}
+use Rattle.hir_one_result.specs.PathRoom.{any_arg, yields, before, lifetime_size, use_size, uses_size}
+use Rattle.hir_one_result.specs.Room.{type_size, type_part_size}
+use Rattle.hir_one_result.specs.Room.{present_size}
+use Rattle.hir_one_result.specs.Room.{parts_size, segment_size, segments_size, path_size, outer_size, whole_size, beside_size}
+use Rattle.hir_one_result.specs.Room.{parens_size}
+use Rattle.hir_one_result.specs.Room.{output_size, args_size, each_arg_size, arg_size, bounds_size, bound_size}
 use Rattle.hir_one_result.proofs.Rooms.{Takes, Same, takes_then, takes_as, takes_end, takes_pure, takes_type, takes_lifetime}
 use Rattle.hir_one_result.proofs.Rooms.{nothing_first, moved_in}
 use Rattle.hir_one_result.proofs.Tellings.{Tells, tells_then, tells_as, tells_pure, tells_end, anything, tells_any, takes_of}

@@ -26,7 +26,8 @@ use Rattle.hir_env.specs.Answered.{Fields, Field, Spread}
 use Rattle.hir_lower_form.specs.Types.{TypeSteps}
 use Rattle.hir_lower_form.specs.Lower.{StoredFields, cast_form, offset_of_form, record_contents, record_of, record_form, field_form}
 use Rattle.hir_lower_form.specs.Lower.{lower_fields, lower_field, lower_spread}
-use Rattle.hir_one_result.specs.PathRoom.{Seen, whole_read, whole_size}
+use Rattle.hir_one_result.specs.PathRoom.{Seen, whole_read}
+use Rattle.hir_one_result.specs.Room.{whole_size}
 use Rattle.hir_one_result.specs.Room.{fields_size, field_size, spread_size}
 use Rattle.hir_one_result.specs.Room.{label_size, front_size, size, size_part, size_present, size_kept, size_each, block_size}
 use Rattle.hir_one_result.specs.Room.{block_part_size, stmts_size, stmt_size}

@@ -5,5 +5,4 @@ pub mod Owned
 pub mod Once
 pub mod Naming
 pub mod Named
-pub mod Refused
 pub mod Whole

@@ -1,5 +1,5 @@
 -- What is stored where one type was lowered is one result of its tree.
-use Rattle.std.proofs.Common.{arith, refl, ap, subst, ℕ, None, Ok, inl, inr}
+use Rattle.std.proofs.Common.{arith, refl, ap, subst, ℕ, None, Ok}
 use Rattle.hir_store.proofs.Maps.{maps_back_none}
 use Rattle.hir_store.proofs.Range.{extends_refl}
 use Rattle.hir_lower_form.specs.Builder.{fresh}
@@ -7,13 +7,11 @@ use Rattle.hir_read_back.proofs.Now.{type_law}
 use Rattle.hir_steps.specs.Keeps.{Paired, Mapped, KeepsAll, StaysAside, KeepsAside}
 use Rattle.hir_steps.proofs.Aside.{types_keep}
 use Rattle.hir_one_result.specs.Laws.{Grown, GrownUnless}
-use Rattle.hir_one_result.specs.PathRoom.{type_part_size}
-use Rattle.hir_one_result.specs.Room.{Short}
+use Rattle.hir_one_result.specs.Room.{type_part_size}
 use Rattle.hir_one_result.proofs.Fits.{types_fit}
 use Rattle.hir_one_result.proofs.Whole.{lead_back}
-use Rattle.hir_type_result.specs.TypeResult.{TypeResults, RefusedTypes, TypeTooLarge}
+use Rattle.hir_type_result.specs.TypeResult.{TypeResults, RefusedTypes}
 use Rattle.hir_type_result.proofs.Once.{reached_once}
-use Rattle.hir_type_result.proofs.Refused.{part_aside}
 
 nothing_paired : (limit : ℕ) → Paired (fresh limit).stored
 nothing_paired limit = record { exprs = refl; labels = refl; types = refl; lifetimes = refl }
@@ -57,12 +55,4 @@ type_results limit t i new is =
 
 pub refused_types : RefusedTypes
 refused_types limit t fault new is =
-    let old = fresh limit in
-    by (subst (λ r. GrownUnless (type_part_size t) old.stored r.0 r.1.stored) is (types_fit None t old))
-  where
-    by : Short (type_part_size t) (fresh limit).stored → TypeTooLarge limit t
-    by (inl exprs) = let none = (part_aside t).exprs in absurd (omega arith)
-    by (inr (inl labels)) = let none = (part_aside t).labels in absurd (omega arith)
-    by (inr (inr (inl types))) = inl (omega (arith, types))
-    by (inr (inr (inr (inl lifetimes)))) = inr (inl (omega (arith, lifetimes)))
-    by (inr (inr (inr (inr over)))) = inr (inr over)
+    let old = fresh limit in subst (λ r. GrownUnless (type_part_size t) old.stored r.0 r.1.stored) is (types_fit None t old)

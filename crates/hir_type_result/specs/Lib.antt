@@ -1,3 +1,4 @@
 pub mod Reached
 pub mod Named
+pub mod Roots
 pub mod TypeResult
