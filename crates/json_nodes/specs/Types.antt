@@ -8,7 +8,7 @@ use Rattle.json_kinds.specs.ByWord.{or_else}
 use Rattle.json_kinds.specs.declared.kind.Kind.{Kind}
 use Rattle.json_kinds.specs.declared.kind.Kind.TheVariants as kind
 use Rattle.json_nodes.specs.Fields.{flag_of, text_in}
-use Rattle.json_nodes.specs.Groups.{as_type, as_path, as_lifetime, as_param, as_ret, as_binder, as_bound}
+use Rattle.json_nodes.specs.Groups.{as_type, as_path, as_lifetime, as_const_arg, as_param, as_ret, as_binder, as_bound}
 use Rattle.json_nodes.specs.Parts.{Here, part_in, list_in, list_if_there}
 use Rattle.json_nodes.specs.declared.part.AnyPart.{AnyPart}
 use Rattle.json_nodes.specs.declared.part.AnyPart.TheVariants as part
@@ -19,20 +19,37 @@ over_types h kind.ParenType = Some (type_kinds.ParenType (part_in h as_type (cod
 over_types h kind.SliceType = Some (type_kinds.SliceType (part_in h as_type (codes "ty")))
 over_types h kind.TupleType = Some (type_kinds.TupleType (list_in h as_type (codes "fields")))
 over_types h kind.PtrType = Some (type_kinds.PtrType (flag_of (get (codes "mut") h.value)) (part_in h as_type (codes "ty")))
-over_types h kind.RefType = Some (type_kinds.RefType
-    (part_in h as_lifetime (codes "lifetime"))
-    (flag_of (get (codes "mut") h.value))
-    (part_in h as_type (codes "ty")))
 over_types h _ = None
 
--- function pointers, and what introduces lifetimes
-unfoldable pub with_parameters : Here → Kind → Option TypeKind
-with_parameters h kind.FnPtrType = Some (type_kinds.FnPtrType
+unfoldable pub reference : Here → TypeKind
+reference h = type_kinds.RefType
+    (part_in h as_lifetime (codes "lifetime"))
+    (flag_of (get (codes "mut") h.value))
+    (part_in h as_type (codes "ty"))
+
+unfoldable pub array : Here → TypeKind
+array h = type_kinds.ArrayType (part_in h as_type (codes "ty")) (part_in h as_const_arg (codes "len"))
+
+-- what has a lifetime or a length beside its type
+abbrev pub beside_types : Here → Kind → Option TypeKind
+beside_types h kind.RefType = Some (reference h)
+beside_types h kind.ArrayType = Some (array h)
+beside_types h _ = None
+
+unfoldable pub function_pointer : Here → TypeKind
+function_pointer h = type_kinds.FnPtrType
     (flag_of (get (codes "unsafe") h.value))
     (text_in (codes "abi") h.value)
     (list_if_there h as_param (codes "params"))
-    (part_in h as_ret (codes "ret")))
-with_parameters h kind.ForType = Some (type_kinds.ForType (part_in h as_binder (codes "binder")) (part_in h as_type (codes "ty")))
+    (part_in h as_ret (codes "ret"))
+
+unfoldable pub under_binder : Here → TypeKind
+under_binder h = type_kinds.ForType (part_in h as_binder (codes "binder")) (part_in h as_type (codes "ty"))
+
+-- function pointers, and what introduces lifetimes
+abbrev pub with_parameters : Here → Kind → Option TypeKind
+with_parameters h kind.FnPtrType = Some (function_pointer h)
+with_parameters h kind.ForType = Some (under_binder h)
 with_parameters h _ = None
 
 -- what has bounds, and what is a word
@@ -44,7 +61,7 @@ bounded h kind.InferType = Some type_kinds.InferType
 bounded h _ = None
 
 abbrev pub type_kind : Here → Kind → Option TypeKind
-type_kind h k = or_else (over_types h k) (or_else (with_parameters h k) (bounded h k))
+type_kind h k = or_else (over_types h k) (or_else (beside_types h k) (or_else (with_parameters h k) (bounded h k)))
 
 abbrev pub of_type_kind : Here → TypeKind → AnyPart
 of_type_kind h x = part.Type_ (record { id = h.id; range = h.range; kind = x })

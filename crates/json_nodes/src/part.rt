@@ -2,14 +2,14 @@
 
 ghost use Rattle.std.specs.Prelude.{◌≡◌, IfOk, Option};
 ghost use Rattle.json_nodes.specs.Groups.{as_expr, as_block, as_else, as_stmt, as_path, as_segment, as_label, as_lifetime, as_name};
-ghost use Rattle.json_nodes.specs.Groups.{as_type, as_path_type, as_generic_args, as_generic_arg, as_type_arg, as_paren_args};
+ghost use Rattle.json_nodes.specs.Groups.{as_type, as_path_type, as_generic_args, as_generic_arg, as_type_arg, as_const_arg, as_paren_args};
 ghost use Rattle.json_nodes.specs.Groups.{as_bound, as_use_arg, as_binder, as_ret, as_param, is_quoted};
 ghost use Rattle.json_nodes.specs.Groups.{as_record_list, as_record_field};
 
 use hir_syntax::ast::{
-    BlockExpr, ElseBranch, Expr, ExprKind, ForBinder, GenericArg, GenericArgList, Label, Lifetime,
-    Name, Param, ParenArgs, Path, PathSegment, PathType, RecordExprField, RecordExprFieldList,
-    RetType, Stmt, Type_, TypeArg, TypeBound, TypeKind, UseArg,
+    BlockExpr, ConstArg, ElseBranch, Expr, ExprKind, ForBinder, GenericArg, GenericArgList, Label,
+    Lifetime, Name, Param, ParenArgs, Path, PathSegment, PathType, RecordExprField,
+    RecordExprFieldList, RetType, Stmt, Type_, TypeArg, TypeBound, TypeKind, UseArg,
 };
 use hir_syntax::node::{NodeId, TextRange};
 use hir_syntax::{Boxed, Text};
@@ -30,6 +30,8 @@ pub enum AnyPart {
     GenericArgs(GenericArgList),
     /// A type as an argument, which may also stand in parentheses.
     TypeArg(TypeArg),
+    /// A constant as an argument, which may also be the length of an array.
+    ConstArg(ConstArg),
     GenericArg(GenericArg),
     ParenArgs(ParenArgs),
     Bound(TypeBound),
@@ -58,6 +60,7 @@ impl Drop for AnyPart {
             AnyPart::PathType(_) => {}
             AnyPart::GenericArgs(_) => {}
             AnyPart::TypeArg(_) => {}
+            AnyPart::ConstArg(_) => {}
             AnyPart::GenericArg(_) => {}
             AnyPart::ParenArgs(_) => {}
             AnyPart::Bound(_) => {}
@@ -220,12 +223,25 @@ impl AnyPart {
         }
     }
 
+    fn into_const_arg(self) -> Option<ConstArg>
+        ensures { result ≡ as_const_arg self }
+    {
+        match self {
+            AnyPart::ConstArg(const_arg) => Some(const_arg),
+            other => {
+                drop(other);
+                None
+            }
+        }
+    }
+
     fn into_generic_arg(self) -> Option<GenericArg>
         ensures { result ≡ as_generic_arg self }
     {
         match self {
             AnyPart::GenericArg(arg) => Some(arg),
             AnyPart::TypeArg(arg) => Some(GenericArg::TypeArg(arg)),
+            AnyPart::ConstArg(arg) => Some(GenericArg::ConstArg(arg)),
             other => {
                 drop(other);
                 None
@@ -463,6 +479,14 @@ impl Part for TypeArg {
 
     fn from_part(_alloc: Global, part: AnyPart) -> Result<Option<TypeArg>, AllocError> {
         Ok(part.into_type_arg())
+    }
+}
+
+impl Part for ConstArg {
+    ghost as_group = { as_const_arg };
+
+    fn from_part(_alloc: Global, part: AnyPart) -> Result<Option<ConstArg>, AllocError> {
+        Ok(part.into_const_arg())
     }
 }
 

@@ -42,18 +42,25 @@ fn segment<P: ReadParts>(node: &Node<'_, P>) -> Result<PathSegment, AllocError>
     requires { P.can node.now.parts.now }
     ensures { IfOk result (λ segment. segment ≡ spec.segment (here P.parts node.now)) }
 {
-    Ok(PathSegment {
+    let mut segment = PathSegment {
         id: node.id,
         range: node.range,
         seg: segment_kind(node.value),
-        name: node.part::<Name>("name")?,
-        generics: node.part::<GenericArgList>("generics")?,
-        parens: node.part::<ParenArgs>("parens")?,
-        ret: node.part::<RetType>("ret")?,
+        name: None,
+        generics: None,
+        parens: None,
+        ret: None,
         rtn: flag(node.value, "rtn"),
-        ty: node.boxed::<Type_>("ty")?,
-        trait_: node.part::<PathType>("trait")?,
-    })
+        ty: None,
+        trait_: None,
+    };
+    segment.name = node.part::<Name>("name")?;
+    segment.generics = node.part::<GenericArgList>("generics")?;
+    segment.parens = node.part::<ParenArgs>("parens")?;
+    segment.ret = node.part::<RetType>("ret")?;
+    segment.ty = node.boxed::<Type_>("ty")?;
+    segment.trait_ = node.part::<PathType>("trait")?;
+    Ok(segment)
 }
 
 /// A path.

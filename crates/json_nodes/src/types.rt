@@ -8,7 +8,7 @@ use crate::field::{flag, own_text};
 use crate::node::{Node, ReadParts};
 use crate::part::AnyPart;
 use hir_syntax::ast::{
-    ForBinder, Lifetime, Param, Path, PathType, RetType, Type_, TypeBound, TypeKind,
+    ConstArg, ForBinder, Lifetime, Param, Path, PathType, RetType, Type_, TypeBound, TypeKind,
 };
 use json_kinds::kind::Kind;
 use std::alloc::AllocError;
@@ -32,16 +32,72 @@ fn over_types<P: ReadParts>(node: &Node<'_, P>, kind: Kind) -> Result<Option<Typ
             mut_: flag(node.value, "mut"),
             ty: node.boxed::<Type_>("ty")?,
         })),
-        Kind::RefType => Ok(Some(TypeKind::RefType {
-            lifetime: node.part::<Lifetime>("lifetime")?,
-            mut_: flag(node.value, "mut"),
-            ty: node.boxed::<Type_>("ty")?,
-        })),
         _ => Ok(None),
     }
 }
 
-#[tactic(auto, unfolding(crate::specs::Types::with_parameters))]
+#[tactic(auto, unfolding(crate::specs::Types::reference))]
+fn reference<P: ReadParts>(node: &Node<'_, P>) -> Result<TypeKind, AllocError>
+    requires { P.can node.now.parts.now }
+    ensures { IfOk result (λ kind. kind ≡ spec.reference (here P.parts node.now)) }
+{
+    Ok(TypeKind::RefType {
+        lifetime: node.part::<Lifetime>("lifetime")?,
+        mut_: flag(node.value, "mut"),
+        ty: node.boxed::<Type_>("ty")?,
+    })
+}
+
+#[tactic(auto, unfolding(crate::specs::Types::array))]
+fn array<P: ReadParts>(node: &Node<'_, P>) -> Result<TypeKind, AllocError>
+    requires { P.can node.now.parts.now }
+    ensures { IfOk result (λ kind. kind ≡ spec.array (here P.parts node.now)) }
+{
+    Ok(TypeKind::ArrayType {
+        ty: node.boxed::<Type_>("ty")?,
+        len: node.part::<ConstArg>("len")?,
+    })
+}
+
+/// A type with a part of another group beside its type.
+fn beside_types<P: ReadParts>(
+    node: &Node<'_, P>,
+    kind: Kind,
+) -> Result<Option<TypeKind>, AllocError>
+    requires { P.can node.now.parts.now }
+    ensures { IfOk result (λ part. part ≡ spec.beside_types (here P.parts node.now) kind) }
+{
+    match kind {
+        Kind::RefType => Ok(Some(reference(node)?)),
+        Kind::ArrayType => Ok(Some(array(node)?)),
+        _ => Ok(None),
+    }
+}
+
+#[tactic(auto, unfolding(crate::specs::Types::function_pointer))]
+fn function_pointer<P: ReadParts>(node: &Node<'_, P>) -> Result<TypeKind, AllocError>
+    requires { P.can node.now.parts.now }
+    ensures { IfOk result (λ kind. kind ≡ spec.function_pointer (here P.parts node.now)) }
+{
+    Ok(TypeKind::FnPtrType {
+        unsafe_: flag(node.value, "unsafe"),
+        abi: own_text(node.alloc, node.value, "abi")?,
+        params: node.list_if_there::<Param>("params")?,
+        ret: node.part::<RetType>("ret")?,
+    })
+}
+
+#[tactic(auto, unfolding(crate::specs::Types::under_binder))]
+fn under_binder<P: ReadParts>(node: &Node<'_, P>) -> Result<TypeKind, AllocError>
+    requires { P.can node.now.parts.now }
+    ensures { IfOk result (λ kind. kind ≡ spec.under_binder (here P.parts node.now)) }
+{
+    Ok(TypeKind::ForType {
+        binder: node.part::<ForBinder>("binder")?,
+        ty: node.boxed::<Type_>("ty")?,
+    })
+}
+
 fn with_parameters<P: ReadParts>(
     node: &Node<'_, P>,
     kind: Kind,
@@ -50,16 +106,8 @@ fn with_parameters<P: ReadParts>(
     ensures { IfOk result (λ part. part ≡ spec.with_parameters (here P.parts node.now) kind) }
 {
     match kind {
-        Kind::FnPtrType => Ok(Some(TypeKind::FnPtrType {
-            unsafe_: flag(node.value, "unsafe"),
-            abi: own_text(node.alloc, node.value, "abi")?,
-            params: node.list_if_there::<Param>("params")?,
-            ret: node.part::<RetType>("ret")?,
-        })),
-        Kind::ForType => Ok(Some(TypeKind::ForType {
-            binder: node.part::<ForBinder>("binder")?,
-            ty: node.boxed::<Type_>("ty")?,
-        })),
+        Kind::FnPtrType => Ok(Some(function_pointer(node)?)),
+        Kind::ForType => Ok(Some(under_binder(node)?)),
         _ => Ok(None),
     }
 }
@@ -87,6 +135,9 @@ fn type_kind<P: ReadParts>(node: &Node<'_, P>, kind: Kind) -> Result<Option<Type
     ensures { IfOk result (λ part. part ≡ spec.type_kind (here P.parts node.now) kind) }
 {
     if let Some(kind) = over_types(node, kind)? {
+        return Ok(Some(kind));
+    }
+    if let Some(kind) = beside_types(node, kind)? {
         return Ok(Some(kind));
     }
     if let Some(kind) = with_parameters(node, kind)? {
