@@ -194,7 +194,6 @@ pub fn inside_constant(place: Place) -> Place
 {
     Place {
         impl_trait: ImplTrait::Error,
-        in_root: true,
         ..place
     }
 }
