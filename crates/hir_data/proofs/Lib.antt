@@ -1,3 +1,4 @@
 pub mod Segments
 mod Arguments
 mod Worked
+mod Trees

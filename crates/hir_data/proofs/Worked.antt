@@ -39,7 +39,7 @@ pub binds_output : OutputIsBound
 binds_output a b = (refl, refl, refl)
 
 pub hands_binders_on : BinderOfFunctions
-hands_binders_on at h b t = (refl, refl)
+hands_binders_on at within h b t = (refl, refl, refl)
 
 pub reads_bounds : BoundsOfKinds
 reads_bounds at n = (refl, refl, refl, refl)

@@ -4,5 +4,6 @@ pub mod Written
 pub mod Reading
 pub mod Lookup
 pub mod Worked
+pub mod Trees
 pub mod Segments
 pub mod Arguments

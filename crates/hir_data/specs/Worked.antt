@@ -17,7 +17,8 @@ use Rattle.hir_store.specs.declared.ids.CfgId.{CfgId}
 use Rattle.hir_store.specs.declared.ids.HygieneId.{HygieneId}
 use Rattle.hir_data.specs.Data as datum
 use Rattle.hir_data.specs.Data.{TypeData, NamesData, OptionArgsData, path_data}
-use Rattle.hir_data.specs.Written.{binding_of, bound_data, lifetime_data, list_data, segment_args_data, type_data, written_path}
+use Rattle.hir_data.specs.Written.{binding_of, bound_data, lifetime_data, list_data, segment_args_data, type_data, unit_data}
+use Rattle.hir_data.specs.Written.{written_path}
 
 abbrev pub behind : List Segment → Segments
 behind [] = tree.no_segments
@@ -150,14 +151,18 @@ OutputIsBound = (a b : Type_)
     × reads_fn (fn_behind a tree.no_ret) (type_data None a) (datum.typed None (datum.tuple_shape datum.no_types))
     × reads_fn (fn_behind a (tree.some_ret tree.no_type)) (type_data None a) (datum.typed None datum.error_shape)
 
--- `for<'a> (fn())` has the binder, and `for<'a> [T]` has none
+-- `for<'a> (fn())` has the binder, `for<'a> [T]` has none, and of `for<'a> fn(fn())` the outer pointer alone has it
 abbrev pub BinderOfFunctions : Type 0
-BinderOfFunctions = (at : Pointer) (h : FnHead) (b : Binder) (t : Type_)
+BinderOfFunctions = (at within : Pointer) (h : FnHead) (b : Binder) (t : Type_)
     → (type_data None (tree.for_type b (tree.some_type (tree.paren_type (tree.some_type (tree.fn_type at h tree.no_parts tree.no_type)))))
-    ≡ datum.typed (Some at) (datum.fn_shape h (Some b)
-    (datum.more_types (datum.typed None (datum.tuple_shape datum.no_types)) datum.no_types)))
+    ≡ datum.typed (Some at) (datum.fn_shape h (Some b) (datum.more_types unit_data datum.no_types)))
     × (type_data None (tree.for_type b (tree.some_type (tree.over_type at tree.slice_of (tree.some_type t))))
     ≡ datum.typed (Some at) (datum.slice_shape (type_data None t)))
+    × (type_data None (tree.for_type b (tree.some_type (tree.fn_type at h
+    (tree.more_parts (tree.some_type (tree.fn_type within h tree.no_parts tree.no_type)) tree.no_parts) tree.no_type)))
+    ≡ datum.typed (Some at) (datum.fn_shape h (Some b)
+    (datum.more_types (datum.typed (Some within) (datum.fn_shape h None (datum.more_types unit_data datum.no_types)))
+    (datum.more_types unit_data datum.no_types))))
 
 -- ---- bounds and lists
 

@@ -8,8 +8,10 @@ ghost use Rattle.hir_data.specs.Worked.{SuperAfterSelf, KeywordsInside, CrateHid
 ghost use Rattle.hir_data.specs.Worked.{SelfAlone, UseTreesStandInFront, AbsentIsMissing};
 ghost use Rattle.hir_data.specs.Worked.{TraitInPlace, TypeInFront, OutputIsBound, BinderOfFunctions, LengthsBySites};
 ghost use Rattle.hir_data.specs.Worked.{BoundsOfKinds, FirstOfLists, BindingsOfLists};
+ghost use Rattle.hir_data.specs.Trees.{ImplsInside, LifetimesOfTexts, AbisOfTexts, VarargsAtTheEnd};
 
-/// The names of a path are those of its named segments, where no use tree stands around it and no segment is missing.
+/// The names of a path are those of its named segments, where no use tree stands around it or its trait, no segment of
+/// either is missing, and the trait has no qualified type.
 pub fn segment_law()
     ensures { SegmentLaw }
 {}
@@ -74,7 +76,7 @@ pub fn binds_output()
     ensures { OutputIsBound }
 {}
 
-/// A `for` reaches a function pointer through parentheses, and no other type.
+/// A `for` reaches a function pointer through parentheses, no other type, and none inside of that pointer.
 pub fn hands_binders_on()
     ensures { BinderOfFunctions }
 {}
@@ -99,4 +101,24 @@ pub fn reads_bindings()
 /// expression without node by none.
 pub fn names_lengths_by_sites()
     ensures { LengthsBySites }
+{}
+
+/// As they are written, `impl A<impl B>` and `impl Fn(!) -> impl B` have an error inside, and `impl A<T = impl B>` has an `impl`.
+pub fn reads_impls()
+    ensures { ImplsInside }
+{}
+
+/// The empty text and `'` are errors, `'static` and `'_` are no names, and `'a` is one.
+pub fn reads_lifetimes()
+    ensures { LifetimesOfTexts }
+{}
+
+/// No `extern` is `Rust`, one without a text is `C`, and so is one whose text isn't known.
+pub fn reads_abis()
+    ensures { AbisOfTexts }
+{}
+
+/// `fn(!, ...)` has varargs, and `fn(..., !)` has none: a variadic parameter is no type, wherever it stands.
+pub fn reads_varargs()
+    ensures { VarargsAtTheEnd }
 {}

@@ -27,7 +27,7 @@ use Rattle.hir_one_result.specs.OneResult.{OneResult, fresh_owing}
 use Rattle.hir_one_result.proofs.TreeStands.{all_stand}
 use Rattle.hir_one_result.proofs.TreeFaults.{diagnostics_are}
 use Rattle.hir_one_result.proofs.TreeBlocks.{blocks_are}
-use Rattle.hir_one_result.proofs.TreeRooms.{all_fit}
+use Rattle.hir_one_result.proofs.Fits.{all_fit}
 use Rattle.hir_one_result.proofs.Whole.{one_results}
 use Rattle.hir_type_result.proofs.Named.{expr_types_once}
 use Rattle.hir_lower.specs.Roots.{RefusedAtEnd, StoresFromNothing, fresh, root_of, body_of, report_missing}

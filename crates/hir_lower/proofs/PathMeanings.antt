@@ -53,7 +53,7 @@ module _ (at : Spot) (x : AstPath) (b b' : Builder) where
   rooted_path_if (Ok y) l d =
       let kept : KeepsAside b (Ok y) b' = subst (λ q. KeepsAside b q.0 q.1) l.0 (paths_keep (whole_path at x) b d) in
       let grown : Grown (whole_size (whole_path at x)) b.stored b'.stored =
-          subst (λ q. GrownUnless (whole_size (whole_path at x)) b.stored q.0 q.1.stored) l.0 (paths_fit (whole_path at x) b) in
+      subst (λ q. GrownUnless (whole_size (whole_path at x)) b.stored q.0 q.1.stored) l.0 (paths_fit (whole_path at x) b) in
       record {
         reached_once = λ later ext depth le. path_types_once (whole_path at x) b b' y d l.0 later ext depth le;
         grown = grown;

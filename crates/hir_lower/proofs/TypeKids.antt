@@ -127,7 +127,7 @@ module _ (env : Answers) (C : Claims) (n : ℕ) (below : Below env C n) where
     where
       by : (k : Option BoundKind) → x.b ≡ k → (t : Option AstPathType) → x.ty ≡ t
           → count_bound (of.bound_of k (path_type_part (spot_at env p) t) x.maybe (of.binder_of x.binder)
-            (option_map (of.lifetime_of p) x.lifetime) (map (of.use_of p) x.uses)) < n
+          (option_map (of.lifetime_of p) x.lifetime) (map (of.use_of p) x.uses)) < n
           → KidsBound C p x
       by None e t f h = rw e tt
       by (Some bound_kind.Path) e None f h = rw (e, f) tt
@@ -166,7 +166,8 @@ module _ (env : Answers) (C : Claims) (n : ℕ) (below : Below env C n) where
   kids_type p at TypeKind-F.NeverType h = tt
   kids_type p at TypeKind-F.InferType h = tt
 
-  assoc : (p : Place) (a : AssocTypeArgLayer written) → count_arg (of.assoc_type_arg_step env (reader env) a p) < n → KidsAssoc C p a
+  assoc : (p : Place) (a : AssocTypeArgLayer written) → count_arg (of.assoc_type_arg_step env (reader env) a p) < n
+      → KidsAssoc C p a
   assoc p a h = by a.params a.name h
     where
       inner : Spot
@@ -216,27 +217,29 @@ module _ (env : Answers) (C : Claims) (n : ℕ) (below : Below env C n) where
 
   name : (p : Place) (o : Option AstName) (s : PathSegmentLayer written)
       → count_segment (of.named_segment env p o (tree.segment_args (arg_list_part (spot_at env p) s.generics)
-        (parens_part (spot_at env p) s.parens s.ret) s.rtn)) < n
+      (parens_part (spot_at env p) s.parens s.ret) s.rtn)) < n
       → KidsName C p o s
   name p None s h = tt
   name p (Some m) s h = by (bytes_eq m.t (codes "$crate")) h
     where
       by : (b : Bool) → count_segment (if b then tree.dollar_crate_segment (of.crate_root_at env p m.id) else
-            tree.name_segment (name_of.Text m.t) (tree.segment_args (arg_list_part (spot_at env p) s.generics)
-              (parens_part (spot_at env p) s.parens s.ret) s.rtn)) < n
+          tree.name_segment (name_of.Text m.t) (tree.segment_args (arg_list_part (spot_at env p) s.generics)
+          (parens_part (spot_at env p) s.parens s.ret) s.rtn)) < n
           → Unless b (KidsSegmentArgs C p s)
       by true h = tt
       by false h = (list p s.generics (omega (arith, h)), parens p s.parens s.ret (omega (arith, h)))
 
-  segment : (p : Place) (s : PathSegmentLayer written) → count_segment (of.segment_step env (reader env) s p) < n → KidsSegment C p s
+  segment : (p : Place) (s : PathSegmentLayer written) → count_segment (of.segment_step env (reader env) s p) < n
+      → KidsSegment C p s
   segment p s h = by s.seg refl h
     where
       by : (k : Option SegmentKind) → s.seg ≡ k
           → count_segment (of.kinded_segment env p k s.name (tree.segment_args (arg_list_part (spot_at env p) s.generics)
-            (parens_part (spot_at env p) s.parens s.ret) s.rtn) (type_part (spot_at env p) s.ty) (path_type_part (spot_at env p) s.trait_)) < n
+          (parens_part (spot_at env p) s.parens s.ret) s.rtn) (type_part (spot_at env p) s.ty)
+          (path_type_part (spot_at env p) s.trait_)) < n
           → KidsSegment C p s
       by None e h = rw e tt
-      by (Some kind.Name) e h = rw e (name p s.name s h)
+      by (Some kind.Name) e h = rw e (name p s.name (record s { seg = Some kind.Name }) h)
       by (Some kind.SelfKw) e h = rw e tt
       by (Some kind.CrateKw) e h = rw e tt
       by (Some kind.SuperKw) e h = rw e tt

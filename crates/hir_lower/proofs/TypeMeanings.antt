@@ -1,5 +1,7 @@
 -- What is stored as a type is one more.
-use Rattle.std.proofs.Common.{arith, ◌≡◌, ◌≢◌, ◌∙◌, refl, sym, ap, subst, ℕ, ◌≤◌, Bool, true, false, nat_lt, length, Option, Some, None, Ok, Err}
+use Rattle.std.proofs.Common.{arith, ◌≡◌, ◌≢◌, ◌∙◌, refl, sym, ap, subst, ℕ, ◌≤◌, Bool, true, false, nat_lt, length}
+use Rattle.std.proofs.Common.{Option, Some, None, Ok, Err}
+use Rattle.std.proofs.lemmas.Bool.Decides.{nat_tests}
 use Rattle.std.specs.Prelude.{IfOk, IsErrOf, Result}
 use Rattle.hir_store.specs.Pointers.{Pointer}
 use Rattle.hir_syntax.specs.declared.types.Type_.{Type_ as AstType_}
@@ -51,7 +53,7 @@ module _ (b b' : Builder) (ty : TypeRef) (at : Pointer) where
 
   refused : (t : Bool) → nat_lt (length b.stored.types.entries) b.stored.types.limit ≡ t → after t b ty at ≡ (Err Full, b') → Refused
   refused true is e = let no = ap (λ (q : Checked TypeRefId × Builder). q.0) e in cc
-  refused false is e = record { room = omega (arith, is); same = sym (ap (λ (q : Checked TypeRefId × Builder). q.1.stored) e) }
+  refused false is e = record { room = grind (arith, nat_tests); same = sym (ap (λ (q : Checked TypeRefId × Builder). q.1.stored) e) }
 
   refused_if : (r : Checked TypeRefId) → Alone r → IsErrOf r Full → Refused
   refused_if (Ok i) l is = cc

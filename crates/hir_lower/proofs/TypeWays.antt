@@ -20,7 +20,8 @@ use Rattle.hir_lower_form.specs.declared.walk.Reading.TheVariants.{Refused, Ende
 use Rattle.hir_lower_form.specs.Lowering.{Lowering, ◌>>=◌}
 use Rattle.hir_lower_form.specs.Paths.{proceed, whole, counted, read_trait, with_trait, parens_form, or_else, segment_args_form}
 use Rattle.hir_lower_form.specs.Types.{error_type, unit_type, lower_lifetime, lower_lifetime_option, lower_use, lower_uses, over_form}
-use Rattle.hir_lower_form.specs.Types.{TypeSteps, tuple_type_form, path_type_form, ref_type_form, fn_type_form, impl_type_form, dyn_type_form}
+use Rattle.hir_lower_form.specs.Types.{TypeSteps, tuple_type_form, path_type_form, ref_type_form, fn_type_form}
+use Rattle.hir_lower_form.specs.Types.{impl_type_form, dyn_type_form}
 use Rattle.hir_lower_form.specs.Types.{array_type_form, binding_form, path_bound_of, path_bound_form}
 use Rattle.hir_lower.proofs.Ways.{Leading, any, then', leading_pure, leading_count_out, leading_alloc_type, leading_alloc_lifetime}
 

@@ -261,7 +261,12 @@ leading_alloc e source = record { goes = λ b. by b (nat_lt (length b.stored.exp
         → Goes since b (made expr_id t e source b.stored.exprs).0
         (record b { stored = record b.stored { exprs = (made expr_id t e source b.stored.exprs).1 } })
     by b true = (
-      record (went_refl b.stored) { exprs = onward_entry expr_place expr_id (λ n. refl) b.stored.exprs e source },
+      record {
+        exprs = onward_entry expr_place expr_id (λ n. refl) b.stored.exprs e source;
+        labels = onward_refl label_place _;
+        types = onward_refl type_place _;
+        lifetimes = onward_refl lifetime_place _;
+      },
       omega arith,
     )
     by b false = went_refl b.stored
@@ -273,7 +278,15 @@ leading_alloc_type e source = record { goes = λ b. by b (nat_lt (length b.store
     by : (b : Builder) (t : Bool)
         → Goes any b (made type_id t e source b.stored.types).0
         (record b { stored = record b.stored { types = (made type_id t e source b.stored.types).1 } })
-    by b true = (record (went_refl b.stored) { types = onward_entry type_place type_id (λ n. refl) b.stored.types e source }, tt)
+    by b true = (
+      record {
+        exprs = onward_refl expr_place _;
+        labels = onward_refl label_place _;
+        types = onward_entry type_place type_id (λ n. refl) b.stored.types e source;
+        lifetimes = onward_refl lifetime_place _;
+      },
+      tt,
+    )
     by b false = went_refl b.stored
 
 pub leading_alloc_lifetime : (e : LifetimeRef) (source : Option Pointer) → Leading any (alloc_lifetime e source)
@@ -283,13 +296,25 @@ leading_alloc_lifetime e source = record { goes = λ b. by b (nat_lt (length b.s
     by : (b : Builder) (t : Bool)
         → Goes any b (made lifetime_id t e source b.stored.lifetimes).0
         (record b { stored = record b.stored { lifetimes = (made lifetime_id t e source b.stored.lifetimes).1 } })
-    by b true =
-        (record (went_refl b.stored) { lifetimes = onward_entry lifetime_place lifetime_id (λ n. refl) b.stored.lifetimes e source }, tt)
+    by b true = (
+      record {
+        exprs = onward_refl expr_place _;
+        labels = onward_refl label_place _;
+        types = onward_refl type_place _;
+        lifetimes = onward_entry lifetime_place lifetime_id (λ n. refl) b.stored.lifetimes e source;
+      },
+      tt,
+    )
     by b false = went_refl b.stored
 
 label_made : (l : HirLabel) (source : Option Pointer) (b : Builder) (t : Bool)
     → Went b.stored (record b.stored { labels = (made label_id t l source b.stored.labels).1 })
-label_made l source b true = record (went_refl b.stored) { labels = onward_entry label_place label_id (λ n. refl) b.stored.labels l source }
+label_made l source b true = record {
+  exprs = onward_refl expr_place _;
+  labels = onward_entry label_place label_id (λ n. refl) b.stored.labels l source;
+  types = onward_refl type_place _;
+  lifetimes = onward_refl lifetime_place _;
+}
 label_made l source b false = went_refl b.stored
 
 -- the label is stored, and then opened
@@ -314,11 +339,14 @@ leading_point at {p = p} h = record { goes = λ b. by b (p b).0 (p b).1 (h.goes 
     by : (b : Builder) (o : Checked ExprId) (c : Builder) → Goes since b o c
         → Goes since b (go_on o c (λ i. point at i >>= (λ _. pure i))).0 (go_on o c (λ i. point at i >>= (λ _. pure i))).1
     by b (Ok i) c x = (
-      record x.0 {
+      record {
         exprs = record {
           grown = x.0.exprs.grown;
           ways = on_trans expr_place _ _ _ _ x.0.exprs.ways (on_insert expr_place _ c.stored.exprs.map at i x.1);
         };
+        labels = x.0.labels;
+        types = x.0.types;
+        lifetimes = x.0.lifetimes;
       },
       x.1,
     )

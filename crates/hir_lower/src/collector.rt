@@ -120,7 +120,11 @@ fn lower_whole_path<E: LowerEnv>(
 }
 
 /// Stores a type from this node, and changes nothing else.
-fn add_type(state: &mut BodyBuilder, ty: TypeRef, source: InFile<AstPtr>) -> Result<TypeRefId, StoreFault>
+fn add_type(
+    state: &mut BodyBuilder,
+    ty: TypeRef,
+    source: InFile<AstPtr>,
+) -> Result<TypeRefId, StoreFault>
     requires { HasTypeParts state.old.stored ty }
     ensures adds { IfOk result (λ i. AddsType state.old.stored state.new.stored i ty source) }
     ensures full { IsErrOf result StoreFault.Full → SomeEnd state.new }
@@ -241,11 +245,12 @@ impl<'db, E: LowerEnv> ExprCollector<'db, E> {
     /// `impl` in it becomes is the caller's choice.
     ///
     /// It has the names of all segments that are read, those of use trees around it in front, with the arguments that stand
-    /// beside them, and begins where they say. Where no use tree stands around it and no segment is missing, nor any of its
-    /// trait's, its names are those of the written segments that bear one. `Memory` where a growth was refused, `Full` where
-    /// an arena has no room for its types and lifetimes or it has more `super`s than 32 bits count, `Failed` after an error.
-    /// All that was stored is stored still, unless memory was refused, and nothing comes behind it but the path's types, its
-    /// lifetimes and its constants, each of which is recorded as a root, also where the path is refused.
+    /// beside them, and begins where they say. Where no use tree stands around it or its trait, no segment of either is missing,
+    /// and the trait has no qualified type, its names are those of the written segments that bear one. `Memory` where a
+    /// growth was refused, `Full` where an arena has no room for its types and lifetimes or it has more `super`s than 32
+    /// bits count, `Failed` after an error. All that was stored is stored still, unless memory was refused, and nothing
+    /// comes behind it but the path's types, its lifetimes and its constants, each of which is recorded as a root, also
+    /// where the path is refused.
     pub fn lower_path<I: ImplTraitLower>(
         &mut self,
         path: &ast::Path,

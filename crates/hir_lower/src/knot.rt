@@ -19,16 +19,16 @@ use hir_lower_form::builder::BodyBuilder;
 use hir_lower_form::parts::{LowerParts, Lowerer};
 use hir_lower_form::walk::{PathWalk, Reading, path_read};
 use hir_lower_path::path::path_node;
+use hir_lower_scope::labels::{LabelScopes, NoTarget};
 use hir_lower_type::args::args_node;
 use hir_lower_type::types::type_node;
-use hir_lower_scope::labels::{LabelScopes, NoTarget};
 use hir_store::fault::StoreFault;
 use hir_store::ids::{BlockId, CfgId, CrateId, ExprId, HygieneId, LabelId, ModuleId, TypeRefId};
 use hir_store::name::Name;
 use hir_store::path::{GenericArgs, Path};
 use hir_store::type_ref::ConstRef;
-use hir_syntax::{Boxed, Seq, ast};
 use hir_syntax::node::{InFile, NodeId, PredId};
+use hir_syntax::{Boxed, Seq, ast};
 use std::alloc::Global;
 
 /// The functions that lower the parts of a form, at one place.
@@ -59,9 +59,28 @@ impl<
         &ast::BlockExpr,
     ) -> Result<ExprId, StoreFault>,
     Q: Fn(Global, &E, Place, &mut BodyBuilder, PathWalk, &ast::Path) -> Result<Reading, StoreFault>,
-    T: Fn(Global, &E, Place, &mut BodyBuilder, &Option<Seq<Name>>, &ast::Type_) -> Result<TypeRefId, StoreFault>,
-    G: Fn(Global, &E, Place, &mut BodyBuilder, &ast::GenericArgList) -> Result<Option<GenericArgs>, StoreFault>,
-    K: Fn(Global, &E, Place, &mut BodyBuilder, &Option<Boxed<ast::Expr>>) -> Result<ConstRef, StoreFault>,
+    T: Fn(
+        Global,
+        &E,
+        Place,
+        &mut BodyBuilder,
+        &Option<Seq<Name>>,
+        &ast::Type_,
+    ) -> Result<TypeRefId, StoreFault>,
+    G: Fn(
+        Global,
+        &E,
+        Place,
+        &mut BodyBuilder,
+        &ast::GenericArgList,
+    ) -> Result<Option<GenericArgs>, StoreFault>,
+    K: Fn(
+        Global,
+        &E,
+        Place,
+        &mut BodyBuilder,
+        &Option<Boxed<ast::Expr>>,
+    ) -> Result<ConstRef, StoreFault>,
 > LowerParts for Handlers<'e, E, F, B, Q, T, G, K> {
     ghost can = { λ it. record {
       expr = HandlesExpr E.answers (F.pre it.expr) (F.post it.expr) it.env.now it.place;
@@ -387,6 +406,7 @@ pub fn lower_constant<E: LowerEnv>(
 }
 
 /// The path, or none where it is refused.
+#[tactic(auto, using(hir_lower_form::proofs::Walked::path_read_has))]
 pub fn lower_path<E: LowerEnv>(
     alloc: Global,
     env: &E,

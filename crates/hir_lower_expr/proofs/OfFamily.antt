@@ -43,7 +43,7 @@ only_control k is no_if no_block no_loop no_continue no_break = by (out-ExprKind
 pub only_listing : (k : AstExprKind) → IsListing (out-ExprKind k)
     → ((f : Option AstExpr) (es : Option (List AstExpr)) → k ≡ kind.CallExpr f es → ⊥)
     → ((e : Option AstExpr) (n : Option AstName) (as' : Option AstGenericArgList) (es : Option (List AstExpr))
-        → k ≡ kind.MethodCallExpr e n as' es → ⊥)
+    → k ≡ kind.MethodCallExpr e n as' es → ⊥)
     → ((comma : Bool) (es : List AstExpr) → k ≡ kind.TupleExpr comma es → ⊥)
     → ((es : List AstExpr) → k ≡ kind.ArrayExpr es → ⊥) → ⊥
 only_listing k is no_call no_methodcall no_tuple no_array = by (out-ExprKind k) refl is

@@ -6,6 +6,7 @@ ghost use Rattle.hir_env.specs.Whole.{arg_list_part, args_part, expr_part};
 ghost use Rattle.hir_lower_form.specs.Nests.{Each, IfPresent};
 ghost use Rattle.hir_lower_form.specs.Methods.{LowersExpr};
 
+use crate::here::args_here;
 use hir_lower_form::builder::BodyBuilder;
 use hir_lower_form::names::name_of;
 use hir_lower_form::parts::{LowerParts, Lowerer};
@@ -56,7 +57,7 @@ pub(crate) fn method_call_form<P: LowerParts>(
 {
     let receiver = lowerer.collect_expr_opt(state, receiver)?;
     let args = lowerer.arguments(state, args)?;
-    let generic_args = lowerer.args_if_present(state, lowerer.parts.place(), generics)?;
+    let generic_args = args_here(lowerer, state, generics)?;
     let method_name = name_of(name)?;
     let expr = Expr::MethodCall {
         receiver,

@@ -163,7 +163,9 @@ pub(crate) fn typed_kind<P: LowerParts>(
         ast::ExprKind::PathExpr { path } => path_form(lowerer, state, at, path),
         ast::ExprKind::CastExpr { expr, ty } => cast_form(lowerer, state, at, expr, ty),
         ast::ExprKind::RecordExpr { path, list } => record_form(lowerer, state, at, path, list),
-        ast::ExprKind::OffsetOfExpr { ty, fields } => offset_of_form(lowerer, state, at, ty, fields),
+        ast::ExprKind::OffsetOfExpr { ty, fields } => offset_of_form(
+            lowerer, state, at, ty, fields,
+        ),
         _ => unreachable!(),
     }
 }

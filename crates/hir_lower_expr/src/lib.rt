@@ -7,6 +7,7 @@ mod calls;
 mod control;
 pub mod exprs;
 mod families;
+mod here;
 mod jumps;
 mod leaves;
 mod leaving;

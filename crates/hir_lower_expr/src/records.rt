@@ -3,15 +3,17 @@
 ghost use Rattle.std.specs.Prelude.{[]};
 ghost use Rattle.hir_syntax.specs.declared.ast.RecordExprField.{out-RecordExprField};
 ghost use Rattle.hir_syntax.specs.declared.ast.RecordExprFieldList.{out-RecordExprFieldList};
-ghost use Rattle.hir_store.specs.declared.name.Name.TheVariants as name;
+ghost use Rattle.hir_store.specs.declared.name.Name.TheVariants as names;
 ghost use Rattle.hir_store.specs.Range.{HasFields, HasSpread};
 ghost use Rattle.hir_env.specs.Answered as tree;
-ghost use Rattle.hir_env.specs.Whole.{answered_field, answered_record, expr_part, field_level, fields_part, path_part, record_level, record_part, spread_part};
+ghost use Rattle.hir_env.specs.Whole.{answered_field, answered_record, expr_part, field_level, fields_part, path_part, record_level};
+ghost use Rattle.hir_env.specs.Whole.{record_part, spread_part};
 ghost use Rattle.hir_lower_form.specs.Lowering.{Lowers};
 ghost use Rattle.hir_lower_form.specs.Lower as spec;
 ghost use Rattle.hir_lower_form.specs.Methods.{HasField, HasRecord, LowersExpr, record_at};
 ghost use Rattle.hir_lower_form.specs.Nests.{IfPresent, KidsField, KidsFields, KidsRecord};
 
+use crate::here::path_here;
 use hir_lower_form::builder::BodyBuilder;
 use hir_lower_form::parts::{LowerParts, Lowerer, site};
 use hir_store::diagnostics::ExpressionStoreDiagnostics;
@@ -33,7 +35,7 @@ fn named_field<P: LowerParts>(
     value: &Option<Boxed<ast::Expr>>,
 ) -> Result<Option<RecordLitField>, StoreFault>
     requires { IfPresent (P.can lowerer.now.parts).expr value.now }
-    ensures { let read = tree.named_field at (name.Text name.now.t) (expr_part (P.spot lowerer.now.parts) value.now) in
+    ensures { let read = tree.named_field at (names.Text name.now.t) (expr_part (P.spot lowerer.now.parts) value.now) in
         Lowers HasField (spec.lower_field read) state.old result state.new }
 {
     let expr = lowerer.collect_expr_opt(state, value)?;
@@ -166,11 +168,12 @@ pub(crate) fn record_form<P: LowerParts>(
     list: &Option<ast::RecordExprFieldList>,
 ) -> Result<ExprId, StoreFault>
     requires path { IfPresent ((P.can lowerer.now.parts).path (P.spot lowerer.now.parts).place) path.now }
-    requires list { IfPresent (λ r. KidsRecord (P.can lowerer.now.parts) (P.spot lowerer.now.parts).place (out-RecordExprFieldList r)) list.now }
-    ensures { let read = record_part (P.spot lowerer.now.parts) list.now in
-        LowersExpr (tree.record_expr at (path_part (P.spot lowerer.now.parts) path.now) read.fields read.spread) state.old result state.new }
+    requires list { let place = (P.spot lowerer.now.parts).place in
+        IfPresent (λ r. KidsRecord (P.can lowerer.now.parts) place (out-RecordExprFieldList r)) list.now }
+    ensures { let spot = P.spot lowerer.now.parts in let read = record_part spot list.now in
+        LowersExpr (tree.record_expr at (path_part spot path.now) read.fields read.spread) state.old result state.new }
 {
-    let Some(path) = lowerer.path_if_present(state, lowerer.parts.place(), path)? else {
+    let Some(path) = path_here(lowerer, state, path)? else {
         return state.missing_expr();
     };
     let (fields, spread) = contents(lowerer, state, list)?;

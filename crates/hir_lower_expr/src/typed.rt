@@ -1,20 +1,23 @@
 //! Expressions with a path or a type.
 
+ghost use Rattle.std.specs.Prelude.{◌≡◌, IfOk};
 ghost use Rattle.hir_env.specs.Answered as tree;
-ghost use Rattle.hir_env.specs.Answering.{site_of};
-ghost use Rattle.hir_env.specs.Answering.{names_of};
+ghost use Rattle.hir_env.specs.Answering.{names_of, site_of};
 ghost use Rattle.hir_env.specs.Whole.{expr_part, path_part, type_part};
 ghost use Rattle.hir_lower_form.specs.Nests.{IfPresent};
 ghost use Rattle.hir_lower_form.specs.Methods.{LowersExpr};
 
+use crate::here::{path_here, type_here};
 use hir_lower_form::builder::BodyBuilder;
 use hir_lower_form::names::{names_of, path_expr};
 use hir_lower_form::parts::{LowerParts, Lowerer, site};
 use hir_store::fault::StoreFault;
 use hir_store::hir::Expr;
 use hir_store::ids::ExprId;
+use hir_store::name::Name;
 use hir_syntax::node::{AstPtr, InFile};
 use hir_syntax::{Boxed, Seq, ast};
+use std::alloc::{AllocError, Global};
 
 /// A path that is absent or refused is missing.
 #[tactic(auto, unfolding(hir_lower_form::specs::Lower::path_form))]
@@ -29,7 +32,7 @@ pub(crate) fn path_form<P: LowerParts>(
         LowersExpr (tree.path_expr at (path_part spot path.now) (spot.answers.hygiene (site_of at))) state.old result state.new }
 {
     let hygiene = lowerer.parts.hygiene(site(at));
-    let path = lowerer.path_if_present(state, lowerer.parts.place(), path)?;
+    let path = path_here(lowerer, state, path)?;
     state.alloc_expr(path_expr(path, hygiene), Some(at))
 }
 
@@ -47,8 +50,15 @@ pub(crate) fn cast_form<P: LowerParts>(
         LowersExpr (tree.cast_expr at (expr_part spot operand.now) (type_part spot ty.now)) state.old result state.new }
 {
     let expr = lowerer.collect_expr_opt(state, operand)?;
-    let type_ref = lowerer.type_or_error(state, lowerer.parts.place(), &None, ty)?;
+    let type_ref = type_here(lowerer, state, ty)?;
     state.alloc_expr(Expr::Cast { expr, type_ref }, Some(at))
+}
+
+/// The names that lead to the field.
+fn field_names(alloc: Global, names: &Seq<ast::Name>) -> Result<Seq<Name>, AllocError>
+    ensures { IfOk result (λ ns. ns ≡ names_of names.now) }
+{
+    names_of(alloc, names.as_slice())
 }
 
 #[tactic(auto, unfolding(hir_lower_form::specs::Lower::offset_of_form))]
@@ -60,9 +70,10 @@ pub(crate) fn offset_of_form<P: LowerParts>(
     names: &Seq<ast::Name>,
 ) -> Result<ExprId, StoreFault>
     requires { IfPresent ((P.can lowerer.now.parts).type_ (P.spot lowerer.now.parts).place) ty.now }
-    ensures { LowersExpr (tree.offset_of_expr at (type_part (P.spot lowerer.now.parts) ty.now) (names_of names.now)) state.old result state.new }
+    ensures { let container = type_part (P.spot lowerer.now.parts) ty.now in
+        LowersExpr (tree.offset_of_expr at container (names_of names.now)) state.old result state.new }
 {
-    let container = lowerer.type_or_error(state, lowerer.parts.place(), &None, ty)?;
-    let fields = names_of(lowerer.alloc, names.as_slice())?;
+    let container = type_here(lowerer, state, ty)?;
+    let fields = field_names(lowerer.alloc, names)?;
     state.alloc_expr(Expr::OffsetOf { container, fields }, Some(at))
 }

@@ -10,7 +10,7 @@ use Rattle.hir_meaning.specs.Syntax.{run_expr}
 use Rattle.hir_meaning.specs.Store.{run_store, run_to}
 use Rattle.hir_meaning.specs.Forms.{OperatesInOrder, DecidesByLeft, DecidesByRight, ReturnsFromInside, EmptyTupleIsSilent}
 use Rattle.hir_meaning.specs.Forms.{MissesItsFront, LeavesOutTheSecond, ElementIsNothing, EntersTheUnsafe}
-use Rattle.hir_meaning.specs.Forms.{MakesAPair, MakesARecord, CallsTheMethod, YieldsUnit, YeetsItsValue}
+use Rattle.hir_meaning.specs.Forms.{MakesAPair, MakesARecord, MakesOfDefaults, CallsTheMethod, YieldsUnit, YeetsItsValue}
 
 pub operates_in_order : OperatesInOrder
 unfolding ends event ◌>>=◌ loop block run_store run_to stored_path
@@ -70,6 +70,10 @@ calls_the_method = record { written = record { events = refl; ends = refl }; sto
 pub makes_a_record : MakesARecord
 unfolding ends event ◌>>=◌ loop block run_store run_to stored_path
 makes_a_record = record { written = record { events = refl; ends = refl }; stored = record { events = refl; ends = refl } }
+
+pub makes_of_defaults : MakesOfDefaults
+unfolding ends event ◌>>=◌ loop block run_store run_to stored_path
+makes_of_defaults = record { written = record { events = refl; ends = refl }; stored = record { events = refl; ends = refl } }
 
 pub yields_unit : YieldsUnit
 unfolding ends event ◌>>=◌ loop block run_store run_to stored_path

@@ -18,7 +18,7 @@ use Rattle.hir_env.specs.Answered.{Expr, OptionExpr, Exprs}
 use Rattle.hir_scope.specs.Scopes.{Scope}
 use Rattle.hir_meaning.specs.Run.{unit, answered, truth, Event, Answer, test, is_true, enter, operator, tuple, missing, returned}
 use Rattle.hir_data.specs.Data.{no_args}
-use Rattle.hir_meaning.specs.Run.{method_call, made_record, rest_of, yielding, yeeted}
+use Rattle.hir_meaning.specs.Run.{method_call, made_record, field_defaults, rest_of, yielding, yeeted}
 use Rattle.hir_meaning.specs.Syntax.{run_each}
 use Rattle.hir_meaning.specs.Same.{ended, left}
 use Rattle.hir_meaning.specs.Small.{at, root, one, literal_at, name_at, in_braces, loop_of}
@@ -207,6 +207,24 @@ MakesARecord = BothDo record_made 0 (no 11 ∷ no 12 ∷ no 13 ∷ [])
     (reads_a ∷ reads_b
     ∷ event_of (made_record (bare_data (name.Text (99 ∷ []))) (name_m ∷ []) rest_of) (answered 11 ∷ answered 12 ∷ []) 0 ∷ [])
     (ended (answered 13))
+
+-- `c { m: a, .. }`
+
+abbrev pub record_of_defaults : Example
+record_of_defaults = record {
+  written = tree.some_expr (tree.record_expr (at 0) (path_of 99)
+      (tree.more_fields (tree.named_field (at 3) name_m (tree.some_expr name_a)) tree.no_fields) tree.field_defaults);
+  nodes = (stored_a, Some 1)
+      ∷ (hir.RecordLit (stored_name 99) (record { name = name_m; expr = id 0 } ∷ []) spread.FieldDefaults, Some 0)
+      ∷ [];
+  root = 1;
+}
+
+-- The field is read, and the record is made of its value, told that the others have their defaults.
+abbrev pub MakesOfDefaults : Type 0
+MakesOfDefaults = BothDo record_of_defaults 0 (no 11 ∷ no 12 ∷ [])
+    (reads_a ∷ event_of (made_record (bare_data (name.Text (99 ∷ []))) (name_m ∷ []) field_defaults) (answered 11 ∷ []) 0 ∷ [])
+    (ended (answered 12))
 
 -- `yield` and `do yeet 1`
 

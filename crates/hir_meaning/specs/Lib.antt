@@ -15,4 +15,5 @@ pub mod Rows
 pub mod Turns
 pub mod Worked
 pub mod Forms
+pub mod Typed
 pub mod Endings

@@ -8,7 +8,8 @@ ghost use Rattle.hir_meaning.specs.Rows.{MissingIsNoLiteral, ParenthesesAreSilen
 ghost use Rattle.hir_meaning.specs.Turns.{EndsTheTurn, ContinuesTheOuter, BreaksTheOuter, HygienesDiffer, UndeclaredIsPlain, HasFreshTurns};
 ghost use Rattle.hir_meaning.specs.Forms.{OperatesInOrder, DecidesByLeft, DecidesByRight, ReturnsFromInside, EmptyTupleIsSilent};
 ghost use Rattle.hir_meaning.specs.Forms.{MissesItsFront, LeavesOutTheSecond, ElementIsNothing, EntersTheUnsafe};
-ghost use Rattle.hir_meaning.specs.Forms.{MakesAPair, MakesARecord, CallsTheMethod, YieldsUnit, YeetsItsValue};
+ghost use Rattle.hir_meaning.specs.Forms.{MakesAPair, MakesARecord, MakesOfDefaults, CallsTheMethod, YieldsUnit, YeetsItsValue};
+ghost use Rattle.hir_meaning.specs.Typed.{CastsToItsType, NamesAnOffset, CallsWithArguments};
 ghost use Rattle.hir_meaning.specs.Endings.{MissingEndsTheLoop, StraysWithItsValue, StrayIsNoValue, InnerLabelHides};
 ghost use Rattle.hir_meaning.specs.Endings.{ContinuesPastTheBlock, AnswersNoPastTheEnd, ValueEndsTheLoop, ForeignIsNotEnclosed};
 ghost use Rattle.hir_meaning.specs.InnerRows.{InnerBodiesInOrder};
@@ -131,6 +132,26 @@ pub fn calls_the_method()
 /// `c { m: a, m: a, ..b }` with a disabled second field is one record of the values of a and b.
 pub fn makes_a_record()
     ensures { MakesARecord }
+{}
+
+/// `c { m: a, .. }` is one record of the value of a, whose other fields have their defaults.
+pub fn makes_of_defaults()
+    ensures { MakesOfDefaults }
+{}
+
+/// `a as !` reads a and casts its value to the type.
+pub fn casts_to_its_type()
+    ensures { CastsToItsType }
+{}
+
+/// `offset_of!(!, m.n)` is one event with the type, and the names in their order.
+pub fn names_an_offset()
+    ensures { NamesAnOffset }
+{}
+
+/// `a.m::<!>()` calls the method with the type as an argument.
+pub fn calls_with_arguments()
+    ensures { CallsWithArguments }
 {}
 
 /// `yield` yields unit, and its value is the answer.

@@ -173,7 +173,7 @@ abbrev mutual
   fields_diagnostics ss tree.no_fields = []
   fields_diagnostics ss (tree.more_fields f fs) = field_diagnostics ss f ++ fields_diagnostics ss fs
 
-  -- a field without a name isn't asked about
+  -- a field without a name isn't read, where no condition disables it
   pub field_diagnostics : List Scope → Field → Faults
   field_diagnostics ss (tree.disabled_field at by f) = InactiveCode at by ∷ []
   field_diagnostics ss tree.nameless_field = []

@@ -69,7 +69,14 @@ pub grows_refl : (m : Mark) → Grows m m
 grows_refl m = record { nodes = omega arith; labels = omega arith; types = omega arith; lifetimes = omega arith }
 
 pub kept_still : (b : Builder) → KeepsAll b b
-kept_still b = record { scopes = refl; in_root = refl; roots = λ t. refl; paired = λ d. d; mapped = λ d w. w; stays = extends_refl b.stored }
+kept_still b = record {
+  scopes = refl;
+  in_root = refl;
+  roots = λ t. refl;
+  paired = λ d. d;
+  mapped = λ d w. w;
+  stays = extends_refl b.stored;
+}
 
 pub kept_trans : {a b c : Builder} → KeepsAll a b → KeepsAll b c → KeepsAll a c
 kept_trans g h = record {

@@ -34,52 +34,52 @@ pub record Adds {A : Type 0} (was : Numbers) (now : A → Numbers) (final : Stor
 pub adds_pure : {A : Type 0} {was : Numbers} {now : A → Numbers} (a : A)
     → ((f : TypeRefId → List ℕ) → now a f ⊑ was f) → Correct (pure a) (Adds was now)
 adds_pure a h = correct_as (correct_pure a) (λ final ps m m' b g row. rw (row.is, row.still) (record {
-    earlier = λ d le. record { depth = d; deep = le; counted = λ k. let e = h (reached final d) k in omega arith };
-  }))
+  earlier = λ d le. record { depth = d; deep = le; counted = λ k. let e = h (reached final d) k in omega arith };
+}))
 
 pub adds_then : {A B : Type 0} {was : Numbers} {one : A → Numbers} {now : B → Numbers} {p : Lowering A} {q : A → Lowering B}
     → Correct p (Adds was one) → ((a : A) → Correct (q a) (Adds (one a) now)) → Correct (p >>= q) (Adds was now)
 adds_then h k = correct_as (correct_bind h k) (λ final ps m m' b g row. record {
-    earlier = λ d le.
-        let y = row.second.earlier d le in
-        let x = row.first.earlier y.depth y.deep in record {
-          depth = x.depth;
-          deep = x.deep;
-          counted = λ n. let a = x.counted n in let b = y.counted n in omega arith;
-        };
-  })
+  earlier = λ d le.
+      let y = row.second.earlier d le in
+      let x = row.first.earlier y.depth y.deep in record {
+        depth = x.depth;
+        deep = x.deep;
+        counted = λ n. let a = x.counted n in let b = y.counted n in omega arith;
+      };
+})
 
 -- beside what was named
 pub adds_beside : {A : Type 0} {now : A → Numbers} {p : Lowering A} (more : Numbers) → Correct p (Adds none now)
     → Correct p (Adds more (λ a f. more f ++ now a f))
 adds_beside {now = now} more h = correct_as h (λ final ps m m' a g row. record {
-    earlier = λ d le.
-        let f = reached final d in
-        let x = row.earlier d le in record {
-          depth = d;
-          deep = omega (arith, g.types);
-          counted = λ k. let e = x.counted k in let s = times_append k (more f) (now a f) in omega arith;
-        };
-  })
+  earlier = λ d le.
+      let f = reached final d in
+      let x = row.earlier d le in record {
+        depth = d;
+        deep = omega (arith, g.types);
+        counted = λ k. let e = x.counted k in let s = times_append k (more f) (now a f) in omega arith;
+      };
+})
 
 -- of more
 pub adds_from : {A : Type 0} {was was' : Numbers} {now : A → Numbers} {p : Lowering A}
     → ((f : TypeRefId → List ℕ) → was f ⊑ was' f) → Correct p (Adds was now) → Correct p (Adds was' now)
 adds_from h c = correct_as c (λ final ps m m' a g row. record {
-    earlier = λ d le. let x = row.earlier d le in record {
-      depth = x.depth;
-      deep = x.deep;
-      counted = λ k. let e = x.counted k in let l = h (reached final x.depth) k in omega arith;
-    };
-  })
+  earlier = λ d le. let x = row.earlier d le in record {
+    depth = x.depth;
+    deep = x.deep;
+    counted = λ k. let e = x.counted k in let l = h (reached final x.depth) k in omega arith;
+  };
+})
 
 -- a type names itself and what it holds
 pub adds_type : {was : Numbers} (t : TypeRef) (source : Option Pointer) → ((f : TypeRefId → List ℕ) → below f t ⊑ was f)
     → Correct (alloc_type t source) (Adds was (λ i f. f i))
 unfolding types_reached
 adds_type {was = was} t source h = correct_as (correct_alloc_type t source) (λ final ps m m' i g row. record {
-    earlier = λ d le. at_depth final m m' i d le row.number row.here row.next;
-  })
+  earlier = λ d le. at_depth final m m' i d le row.number row.here row.next;
+})
   where
     at_depth : (final : Stored) (m m' : Mark) (i : TypeRefId) (d : ℕ) → m'.types ≤ d → i.0 ≡ m.types
         → slice_get final.types.entries m.types ≡ Some t → m'.types ≡ suc m.types → Earlier was final m m' (reached final d i)
@@ -96,18 +96,19 @@ adds_type {was = was} t source h = correct_as (correct_alloc_type t source) (λ 
 -- one that nothing names yet
 pub adds_unnamed : {was : Numbers} (t : TypeRef) (source : Option Pointer) → Correct (alloc_type t source) (Adds was (λ i f. was f))
 adds_unnamed t source = correct_as (correct_alloc_type t source) (λ final ps m m' i g row. record {
-    earlier = λ d le. record {
-      depth = d;
-      deep = omega (arith, g.types);
-      counted = λ k. let l = less_grows k m.types m'.types g.types in omega arith;
-    };
-  })
+  earlier = λ d le. record {
+    depth = d;
+    deep = omega (arith, g.types);
+    counted = λ k. let l = less_grows k m.types m'.types g.types in omega arith;
+  };
+})
 
-pub adds_lifetime : {was : Numbers} (l : LifetimeRef) (source : Option Pointer) → Correct (alloc_lifetime l source) (Adds was (λ i f. was f))
+pub adds_lifetime : {was : Numbers} (l : LifetimeRef) (source : Option Pointer)
+    → Correct (alloc_lifetime l source) (Adds was (λ i f. was f))
 adds_lifetime l source = correct_as (correct_alloc_lifetime l source) (λ final ps m m' i g row. record {
-    earlier = λ d le. record {
-      depth = d;
-      deep = omega (arith, g.types);
-      counted = λ k. let l = less_grows k m.types m'.types g.types in omega arith;
-    };
-  })
+  earlier = λ d le. record {
+    depth = d;
+    deep = omega (arith, g.types);
+    counted = λ k. let l = less_grows k m.types m'.types g.types in omega arith;
+  };
+})

@@ -1,5 +1,5 @@
 -- The expressions of a tree name each type in one way.
-use Rattle.std.proofs.Common.{ap, arith, refl, ℕ, Bool, true, false, List, [], ◌∷◌, Option, Some, None}
+use Rattle.std.proofs.Common.{ap, arith, refl, ℕ, Bool, true, false, List, [], Option, Some, None}
 use Rattle.hir_store.specs.Pointers.{Pointer}
 use Rattle.hir_store.specs.declared.diagnostics.AwaitLocation.{AwaitLocation}
 use Rattle.hir_store.specs.declared.hir.Expr.{Expr as HirExpr}
@@ -12,14 +12,12 @@ use Rattle.hir_store.specs.declared.ids.HygieneId.{HygieneId}
 use Rattle.hir_store.specs.declared.ids.LabelId.{LabelId}
 use Rattle.hir_store.specs.declared.ids.TypeRefId.{TypeRefId}
 use Rattle.hir_store.specs.declared.name.Name.{Name}
-use Rattle.hir_store.specs.declared.path.GenericArgs.{GenericArgs}
 use Rattle.hir_store.specs.declared.path.Path.{Path}
 use Rattle.hir_env.specs.Answered as tree
 use Rattle.hir_env.specs.Answered.{Leaf, Unary, Binary, Listing, Leaving, Label, Jump, OptionType, OptionPath, OptionArgs}
 use Rattle.hir_env.specs.Answered.{Expr, OptionExpr, Exprs, Fields, Field, Spread, Block, OptionBlock, Stmts, Stmt}
 use Rattle.hir_lower_form.specs.Lowering.{Lowering}
-use Rattle.hir_lower_form.specs.Types.{TypeSteps}
-use Rattle.hir_lower_form.specs.Lower.{ExprSteps, StoredContents, StoredFields, missing, some, if_form, loop_form, call_form}
+use Rattle.hir_lower_form.specs.Lower.{ExprSteps, StoredContents, StoredFields, missing, if_form, loop_form, call_form}
 use Rattle.hir_lower_form.specs.Lower.{continue_form, break_form, operand_form, operands_form, value_form, list_form}
 use Rattle.hir_lower_form.specs.Lower.{method_call_form, await_form, paren_form, path_form, path_or_missing, cast_form}
 use Rattle.hir_lower_form.specs.Lower.{offset_of_form, record_contents, record_of, record_form, field_form, block_form, labelled}

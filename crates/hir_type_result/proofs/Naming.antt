@@ -53,46 +53,46 @@ names_still {final = final} {m = m} {m' = m'} g e h = record {
 pub names_pure : {A : Type 0} {was : Numbers} {now : A → Numbers} (a : A)
     → ((f : TypeRefId → List ℕ) → now a f ⊑ was f) → Correct (pure a) (Names was now)
 names_pure a h = correct_as (correct_pure a) (λ final ps m m' b g row. rw (row.is, row.still) (record {
-    counted = λ d le k. let x = h (reached final d) k in omega arith;
-  }))
+  counted = λ d le k. let x = h (reached final d) k in omega arith;
+}))
 
 pub names_then : {A B : Type 0} {was : Numbers} {one : A → Numbers} {now : B → Numbers} {p : Lowering A} {q : A → Lowering B}
     → Correct p (Names was one) → ((a : A) → Correct (q a) (Names (one a) now)) → Correct (p >>= q) (Names was now)
 names_then h k = correct_as (correct_bind h k) (λ final ps m m' b g row. record {
-    counted = λ d le n.
-        let x = row.first.counted d (omega (arith, le, row.after.types)) n in
-        let y = row.second.counted d le n in omega arith;
-  })
+  counted = λ d le n.
+      let x = row.first.counted d (omega (arith, le, row.after.types)) n in
+      let y = row.second.counted d le n in omega arith;
+})
 
 -- beside what was named
 pub names_beside : {A : Type 0} {now : A → Numbers} {p : Lowering A} (more : Numbers) → Correct p (Names none now)
     → Correct p (Names more (λ a f. more f ++ now a f))
 names_beside {now = now} more h = correct_as h (λ final ps m m' a g row. record {
-    counted = λ d le k.
-        let x = row.counted d le k in
-        let s = times_append k (more (reached final d)) (now a (reached final d)) in omega arith;
-  })
+  counted = λ d le k.
+      let x = row.counted d le k in
+      let s = times_append k (more (reached final d)) (now a (reached final d)) in omega arith;
+})
 
 -- types, paths and arguments, which store no expression
 pub names_types : {A : Type 0} {now : A → Numbers} {p : Lowering A} → Correct p (Adds none now) → Correct p Aside
     → Correct p (Names none now)
 names_types h aside = correct_as (correct_both h aside) (λ final ps m m' a g row. record {
-    counted = λ d le k.
-        let x = row.one.earlier d le in
-        let c = x.counted k in
-        let e = ap (λ s. times k (of_exprs (reached final d) s.entries)) row.other.exprs_are in omega arith;
-  })
+  counted = λ d le k.
+      let x = row.one.earlier d le in
+      let c = x.counted k in
+      let e = ap (λ s. times k (of_exprs (reached final d) s.entries)) row.other.exprs_are in omega arith;
+})
 
 -- an expression names what was named
 pub names_alloc : {was : Numbers} (e : HirExpr) (at : Option Pointer) → ((f : TypeRefId → List ℕ) → of_expr f e ⊑ was f)
     → Correct (alloc_expr e at) (Names was (λ i. none))
 names_alloc e at h = correct_as (correct_alloc e at) (λ final ps m m' i g row. record {
-    counted = λ d le k.
-        let x = h (reached final d) k in
-        let s = ap (λ s. times k (named final d s)) row.stored in
-        let p = each_push (of_expr (reached final d)) m.stored.exprs.entries e k in
-        let l = less_grows k m.types m'.types g.types in omega arith;
-  })
+  counted = λ d le k.
+      let x = h (reached final d) k in
+      let s = ap (λ s. times k (named final d s)) row.stored in
+      let p = each_push (of_expr (reached final d)) m.stored.exprs.entries e k in
+      let l = less_grows k m.types m'.types g.types in omega arith;
+})
 
 -- ---- steps that name nothing
 
@@ -156,9 +156,9 @@ pub quiet_opened : {A B : Type 0} (at : Label → LabelId → Frame) (l : Label)
     → ((n : LabelId) → Correct (p n) Quiet) → ((n : LabelId) (a : A) → Correct (f n a) Quiet)
     → Correct (open_label l >>= (λ n. p n >>= (λ a. close >>= (λ _. f n a)))) Quiet
 quiet_opened at l frame hp hf = correct_as (correct_opened at l frame hp hf) (λ final ps m m' b g row. record {
-    counted = λ d le k.
-        let s = ap (λ s. times k (named final d s)) row.stored in
-        let t = ap (less k) row.types in
-        let x = row.first.counted d (omega (arith, le, row.after.types)) k in
-        let y = row.second.counted d le k in omega arith;
-  })
+  counted = λ d le k.
+      let s = ap (λ s. times k (named final d s)) row.stored in
+      let t = ap (less k) row.types in
+      let x = row.first.counted d (omega (arith, le, row.after.types)) k in
+      let y = row.second.counted d le k in omega arith;
+})

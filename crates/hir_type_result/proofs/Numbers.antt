@@ -84,7 +84,7 @@ module _ (f : TypeRefId → List ℕ) where
   unfolding of_args of_binding
   args_roll as' self bs ps =
       folds.fold-roll-GenericArgs (List ℕ) (List ℕ) (binding_step f) (args_step f)
-          (record { args = as'; has_self_type = self; bindings = bs; parenthesized = ps })
+      (record { args = as'; has_self_type = self; bindings = bs; parenthesized = ps })
       ∙ ap (λ ks. of_each (of_arg f) as' ++ ks) (joined_is bs)
 
   pub binding_roll : (n : Name) (a : Option GenericArgs) (t : Option TypeRefId) (bs : List TypeBound)
@@ -92,7 +92,7 @@ module _ (f : TypeRefId → List ℕ) where
   unfolding of_args of_binding
   binding_roll n a t bs =
       folds.fold-roll-AssociatedTypeBinding (List ℕ) (List ℕ) (binding_step f) (args_step f)
-          (record { name = n; args = a; type_ref = t; bounds = bs })
+      (record { name = n; args = a; type_ref = t; bounds = bs })
       ∙ ap (λ ks. ks ++ (of_present f t ++ of_each (of_bound f) bs)) (present_is a)
 
   args_out : (a : GenericArgs) → let o = out-GenericArgs a in of_args f a ≡ of_each (of_arg f) o.args ++ of_each (of_binding f) o.bindings
@@ -131,7 +131,8 @@ arg_added f l a k =
     let y = times_append k as' bs in
     let z = times_append k (as' ++ bs) (of_arg f a) in omega arith
 
-pub lifetime_added : (f : TypeRefId → List ℕ) (l : ArgLists) (i : LifetimeRefId) → of_arg_lists f (add_arg l (arg.Lifetime i)) ⊑ of_arg_lists f l
+pub lifetime_added : (f : TypeRefId → List ℕ) (l : ArgLists) (i : LifetimeRefId)
+    → of_arg_lists f (add_arg l (arg.Lifetime i)) ⊑ of_arg_lists f l
 lifetime_added f l i k =
     let a = arg_added f l (arg.Lifetime i) k in
     let s = times_append k (of_arg_lists f l) [] in omega arith
@@ -147,7 +148,8 @@ binding_added f l b k =
     let z = times_append k (as' ++ bs) (of_binding f b) in omega arith
 
 pub yielded_less : (f : TypeRefId → List ℕ) (l : ArgLists) → of_present (of_args f) (yielded l) ⊑ of_arg_lists f l
-yielded_less f l k = either (λ a. times k (of_present (of_args f) a) ≤ times k (of_arg_lists f l)) (is_none_of l.args && is_none_of l.bindings)
+yielded_less f l k = either (λ a. times k (of_present (of_args f) a) ≤ times k (of_arg_lists f l))
+    (is_none_of l.args && is_none_of l.bindings)
     (omega arith) (let e = ap (times k) (args_roll f l.args false l.bindings No) in omega arith)
 
 pub notation_less : (f : TypeRefId → List ℕ) (a : Option GenericArgs) (dots : Bool)
@@ -169,7 +171,7 @@ sugared_less f t o k =
 
 pub binding_less : (f : TypeRefId → List ℕ) (n : Name) (a : Option GenericArgs) (dots : Bool) (t : Option TypeRefId) (bs : List TypeBound)
     → of_binding f (binding_of_parts n (or_notation a dots) t bs)
-        ⊑ (of_present (of_args f) a ++ of_present f t) ++ of_each (of_bound f) bs
+    ⊑ (of_present (of_args f) a ++ of_present f t) ++ of_each (of_bound f) bs
 binding_less f n a dots t bs k =
     let e = ap (times k) (binding_roll f n (or_notation a dots) t bs) in
     let l = notation_less f a dots k in
@@ -178,7 +180,8 @@ binding_less f n a dots t bs k =
     let z = times_append k (of_present (of_args f) a ++ of_present f t) (of_each (of_bound f) bs) in
     let w = times_append k (of_present (of_args f) a) (of_present f t) in omega arith
 
-pub path_bound_less : (f : TypeRefId → List ℕ) (maybe : Bool) (binder : Binder) (t : TypeRefId) → of_bound f (stored_path_bound maybe binder t) ⊑ f t
+pub path_bound_less : (f : TypeRefId → List ℕ) (maybe : Bool) (binder : Binder) (t : TypeRefId)
+    → of_bound f (stored_path_bound maybe binder t) ⊑ f t
 path_bound_less f maybe [] t k = omega arith
 path_bound_less f maybe (n ∷ ns) t k = omega arith
 
@@ -259,7 +262,8 @@ without_self_less f [] k = omega arith
 without_self_less f (None ∷ as') k = omega arith
 without_self_less f (Some a ∷ as') k =
     let x = times_append k (of_args f a) (of_lists f as') in
-    either (λ o. times k (of_present (of_args f) o ++ of_lists f as') ≤ times k (of_lists f (Some a ∷ as'))) (has_self a) (omega arith) (omega arith)
+    either (λ o. times k (of_present (of_args f) o ++ of_lists f as') ≤ times k (of_lists f (Some a ∷ as'))) (has_self a)
+    (omega arith) (omega arith)
 
 finished_less : (f : TypeRefId → List ℕ) (w : PathWalk) → of_path f (finished w) ⊑ of_walk f w
 finished_less f w k =

@@ -184,7 +184,8 @@ super_adds w = go (one_more_super w.kind)
     go (Some k) = adds_pure _ (λ f n. omega arith)
 
 self_adds : (w : PathWalk) → Correct (pure (self_read w)) (Adds (walk w) reading)
-self_adds w = adds_pure _ (λ f k. either (λ r. times k (of_reading f r) ≤ times k (of_walk f w)) (no_names w.names) (omega arith) (omega arith))
+self_adds w = adds_pure _ (λ f k. either (λ r. times k (of_reading f r) ≤ times k (of_walk f w)) (no_names w.names)
+    (omega arith) (omega arith))
 
 at_first_adds : {p : Lowering Reading} (leading : Bool) (w : PathWalk) → Correct p (Adds (walk (at_first leading w)) reading)
     → Correct p (Adds (walk w) reading)
@@ -226,7 +227,8 @@ binding_adds : (name : Name) (dots : Bool) {a : Lowering (Option GenericArgs)} {
     → Correct (binding_form name dots a t bs) (Adds none (λ b f. of_binding f b))
 unfolding binding_form
 binding_adds name dots ha ht hb = adds_then ha (λ a. adds_then (adds_beside (arguments a) ht)
-    (λ t. adds_then (adds_beside (beside (arguments a) (maybe_type t)) hb) (λ bs. adds_pure _ (λ f. numbers.binding_less f name a dots t bs))))
+    (λ t. adds_then (adds_beside (beside (arguments a) (maybe_type t)) hb)
+    (λ bs. adds_pure _ (λ f. numbers.binding_less f name a dots t bs))))
 
 -- lists that grow
 
@@ -299,7 +301,8 @@ mutual
 
   reading_adds : (p : Path) (w : PathWalk) → Correct (read_path p w) (Adds (walk w) reading)
   reading_adds (tree.path leading first rest use_) w =
-      whole_adds (adds_then (each_adds rest w) (λ r. proceed_adds r (λ v. at_first_adds leading v (segment_adds true first (at_first leading v)))))
+      whole_adds (adds_then (each_adds rest w)
+      (λ r. proceed_adds r (λ v. at_first_adds leading v (segment_adds true first (at_first leading v)))))
       (λ v. option_adds use_ v)
 
   option_adds : (p : OptionPath) (w : PathWalk) → Correct (read_option p w) (Adds (walk w) reading)

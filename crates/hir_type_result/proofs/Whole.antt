@@ -29,7 +29,7 @@ type_results limit t i new is =
     let paired = kept.paired none in
     let mapped = kept.mapped none (nothing_mapped limit) in
     let fits : Grown (type_part_size t) old.stored new.stored =
-        subst (λ r. GrownUnless (type_part_size t) old.stored r.0 r.1.stored) is (types_fit None t old) in
+    subst (λ r. GrownUnless (type_part_size t) old.stored r.0 r.1.stored) is (types_fit None t old) in
     let stays = extends_refl new.stored in record {
       reads_back = type_law t old new i none is new.stored stays;
       types = let n = fits.types in omega arith;

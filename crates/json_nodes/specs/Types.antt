@@ -30,12 +30,6 @@ reference h = type_kinds.RefType
 unfoldable pub array : Here → TypeKind
 array h = type_kinds.ArrayType (part_in h as_type (codes "ty")) (part_in h as_const_arg (codes "len"))
 
--- what has a lifetime or a length beside its type
-abbrev pub beside_types : Here → Kind → Option TypeKind
-beside_types h kind.RefType = Some (reference h)
-beside_types h kind.ArrayType = Some (array h)
-beside_types h _ = None
-
 unfoldable pub function_pointer : Here → TypeKind
 function_pointer h = type_kinds.FnPtrType
     (flag_of (get (codes "unsafe") h.value))
@@ -46,11 +40,13 @@ function_pointer h = type_kinds.FnPtrType
 unfoldable pub under_binder : Here → TypeKind
 under_binder h = type_kinds.ForType (part_in h as_binder (codes "binder")) (part_in h as_type (codes "ty"))
 
--- function pointers, and what introduces lifetimes
-abbrev pub with_parameters : Here → Kind → Option TypeKind
-with_parameters h kind.FnPtrType = Some (function_pointer h)
-with_parameters h kind.ForType = Some (under_binder h)
-with_parameters h _ = None
+-- what has a part of another group beside its type, or in its place
+abbrev pub beside_types : Here → Kind → Option TypeKind
+beside_types h kind.RefType = Some (reference h)
+beside_types h kind.ArrayType = Some (array h)
+beside_types h kind.FnPtrType = Some (function_pointer h)
+beside_types h kind.ForType = Some (under_binder h)
+beside_types h _ = None
 
 -- what has bounds, and what is a word
 unfoldable pub bounded : Here → Kind → Option TypeKind
@@ -61,7 +57,7 @@ bounded h kind.InferType = Some type_kinds.InferType
 bounded h _ = None
 
 abbrev pub type_kind : Here → Kind → Option TypeKind
-type_kind h k = or_else (over_types h k) (or_else (beside_types h k) (or_else (with_parameters h k) (bounded h k)))
+type_kind h k = or_else (over_types h k) (or_else (beside_types h k) (bounded h k))
 
 abbrev pub of_type_kind : Here → TypeKind → AnyPart
 of_type_kind h x = part.Type_ (record { id = h.id; range = h.range; kind = x })

@@ -7,6 +7,7 @@ ghost use Rattle.json_nodes.specs.Nodes.{here};
 use crate::field::flag;
 use crate::node::{Node, ReadParts};
 use crate::part::AnyPart;
+use hir_syntax::Boxed;
 use hir_syntax::ast::{
     AssocTypeArg, ConstArg, Expr, GenericArg, GenericArgList, Lifetime, LifetimeArg, Name,
     ParenArgs, Type_, TypeArg, TypeBound,
@@ -37,24 +38,34 @@ fn arg<P: ReadParts>(node: &Node<'_, P>, kind: Kind) -> Result<Option<AnyPart>, 
     ensures { IfOk result (λ part. part ≡ spec.arg (here P.parts node.now) kind) }
 {
     match kind {
-        Kind::TypeArg => Ok(Some(AnyPart::TypeArg(TypeArg {
-            id: node.id,
-            range: node.range,
-            ty: node.boxed::<Type_>("ty")?,
-        }))),
-        Kind::AssocTypeArg => Ok(Some(AnyPart::GenericArg(GenericArg::AssocTypeArg(assoc_arg(
-            node,
-        )?)))),
-        Kind::LifetimeArg => Ok(Some(AnyPart::GenericArg(GenericArg::LifetimeArg(LifetimeArg {
-            id: node.id,
-            range: node.range,
-            lifetime: node.part::<Lifetime>("lifetime")?,
-        })))),
-        Kind::ConstArg => Ok(Some(AnyPart::ConstArg(ConstArg {
-            id: node.id,
-            range: node.range,
-            expr: node.boxed::<Expr>("expr")?,
-        }))),
+        Kind::TypeArg => {
+            let arg = TypeArg {
+                id: node.id,
+                range: node.range,
+                ty: node.boxed::<Type_>("ty")?,
+            };
+            Ok(Some(AnyPart::TypeArg(Boxed::new(node.alloc, arg)?)))
+        }
+        Kind::AssocTypeArg => {
+            let arg = GenericArg::AssocTypeArg(assoc_arg(node)?);
+            Ok(Some(AnyPart::GenericArg(Boxed::new(node.alloc, arg)?)))
+        }
+        Kind::LifetimeArg => {
+            let arg = GenericArg::LifetimeArg(LifetimeArg {
+                id: node.id,
+                range: node.range,
+                lifetime: node.part::<Lifetime>("lifetime")?,
+            });
+            Ok(Some(AnyPart::GenericArg(Boxed::new(node.alloc, arg)?)))
+        }
+        Kind::ConstArg => {
+            let arg = ConstArg {
+                id: node.id,
+                range: node.range,
+                expr: node.boxed::<Expr>("expr")?,
+            };
+            Ok(Some(AnyPart::ConstArg(Boxed::new(node.alloc, arg)?)))
+        }
         _ => Ok(None),
     }
 }
@@ -65,16 +76,22 @@ fn arg_list<P: ReadParts>(node: &Node<'_, P>, kind: Kind) -> Result<Option<AnyPa
     ensures { IfOk result (λ part. part ≡ spec.arg_list (here P.parts node.now) kind) }
 {
     match kind {
-        Kind::GenericArgList => Ok(Some(AnyPart::GenericArgs(GenericArgList {
-            id: node.id,
-            range: node.range,
-            args: node.list::<GenericArg>("args")?,
-        }))),
-        Kind::ParenArgs => Ok(Some(AnyPart::ParenArgs(ParenArgs {
-            id: node.id,
-            range: node.range,
-            args: node.list::<TypeArg>("args")?,
-        }))),
+        Kind::GenericArgList => {
+            let args = GenericArgList {
+                id: node.id,
+                range: node.range,
+                args: node.list::<GenericArg>("args")?,
+            };
+            Ok(Some(AnyPart::GenericArgs(Boxed::new(node.alloc, args)?)))
+        }
+        Kind::ParenArgs => {
+            let args = ParenArgs {
+                id: node.id,
+                range: node.range,
+                args: node.list::<TypeArg>("args")?,
+            };
+            Ok(Some(AnyPart::ParenArgs(Boxed::new(node.alloc, args)?)))
+        }
         _ => Ok(None),
     }
 }

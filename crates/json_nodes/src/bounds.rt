@@ -9,6 +9,7 @@ ghost use Rattle.json_nodes.specs.Nodes.{here};
 use crate::field::{flag, text};
 use crate::node::{Node, ReadParts};
 use crate::part::AnyPart;
+use hir_syntax::Boxed;
 use hir_syntax::ast::{
     BoundKind, ForBinder, Lifetime, Param, PathType, RetType, Type_, TypeBound, UseArg,
 };
@@ -58,23 +59,32 @@ pub fn of_bound<P: ReadParts>(node: &Node<'_, P>, kind: Kind) -> Result<Option<A
     ensures { IfOk result (λ part. part ≡ spec.of_bound (here P.parts node.now) kind) }
 {
     match kind {
-        Kind::TypeBound => Ok(Some(AnyPart::Bound(bound(node)?))),
-        Kind::ForBinder => Ok(Some(AnyPart::Binder(ForBinder {
-            id: node.id,
-            range: node.range,
-            params: node.list_with_nulls::<Lifetime>("params")?,
-        }))),
-        Kind::RetType => Ok(Some(AnyPart::Ret(RetType {
-            id: node.id,
-            range: node.range,
-            ty: node.boxed::<Type_>("ty")?,
-        }))),
-        Kind::Param => Ok(Some(AnyPart::Param(Param {
-            id: node.id,
-            range: node.range,
-            ty: node.boxed::<Type_>("ty")?,
-            variadic: flag(node.value, "variadic"),
-        }))),
+        Kind::TypeBound => Ok(Some(AnyPart::Bound(Boxed::new(node.alloc, bound(node)?)?))),
+        Kind::ForBinder => {
+            let binder = ForBinder {
+                id: node.id,
+                range: node.range,
+                params: node.list_with_nulls::<Lifetime>("params")?,
+            };
+            Ok(Some(AnyPart::Binder(Boxed::new(node.alloc, binder)?)))
+        }
+        Kind::RetType => {
+            let ret = RetType {
+                id: node.id,
+                range: node.range,
+                ty: node.boxed::<Type_>("ty")?,
+            };
+            Ok(Some(AnyPart::Ret(Boxed::new(node.alloc, ret)?)))
+        }
+        Kind::Param => {
+            let param = Param {
+                id: node.id,
+                range: node.range,
+                ty: node.boxed::<Type_>("ty")?,
+                variadic: flag(node.value, "variadic"),
+            };
+            Ok(Some(AnyPart::Param(Boxed::new(node.alloc, param)?)))
+        }
         _ => Ok(None),
     }
 }

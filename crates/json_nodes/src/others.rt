@@ -9,6 +9,7 @@ ghost use Rattle.json_nodes.specs.Nodes.{here};
 use crate::field::{flag, own_text, text};
 use crate::node::{Node, ReadParts};
 use crate::part::AnyPart;
+use hir_syntax::Boxed;
 use hir_syntax::ast::{BlockExpr, BlockModifier, Expr, Fn, Label, Lifetime, Name, Stmt, StmtKind};
 use json_kinds::kind::Kind;
 use serde_json::Value;
@@ -74,19 +75,25 @@ pub fn other<P: ReadParts>(node: &Node<'_, P>, kind: Kind) -> Result<Option<AnyP
     ensures { IfOk result (λ part. part ≡ spec.other (here P.parts node.now) kind) }
 {
     match kind {
-        Kind::BlockExpr => Ok(Some(AnyPart::Block(BlockExpr {
-            id: node.id,
-            range: node.range,
-            mod_: modifier(node.value),
-            label: node.part::<Label>("label")?,
-            stmts: node.list::<Stmt>("stmts")?,
-            tail: node.boxed::<Expr>("tail")?,
-        }))),
-        Kind::Label => Ok(Some(AnyPart::Label(Label {
-            id: node.id,
-            range: node.range,
-            lifetime: node.part::<Lifetime>("lifetime")?,
-        }))),
+        Kind::BlockExpr => {
+            let block = BlockExpr {
+                id: node.id,
+                range: node.range,
+                mod_: modifier(node.value),
+                label: node.part::<Label>("label")?,
+                stmts: node.list::<Stmt>("stmts")?,
+                tail: node.boxed::<Expr>("tail")?,
+            };
+            Ok(Some(AnyPart::Block(Boxed::new(node.alloc, block)?)))
+        }
+        Kind::Label => {
+            let label = Label {
+                id: node.id,
+                range: node.range,
+                lifetime: node.part::<Lifetime>("lifetime")?,
+            };
+            Ok(Some(AnyPart::Label(Boxed::new(node.alloc, label)?)))
+        }
         Kind::Lifetime => lifetime(node),
         Kind::Name => name(node),
         _ => Ok(None),

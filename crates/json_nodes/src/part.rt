@@ -1,9 +1,10 @@
 //! The parts of trees, by their group.
 
-ghost use Rattle.std.specs.Prelude.{◌≡◌, IfOk, Option};
+ghost use Rattle.std.specs.Prelude.{◌≡◌, IfOk, Option, Some};
 ghost use Rattle.json_nodes.specs.Groups.{as_expr, as_block, as_else, as_stmt, as_path, as_segment, as_label, as_lifetime, as_name};
 ghost use Rattle.json_nodes.specs.Groups.{as_type, as_path_type, as_generic_args, as_generic_arg, as_type_arg, as_const_arg, as_paren_args};
 ghost use Rattle.json_nodes.specs.Groups.{as_bound, as_use_arg, as_binder, as_ret, as_param, is_quoted};
+ghost use Rattle.json_nodes.specs.declared.part.AnyPart.TheVariants as any_part;
 ghost use Rattle.json_nodes.specs.Groups.{as_record_list, as_record_field};
 
 use hir_syntax::ast::{
@@ -15,32 +16,33 @@ use hir_syntax::node::{NodeId, TextRange};
 use hir_syntax::{Boxed, Text};
 use std::alloc::{AllocError, Global};
 
-/// A part of a tree.
+/// A part of a tree. Each is held in a box, since a part that was handed on whole would be let go of kind by kind
+/// wherever another is wanted.
 pub enum AnyPart {
-    Expr(Expr),
+    Expr(Boxed<Expr>),
     /// An expression that may follow `else`.
-    If(Expr),
-    Block(BlockExpr),
-    Stmt(Stmt),
-    Path(Path),
-    Segment(PathSegment),
-    Type_(Type_),
+    If(Boxed<Expr>),
+    Block(Boxed<BlockExpr>),
+    Stmt(Boxed<Stmt>),
+    Path(Boxed<Path>),
+    Segment(Boxed<PathSegment>),
+    Type_(Boxed<Type_>),
     /// A path as a type, which may also name a trait.
-    PathType(PathType),
-    GenericArgs(GenericArgList),
+    PathType(Boxed<PathType>),
+    GenericArgs(Boxed<GenericArgList>),
     /// A type as an argument, which may also stand in parentheses.
-    TypeArg(TypeArg),
+    TypeArg(Boxed<TypeArg>),
     /// A constant as an argument, which may also be the length of an array.
-    ConstArg(ConstArg),
-    GenericArg(GenericArg),
-    ParenArgs(ParenArgs),
-    Bound(TypeBound),
-    Binder(ForBinder),
-    Ret(RetType),
-    Param(Param),
-    RecordList(RecordExprFieldList),
-    RecordField(RecordExprField),
-    Label(Label),
+    ConstArg(Boxed<ConstArg>),
+    GenericArg(Boxed<GenericArg>),
+    ParenArgs(Boxed<ParenArgs>),
+    Bound(Boxed<TypeBound>),
+    Binder(Boxed<ForBinder>),
+    Ret(Boxed<RetType>),
+    Param(Boxed<Param>),
+    RecordList(Boxed<RecordExprFieldList>),
+    RecordField(Boxed<RecordExprField>),
+    Label(Boxed<Label>),
     Lifetime(Lifetime),
     Name(Name),
     /// A text in place of a lifetime or a name, with the number and the range of the node that holds it.
@@ -87,35 +89,49 @@ fn is_quoted(text: &Text) -> bool
     }
 }
 
+/// A path as a type.
+fn type_of_path(path_type: Boxed<PathType>) -> Type_
+    ensures { Some result ≡ as_type (any_part.PathType path_type) }
+{
+    let mut ty = path_type.into_inner();
+    Type_ {
+        id: ty.id,
+        range: ty.range,
+        kind: TypeKind::PathType {
+            path: ty.path.take(),
+        },
+    }
+}
+
 /// The part as one of a group, none where it is of another.
 impl AnyPart {
-    fn into_expr(self, alloc: Global) -> Result<Option<Expr>, AllocError>
-        ensures { IfOk result (λ found. found ≡ as_expr self) }
+    fn into_expr(self) -> Option<Expr>
+        ensures { result ≡ as_expr self }
     {
         match self {
-            AnyPart::Expr(expr) => Ok(Some(expr)),
-            AnyPart::If(expr) => Ok(Some(expr)),
-            AnyPart::Block(block) => Ok(Some(Expr {
-                id: block.id,
-                range: block.range,
-                kind: ExprKind::BlockExpr(Boxed::new(alloc, block)?),
-            })),
+            AnyPart::Expr(expr) => Some(expr.into_inner()),
+            AnyPart::If(expr) => Some(expr.into_inner()),
+            AnyPart::Block(block) => Some(Expr {
+                id: block.get().id,
+                range: block.get().range,
+                kind: ExprKind::BlockExpr(block),
+            }),
             other => {
                 drop(other);
-                Ok(None)
+                None
             }
         }
     }
 
-    fn into_else(self, alloc: Global) -> Result<Option<ElseBranch>, AllocError>
-        ensures { IfOk result (λ found. found ≡ as_else self) }
+    fn into_else(self) -> Option<ElseBranch>
+        ensures { result ≡ as_else self }
     {
         match self {
-            AnyPart::Block(block) => Ok(Some(ElseBranch::ElseBlock(Boxed::new(alloc, block)?))),
-            AnyPart::If(expr) => Ok(Some(ElseBranch::ElseIf(Boxed::new(alloc, expr)?))),
+            AnyPart::Block(block) => Some(ElseBranch::ElseBlock(block)),
+            AnyPart::If(expr) => Some(ElseBranch::ElseIf(expr)),
             other => {
                 drop(other);
-                Ok(None)
+                None
             }
         }
     }
@@ -124,7 +140,7 @@ impl AnyPart {
         ensures { result ≡ as_block self }
     {
         match self {
-            AnyPart::Block(block) => Some(block),
+            AnyPart::Block(block) => Some(block.into_inner()),
             other => {
                 drop(other);
                 None
@@ -136,7 +152,7 @@ impl AnyPart {
         ensures { result ≡ as_stmt self }
     {
         match self {
-            AnyPart::Stmt(stmt) => Some(stmt),
+            AnyPart::Stmt(stmt) => Some(stmt.into_inner()),
             other => {
                 drop(other);
                 None
@@ -148,7 +164,7 @@ impl AnyPart {
         ensures { result ≡ as_path self }
     {
         match self {
-            AnyPart::Path(path) => Some(path),
+            AnyPart::Path(path) => Some(path.into_inner()),
             other => {
                 drop(other);
                 None
@@ -160,7 +176,7 @@ impl AnyPart {
         ensures { result ≡ as_segment self }
     {
         match self {
-            AnyPart::Segment(segment) => Some(segment),
+            AnyPart::Segment(segment) => Some(segment.into_inner()),
             other => {
                 drop(other);
                 None
@@ -172,14 +188,8 @@ impl AnyPart {
         ensures { result ≡ as_type self }
     {
         match self {
-            AnyPart::Type_(ty) => Some(ty),
-            AnyPart::PathType(mut ty) => Some(Type_ {
-                id: ty.id,
-                range: ty.range,
-                kind: TypeKind::PathType {
-                    path: ty.path.take(),
-                },
-            }),
+            AnyPart::Type_(ty) => Some(ty.into_inner()),
+            AnyPart::PathType(ty) => Some(type_of_path(ty)),
             other => {
                 drop(other);
                 None
@@ -191,7 +201,7 @@ impl AnyPart {
         ensures { result ≡ as_path_type self }
     {
         match self {
-            AnyPart::PathType(path_type) => Some(path_type),
+            AnyPart::PathType(path_type) => Some(path_type.into_inner()),
             other => {
                 drop(other);
                 None
@@ -203,7 +213,7 @@ impl AnyPart {
         ensures { result ≡ as_generic_args self }
     {
         match self {
-            AnyPart::GenericArgs(generic_args) => Some(generic_args),
+            AnyPart::GenericArgs(generic_args) => Some(generic_args.into_inner()),
             other => {
                 drop(other);
                 None
@@ -215,7 +225,7 @@ impl AnyPart {
         ensures { result ≡ as_type_arg self }
     {
         match self {
-            AnyPart::TypeArg(type_arg) => Some(type_arg),
+            AnyPart::TypeArg(type_arg) => Some(type_arg.into_inner()),
             other => {
                 drop(other);
                 None
@@ -227,7 +237,7 @@ impl AnyPart {
         ensures { result ≡ as_const_arg self }
     {
         match self {
-            AnyPart::ConstArg(const_arg) => Some(const_arg),
+            AnyPart::ConstArg(const_arg) => Some(const_arg.into_inner()),
             other => {
                 drop(other);
                 None
@@ -239,9 +249,9 @@ impl AnyPart {
         ensures { result ≡ as_generic_arg self }
     {
         match self {
-            AnyPart::GenericArg(arg) => Some(arg),
-            AnyPart::TypeArg(arg) => Some(GenericArg::TypeArg(arg)),
-            AnyPart::ConstArg(arg) => Some(GenericArg::ConstArg(arg)),
+            AnyPart::GenericArg(arg) => Some(arg.into_inner()),
+            AnyPart::TypeArg(arg) => Some(GenericArg::TypeArg(arg.into_inner())),
+            AnyPart::ConstArg(arg) => Some(GenericArg::ConstArg(arg.into_inner())),
             other => {
                 drop(other);
                 None
@@ -253,7 +263,7 @@ impl AnyPart {
         ensures { result ≡ as_paren_args self }
     {
         match self {
-            AnyPart::ParenArgs(paren_args) => Some(paren_args),
+            AnyPart::ParenArgs(paren_args) => Some(paren_args.into_inner()),
             other => {
                 drop(other);
                 None
@@ -265,7 +275,7 @@ impl AnyPart {
         ensures { result ≡ as_bound self }
     {
         match self {
-            AnyPart::Bound(bound) => Some(bound),
+            AnyPart::Bound(bound) => Some(bound.into_inner()),
             other => {
                 drop(other);
                 None
@@ -277,7 +287,7 @@ impl AnyPart {
         ensures { result ≡ as_binder self }
     {
         match self {
-            AnyPart::Binder(binder) => Some(binder),
+            AnyPart::Binder(binder) => Some(binder.into_inner()),
             other => {
                 drop(other);
                 None
@@ -289,7 +299,7 @@ impl AnyPart {
         ensures { result ≡ as_ret self }
     {
         match self {
-            AnyPart::Ret(ret) => Some(ret),
+            AnyPart::Ret(ret) => Some(ret.into_inner()),
             other => {
                 drop(other);
                 None
@@ -301,7 +311,7 @@ impl AnyPart {
         ensures { result ≡ as_param self }
     {
         match self {
-            AnyPart::Param(param) => Some(param),
+            AnyPart::Param(param) => Some(param.into_inner()),
             other => {
                 drop(other);
                 None
@@ -331,7 +341,7 @@ impl AnyPart {
         ensures { result ≡ as_record_list self }
     {
         match self {
-            AnyPart::RecordList(record_list) => Some(record_list),
+            AnyPart::RecordList(record_list) => Some(record_list.into_inner()),
             other => {
                 drop(other);
                 None
@@ -343,7 +353,7 @@ impl AnyPart {
         ensures { result ≡ as_record_field self }
     {
         match self {
-            AnyPart::RecordField(record_field) => Some(record_field),
+            AnyPart::RecordField(record_field) => Some(record_field.into_inner()),
             other => {
                 drop(other);
                 None
@@ -355,7 +365,7 @@ impl AnyPart {
         ensures { result ≡ as_label self }
     {
         match self {
-            AnyPart::Label(label) => Some(label),
+            AnyPart::Label(label) => Some(label.into_inner()),
             other => {
                 drop(other);
                 None
@@ -405,8 +415,8 @@ pub trait Part: Drop {
 impl Part for Expr {
     ghost as_group = { as_expr };
 
-    fn from_part(alloc: Global, part: AnyPart) -> Result<Option<Expr>, AllocError> {
-        part.into_expr(alloc)
+    fn from_part(_alloc: Global, part: AnyPart) -> Result<Option<Expr>, AllocError> {
+        Ok(part.into_expr())
     }
 }
 
@@ -421,8 +431,8 @@ impl Part for BlockExpr {
 impl Part for ElseBranch {
     ghost as_group = { as_else };
 
-    fn from_part(alloc: Global, part: AnyPart) -> Result<Option<ElseBranch>, AllocError> {
-        part.into_else(alloc)
+    fn from_part(_alloc: Global, part: AnyPart) -> Result<Option<ElseBranch>, AllocError> {
+        Ok(part.into_else())
     }
 }
 

@@ -9,6 +9,7 @@ ghost use Rattle.json_nodes.specs.Paths as spec;
 use crate::field::{flag, text};
 use crate::node::{Node, ReadParts};
 use crate::part::AnyPart;
+use hir_syntax::Boxed;
 use hir_syntax::ast::{
     GenericArgList, Name, ParenArgs, Path, PathSegment, PathType, RetType, SegmentKind, Type_,
 };
@@ -84,8 +85,8 @@ pub fn of_path<P: ReadParts>(node: &Node<'_, P>, kind: Kind) -> Result<Option<An
     ensures { IfOk result (λ part. part ≡ spec.of_path (here P.parts node.now) kind) }
 {
     match kind {
-        Kind::Path => Ok(Some(AnyPart::Path(path(node)?))),
-        Kind::PathSegment => Ok(Some(AnyPart::Segment(segment(node)?))),
+        Kind::Path => Ok(Some(AnyPart::Path(Boxed::new(node.alloc, path(node)?)?))),
+        Kind::PathSegment => Ok(Some(AnyPart::Segment(Boxed::new(node.alloc, segment(node)?)?))),
         _ => Ok(None),
     }
 }

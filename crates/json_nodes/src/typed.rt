@@ -7,6 +7,7 @@ ghost use Rattle.json_nodes.specs.Typed as spec;
 use crate::field::flag;
 use crate::node::{Node, ReadParts};
 use crate::part::AnyPart;
+use hir_syntax::Boxed;
 use hir_syntax::ast::{Expr, ExprKind, Name, Path, RecordExprField, RecordExprFieldList, Type_};
 use json_kinds::kind::Kind;
 use std::alloc::AllocError;
@@ -44,19 +45,25 @@ pub fn of_record<P: ReadParts>(
     ensures { IfOk result (λ part. part ≡ spec.of_record (here P.parts node.now) kind) }
 {
     match kind {
-        Kind::RecordExprFieldList => Ok(Some(AnyPart::RecordList(RecordExprFieldList {
-            id: node.id,
-            range: node.range,
-            fields: node.list::<RecordExprField>("fields")?,
-            spread: node.boxed::<Expr>("spread")?,
-            dotdot: flag(node.value, "dotdot"),
-        }))),
-        Kind::RecordExprField => Ok(Some(AnyPart::RecordField(RecordExprField {
-            id: node.id,
-            range: node.range,
-            name: node.part::<Name>("name")?,
-            expr: node.boxed::<Expr>("expr")?,
-        }))),
+        Kind::RecordExprFieldList => {
+            let list = RecordExprFieldList {
+                id: node.id,
+                range: node.range,
+                fields: node.list::<RecordExprField>("fields")?,
+                spread: node.boxed::<Expr>("spread")?,
+                dotdot: flag(node.value, "dotdot"),
+            };
+            Ok(Some(AnyPart::RecordList(Boxed::new(node.alloc, list)?)))
+        }
+        Kind::RecordExprField => {
+            let field = RecordExprField {
+                id: node.id,
+                range: node.range,
+                name: node.part::<Name>("name")?,
+                expr: node.boxed::<Expr>("expr")?,
+            };
+            Ok(Some(AnyPart::RecordField(Boxed::new(node.alloc, field)?)))
+        }
         _ => Ok(None),
     }
 }

@@ -7,6 +7,7 @@ ghost use Rattle.json_nodes.specs.Nodes.{here};
 use crate::field::{flag, own_text};
 use crate::node::{Node, ReadParts};
 use crate::part::AnyPart;
+use hir_syntax::Boxed;
 use hir_syntax::ast::{
     ConstArg, ForBinder, Lifetime, Param, Path, PathType, RetType, Type_, TypeBound, TypeKind,
 };
@@ -59,21 +60,6 @@ fn array<P: ReadParts>(node: &Node<'_, P>) -> Result<TypeKind, AllocError>
     })
 }
 
-/// A type with a part of another group beside its type.
-fn beside_types<P: ReadParts>(
-    node: &Node<'_, P>,
-    kind: Kind,
-) -> Result<Option<TypeKind>, AllocError>
-    requires { P.can node.now.parts.now }
-    ensures { IfOk result (λ part. part ≡ spec.beside_types (here P.parts node.now) kind) }
-{
-    match kind {
-        Kind::RefType => Ok(Some(reference(node)?)),
-        Kind::ArrayType => Ok(Some(array(node)?)),
-        _ => Ok(None),
-    }
-}
-
 #[tactic(auto, unfolding(crate::specs::Types::function_pointer))]
 fn function_pointer<P: ReadParts>(node: &Node<'_, P>) -> Result<TypeKind, AllocError>
     requires { P.can node.now.parts.now }
@@ -98,14 +84,17 @@ fn under_binder<P: ReadParts>(node: &Node<'_, P>) -> Result<TypeKind, AllocError
     })
 }
 
-fn with_parameters<P: ReadParts>(
+/// A type with a part of another group beside its type, or in its place.
+fn beside_types<P: ReadParts>(
     node: &Node<'_, P>,
     kind: Kind,
 ) -> Result<Option<TypeKind>, AllocError>
     requires { P.can node.now.parts.now }
-    ensures { IfOk result (λ part. part ≡ spec.with_parameters (here P.parts node.now) kind) }
+    ensures { IfOk result (λ part. part ≡ spec.beside_types (here P.parts node.now) kind) }
 {
     match kind {
+        Kind::RefType => Ok(Some(reference(node)?)),
+        Kind::ArrayType => Ok(Some(array(node)?)),
         Kind::FnPtrType => Ok(Some(function_pointer(node)?)),
         Kind::ForType => Ok(Some(under_binder(node)?)),
         _ => Ok(None),
@@ -140,9 +129,6 @@ fn type_kind<P: ReadParts>(node: &Node<'_, P>, kind: Kind) -> Result<Option<Type
     if let Some(kind) = beside_types(node, kind)? {
         return Ok(Some(kind));
     }
-    if let Some(kind) = with_parameters(node, kind)? {
-        return Ok(Some(kind));
-    }
     bounded(node, kind)
 }
 
@@ -152,18 +138,22 @@ pub fn of_type<P: ReadParts>(node: &Node<'_, P>, kind: Kind) -> Result<Option<An
     ensures { IfOk result (λ part. part ≡ spec.of_type (here P.parts node.now) kind) }
 {
     if let Kind::PathType = kind {
-        return Ok(Some(AnyPart::PathType(PathType {
+        let path_type = PathType {
             id: node.id,
             range: node.range,
             path: node.boxed::<Path>("path")?,
-        })));
+        };
+        return Ok(Some(AnyPart::PathType(Boxed::new(node.alloc, path_type)?)));
     }
     match type_kind(node, kind)? {
-        Some(kind) => Ok(Some(AnyPart::Type_(Type_ {
-            id: node.id,
-            range: node.range,
-            kind,
-        }))),
+        Some(kind) => {
+            let ty = Type_ {
+                id: node.id,
+                range: node.range,
+                kind,
+            };
+            Ok(Some(AnyPart::Type_(Boxed::new(node.alloc, ty)?)))
+        }
         None => Ok(None),
     }
 }

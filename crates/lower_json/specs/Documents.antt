@@ -91,8 +91,12 @@ is_optional root.Type_ = true
 abbrev pub tree_of : Root → Data → Tree
 tree_of want d = tree_at want (kinds_of (nodes d)) (nodes d) (number_or 0 (get (codes "root") d))
 
+-- whether the body is skipped, which it isn't where the document doesn't say
+abbrev pub skip_of : Data → Bool
+skip_of d = flag_of (get (codes "skip") d)
+
 abbrev pub env_of : Data → Tables
-env_of d = record (tables_of (container_of d) (get (codes "env") d)) { skip = flag_of (get (codes "skip") d) }
+env_of d = record (tables_of (container_of d) (get (codes "env") d)) { skip = skip_of d }
 
 -- what a document says
 abbrev pub document_of : Root → Data → Document

@@ -2,7 +2,7 @@
 
 ghost use Rattle.std.specs.Prelude.{◌≡◌};
 ghost use Rattle.serde_json.specs.View.{view};
-ghost use Rattle.lower_json.specs.Documents.{owner_word, owners, owner_of, container_word, containers, container_of, mode_of};
+ghost use Rattle.lower_json.specs.Documents.{owner_word, owners, owner_of, container_word, containers, container_of, skip_of, mode_of};
 ghost use Rattle.json_kinds.specs.ByWord.{with_word};
 
 use hir_env::place::LoweringMode;
@@ -10,7 +10,7 @@ use hir_store::ids::{
     ConstId, DefWithBodyId, ExternBlockId, FunctionId, ImplId, ItemContainerId, ModuleId, StaticId,
     TraitId, VariantId,
 };
-use json_nodes::field::text;
+use json_nodes::field::{flag, text};
 use serde_json::Value;
 
 fn owner_with(word: &str) -> Option<DefWithBodyId>
@@ -57,6 +57,13 @@ pub fn container(document: &Value) -> ItemContainerId
         None => None,
     };
     written.unwrap_or(ItemContainerId::ModuleId(ModuleId(0)))
+}
+
+/// Whether the body is skipped, which it isn't where the document doesn't say.
+pub fn skip(document: &Value) -> bool
+    ensures { result ≡ skip_of (view document.now) }
+{
+    flag(document, "skip")
 }
 
 /// The mode that a path is lowered in: it is analysed, unless the document says otherwise.

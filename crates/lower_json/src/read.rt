@@ -10,7 +10,7 @@ ghost use Rattle.lower_json.specs.Faults.{IsErrorOf, IsTextError};
 
 use crate::document::{Document, Root, Tree};
 use crate::fault::{Fault, ReadError};
-use crate::heading::{container, mode, owner};
+use crate::heading::{container, mode, owner, skip};
 use crate::tables::tables;
 use crate::tree::read_tree_at;
 use json_faults::document::{checked_kinds, nodes};
@@ -88,7 +88,7 @@ fn read_document(
 {
     let tree = tree(alloc, want, kinds, document)?;
     let mut env = tables(alloc, document, container(document))?;
-    env.set_skip(flag(document, "skip"));
+    env.set_skip(skip(document));
     Ok(Document {
         tree,
         owner: owner(document),

@@ -9,6 +9,7 @@ ghost use Rattle.lower_json.specs.Reading as spec;
 ghost use Rattle.lower_json.specs.Reading.{of_kind, expr_kind, node_at, tree_of, tree_at};
 
 use crate::document::{Root, Tree};
+use hir_syntax::Boxed;
 use hir_syntax::ast::{Expr, ExprKind, Stmt, Type_};
 use hir_syntax::node::NodeId;
 use json_faults::kinds::kind_at;
@@ -82,17 +83,22 @@ fn expr_kind<P: ReadParts>(node: &Node<'_, P>, kind: Kind) -> Result<Option<Expr
 }
 
 /// The expression of a kind. An `if` is told from others, since it may follow `else`.
-fn of_expr<P: ReadParts>(node: &Node<'_, P>, kind: Kind, expr: ExprKind) -> AnyPart
-    ensures { result ≡ spec.of_expr (here P.parts node.now) kind expr }
+fn of_expr<P: ReadParts>(
+    node: &Node<'_, P>,
+    kind: Kind,
+    expr: ExprKind,
+) -> Result<AnyPart, AllocError>
+    ensures { IfOk result (λ part. part ≡ spec.of_expr (here P.parts node.now) kind expr) }
 {
     let expr = Expr {
         id: node.id,
         range: node.range,
         kind: expr,
     };
+    let expr = Boxed::new(node.alloc, expr)?;
     match kind {
-        Kind::IfExpr => AnyPart::If(expr),
-        _ => AnyPart::Expr(expr),
+        Kind::IfExpr => Ok(AnyPart::If(expr)),
+        _ => Ok(AnyPart::Expr(expr)),
     }
 }
 
@@ -126,11 +132,12 @@ fn other_than_expr<P: ReadParts>(
     ensures { IfOk result (λ part. part ≡ spec.other_than_expr (here P.parts node.now) kind) }
 {
     if let Some(kind) = statement(node, kind)? {
-        return Ok(Some(AnyPart::Stmt(Stmt {
+        let stmt = Stmt {
             id: node.id,
             range: node.range,
             kind,
-        })));
+        };
+        return Ok(Some(AnyPart::Stmt(Boxed::new(node.alloc, stmt)?)));
     }
     match of_path(node, kind)? {
         Some(part) => Ok(Some(part)),
@@ -145,7 +152,7 @@ fn of_kind<P: ReadParts>(node: &Node<'_, P>, kind: Kind) -> Result<Option<AnyPar
     ensures { IfOk result (λ part. part ≡ of_kind (here P.parts node.now) kind) }
 {
     match expr_kind(node, kind)? {
-        Some(expr) => Ok(Some(of_expr(node, kind, expr))),
+        Some(expr) => Ok(Some(of_expr(node, kind, expr)?)),
         None => other_than_expr(node, kind),
     }
 }

@@ -146,7 +146,7 @@ lower_type_node-type_node-requires g t c =
       block = λ b. Unit {0};
       path = HandlesPath g.E.LowerEnv.answers _ _ c.args.env.now;
       type_ = HandlesType g.E.LowerEnv.answers _ _ c.args.env.now;
-      args = HandlesArgs g.E.LowerEnv.answers _ _ c.args.env.now;
+      args = λ p l. Unit {0};
       constant = HandlesConstant g.E.LowerEnv.answers _ _ c.args.env.now;
     }) t
     (record {
@@ -162,10 +162,7 @@ lower_type_node-type_node-requires g t c =
         callable = λ alloc v old b same is. (rw same (rw is h), λ a m. m);
         lowers = λ alloc v old new b r same is q. rw (← is) (rw (← same) q.2);
       };
-      lists = λ p x h. record {
-        callable = λ alloc v old b same is. (rw same (rw is h), λ a m. m);
-        lowers = λ alloc v old new b r same is q. rw (← is) (rw (← same) q.2);
-      };
+      lists = λ p x h. tt;
     })
     c.args.place (pointer_at at c.args.node.now.id c.args.node.now.range) (out-TypeKind c.args.node.now.kind) (omega (arith, d, size))
 
@@ -179,8 +176,8 @@ lower_arg_list-args_node-requires g t c =
     let env = g.E.LowerEnv.answers c.args.env.now in
     let size = ap count_args (arg_list_is_level (spot_at env c.args.place) c.args.node.now) in
     kids_args env (record {
-      expr = λ e. Unit {0};
-      block = λ b. Unit {0};
+      expr = HandlesExpr g.E.LowerEnv.answers _ _ c.args.env.now c.args.place;
+      block = HandlesBlock g.E.LowerEnv.answers _ _ c.args.env.now c.args.place;
       path = HandlesPath g.E.LowerEnv.answers _ _ c.args.env.now;
       type_ = HandlesType g.E.LowerEnv.answers _ _ c.args.env.now;
       args = HandlesArgs g.E.LowerEnv.answers _ _ c.args.env.now;

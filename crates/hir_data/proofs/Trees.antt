@@ -1,0 +1,251 @@
+-- Worked trees, computed level by level.
+use Rattle.std.proofs.Common.{◌≡◌, ◌∙◌, ap, ℕ, codes, true, false, if◌then◌else◌, List, [], ◌∷◌, Option, Some, None}
+use Rattle.hir_syntax.specs.declared.ast.Path.{roll-Path, out-roll-Path}
+use Rattle.hir_syntax.specs.declared.ast.PathSegment.{PathSegment as AstPathSegment, roll-PathSegment, out-roll-PathSegment}
+use Rattle.hir_syntax.specs.declared.types.AssocTypeArg.{roll-AssocTypeArg, out-roll-AssocTypeArg}
+use Rattle.hir_syntax.specs.declared.types.GenericArg.{GenericArg as AstGenericArg, roll-GenericArg, out-roll-GenericArg}
+use Rattle.hir_syntax.specs.declared.ast.ElseBranch.TheOpen.{GenericArg-F}
+use Rattle.hir_syntax.specs.declared.types.GenericArgList.{roll-GenericArgList, out-roll-GenericArgList}
+use Rattle.hir_syntax.specs.declared.types.Param.{Param as AstParam, roll-Param, out-roll-Param}
+use Rattle.hir_syntax.specs.declared.types.ParenArgs.{roll-ParenArgs, out-roll-ParenArgs}
+use Rattle.hir_syntax.specs.declared.types.PathType.{roll-PathType, out-roll-PathType}
+use Rattle.hir_syntax.specs.declared.types.RetType.{roll-RetType, out-roll-RetType}
+use Rattle.hir_syntax.specs.declared.types.TypeArg.{roll-TypeArg, out-roll-TypeArg}
+use Rattle.hir_syntax.specs.declared.types.TypeBound.{roll-TypeBound, out-roll-TypeBound}
+use Rattle.hir_syntax.specs.declared.types.TypeKind.{out-roll-TypeKind}
+use Rattle.hir_syntax.specs.declared.types.Type_.{Type_ as AstType_}
+use Rattle.hir_store.specs.declared.hir.Mutability.TheVariants.{Shared}
+use Rattle.hir_store.specs.declared.name.Name.TheVariants as name
+use Rattle.hir_env.specs.declared.place.ImplTrait.TheVariants as impl
+use Rattle.hir_env.specs.Spot.{Spot}
+use Rattle.hir_env.specs.TypeLayers.{ParamReading, TypeKindLayer, PathLayer, PathSegmentLayer, AssocTypeArgLayer, GenericArgLayer}
+use Rattle.hir_env.specs.TypeLayers.{GenericArgListLayer, ParamLayer, ParenArgsLayer, PathTypeLayer, RetTypeLayer, TypeArgLayer}
+use Rattle.hir_env.specs.TypeLayers.{TypeBoundLayer}
+use Rattle.hir_env.specs.Paths as of
+use Rattle.hir_env.specs.Answered as tree
+use Rattle.hir_env.specs.Answered.{Type_, OptionType, Parts, Segment, SegmentArgs, Arg}
+use Rattle.hir_env.specs.Whole.{written, reader}
+use Rattle.hir_env.specs.Whole.{answered_type, answered_param, answered_ret, answered_path, answered_segment, answered_path_type}
+use Rattle.hir_env.specs.Whole.{answered_paren_args, answered_arg_list, answered_arg, answered_type_arg, answered_assoc_arg}
+use Rattle.hir_env.specs.Whole.{answered_bound, in_impl, in_binding}
+use Rattle.hir_env.proofs.PathLevels.{type_is_level, param_is_level, ret_is_level, path_is_level, segment_is_level, path_type_is_level}
+use Rattle.hir_env.proofs.PathLevels.{paren_args_is_level, arg_list_is_level, arg_is_level, type_arg_is_level, assoc_arg_is_level}
+use Rattle.hir_env.proofs.PathLevels.{bound_is_level}
+use Rattle.hir_data.specs.Written.{type_data}
+use Rattle.hir_data.specs.Trees.{type_at, with_argument, type_arg_of, binding_of, ret_of, fn_trait, impl_at, never_at, bare}
+use Rattle.hir_data.specs.Trees.{free, pointer, ImplsInside, reads_lifetime, LifetimesOfTexts, reads_abi, AbisOfTexts, fn_at}
+use Rattle.hir_data.specs.Trees.{plain_param, dots_param, VarargsAtTheEnd}
+
+-- ---- one level of a tree that is made of its parts
+
+module _ (at : Spot) where
+  type_made : (n : ℕ) (k : TypeKindLayer written)
+      → answered_type at (type_at n k) ≡ of.type_at at.answers (reader at.answers) k at.place (pointer at n)
+  type_made n k = type_is_level at (type_at n k)
+      ∙ ap (λ x. of.type_at at.answers (reader at.answers) x at.place (pointer at n)) (out-roll-TypeKind k)
+
+  path_made : (x : PathLayer written)
+      → answered_path at (roll-Path x) ≡ of.path_step at.answers (reader at.answers) x at.place
+  path_made x = path_is_level at (roll-Path x)
+      ∙ ap (λ l. of.path_step at.answers (reader at.answers) l at.place) (out-roll-Path x)
+
+  segment_made : (x : PathSegmentLayer written)
+      → answered_segment at (roll-PathSegment x) ≡ of.segment_step at.answers (reader at.answers) x at.place
+  segment_made x = segment_is_level at (roll-PathSegment x)
+      ∙ ap (λ l. of.segment_step at.answers (reader at.answers) l at.place) (out-roll-PathSegment x)
+
+  path_type_made : (x : PathTypeLayer written)
+      → answered_path_type at (roll-PathType x) ≡ of.path_type_step at.answers (reader at.answers) x at.place
+  path_type_made x = path_type_is_level at (roll-PathType x)
+      ∙ ap (λ l. of.path_type_step at.answers (reader at.answers) l at.place) (out-roll-PathType x)
+
+  bound_made : (x : TypeBoundLayer written)
+      → answered_bound at (roll-TypeBound x) ≡ of.type_bound_step at.answers (reader at.answers) x at.place
+  bound_made x = bound_is_level at (roll-TypeBound x)
+      ∙ ap (λ l. of.type_bound_step at.answers (reader at.answers) l at.place) (out-roll-TypeBound x)
+
+  arg_list_made : (x : GenericArgListLayer written)
+      → answered_arg_list at (roll-GenericArgList x) ≡ of.generic_arg_list_step at.answers (reader at.answers) x at.place
+  arg_list_made x = arg_list_is_level at (roll-GenericArgList x)
+      ∙ ap (λ l. of.generic_arg_list_step at.answers (reader at.answers) l at.place) (out-roll-GenericArgList x)
+
+  arg_made : (x : GenericArgLayer written)
+      → answered_arg at (roll-GenericArg x) ≡ of.generic_arg_step at.answers (reader at.answers) x at.place
+  arg_made x = arg_is_level at (roll-GenericArg x)
+      ∙ ap (λ l. of.generic_arg_step at.answers (reader at.answers) l at.place) (out-roll-GenericArg x)
+
+  type_arg_made : (x : TypeArgLayer written)
+      → answered_type_arg at (roll-TypeArg x) ≡ of.type_arg_step at.answers (reader at.answers) x at.place
+  type_arg_made x = type_arg_is_level at (roll-TypeArg x)
+      ∙ ap (λ l. of.type_arg_step at.answers (reader at.answers) l at.place) (out-roll-TypeArg x)
+
+  assoc_arg_made : (x : AssocTypeArgLayer written)
+      → answered_assoc_arg at (roll-AssocTypeArg x) ≡ of.assoc_type_arg_step at.answers (reader at.answers) x at.place
+  assoc_arg_made x = assoc_arg_is_level at (roll-AssocTypeArg x)
+      ∙ ap (λ l. of.assoc_type_arg_step at.answers (reader at.answers) l at.place) (out-roll-AssocTypeArg x)
+
+  paren_args_made : (x : ParenArgsLayer written)
+      → answered_paren_args at (roll-ParenArgs x) ≡ of.paren_args_step at.answers (reader at.answers) x at.place
+  paren_args_made x = paren_args_is_level at (roll-ParenArgs x)
+      ∙ ap (λ l. of.paren_args_step at.answers (reader at.answers) l at.place) (out-roll-ParenArgs x)
+
+  ret_made : (x : RetTypeLayer written)
+      → answered_ret at (roll-RetType x) ≡ of.ret_type_step at.answers (reader at.answers) x at.place
+  ret_made x = ret_is_level at (roll-RetType x)
+      ∙ ap (λ l. of.ret_type_step at.answers (reader at.answers) l at.place) (out-roll-RetType x)
+
+  param_made : (x : ParamLayer written)
+      → answered_param at (roll-Param x) ≡ of.param_step at.answers (reader at.answers) x at.place
+  param_made x = param_is_level at (roll-Param x)
+      ∙ ap (λ l. of.param_step at.answers (reader at.answers) l at.place) (out-roll-Param x)
+
+-- ---- an `impl` inside of one
+
+abbrev within : Spot → Spot
+within at = in_impl (free at)
+
+-- the `impl` at this node of this one segment
+abbrev impl_of : Spot → ℕ → Segment → Type_
+impl_of at n s =
+    let path = tree.some_path (tree.path false s tree.no_segments tree.no_path) in
+    tree.impl_type (pointer at n) impl.Opaque (tree.more_bounds (tree.path_bound (pointer at 9) path false []) tree.no_bounds)
+
+outer_is : (at : Spot) (n : ℕ) (s : AstPathSegment)
+    → answered_type (free at) (impl_at n s) ≡ impl_of at n (answered_segment (within at) s)
+outer_is at n s =
+    type_made (free at) n _
+    ∙ (ap (λ b. tree.impl_type (pointer at n) impl.Opaque (tree.more_bounds b tree.no_bounds)) (bound_made (within at) _)
+    ∙ (ap (λ t. tree.impl_type (pointer at n) impl.Opaque (tree.more_bounds (tree.path_bound t.pointer t.path false []) tree.no_bounds))
+    (path_type_made (within at) _)
+    ∙ ap (λ p. tree.impl_type (pointer at n) impl.Opaque
+    (tree.more_bounds (tree.path_bound (pointer at 9) (tree.some_path p) false []) tree.no_bounds)) (path_made (within at) _)))
+
+inner_is : (at : Spot) (n : ℕ) (s : AstPathSegment) → answered_type (within at) (impl_at n s) ≡ tree.nested_impl (pointer at n)
+inner_is at n s = type_made (within at) n _
+
+never_is : (at : Spot) (n : ℕ) → answered_type at (never_at n) ≡ tree.leaf_type (pointer at n) tree.never_leaf
+never_is at n = type_made at n _
+
+-- a name, with what stands behind it
+abbrev segment_with : List ℕ → SegmentArgs → Segment
+segment_with t a = tree.name_segment (name.Text t) a
+
+abbrev list_with : Arg → SegmentArgs
+list_with a = tree.segment_args (tree.some_arg_list (tree.more_args a tree.no_args)) tree.no_parens false
+
+abbrev parens_with : Parts → OptionType → SegmentArgs
+parens_with ps r = tree.segment_args tree.no_arg_list (tree.some_parens ps (tree.some_ret r)) false
+
+abbrev only_part : OptionType → Parts
+only_part t = tree.more_parts t tree.no_parts
+
+module _ (at : Spot) where
+  with_argument_is : (a : AstGenericArg)
+      → answered_segment at (with_argument (codes "A") a) ≡ segment_with (codes "A") (list_with (answered_arg at a))
+  with_argument_is a = segment_made at _
+      ∙ ap (λ l. segment_with (codes "A") (tree.segment_args (tree.some_arg_list l) tree.no_parens false)) (arg_list_made at _)
+
+  type_argument_is : (t : AstType_)
+      → answered_arg at (roll-GenericArg (GenericArg-F.TypeArg (type_arg_of t))) ≡ tree.type_arg (tree.some_type (answered_type at t))
+  type_argument_is t = arg_made at _ ∙ ap tree.type_arg (type_arg_made at _)
+
+  binding_is : (n : List ℕ) (t : AstType_)
+      → answered_arg at (binding_of n t)
+      ≡ tree.assoc_arg (name.Text n) tree.no_arg_list false (tree.some_type (answered_type (in_binding at) t)) tree.no_bounds
+  binding_is n t = arg_made at _ ∙ assoc_arg_made at _
+
+  fn_trait_is : (a b : AstType_)
+      → answered_segment at (fn_trait (codes "Fn") a b)
+      ≡ segment_with (codes "Fn") (parens_with (only_part (tree.some_type (answered_type at a))) (tree.some_type (answered_type at b)))
+  fn_trait_is a b = segment_made at _
+      ∙ (ap (λ ps. segment_with (codes "Fn") (parens_with ps (answered_ret at (ret_of b))))
+      (paren_args_made at _ ∙ ap only_part (type_arg_made at _))
+      ∙ ap (λ r. segment_with (codes "Fn") (parens_with (only_part (tree.some_type (answered_type at a))) r)) (ret_made at _))
+
+-- `Fn(t) -> r`
+abbrev fn_of : Type_ → Type_ → Segment
+fn_of t r = segment_with (codes "Fn") (parens_with (only_part (tree.some_type t)) (tree.some_type r))
+
+impl_reads : (at : Spot) (s : AstPathSegment) (x : Segment) → answered_segment (within at) s ≡ x
+    → type_data None (answered_type (free at) (impl_at 0 s)) ≡ type_data None (impl_of at 0 x)
+impl_reads at s x h = ap (type_data None) (outer_is at 0 s ∙ ap (impl_of at 0) h)
+
+pub reads_impls : ImplsInside
+reads_impls at = (
+  impl_reads at _ _ (with_argument_is (within at) _
+      ∙ ap (λ a. segment_with (codes "A") (list_with a))
+      (type_argument_is (within at) _ ∙ ap (λ t. tree.type_arg (tree.some_type t)) (inner_is at 1 (bare (codes "B"))))),
+  impl_reads at _ _ (with_argument_is (within at) _
+      ∙ ap (λ a. segment_with (codes "A") (list_with a))
+      (binding_is (within at) (codes "T") _
+      ∙ ap (λ t. tree.assoc_arg (name.Text (codes "T")) tree.no_arg_list false (tree.some_type t) tree.no_bounds)
+      (outer_is at 1 (bare (codes "B")) ∙ ap (impl_of at 1) (segment_made (within at) _)))),
+  impl_reads at _ _ (fn_trait_is (within at) (never_at 2) _
+      ∙ (ap (λ t. fn_of t (answered_type (within at) (impl_at 1 (bare (codes "B"))))) (never_is (within at) 2)
+      ∙ ap (fn_of (tree.leaf_type (pointer at 2) tree.never_leaf)) (inner_is at 1 (bare (codes "B"))))),
+)
+
+-- ---- lifetimes
+
+reference_is : (at : Spot) (t : List ℕ)
+    → reads_lifetime at t (of.lifetime_ref t)
+reference_is at t = ap (type_data None) (type_made at 0 _
+    ∙ ap (λ x. tree.ref_type (pointer at 0) (Some (record { pointer = pointer at 1; lifetime = of.lifetime_ref t })) Shared
+    (tree.some_type x)) (never_is at 2))
+
+pub reads_lifetimes : LifetimesOfTexts
+reads_lifetimes at = (
+  reference_is at [],
+  reference_is at (codes "'"),
+  reference_is at (codes "'static"),
+  reference_is at (codes "'_"),
+  reference_is at (codes "'a"),
+)
+
+-- ---- function pointers
+
+abi_is : (at : Spot) (t : Option (List ℕ)) → reads_abi at t (of.abi_of t)
+abi_is at t = ap (type_data None) (type_made at 0 _)
+
+pub reads_abis : AbisOfTexts
+reads_abis at = (
+  abi_is at None,
+  abi_is at (Some []),
+  abi_is at (Some (codes "C")),
+  abi_is at (Some (codes "efiapi")),
+  abi_is at (Some (codes "x")),
+)
+
+-- a function pointer of two parameters that are read
+abbrev of_two : Spot → ParamReading → ParamReading → Type_
+of_two at r q =
+    let rest = if q.variadic then tree.no_parts else only_part q.ty in
+    tree.fn_type (pointer at 0) (record { is_unsafe = false; abi = of.abi_of None; is_varargs = q.variadic })
+    (if r.variadic then rest else tree.more_parts r.ty rest) tree.no_type
+
+abbrev of_type : Type_ → ParamReading
+of_type t = record { variadic = false; ty = tree.some_type t }
+
+abbrev plain_reading : Spot → ParamReading
+plain_reading at = of_type (tree.leaf_type (pointer at 1) tree.never_leaf)
+
+abbrev dots_reading : ParamReading
+dots_reading = record { variadic = true; ty = tree.no_type }
+
+module _ (at : Spot) where
+  of_two_is : (x y : AstParam) (r q : ParamReading) → answered_param at x ≡ r → answered_param at y ≡ q
+      → type_data None (answered_type at (fn_at None (x ∷ y ∷ []))) ≡ type_data None (of_two at r q)
+  of_two_is x y r q f g = ap (type_data None) (type_made at 0 _
+      ∙ (ap (λ z. of_two at z (answered_param at y)) f ∙ ap (of_two at r) g))
+
+  plain_is : answered_param at plain_param ≡ plain_reading at
+  plain_is = param_made at _ ∙ ap of_type (never_is at 1)
+
+  dots_is : answered_param at dots_param ≡ dots_reading
+  dots_is = param_made at _
+
+pub reads_varargs : VarargsAtTheEnd
+reads_varargs at = (
+  of_two_is at plain_param dots_param (plain_reading at) dots_reading (plain_is at) (dots_is at),
+  of_two_is at dots_param plain_param dots_reading (plain_reading at) (dots_is at) (plain_is at),
+)

@@ -1,0 +1,4 @@
+use Rattle.hir_lower.proofs.collector.ExprCollector.lower_path.Goals as goal
+
+pub returns-clause-data : goal.returns-clause-data
+returns-clause-data g c = rw (← c.mode.ensures) (c.in_ok-lowered.ensures.data (c.args.self.now.paired c.if-self.false))

@@ -1,0 +1,49 @@
+//! Paths, types and arguments that stand in an expression: they are read at its own place.
+
+ghost use Rattle.std.specs.Prelude.{None};
+ghost use Rattle.hir_env.specs.Whole.{arg_list_part, path_part, type_part};
+ghost use Rattle.hir_lower_form.specs.Nests.{IfPresent};
+ghost use Rattle.hir_lower_form.specs.Methods.{LowersArgs, LowersPath, LowersTypeOpt};
+
+use hir_lower_form::builder::BodyBuilder;
+use hir_lower_form::parts::{LowerParts, Lowerer};
+use hir_store::fault::StoreFault;
+use hir_store::ids::TypeRefId;
+use hir_store::path::{GenericArgs, Path};
+use hir_syntax::{Boxed, ast};
+
+/// The path, none where it is absent or refused.
+pub(crate) fn path_here<P: LowerParts>(
+    lowerer: &Lowerer<P>,
+    state: &mut BodyBuilder,
+    path: &Option<Boxed<ast::Path>>,
+) -> Result<Option<Path>, StoreFault>
+    requires { IfPresent ((P.can lowerer.now.parts).path (P.spot lowerer.now.parts).place) path.now }
+    ensures { LowersPath (path_part (P.spot lowerer.now.parts) path.now) state.old result state.new }
+{
+    lowerer.path_if_present(state, lowerer.parts.place(), path)
+}
+
+/// The type, an error where it is absent.
+pub(crate) fn type_here<P: LowerParts>(
+    lowerer: &Lowerer<P>,
+    state: &mut BodyBuilder,
+    ty: &Option<Boxed<ast::Type_>>,
+) -> Result<TypeRefId, StoreFault>
+    requires { IfPresent ((P.can lowerer.now.parts).type_ (P.spot lowerer.now.parts).place) ty.now }
+    ensures { LowersTypeOpt None (type_part (P.spot lowerer.now.parts) ty.now) state.old result state.new }
+{
+    lowerer.type_or_error(state, lowerer.parts.place(), &None, ty)
+}
+
+/// The generic arguments, none where they are absent or yield nothing.
+pub(crate) fn args_here<P: LowerParts>(
+    lowerer: &Lowerer<P>,
+    state: &mut BodyBuilder,
+    generics: &Option<ast::GenericArgList>,
+) -> Result<Option<GenericArgs>, StoreFault>
+    requires { IfPresent ((P.can lowerer.now.parts).args (P.spot lowerer.now.parts).place) generics.now }
+    ensures { LowersArgs (arg_list_part (P.spot lowerer.now.parts) generics.now) state.old result state.new }
+{
+    lowerer.args_if_present(state, lowerer.parts.place(), generics)
+}
