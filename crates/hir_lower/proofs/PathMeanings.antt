@@ -15,8 +15,8 @@ use Rattle.hir_lower_form.specs.Builder.{Builder}
 use Rattle.hir_lower_form.specs.Lowering.{Checked, SomeEnd}
 use Rattle.hir_lower_form.specs.Lower.{lower_path}
 use Rattle.hir_lower_form.specs.Methods.{LowersPath}
-use Rattle.hir_steps.specs.Keeps.{KeepsAside, Paired}
-use Rattle.hir_steps.proofs.Aside.{paths_keep}
+use Rattle.hir_steps.specs.Keeps.{Keeps, KeepsAll, Paired}
+use Rattle.hir_steps.proofs.Keeping.{paths_keep}
 use Rattle.hir_read_back.proofs.Now.{path_law}
 use Rattle.hir_one_result.specs.Laws.{Grown, GrownUnless}
 use Rattle.hir_one_result.specs.Room.{whole_size}
@@ -28,8 +28,8 @@ use Rattle.hir_lower.specs.Stays.{Stays}
 use Rattle.hir_lower.proofs.Ways.{Went, went}
 use Rattle.hir_lower.proofs.TreeWays.{option_path_leads}
 
-extends_of : (b : Builder) (o : Checked (Option Path)) (c : Builder) → KeepsAside b o c → Extends b.stored c.stored
-extends_of b (Ok x) c h = h.0.stays
+extends_of : (b : Builder) (o : Checked (Option Path)) (c : Builder) → Keeps b o c → Extends b.stored c.stored
+extends_of b (Ok x) c h = h.stays
 extends_of b (Err e) c h = h
 
 -- what is so of a path that stands alone
@@ -49,18 +49,16 @@ module _ (at : Spot) (x : AstPath) (b b' : Builder) where
   names_if (Err e) l d = tt
 
   pub rooted_path_if : (r : Checked (Option Path)) → Alone r → Paired b.stored
-      → IfOk r (λ y. PathRooted b.stored b'.stored y (whole_path at x))
+      → IfOk r (λ y. PathRooted b.in_root b.stored b'.stored y (whole_path at x))
   rooted_path_if (Ok y) l d =
-      let kept : KeepsAside b (Ok y) b' = subst (λ q. KeepsAside b q.0 q.1) l.0 (paths_keep (whole_path at x) b d) in
+      let kept : KeepsAll b b' = subst (λ q. Keeps b q.0 q.1) l.0 (paths_keep (whole_path at x) b) in
       let grown : Grown (whole_size (whole_path at x)) b.stored b'.stored =
       subst (λ q. GrownUnless (whole_size (whole_path at x)) b.stored q.0 q.1.stored) l.0 (paths_fit (whole_path at x) b) in
       record {
         reached_once = λ later ext depth le. path_types_once (whole_path at x) b b' y d l.0 later ext depth le;
         grown = grown;
-        aside = kept.1;
-        roots = kept.0.roots;
-        paired = kept.0.paired d;
-        mapped = kept.0.mapped d;
+        paired = kept.paired d;
+        mapped = kept.mapped d;
       }
   rooted_path_if (Err e) l d = tt
 
@@ -75,18 +73,18 @@ module _ (at : Spot) (x : AstPath) (b b' : Builder) where
   path_too_large_if (Ok y) l is = cc
   path_too_large_if (Err e) l is = let other : e ≢ Memory = λ m. cc in short_if e (l other).0
 
-  path_stays : Paired b.stored → Stays b.stored (lower_path (whole_path at x) b).1.stored
-  path_stays d =
+  path_stays : Stays b.stored (lower_path (whole_path at x) b).1.stored
+  path_stays =
       let o = lower_path (whole_path at x) b in
       let ways : Went b.stored o.1.stored = went (option_path_leads (whole_path at x)) b in record {
-        extends = extends_of b o.0 o.1 (paths_keep (whole_path at x) b d);
+        extends = extends_of b o.0 o.1 (paths_keep (whole_path at x) b);
         exprs = ways.exprs.ways;
         labels = ways.labels.ways;
         types = ways.types.ways;
         lifetimes = ways.lifetimes.ways;
       }
 
-  pub path_stays_if : (r : Checked (Option Path)) → Alone r → Paired b.stored → r ≢ Err Memory → Stays b.stored b'.stored
-  path_stays_if (Ok y) l d n = subst (λ q. Stays b.stored q.1.stored) l.0 (path_stays d)
-  path_stays_if (Err e) l d n =
-      let other : e ≢ Memory = λ is. n (ap Err is) in subst (λ q. Stays b.stored q.1.stored) (l other).0 (path_stays d)
+  pub path_stays_if : (r : Checked (Option Path)) → Alone r → r ≢ Err Memory → Stays b.stored b'.stored
+  path_stays_if (Ok y) l n = subst (λ q. Stays b.stored q.1.stored) l.0 path_stays
+  path_stays_if (Err e) l n =
+      let other : e ≢ Memory = λ is. n (ap Err is) in subst (λ q. Stays b.stored q.1.stored) (l other).0 path_stays

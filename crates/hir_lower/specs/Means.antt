@@ -39,7 +39,7 @@ use Rattle.hir_meaning.specs.Inner.{path_bodies, path_inner_bodies}
 use Rattle.hir_meaning.specs.Inner.{of_present as of_some}
 use Rattle.hir_meaning.specs.Same.{SameBodies, SameMeaning}
 use Rattle.hir_same_meaning.specs.Reached.{Spread, reached_to}
-use Rattle.hir_steps.specs.Keeps.{Mapped, Paired, StaysAside}
+use Rattle.hir_steps.specs.Keeps.{Mapped, Paired}
 use Rattle.hir_one_result.specs.Blocks.{blocks_of_part, blocks_of_whole}
 use Rattle.hir_one_result.specs.Diagnostics.{Faults, part_diagnostics, whole_faults}
 use Rattle.hir_one_result.specs.Laws.{Grown}

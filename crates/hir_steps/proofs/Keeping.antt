@@ -39,7 +39,7 @@ use Rattle.hir_lower_form.specs.Lower.{lower_fields, lower_field, lower_spread}
 use Rattle.hir_lower_form.specs.Lower.{method_call_form, await_form, block_form, labelled, kept, lower, lower_part}
 use Rattle.hir_lower_form.specs.Lower.{present, kept_part, lower_each, lower_block, lower_block_part, lower_stmts}
 use Rattle.hir_lower_form.specs.Lower.{lower_stmt}
-use Rattle.hir_steps.specs.Keeps.{Keeps, Keeping}
+use Rattle.hir_steps.specs.Keeps.{Keeps, Keeping, PathsKeep, TypesKeep}
 use Rattle.hir_steps.proofs.Frames.{Frame, loop_at, block_at, frames, ribs_frames}
 use Rattle.hir_steps.proofs.Constants.{correct_constant}
 pub use Rattle.hir_steps.proofs.TypeAny.{Any, any}
@@ -342,11 +342,19 @@ mutual
   stmt_any (tree.expr_stmt e semi) = then_any (kept_part_any e) (λ x. any (correct_pure _))
   stmt_any tree.item_stmt = any (correct_pure _)
 
-kept_of : (final : Stored) (ps : List Frame) (b : Builder) (o : Checked ExprId) (c : Builder) → Holds Any final ps b o c → Keeps b o c
-kept_of final ps b (Ok i) c h = h.kept
+kept_of : {A : Type 0} (final : Stored) (ps : List Frame) (b : Builder) (o : Checked A) (c : Builder) → Holds Any final ps b o c
+    → Keeps b o c
+kept_of final ps b (Ok a) c h = h.kept
 kept_of final ps b (Err e) c h = h
 
+kept_by : {A : Type 0} {p : Lowering A} → Correct p Any → (b : Builder) → Keeps b (p b).0 (p b).1
+kept_by {p = p} h b = let ps = frames b.scopes in kept_of b.stored ps b (p b).0 (p b).1 (h.holds b.stored ps b (ribs_frames b.scopes))
+
 pub keeping : Keeping
-keeping e b =
-    let ps = frames b.scopes in
-    kept_of b.stored ps b (lower_part e b).0 (lower_part e b).1 ((part_any e).holds b.stored ps b (ribs_frames b.scopes))
+keeping e b = kept_by (part_any e) b
+
+pub types_keep : TypesKeep
+types_keep binder t b = kept_by (type_any binder t) b
+
+pub paths_keep : PathsKeep
+paths_keep p b = kept_by (lower_path_any p) b

@@ -36,21 +36,10 @@ Keeps b (Err e) b' = Extends b.stored b'.stored
 abbrev pub Keeping : Type 0
 Keeping = (e : OptionExpr) (b : Builder) → Keeps b (lower_part e b).0 (lower_part e b).1
 
--- types and paths store beside expressions and labels, report nothing and enter no block
-pub record StaysAside (old new : Stored) : Type 0 where
-  pub exprs : new.exprs ≡ old.exprs
-  pub labels : new.labels ≡ old.labels
-  pub diagnostics : new.diagnostics ≡ old.diagnostics
-  pub block_scopes : new.block_scopes ≡ old.block_scopes
-  pub field_map_back : new.field_map_back ≡ old.field_map_back
-
-abbrev pub KeepsAside : {A : Type 0} → Builder → Checked A → Builder → Type 0
-KeepsAside b (Ok a) b' = KeepsAll b b' × StaysAside b.stored b'.stored
-KeepsAside b (Err e) b' = Extends b.stored b'.stored
+-- so it is of types and paths by themselves
 
 abbrev pub TypesKeep : Type 0
-TypesKeep = (binder : Option Binder) (t : OptionType) (b : Builder) → Paired b.stored
-    → KeepsAside b (type_part binder t b).0 (type_part binder t b).1
+TypesKeep = (binder : Option Binder) (t : OptionType) (b : Builder) → Keeps b (type_part binder t b).0 (type_part binder t b).1
 
 abbrev pub PathsKeep : Type 0
-PathsKeep = (p : OptionPath) (b : Builder) → Paired b.stored → KeepsAside b (lower_path p b).0 (lower_path p b).1
+PathsKeep = (p : OptionPath) (b : Builder) → Keeps b (lower_path p b).0 (lower_path p b).1

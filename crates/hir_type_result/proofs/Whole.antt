@@ -1,11 +1,11 @@
 -- What is stored where one type was lowered is one result of its tree.
-use Rattle.std.proofs.Common.{arith, refl, ap, subst, ℕ, None, Ok}
+use Rattle.std.proofs.Common.{arith, refl, subst, ℕ, None, Ok}
 use Rattle.hir_store.proofs.Maps.{maps_back_none}
 use Rattle.hir_store.proofs.Range.{extends_refl}
 use Rattle.hir_lower_form.specs.Builder.{fresh}
 use Rattle.hir_read_back.proofs.Now.{type_law}
-use Rattle.hir_steps.specs.Keeps.{Paired, Mapped, KeepsAll, StaysAside, KeepsAside}
-use Rattle.hir_steps.proofs.Aside.{types_keep}
+use Rattle.hir_steps.specs.Keeps.{Paired, Mapped, Keeps, KeepsAll}
+use Rattle.hir_steps.proofs.Keeping.{types_keep}
 use Rattle.hir_one_result.specs.Laws.{Grown, GrownUnless}
 use Rattle.hir_one_result.specs.Room.{type_part_size}
 use Rattle.hir_one_result.proofs.Fits.{types_fit}
@@ -23,34 +23,24 @@ pub type_results : TypeResults
 type_results limit t i new is =
     let old = fresh limit in
     let none = nothing_paired limit in
-    let keeps : KeepsAside old (Ok i) new = subst (λ r. KeepsAside old r.0 r.1) is (types_keep None t old none) in
-    let kept : KeepsAll old new = keeps.0 in
-    let aside : StaysAside old.stored new.stored = keeps.1 in
+    let kept : KeepsAll old new = subst (λ r. Keeps old r.0 r.1) is (types_keep None t old) in
     let paired = kept.paired none in
     let mapped = kept.mapped none (nothing_mapped limit) in
     let fits : Grown (type_part_size t) old.stored new.stored =
     subst (λ r. GrownUnless (type_part_size t) old.stored r.0 r.1.stored) is (types_fit None t old) in
     let stays = extends_refl new.stored in record {
       reads_back = type_law t old new i none is new.stored stays;
+      exprs = let n = fits.exprs in omega arith;
+      labels = let n = fits.labels in omega arith;
       types = let n = fits.types in omega arith;
       lifetimes = let n = fits.lifetimes in omega arith;
+      expr_sources = paired.exprs;
+      label_sources = paired.labels;
       type_sources = fits.type_sources;
       lifetime_sources = fits.lifetime_sources;
       type_ways = lead_back (λ i. i.0) new.stored.types mapped.types;
       lifetime_ways = lead_back (λ i. i.0) new.stored.lifetimes mapped.lifetimes;
       reached_once = reached_once None t old new i none is new.stored stays;
-      alone = record {
-        exprs = ap (λ a. a.entries) aside.exprs;
-        labels = ap (λ a. a.entries) aside.labels;
-        roots = kept.roots;
-        expr_sources = ap (λ a. a.sources) aside.exprs;
-        label_sources = ap (λ a. a.sources) aside.labels;
-        expr_ways = ap (λ a. a.map) aside.exprs;
-        label_ways = ap (λ a. a.map) aside.labels;
-        field_ways = aside.field_map_back;
-        blocks = aside.block_scopes;
-        faults = aside.diagnostics;
-      };
     }
 
 pub refused_types : RefusedTypes

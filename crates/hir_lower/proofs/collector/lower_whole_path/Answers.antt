@@ -17,4 +17,4 @@ pub returns-clause-too_large : goal.returns-clause-too_large
 returns-clause-too_large g c = λ is. path_too_large_if _ _ _ _ c.lower_path.result c.lower_path.ensures is
 
 pub returns-clause-stays : goal.returns-clause-stays
-returns-clause-stays g c = λ d n. path_stays_if _ _ _ _ c.lower_path.result c.lower_path.ensures d n
+returns-clause-stays g c = λ d n. path_stays_if _ _ _ _ c.lower_path.result c.lower_path.ensures n

@@ -1,5 +1,5 @@
-use Rattle.hir_steps.proofs.Aside.{types_keep, paths_keep}
-use Rattle.hir_steps.proofs.keeps_aside.Goals as goal
+use Rattle.hir_steps.proofs.Keeping.{types_keep, paths_keep}
+use Rattle.hir_steps.proofs.keeps_alone.Goals as goal
 
 pub returns-clause-types : goal.returns-clause-types
 returns-clause-types c = types_keep
