@@ -98,7 +98,8 @@ module _ (at : Pointer) where
       ways_end h (λ t. ways_end (ways_aside (lifetime_option_aside l)) (λ i. type_leaves _ _))
 
   pub fn_leaves : (binder : Option Binder) (head : FnHead) {D E : Stored → Open → Ways} {ts : Lowering (List TypeRefId)} {r : TypeSteps}
-      → Correct r (Leaves D) → Correct ts (Leaves E) → Correct (fn_type_form at binder head ts r) (Leaves (λ final rs. D final rs & E final rs))
+      → Correct r (Leaves D) → Correct ts (Leaves E)
+      → Correct (fn_type_form at binder head ts r) (Leaves (λ final rs. D final rs & E final rs))
   unfolding fn_type_form
   fn_leaves binder head h k = ways_bind h (λ r. ways_end k (λ ts. type_leaves _ _))
 
@@ -145,7 +146,8 @@ reads_leave {read = read} {D = D} k h is more =
 
 pub whole_leaves : {n : Size} {read : Read} {D : Stored → Open → Ways} (k : Seen → Stored → Open → Ways) {p : Lowering Reading}
     {f : PathWalk → Lowering Reading} → Correct p (Leaves D) → known.Tells n (Gives read) p
-    → ((w : PathWalk) → Correct (f w) (Leaves (k (seen w)))) → Correct (whole p f) (Leaves (λ final rs. D final rs & Reached read k final rs))
+    → ((w : PathWalk) → Correct (f w) (Leaves (k (seen w))))
+    → Correct (whole p f) (Leaves (λ final rs. D final rs & Reached read k final rs))
 unfolding whole
 whole_leaves k h is more = reads_leave k h is more
 

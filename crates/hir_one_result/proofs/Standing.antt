@@ -178,7 +178,8 @@ pub leaf_stands : (at : Pointer) (form : Leaf)
 leaf_stands at form = correct_as (alone_stands (stored_leaf form) at) (λ final ps m m' i g row.
     record { shown = shown_as row.shown (λ ws y. (subst (λ e. Placed final i e (Some at)) (leaf_is form) y.0, y.1)) })
 
-pub moved_aside : {A : Type 0} {final : Stored} {ps : List Frame} {m m' : Mark} {a : A} → Aside final ps m m' a → Moved m.stored m'.stored []
+pub moved_aside : {A : Type 0} {final : Stored} {ps : List Frame} {m m' : Mark} {a : A} → Aside final ps m m' a
+    → Moved m.stored m'.stored []
 moved_aside {m' = m'} row = moved_same _ m'.stored refl row.exprs_are row.labels_are row.field_map_back
 
 path_shown : {final : Stored} {qs : List Frame} {m m' : Mark} {i : ExprId} (at : Pointer) (h : HygieneId) (d : Option PathData)

@@ -125,7 +125,8 @@ mutual
   segment_enters false (tree.type_segment t) w = tells_pure entered _
   segment_enters true (tree.type_segment t) w = tells_end entered (one_type_enters None t) (λ i. tells_pure entered _)
   segment_enters false (tree.trait_segment t at p) w = tells_pure entered _
-  segment_enters true (tree.trait_segment t at p) w = tells_bind entered (one_type_enters None t) (λ i. with_trait_tells entered (whole_enters p) i at w)
+  segment_enters true (tree.trait_segment t at p) w =
+      tells_bind entered (one_type_enters None t) (λ i. with_trait_tells entered (whole_enters p) i at w)
 
   segments_enters : (ss : Segments) (w : PathWalk) → Enters (blocks_of_segments ss (seen w)) (read_each ss w)
   segments_enters tree.no_segments w = tells_pure entered _
@@ -136,7 +137,7 @@ mutual
   reading_enters (tree.path leading first rest use_) w =
       whole_tells entered (λ y ss. blocks_of_outer use_ y)
       (reads_then entered (λ y ss. blocks_of_segment true first (at_first leading y)) (segments_enters rest w) (each_tells rest w)
-      (λ v. first_tells entered leading v (λ y ss. blocks_of_segment true first y) (λ u. segment_enters true first u)))
+      (λ v. first_tells entered leading v (λ y ss. blocks_of_segment true first y) {f = λ u. read_segment true first u} (λ u. segment_enters true first u)))
       (own_tells leading first rest w) (λ v. outer_enters use_ v)
 
   outer_enters : (p : OptionPath) (w : PathWalk) → Enters (blocks_of_outer p (seen w)) (read_option p w)
@@ -172,7 +173,8 @@ mutual
   arg_enters l (tree.lifetime_arg lifetime) = tells_end entered (tells_aside entered (lifetime_aside lifetime)) (λ i. tells_pure entered _)
   arg_enters l (tree.const_arg c) = tells_end entered (constant_enters c) (λ x. tells_pure entered _)
   arg_enters l (tree.assoc_arg name as' dots t bs) =
-      tells_end entered (binding_tells entered name dots (args_enters as') (present_type_enters t) (bounds_enters [] bs)) (λ b. tells_pure entered _)
+      tells_end entered (binding_tells entered name dots (args_enters as') (present_type_enters t) (bounds_enters [] bs))
+      (λ b. tells_pure entered _)
 
   bounds_enters : (done : List TypeBound) (bs : Bounds) → Enters (blocks_of_bounds bs) (lower_bounds done bs)
   bounds_enters done tree.no_bounds = tells_pure entered done

@@ -130,18 +130,20 @@ mutual
   segment_reports false (tree.type_segment t) w = tells_pure reported _
   segment_reports true (tree.type_segment t) w = tells_end reported (one_type_reports None t) (λ i. tells_pure reported _)
   segment_reports false (tree.trait_segment t at p) w = tells_pure reported _
-  segment_reports true (tree.trait_segment t at p) w = tells_bind reported (one_type_reports None t) (λ i. with_trait_tells reported (whole_reports p) i at w)
+  segment_reports true (tree.trait_segment t at p) w =
+      tells_bind reported (one_type_reports None t) (λ i. with_trait_tells reported (whole_reports p) i at w)
 
   segments_reports : (ss : Segments) (w : PathWalk) → Reports (λ around. segments_faults around ss (seen w)) (read_each ss w)
   segments_reports tree.no_segments w = tells_pure reported _
   segments_reports (tree.more_segments s more) w =
-      reads_then reported (λ y ss. segment_faults ss false s y) (segments_reports more w) (each_tells more w) (λ v. segment_reports false s v)
+      reads_then reported (λ y ss. segment_faults ss false s y)
+      (segments_reports more w) (each_tells more w) (λ v. segment_reports false s v)
 
   reading_reports : (p : Path) (w : PathWalk) → Reports (λ ss. path_faults ss p (seen w)) (read_path p w)
   reading_reports (tree.path leading first rest use_) w =
       whole_tells reported (λ y ss. outer_faults ss use_ y)
       (reads_then reported (λ y ss. segment_faults ss true first (at_first leading y)) (segments_reports rest w) (each_tells rest w)
-      (λ v. first_tells reported leading v (λ y ss. segment_faults ss true first y) (λ u. segment_reports true first u)))
+      (λ v. first_tells reported leading v (λ y ss. segment_faults ss true first y) {f = λ u. read_segment true first u} (λ u. segment_reports true first u)))
       (own_tells leading first rest w) (λ v. outer_reports use_ v)
 
   outer_reports : (p : OptionPath) (w : PathWalk) → Reports (λ ss. outer_faults ss p (seen w)) (read_option p w)
@@ -174,10 +176,12 @@ mutual
   arg_reports : (l : ArgLists) (a : Arg) → Reports (λ ss. arg_faults ss a) (lower_arg l a)
   arg_reports l tree.skipped_arg = tells_pure reported l
   arg_reports l (tree.type_arg t) = tells_end reported (type_reports None t) (λ i. tells_pure reported _)
-  arg_reports l (tree.lifetime_arg lifetime) = tells_end reported (tells_aside reported (lifetime_aside lifetime)) (λ i. tells_pure reported _)
+  arg_reports l (tree.lifetime_arg lifetime) =
+      tells_end reported (tells_aside reported (lifetime_aside lifetime)) (λ i. tells_pure reported _)
   arg_reports l (tree.const_arg c) = tells_end reported (constant_reports c) (λ x. tells_pure reported _)
   arg_reports l (tree.assoc_arg name as' dots t bs) =
-      tells_end reported (binding_tells reported name dots (args_reports as') (present_type_reports t) (bounds_reports [] bs)) (λ b. tells_pure reported _)
+      tells_end reported (binding_tells reported name dots (args_reports as') (present_type_reports t) (bounds_reports [] bs))
+      (λ b. tells_pure reported _)
 
   bounds_reports : (done : List TypeBound) (bs : Bounds) → Reports (λ ss. bounds_faults ss bs) (lower_bounds done bs)
   bounds_reports done tree.no_bounds = tells_pure reported done

@@ -160,7 +160,8 @@ mutual
   or_unit_left tree.no_type = ways_aside unit_aside
   or_unit_left (tree.some_type t) = one_type_left None t
 
-  parts_left : (done : List TypeRefId) (ts : Parts) → Stays (λ final rs. PartsWays (store_of final) (map_of final) rs ts) (lower_parts done ts)
+  parts_left : (done : List TypeRefId) (ts : Parts)
+      → Stays (λ final rs. PartsWays (store_of final) (map_of final) rs ts) (lower_parts done ts)
   parts_left done tree.no_parts = ways_pure done
   parts_left done (tree.more_parts t ts) = ways_bind (type_left None t) (λ i. parts_left _ ts)
 
@@ -182,19 +183,24 @@ mutual
   segment_left false (tree.trait_segment t at p) w = ways_pure _
   segment_left true (tree.trait_segment t at p) w = ways_bind (one_type_left None t) (λ i. with_trait_leaves (whole_left p) i at w)
 
-  segments_left : (ss : Segments) (w : PathWalk) → Stays (λ final rs. SegmentsWays (store_of final) (map_of final) rs ss (seen w)) (read_each ss w)
+  segments_left : (ss : Segments) (w : PathWalk)
+      → Stays (λ final rs. SegmentsWays (store_of final) (map_of final) rs ss (seen w)) (read_each ss w)
   segments_left tree.no_segments w = ways_pure _
   segments_left (tree.more_segments s more) w =
-      reads_leave (λ y final rs. SegmentWays (store_of final) (map_of final) rs false s y) (segments_left more w) (each_tells more w) (λ v. segment_left false s v)
+      reads_leave (λ y final rs. SegmentWays (store_of final) (map_of final) rs false s y)
+      (segments_left more w) (each_tells more w) (λ v. segment_left false s v)
 
   reading_left : (p : Path) (w : PathWalk) → Stays (λ final rs. PathWays (store_of final) (map_of final) rs p (seen w)) (read_path p w)
   reading_left (tree.path leading first rest use_) w =
       whole_leaves (λ y final rs. OuterWays (store_of final) (map_of final) rs use_ y)
-      (reads_leave (λ y final rs. SegmentWays (store_of final) (map_of final) rs true first (at_first leading y)) (segments_left rest w) (each_tells rest w)
-      (λ v. first_leaves leading v (λ y final rs. SegmentWays (store_of final) (map_of final) rs true first y) (λ u. segment_left true first u)))
+      (reads_leave (λ y final rs. SegmentWays (store_of final) (map_of final) rs true first (at_first leading y))
+      (segments_left rest w) (each_tells rest w)
+      (λ v. first_leaves leading v (λ y final rs. SegmentWays (store_of final) (map_of final) rs true first y)
+      {f = λ u. read_segment true first u} (λ u. segment_left true first u)))
       (own_tells leading first rest w) (λ v. outer_left use_ v)
 
-  outer_left : (p : OptionPath) (w : PathWalk) → Stays (λ final rs. OuterWays (store_of final) (map_of final) rs p (seen w)) (read_option p w)
+  outer_left : (p : OptionPath) (w : PathWalk)
+      → Stays (λ final rs. OuterWays (store_of final) (map_of final) rs p (seen w)) (read_option p w)
   outer_left tree.no_path w = ways_pure _
   outer_left (tree.some_path p) w = reading_left p w
 
@@ -229,7 +235,8 @@ mutual
   arg_left l (tree.assoc_arg name as' dots t bs) =
       ways_end (binding_leaves name dots (args_left as') (present_type_left t) (bounds_left [] bs)) (λ b. ways_pure _)
 
-  bounds_left : (done : List TypeBound) (bs : Bounds) → Stays (λ final rs. BoundsWays (store_of final) (map_of final) rs bs) (lower_bounds done bs)
+  bounds_left : (done : List TypeBound) (bs : Bounds)
+      → Stays (λ final rs. BoundsWays (store_of final) (map_of final) rs bs) (lower_bounds done bs)
   bounds_left done tree.no_bounds = ways_pure done
   bounds_left done (tree.more_bounds b bs) = ways_bind (bound_left b) (λ x. bounds_left _ bs)
 
