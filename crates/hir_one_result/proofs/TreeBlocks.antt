@@ -137,7 +137,8 @@ mutual
   reading_enters (tree.path leading first rest use_) w =
       whole_tells entered (λ y ss. blocks_of_outer use_ y)
       (reads_then entered (λ y ss. blocks_of_segment true first (at_first leading y)) (segments_enters rest w) (each_tells rest w)
-      (λ v. first_tells entered leading v (λ y ss. blocks_of_segment true first y) {f = λ u. read_segment true first u} (λ u. segment_enters true first u)))
+      (λ v. first_tells entered leading v (λ y ss. blocks_of_segment true first y)
+      {f = λ u. read_segment true first u} (λ u. segment_enters true first u)))
       (own_tells leading first rest w) (λ v. outer_enters use_ v)
 
   outer_enters : (p : OptionPath) (w : PathWalk) → Enters (blocks_of_outer p (seen w)) (read_option p w)

@@ -143,7 +143,8 @@ mutual
   reading_reports (tree.path leading first rest use_) w =
       whole_tells reported (λ y ss. outer_faults ss use_ y)
       (reads_then reported (λ y ss. segment_faults ss true first (at_first leading y)) (segments_reports rest w) (each_tells rest w)
-      (λ v. first_tells reported leading v (λ y ss. segment_faults ss true first y) {f = λ u. read_segment true first u} (λ u. segment_reports true first u)))
+      (λ v. first_tells reported leading v (λ y ss. segment_faults ss true first y)
+      {f = λ u. read_segment true first u} (λ u. segment_reports true first u)))
       (own_tells leading first rest w) (λ v. outer_reports use_ v)
 
   outer_reports : (p : OptionPath) (w : PathWalk) → Reports (λ ss. outer_faults ss p (seen w)) (read_option p w)

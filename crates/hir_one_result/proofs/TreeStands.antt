@@ -54,7 +54,6 @@ use Rattle.hir_one_result.specs.PathRoom.{at_first}
 use Rattle.hir_store.specs.declared.type_ref.TypeBound.{TypeBound}
 use Rattle.hir_lower_form.specs.declared.args.ArgLists.{ArgLists}
 use Rattle.hir_lower_form.specs.declared.walk.PathWalk.{PathWalk}
-use Rattle.hir_lower_form.specs.Paths.{whole}
 use Rattle.hir_lower_form.specs.Types.{no_lists}
 
 kept_stands : (e : Expr) {p : ExprSteps} {S : Of ExprId} → Correct p (Shows S)
