@@ -140,7 +140,8 @@ adds_type {was = was} t source h = correct_as (correct_alloc_type t source) (λ 
       counted = λ k.
           let e = h (reached final d) k in
           let p = one_past k m.types in
-          rw (number, here, next, still) (omega (arith, e, p));
+          let n = ap (λ xs. times k (of_exprs (reached final all) xs)) still in
+          rw (number, here, next) (omega (arith, e, p, n));
     }
 
 -- one that nothing names yet
