@@ -19,7 +19,8 @@ use Rattle.hir_lower_form.specs.Lower.{lower_part}
 use Rattle.hir_steps.specs.Keeps.{KeepsAll, Keeps, Paired}
 use Rattle.hir_steps.proofs.Keeping.{keeping}
 use Rattle.hir_same_meaning.specs.Headline.{Lowered}
-use Rattle.hir_same_meaning.proofs.Tree.{headline, reached_once}
+use Rattle.hir_same_meaning.proofs.Tree.{reached_once}
+use Rattle.hir_same_meaning.proofs.Whole.{headline}
 use Rattle.hir_one_result.specs.Diagnostics.{Faults}
 use Rattle.hir_one_result.specs.Laws.{Fits, FitsUnless}
 use Rattle.hir_one_result.specs.Room.{TooLarge}

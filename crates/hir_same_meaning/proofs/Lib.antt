@@ -13,4 +13,5 @@ pub mod Spread
 pub mod Owned
 pub mod Body
 pub mod Tree
+pub mod Whole
 pub mod Computed

@@ -11,7 +11,7 @@ use Rattle.hir_one_result.specs.Room.{type_part_size}
 use Rattle.hir_one_result.proofs.Fits.{types_fit}
 use Rattle.hir_one_result.proofs.Whole.{lead_back}
 use Rattle.hir_type_result.specs.TypeResult.{TypeResults, RefusedTypes}
-use Rattle.hir_type_result.proofs.Once.{reached_once}
+use Rattle.hir_type_result.proofs.Named.{types_once}
 
 nothing_paired : (limit : ℕ) → Paired (fresh limit).stored
 nothing_paired limit = record { exprs = refl; labels = refl; types = refl; lifetimes = refl }
@@ -40,7 +40,7 @@ type_results limit t i new is =
       lifetime_sources = fits.lifetime_sources;
       type_ways = lead_back (λ i. i.0) new.stored.types mapped.types;
       lifetime_ways = lead_back (λ i. i.0) new.stored.lifetimes mapped.lifetimes;
-      reached_once = reached_once None t old new i none is new.stored stays;
+      reached_once = types_once None t old new i none is new.stored stays;
     }
 
 pub refused_types : RefusedTypes
