@@ -170,7 +170,7 @@ fn opaque_in_text(
 fn an_impl_in_a_path_stays_where_the_caller_chooses(rt: HostRuntime) -> Result<(), Fail> {
     let listed = opaque_in_text(rt.alloc(), IMPL_IN_A_PATH, 2)?;
     let text = "path A::<impl B>\nsegment 0 A\nsegment 1 None\n";
-    assert!(rt; matches!(listed, Some(Ok(found)) if found.as_str() == text));
+    assert!(rt; matches!(&listed, Some(Ok(found)) if found.as_str() == text));
     Ok(())
 }
 
