@@ -1,0 +1,161 @@
+-- Steps by the constants that they record as roots, where no root is being lowered.
+use Rattle.std.proofs.Common.{◌≡◌, ◌∙◌, refl, sym, ap, subst, Bool, true, false, true≢false, List, [], ◌∷◌, ◌++◌, append_assoc, append-nil}
+use Rattle.std.proofs.Common.{Option, Ok, Err}
+use Rattle.hir_store.specs.Pointers.{Pointer}
+use Rattle.hir_store.specs.Stored.{Store, SourceMap, Stored, store_of, map_of}
+use Rattle.hir_store.specs.Storing as storing
+use Rattle.hir_store.specs.Storing.{Extends, root_at}
+use Rattle.hir_store.specs.declared.ids.ExprId.{ExprId}
+use Rattle.hir_store.specs.declared.roots.ExprRoot.{ExprRoot}
+use Rattle.hir_store.specs.declared.type_ref.TypeRef.{TypeRef}
+use Rattle.hir_store.specs.declared.type_ref.LifetimeRef.{LifetimeRef}
+use Rattle.hir_store.specs.declared.type_ref.ConstRef.{ConstRef}
+use Rattle.hir_store.proofs.Range.{extends_root, extends_trans}
+use Rattle.hir_env.specs.Answered.{OptionExpr}
+use Rattle.hir_scope.specs.Ribs.{barrier_rib}
+use Rattle.hir_meaning.specs.Same.{SameMeaning}
+use Rattle.hir_lower_form.specs.Builder.{Builder}
+use Rattle.hir_lower_form.specs.Lowering.{Checked, go_on, Lowering, ◌>>=◌, ◌>>◌, pure, alloc_type, alloc_lifetime, open_barrier, enter_root}
+use Rattle.hir_lower_form.specs.Lowering.{close, leave_root, outside_root, record_root, count_out}
+use Rattle.hir_lower_form.specs.Lower.{constant_form, lower_part}
+use Rattle.hir_steps.specs.Keeps.{Paired, KeepsAll, Keeps}
+use Rattle.hir_steps.proofs.Constants.{correct_constant}
+use Rattle.hir_steps.proofs.Frames.{Frame, frames, ribs_frames}
+use Rattle.hir_steps.proofs.Keeping.{Any, any, part_any, keeping, kept_by}
+use Rattle.hir_steps.proofs.Logic.{kept_trans}
+use Rattle.hir_steps.proofs.Steps.{Mark, mark, Rel, Holds, Correct, correct_pure, correct_alloc_type, correct_alloc_lifetime}
+use Rattle.hir_one_result.specs.Size.{Size}
+use Rattle.hir_one_result.proofs.Tellings.{Told, Tells}
+use Rattle.hir_type_result.specs.Roots.{SameRoots, RootsOf}
+use Rattle.hir_type_result.proofs.Meaning.{inside_means}
+
+-- Nothing is lost, and outside of a root these constants are recorded.
+pub record Noting (es : List OptionExpr) (b c : Builder) : Type 0 where
+  pub kept : KeepsAll b c
+  pub noted : b.in_root ≡ false → Paired b.stored → (later : Stored) → Extends c.stored later → RootsOf b.stored c.stored later es
+
+abbrev pub Noted : {A : Type 0} → List OptionExpr → Builder → Checked A → Builder → Type 0
+Noted es b (Ok a) c = Noting es b c
+Noted es b (Err f) c = Unit {0}
+
+pub record Notes {A : Type 0} (es : List OptionExpr) (p : Lowering A) : Type 0 where
+  pub notes : (b : Builder) → Noted es b (p b).0 (p b).1
+
+-- one after another
+
+same_append : (store : Store) (source_map : SourceMap) (rs : List ExprRoot) (es : List OptionExpr) (ss : List ExprRoot)
+    (fs : List OptionExpr) → SameRoots store source_map rs es → SameRoots store source_map ss fs
+    → SameRoots store source_map (rs ++ ss) (es ++ fs)
+same_append store source_map [] [] ss fs g h = h
+same_append store source_map [] (e ∷ es) ss fs g h = absurd g
+same_append store source_map (r ∷ rs) [] ss fs g h = absurd g
+same_append store source_map (r ∷ rs) (e ∷ es) ss fs g h = (g.0, same_append store source_map rs es ss fs g.1 h)
+
+roots_then : {a b c later : Stored} {es fs : List OptionExpr} → RootsOf a b later es → RootsOf b c later fs → RootsOf a c later (es ++ fs)
+roots_then {a = a} {later = later} {es = es} {fs = fs} g h = record {
+  roots = g.roots ++ h.roots;
+  is = h.is ∙ (ap (λ rs. rs ++ h.roots) g.is ∙ append_assoc a.roots g.roots h.roots);
+  same = same_append (store_of later) (map_of later) g.roots es h.roots fs g.same h.same;
+}
+
+noting_then : {es fs : List OptionExpr} {a b c : Builder} → Noting es a b → Noting fs b c → Noting (es ++ fs) a c
+noting_then g h = record {
+  kept = kept_trans g.kept h.kept;
+  noted = λ outside d later x.
+      roots_then (g.noted outside d later (extends_trans h.kept.stays x))
+      (h.noted (g.kept.in_root ∙ outside) (g.kept.paired d) later x);
+}
+
+then_noted : {B : Type 0} {es fs : List OptionExpr} {b b' : Builder} → Noting es b b' → (o : Checked B) (c : Builder) → Noted fs b' o c
+    → Noted (es ++ fs) b o c
+then_noted x (Ok e) c y = noting_then x y
+then_noted x (Err f) c y = tt
+
+pub notes_then : {A B : Type 0} {es fs : List OptionExpr} {p : Lowering A} {f : A → Lowering B} → Notes es p
+    → ((a : A) → Notes fs (f a)) → Notes (es ++ fs) (p >>= f)
+notes_then {A = A} {es = es} {fs = fs} {p = p} {f = f} h k = record { notes = λ b. by b (p b).0 (p b).1 (h.notes b) }
+  where
+    by : (b : Builder) (o : Checked A) (c : Builder) → Noted es b o c → Noted (es ++ fs) b (go_on o c f).0 (go_on o c f).1
+    by b (Ok a) c x = then_noted x (f a c).0 (f a c).1 ((k a).notes c)
+    by b (Err f) c x = tt
+
+-- where it is known what the first answers
+pub notes_given : {A B : Type 0} {n : Size} {G : A → Type 0} {es fs : List OptionExpr} {p : Lowering A} {f : A → Lowering B} → Notes es p
+    → Tells n G p → ((a : A) → G a → Notes fs (f a)) → Notes (es ++ fs) (p >>= f)
+notes_given {A = A} {n = n} {G = G} {es = es} {fs = fs} {p = p} {f = f} h t k =
+    record { notes = λ b. by b (p b).0 (p b).1 (h.notes b) (t.tells b) }
+  where
+    by : (b : Builder) (o : Checked A) (c : Builder) → Noted es b o c → Told n G b o c
+        → Noted (es ++ fs) b (go_on o c f).0 (go_on o c f).1
+    by b (Ok a) c x y = then_noted x (f a c).0 (f a c).1 ((k a y.1).notes c)
+    by b (Err f) c x y = tt
+
+pub notes_as : {A : Type 0} {es fs : List OptionExpr} {p : Lowering A} → es ≡ fs → Notes es p → Notes fs p
+notes_as {p = p} e h = subst (λ xs. Notes xs p) e h
+
+pub notes_end : {A B : Type 0} {es : List OptionExpr} {p : Lowering A} {f : A → Lowering B} → Notes es p
+    → ((a : A) → Notes [] (f a)) → Notes es (p >>= f)
+notes_end {es = es} h k = notes_as (append-nil es) (notes_then h k)
+
+-- steps that record none
+
+pub no_roots : {a b later : Stored} → b.roots ≡ a.roots → RootsOf a b later []
+no_roots {a = a} e = record { roots = []; is = e ∙ sym (append-nil a.roots); same = tt }
+
+notes_none : {A : Type 0} {R : Rel A} {p : Lowering A} → Correct p R
+    → ((final : Stored) (ps : List Frame) (m m' : Mark) (a : A) → R final ps m m' a → m'.stored.roots ≡ m.stored.roots) → Notes [] p
+notes_none {A = A} {R = R} {p = p} h still =
+    record { notes = λ b. by b (p b).0 (p b).1 (λ final. h.holds final (frames b.scopes) b (ribs_frames b.scopes)) }
+  where
+    by : (b : Builder) (o : Checked A) (c : Builder) → ((final : Stored) → Holds R final (frames b.scopes) b o c) → Noted [] b o c
+    by b (Ok a) c x = record {
+      kept = (x b.stored).kept;
+      noted = λ outside d later e. no_roots (still later (frames b.scopes) (mark b) (mark c) a ((x later).in_final d e));
+    }
+    by b (Err f) c x = tt
+
+pub notes_pure : {A : Type 0} (a : A) → Notes [] (pure a)
+notes_pure a = notes_none (correct_pure a) (λ final ps m m' b row. ap (λ x. x.stored.roots) row.still)
+
+pub notes_type : (t : TypeRef) (source : Option Pointer) → Notes [] (alloc_type t source)
+notes_type t source = notes_none (correct_alloc_type t source) (λ final ps m m' i row. ap (λ s. s.roots) row.stored)
+
+pub notes_lifetime : (l : LifetimeRef) (source : Option Pointer) → Notes [] (alloc_lifetime l source)
+notes_lifetime l source = notes_none (correct_alloc_lifetime l source) (λ final ps m m' i row. ap (λ s. s.roots) row.stored)
+
+pub notes_count_out : {A : Type 0} → Notes {A = A} [] count_out
+unfolding count_out
+notes_count_out = record { notes = λ b. tt }
+
+-- a constant
+
+-- behind the barrier, in a root
+abbrev entered : Builder → Builder
+entered b = record b { scopes = barrier_rib ∷ b.scopes; in_root = true }
+
+abbrev leaving : Bool → ExprId → Lowering ConstRef
+leaving outer id = close >> (leave_root outer id >> pure (record { expr = id }))
+
+pub notes_constant : (e : OptionExpr) → Notes (e ∷ []) (constant_form (lower_part e))
+unfolding constant_form open_barrier enter_root close leave_root outside_root record_root storing.record_root
+notes_constant e = record {
+  notes = λ b.
+      by b b.in_root refl (lower_part e (entered b)).0 (lower_part e (entered b)).1 refl (keeping e (entered b))
+      (kept_by (any (correct_constant (part_any e))) b);
+}
+  where
+    by : (b : Builder) (outer : Bool) → b.in_root ≡ outer → (o : Checked ExprId) (c : Builder) → lower_part e (entered b) ≡ (o, c)
+        → Keeps (entered b) o c → Keeps b (go_on o c (leaving outer)).0 (go_on o c (leaving outer)).1
+        → Noted (e ∷ []) b (go_on o c (leaving outer)).0 (go_on o c (leaving outer)).1
+    by b true in' (Ok i) c is inner kept = record { kept = kept; noted = λ outside. absurd (true≢false (sym in' ∙ outside)) }
+    by b false in' (Ok i) c is inner kept =
+        let root = root_at c.stored.exprs.entries i in record {
+          kept = kept;
+          noted = λ outside d later x. record {
+            roots = root ∷ [];
+            is = ap (λ rs. rs ++ root ∷ []) (inner.roots refl);
+            same = (inside_means e (frames b.scopes) (entered b) c i (ap (λ rs. barrier_rib ∷ rs) (ribs_frames b.scopes)) d is later
+                (extends_trans (extends_root c.stored root) x), tt);
+          };
+        }
+    by b outer in' (Err f) c is inner kept = tt
