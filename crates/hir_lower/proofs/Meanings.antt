@@ -157,6 +157,14 @@ root_rooted e b b' i d h =
       mapped = λ m. let x = kept.mapped paired m in record { types = x.types; lifetimes = x.lifetimes };
     })
 
+-- it closes what was open
+pub closed_if : (e : OptionExpr) (b b' : Builder) (r : Checked ExprId) → Lowers HasExpr (root_of e) b r b' → IfOk r (λ i. b'.scopes ≡ [])
+closed_if e b b' (Ok i) l =
+    let p : Parts e b i b' = parts e b b' i l.0 in
+    let kept : KeepsAll (closed b) p.inner = subst (λ r. Keeps (closed b) r.0 r.1) p.is (keeping e (closed b)) in
+    ap (λ x. x.scopes) (sym p.left) ∙ kept.scopes
+closed_if e b b' (Err f) l = tt
+
 pub rooted_if : (e : OptionExpr) (b b' : Builder) (r : Checked ExprId) → Lowers HasExpr (root_of e) b r b' → Paired b.stored
     → IfOk r (λ i. Rooted b.stored b'.stored i e)
 rooted_if e b b' (Ok i) l d = root_rooted e b b' i d l.0

@@ -1,6 +1,6 @@
 //! The collector, which lowers trees into one store and stops for good after its first error.
 
-ghost use Rattle.std.specs.Prelude.{◌≡◌, ◌≢◌, false, true, Err, IfOk, IsErrOf, IsOkAnd, option_copied};
+ghost use Rattle.std.specs.Prelude.{◌≡◌, ◌≢◌, false, true, [], Err, IfOk, IsErrOf, IsOkAnd, option_copied};
 ghost use Rattle.hir_store.specs.Range.{HasExpr, HasTypeParts, InRange};
 ghost use Rattle.hir_store.specs.Stored.{map_of, store_of};
 ghost use Rattle.hir_env.specs.Spot.{in_file};
@@ -91,6 +91,7 @@ pub(crate) fn lower_root<E: LowerEnv>(
         Lowers HasExpr (root_of (expr_part spot (option_copied expr.entry))) state.old result state.new }
     ensures rooted { let e = expr_part (spot_at (E.answers env.now) place) (option_copied expr.entry) in
         Paired state.old.stored → IfOk result (λ i. Rooted state.old.stored state.new.stored i e) }
+    ensures closed { IfOk result (λ i. state.new.scopes ≡ []) }
     ensures too_large { let e = expr_part (spot_at (E.answers env.now) place) (option_copied expr.entry) in
         IsErrOf result StoreFault.Full → TooLarge state.old.stored e }
     ensures stays { result ≢ Err StoreFault.Memory → Stays state.old.stored state.new.stored }
@@ -110,7 +111,9 @@ fn lower_whole_path<E: LowerEnv>(
         Paired state.old.stored → IfOk result (λ r. ReadsBack state.new.stored r p) }
     ensures segments { Paired state.old.stored → IfOk result (λ r. BearsNames state.new.stored path.now r) }
     ensures rooted { let p = whole_path (spot_at (E.answers env.now) place) path.now in
-        Paired state.old.stored → IfOk result (λ r. PathRooted state.old.in_root state.old.stored state.new.stored r p) }
+        Paired state.old.stored → state.old.scopes ≡ []
+        → IfOk result (λ r. PathRooted state.old.in_root state.old.stored state.new.stored r p) }
+    ensures scopes { IfOk result (λ r. state.new.scopes ≡ state.old.scopes) }
     ensures full { IsErrOf result StoreFault.Full → SomeEnd state.new }
     ensures too_large { let p = whole_path (spot_at (E.answers env.now) place) path.now in
         IsErrOf result StoreFault.Full → Short (whole_size p) state.old.stored }
@@ -146,6 +149,7 @@ pub struct ExprCollector<'db, E: LowerEnv> {
     state: BodyBuilder,
     failed: bool,
     ghost paired: { failed ≡ false → Paired state.stored },
+    ghost closed: { failed ≡ false → state.scopes ≡ [] },
 }
 
 impl<'db, E: LowerEnv> Drop for ExprCollector<'db, E> {
