@@ -47,7 +47,7 @@ use Rattle.hir_lower_form.specs.declared.args.ArgLists.{ArgLists}
 use Rattle.hir_lower_form.specs.declared.walk.PathWalk.{PathWalk}
 use Rattle.hir_lower_form.specs.Types.{no_lists}
 
-entered_block : (n : Option BlockId) (s : Stored) → (with_block n s).block_scopes ≡ s.block_scopes ++ option_to_list n
+pub entered_block : (n : Option BlockId) (s : Stored) → (with_block n s).block_scopes ≡ s.block_scopes ++ option_to_list n
 entered_block None s = sym (append-nil s.block_scopes)
 entered_block (Some n) s = refl
 

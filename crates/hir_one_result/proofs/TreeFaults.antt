@@ -50,7 +50,7 @@ use Rattle.hir_lower_form.specs.declared.args.ArgLists.{ArgLists}
 use Rattle.hir_lower_form.specs.declared.walk.PathWalk.{PathWalk}
 use Rattle.hir_lower_form.specs.Types.{no_lists}
 
-no_fault_in_block : (n : Option BlockId) (s : Stored) → (with_block n s).diagnostics ≡ s.diagnostics ++ []
+pub no_fault_in_block : (n : Option BlockId) (s : Stored) → (with_block n s).diagnostics ≡ s.diagnostics ++ []
 no_fault_in_block None s = sym (append-nil s.diagnostics)
 no_fault_in_block (Some n) s = sym (append-nil s.diagnostics)
 

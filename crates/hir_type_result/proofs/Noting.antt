@@ -66,17 +66,17 @@ noting_then g h = record {
       (h.noted (g.kept.in_root ∙ outside) (g.kept.paired d) later x);
 }
 
-then_noted : {B : Type 0} {es fs : List OptionExpr} {b b' : Builder} → Noting es b b' → (o : Checked B) (c : Builder) → Noted fs b' o c
-    → Noted (es ++ fs) b o c
-then_noted x (Ok e) c y = noting_then x y
-then_noted x (Err f) c y = tt
+then_noted : {B : Type 0} {es : List OptionExpr} (fs : List OptionExpr) {b b' : Builder} → Noting es b b' → (o : Checked B) (c : Builder)
+    → Noted fs b' o c → Noted (es ++ fs) b o c
+then_noted fs x (Ok e) c y = noting_then x y
+then_noted fs x (Err f) c y = tt
 
 pub notes_then : {A B : Type 0} {es fs : List OptionExpr} {p : Lowering A} {f : A → Lowering B} → Notes es p
     → ((a : A) → Notes fs (f a)) → Notes (es ++ fs) (p >>= f)
 notes_then {A = A} {es = es} {fs = fs} {p = p} {f = f} h k = record { notes = λ b. by b (p b).0 (p b).1 (h.notes b) }
   where
     by : (b : Builder) (o : Checked A) (c : Builder) → Noted es b o c → Noted (es ++ fs) b (go_on o c f).0 (go_on o c f).1
-    by b (Ok a) c x = then_noted x (f a c).0 (f a c).1 ((k a).notes c)
+    by b (Ok a) c x = then_noted fs x (f a c).0 (f a c).1 ((k a).notes c)
     by b (Err f) c x = tt
 
 -- where it is known what the first answers
@@ -87,7 +87,7 @@ notes_given {A = A} {n = n} {G = G} {es = es} {fs = fs} {p = p} {f = f} h t k =
   where
     by : (b : Builder) (o : Checked A) (c : Builder) → Noted es b o c → Told n G b o c
         → Noted (es ++ fs) b (go_on o c f).0 (go_on o c f).1
-    by b (Ok a) c x y = then_noted x (f a c).0 (f a c).1 ((k a y.1).notes c)
+    by b (Ok a) c x y = then_noted fs x (f a c).0 (f a c).1 ((k a y.1).notes c)
     by b (Err f) c x y = tt
 
 pub notes_as : {A : Type 0} {es fs : List OptionExpr} {p : Lowering A} → es ≡ fs → Notes es p → Notes fs p
