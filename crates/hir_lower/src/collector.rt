@@ -29,8 +29,8 @@ use hir_store::path::Path;
 use hir_store::source_map::ExpressionStoreSourceMap;
 use hir_store::store::ExpressionStore;
 use hir_store::type_ref::{ConstRef, TypeRef};
-use hir_syntax::{Boxed, ast};
 use hir_syntax::node::{AstPtr, HirFileId, InFile};
+use hir_syntax::{Boxed, ast};
 use std::alloc::Global;
 
 /// The expression in a box, where there is one.
@@ -266,7 +266,7 @@ impl<'db, E: LowerEnv> ExprCollector<'db, E> {
         ensures segments { IfOk result (λ r. BearsNames self.new.state.stored path.now r) }
         ensures rooted { let at = spot_at (E.answers self.old.db.now) (becoming self.old.place (I.mode impl_trait.old)) in
             IfOk result (λ r. PathRooted self.old.state.in_root self.old.state.stored self.new.state.stored r
-                (whole_path at path.now)) }
+            (whole_path at path.now)) }
         ensures full { IsErrOf result LowerError.Full → SomeEnd self.new.state }
         ensures too_large { let at = spot_at (E.answers self.old.db.now) (becoming self.old.place (I.mode impl_trait.old)) in
             IsErrOf result LowerError.Full → Short (whole_size (whole_path at path.now)) self.old.state.stored }

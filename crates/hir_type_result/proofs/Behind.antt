@@ -5,6 +5,7 @@ use Rattle.hir_store.specs.Storing.{Extends}
 use Rattle.hir_store.specs.declared.ids.BlockId.{BlockId}
 use Rattle.hir_env.specs.Answered.{OptionExpr}
 use Rattle.hir_scope.specs.Scopes.{Scope}
+use Rattle.hir_meaning.specs.Inner.{path_inner_bodies, type_inner_bodies}
 use Rattle.hir_lower_form.specs.Builder.{Builder}
 use Rattle.hir_lower_form.specs.Lowering.{Lowering}
 use Rattle.hir_steps.specs.Keeps.{Paired}
@@ -22,7 +23,9 @@ use Rattle.hir_one_result.proofs.Telling.{Added}
 use Rattle.hir_one_result.proofs.TreeBlocks.{Enters}
 use Rattle.hir_one_result.proofs.TreeFaults.{reported, Reports}
 use Rattle.hir_type_result.specs.Roots.{RootsOf, recorded, TypeRoots, PathRoots}
+use Rattle.hir_type_result.proofs.Meaning.{in_frames, held_whole}
 use Rattle.hir_type_result.proofs.Noting.{Noting, Noted, Notes, no_roots}
+use Rattle.hir_type_result.proofs.Pending.{path_held, type_held}
 use Rattle.hir_type_result.proofs.TreeNotes.{type_notes, path_notes}
 
 module _ {A : Type 0} {p : Lowering A} (b c : Builder) (a : A) (paired : Paired b.stored) (is : p b ≡ (Ok a, c)) where
@@ -52,8 +55,13 @@ module _ {A : Type 0} {p : Lowering A} (b c : Builder) (a : A) (paired : Paired 
       by false e n = n.noted e paired later stays
 
 pub type_roots : TypeRoots
+unfolding type_inner_bodies
 type_roots binder t b c i paired is later stays =
-    (roots_behind b c i paired is (type_notes binder t) later stays, ?)
+    let held = in_frames (type_held binder t) (frames b.scopes) b c i (ribs_frames b.scopes) paired is later stays in
+    (roots_behind b c i paired is (type_notes binder t) later stays, held_whole held)
 
 pub path_roots : PathRoots
-path_roots p b c r paired is later stays = (roots_behind b c r paired is (path_notes p) later stays, ?)
+unfolding path_inner_bodies
+path_roots p b c r paired is later stays =
+    let held = in_frames (path_held p) (frames b.scopes) b c r (ribs_frames b.scopes) paired is later stays in
+    (roots_behind b c r paired is (path_notes p) later stays, held_whole held)

@@ -149,13 +149,12 @@ notes_constant e = record {
         → Noted (e ∷ []) b (go_on o c (leaving outer)).0 (go_on o c (leaving outer)).1
     by b true in' (Ok i) c is inner kept = record { kept = kept; noted = λ outside. absurd (true≢false (sym in' ∙ outside)) }
     by b false in' (Ok i) c is inner kept =
-        let root = root_at c.stored.exprs.entries i in record {
+        let root = root_at c.stored.exprs.entries i in
+        let around = frames b.scopes in
+        let behind = ap (λ rs. barrier_rib ∷ rs) (ribs_frames b.scopes) in record {
           kept = kept;
-          noted = λ outside d later x. record {
-            roots = root ∷ [];
-            is = ap (λ rs. rs ++ root ∷ []) (inner.roots refl);
-            same = (inside_means e (frames b.scopes) (entered b) c i (ap (λ rs. barrier_rib ∷ rs) (ribs_frames b.scopes)) d is later
-                (extends_trans (extends_root c.stored root) x), tt);
-          };
+          noted = λ outside d later x.
+              let means = inside_means e around (entered b) c i behind d is later (extends_trans (extends_root c.stored root) x) in
+              record { roots = root ∷ []; is = ap (λ rs. rs ++ root ∷ []) (inner.roots refl); same = (means, tt) };
         }
     by b outer in' (Err f) c is inner kept = tt
