@@ -13,5 +13,8 @@ pub mod Spread
 pub mod Owned
 pub mod Body
 pub mod Tree
+pub mod Holding
+pub mod HeldArgs
+pub mod HeldTypes
 pub mod Whole
 pub mod Computed
