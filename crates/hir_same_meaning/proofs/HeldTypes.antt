@@ -36,8 +36,9 @@ use Rattle.hir_meaning.specs.Inner.{Bodies, Inners, all_of, of_present, of_const
 use Rattle.hir_read_back.proofs.Layers.{a_list, within, Reads}
 use Rattle.hir_steps.proofs.Frames.{Frame}
 use Rattle.hir_steps.proofs.Steps.{Mark, Grows, Rel, Correct, Both, correct_bind, correct_as, correct_both, correct_pure}
-use Rattle.hir_steps.proofs.Steps.{correct_alloc_type, correct_alloc_lifetime}
-use Rattle.hir_same_meaning.proofs.Holding.{SameIn, inners_in, same_append, same_ids, same_bodies, Ids, a_type, each, maybe, Holds}
+use Rattle.hir_steps.proofs.Steps.{correct_alloc_type}
+use Rattle.hir_steps.proofs.TypeAny.{lifetime_any, lifetime_option_any}
+use Rattle.hir_same_meaning.proofs.Holding.{SameIn, inners_in, same_append, same_ids, same_bodies, Ids, nothing, a_type, each, maybe, Holds}
 use Rattle.hir_same_meaning.proofs.Holding.{holds_later, holds_none, holds_one, holds_behind, type_held, type0, type1}
 use Rattle.hir_same_meaning.proofs.HeldArgs.{all_append, of_binding, args_roll, binding_roll}
 
@@ -60,6 +61,10 @@ an_arg r a = of_arg r a
 
 abbrev pub a_binding : Ids AssociatedTypeBinding
 a_binding r b = of_binding r b
+
+-- a lifetime holds nothing
+pub lifetime_held : (l : Lifetime) → Correct (lower_lifetime l) (Holds nothing [])
+lifetime_held l = correct_as (lifetime_any l) (λ final ps m m' i g row. record { same = λ d le. tt })
 
 -- ---- types
 
@@ -109,15 +114,9 @@ module _ (at : Pointer) {es : Bodies} where
   -- nothing is in the lifetime
   pub ref_held : (m : Mutability) (l : Option Lifetime) {t : TypeSteps} → Correct t (Holds a_type es)
       → Correct (ref_type_form at m t (lower_lifetime_option l)) (Holds a_type es)
-  unfolding ref_type_form lower_lifetime
-  ref_held mutability None h = correct_as
-      (correct_bind h (λ t. correct_bind (correct_pure None)
-      (λ o. correct_alloc_type (ty.Reference (record { ty = t; lifetime = o; mutability = mutability })) (Some at))))
-      (λ final ps m m' i g row. let s = row.second in type_held s.second (λ d le.
-      row.first.same d (omega (le, s.before.nodes, s.before.types, arith))))
-  ref_held mutability (Some l) h = correct_as
-      (correct_bind h (λ t. correct_bind
-      (correct_bind (correct_alloc_lifetime l.lifetime (Some l.pointer)) (λ i. correct_pure (Some i)))
+  unfolding ref_type_form
+  ref_held mutability l h = correct_as
+      (correct_bind h (λ t. correct_bind (lifetime_option_any l)
       (λ o. correct_alloc_type (ty.Reference (record { ty = t; lifetime = o; mutability = mutability })) (Some at))))
       (λ final ps m m' i g row. let s = row.second in type_held s.second (λ d le.
       row.first.same d (omega (le, s.before.nodes, s.before.types, arith))))
@@ -130,7 +129,8 @@ module _ (at : Pointer) {es : Bodies} where
       (correct_bind ret (λ t. correct_bind params (λ ts. correct_alloc_type (stored_fn b head (ts ++ t ∷ [])) (Some at))))
       (λ final ps m m' i g row. let s = row.second in type_held s.second (λ d le.
       let r = inners_in final d in
-      same_ids final (es ++ fs) (all_append r.type s.one (row.one ∷ []) ∙ ap (λ is. all_of r.type s.one ++ is) (append-nil (r.type row.one)))
+      same_ids final (es ++ fs) (all_append r.type s.one (row.one ∷ [])
+      ∙ ap (λ is. all_of r.type s.one ++ is) (append-nil (r.type row.one)))
       (same_append final (all_of r.type s.one) (r.type row.one) es fs (s.first.same d le)
       (row.first.same d (omega (le, s.before.nodes, s.before.types, arith))))))
 
@@ -145,32 +145,33 @@ module _ (at : Pointer) {es : Bodies} where
   impl_held becomes.Error h = holds_behind h (λ bs. type0 ty.Error (Some at) (λ r. refl))
   impl_held becomes.Opaque h = type1 (Some at) ty.ImplTrait (λ r bs. refl) h
 
-  -- a bound whose path is refused holds nothing
+-- a bound whose path is refused holds nothing
 
-  path_bound_is : (maybe : Bool) (b : Binder) (r : Inners) (t : TypeRefId) → of_bound r (stored_path_bound maybe b t) ≡ r.type t
-  path_bound_is maybe [] r t = refl
-  path_bound_is maybe (n ∷ ns) r t = refl
+path_bound_is : (may : Bool) (b : Binder) (r : Inners) (t : TypeRefId) → of_bound r (stored_path_bound may b t) ≡ r.type t
+path_bound_is may [] r t = refl
+path_bound_is may (n ∷ ns) r t = refl
 
-  -- where the path became this
-  record Bound (o : Option HirPath) (final : Stored) (ps : List Frame) (m m' : Mark) (b : TypeBound) : Type 0 where
-    rel : {n : Mark} → Holds a_path es final ps n m o → Holds a_bound es final ps m m' b
+-- where the path became this
+record FromPath (es : Bodies) (o : Option HirPath) (final : Stored) (ps : List Frame) (m m' : Mark) (b : TypeBound) : Type 0 where
+  rel : (n : Mark) → Holds a_path es final ps n m o → Holds a_bound es final ps m m' b
 
-  bound_of_held : (maybe : Bool) (binder : Binder) (o : Option HirPath) → Correct (path_bound_of at maybe binder o) (Bound o)
-  bound_of_held maybe binder None = correct_as (correct_pure bound.Error)
-      (λ final ps m m' b g row. rw (row.is, row.still) (record { rel = λ h. record { same = h.same } }))
-  bound_of_held maybe binder (Some p) = correct_as
-      (correct_bind (correct_alloc_type (ty.Path p) (Some at)) (λ i. correct_pure (stored_path_bound maybe binder i)))
-      (λ final ps m m' b g row. rw (row.second.is, row.second.still) (record {
-        rel = λ h. let t = type_held {n = m} row.first h.same in record {
-          same = λ d le. same_ids final es (path_bound_is maybe binder (inners_in final d) row.one) (t.same d le);
-        };
-      }))
+bound_of_held : {es : Bodies} (at : Pointer) (may : Bool) (binder : Binder) (o : Option HirPath)
+    → Correct (path_bound_of at may binder o) (FromPath es o)
+bound_of_held at may binder None = correct_as (correct_pure bound.Error)
+    (λ final ps m m' b g row. rw (row.is, row.still) (record { rel = λ n h. record { same = h.same } }))
+bound_of_held {es = es} at may binder (Some p) = correct_as
+    (correct_bind (correct_alloc_type (ty.Path p) (Some at)) (λ i. correct_pure (stored_path_bound may binder i)))
+    (λ final ps m m' b g row. rw (row.second.is, row.second.still) (record {
+      rel = λ n h. let t = type_held {ps = ps} {n = m} row.first h.same in record {
+        same = λ d le. same_ids final es (path_bound_is may binder (inners_in final d) row.one) (t.same d le);
+      };
+    }))
 
-  pub path_bound_held : (maybe : Bool) (binder : Binder) {p : Lowering (Option HirPath)} → Correct p (Holds a_path es)
-      → Correct (path_bound_form at maybe binder p) (Holds a_bound es)
-  unfolding path_bound_form
-  path_bound_held maybe binder h = correct_as (correct_bind h (λ o. bound_of_held maybe binder o))
-      (λ final ps m m' b g row. let t = row.second.rel row.first in record { same = t.same })
+pub path_bound_held : {es : Bodies} (at : Pointer) (may : Bool) (binder : Binder) {p : Lowering (Option HirPath)}
+    → Correct p (Holds a_path es) → Correct (path_bound_form at may binder p) (Holds a_bound es)
+unfolding path_bound_form
+path_bound_held at may binder h = correct_as (correct_bind h (λ o. bound_of_held at may binder o))
+    (λ final ps m m' b g row. let t = row.second.rel m row.first in record { same = t.same })
 
 -- ---- lists of arguments, which grow in two
 
@@ -301,7 +302,7 @@ parens_held {es = es} {fs = fs} hp hq = correct_as
     (λ o. correct_pure (Some (sugared_args t o))))))
     (λ final ps m m' r g row. let s = row.second in let u = s.second in rw (u.second.is, u.second.still) (record {
       same = λ d le. let r = inners_in final d in
-          let tuple = type_held {n = m} s.first row.first.same in
+          let tuple = type_held {ps = ps} {n = m} s.first row.first.same in
           same_ids final (es ++ fs) (sugared_is r s.one u.one) (same_append final (r.type s.one) (r.type u.one) es fs
           (tuple.same d (omega (le, u.before.nodes, u.before.types, arith))) (u.first.same d le));
     }))

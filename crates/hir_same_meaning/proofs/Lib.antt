@@ -16,5 +16,6 @@ pub mod Tree
 pub mod Holding
 pub mod HeldArgs
 pub mod HeldTypes
+pub mod HeldForms
 pub mod Whole
 pub mod Computed
