@@ -14,5 +14,8 @@ pub mod Owned
 pub mod Body
 pub mod HeldWalk
 pub mod Tree
+pub mod Holding
+pub mod HeldArgs
+pub mod HeldTypes
 pub mod Whole
 pub mod Computed
