@@ -12,6 +12,7 @@ pub mod Induction
 pub mod Spread
 pub mod Owned
 pub mod Body
+pub mod HeldWalk
 pub mod Tree
 pub mod Holding
 pub mod HeldArgs
