@@ -1,5 +1,5 @@
 -- What each form of an expression becomes holds what its parts hold.
-use Rattle.std.proofs.Common.{◌≡◌, ◌∙◌, refl, sym, ap, subst, ℕ, ◌+◌, ◌≤◌, Bool, true, false, List, [], ◌∷◌, ◌++◌, append-nil, append_assoc}
+use Rattle.std.proofs.Common.{◌≡◌, ◌∙◌, refl, sym, ap, Bool, true, false, List, [], ◌∷◌, ◌++◌, append-nil, append_assoc}
 use Rattle.std.proofs.Common.{Option, Some, None, option_map, arith}
 use Rattle.hir_store.specs.Pointers.{Pointer}
 use Rattle.hir_store.specs.Stored.{Stored}
@@ -16,7 +16,6 @@ use Rattle.hir_store.specs.declared.ids.BlockId.{BlockId}
 use Rattle.hir_store.specs.declared.ids.ExprId.{ExprId}
 use Rattle.hir_store.specs.declared.ids.HygieneId.{HygieneId}
 use Rattle.hir_store.specs.declared.ids.LabelId.{LabelId}
-use Rattle.hir_store.specs.declared.ids.TypeRefId.{TypeRefId}
 use Rattle.hir_store.specs.declared.name.Name.{Name}
 use Rattle.hir_store.specs.declared.path.GenericArgs.{GenericArgs}
 use Rattle.hir_store.specs.declared.path.Path.{Path as HirPath}
@@ -36,10 +35,10 @@ use Rattle.hir_read_back.proofs.Going.{PathIs}
 use Rattle.hir_read_back.proofs.Layers.{Pushed}
 use Rattle.hir_read_back.proofs.Walk.{Answers}
 use Rattle.hir_steps.proofs.Frames.{Frame, loop_at, block_at}
-use Rattle.hir_steps.proofs.Steps.{Mark, Grows, Rel, Correct, correct_bind, correct_as, correct_both, correct_pure, correct_alloc}
+use Rattle.hir_steps.proofs.Steps.{Mark, Rel, Correct, correct_bind, correct_as, correct_both, correct_pure, correct_alloc}
 use Rattle.hir_steps.proofs.Steps.{correct_report, correct_report_await, correct_point, correct_point_field, correct_enter_block}
 use Rattle.hir_steps.proofs.Steps.{correct_opened, correct_target}
-use Rattle.hir_same_meaning.proofs.Holding.{SameIn, inners_in, same_append, same_ids, Ids, an_expr, a_type, each, maybe, Holds, holds_later}
+use Rattle.hir_same_meaning.proofs.Holding.{inners_in, same_append, same_ids, Ids, an_expr, a_type, each, maybe, Holds}
 use Rattle.hir_same_meaning.proofs.Holding.{holds_none, holds_one, holds_two, holds_behind, expr_held, expr0, expr1, expr2}
 use Rattle.hir_same_meaning.proofs.HeldTypes.{a_path, some_args}
 

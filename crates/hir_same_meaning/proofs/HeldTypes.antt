@@ -5,7 +5,6 @@ use Rattle.hir_store.specs.Pointers.{Pointer}
 use Rattle.hir_store.specs.Stored.{Stored}
 use Rattle.hir_store.specs.Generics.{of_binding as binding_of_parts}
 use Rattle.hir_store.specs.declared.hir.Mutability.{Mutability}
-use Rattle.hir_store.specs.declared.ids.ExprId.{ExprId}
 use Rattle.hir_store.specs.declared.ids.TypeRefId.{TypeRefId}
 use Rattle.hir_store.specs.declared.name.Name.{Name}
 use Rattle.hir_store.specs.declared.path.AssociatedTypeBinding.{AssociatedTypeBinding}
@@ -26,20 +25,20 @@ use Rattle.hir_data.specs.Data.{OptionArgsData}
 use Rattle.hir_data.specs.Rule.{is_list}
 use Rattle.hir_lower_form.specs.declared.args.ArgLists.{ArgLists}
 use Rattle.hir_lower_form.specs.Lowering.{Lowering, ◌>>=◌, pure, alloc_type}
-use Rattle.hir_lower_form.specs.Paths.{parens_form, segment_args_form, or_else, or_notation, notation, sugared_args, output_name}
+use Rattle.hir_lower_form.specs.Paths.{parens_form, segment_args_form, or_else, or_notation, sugared_args, output_name}
 use Rattle.hir_lower_form.specs.Types.{TypeSteps, error_type, unit_type, lower_lifetime, lower_lifetime_option}
 use Rattle.hir_lower_form.specs.Types.{stored_leaf_type, stored_over_type, over_form, tuple_type_form, array_type_form, ref_type_form}
-use Rattle.hir_lower_form.specs.Types.{path_or_error, path_type_form, stored_fn, fn_type_form, stored_impl, impl_type_form, dyn_type_form}
+use Rattle.hir_lower_form.specs.Types.{path_or_error, path_type_form, stored_fn, fn_type_form, impl_type_form, dyn_type_form}
 use Rattle.hir_lower_form.specs.Types.{yielded, binding_form, add_arg, add_binding, no_lists, stored_path_bound, path_bound_of}
 use Rattle.hir_lower_form.specs.Types.{path_bound_form}
 use Rattle.hir_meaning.specs.Inner.{Bodies, Inners, all_of, of_present, of_constant, of_arg, of_bound, of_list, of_path, of_type, if_opaque}
 use Rattle.hir_read_back.proofs.Layers.{a_list, within, Reads}
 use Rattle.hir_steps.proofs.Frames.{Frame}
-use Rattle.hir_steps.proofs.Steps.{Mark, Grows, Rel, Correct, Both, correct_bind, correct_as, correct_both, correct_pure}
+use Rattle.hir_steps.proofs.Steps.{Mark, Grows, Rel, Correct, correct_bind, correct_as, correct_both, correct_pure}
 use Rattle.hir_steps.proofs.Steps.{correct_alloc_type}
 use Rattle.hir_steps.proofs.TypeAny.{lifetime_any, lifetime_option_any}
 use Rattle.hir_same_meaning.proofs.Holding.{SameIn, inners_in, same_append, same_ids, same_bodies, Ids, nothing, a_type, each, maybe, Holds}
-use Rattle.hir_same_meaning.proofs.Holding.{holds_later, holds_none, holds_one, holds_behind, type_held, type0, type1}
+use Rattle.hir_same_meaning.proofs.Holding.{holds_behind, type_held, type0, type1}
 use Rattle.hir_same_meaning.proofs.HeldArgs.{all_append, of_binding, args_roll, binding_roll}
 
 -- what is held besides types: by a constant, a path, arguments, bounds

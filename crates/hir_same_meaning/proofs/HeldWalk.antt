@@ -1,36 +1,34 @@
 -- What a walk over a path's segments keeps holds, in order, the bodies that are in the segments.
-use Rattle.std.proofs.Common.{arith, ◌≡◌, ◌≤◌, ◌∙◌, refl, sym, ap, subst, ℕ, List, [], ◌∷◌, ◌++◌, append-nil, append_assoc}
+use Rattle.std.proofs.Common.{arith, ◌≡◌, ◌≤◌, ◌∙◌, refl, sym, ap, subst, ℕ, List, [], ◌∷◌, ◌++◌}
 use Rattle.std.proofs.Common.{Option, Some, None, Bool, true, false}
 use Rattle.std.specs.Prelude.{reverse, map, ◌&&◌, ◌||◌, not, is_none, if◌then◌else◌}
 use Rattle.std.proofs.lemmas.List.{reverse-append, reverse-reverse}
 use Rattle.hir_store.specs.Stored.{Stored, store_of, map_of}
-use Rattle.hir_store.specs.Generics as generic
-use Rattle.hir_store.specs.declared.ids.ExprId.{ExprId}
 use Rattle.hir_store.specs.declared.ids.TypeRefId.{TypeRefId}
 use Rattle.hir_store.specs.declared.name.Name.{Name}
 use Rattle.hir_store.specs.declared.path.PathKind.{PathKind}
-use Rattle.hir_store.specs.declared.path.GenericArg.TheVariants as arg
 use Rattle.hir_store.specs.declared.path.GenericArgs.{GenericArgs}
-use Rattle.hir_store.specs.declared.path.GenericArgsParentheses.TheVariants.{No}
-use Rattle.hir_store.specs.declared.path.AssociatedTypeBinding.TheFolds as folds
-use Rattle.hir_store.specs.declared.path.AssociatedTypeBinding.TheViews.{out-GenericArgs}
 use Rattle.hir_store.specs.declared.path.Path.{Path as HirPath}
 use Rattle.hir_store.specs.declared.path.Path.TheVariants.{BarePath, Normal}
 use Rattle.hir_lower_form.specs.declared.walk.PathWalk.{PathWalk}
 use Rattle.hir_lower_form.specs.declared.walk.Reading.{Reading}
 use Rattle.hir_lower_form.specs.declared.walk.Reading.TheVariants.{Refused, Ended, Open}
 use Rattle.hir_lower_form.specs.Walks as walks
-use Rattle.hir_lower_form.specs.Walks.{at_first, add_name, add_trait, args_of, with_self, without_last_self, finished, own_path}
+use Rattle.hir_lower_form.specs.Walks.{at_first, add_name, add_trait, mod_path, args_of, with_self, without_last_self, finished, own_path}
 use Rattle.hir_data.specs.Data.{OptionArgsData, no_args}
 use Rattle.hir_data.specs.Rule as rule
-use Rattle.hir_data.specs.Rule.{Named, Item, ended, read, empty_list}
-use Rattle.hir_read_back.proofs.Layers.{a_list, within}
+use Rattle.hir_data.specs.Rule.{Named, PathRead, Item, ended, read, empty_list}
+use Rattle.hir_read_back.proofs.Layers.{within}
 use Rattle.hir_read_back.proofs.Generics.{self_flag}
-use Rattle.hir_read_back.proofs.Walk.{Found, Says, Closed, lists, args_at, none_beside, clash, map_reverse, read_whole}
-use Rattle.hir_meaning.specs.Same.{SameBodies}
-use Rattle.hir_meaning.specs.Inner.{Bodies, all_in, Part, items_of, read_parts, in_anchor, beside_names, begins_with_self, first_cut, last_cut}
-use Rattle.hir_meaning.specs.Inner.{first_behind, last_behind, Held, nothing_held, held_in, held_of, in_held, Inners, all_of, of_present}
-use Rattle.hir_meaning.specs.Inner.{of_args, of_list, of_path, inners}
+use Rattle.hir_read_back.proofs.Walk.{Found, Says, Closed, Matches, Answers, lists, args_at, name_at, none_beside, clash}
+use Rattle.hir_read_back.proofs.Walk.{map_reverse, read_whole}
+use Rattle.hir_read_back.proofs.Going.{traited}
+use Rattle.hir_meaning.specs.Inner.{Bodies, all_in, Part, items_of, read_parts, in_anchor, beside_names, begins_with_self}
+use Rattle.hir_meaning.specs.Inner.{first_cut, last_cut}
+use Rattle.hir_meaning.specs.Inner.{first_behind, last_behind, Held, held_in, held_of, in_held, Inners, all_of, of_present}
+use Rattle.hir_meaning.specs.Inner.{of_list, of_path}
+use Rattle.hir_same_meaning.proofs.Holding.{SameIn, inners_in, same_append, same_ids}
+use Rattle.hir_same_meaning.proofs.HeldArgs.{self_first_is}
 
 -- ---- lists that are alike, place for place
 
@@ -54,49 +52,18 @@ module _ {A B : Type 0} (R : A → B → Type 0) where
   each_reverse (a ∷ as') (b ∷ bs) h = rw (reverse-append (a ∷ []) as', reverse-append (b ∷ []) bs)
       (each_append (reverse as') (a ∷ []) (reverse bs) (b ∷ []) (each_reverse as' bs h.1) (h.0, tt))
 
--- ---- the same bodies, in a final store
-
-abbrev pub Same : Stored → List ExprId → Bodies → Type 0
-Same final is es = SameBodies (store_of final) (map_of final) is es
-
--- with so many entries inside one another
-abbrev pub inside : Stored → ℕ → Inners
-inside final d = inners (store_of final) d
-
 -- beside each name
 abbrev pub Beside : Stored → ℕ → List (Option GenericArgs) → List Bodies → Type 0
-Beside final d as' bs = Each (λ a b. Same final (of_list (inside final d) a) b) as' bs
+Beside final d as' bs = Each (λ a b. SameIn final (of_list (inners_in final d) a) b) as' bs
 
 module _ (final : Stored) where
-  same_append : (is js : List ExprId) (es fs : Bodies) → Same final is es → Same final js fs → Same final (is ++ js) (es ++ fs)
-  same_append [] js [] fs h k = k
-  same_append [] js (e ∷ es) fs h k = absurd h
-  same_append (i ∷ is) js [] fs h k = absurd h
-  same_append (i ∷ is) js (e ∷ es) fs h k = (h.0, same_append is js es fs h.1 k)
-
   same_all : (d : ℕ) (as' : List (Option GenericArgs)) (bs : List Bodies) → Beside final d as' bs
-      → Same final (all_of (of_list (inside final d)) as') (all_in bs)
+      → SameIn final (all_of (of_list (inners_in final d)) as') (all_in bs)
   same_all d [] [] h = tt
   same_all d [] (b ∷ bs) h = absurd h
   same_all d (a ∷ as') [] h = absurd h
   same_all d (a ∷ as') (b ∷ bs) h =
-      same_append (of_list (inside final d) a) (all_of (of_list (inside final d)) as') b (all_in bs) h.0 (same_all d as' bs h.1)
-
--- ---- a type for `Self` in front of arguments
-
-self_first_holds : (r : Inners) (t : TypeRefId) (a : Option GenericArgs)
-    → of_list r (Some (generic.self_first t a)) ≡ r.type t ++ of_list r a
-unfolding of_args
-self_first_holds r t None =
-    folds.fold-roll-GenericArgs (List ExprId) (List ExprId) _ _
-    (record { args = arg.Type_ t ∷ []; has_self_type = true; bindings = []; parenthesized = No })
-    ∙ append-nil (r.type t ++ [])
-self_first_holds r t (Some a) =
-    let o = out-GenericArgs a in
-    folds.fold-roll-GenericArgs (List ExprId) (List ExprId) _ _
-    (record { args = arg.Type_ t ∷ o.args; has_self_type = true; bindings = o.bindings; parenthesized = o.parenthesized })
-    ∙ (append_assoc (r.type t) _ _
-    ∙ ap (λ is. r.type t ++ is) (sym (folds.fold_out-GenericArgs (List ExprId) (List ExprId) _ _ a)))
+      same_append final (of_list (inners_in final d) a) (all_of (of_list (inners_in final d)) as') b (all_in bs) h.0 (same_all d as' bs h.1)
 
 -- ---- parts
 
@@ -123,7 +90,7 @@ all_read (p ∷ ps) h = by (rule.ends p.item.what (rule.names (items_of ps))) h
 -- ---- what a walk that has read these parts keeps, when so many expressions and types are stored
 
 pub record Kept (final : Stored) (n : ℕ) (ps : List Part) (w : PathWalk) : Type 0 where
-  pub anchor : (d : ℕ) → n ≤ d → Same final (of_present (inside final d).type w.type_anchor) (in_anchor ps)
+  pub anchor : (d : ℕ) → n ≤ d → SameIn final (of_present (inners_in final d).type w.type_anchor) (in_anchor ps)
   pub args : (d : ℕ) → n ≤ d → Beside final d w.args (reverse (beside_names ps))
 
 abbrev pub Keeps : Stored → ℕ → List Part → Reading → Type 0
@@ -148,18 +115,18 @@ module _ (final : Stored) (n : ℕ) where
 
   -- a name
   pub named_kept : (i : Item) (b : Bodies) (x : Name) (g : Option GenericArgs) (ps : List Part) (w : PathWalk)
-      → ((d : ℕ) → n ≤ d → Same final (of_list (inside final d) g) b) → Kept final n ps w
+      → ((d : ℕ) → n ≤ d → SameIn final (of_list (inners_in final d) g) b) → Kept final n ps w
       → Kept final n (part i None (b ∷ []) ∷ ps) (add_name x g w)
   named_kept i b x g ps w e h = record {
     anchor = h.anchor;
     args = λ d le. rw (reverse-append (b ∷ []) (beside_names ps))
-        (each_append (λ a c. Same final (of_list (inside final d) a) c) w.args (g ∷ []) (reverse (beside_names ps)) (b ∷ [])
+        (each_append (λ a c. SameIn final (of_list (inners_in final d) a) c) w.args (g ∷ []) (reverse (beside_names ps)) (b ∷ [])
         (h.args d le) (e d le, tt));
   }
 
   -- `<T>`
   pub anchor_kept : (i : Item) (b : Bodies) (t : TypeRefId) (ps : List Part) (w : PathWalk)
-      → ((d : ℕ) → n ≤ d → Same final ((inside final d).type t) b) → Kept final n ps w
+      → ((d : ℕ) → n ≤ d → SameIn final ((inners_in final d).type t) b) → Kept final n ps w
       → Keeps final n (part i (Some b) [] ∷ ps) (walks.anchored t w)
   anchor_kept i b t ps w e h = record { anchor = e; args = h.args }
 
@@ -193,45 +160,78 @@ module _ (final : Stored) (n : ℕ) where
 
   -- in the type that it is relative to, and beside each of its names
   pub record PathKept (h : Held) (p : HirPath) : Type 0 where
-    pub anchor : (d : ℕ) → n ≤ d → Same final (of_present (inside final d).type (anchor_in p)) h.anchor
+    pub anchor : (d : ℕ) → n ≤ d → SameIn final (of_present (inners_in final d).type (anchor_in p)) h.anchor
     pub names : (d : ℕ) → n ≤ d → Beside final d (args_of p) h.names
+
+  -- a refused path keeps nothing
+  abbrev pub MaybeKept : Held → Option HirPath → Type 0
+  MaybeKept h None = in_held h ≡ []
+  MaybeKept h (Some p) = PathKept h p
 
   none_beside_all : (r : Inners) (xs : List Name) → all_of (of_list r) (none_beside xs) ≡ []
   none_beside_all r [] = refl
   none_beside_all r (x ∷ xs) = none_beside_all r xs
 
-  pub path_same : (h : Held) (p : HirPath) → PathKept h p → (d : ℕ) → n ≤ d → Same final (of_path (inside final d) p) (in_held h)
+  pub path_same : (h : Held) (p : HirPath) → PathKept h p → (d : ℕ) → n ≤ d → SameIn final (of_path (inners_in final d) p) (in_held h)
   path_same h (BarePath p) k d le =
       same_append final [] [] h.anchor (all_in h.names) (k.anchor d le)
-      (subst (λ is. Same final is (all_in h.names)) (none_beside_all (inside final d) p.segments)
+      (subst (λ is. SameIn final is (all_in h.names)) (none_beside_all (inners_in final d) p.segments)
       (same_all final d (none_beside p.segments) h.names (k.names d le)))
   path_same h (Normal p) k d le =
-      same_append final (of_present (inside final d).type p.type_anchor) (all_of (of_list (inside final d)) p.generic_args) h.anchor
+      same_append final (of_present (inners_in final d).type p.type_anchor) (all_of (of_list (inners_in final d)) p.generic_args) h.anchor
       (all_in h.names) (k.anchor d le) (same_all final d p.generic_args h.names (k.names d le))
 
   -- ---- `<T as Trait>`
 
   with_self_kept : (d : ℕ) (t : TypeRefId) (b : Bodies) (as' : List (Option GenericArgs)) (bs : List Bodies) → empty_list as' ≡ false
-      → Same final ((inside final d).type t) b → Beside final d as' bs → Beside final d (with_self t as') (first_behind b bs)
+      → SameIn final ((inners_in final d).type t) b → Beside final d as' bs → Beside final d (with_self t as') (first_behind b bs)
   with_self_kept d t b [] bs f e h = absurd (clash f)
   with_self_kept d t b (a ∷ as') [] f e h = absurd h
   with_self_kept d t b (a ∷ as') (c ∷ bs) f e h = (
-    rw (self_first_holds (inside final d) t a)
-        (same_append final ((inside final d).type t) (of_list (inside final d) a) b c e h.0),
+    same_ids final (b ++ c) (self_first_is (inners_in final d) t a)
+        (same_append final ((inners_in final d).type t) (of_list (inners_in final d) a) b c e h.0),
     h.1,
   )
 
   pub trait_kept : (i : Item) (b : Bodies) (x : Held) (t : TypeRefId) (p : HirPath) (ps : List Part) (w : PathWalk)
-      → empty_list (reverse (args_of p)) ≡ false → ((d : ℕ) → n ≤ d → Same final ((inside final d).type t) b) → PathKept x p
+      → empty_list (reverse (args_of p)) ≡ false → ((d : ℕ) → n ≤ d → SameIn final ((inners_in final d).type t) b) → PathKept x p
       → Kept final n ps w → Kept final n (part i None (last_behind b x.names) ∷ ps) (add_trait t p w)
   trait_kept i b x t p ps w f e k h = record {
     anchor = h.anchor;
     args = λ d le. rw (reverse-append (last_behind b x.names) (beside_names ps), reverse-reverse (first_behind b (reverse x.names)))
-        (each_append (λ a c. Same final (of_list (inside final d) a) c) w.args (with_self t (reverse (args_of p)))
+        (each_append (λ a c. SameIn final (of_list (inners_in final d) a) c) w.args (with_self t (reverse (args_of p)))
         (reverse (beside_names ps)) (first_behind b (reverse x.names)) (h.args d le)
         (with_self_kept d t b (reverse (args_of p)) (reverse x.names) f (e d le)
-        (each_reverse (λ a c. Same final (of_list (inside final d) a) c) (args_of p) x.names (k.names d le))));
+        (each_reverse (λ a c. SameIn final (of_list (inners_in final d) a) c) (args_of p) x.names (k.names d le))));
   }
+
+  -- as many arguments as names
+  as_many : (k : ℕ) (z : PathRead) (p : HirPath) → Matches final k z p → walks.no_names (mod_path p).segments ≡ false
+      → empty_list (reverse (args_of p)) ≡ false
+  as_many k z p m f = by (args_of p) z.names (mod_path p).segments (m.args k (omega arith)) m.names f
+    where
+      more : (as' : List (Option GenericArgs)) (a : Option GenericArgs) → empty_list (as' ++ a ∷ []) ≡ false
+      more [] a = refl
+      more (c ∷ as') a = refl
+
+      by : (as' : List (Option GenericArgs)) (ns : List Named) (xs : List Name) → lists final k as' ≡ map args_at ns
+          → xs ≡ map name_at ns → walks.no_names xs ≡ false → empty_list (reverse as') ≡ false
+      by [] [] xs e n f = absurd (clash (sym (ap walks.no_names n) ∙ f))
+      by [] (x ∷ ns) xs e n f = absurd (clash (ap empty_list e))
+      by (a ∷ as') ns xs e n f = ap empty_list (reverse-append (a ∷ []) as') ∙ more (reverse as') a
+
+  -- a trait that is refused, or without names, refuses
+  pub projected_kept : (k : ℕ) (i : Item) (b : Bodies) (x : Held) (t : TypeRefId) (y : Option PathRead) (o : Option HirPath)
+      (ps : List Part) (w : PathWalk) → ((d : ℕ) → n ≤ d → SameIn final ((inners_in final d).type t) b) → Answers final k y o
+      → MaybeKept x o → Kept final n ps w → Keeps final n (part i None (last_behind b x.names) ∷ ps) (traited t w o)
+  projected_kept k i b x t y None ps w e a m h = tt
+  projected_kept k i b x t None (Some p) ps w e a m h = absurd a
+  projected_kept k i b x t (Some z) (Some p) ps w e a m h = by (walks.no_names (mod_path p).segments) refl
+    where
+      by : (c : Bool) → walks.no_names (mod_path p).segments ≡ c
+          → Keeps final n (part i None (last_behind b x.names) ∷ ps) (if c then Refused else Open (add_trait t p w))
+      by true f = tt
+      by false f = trait_kept i b x t p ps w (as_many k z p a f) e m h
 
   -- ---- the end of a walk
 
@@ -261,7 +261,7 @@ module _ (final : Stored) (n : ℕ) where
       → lists final k as' ≡ map args_at (reverse ns)
       → Beside final d as' (reverse bs) → Beside final d (reverse (without_last_self as')) (last_cut ns bs)
   last_kept d k ns as' bs e h =
-      each_reverse (λ a c. Same final (of_list (inside final d) a) c) (without_last_self as') (first_cut (reverse ns) (reverse bs))
+      each_reverse (λ a c. SameIn final (of_list (inners_in final d) a) c) (without_last_self as') (first_cut (reverse ns) (reverse bs))
       (cut_kept d k (reverse ns) as' (reverse bs) e h)
 
   none_without : (xs : List Name) → without_last_self (none_beside xs) ≡ none_beside xs
@@ -296,20 +296,15 @@ module _ (final : Stored) (n : ℕ) where
 
       by : (b : Bool) → (is_none w.type_anchor && not w.found_args) ≡ b → PathKept (held_in ps) (made w b)
       by true e = record {
-        anchor = λ d le. subst (λ t. Same final (of_present (inside final d).type t) (in_anchor ps))
+        anchor = λ d le. subst (λ t. SameIn final (of_present (inners_in final d).type t) (in_anchor ps))
             (bare_anchor w (not w.found_args) e) (h.anchor d le);
         names = λ d le. subst (λ as'. Beside final d as' (held_in ps).names)
             (none (bare_found (is_none w.type_anchor) w.found_args e)) (args d le);
       }
       by false e = record { anchor = h.anchor; names = args }
 
-  -- a refused path keeps nothing
-  abbrev pub MaybeKept : Held → Option HirPath → Type 0
-  MaybeKept h None = in_held h ≡ []
-  MaybeKept h (Some p) = PathKept h p
-
   pub maybe_same : (h : Held) (o : Option HirPath) → MaybeKept h o → (d : ℕ) → n ≤ d
-      → Same final (of_present (of_path (inside final d)) o) (in_held h)
+      → SameIn final (of_present (of_path (inners_in final d)) o) (in_held h)
   maybe_same h None k d le = rw k tt
   maybe_same h (Some p) k d le = path_same h p k d le
 
@@ -328,8 +323,12 @@ module _ (final : Stored) (n : ℕ) where
   one_closed_kept (Ended w) x ps k c s h = rw s.0 h
   one_closed_kept (Open w) x ps k c s h = absurd c
 
-pub path_later : {final : Stored} {n n' : ℕ} {h : Held} {p : HirPath} → n ≤ n' → PathKept final n h p → PathKept final n' h p
+path_later : {final : Stored} {n n' : ℕ} {h : Held} {p : HirPath} → n ≤ n' → PathKept final n h p → PathKept final n' h p
 path_later le h = record {
   anchor = λ d m. h.anchor d (omega (le, m, arith));
   names = λ d m. h.names d (omega (le, m, arith));
 }
+
+pub maybe_later : (final : Stored) (n n' : ℕ) (h : Held) (o : Option HirPath) → n ≤ n' → MaybeKept final n h o → MaybeKept final n' h o
+maybe_later final n n' h None le k = k
+maybe_later final n n' h (Some p) le k = path_later le k

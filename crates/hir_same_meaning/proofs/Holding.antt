@@ -1,6 +1,6 @@
 -- What an answer holds runs as these written bodies, in their order.
-use Rattle.std.proofs.Common.{◌≡◌, ◌∙◌, refl, sym, subst, ap, ℕ, zero, suc, ◌+◌, ◌≤◌, List, [], ◌∷◌, ◌++◌, append-nil, append_assoc}
-use Rattle.std.proofs.Common.{Option, Some, None, arith}
+use Rattle.std.proofs.Common.{◌≡◌, ◌∙◌, sym, subst, ℕ, zero, suc, ◌+◌, ◌≤◌, List, [], ◌∷◌, ◌++◌, append-nil, append_assoc}
+use Rattle.std.proofs.Common.{Option, arith}
 use Rattle.hir_store.specs.Pointers.{Pointer}
 use Rattle.hir_store.specs.Stored.{Stored, store_of, map_of}
 use Rattle.hir_store.specs.declared.hir.Expr.{Expr as HirExpr}
@@ -58,11 +58,6 @@ maybe f r = of_present (f r)
 -- However deep one looks, past all types and expressions that there were by then, what a holds runs as these bodies.
 pub record Holds {A : Type 0} (ids : Ids A) (es : Bodies) (final : Stored) (ps : List Frame) (m m' : Mark) (a : A) : Type 0 where
   pub same : (d : ℕ) → m'.nodes + m'.types ≤ d → SameIn final (ids (inners_in final d) a) es
-
--- still later
-pub holds_later : {A : Type 0} {ids : Ids A} {es : Bodies} {final : Stored} {ps qs : List Frame} {m n m' n' : Mark} {a : A}
-    → Grows m' n' → Holds ids es final ps m m' a → Holds ids es final qs n n' a
-holds_later g h = record { same = λ d le. h.same d (omega (arith, g.nodes, g.types)) }
 
 -- ---- values
 
