@@ -130,7 +130,7 @@ module _ (at : Pointer) where
   offset_of_from names h = ends_from h (λ t. stored_from _)
 
   -- where its path is absent or refused it is missing, without a node
-  FromEither : Option HirPath → Rel ExprId
+  abbrev FromEither : Option HirPath → Rel ExprId
   FromEither None = Reads a_source None
   FromEither (Some p) = Reads a_source here
 
@@ -142,14 +142,14 @@ module _ (at : Pointer) where
       → Correct c Any → From (written.record_site at y) (record_form at p c)
   unfolding record_form
   record_from y hp hc = correct_as (correct_bind hp (λ p. record_of_from hc p))
-      (λ final ps m m' i g row. go final ps row.middle m' i y row.one row.first.is row.second)
+      (λ final ps m m' i g row. go final ps m row.middle m' i y row.one row.first.is row.second)
     where
-      go : (final : Stored) (ps : List Frame) (m m' : Mark) (i : ExprId) (y : Option PathRead) (o : Option HirPath)
-          → Answers final m.types y o → FromEither o final ps m m' i → Reads a_source (written.record_site at y) final ps m m' i
-      go final ps m m' i None None h row = row
-      go final ps m m' i None (Some p) h row = absurd h
-      go final ps m m' i (Some x) None h row = absurd h
-      go final ps m m' i (Some x) (Some p) h row = row
+      go : (final : Stored) (ps : List Frame) (m n m' : Mark) (i : ExprId) (y : Option PathRead) (o : Option HirPath)
+          → Answers final n.types y o → FromEither o final ps n m' i → Reads a_source (written.record_site at y) final ps m m' i
+      go final ps m n m' i None None h row = record { is = row.is }
+      go final ps m n m' i None (Some p) h row = absurd h
+      go final ps m n m' i (Some x) None h row = absurd h
+      go final ps m n m' i (Some x) (Some p) h row = record { is = row.is }
 
   pub block_form_from : (is_unsafe : Bool) (label : Option LabelId) (number : Option BlockId) {c : Lowering StoredContents}
       → Correct c Any → From here (block_form at is_unsafe label number c)
