@@ -201,11 +201,11 @@ binding_leaves name dots ha ht hb = ways_bind ha (λ a. ways_bind ht (λ t. ways
 
 -- constants
 
-root_moved : {i : ExprId} {a b : Stored} → (b ≡ a) ⊎ (b ≡ with_root i a) → Moved a b []
-root_moved {a = a} (inl e) = moved_same a a e refl refl refl
-root_moved {i = i} {a = a} (inr e) = moved_same a (with_root i a) e refl refl refl
+root_moved : (i : ExprId) {a b : Stored} → (b ≡ a) ⊎ (b ≡ with_root i a) → Moved a b []
+root_moved i {a = a} (inl e) = moved_same a a e refl refl refl
+root_moved i {a = a} (inr e) = moved_same a (with_root i a) e refl refl refl
 
 pub constant_leaves : {S : Of ExprId} {p : ExprSteps} → Correct p (Shows S)
     → Correct (constant_form p) (Leaves (λ final rs ws. (i : ExprId) × S final (barrier_rib ∷ rs) i ws))
 constant_leaves h = correct_as (correct_constant h) (λ final ps m m' c g row.
-    record { shown = shown_as (shown_before row.first.shown (root_moved row.stored)) (λ ws y. (c.expr, y)) })
+    record { shown = shown_as (shown_before row.first.shown (root_moved c.expr row.stored)) (λ ws y. (c.expr, y)) })
