@@ -147,7 +147,8 @@ mutual
   one_type_left b (tree.nested_impl at) = type_leaves _ _
   one_type_left b (tree.dyn_type at bs) = dyn_leaves at (bounds_left [] bs)
 
-  pub type_left : (b : Option Binder) (t : OptionType) → Stays (λ final rs. TypePartWays (store_of final) (map_of final) rs t) (type_part b t)
+  pub type_left : (b : Option Binder) (t : OptionType)
+      → Stays (λ final rs. TypePartWays (store_of final) (map_of final) rs t) (type_part b t)
   type_left b tree.no_type = ways_aside error_aside
   type_left b (tree.some_type t) = one_type_left b t
 
