@@ -12,6 +12,7 @@ use Rattle.hir_steps.specs.Keeps.{Paired}
 use Rattle.hir_steps.proofs.Frames.{frames, ribs, ribs_frames}
 use Rattle.hir_steps.proofs.Steps.{Correct}
 use Rattle.hir_store.proofs.Range.{extends_refl}
+use Rattle.hir_same_meaning.proofs.HeldTree.{part_holds, path_holds}
 use Rattle.hir_one_result.specs.Diagnostics.{Around, Faults}
 use Rattle.hir_one_result.specs.Leads.{Ways}
 use Rattle.hir_one_result.specs.Stands.{Open}
@@ -25,7 +26,6 @@ use Rattle.hir_one_result.proofs.TreeFaults.{reported, Reports}
 use Rattle.hir_type_result.specs.Roots.{RootsOf, recorded, TypeRoots, PathRoots}
 use Rattle.hir_type_result.proofs.Meaning.{in_frames, held_whole}
 use Rattle.hir_type_result.proofs.Noting.{Noting, Noted, Notes, no_roots}
-use Rattle.hir_type_result.proofs.Pending.{path_held, type_held}
 use Rattle.hir_type_result.proofs.TreeNotes.{type_notes, path_notes}
 
 module _ {A : Type 0} {p : Lowering A} (b c : Builder) (a : A) (paired : Paired b.stored) (is : p b ≡ (Ok a, c)) where
@@ -57,11 +57,11 @@ module _ {A : Type 0} {p : Lowering A} (b c : Builder) (a : A) (paired : Paired 
 pub type_roots : TypeRoots
 unfolding type_inner_bodies
 type_roots binder t b c i paired is later stays =
-    let held = in_frames (type_held binder t) (frames b.scopes) b c i (ribs_frames b.scopes) paired is later stays in
+    let held = in_frames (part_holds binder t) (frames b.scopes) b c i (ribs_frames b.scopes) paired is later stays in
     (roots_behind b c i paired is (type_notes binder t) later stays, held_whole held)
 
 pub path_roots : PathRoots
 unfolding path_inner_bodies
 path_roots p b c r paired is later stays =
-    let held = in_frames (path_held p) (frames b.scopes) b c r (ribs_frames b.scopes) paired is later stays in
+    let held = in_frames (path_holds p) (frames b.scopes) b c r (ribs_frames b.scopes) paired is later stays in
     (roots_behind b c r paired is (path_notes p) later stays, held_whole held)

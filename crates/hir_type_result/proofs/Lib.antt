@@ -4,7 +4,6 @@ pub mod Adding
 pub mod Naming
 pub mod Owned
 pub mod Named
-pub mod Pending
 pub mod Meaning
 pub mod Noting
 pub mod NotingForms

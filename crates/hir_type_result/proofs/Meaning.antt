@@ -14,9 +14,9 @@ use Rattle.hir_steps.proofs.Frames.{Frame, barrier_at, ribs}
 use Rattle.hir_steps.proofs.Steps.{Mark, mark, Rel, InStore, Correct, correct_in_store}
 use Rattle.hir_steps.proofs.Steps.{Holds as HoldsOf}
 use Rattle.hir_same_meaning.proofs.Body.{body_is}
+use Rattle.hir_same_meaning.proofs.HeldTree.{body_holds}
 use Rattle.hir_same_meaning.proofs.Holding.{SameIn, inners_in, Ids, Holds}
 use Rattle.hir_same_meaning.proofs.Induction.{part_fine}
-use Rattle.hir_type_result.proofs.Pending.{part_held}
 
 -- what is so of an answer, inside these frames
 pub in_frames : {A : Type 0} {R : Rel A} {p : Lowering A} → Correct p R → (ps : List Frame) (b c : Builder) (a : A) → b.scopes ≡ ribs ps
@@ -41,5 +41,5 @@ inside_means e ps b c i scopes paired is later stays =
     let inside : List Frame = barrier_at ∷ ps in
     let row = in_frames (part_fine e) inside b c i scopes paired is later stays in record {
       body = body_is inside row.rel row.nodes tt refl;
-      inner = held_whole (in_frames (part_held e) inside b c i scopes paired is later stays);
+      inner = held_whole (in_frames (body_holds e) inside b c i scopes paired is later stays);
     }
