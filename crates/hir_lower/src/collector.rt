@@ -29,8 +29,8 @@ use hir_store::path::Path;
 use hir_store::source_map::ExpressionStoreSourceMap;
 use hir_store::store::ExpressionStore;
 use hir_store::type_ref::{ConstRef, TypeRef};
-use hir_syntax::{Boxed, ast};
 use hir_syntax::node::{AstPtr, HirFileId, InFile};
+use hir_syntax::{Boxed, ast};
 use std::alloc::Global;
 
 /// The expression in a box, where there is one.
