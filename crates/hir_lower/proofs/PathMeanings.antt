@@ -1,5 +1,5 @@
 -- What is lowered as a path is what is written.
-use Rattle.std.proofs.Common.{◌≡◌, ◌≢◌, refl, sym, ap, subst, Option, Some, None, option_map, Result, Ok, Err}
+use Rattle.std.proofs.Common.{◌≡◌, ◌≢◌, ◌∙◌, refl, sym, ap, subst, Option, Some, None, option_map, Result, Ok, Err}
 use Rattle.std.specs.Prelude.{IfOk, IsErrOf}
 use Rattle.hir_syntax.specs.declared.ast.Path.{Path as AstPath}
 use Rattle.hir_store.specs.Stored.{Stored, store_of, map_of}
@@ -23,6 +23,7 @@ use Rattle.hir_one_result.specs.Room.{whole_size}
 use Rattle.hir_one_result.specs.Room.{Short}
 use Rattle.hir_one_result.proofs.Fits.{paths_fit}
 use Rattle.hir_type_result.proofs.Named.{path_types_once}
+use Rattle.hir_lower.specs.Calls.{Outside}
 use Rattle.hir_lower.specs.Means.{BearsNames, PathRooted, ReadsBack, whole_path}
 use Rattle.hir_lower.specs.Stays.{Stays}
 use Rattle.hir_lower.proofs.Ways.{Went, went}
@@ -48,9 +49,15 @@ module _ (at : Spot) (x : AstPath) (b b' : Builder) where
       (sym (path_law (whole_path at x) b b' (Some y) d l.0 later ext))
   names_if (Err e) l d = tt
 
-  pub rooted_path_if : (r : Checked (Option Path)) → Alone r → Paired b.stored
-      → IfOk r (λ y. PathRooted b.in_root b.stored b'.stored y (whole_path at x))
-  rooted_path_if (Ok y) l d =
+  pub outside_path_if : (r : Checked (Option Path)) → Alone r → Outside b → IfOk r (λ y. Outside b')
+  outside_path_if (Ok y) l o =
+      let kept : KeepsAll b b' = subst (λ q. Keeps b q.0 q.1) l.0 (paths_keep (whole_path at x) b) in
+      record { scopes = kept.scopes ∙ o.scopes; in_root = kept.in_root ∙ o.in_root }
+  outside_path_if (Err e) l o = tt
+
+  pub rooted_path_if : (r : Checked (Option Path)) → Alone r → Paired b.stored → Outside b
+      → IfOk r (λ y. PathRooted b.stored b'.stored y (whole_path at x))
+  rooted_path_if (Ok y) l d out =
       let kept : KeepsAll b b' = subst (λ q. Keeps b q.0 q.1) l.0 (paths_keep (whole_path at x) b) in
       let grown : Grown (whole_size (whole_path at x)) b.stored b'.stored =
       subst (λ q. GrownUnless (whole_size (whole_path at x)) b.stored q.0 q.1.stored) l.0 (paths_fit (whole_path at x) b) in
@@ -60,7 +67,7 @@ module _ (at : Spot) (x : AstPath) (b b' : Builder) where
         paired = kept.paired d;
         mapped = kept.mapped d;
       }
-  rooted_path_if (Err e) l d = tt
+  rooted_path_if (Err e) l d out = tt
 
   pub ends_if : (r : Checked (Option Path)) → Alone r → IsErrOf r Full → SomeEnd b'
   ends_if (Ok y) l is = cc
