@@ -1,5 +1,6 @@
 -- Steps by the constants that they record as roots, where no root is being lowered.
-use Rattle.std.proofs.Common.{◌≡◌, ◌∙◌, refl, sym, ap, subst, Bool, true, false, true≢false, List, [], ◌∷◌, ◌++◌, append_assoc, append-nil}
+use Rattle.std.proofs.Common.{◌≡◌, ◌∙◌, refl, sym, ap, subst, arith, ℕ, ◌≤◌, length, Bool, true, false, true≢false, List, [], ◌∷◌, ◌++◌}
+use Rattle.std.proofs.Common.{append_assoc, append-nil}
 use Rattle.std.proofs.Common.{Option, Ok, Err}
 use Rattle.hir_store.specs.Pointers.{Pointer}
 use Rattle.hir_store.specs.Stored.{Store, SourceMap, Stored, store_of, map_of}
@@ -13,7 +14,6 @@ use Rattle.hir_store.specs.declared.type_ref.ConstRef.{ConstRef}
 use Rattle.hir_store.proofs.Range.{extends_root, extends_trans}
 use Rattle.hir_env.specs.Answered.{OptionExpr}
 use Rattle.hir_scope.specs.Ribs.{barrier_rib}
-use Rattle.hir_meaning.specs.Same.{SameMeaning}
 use Rattle.hir_lower_form.specs.Builder.{Builder}
 use Rattle.hir_lower_form.specs.Lowering.{Checked, go_on, Lowering, ◌>>=◌, ◌>>◌, pure, alloc_type, alloc_lifetime, open_barrier, enter_root}
 use Rattle.hir_lower_form.specs.Lowering.{close, leave_root, outside_root, record_root, count_out}
@@ -22,17 +22,21 @@ use Rattle.hir_steps.specs.Keeps.{Paired, KeepsAll, Keeps}
 use Rattle.hir_steps.proofs.Constants.{correct_constant}
 use Rattle.hir_steps.proofs.Frames.{Frame, frames, ribs_frames}
 use Rattle.hir_steps.proofs.Keeping.{Any, any, part_any, keeping, kept_by}
-use Rattle.hir_steps.proofs.Logic.{kept_trans}
+use Rattle.hir_steps.proofs.Logic.{kept_trans, longer}
 use Rattle.hir_steps.proofs.Steps.{Mark, mark, Rel, Holds, Correct, correct_pure, correct_alloc_type, correct_alloc_lifetime}
 use Rattle.hir_one_result.specs.Size.{Size}
+use Rattle.hir_one_result.specs.Stands.{Open}
 use Rattle.hir_one_result.proofs.Tellings.{Told, Tells}
-use Rattle.hir_type_result.specs.Roots.{SameRoots, RootsOf}
-use Rattle.hir_type_result.proofs.Meaning.{inside_means}
+use Rattle.hir_one_result.proofs.TreeStands.{all_stand}
+use Rattle.hir_same_meaning.proofs.Spread.{spread_wider}
+use Rattle.hir_type_result.specs.Roots.{RootIs, RootsAre, RootsOf, last_end}
+use Rattle.hir_type_result.proofs.Meaning.{inside_means, inside_once}
 
 -- Nothing is lost, and outside of a root these constants are recorded.
 pub record Noting (es : List OptionExpr) (b c : Builder) : Type 0 where
   pub kept : KeepsAll b c
-  pub noted : b.in_root ≡ false → Paired b.stored → (later : Stored) → Extends c.stored later → RootsOf b.stored c.stored later es
+  pub noted : b.in_root ≡ false → Paired b.stored → (later : Stored) → Extends c.stored later
+      → RootsOf b.scopes b.stored c.stored later es
 
 abbrev pub Noted : {A : Type 0} → List OptionExpr → Builder → Checked A → Builder → Type 0
 Noted es b (Ok a) c = Noting es b c
@@ -43,27 +47,56 @@ pub record Notes {A : Type 0} (es : List OptionExpr) (p : Lowering A) : Type 0 w
 
 -- one after another
 
-same_append : (store : Store) (source_map : SourceMap) (rs : List ExprRoot) (es : List OptionExpr) (ss : List ExprRoot)
-    (fs : List OptionExpr) → SameRoots store source_map rs es → SameRoots store source_map ss fs
-    → SameRoots store source_map (rs ++ ss) (es ++ fs)
-same_append store source_map [] [] ss fs g h = h
-same_append store source_map [] (e ∷ es) ss fs g h = absurd g
-same_append store source_map (r ∷ rs) [] ss fs g h = absurd g
-same_append store source_map (r ∷ rs) (e ∷ es) ss fs g h = (g.0, same_append store source_map rs es ss fs g.1 h)
+-- what begins later begins earlier too
+roots_earlier : (store : Store) (source_map : SourceMap) (around : Open) (lo hi : ℕ) (rs : List ExprRoot) (es : List OptionExpr) → lo ≤ hi
+    → RootsAre store source_map around hi rs es → RootsAre store source_map around lo rs es
+roots_earlier store source_map around lo hi [] [] le h = tt
+roots_earlier store source_map around lo hi [] (e ∷ es) le h = absurd h
+roots_earlier store source_map around lo hi (r ∷ rs) [] le h = absurd h
+roots_earlier store source_map around lo hi (r ∷ rs) (e ∷ es) le h = let x = h.0 in (record {
+  same = x.same;
+  ways = x.ways;
+  stands = x.stands;
+  reached_once = λ depth d. spread_wider lo r.exprs_end.0 le (omega arith) (x.reached_once depth d);
+}, h.1)
 
-roots_then : {a b c later : Stored} {es fs : List OptionExpr} → RootsOf a b later es → RootsOf b c later fs → RootsOf a c later (es ++ fs)
-roots_then {a = a} {later = later} {es = es} {fs = fs} g h = record {
-  roots = g.roots ++ h.roots;
-  is = h.is ∙ (ap (λ rs. rs ++ h.roots) g.is ∙ append_assoc a.roots g.roots h.roots);
-  same = same_append (store_of later) (map_of later) g.roots es h.roots fs g.same h.same;
-}
+ends_later : (lo hi : ℕ) (rs : List ExprRoot) → lo ≤ hi → last_end lo rs ≤ last_end hi rs
+ends_later lo hi [] le = le
+ends_later lo hi (r ∷ rs) le = omega arith
+
+ends_append : (lo : ℕ) (rs ss : List ExprRoot) → last_end lo (rs ++ ss) ≡ last_end (last_end lo rs) ss
+ends_append lo [] ss = refl
+ends_append lo (r ∷ rs) ss = ends_append r.exprs_end.0 rs ss
+
+roots_append : (store : Store) (source_map : SourceMap) (around : Open) (lo hi : ℕ) (rs : List ExprRoot) (es : List OptionExpr)
+    (ss : List ExprRoot) (fs : List OptionExpr) → last_end lo rs ≤ hi → RootsAre store source_map around lo rs es
+    → RootsAre store source_map around hi ss fs → RootsAre store source_map around lo (rs ++ ss) (es ++ fs)
+roots_append store source_map around lo hi [] [] ss fs le g h = roots_earlier store source_map around lo hi ss fs le h
+roots_append store source_map around lo hi [] (e ∷ es) ss fs le g h = absurd g
+roots_append store source_map around lo hi (r ∷ rs) [] ss fs le g h = absurd g
+roots_append store source_map around lo hi (r ∷ rs) (e ∷ es) ss fs le g h =
+    (g.0, roots_append store source_map around r.exprs_end.0 hi rs es ss fs le g.1 h)
+
+roots_then : {around : Open} {a b c later : Stored} {es fs : List OptionExpr} → RootsOf around a b later es → RootsOf around b c later fs
+    → RootsOf around a c later (es ++ fs)
+roots_then {around = around} {a = a} {b = b} {later = later} {es = es} {fs = fs} g h =
+    let from = length a.exprs.entries in
+    let to = length b.exprs.entries in
+    let all = ends_append from g.roots h.roots in
+    let after = ends_later (last_end from g.roots) to h.roots g.ends in
+    let end = h.ends in record {
+      roots = g.roots ++ h.roots;
+      is = h.is ∙ (ap (λ rs. rs ++ h.roots) g.is ∙ append_assoc a.roots g.roots h.roots);
+      each = roots_append (store_of later) (map_of later) around from to g.roots es h.roots fs g.ends g.each h.each;
+      ends = omega (all, arith);
+    }
 
 noting_then : {es fs : List OptionExpr} {a b c : Builder} → Noting es a b → Noting fs b c → Noting (es ++ fs) a c
-noting_then g h = record {
+noting_then {fs = fs} {b = b} {c = c} g h = record {
   kept = kept_trans g.kept h.kept;
   noted = λ outside d later x.
       roots_then (g.noted outside d later (extends_trans h.kept.stays x))
-      (h.noted (g.kept.in_root ∙ outside) (g.kept.paired d) later x);
+      (subst (λ rs. RootsOf rs b.stored c.stored later fs) g.kept.scopes (h.noted (g.kept.in_root ∙ outside) (g.kept.paired d) later x));
 }
 
 then_noted : {B : Type 0} {es : List OptionExpr} (fs : List OptionExpr) {b b' : Builder} → Noting es b b' → (o : Checked B) (c : Builder)
@@ -99,8 +132,9 @@ notes_end {es = es} h k = notes_as (append-nil es) (notes_then h k)
 
 -- steps that record none
 
-pub no_roots : {a b later : Stored} → b.roots ≡ a.roots → RootsOf a b later []
-no_roots {a = a} e = record { roots = []; is = e ∙ sym (append-nil a.roots); same = tt }
+pub no_roots : {around : Open} {a b later : Stored} → length a.exprs.entries ≤ length b.exprs.entries → b.roots ≡ a.roots
+    → RootsOf around a b later []
+no_roots {a = a} le e = record { roots = []; is = e ∙ sym (append-nil a.roots); each = tt; ends = le }
 
 notes_none : {A : Type 0} {R : Rel A} {p : Lowering A} → Correct p R
     → ((final : Stored) (ps : List Frame) (m m' : Mark) (a : A) → R final ps m m' a → m'.stored.roots ≡ m.stored.roots) → Notes [] p
@@ -110,7 +144,9 @@ notes_none {A = A} {R = R} {p = p} h still =
     by : (b : Builder) (o : Checked A) (c : Builder) → ((final : Stored) → Holds R final (frames b.scopes) b o c) → Noted [] b o c
     by b (Ok a) c x = record {
       kept = (x b.stored).kept;
-      noted = λ outside d later e. no_roots (still later (frames b.scopes) (mark b) (mark c) a ((x later).in_final d e));
+      noted = λ outside d later e.
+          no_roots (longer (x b.stored).kept.stays.exprs.entries)
+          (still later (frames b.scopes) (mark b) (mark c) a ((x later).in_final d e));
     }
     by b (Err f) c x = tt
 
@@ -154,7 +190,14 @@ notes_constant e = record {
         let behind = ap (λ rs. barrier_rib ∷ rs) (ribs_frames b.scopes) in record {
           kept = kept;
           noted = λ outside d later x.
-              let means = inside_means e around (entered b) c i behind d is later (extends_trans (extends_root c.stored root) x) in
-              record { roots = root ∷ []; is = ap (λ rs. rs ++ root ∷ []) (inner.roots refl); same = (means, tt) };
+              let stays = extends_trans (extends_root c.stored root) x in
+              let shown = all_stand e (entered b) i c d is later stays in
+              let whole : RootIs (store_of later) (map_of later) b.scopes (length b.stored.exprs.entries) root e = record {
+                same = inside_means e around (entered b) c i behind d is later stays;
+                ways = shown.ways;
+                stands = shown.stands;
+                reached_once = λ depth le. inside_once e around (entered b) c i behind d is later stays depth le;
+              } in
+              record { roots = root ∷ []; is = ap (λ rs. rs ++ root ∷ []) (inner.roots refl); each = (whole, tt); ends = omega arith };
         }
     by b outer in' (Err f) c is inner kept = tt
