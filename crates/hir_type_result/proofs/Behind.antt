@@ -51,7 +51,7 @@ module _ {A : Type 0} {p : Lowering A} (b c : Builder) (a : A) (paired : Paired 
   roots_behind {es = es} h later stays = by b.in_root refl (subst (λ q. Noted es b q.0 q.1) is (h.notes b))
     where
       by : (inside : Bool) → b.in_root ≡ inside → Noting es b c → RootsOf b.stored c.stored later (recorded inside es)
-      by true e n = no_roots (n.kept.roots e)
+      by true e n = no_roots n.kept.stays (n.kept.roots e)
       by false e n = n.noted e paired later stays
 
 pub type_roots : TypeRoots

@@ -1,11 +1,10 @@
 -- What an expression behind a barrier means, whatever is around.
 use Rattle.std.proofs.Common.{◌≡◌, refl, subst, ◌+◌, List, ◌∷◌, length, Ok, arith}
 use Rattle.hir_store.specs.Stored.{Stored, store_of, map_of}
-use Rattle.hir_store.specs.Storing.{Extends}
+use Rattle.hir_store.specs.Storing.{Extends, root_at}
 use Rattle.hir_store.specs.declared.ids.ExprId.{ExprId}
 use Rattle.hir_env.specs.Answered.{OptionExpr}
 use Rattle.hir_meaning.specs.Inner.{Bodies, inner_bodies}
-use Rattle.hir_meaning.specs.Same.{SameMeaning}
 use Rattle.hir_lower_form.specs.Builder.{Builder}
 use Rattle.hir_lower_form.specs.Lowering.{Lowering}
 use Rattle.hir_lower_form.specs.Lower.{lower_part}
@@ -17,6 +16,8 @@ use Rattle.hir_same_meaning.proofs.Body.{body_is}
 use Rattle.hir_same_meaning.proofs.HeldTree.{body_holds}
 use Rattle.hir_same_meaning.proofs.Holding.{SameIn, inners_in, Ids, Holds}
 use Rattle.hir_same_meaning.proofs.Induction.{part_fine}
+use Rattle.hir_same_meaning.proofs.Owned.{part_owns}
+use Rattle.hir_type_result.specs.Roots.{SameRoot}
 
 -- what is so of an answer, inside these frames
 pub in_frames : {A : Type 0} {R : Rel A} {p : Lowering A} → Correct p R → (ps : List Frame) (b c : Builder) (a : A) → b.scopes ≡ ribs ps
@@ -34,12 +35,18 @@ held_whole {later = later} row =
     let n = row.nodes in
     let t = row.types in row.rel.same (length later.exprs.entries + length later.types.entries) (omega arith)
 
-pub inside_means : (e : OptionExpr) (ps : List Frame) (b c : Builder) (i : ExprId) → b.scopes ≡ ribs (barrier_at ∷ ps) → Paired b.stored
-    → lower_part e b ≡ (Ok i, c) → (later : Stored) → Extends c.stored later → SameMeaning (store_of later) (map_of later) i e
+-- as a root of its own
+pub inside_root : (e : OptionExpr) (ps : List Frame) (b c : Builder) (i : ExprId) → b.scopes ≡ ribs (barrier_at ∷ ps) → Paired b.stored
+    → lower_part e b ≡ (Ok i, c) → (later : Stored) → Extends c.stored later
+    → SameRoot (store_of later) (map_of later) (length b.stored.exprs.entries) (root_at c.stored.exprs.entries i) e
 unfolding inner_bodies
-inside_means e ps b c i scopes paired is later stays =
+inside_root e ps b c i scopes paired is later stays =
     let inside : List Frame = barrier_at ∷ ps in
-    let row = in_frames (part_fine e) inside b c i scopes paired is later stays in record {
-      body = body_is inside row.rel row.nodes tt refl;
-      inner = held_whole (in_frames (body_holds e) inside b c i scopes paired is later stays);
+    let row = in_frames (part_fine e) inside b c i scopes paired is later stays in
+    let nodes = row.nodes in record {
+      same = record {
+        body = body_is inside row.rel row.nodes tt refl;
+        inner = held_whole (in_frames (body_holds e) inside b c i scopes paired is later stays);
+      };
+      reached_once = λ depth deep. (in_frames (part_owns e) inside b c i scopes paired is later stays).rel.spread depth (omega arith);
     }

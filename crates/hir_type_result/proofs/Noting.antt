@@ -1,6 +1,6 @@
 -- Steps by the constants that they record as roots, where no root is being lowered.
-use Rattle.std.proofs.Common.{◌≡◌, ◌∙◌, refl, sym, ap, subst, Bool, true, false, true≢false, List, [], ◌∷◌, ◌++◌, append_assoc, append-nil}
-use Rattle.std.proofs.Common.{Option, Ok, Err}
+use Rattle.std.proofs.Common.{◌≡◌, ◌∙◌, refl, sym, ap, subst, arith, ℕ, ◌≤◌, length, Bool, true, false, true≢false}
+use Rattle.std.proofs.Common.{List, [], ◌∷◌, ◌++◌, append_assoc, append-nil, Option, Ok, Err}
 use Rattle.hir_store.specs.Pointers.{Pointer}
 use Rattle.hir_store.specs.Stored.{Store, SourceMap, Stored, store_of, map_of}
 use Rattle.hir_store.specs.Storing as storing
@@ -13,7 +13,6 @@ use Rattle.hir_store.specs.declared.type_ref.ConstRef.{ConstRef}
 use Rattle.hir_store.proofs.Range.{extends_root, extends_trans}
 use Rattle.hir_env.specs.Answered.{OptionExpr}
 use Rattle.hir_scope.specs.Ribs.{barrier_rib}
-use Rattle.hir_meaning.specs.Same.{SameMeaning}
 use Rattle.hir_lower_form.specs.Builder.{Builder}
 use Rattle.hir_lower_form.specs.Lowering.{Checked, go_on, Lowering, ◌>>=◌, ◌>>◌, pure, alloc_type, alloc_lifetime, open_barrier, enter_root}
 use Rattle.hir_lower_form.specs.Lowering.{close, leave_root, outside_root, record_root, count_out}
@@ -22,12 +21,13 @@ use Rattle.hir_steps.specs.Keeps.{Paired, KeepsAll, Keeps}
 use Rattle.hir_steps.proofs.Constants.{correct_constant}
 use Rattle.hir_steps.proofs.Frames.{Frame, frames, ribs_frames}
 use Rattle.hir_steps.proofs.Keeping.{Any, any, part_any, keeping, kept_by}
-use Rattle.hir_steps.proofs.Logic.{kept_trans}
+use Rattle.hir_steps.proofs.Logic.{kept_trans, longer}
 use Rattle.hir_steps.proofs.Steps.{Mark, mark, Rel, Holds, Correct, correct_pure, correct_alloc_type, correct_alloc_lifetime}
 use Rattle.hir_one_result.specs.Size.{Size}
 use Rattle.hir_one_result.proofs.Tellings.{Told, Tells}
-use Rattle.hir_type_result.specs.Roots.{SameRoots, RootsOf}
-use Rattle.hir_type_result.proofs.Meaning.{inside_means}
+use Rattle.hir_same_meaning.proofs.Spread.{spread_wider}
+use Rattle.hir_type_result.specs.Roots.{SameRoot, SameRoots, RootsOf, roots_end}
+use Rattle.hir_type_result.proofs.Meaning.{inside_root}
 
 -- Nothing is lost, and outside of a root these constants are recorded.
 pub record Noting (es : List OptionExpr) (b c : Builder) : Type 0 where
@@ -43,26 +43,53 @@ pub record Notes {A : Type 0} (es : List OptionExpr) (p : Lowering A) : Type 0 w
 
 -- one after another
 
-same_append : (store : Store) (source_map : SourceMap) (rs : List ExprRoot) (es : List OptionExpr) (ss : List ExprRoot)
-    (fs : List OptionExpr) → SameRoots store source_map rs es → SameRoots store source_map ss fs
-    → SameRoots store source_map (rs ++ ss) (es ++ fs)
-same_append store source_map [] [] ss fs g h = h
-same_append store source_map [] (e ∷ es) ss fs g h = absurd g
-same_append store source_map (r ∷ rs) [] ss fs g h = absurd g
-same_append store source_map (r ∷ rs) (e ∷ es) ss fs g h = (g.0, same_append store source_map rs es ss fs g.1 h)
+module _ (store : Store) (source_map : SourceMap) where
+  -- from an earlier number
 
-roots_then : {a b c later : Stored} {es fs : List OptionExpr} → RootsOf a b later es → RootsOf b c later fs → RootsOf a c later (es ++ fs)
-roots_then {a = a} {later = later} {es = es} {fs = fs} g h = record {
-  roots = g.roots ++ h.roots;
-  is = h.is ∙ (ap (λ rs. rs ++ h.roots) g.is ∙ append_assoc a.roots g.roots h.roots);
-  same = same_append (store_of later) (map_of later) g.roots es h.roots fs g.same h.same;
-}
+  root_from : (lo from : ℕ) (r : ExprRoot) (e : OptionExpr) → lo ≤ from → SameRoot store source_map from r e
+      → SameRoot store source_map lo r e
+  root_from lo from r e le h = record {
+    same = h.same;
+    reached_once = λ depth deep. spread_wider lo r.exprs_end.0 le (omega arith) (h.reached_once depth deep);
+  }
+
+  same_from : (lo from : ℕ) (rs : List ExprRoot) (es : List OptionExpr) → lo ≤ from → SameRoots store source_map from rs es
+      → SameRoots store source_map lo rs es
+  same_from lo from [] [] le h = tt
+  same_from lo from [] (e ∷ es) le h = absurd h
+  same_from lo from (r ∷ rs) [] le h = absurd h
+  same_from lo from (r ∷ rs) (e ∷ es) le h = (root_from lo from r e le h.0, h.1)
+
+  same_append : (from to : ℕ) (rs : List ExprRoot) (es : List OptionExpr) (ss : List ExprRoot) (fs : List OptionExpr)
+      → roots_end from rs ≤ to → SameRoots store source_map from rs es → SameRoots store source_map to ss fs
+      → SameRoots store source_map from (rs ++ ss) (es ++ fs)
+  same_append from to [] [] ss fs le g h = same_from from to ss fs le h
+  same_append from to [] (e ∷ es) ss fs le g h = absurd g
+  same_append from to (r ∷ rs) [] ss fs le g h = absurd g
+  same_append from to (r ∷ rs) (e ∷ es) ss fs le g h = (g.0, same_append r.exprs_end.0 to rs es ss fs le g.1 h)
+
+end_append : (from to end : ℕ) (rs ss : List ExprRoot) → roots_end from rs ≤ to → to ≤ end → roots_end to ss ≤ end
+    → roots_end from (rs ++ ss) ≤ end
+end_append from to end [] [] le le' h = omega arith
+end_append from to end [] (s ∷ ss) le le' h = h
+end_append from to end (r ∷ rs) ss le le' h = end_append r.exprs_end.0 to end rs ss le le' h
+
+roots_then : {a b c later : Stored} {es fs : List OptionExpr} → length b.exprs.entries ≤ length c.exprs.entries → RootsOf a b later es
+    → RootsOf b c later fs → RootsOf a c later (es ++ fs)
+roots_then {a = a} {b = b} {c = c} {later = later} {es = es} {fs = fs} le g h =
+    let from = length a.exprs.entries in
+    let to = length b.exprs.entries in record {
+      roots = g.roots ++ h.roots;
+      is = h.is ∙ (ap (λ rs. rs ++ h.roots) g.is ∙ append_assoc a.roots g.roots h.roots);
+      same = same_append (store_of later) (map_of later) from to g.roots es h.roots fs g.ends g.same h.same;
+      ends = end_append from to (length c.exprs.entries) g.roots h.roots g.ends le h.ends;
+    }
 
 noting_then : {es fs : List OptionExpr} {a b c : Builder} → Noting es a b → Noting fs b c → Noting (es ++ fs) a c
 noting_then g h = record {
   kept = kept_trans g.kept h.kept;
   noted = λ outside d later x.
-      roots_then (g.noted outside d later (extends_trans h.kept.stays x))
+      roots_then (longer h.kept.stays.exprs.entries) (g.noted outside d later (extends_trans h.kept.stays x))
       (h.noted (g.kept.in_root ∙ outside) (g.kept.paired d) later x);
 }
 
@@ -99,8 +126,8 @@ notes_end {es = es} h k = notes_as (append-nil es) (notes_then h k)
 
 -- steps that record none
 
-pub no_roots : {a b later : Stored} → b.roots ≡ a.roots → RootsOf a b later []
-no_roots {a = a} e = record { roots = []; is = e ∙ sym (append-nil a.roots); same = tt }
+pub no_roots : {a b later : Stored} → Extends a b → b.roots ≡ a.roots → RootsOf a b later []
+no_roots {a = a} x e = record { roots = []; is = e ∙ sym (append-nil a.roots); same = tt; ends = longer x.exprs.entries }
 
 notes_none : {A : Type 0} {R : Rel A} {p : Lowering A} → Correct p R
     → ((final : Stored) (ps : List Frame) (m m' : Mark) (a : A) → R final ps m m' a → m'.stored.roots ≡ m.stored.roots) → Notes [] p
@@ -108,9 +135,9 @@ notes_none {A = A} {R = R} {p = p} h still =
     record { notes = λ b. by b (p b).0 (p b).1 (λ final. h.holds final (frames b.scopes) b (ribs_frames b.scopes)) }
   where
     by : (b : Builder) (o : Checked A) (c : Builder) → ((final : Stored) → Holds R final (frames b.scopes) b o c) → Noted [] b o c
-    by b (Ok a) c x = record {
-      kept = (x b.stored).kept;
-      noted = λ outside d later e. no_roots (still later (frames b.scopes) (mark b) (mark c) a ((x later).in_final d e));
+    by b (Ok a) c x = let kept = (x b.stored).kept in record {
+      kept = kept;
+      noted = λ outside d later e. no_roots kept.stays (still later (frames b.scopes) (mark b) (mark c) a ((x later).in_final d e));
     }
     by b (Err f) c x = tt
 
@@ -154,7 +181,7 @@ notes_constant e = record {
         let behind = ap (λ rs. barrier_rib ∷ rs) (ribs_frames b.scopes) in record {
           kept = kept;
           noted = λ outside d later x.
-              let means = inside_means e around (entered b) c i behind d is later (extends_trans (extends_root c.stored root) x) in
-              record { roots = root ∷ []; is = ap (λ rs. rs ++ root ∷ []) (inner.roots refl); same = (means, tt) };
+              let own = inside_root e around (entered b) c i behind d is later (extends_trans (extends_root c.stored root) x) in
+              record { roots = root ∷ []; is = ap (λ rs. rs ++ root ∷ []) (inner.roots refl); same = (own, tt); ends = omega arith };
         }
     by b outer in' (Err f) c is inner kept = tt

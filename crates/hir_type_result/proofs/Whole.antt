@@ -59,7 +59,7 @@ type_results limit t i new is =
       leads = left.moved.led [] (leads_nowhere refl refl refl);
       reached_once = types_once None t old new i none is new.stored stays;
       roots = let r = rooted.0 in
-          subst (λ rs. SameRoots (store_of new.stored) (map_of new.stored) rs (type_part_size t).constants) (sym r.is) r.same;
+          subst (λ rs. SameRoots (store_of new.stored) (map_of new.stored) 0 rs (type_part_size t).constants) (sym r.is) r.same;
       blocks = blocks_behind old new i none is (type_enters None t);
       faults = subst (IsPermutation (type_part_faults [] t)) (sym faults.is) faults.like;
     }

@@ -1,5 +1,5 @@
 -- The constants of types and paths that stand alone are roots, in the order in which they are done.
-use Rattle.std.specs.Prelude.{◌≡◌, Bool, true, false, List, [], ◌∷◌, ◌++◌, Option, Ok}
+use Rattle.std.specs.Prelude.{◌≡◌, ◌≤◌, ℕ, Bool, true, false, List, [], ◌∷◌, ◌++◌, length, Option, Ok}
 use Rattle.hir_store.specs.Storing.{Extends}
 use Rattle.hir_store.specs.Stored.{Store, SourceMap, Stored, store_of, map_of}
 use Rattle.hir_store.specs.declared.ids.TypeRefId.{TypeRefId}
@@ -11,20 +11,33 @@ use Rattle.hir_lower_form.specs.Lower.{lower_path, type_part}
 use Rattle.hir_meaning.specs.Inner.{of_present, part_bodies, path_bodies, path_inner_bodies, type_inner_bodies}
 use Rattle.hir_meaning.specs.Same.{SameBodies, SameMeaning}
 use Rattle.hir_steps.specs.Keeps.{Paired}
+use Rattle.hir_same_meaning.specs.Reached.{Spread, reached_to}
 use Rattle.hir_one_result.specs.Room.{type_part_size, whole_size}
 
--- each root does what the constant in the same place of the list does
-abbrev pub SameRoots : Store → SourceMap → List ExprRoot → List OptionExpr → Type 0
-SameRoots store source_map [] [] = Unit {0}
-SameRoots store source_map (r ∷ rs) (e ∷ es) = SameMeaning store source_map r.root e × SameRoots store source_map rs es
-SameRoots store source_map [] (e ∷ es) = ⊥
-SameRoots store source_map (r ∷ rs) [] = ⊥
+-- The root does what the constant does. However deep one looks, it reaches each expression in one way, and only those of its
+-- own: from this number on, and below its end.
+pub record SameRoot (store : Store) (source_map : SourceMap) (from : ℕ) (r : ExprRoot) (e : OptionExpr) : Type 0 where
+  pub same : SameMeaning store source_map r.root e
+  pub reached_once : (depth : ℕ) → length store.exprs ≤ depth → Spread from r.exprs_end.0 (reached_to store.exprs depth r.root)
+
+-- each root, from the end of the one before, with the constant in the same place of the list
+abbrev pub SameRoots : Store → SourceMap → ℕ → List ExprRoot → List OptionExpr → Type 0
+SameRoots store source_map from [] [] = Unit {0}
+SameRoots store source_map from (r ∷ rs) (e ∷ es) = SameRoot store source_map from r e × SameRoots store source_map r.exprs_end.0 rs es
+SameRoots store source_map from [] (e ∷ es) = ⊥
+SameRoots store source_map from (r ∷ rs) [] = ⊥
+
+-- where the last one ends
+abbrev pub roots_end : ℕ → List ExprRoot → ℕ
+roots_end from [] = from
+roots_end from (r ∷ rs) = roots_end r.exprs_end.0 rs
 
 -- behind the roots that were recorded before comes one for each of these constants
 pub record RootsOf (old new later : Stored) (es : List OptionExpr) : Type 0 where
   pub roots : List ExprRoot
   pub is : new.roots ≡ old.roots ++ roots
-  pub same : SameRoots (store_of later) (map_of later) roots es
+  pub same : SameRoots (store_of later) (map_of later) (length old.exprs.entries) roots es
+  pub ends : roots_end (length old.exprs.entries) roots ≤ length new.exprs.entries
 
 -- inside of another root none is recorded
 abbrev pub recorded : Bool → List OptionExpr → List OptionExpr

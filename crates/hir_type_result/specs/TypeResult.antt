@@ -44,7 +44,7 @@ pub record TypeResult (store : Store) (source_map : SourceMap) (i : TypeRefId) (
   pub covers_labels : CoversLabels ways 0 (length store.labels)
   pub leads : MapLeads source_map ways
   pub reached_once : (depth : ℕ) → length store.types ≤ depth → Spread 0 (length store.types) (types_reached store.types depth i)
-  pub roots : SameRoots store source_map store.roots (type_part_size t).constants
+  pub roots : SameRoots store source_map 0 store.roots (type_part_size t).constants
   pub blocks : source_map.block_scopes ≡ blocks_of_type_part t
   pub faults : IsPermutation (type_part_faults [] t) source_map.diagnostics
 
