@@ -1,5 +1,5 @@
 -- What is lowered as a path is what is written.
-use Rattle.std.proofs.Common.{◌≡◌, ◌≢◌, refl, sym, ap, subst, [], Option, Some, None, option_map, Result, Ok, Err}
+use Rattle.std.proofs.Common.{◌≡◌, ◌≢◌, ◌∙◌, refl, sym, ap, subst, [], Option, Some, None, option_map, Result, Ok, Err}
 use Rattle.std.specs.Prelude.{IfOk, IsErrOf}
 use Rattle.hir_syntax.specs.declared.ast.Path.{Path as AstPath}
 use Rattle.hir_store.specs.Stored.{Stored, store_of, map_of}
@@ -27,8 +27,10 @@ use Rattle.hir_one_result.proofs.Leading.{Shown}
 use Rattle.hir_one_result.proofs.TreeBlocks.{whole_enters}
 use Rattle.hir_one_result.proofs.TreeFaults.{whole_reports}
 use Rattle.hir_one_result.proofs.TreeStands.{whole_left}
+use Rattle.hir_type_result.specs.Roots.{RootsOf, recorded}
 use Rattle.hir_type_result.proofs.Behind.{blocks_behind, faults_behind, path_roots, ways_behind}
 use Rattle.hir_type_result.proofs.Named.{path_types_once}
+use Rattle.hir_lower.specs.Calls.{Outside}
 use Rattle.hir_lower.specs.Means.{BearsNames, ConstantsLive, PathRooted, ReadsBack, whole_path}
 use Rattle.hir_lower.specs.Stays.{Stays}
 use Rattle.hir_lower.proofs.Ways.{Went, went}
@@ -71,10 +73,11 @@ module _ (at : Spot) (x : AstPath) (b b' : Builder) where
     labels = w.moved.labels;
   }
 
-  pub rooted_path_if : (r : Checked (Option Path)) → Alone r → Paired b.stored → b.scopes ≡ []
-      → IfOk r (λ y. PathRooted b.in_root b.stored b'.stored y (whole_path at x))
-  rooted_path_if (Ok y) l d none =
+  pub rooted_path_if : (r : Checked (Option Path)) → Alone r → Paired b.stored → Outside b
+      → IfOk r (λ y. PathRooted b.stored b'.stored y (whole_path at x))
+  rooted_path_if (Ok y) l d out =
       let p = whole_path at x in
+      let none = out.scopes in
       let faults = faults_behind b b' y d l.0 (whole_reports p) [] (none_around none) in
       let kept : KeepsAll b b' = subst (λ q. Keeps b q.0 q.1) l.0 (paths_keep (whole_path at x) b) in
       let grown : Grown (whole_size (whole_path at x)) b.stored b'.stored =
@@ -82,7 +85,9 @@ module _ (at : Spot) (x : AstPath) (b b' : Builder) where
       record {
         inner = λ later ext. (path_roots p b b' y d l.0 later ext).1;
         lives = λ later ext. constants_live later none (ways_behind b b' y d l.0 (whole_left p) later ext);
-        roots = λ later ext. (path_roots p b b' y d l.0 later ext).0;
+        roots = λ later ext.
+            let recorded_roots = λ inside. RootsOf b.stored b'.stored later (recorded inside (whole_size p).constants) in
+            subst recorded_roots out.in_root (path_roots p b b' y d l.0 later ext).0;
         more = faults.more;
         faults = faults.is;
         permuted = faults.like;
@@ -92,13 +97,13 @@ module _ (at : Spot) (x : AstPath) (b b' : Builder) where
         paired = kept.paired d;
         mapped = kept.mapped d;
       }
-  rooted_path_if (Err e) l d none = tt
+  rooted_path_if (Err e) l d out = tt
 
-  -- as much is open as before
-  pub scopes_if : (r : Checked (Option Path)) → Alone r → IfOk r (λ y. b'.scopes ≡ b.scopes)
-  scopes_if (Ok y) l =
-      let kept : KeepsAll b b' = subst (λ q. Keeps b q.0 q.1) l.0 (paths_keep (whole_path at x) b) in kept.scopes
-  scopes_if (Err e) l = tt
+  pub outside_path_if : (r : Checked (Option Path)) → Alone r → Outside b → IfOk r (λ y. Outside b')
+  outside_path_if (Ok y) l o =
+      let kept : KeepsAll b b' = subst (λ q. Keeps b q.0 q.1) l.0 (paths_keep (whole_path at x) b) in
+      record { scopes = kept.scopes ∙ o.scopes; in_root = kept.in_root ∙ o.in_root }
+  outside_path_if (Err e) l o = tt
 
   pub ends_if : (r : Checked (Option Path)) → Alone r → IsErrOf r Full → SomeEnd b'
   ends_if (Ok y) l is = cc
