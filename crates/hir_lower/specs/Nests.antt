@@ -10,7 +10,6 @@ use Rattle.hir_syntax.specs.declared.types.GenericArgList.{GenericArgList as Ast
 use Rattle.hir_store.specs.Stored.{Stored}
 use Rattle.hir_store.specs.Range.{HasExpr, HasExprOption, HasLabelOption}
 use Rattle.hir_store.specs.declared.path.GenericArgs.{GenericArgs}
-use Rattle.hir_store.specs.declared.type_ref.ConstRef.{ConstRef}
 use Rattle.hir_store.specs.declared.ids.ExprId.{ExprId}
 use Rattle.hir_store.specs.declared.ids.LabelId.{LabelId}
 use Rattle.hir_store.specs.declared.ids.TypeRefId.{TypeRefId}
@@ -18,11 +17,13 @@ use Rattle.hir_env.specs.declared.place.Place.{Place}
 use Rattle.hir_env.specs.Answers.{Answers}
 use Rattle.hir_env.specs.Answered as tree
 use Rattle.hir_env.specs.Answered.{Binder}
+use Rattle.hir_env.specs.Paths.{inside_constant}
 use Rattle.hir_env.specs.Whole.{answered, answered_arg_list, answered_path, answered_plain, answered_type}
 use Rattle.hir_lower_form.specs.Builder.{Builder}
 use Rattle.hir_lower_form.specs.Lowering.{Lowering, Checked, Lowers}
 use Rattle.hir_lower_form.specs.Lower.{lower_kept, lower_inside}
-use Rattle.hir_lower_form.specs.Methods.{HasWalk, LowersArgs, LowersConstant, LowersType, ReadsPath, constant_at}
+use Rattle.hir_lower_form.specs.Methods.{HasWalk, LowersArgs, LowersType, ReadsPath}
+use Rattle.hir_lower_form.specs.Nests.{IfPresent}
 use Rattle.hir_lower_form.specs.declared.walk.PathWalk.{PathWalk}
 use Rattle.hir_lower_form.specs.declared.walk.Reading.{Reading}
 use Rattle.hir_lower.specs.Roots.{spot_at}
@@ -57,12 +58,6 @@ ArgsPre E = Global → Bor E → Place → MutBor Builder → Bor AstGenericArgL
 
 abbrev pub ArgsPost : Type 0 → Type 1
 ArgsPost E = Global → Bor E → Place → MutBor Builder → Bor AstGenericArgList → Checked (Option GenericArgs) → MutBor Builder → Type 0
-
-abbrev pub ConstantPre : Type 0 → Type 1
-ConstantPre E = Global → Bor E → Place → MutBor Builder → Bor (Option AstExpr) → Type 0
-
-abbrev pub ConstantPost : Type 0 → Type 1
-ConstantPost E = Global → Bor E → Place → MutBor Builder → Bor (Option AstExpr) → Checked ConstRef → MutBor Builder → Type 0
 
 -- the function may be called on the expression, and then does what `node` says
 pub record Handles {E A : Type 0} (Has : Stored → A → Type 0) (node : Lowering A)
@@ -105,14 +100,10 @@ pub record HandlesArgs {E : Type 0} (answers : E → Answers)
       → v.now ≡ env → b.now ≡ l → post alloc v p old b r new
       → LowersArgs (tree.some_arg_list (answered_arg_list (spot_at (answers env) p) l)) old.now r new.now
 
-pub record HandlesConstant {E : Type 0} (answers : E → Answers)
-    (pre : ConstantPre E) (post : ConstantPost E) (env : E) (p : Place) (e : Option AstExpr) : Type 0 where
-  pub callable : (alloc : Global) (v : Bor E) (old : MutBor Builder) (b : Bor (Option AstExpr))
-      → v.now ≡ env → b.now ≡ e → pre alloc v p old b
-  pub lowers : (alloc : Global) (v : Bor E) (old new : MutBor Builder) (b : Bor (Option AstExpr)) (r : Checked ConstRef)
-      → v.now ≡ env → b.now ≡ e → post alloc v p old b r new
-      → LowersConstant (constant_at (spot_at (answers env) p) e) old.now r new.now
-
 module _ {E : Type 0} (answers : E → Answers) where
   abbrev pub HandlesExpr : Pre E → Post E (Option ExprId) → E → Place → AstExpr → Type 0
   HandlesExpr pre post env p e = Handles HasExprOption (lower_kept (answered (spot_at (answers env) p) e)) pre post env p e
+
+  -- the expression of a constant that is written there, where it has one
+  abbrev pub HandlesConstant : Pre E → Post E (Option ExprId) → E → Place → Option AstExpr → Type 0
+  HandlesConstant pre post env p o = IfPresent (HandlesExpr pre post env (inside_constant p)) o

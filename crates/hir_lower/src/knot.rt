@@ -4,15 +4,15 @@ ghost use Rattle.std.specs.Prelude.{◌≡◌, option_map};
 ghost use Rattle.hir_store.specs.Range.{HasLabelOption};
 ghost use Rattle.hir_env.specs.Answering.{inside as place_inside, numbered as number_at};
 ghost use Rattle.hir_env.specs.Answered.{some_arg_list, some_path};
-ghost use Rattle.hir_env.specs.Paths.{inside_constant as place_inside_constant};
 ghost use Rattle.hir_env.specs.Whole.{answered, answered_arg_list, answered_path, answered_plain, answered_type};
-ghost use Rattle.hir_lower_form.specs.Methods.{HasWalk, LowersArgs, LowersConstant, LowersExpr, LowersInside, LowersPath, LowersType};
-ghost use Rattle.hir_lower_form.specs.Methods.{MaybeLowersExpr, ReadsPath, constant_at};
+ghost use Rattle.hir_lower_form.specs.Methods.{HasWalk, LowersArgs, LowersExpr, LowersInside, LowersPath, LowersType};
+ghost use Rattle.hir_lower_form.specs.Methods.{MaybeLowersExpr, ReadsPath};
 ghost use Rattle.hir_lower.specs.Nests.{HandlesArgs, HandlesBlock, HandlesConstant, HandlesExpr, HandlesPath, HandlesType};
 ghost use Rattle.hir_lower.specs.Roots.{spot_at};
 
+use crate::constant::{constant_form, inside_constant};
 use hir_env::env::LowerEnv;
-use hir_env::place::{ImplTrait, LoweringMode, Place};
+use hir_env::place::{LoweringMode, Place};
 use hir_lower_expr::blocks::block_node;
 use hir_lower_expr::exprs::expr_node;
 use hir_lower_form::builder::BodyBuilder;
@@ -32,8 +32,8 @@ use hir_syntax::{Boxed, Seq, ast};
 use std::alloc::Global;
 
 /// The functions that lower the parts of a form, at one place.
-#[derive_where(Clone, Copy; F, B, Q, T, G, K)]
-pub struct Handlers<'e, E, F, B, Q, T, G, K> {
+#[derive_where(Clone, Copy; F, B, Q, T, G)]
+pub struct Handlers<'e, E, F, B, Q, T, G> {
     alloc: Global,
     env: &'e E,
     place: Place,
@@ -42,7 +42,6 @@ pub struct Handlers<'e, E, F, B, Q, T, G, K> {
     path: Q,
     type_ref: T,
     args: G,
-    constant: K,
 }
 
 impl<
@@ -74,21 +73,14 @@ impl<
         &mut BodyBuilder,
         &ast::GenericArgList,
     ) -> Result<Option<GenericArgs>, StoreFault>,
-    K: Fn(
-        Global,
-        &E,
-        Place,
-        &mut BodyBuilder,
-        &Option<Boxed<ast::Expr>>,
-    ) -> Result<ConstRef, StoreFault>,
-> LowerParts for Handlers<'e, E, F, B, Q, T, G, K> {
+> LowerParts for Handlers<'e, E, F, B, Q, T, G> {
     ghost can = { λ it. record {
       expr = HandlesExpr E.answers (F.pre it.expr) (F.post it.expr) it.env.now it.place;
       block = HandlesBlock E.answers (B.pre it.block) (B.post it.block) it.env.now it.place;
       path = HandlesPath E.answers (Q.pre it.path) (Q.post it.path) it.env.now;
       type_ = HandlesType E.answers (T.pre it.type_ref) (T.post it.type_ref) it.env.now;
       args = HandlesArgs E.answers (G.pre it.args) (G.post it.args) it.env.now;
-      constant = HandlesConstant E.answers (K.pre it.constant) (K.post it.constant) it.env.now;
+      constant = HandlesConstant E.answers (F.pre it.expr) (F.post it.expr) it.env.now;
     } };
 
     ghost spot = { λ it. spot_at (E.answers it.env.now) it.place };
@@ -177,7 +169,14 @@ impl<
         place: Place,
         expr: &Option<Boxed<ast::Expr>>,
     ) -> Result<ConstRef, StoreFault> {
-        (self.constant)(self.alloc, self.env, place, state, expr)
+        constant_form(
+            self.alloc,
+            self.env,
+            inside_constant(place),
+            state,
+            &self.expr,
+            expr,
+        )
     }
 }
 
@@ -204,16 +203,6 @@ pub fn inside(place: Place, number: Option<(BlockId, ModuleId)>) -> Place
     match number {
         None => place,
         Some((_, module_id)) => Place { module_id, ..place },
-    }
-}
-
-/// Where the expression of a constant is read that is written at this place.
-pub fn inside_constant(place: Place) -> Place
-    ensures { result ≡ place_inside_constant place }
-{
-    Place {
-        impl_trait: ImplTrait::Error,
-        ..place
     }
 }
 
@@ -248,7 +237,6 @@ pub fn maybe_collect_expr<E: LowerEnv>(
             path: read_path_segments::<E>,
             type_ref: lower_type_node::<E>,
             args: lower_arg_list::<E>,
-            constant: lower_constant::<E>,
         },
     };
     expr_node(&lowerer, state, node)
@@ -282,7 +270,6 @@ pub fn collect_block_inside<E: LowerEnv>(
             path: read_path_segments::<E>,
             type_ref: lower_type_node::<E>,
             args: lower_arg_list::<E>,
-            constant: lower_constant::<E>,
         },
     };
     block_node(&lowerer, state, is_unsafe, label, block, node)
@@ -312,7 +299,6 @@ pub fn read_path_segments<E: LowerEnv>(
             path: read_path_segments::<E>,
             type_ref: lower_type_node::<E>,
             args: lower_arg_list::<E>,
-            constant: lower_constant::<E>,
         },
     };
     path_node(&lowerer, state, walk, node)
@@ -341,7 +327,6 @@ pub fn lower_type_node<E: LowerEnv>(
             path: read_path_segments::<E>,
             type_ref: lower_type_node::<E>,
             args: lower_arg_list::<E>,
-            constant: lower_constant::<E>,
         },
     };
     type_node(&lowerer, state, binder, node)
@@ -370,39 +355,9 @@ pub fn lower_arg_list<E: LowerEnv>(
             path: read_path_segments::<E>,
             type_ref: lower_type_node::<E>,
             args: lower_arg_list::<E>,
-            constant: lower_constant::<E>,
         },
     };
     args_node(&lowerer, state, node)
-}
-
-/// The constant with this expression that is written at this place.
-#[cycle(lower)]
-pub fn lower_constant<E: LowerEnv>(
-    alloc: Global,
-    env: &E,
-    place: Place,
-    state: &mut BodyBuilder,
-    expr: &Option<Boxed<ast::Expr>>,
-) -> Result<ConstRef, StoreFault>
-    ensures { LowersConstant (constant_at (spot_at (E.answers env.now) place) expr.now) state.old result state.new }
-{
-    let inner = inside_constant(place);
-    let lowerer = Lowerer {
-        alloc,
-        parts: Handlers {
-            alloc,
-            env,
-            place: inner,
-            expr: maybe_collect_expr::<E>,
-            block: collect_block_inside::<E>,
-            path: read_path_segments::<E>,
-            type_ref: lower_type_node::<E>,
-            args: lower_arg_list::<E>,
-            constant: lower_constant::<E>,
-        },
-    };
-    lowerer.constant_form(state, expr)
 }
 
 /// The path, or none where it is refused.

@@ -1,38 +1,18 @@
 //! Constants: the lengths of arrays, and arguments.
 
-ghost use Rattle.hir_env.specs.Answered as tree;
-ghost use Rattle.hir_env.specs.Whole.{answered_constant, constant_level, constant_part, expr_part};
+ghost use Rattle.hir_env.specs.Whole.{answered_constant, constant_level, constant_part};
 ghost use Rattle.hir_syntax.specs.declared.ast.ConstArg.{out-ConstArg};
 ghost use Rattle.hir_lower_form.specs.Methods.{LowersConstant, at_place};
-ghost use Rattle.hir_lower_form.specs.Nests.{IfPresent, const_expr};
+ghost use Rattle.hir_lower_form.specs.Nests.{const_expr};
 
 use crate::builder::BodyBuilder;
 use crate::parts::{LowerParts, Lowerer};
 use hir_env::place::Place;
 use hir_store::fault::StoreFault;
 use hir_store::type_ref::ConstRef;
-use hir_syntax::{Boxed, ast};
+use hir_syntax::ast;
 
 impl<P: LowerParts> Lowerer<P> {
-    /// The expression, read here, as a constant: no jump in it reaches what is open around it, and it is recorded as a root
-    /// unless one is being lowered.
-    #[tactic(auto, unfolding(crate::specs::Lower::constant_form))]
-    pub fn constant_form(
-        &self,
-        state: &mut BodyBuilder,
-        expr: &Option<Boxed<ast::Expr>>,
-    ) -> Result<ConstRef, StoreFault>
-        requires { IfPresent (P.can self.now.parts).expr expr.now }
-        ensures { LowersConstant (tree.constant (expr_part (P.spot self.now.parts) expr.now)) state.old result state.new }
-    {
-        state.open_barrier()?;
-        let outer = state.enter_root();
-        let id = self.collect_expr_opt(state, expr)?;
-        state.close();
-        state.leave_root(outer, id)?;
-        Ok(ConstRef { expr: id })
-    }
-
     fn constant_of_arg(
         &self,
         state: &mut BodyBuilder,

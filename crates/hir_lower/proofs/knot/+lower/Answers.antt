@@ -7,6 +7,7 @@ use Rattle.hir_syntax.specs.declared.types.GenericArgList.{out-GenericArgList}
 use Rattle.hir_env.specs.Answering.{ptr, numbered}
 use Rattle.hir_env.specs.declared.place.Place.{Place}
 use Rattle.hir_env.specs.Count.{count_args, count_block, count_path, count_stmts, count_option_expr, count_type}
+use Rattle.hir_env.specs.Paths.{inside_constant}
 use Rattle.hir_env.specs.Whole.{answered_plain, expr_part, pointer_at, stmts_part}
 use Rattle.hir_env.proofs.Levels.{expr_is_level, plain_is_level}
 use Rattle.hir_env.proofs.PathLevels.{arg_list_is_level, path_is_level, type_is_level}
@@ -28,7 +29,7 @@ maybe_collect_expr-expr_node-requires g t c =
     let size = expr_below at c.args.node.now in
     kids_expr env (HandlesExpr g.E.LowerEnv.answers _ _ c.args.env.now) (HandlesBlock g.E.LowerEnv.answers _ _ c.args.env.now)
     (HandlesPath g.E.LowerEnv.answers _ _ c.args.env.now) (HandlesType g.E.LowerEnv.answers _ _ c.args.env.now)
-    (HandlesArgs g.E.LowerEnv.answers _ _ c.args.env.now) (HandlesConstant g.E.LowerEnv.answers _ _ c.args.env.now) t
+    (HandlesArgs g.E.LowerEnv.answers _ _ c.args.env.now) (λ p o. Unit {0}) t
     (λ p e h. record {
       callable = λ alloc v old b same is. (rw same (rw is h), λ a m. m);
       lowers = λ alloc v old new b r same is q. rw (← is) (rw (← same) q.2);
@@ -71,7 +72,7 @@ collect_block_inside-block_node-requires-clause-parts g t c =
     ap count_block (plain_is_level (spot_at env c.args.place) c.args.node.now) ∙ ap level (sym inner) in
     kids_block env (HandlesExpr g.E.LowerEnv.answers _ _ c.args.env.now) (HandlesBlock g.E.LowerEnv.answers _ _ c.args.env.now)
     (HandlesPath g.E.LowerEnv.answers _ _ c.args.env.now) (HandlesType g.E.LowerEnv.answers _ _ c.args.env.now)
-    (HandlesArgs g.E.LowerEnv.answers _ _ c.args.env.now) (HandlesConstant g.E.LowerEnv.answers _ _ c.args.env.now) t
+    (HandlesArgs g.E.LowerEnv.answers _ _ c.args.env.now) (λ p o. Unit {0}) t
     (λ p e h. record {
       callable = λ alloc v old b same is. (rw same (rw is h), λ a m. m);
       lowers = λ alloc v old new b r same is q. rw (← is) (rw (← same) q.2);
@@ -120,10 +121,13 @@ read_path_segments-path_node-requires-clause-parts g t c =
         callable = λ alloc v old walk b same is has. (rw same (rw is h), ((λ a m. m), has));
         reads = λ alloc v old new walk b r same is q. rw (← is) (rw (← same) q.3);
       };
-      constants = λ p e h. record {
-        callable = λ alloc v old b same is. (rw same (rw is h), λ a m. m);
-        lowers = λ alloc v old new b r same is q. rw (← is) (rw (← same) q.2);
-      };
+      constants = λ p o h.
+          kids_constant env (HandlesExpr g.E.LowerEnv.answers _ _ c.args.env.now) t
+          (λ q e less. record {
+            callable = λ alloc v old b same is. (rw same (rw is less), λ a m. m);
+            lowers = λ alloc v old new b r same is q. rw (← is) (rw (← same) q.2);
+          })
+          (inside_constant p) o (omega (arith, h));
       lists = λ p x h. record {
         callable = λ alloc v old b same is. (rw same (rw is h), λ a m. m);
         lowers = λ alloc v old new b r same is q. rw (← is) (rw (← same) q.2);
@@ -158,10 +162,13 @@ lower_type_node-type_node-requires g t c =
         callable = λ alloc v old walk b same is has. (rw same (rw is h), ((λ a m. m), has));
         reads = λ alloc v old new walk b r same is q. rw (← is) (rw (← same) q.3);
       };
-      constants = λ p e h. record {
-        callable = λ alloc v old b same is. (rw same (rw is h), λ a m. m);
-        lowers = λ alloc v old new b r same is q. rw (← is) (rw (← same) q.2);
-      };
+      constants = λ p o h.
+          kids_constant env (HandlesExpr g.E.LowerEnv.answers _ _ c.args.env.now) t
+          (λ q e less. record {
+            callable = λ alloc v old b same is. (rw same (rw is less), λ a m. m);
+            lowers = λ alloc v old new b r same is q. rw (← is) (rw (← same) q.2);
+          })
+          (inside_constant p) o (omega (arith, h));
       lists = λ p x h. tt;
     })
     c.args.place (pointer_at at c.args.node.now.id c.args.node.now.range) (out-TypeKind c.args.node.now.kind) (omega (arith, d, size))
@@ -192,28 +199,16 @@ lower_arg_list-args_node-requires g t c =
         callable = λ alloc v old walk b same is has. (rw same (rw is h), ((λ a m. m), has));
         reads = λ alloc v old new walk b r same is q. rw (← is) (rw (← same) q.3);
       };
-      constants = λ p e h. record {
-        callable = λ alloc v old b same is. (rw same (rw is h), λ a m. m);
-        lowers = λ alloc v old new b r same is q. rw (← is) (rw (← same) q.2);
-      };
+      constants = λ p o h.
+          kids_constant env (HandlesExpr g.E.LowerEnv.answers _ _ c.args.env.now) t
+          (λ q e less. record {
+            callable = λ alloc v old b same is. (rw same (rw is less), λ a m. m);
+            lowers = λ alloc v old new b r same is q. rw (← is) (rw (← same) q.2);
+          })
+          (inside_constant p) o (omega (arith, h));
       lists = λ p x h. record {
         callable = λ alloc v old b same is. (rw same (rw is h), λ a m. m);
         lowers = λ alloc v old new b r same is q. rw (← is) (rw (← same) q.2);
       };
     })
     c.args.place (out-GenericArgList c.args.node.now) (omega (arith, d, size))
-
-pub lower_constant-returns : goal.lower_constant-returns
-lower_constant-returns g t c = rw c.inside_constant-inner.ensures at c.constant_form.ensures
-
-pub lower_constant-constant_form-requires : goal.lower_constant-constant_form-requires
-lower_constant-constant_form-requires g t c =
-    let d = c.decreases in
-    let env = g.E.LowerEnv.answers c.args.env.now in
-    let size = ap (λ q. suc (count_option_expr (expr_part (spot_at env q) c.args.expr.now))) c.inside_constant-inner.ensures in
-    kids_constant env (HandlesExpr g.E.LowerEnv.answers _ _ c.args.env.now) t
-    (λ p e h. record {
-      callable = λ alloc v old b same is. (rw same (rw is h), λ a m. m);
-      lowers = λ alloc v old new b r same is q. rw (← is) (rw (← same) q.2);
-    })
-    c.inside_constant-inner.result c.args.expr.now (omega (arith, d, size))
