@@ -1,10 +1,9 @@
 -- How far a path is read. It is read from its end; what stands before the segment that ends the reading, or that refuses the
 -- path, becomes nothing.
-use Rattle.std.specs.Prelude.{ℕ, ◌+◌, if◌then◌else◌, Bool, true, false, not, List, [], ◌∷◌, Option, Some, None, is_some}
+use Rattle.std.specs.Prelude.{ℕ, ◌+◌, if◌then◌else◌, Bool, true, false, List, [], ◌∷◌, Option, Some, None}
 use Rattle.hir_env.specs.Answered as tree
-use Rattle.hir_env.specs.Answered.{Lifetime, UseRead, Type_, OptionType, Parts, Path, OptionPath, Segments, Segment, SegmentArgs}
-use Rattle.hir_env.specs.Answered.{OptionParens, OptionRet, OptionArgs, Args, Arg, Bounds, Bound}
-use Rattle.hir_one_result.specs.Size.{Size, nothing, a_type, a_lifetime, a_super, ◌∪◌, if_so}
+use Rattle.hir_env.specs.Answered.{Lifetime, UseRead, Path, OptionPath, Segments, Segment, OptionArgs, Args}
+use Rattle.hir_one_result.specs.Size.{Size, nothing, a_lifetime, ◌∪◌}
 
 -- what was read by then: whether there is a name among it, and how many `super`s count
 pub record Seen : Type 0 where
