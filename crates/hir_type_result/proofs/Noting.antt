@@ -20,7 +20,7 @@ use Rattle.hir_lower_form.specs.Lower.{constant_form, lower_part}
 use Rattle.hir_steps.specs.Keeps.{Paired, KeepsAll, Keeps}
 use Rattle.hir_steps.proofs.Constants.{correct_constant}
 use Rattle.hir_steps.proofs.Frames.{Frame, frames, ribs_frames}
-use Rattle.hir_steps.proofs.Keeping.{Any, any, part_any, keeping, kept_by}
+use Rattle.hir_steps.proofs.Keeping.{any, part_any, keeping, kept_by}
 use Rattle.hir_steps.proofs.Logic.{kept_trans, longer}
 use Rattle.hir_steps.proofs.Steps.{Mark, mark, Rel, Holds, Correct, correct_pure, correct_alloc_type, correct_alloc_lifetime}
 use Rattle.hir_one_result.specs.Size.{Size}
