@@ -1,5 +1,5 @@
 -- What is lowered as a path is what is written.
-use Rattle.std.proofs.Common.{◌≡◌, ◌≢◌, ◌∙◌, refl, sym, ap, subst, [], Option, Some, None, option_map, Result, Ok, Err}
+use Rattle.std.proofs.Common.{◌≡◌, ◌≢◌, ◌∙◌, refl, sym, ap, subst, false, [], Option, Some, None, option_map, Result, Ok, Err}
 use Rattle.std.specs.Prelude.{IfOk, IsErrOf}
 use Rattle.hir_syntax.specs.declared.ast.Path.{Path as AstPath}
 use Rattle.hir_store.specs.Stored.{Stored, store_of, map_of}
@@ -86,8 +86,10 @@ module _ (at : Spot) (x : AstPath) (b b' : Builder) where
         inner = λ later ext. (path_roots p b b' y d l.0 later ext).1;
         lives = λ later ext. constants_live later none (ways_behind b b' y d l.0 (whole_left p) later ext);
         roots = λ later ext.
-            let recorded_roots = λ inside. RootsOf b.stored b'.stored later (recorded inside (whole_size p).constants) in
-            subst recorded_roots out.in_root (path_roots p b b' y d l.0 later ext).0;
+            let with_roots = λ rs inside. RootsOf rs b.stored b'.stored later (recorded inside (whole_size p).constants) in
+            let roots : with_roots b.scopes b.in_root = (path_roots p b b' y d l.0 later ext).0 in
+            let outside : with_roots b.scopes false = subst (λ inside. with_roots b.scopes inside) out.in_root roots in
+            subst (λ rs. with_roots rs false) none outside;
         more = faults.more;
         faults = faults.is;
         permuted = faults.like;

@@ -147,7 +147,7 @@ pub record PathRooted (old new : Stored) (r : Option Path) (p : OptionPath) : Ty
   pub inner : (later : Stored) → Extends new later
       → SameBodies (store_of later) (map_of later) (of_some (path_inner_bodies (store_of later)) r) (path_bodies p)
   pub lives : (later : Stored) → Extends new later → ConstantsLive old new later p
-  pub roots : (later : Stored) → Extends new later → RootsOf old new later (whole_size p).constants
+  pub roots : (later : Stored) → Extends new later → RootsOf [] old new later (whole_size p).constants
   pub more : Faults
   pub faults : new.diagnostics ≡ old.diagnostics ++ more
   pub permuted : IsPermutation (whole_faults [] p) more

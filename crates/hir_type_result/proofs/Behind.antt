@@ -10,6 +10,7 @@ use Rattle.hir_lower_form.specs.Builder.{Builder}
 use Rattle.hir_lower_form.specs.Lowering.{Lowering}
 use Rattle.hir_steps.specs.Keeps.{Paired}
 use Rattle.hir_steps.proofs.Frames.{frames, ribs, ribs_frames}
+use Rattle.hir_steps.proofs.Logic.{longer}
 use Rattle.hir_steps.proofs.Steps.{Correct}
 use Rattle.hir_store.proofs.Range.{extends_refl}
 use Rattle.hir_same_meaning.proofs.HeldTree.{part_holds, path_holds}
@@ -47,11 +48,11 @@ module _ {A : Type 0} {p : Lowering A} (b c : Builder) (a : A) (paired : Paired 
       x.is ∙ ap (λ ks. b.stored.block_scopes ++ ks) (sym x.like)
 
   pub roots_behind : {es : List OptionExpr} → Notes es p → (later : Stored) → Extends c.stored later
-      → RootsOf b.stored c.stored later (recorded b.in_root es)
+      → RootsOf b.scopes b.stored c.stored later (recorded b.in_root es)
   roots_behind {es = es} h later stays = by b.in_root refl (subst (λ q. Noted es b q.0 q.1) is (h.notes b))
     where
-      by : (inside : Bool) → b.in_root ≡ inside → Noting es b c → RootsOf b.stored c.stored later (recorded inside es)
-      by true e n = no_roots n.kept.stays (n.kept.roots e)
+      by : (inside : Bool) → b.in_root ≡ inside → Noting es b c → RootsOf b.scopes b.stored c.stored later (recorded inside es)
+      by true e n = no_roots (longer n.kept.stays.exprs.entries) (n.kept.roots e)
       by false e n = n.noted e paired later stays
 
 pub type_roots : TypeRoots

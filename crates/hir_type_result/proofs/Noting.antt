@@ -1,6 +1,6 @@
 -- Steps by the constants that they record as roots, where no root is being lowered.
-use Rattle.std.proofs.Common.{◌≡◌, ◌∙◌, refl, sym, ap, subst, arith, ℕ, ◌≤◌, length, Bool, true, false, true≢false}
-use Rattle.std.proofs.Common.{List, [], ◌∷◌, ◌++◌, append_assoc, append-nil, Option, Ok, Err}
+use Rattle.std.proofs.Common.{◌≡◌, ◌∙◌, refl, sym, ap, subst, arith, ℕ, ◌≤◌, length, Bool, true, false, true≢false, List, [], ◌∷◌, ◌++◌}
+use Rattle.std.proofs.Common.{append_assoc, append-nil, Option, Ok, Err}
 use Rattle.hir_store.specs.Pointers.{Pointer}
 use Rattle.hir_store.specs.Stored.{Store, SourceMap, Stored, store_of, map_of}
 use Rattle.hir_store.specs.Storing as storing
@@ -24,15 +24,18 @@ use Rattle.hir_steps.proofs.Keeping.{any, part_any, keeping, kept_by}
 use Rattle.hir_steps.proofs.Logic.{kept_trans, longer}
 use Rattle.hir_steps.proofs.Steps.{Mark, mark, Rel, Holds, Correct, correct_pure, correct_alloc_type, correct_alloc_lifetime}
 use Rattle.hir_one_result.specs.Size.{Size}
+use Rattle.hir_one_result.specs.Stands.{Open}
 use Rattle.hir_one_result.proofs.Tellings.{Told, Tells}
+use Rattle.hir_one_result.proofs.TreeStands.{all_stand}
 use Rattle.hir_same_meaning.proofs.Spread.{spread_wider}
-use Rattle.hir_type_result.specs.Roots.{SameRoot, SameRoots, RootsOf, roots_end}
-use Rattle.hir_type_result.proofs.Meaning.{inside_root}
+use Rattle.hir_type_result.specs.Roots.{RootIs, RootsAre, RootsOf, last_end}
+use Rattle.hir_type_result.proofs.Meaning.{inside_means, inside_once}
 
 -- Nothing is lost, and outside of a root these constants are recorded.
 pub record Noting (es : List OptionExpr) (b c : Builder) : Type 0 where
   pub kept : KeepsAll b c
-  pub noted : b.in_root ≡ false → Paired b.stored → (later : Stored) → Extends c.stored later → RootsOf b.stored c.stored later es
+  pub noted : b.in_root ≡ false → Paired b.stored → (later : Stored) → Extends c.stored later
+      → RootsOf b.scopes b.stored c.stored later es
 
 abbrev pub Noted : {A : Type 0} → List OptionExpr → Builder → Checked A → Builder → Type 0
 Noted es b (Ok a) c = Noting es b c
@@ -43,54 +46,60 @@ pub record Notes {A : Type 0} (es : List OptionExpr) (p : Lowering A) : Type 0 w
 
 -- one after another
 
-module _ (store : Store) (source_map : SourceMap) where
-  -- from an earlier number
+-- what begins later begins earlier too
+root_earlier : {store : Store} {source_map : SourceMap} {around : Open} (lo hi : ℕ) (r : ExprRoot) (e : OptionExpr) → lo ≤ hi
+    → RootIs store source_map around hi r e → RootIs store source_map around lo r e
+root_earlier lo hi r e le h = record {
+  same = h.same;
+  ways = h.ways;
+  stands = h.stands;
+  reached_once = λ depth d. spread_wider lo r.exprs_end.0 le (omega arith) (h.reached_once depth d);
+}
 
-  root_from : (lo from : ℕ) (r : ExprRoot) (e : OptionExpr) → lo ≤ from → SameRoot store source_map from r e
-      → SameRoot store source_map lo r e
-  root_from lo from r e le h = record {
-    same = h.same;
-    reached_once = λ depth deep. spread_wider lo r.exprs_end.0 le (omega arith) (h.reached_once depth deep);
-  }
+roots_earlier : (store : Store) (source_map : SourceMap) (around : Open) (lo hi : ℕ) (rs : List ExprRoot) (es : List OptionExpr) → lo ≤ hi
+    → RootsAre store source_map around hi rs es → RootsAre store source_map around lo rs es
+roots_earlier store source_map around lo hi [] [] le h = tt
+roots_earlier store source_map around lo hi [] (e ∷ es) le h = absurd h
+roots_earlier store source_map around lo hi (r ∷ rs) [] le h = absurd h
+roots_earlier store source_map around lo hi (r ∷ rs) (e ∷ es) le h = (root_earlier lo hi r e le h.0, h.1)
 
-  same_from : (lo from : ℕ) (rs : List ExprRoot) (es : List OptionExpr) → lo ≤ from → SameRoots store source_map from rs es
-      → SameRoots store source_map lo rs es
-  same_from lo from [] [] le h = tt
-  same_from lo from [] (e ∷ es) le h = absurd h
-  same_from lo from (r ∷ rs) [] le h = absurd h
-  same_from lo from (r ∷ rs) (e ∷ es) le h = (root_from lo from r e le h.0, h.1)
+ends_later : (lo hi : ℕ) (rs : List ExprRoot) → lo ≤ hi → last_end lo rs ≤ last_end hi rs
+ends_later lo hi [] le = le
+ends_later lo hi (r ∷ rs) le = omega arith
 
-  same_append : (from to : ℕ) (rs : List ExprRoot) (es : List OptionExpr) (ss : List ExprRoot) (fs : List OptionExpr)
-      → roots_end from rs ≤ to → SameRoots store source_map from rs es → SameRoots store source_map to ss fs
-      → SameRoots store source_map from (rs ++ ss) (es ++ fs)
-  same_append from to [] [] ss fs le g h = same_from from to ss fs le h
-  same_append from to [] (e ∷ es) ss fs le g h = absurd g
-  same_append from to (r ∷ rs) [] ss fs le g h = absurd g
-  same_append from to (r ∷ rs) (e ∷ es) ss fs le g h = (g.0, same_append r.exprs_end.0 to rs es ss fs le g.1 h)
+ends_append : (lo : ℕ) (rs ss : List ExprRoot) → last_end lo (rs ++ ss) ≡ last_end (last_end lo rs) ss
+ends_append lo [] ss = refl
+ends_append lo (r ∷ rs) ss = ends_append r.exprs_end.0 rs ss
 
-end_append : (from to end : ℕ) (rs ss : List ExprRoot) → roots_end from rs ≤ to → to ≤ end → roots_end to ss ≤ end
-    → roots_end from (rs ++ ss) ≤ end
-end_append from to end [] [] le le' h = omega arith
-end_append from to end [] (s ∷ ss) le le' h = h
-end_append from to end (r ∷ rs) ss le le' h = end_append r.exprs_end.0 to end rs ss le le' h
+roots_append : (store : Store) (source_map : SourceMap) (around : Open) (lo hi : ℕ) (rs : List ExprRoot) (es : List OptionExpr)
+    (ss : List ExprRoot) (fs : List OptionExpr) → last_end lo rs ≤ hi → RootsAre store source_map around lo rs es
+    → RootsAre store source_map around hi ss fs → RootsAre store source_map around lo (rs ++ ss) (es ++ fs)
+roots_append store source_map around lo hi [] [] ss fs le g h = roots_earlier store source_map around lo hi ss fs le h
+roots_append store source_map around lo hi [] (e ∷ es) ss fs le g h = absurd g
+roots_append store source_map around lo hi (r ∷ rs) [] ss fs le g h = absurd g
+roots_append store source_map around lo hi (r ∷ rs) (e ∷ es) ss fs le g h =
+    (g.0, roots_append store source_map around r.exprs_end.0 hi rs es ss fs le g.1 h)
 
-roots_then : {a b c later : Stored} {es fs : List OptionExpr} → length b.exprs.entries ≤ length c.exprs.entries → RootsOf a b later es
-    → RootsOf b c later fs → RootsOf a c later (es ++ fs)
-roots_then {a = a} {b = b} {c = c} {later = later} {es = es} {fs = fs} le g h =
+roots_then : {around : Open} {a b c later : Stored} {es fs : List OptionExpr} → RootsOf around a b later es → RootsOf around b c later fs
+    → RootsOf around a c later (es ++ fs)
+roots_then {around = around} {a = a} {b = b} {later = later} {es = es} {fs = fs} g h =
     let from = length a.exprs.entries in
-    let to = length b.exprs.entries in record {
+    let to = length b.exprs.entries in
+    let all = ends_append from g.roots h.roots in
+    let after = ends_later (last_end from g.roots) to h.roots g.ends in
+    let end = h.ends in record {
       roots = g.roots ++ h.roots;
       is = h.is ∙ (ap (λ rs. rs ++ h.roots) g.is ∙ append_assoc a.roots g.roots h.roots);
-      same = same_append (store_of later) (map_of later) from to g.roots es h.roots fs g.ends g.same h.same;
-      ends = end_append from to (length c.exprs.entries) g.roots h.roots g.ends le h.ends;
+      each = roots_append (store_of later) (map_of later) around from to g.roots es h.roots fs g.ends g.each h.each;
+      ends = omega (all, arith);
     }
 
 noting_then : {es fs : List OptionExpr} {a b c : Builder} → Noting es a b → Noting fs b c → Noting (es ++ fs) a c
-noting_then g h = record {
+noting_then {fs = fs} {b = b} {c = c} g h = record {
   kept = kept_trans g.kept h.kept;
   noted = λ outside d later x.
-      roots_then (longer h.kept.stays.exprs.entries) (g.noted outside d later (extends_trans h.kept.stays x))
-      (h.noted (g.kept.in_root ∙ outside) (g.kept.paired d) later x);
+      roots_then (g.noted outside d later (extends_trans h.kept.stays x))
+      (subst (λ rs. RootsOf rs b.stored c.stored later fs) g.kept.scopes (h.noted (g.kept.in_root ∙ outside) (g.kept.paired d) later x));
 }
 
 then_noted : {B : Type 0} {es : List OptionExpr} (fs : List OptionExpr) {b b' : Builder} → Noting es b b' → (o : Checked B) (c : Builder)
@@ -126,8 +135,9 @@ notes_end {es = es} h k = notes_as (append-nil es) (notes_then h k)
 
 -- steps that record none
 
-pub no_roots : {a b later : Stored} → Extends a b → b.roots ≡ a.roots → RootsOf a b later []
-no_roots {a = a} x e = record { roots = []; is = e ∙ sym (append-nil a.roots); same = tt; ends = longer x.exprs.entries }
+pub no_roots : {around : Open} {a b later : Stored} → length a.exprs.entries ≤ length b.exprs.entries → b.roots ≡ a.roots
+    → RootsOf around a b later []
+no_roots {a = a} le e = record { roots = []; is = e ∙ sym (append-nil a.roots); each = tt; ends = le }
 
 notes_none : {A : Type 0} {R : Rel A} {p : Lowering A} → Correct p R
     → ((final : Stored) (ps : List Frame) (m m' : Mark) (a : A) → R final ps m m' a → m'.stored.roots ≡ m.stored.roots) → Notes [] p
@@ -135,9 +145,11 @@ notes_none {A = A} {R = R} {p = p} h still =
     record { notes = λ b. by b (p b).0 (p b).1 (λ final. h.holds final (frames b.scopes) b (ribs_frames b.scopes)) }
   where
     by : (b : Builder) (o : Checked A) (c : Builder) → ((final : Stored) → Holds R final (frames b.scopes) b o c) → Noted [] b o c
-    by b (Ok a) c x = let kept = (x b.stored).kept in record {
-      kept = kept;
-      noted = λ outside d later e. no_roots kept.stays (still later (frames b.scopes) (mark b) (mark c) a ((x later).in_final d e));
+    by b (Ok a) c x = record {
+      kept = (x b.stored).kept;
+      noted = λ outside d later e.
+          no_roots (longer (x b.stored).kept.stays.exprs.entries)
+          (still later (frames b.scopes) (mark b) (mark c) a ((x later).in_final d e));
     }
     by b (Err f) c x = tt
 
@@ -181,7 +193,14 @@ notes_constant e = record {
         let behind = ap (λ rs. barrier_rib ∷ rs) (ribs_frames b.scopes) in record {
           kept = kept;
           noted = λ outside d later x.
-              let own = inside_root e around (entered b) c i behind d is later (extends_trans (extends_root c.stored root) x) in
-              record { roots = root ∷ []; is = ap (λ rs. rs ++ root ∷ []) (inner.roots refl); same = (own, tt); ends = omega arith };
+              let stays = extends_trans (extends_root c.stored root) x in
+              let shown = all_stand e (entered b) i c d is later stays in
+              let whole : RootIs (store_of later) (map_of later) b.scopes (length b.stored.exprs.entries) root e = record {
+                same = inside_means e around (entered b) c i behind d is later stays;
+                ways = shown.ways;
+                stands = shown.stands;
+                reached_once = λ depth le. inside_once e around (entered b) c i behind d is later stays depth le;
+              } in
+              record { roots = root ∷ []; is = ap (λ rs. rs ++ root ∷ []) (inner.roots refl); each = (whole, tt); ends = omega arith };
         }
     by b outer in' (Err f) c is inner kept = tt

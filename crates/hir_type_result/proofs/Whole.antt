@@ -1,5 +1,5 @@
 -- What is stored where one type was lowered is one result of its tree.
-use Rattle.std.proofs.Common.{arith, refl, sym, subst, ℕ, [], None, IsPermutation}
+use Rattle.std.proofs.Common.{arith, refl, sym, subst, ℕ, ◌≤◌, length, [], None, IsPermutation}
 use Rattle.hir_store.specs.Stored.{store_of, map_of}
 use Rattle.hir_store.proofs.Maps.{maps_back_none}
 use Rattle.hir_store.proofs.Range.{extends_refl}
@@ -16,7 +16,7 @@ use Rattle.hir_one_result.proofs.TreeBlocks.{type_enters}
 use Rattle.hir_one_result.proofs.TreeFaults.{type_reports}
 use Rattle.hir_one_result.proofs.TreeStands.{type_left}
 use Rattle.hir_one_result.proofs.Whole.{lead_back}
-use Rattle.hir_type_result.specs.Roots.{SameRoots}
+use Rattle.hir_type_result.specs.Roots.{RootsAre, last_end}
 use Rattle.hir_type_result.specs.TypeResult.{TypeResults, RefusedTypes}
 use Rattle.hir_type_result.proofs.Behind.{blocks_behind, faults_behind, type_roots, ways_behind}
 use Rattle.hir_type_result.proofs.Named.{types_once}
@@ -59,7 +59,8 @@ type_results limit t i new is =
       leads = left.moved.led [] (leads_nowhere refl refl refl);
       reached_once = types_once None t old new i none is new.stored stays;
       roots = let r = rooted.0 in
-          subst (λ rs. SameRoots (store_of new.stored) (map_of new.stored) 0 rs (type_part_size t).constants) (sym r.is) r.same;
+          subst (λ rs. RootsAre (store_of new.stored) (map_of new.stored) [] 0 rs (type_part_size t).constants) (sym r.is) r.each;
+      roots_end = let r = rooted.0 in subst (λ rs. last_end 0 rs ≤ length new.stored.exprs.entries) (sym r.is) r.ends;
       blocks = blocks_behind old new i none is (type_enters None t);
       faults = subst (IsPermutation (type_part_faults [] t)) (sym faults.is) faults.like;
     }
