@@ -1,7 +1,6 @@
 -- Steps by the constants that they record as roots, where no root is being lowered.
 use Rattle.std.proofs.Common.{◌≡◌, ◌∙◌, refl, sym, ap, subst, arith, ℕ, ◌≤◌, length, Bool, true, false, true≢false, List, [], ◌∷◌, ◌++◌}
-use Rattle.std.proofs.Common.{append_assoc, append-nil}
-use Rattle.std.proofs.Common.{Option, Ok, Err}
+use Rattle.std.proofs.Common.{append_assoc, append-nil, Option, Ok, Err}
 use Rattle.hir_store.specs.Pointers.{Pointer}
 use Rattle.hir_store.specs.Stored.{Store, SourceMap, Stored, store_of, map_of}
 use Rattle.hir_store.specs.Storing as storing
@@ -21,7 +20,7 @@ use Rattle.hir_lower_form.specs.Lower.{constant_form, lower_part}
 use Rattle.hir_steps.specs.Keeps.{Paired, KeepsAll, Keeps}
 use Rattle.hir_steps.proofs.Constants.{correct_constant}
 use Rattle.hir_steps.proofs.Frames.{Frame, frames, ribs_frames}
-use Rattle.hir_steps.proofs.Keeping.{Any, any, part_any, keeping, kept_by}
+use Rattle.hir_steps.proofs.Keeping.{any, part_any, keeping, kept_by}
 use Rattle.hir_steps.proofs.Logic.{kept_trans, longer}
 use Rattle.hir_steps.proofs.Steps.{Mark, mark, Rel, Holds, Correct, correct_pure, correct_alloc_type, correct_alloc_lifetime}
 use Rattle.hir_one_result.specs.Size.{Size}
@@ -48,17 +47,21 @@ pub record Notes {A : Type 0} (es : List OptionExpr) (p : Lowering A) : Type 0 w
 -- one after another
 
 -- what begins later begins earlier too
+root_earlier : {store : Store} {source_map : SourceMap} {around : Open} (lo hi : ℕ) (r : ExprRoot) (e : OptionExpr) → lo ≤ hi
+    → RootIs store source_map around hi r e → RootIs store source_map around lo r e
+root_earlier lo hi r e le h = record {
+  same = h.same;
+  ways = h.ways;
+  stands = h.stands;
+  reached_once = λ depth d. spread_wider lo r.exprs_end.0 le (omega arith) (h.reached_once depth d);
+}
+
 roots_earlier : (store : Store) (source_map : SourceMap) (around : Open) (lo hi : ℕ) (rs : List ExprRoot) (es : List OptionExpr) → lo ≤ hi
     → RootsAre store source_map around hi rs es → RootsAre store source_map around lo rs es
 roots_earlier store source_map around lo hi [] [] le h = tt
 roots_earlier store source_map around lo hi [] (e ∷ es) le h = absurd h
 roots_earlier store source_map around lo hi (r ∷ rs) [] le h = absurd h
-roots_earlier store source_map around lo hi (r ∷ rs) (e ∷ es) le h = let x = h.0 in (record {
-  same = x.same;
-  ways = x.ways;
-  stands = x.stands;
-  reached_once = λ depth d. spread_wider lo r.exprs_end.0 le (omega arith) (x.reached_once depth d);
-}, h.1)
+roots_earlier store source_map around lo hi (r ∷ rs) (e ∷ es) le h = (root_earlier lo hi r e le h.0, h.1)
 
 ends_later : (lo hi : ℕ) (rs : List ExprRoot) → lo ≤ hi → last_end lo rs ≤ last_end hi rs
 ends_later lo hi [] le = le

@@ -1,5 +1,5 @@
 -- What is done with the parts of types, paths, arguments and bounds records the constants in them.
-use Rattle.std.proofs.Common.{◌≡◌, refl, subst, Bool, true, false, not, List, [], ◌∷◌, ◌++◌, Option, Some, None, is_some}
+use Rattle.std.proofs.Common.{subst, Bool, true, false, not, List, [], ◌∷◌, ◌++◌, Option, Some, None, is_some}
 use Rattle.hir_store.specs.Pointers.{Pointer}
 use Rattle.hir_store.specs.declared.hir.Mutability.{Mutability}
 use Rattle.hir_store.specs.declared.ids.TypeRefId.{TypeRefId}

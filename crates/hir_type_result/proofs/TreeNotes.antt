@@ -1,5 +1,5 @@
 -- Lowering a type or a path records its constants as roots, where no root is being lowered.
-use Rattle.std.proofs.Common.{◌≡◌, refl, Bool, true, false, List, [], Option, Some, None, is_some}
+use Rattle.std.proofs.Common.{Bool, true, false, List, [], Option, Some, None, is_some}
 use Rattle.hir_store.specs.declared.ids.TypeRefId.{TypeRefId}
 use Rattle.hir_store.specs.declared.type_ref.TypeBound.{TypeBound}
 use Rattle.hir_env.specs.Answered as tree

@@ -1,5 +1,5 @@
 -- What is stored where one type was lowered is one result of its tree.
-use Rattle.std.proofs.Common.{arith, refl, sym, subst, ℕ, ◌≤◌, length, [], None, Ok, IsPermutation}
+use Rattle.std.proofs.Common.{arith, refl, sym, subst, ℕ, ◌≤◌, length, [], None, IsPermutation}
 use Rattle.hir_store.specs.Stored.{store_of, map_of}
 use Rattle.hir_store.proofs.Maps.{maps_back_none}
 use Rattle.hir_store.proofs.Range.{extends_refl}
