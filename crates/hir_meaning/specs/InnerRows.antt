@@ -120,9 +120,9 @@ ExprsInOrder = (at : Pointer) (a b e f : Literal) (n : Name)
     × (bodies_in (record_of at n (body at a) (body at e) (body at b)) ≡ body at a ∷ body at b ∷ [])
 
 -- as they are written and as they are stored
-pub record BothList (x : TypedExample) (written : Bodies) (stored : List ExprId) : Type 0 where
-  pub written : bodies_in x.written ≡ written
-  pub stored : inner_bodies (store_with x) (id x.root) ≡ stored
+pub record BothList (x : TypedExample) (es : Bodies) (is : List ExprId) : Type 0 where
+  pub written : bodies_in x.written ≡ es
+  pub stored : inner_bodies (store_with x) (id x.root) ≡ is
 
 -- `1 as [!; 2]`, whose length is stored before what the array is of
 
