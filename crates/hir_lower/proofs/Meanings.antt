@@ -31,6 +31,7 @@ use Rattle.hir_one_result.proofs.TreeBlocks.{blocks_are}
 use Rattle.hir_one_result.proofs.Fits.{all_fit}
 use Rattle.hir_one_result.proofs.Whole.{one_results}
 use Rattle.hir_type_result.proofs.Named.{expr_types_once}
+use Rattle.hir_lower.specs.Calls.{Outside}
 use Rattle.hir_lower.specs.Roots.{RefusedAtEnd, StoresFromNothing, fresh, root_of, body_of, report_missing}
 use Rattle.hir_lower.specs.Stays.{Stays}
 use Rattle.hir_lower.proofs.Ways.{Went, went}
@@ -161,6 +162,17 @@ pub rooted_if : (e : OptionExpr) (b b' : Builder) (r : Checked ExprId) → Lower
     → IfOk r (λ i. Rooted b.stored b'.stored i e)
 rooted_if e b b' (Ok i) l d = root_rooted e b b' i d l.0
 rooted_if e b b' (Err f) l d = tt
+
+-- after a root all is closed again
+root_outside : (e : OptionExpr) (b b' : Builder) (i : ExprId) → root_of e b ≡ (Ok i, b') → Outside b'
+root_outside e b b' i h =
+    let p : Parts e b i b' = parts e b b' i h in
+    let kept : KeepsAll (closed b) p.inner = subst (λ r. Keeps (closed b) r.0 r.1) p.is (keeping e (closed b)) in
+    subst Outside p.left (record { scopes = kept.scopes; in_root = refl })
+
+pub outside_if : (e : OptionExpr) (b b' : Builder) (r : Checked ExprId) → Lowers HasExpr (root_of e) b r b' → IfOk r (λ i. Outside b')
+outside_if e b b' (Ok i) l = root_outside e b b' i l.0
+outside_if e b b' (Err f) l = tt
 
 -- the body of an item, from nothing
 

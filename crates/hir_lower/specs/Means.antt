@@ -48,7 +48,7 @@ use Rattle.hir_one_result.specs.Room.{count_of_exprs, count_of_lifetimes, count_
 use Rattle.hir_one_result.specs.Leads.{Way, label_ways, Covers, CoversLabels, Led}
 use Rattle.hir_one_result.specs.Stands.{StandsPart, WholeWays}
 use Rattle.hir_type_result.specs.Named.{of_exprs}
-use Rattle.hir_type_result.specs.Roots.{RootsOf, recorded}
+use Rattle.hir_type_result.specs.Roots.{RootsOf}
 use Rattle.hir_type_result.specs.Reached.{of_path, of_present, types_reached}
 
 -- What is so of a root in a later store. Its expression does what the tree does; it stands for the tree, and each expression
@@ -141,14 +141,13 @@ pub record ConstantsLive (old new later : Stored) (p : OptionPath) : Type 0 wher
   pub labels : length new.labels.entries ≡ length old.labels.entries + label_ways ways
 
 -- What lowering a path to r leaves: types and lifetimes from just those of its nodes that become one, and its constants. Those are
--- roots, also where r is none, unless another root is being lowered; behind the faults and the blocks that were noted before come
--- theirs. In each later store each body inside r does what the written one does, and r reaches each type in one way only, and
--- none that was stored before.
-pub record PathRooted (in_root : Bool) (old new : Stored) (r : Option Path) (p : OptionPath) : Type 0 where
+-- roots, also where r is none; behind the faults and the blocks that were noted before come theirs. In each later store each body
+-- inside r does what the written one does, and r reaches each type in one way only, and none that was stored before.
+pub record PathRooted (old new : Stored) (r : Option Path) (p : OptionPath) : Type 0 where
   pub inner : (later : Stored) → Extends new later
       → SameBodies (store_of later) (map_of later) (of_some (path_inner_bodies (store_of later)) r) (path_bodies p)
   pub lives : (later : Stored) → Extends new later → ConstantsLive old new later p
-  pub roots : (later : Stored) → Extends new later → RootsOf old new later (recorded in_root (whole_size p).constants)
+  pub roots : (later : Stored) → Extends new later → RootsOf [] old new later (whole_size p).constants
   pub more : Faults
   pub faults : new.diagnostics ≡ old.diagnostics ++ more
   pub permuted : IsPermutation (whole_faults [] p) more

@@ -10,7 +10,7 @@ ghost use Rattle.hir_lower_form.specs.Methods.{LowersExprOpt};
 ghost use Rattle.hir_steps.specs.Keeps.{Paired};
 ghost use Rattle.hir_one_result.specs.Room.{whole_size};
 ghost use Rattle.hir_one_result.specs.Room.{Short, TooLarge};
-ghost use Rattle.hir_lower.specs.Calls.{Calls};
+ghost use Rattle.hir_lower.specs.Calls.{Calls, Outside};
 ghost use Rattle.hir_lower.specs.Means.{AddsType, BearsNames, NoRoomForType, PathRooted, ReadsBack, Rooted, whole_path};
 ghost use Rattle.hir_lower.specs.Roots.{becoming, fresh, outside_body, root_of, spot_at};
 ghost use Rattle.hir_lower.specs.Stays.{Stays};
@@ -29,8 +29,8 @@ use hir_store::path::Path;
 use hir_store::source_map::ExpressionStoreSourceMap;
 use hir_store::store::ExpressionStore;
 use hir_store::type_ref::{ConstRef, TypeRef};
-use hir_syntax::{Boxed, ast};
 use hir_syntax::node::{AstPtr, HirFileId, InFile};
+use hir_syntax::{Boxed, ast};
 use std::alloc::Global;
 
 /// The expression in a box, where there is one.
@@ -91,6 +91,7 @@ pub(crate) fn lower_root<E: LowerEnv>(
         Lowers HasExpr (root_of (expr_part spot (option_copied expr.entry))) state.old result state.new }
     ensures rooted { let e = expr_part (spot_at (E.answers env.now) place) (option_copied expr.entry) in
         Paired state.old.stored → IfOk result (λ i. Rooted state.old.stored state.new.stored i e) }
+    ensures outside { IfOk result (λ i. Outside state.new) }
     ensures too_large { let e = expr_part (spot_at (E.answers env.now) place) (option_copied expr.entry) in
         IsErrOf result StoreFault.Full → TooLarge state.old.stored e }
     ensures stays { result ≢ Err StoreFault.Memory → Stays state.old.stored state.new.stored }
@@ -110,7 +111,8 @@ fn lower_whole_path<E: LowerEnv>(
         Paired state.old.stored → IfOk result (λ r. ReadsBack state.new.stored r p) }
     ensures segments { Paired state.old.stored → IfOk result (λ r. BearsNames state.new.stored path.now r) }
     ensures rooted { let p = whole_path (spot_at (E.answers env.now) place) path.now in
-        Paired state.old.stored → IfOk result (λ r. PathRooted state.old.in_root state.old.stored state.new.stored r p) }
+        Paired state.old.stored → Outside state.old → IfOk result (λ r. PathRooted state.old.stored state.new.stored r p) }
+    ensures outside { Outside state.old → IfOk result (λ r. Outside state.new) }
     ensures full { IsErrOf result StoreFault.Full → SomeEnd state.new }
     ensures too_large { let p = whole_path (spot_at (E.answers env.now) place) path.now in
         IsErrOf result StoreFault.Full → Short (whole_size p) state.old.stored }
@@ -131,6 +133,7 @@ fn add_type(
     ensures no_room { IsErrOf result StoreFault.Full → NoRoomForType state.old.stored }
     ensures unchanged { IsErrOf result StoreFault.Full → state.new.stored ≡ state.old.stored }
     ensures scopes { result ≢ Err StoreFault.Memory → state.new.scopes ≡ state.old.scopes }
+    ensures outside { Outside state.old → IfOk result (λ i. Outside state.new) }
 {
     state.alloc_type(ty, Some(source))
 }
@@ -146,6 +149,7 @@ pub struct ExprCollector<'db, E: LowerEnv> {
     state: BodyBuilder,
     failed: bool,
     ghost paired: { failed ≡ false → Paired state.stored },
+    ghost outside: { failed ≡ false → Outside state },
 }
 
 impl<'db, E: LowerEnv> Drop for ExprCollector<'db, E> {
@@ -261,8 +265,7 @@ impl<'db, E: LowerEnv> ExprCollector<'db, E> {
             IfOk result (λ r. ReadsBack self.new.state.stored r (whole_path at path.now)) }
         ensures segments { IfOk result (λ r. BearsNames self.new.state.stored path.now r) }
         ensures rooted { let at = spot_at (E.answers self.old.db.now) (becoming self.old.place (I.mode impl_trait.old)) in
-            IfOk result (λ r. PathRooted self.old.state.in_root self.old.state.stored self.new.state.stored r
-                (whole_path at path.now)) }
+            IfOk result (λ r. PathRooted self.old.state.stored self.new.state.stored r (whole_path at path.now)) }
         ensures full { IsErrOf result LowerError.Full → SomeEnd self.new.state }
         ensures too_large { let at = spot_at (E.answers self.old.db.now) (becoming self.old.place (I.mode impl_trait.old)) in
             IsErrOf result LowerError.Full → Short (whole_size (whole_path at path.now)) self.old.state.stored }

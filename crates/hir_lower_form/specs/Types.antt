@@ -85,12 +85,16 @@ tuple_type_form at fields = do
   ts ← fields
   alloc_type (ty.Tuple ts) (Some at)
 
+abbrev pub array_of_length : Pointer → ConstRef → TypeSteps → TypeSteps
+array_of_length at length element = do
+  t ← element
+  alloc_type (ty.Array (record { ty = t; len = length })) (Some at)
+
 -- the length before the type of the elements
 unfoldable pub array_type_form : Pointer → Lowering ConstRef → TypeSteps → TypeSteps
 array_type_form at length element = do
   n ← length
-  t ← element
-  alloc_type (ty.Array (record { ty = t; len = n })) (Some at)
+  array_of_length at n element
 
 -- a path that is absent or refused is an error
 abbrev pub path_or_error : Option HirPath → TypeRef

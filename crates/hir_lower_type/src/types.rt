@@ -7,7 +7,8 @@ ghost use Rattle.hir_lower_form.specs.Nests.{KidsType};
 
 use crate::functions::fn_form;
 use crate::simple::{
-    array_form, dyn_form, for_form, impl_form, path_form, pointer_form, ref_form, slice_form, tuple_form,
+    array_form, dyn_form, for_form, impl_form, path_form, pointer_form, ref_form, slice_form,
+    tuple_form,
 };
 use hir_lower_form::builder::BodyBuilder;
 use hir_lower_form::parts::{LowerParts, Lowerer};

@@ -25,7 +25,7 @@ use Rattle.hir_env.specs.declared.place.ImplTrait.{ImplTrait}
 use Rattle.hir_env.specs.Answered.{Binder, FnHead, Lifetime, TypeUnary}
 use Rattle.hir_lower_form.specs.declared.walk.PathWalk.{PathWalk}
 use Rattle.hir_lower_form.specs.declared.walk.Reading.{Reading}
-use Rattle.hir_lower_form.specs.declared.walk.Reading.TheVariants.{Refused, Ended, Open}
+use Rattle.hir_lower_form.specs.declared.walk.Reading.TheVariants as reading
 use Rattle.hir_lower_form.specs.Paths.{proceed, whole, counted, with_trait, parens_form, or_else, segment_args_form}
 use Rattle.hir_one_result.specs.Size.{Size}
 use Rattle.hir_store.specs.Stored.{Stored}
@@ -35,7 +35,7 @@ use Rattle.hir_lower_form.specs.Lower.{ExprSteps, constant_form}
 use Rattle.hir_steps.proofs.Constants.{correct_constant, with_root}
 use Rattle.hir_steps.proofs.Frames.{ribs}
 use Rattle.hir_one_result.specs.Leads.{Ways, No, ◌&◌}
-use Rattle.hir_one_result.specs.Stands.{WhereOn, Unless}
+use Rattle.hir_one_result.specs.Stands.{Open, WhereOn, Unless}
 use Rattle.hir_one_result.proofs.Leading.{Shown, shown_as, shown_none, shown_both, shown_after, shown_before, Moved, moved_same}
 use Rattle.hir_one_result.proofs.Standing.{Of, Shows, Leaves, moved_pure, moved_aside}
 
@@ -129,9 +129,9 @@ Reached read k final rs = WhereOn read (λ y. k y final rs)
 
 proceed_leaves : (r : Reading) (k : Seen → Stored → Open → Ways) {f : PathWalk → Lowering Reading}
     → ((w : PathWalk) → Correct (f w) (Leaves (k (seen w)))) → Correct (proceed r f) (Leaves (Reached (seen_of r) k))
-proceed_leaves Refused k h = ways_pure Refused
-proceed_leaves (Ended w) k h = ways_pure (Ended w)
-proceed_leaves (Open w) k h = h w
+proceed_leaves reading.Refused k h = ways_pure reading.Refused
+proceed_leaves (reading.Ended w) k h = ways_pure (reading.Ended w)
+proceed_leaves (reading.Open w) k h = h w
 
 -- where it is known how far the first is read
 pub reads_leave : {n : Size} {read : Read} {D : Stored → Open → Ways} (k : Seen → Stored → Open → Ways) {p : Lowering Reading}
@@ -162,7 +162,7 @@ counted_leaves r = ways_aside (counted_aside r)
 
 trait_leaves : (t : TypeRefId) (at : Pointer) (w : PathWalk) (p : Option HirPath)
     → Correct (steps.read_trait t at w p) (Leaves nothing)
-trait_leaves t at w None = ways_pure Refused
+trait_leaves t at w None = ways_pure reading.Refused
 trait_leaves t at w (Some p) = ways_end (type_leaves _ _) (λ i. ways_pure _)
 
 pub with_trait_leaves : {D : Stored → Open → Ways} {p : Lowering (Option HirPath)} → Correct p (Leaves D) → (t : TypeRefId) (at : Pointer)
@@ -201,11 +201,11 @@ binding_leaves name dots ha ht hb = ways_bind ha (λ a. ways_bind ht (λ t. ways
 
 -- constants
 
-root_moved : {i : ExprId} {a b : Stored} → (b ≡ a) ⊎ (b ≡ with_root i a) → Moved a b []
-root_moved {a = a} (inl e) = moved_same a a e refl refl refl
-root_moved {i = i} {a = a} (inr e) = moved_same a (with_root i a) e refl refl refl
+root_moved : (i : ExprId) {a b : Stored} → (b ≡ a) ⊎ (b ≡ with_root i a) → Moved a b []
+root_moved i {a = a} (inl e) = moved_same a a e refl refl refl
+root_moved i {a = a} (inr e) = moved_same a (with_root i a) e refl refl refl
 
 pub constant_leaves : {S : Of ExprId} {p : ExprSteps} → Correct p (Shows S)
     → Correct (constant_form p) (Leaves (λ final rs ws. (i : ExprId) × S final (barrier_rib ∷ rs) i ws))
 constant_leaves h = correct_as (correct_constant h) (λ final ps m m' c g row.
-    record { shown = shown_as (shown_before row.first.shown (root_moved row.stored)) (λ ws y. (c.expr, y)) })
+    record { shown = shown_as (shown_before row.first.shown (root_moved c.expr row.stored)) (λ ws y. (c.expr, y)) })

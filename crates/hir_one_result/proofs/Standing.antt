@@ -213,21 +213,21 @@ literal_stands at l =
 -- parts that are no expressions
 
 -- what its constants leave, and how it reads back
-read_behind : {A D : Type 0} {W : Ways} {read : A → D} {d : D} {a : A} {s t : Stored} → read a ≡ d → Shown W s t
+read_behind : {A D : Type 0} {W : Ways} (read : A → D) {d : D} {a : A} {s t : Stored} → read a ≡ d → Shown W s t
     → Shown (W & ReadsAs read d a) s t
-read_behind e x = shown_as x (λ ws y. record { left = ws; right = []; is = sym (append-nil ws); first = y; second = (e, refl) })
+read_behind read e x = shown_as x (λ ws y. record { left = ws; right = []; is = sym (append-nil ws); first = y; second = (e, refl) })
 
 pub type_shown : (t : OptionType) {W : Stored → Open → Ways} → Correct (type_part None t) (Leaves W)
     → Correct (type_part None t)
     (Shows (λ final rs i. W final rs & ReadsAs (stored_type (store_of final) (map_of final)) (written_type t) i))
 type_shown t h = correct_as (correct_both h (type_now t)) (λ final ps m m' i g row.
-    record { shown = read_behind row.other.is row.one.shown })
+    record { shown = read_behind (stored_type (store_of final) (map_of final)) row.other.is row.one.shown })
 
 pub args_shown : (a : OptionArgs) {W : Stored → Open → Ways} → Correct (args_part a) (Leaves W)
     → Correct (args_part a)
     (Shows (λ final rs r. W final rs & ReadsAs (stored_args (store_of final) (map_of final)) (written_args a) r))
 args_shown a h = correct_as (correct_both h (args_now a)) (λ final ps m m' i g row.
-    record { shown = read_behind row.other.is row.one.shown })
+    record { shown = read_behind (stored_args (store_of final) (map_of final)) row.other.is row.one.shown })
 
 -- forms
 

@@ -354,12 +354,12 @@ module _ {X : Type 0} (L : Listing X) where
 
   -- constants
 
-  root_none : {i : ExprId} {a b : Stored} → (b ≡ a) ⊎ (b ≡ with_root i a) → Added [] a b
-  root_none (inl e) = added_none (ap L.list e)
-  root_none {i = i} {a = a} (inr e) = added_none (ap L.list e ∙ L.unchanged a (with_root i a) refl refl)
+  root_none : (i : ExprId) {a b : Stored} → (b ≡ a) ⊎ (b ≡ with_root i a) → Added [] a b
+  root_none i (inl e) = added_none (ap L.list e)
+  root_none i {a = a} (inr e) = added_none (ap L.list e ∙ L.unchanged a (with_root i a) refl refl)
 
   pub constant_tells : {D : List Scope → List X} {p : ExprSteps} → Correct p (Tells D)
       → Correct (constant_form p) (Tells (λ ss. D (barrier ∷ ss)))
   constant_tells h = correct_as (correct_constant h) (λ final ps m m' c g row. record {
-    told = λ ss e. last_none (added_then (row.first.told (barrier ∷ ss) (ap (λ y. barrier_rib ∷ y) e)) (root_none row.stored));
+    told = λ ss e. last_none (added_then (row.first.told (barrier ∷ ss) (ap (λ y. barrier_rib ∷ y) e)) (root_none c.expr row.stored));
   })

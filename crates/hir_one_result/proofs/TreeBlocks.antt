@@ -47,12 +47,12 @@ use Rattle.hir_lower_form.specs.declared.args.ArgLists.{ArgLists}
 use Rattle.hir_lower_form.specs.declared.walk.PathWalk.{PathWalk}
 use Rattle.hir_lower_form.specs.Types.{no_lists}
 
-entered_block : (n : Option BlockId) (s : Stored) → (with_block n s).block_scopes ≡ s.block_scopes ++ option_to_list n
+pub entered_block : (n : Option BlockId) (s : Stored) → (with_block n s).block_scopes ≡ s.block_scopes ++ option_to_list n
 entered_block None s = sym (append-nil s.block_scopes)
 entered_block (Some n) s = refl
 
 -- in this order
-abbrev entered : Listing BlockId
+abbrev pub entered : Listing BlockId
 entered = record {
   list = λ s. s.block_scopes;
   of_faults = λ ds. [];
@@ -71,7 +71,7 @@ entered = record {
 }
 
 -- in whatever scopes
-abbrev Enters : {A : Type 0} → List BlockId → Lowering A → Type 0
+abbrev pub Enters : {A : Type 0} → List BlockId → Lowering A → Type 0
 Enters ns p = Correct p (Tells entered (λ ss. ns))
 
 kept_blocks : (e : Expr) {p : ExprSteps} → Enters (blocks_of e) p → Enters (blocks_of e) (kept e p)
@@ -93,7 +93,7 @@ mutual
   one_type_enters b (tree.nested_impl at) = tells_type entered _ _
   one_type_enters b (tree.dyn_type at bs) = dyn_tells entered at (bounds_enters [] bs)
 
-  type_enters : (b : Option Binder) (t : OptionType) → Enters (blocks_of_type_part t) (type_part b t)
+  pub type_enters : (b : Option Binder) (t : OptionType) → Enters (blocks_of_type_part t) (type_part b t)
   type_enters b tree.no_type = tells_aside entered error_aside
   type_enters b (tree.some_type t) = one_type_enters b t
 
@@ -145,7 +145,7 @@ mutual
   outer_enters tree.no_path w = tells_pure entered _
   outer_enters (tree.some_path p) w = reading_enters p w
 
-  whole_enters : (p : OptionPath) → Enters (blocks_of_whole p) (lower_path p)
+  pub whole_enters : (p : OptionPath) → Enters (blocks_of_whole p) (lower_path p)
   whole_enters tree.no_path = tells_pure entered None
   whole_enters (tree.some_path p) = tells_end entered (reading_enters p start) (λ r. tells_pure entered _)
 

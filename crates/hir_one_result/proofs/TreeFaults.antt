@@ -50,12 +50,12 @@ use Rattle.hir_lower_form.specs.declared.args.ArgLists.{ArgLists}
 use Rattle.hir_lower_form.specs.declared.walk.PathWalk.{PathWalk}
 use Rattle.hir_lower_form.specs.Types.{no_lists}
 
-no_fault_in_block : (n : Option BlockId) (s : Stored) → (with_block n s).diagnostics ≡ s.diagnostics ++ []
+pub no_fault_in_block : (n : Option BlockId) (s : Stored) → (with_block n s).diagnostics ≡ s.diagnostics ++ []
 no_fault_in_block None s = sym (append-nil s.diagnostics)
 no_fault_in_block (Some n) s = sym (append-nil s.diagnostics)
 
 -- in some order
-abbrev reported : Listing ExpressionStoreDiagnostics
+abbrev pub reported : Listing ExpressionStoreDiagnostics
 reported = record {
   list = λ s. s.diagnostics;
   of_faults = λ ds. ds;
@@ -73,7 +73,7 @@ reported = record {
   both = IsPermutation-append;
 }
 
-abbrev Reports : {A : Type 0} → (List Scope → Faults) → Lowering A → Type 0
+abbrev pub Reports : {A : Type 0} → (List Scope → Faults) → Lowering A → Type 0
 Reports D p = Correct p (Tells reported D)
 
 turned : (c t e : Faults) → IsPermutation (c ++ (t ++ e)) (t ++ (e ++ c))
@@ -98,7 +98,7 @@ mutual
   one_type_reports b (tree.nested_impl at) = tells_type reported _ _
   one_type_reports b (tree.dyn_type at bs) = dyn_tells reported at (bounds_reports [] bs)
 
-  type_reports : (b : Option Binder) (t : OptionType) → Reports (λ ss. type_part_faults ss t) (type_part b t)
+  pub type_reports : (b : Option Binder) (t : OptionType) → Reports (λ ss. type_part_faults ss t) (type_part b t)
   type_reports b tree.no_type = tells_aside reported error_aside
   type_reports b (tree.some_type t) = one_type_reports b t
 
@@ -151,7 +151,7 @@ mutual
   outer_reports tree.no_path w = tells_pure reported _
   outer_reports (tree.some_path p) w = reading_reports p w
 
-  whole_reports : (p : OptionPath) → Reports (λ ss. whole_faults ss p) (lower_path p)
+  pub whole_reports : (p : OptionPath) → Reports (λ ss. whole_faults ss p) (lower_path p)
   whole_reports tree.no_path = tells_pure reported None
   whole_reports (tree.some_path p) = tells_end reported (reading_reports p start) (λ r. tells_pure reported _)
 

@@ -184,6 +184,21 @@ first_tells : (leading : Bool) (s : Segment) (w : PathWalk)
 first_tells true s w h = h (walks.at_first true w)
 first_tells false s w h = h w
 
+-- the segments of a path, without those of the use tree around it
+abbrev Own : Bool → Segment → Segments → PathWalk → Type 0
+Own leading first rest w =
+    Tells (segments_size rest (seen w) ∪ before (segments_read rest (seen w)) (λ y. segment_size true first (at_first leading y)))
+    (Gives (own_read leading first rest (seen w)))
+    (read_each rest w >>= (λ r. proceed r (λ v. read_segment true first (walks.at_first leading v))))
+
+own_segments : (leading : Bool) (first : Segment) (rest : Segments) (w : PathWalk)
+    → Tells (segments_size rest (seen w)) (Gives (segments_read rest (seen w))) (read_each rest w)
+    → ((v : PathWalk) → Tells (segment_size true first (seen v)) (Gives (segment_read true first (seen v))) (read_segment true first v))
+    → Own leading first rest w
+own_segments leading first rest w h more = tells_then h (λ r e.
+    proceed_tells r (segments_read rest (seen w)) (λ y. segment_size true first (at_first leading y))
+    (λ y. segment_read true first (at_first leading y)) e (λ v. first_tells leading first v more))
+
 mutual
   pub type_takes : (b : Option Binder) (t : Type_) → Takes (type_size t) (lower_type b t)
   type_takes b (tree.paren_type t) = type_part_takes b t
@@ -242,18 +257,10 @@ mutual
       proceed_tells r (segments_read ss (seen w)) (λ y. segment_size false s y) (λ y. segment_read false s y) e
       (λ v. segment_tells false s v))
 
-  -- its own segments
-  pub own_tells : (leading : Bool) (first : Segment) (rest : Segments) (w : PathWalk)
-      → Tells (segments_size rest (seen w) ∪ before (segments_read rest (seen w)) (λ y. segment_size true first (at_first leading y)))
-      (Gives (own_read leading first rest (seen w)))
-      (read_each rest w >>= (λ r. proceed r (λ v. read_segment true first (walks.at_first leading v))))
-  own_tells leading first rest w = tells_then (each_tells rest w) (λ r e.
-      proceed_tells r (segments_read rest (seen w)) (λ y. segment_size true first (at_first leading y))
-      (λ y. segment_read true first (at_first leading y)) e (λ v. first_tells leading first v (λ u. segment_tells true first u)))
-
   reading_tells : (p : TreePath) (w : PathWalk) → Tells (path_size p (seen w)) (Gives (path_read p (seen w))) (read_path p w)
   reading_tells (tree.path leading first rest use_) w =
-      whole_tells (λ y. outer_size use_ y) (λ y. outer_read use_ y) (own_tells leading first rest w) (λ v. outer_tells use_ v)
+      whole_tells (λ y. outer_size use_ y) (λ y. outer_read use_ y)
+      (own_segments leading first rest w (each_tells rest w) (λ u. segment_tells true first u)) (λ v. outer_tells use_ v)
 
   outer_tells : (p : OptionPath) (w : PathWalk) → Tells (outer_size p (seen w)) (Gives (outer_read p (seen w))) (read_option p w)
   outer_tells tree.no_path w = tells_pure _ _ refl
@@ -389,3 +396,6 @@ mutual
   stmt_takes : (s : Stmt) → Takes (stmt_size s) (lower_stmt s)
   stmt_takes (tree.expr_stmt e semi) = takes_end (kept_part_takes e) (λ x. takes_pure _)
   stmt_takes tree.item_stmt = takes_pure _
+
+pub own_tells : (leading : Bool) (first : Segment) (rest : Segments) (w : PathWalk) → Own leading first rest w
+own_tells leading first rest w = own_segments leading first rest w (each_tells rest w) (λ u. segment_tells true first u)

@@ -147,7 +147,8 @@ mutual
   one_type_left b (tree.nested_impl at) = type_leaves _ _
   one_type_left b (tree.dyn_type at bs) = dyn_leaves at (bounds_left [] bs)
 
-  type_left : (b : Option Binder) (t : OptionType) → Stays (λ final rs. TypePartWays (store_of final) (map_of final) rs t) (type_part b t)
+  pub type_left : (b : Option Binder) (t : OptionType)
+      → Stays (λ final rs. TypePartWays (store_of final) (map_of final) rs t) (type_part b t)
   type_left b tree.no_type = ways_aside error_aside
   type_left b (tree.some_type t) = one_type_left b t
 
@@ -203,7 +204,7 @@ mutual
   outer_left tree.no_path w = ways_pure _
   outer_left (tree.some_path p) w = reading_left p w
 
-  whole_left : (p : OptionPath) → Stays (λ final rs. WholeWays (store_of final) (map_of final) rs p) (lower_path p)
+  pub whole_left : (p : OptionPath) → Stays (λ final rs. WholeWays (store_of final) (map_of final) rs p) (lower_path p)
   whole_left tree.no_path = ways_pure None
   whole_left (tree.some_path p) = ways_end (reading_left p start) (λ r. ways_pure _)
 

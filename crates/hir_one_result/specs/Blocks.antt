@@ -140,7 +140,7 @@ abbrev mutual
   blocks_of (tree.list_expr at form es) = blocks_of_each es
   blocks_of (tree.method_call_expr at e name es generics) = blocks_of_part e ++ (blocks_of_each es ++ blocks_of_args generics)
   blocks_of (tree.cast_expr at e t) = blocks_of_part e ++ blocks_of_type_part t
-  blocks_of (tree.record_expr at p fs s) = 
+  blocks_of (tree.record_expr at p fs s) =
       blocks_of_whole p ++ where_some (written_path p) (blocks_of_fields fs ++ blocks_of_spread s)
   blocks_of (tree.offset_of_expr at t names) = blocks_of_type_part t
   blocks_of (tree.leaving_expr at form e) = blocks_of_part e

@@ -132,7 +132,7 @@ mutual
 
   -- ---- paths
 
-  first_goes : (l : Bool) (s : Segment) (w : PathWalk)
+  pub first_goes : (l : Bool) (s : Segment) (w : PathWalk)
       → Correct (lower.read_segment true s (at_first l w)) (Goes (Open w) (λ is. item l (written.what true s) ∷ is))
   first_goes l tree.absent_segment w = bare_goes l missing_name w
   first_goes l tree.broken_segment w = broken_goes l w
@@ -145,7 +145,7 @@ mutual
   first_goes l (tree.type_segment t) w = anchor_goes l w (type_reads None t)
   first_goes l (tree.trait_segment t at p) w = trait_goes (written.path_of p) l at w (type_reads None t) (path_reads p)
 
-  behind_goes : (s : Segment) (w : PathWalk)
+  pub behind_goes : (s : Segment) (w : PathWalk)
       → Correct (lower.read_segment false s w) (Goes (Open w) (λ is. item false (written.what false s) ∷ is))
   behind_goes tree.absent_segment w = bare_goes false missing_name w
   behind_goes tree.broken_segment w = broken_goes false w

@@ -23,7 +23,7 @@ use Rattle.hir_store.specs.declared.diagnostics.ExpressionStoreDiagnostics.TheVa
 use Rattle.hir_env.specs.Answered as tree
 use Rattle.hir_env.specs.Answered.{Leaf, Unary, Binary, Listing, Leaving}
 use Rattle.hir_env.specs.Answered.{OptionType, OptionPath, OptionArgs, Label, Jump, Expr, OptionExpr, Exprs, Fields, Field}
-use Rattle.hir_env.specs.Answered.{Block, OptionBlock, Stmts, Stmt}
+use Rattle.hir_env.specs.Answered.{Block, OptionBlock, Stmts}
 use Rattle.hir_lower_form.specs.Lowering.{Lowering, ◌>>=◌, pure, alloc_expr, report}
 use Rattle.hir_lower_form.specs.Lower.{ExprSteps, push_some, missing, some, if_form, loop_form, call_form, continue_form, break_form}
 use Rattle.hir_lower_form.specs.Lower.{paren_form, path_or_missing, path_form, lower_path, settled, settled_block, StoredContents}

@@ -347,7 +347,7 @@ kept_of : {A : Type 0} (final : Stored) (ps : List Frame) (b : Builder) (o : Che
 kept_of final ps b (Ok a) c h = h.kept
 kept_of final ps b (Err e) c h = h
 
-kept_by : {A : Type 0} {p : Lowering A} → Correct p Any → (b : Builder) → Keeps b (p b).0 (p b).1
+pub kept_by : {A : Type 0} {p : Lowering A} → Correct p Any → (b : Builder) → Keeps b (p b).0 (p b).1
 kept_by {p = p} h b = let ps = frames b.scopes in kept_of b.stored ps b (p b).0 (p b).1 (h.holds b.stored ps b (ribs_frames b.scopes))
 
 pub keeping : Keeping

@@ -145,7 +145,7 @@ correct_both {A = A} {p = p} {R = R} {Q = Q} h k =
     }
     go final ps b (Err e) c y z = y
 
-longer : {A : Type 0} {xs ys : List A} → Prefix xs ys → length xs ≤ length ys
+pub longer : {A : Type 0} {xs ys : List A} → Prefix xs ys → length xs ≤ length ys
 longer {xs = xs} p = let e = ap length p.is in let n = length-append xs p.more in omega arith
 
 -- what is stored by then is in the final store

@@ -4,4 +4,9 @@ pub mod Adding
 pub mod Naming
 pub mod Owned
 pub mod Named
+pub mod Meaning
+pub mod Noting
+pub mod NotingForms
+pub mod TreeNotes
+pub mod Behind
 pub mod Whole

@@ -1,5 +1,5 @@
 -- Steps that name no type: each by what it does to the expressions.
-use Rattle.std.proofs.Common.{◌≡◌, ◌∙◌, ◌⊎◌, inl, inr, refl, ap, List, [], ◌∷◌, Option, Some, None, arith}
+use Rattle.std.proofs.Common.{◌≡◌, ◌∙◌, ◌⊎◌, inl, inr, refl, ap, ℕ, List, [], ◌∷◌, Option, Some, None, arith}
 use Rattle.hir_store.specs.Pointers.{Pointer}
 use Rattle.hir_store.specs.Stored.{Stored}
 use Rattle.hir_store.specs.declared.diagnostics.AwaitLocation.{AwaitLocation}
@@ -106,17 +106,18 @@ recorded i s t (inl e) = ap (λ x. x.exprs.entries) e
 recorded i s t (inr e) = ap (λ x. x.exprs.entries) e
 
 pub quiet_constant : {p : ExprSteps} → Correct p Quiet → Correct (constant_form p) Quiet
-quiet_constant h = correct_as (correct_constant h) (λ final ps m m' c g row. let e = recorded c.expr m'.stored row.left.stored row.stored in record {
-  grown = λ d k.
-      let n = ap (λ xs. times k (of_exprs (reached final d) xs)) e in
-      let x = row.first.grown d k in omega arith;
-  earlier = λ d all le le'.
-      let x = row.first.earlier d all (omega (arith, row.types)) (omega (arith, row.types)) in record {
-        depth = d;
-        deep = omega (arith, g.types);
-        counted = λ k.
-            let n = ap (λ xs. times k (of_exprs (reached final all) xs)) e in
-            let t = ap (less k) row.types in
-            let a = x.counted k in omega arith;
-      };
-})
+quiet_constant h = correct_as (correct_constant h) (λ final ps m m' c g row.
+    let e = recorded c.expr m'.stored row.left.stored row.stored in record {
+      grown = λ d k.
+          let n = ap (λ xs. times k (of_exprs (reached final d) xs)) e in
+          let x = row.first.grown d k in omega arith;
+      earlier = λ d all le le'.
+          let x = row.first.earlier d all (omega (arith, row.types)) (omega (arith, row.types)) in record {
+            depth = d;
+            deep = omega (arith, g.types);
+            counted = λ k.
+                let n = ap (λ xs. times k (of_exprs (reached final all) xs)) e in
+                let t = ap (less k) row.types in
+                let a = x.counted k in omega arith;
+          };
+    })

@@ -17,7 +17,7 @@ use Rattle.hir_one_result.specs.Diagnostics.{type_part_faults}
 use Rattle.hir_one_result.specs.Room.{Short, type_part_size}
 use Rattle.hir_one_result.specs.Stands.{TypePartWays}
 use Rattle.hir_type_result.specs.Reached.{types_reached}
-use Rattle.hir_type_result.specs.Roots.{SameRoots}
+use Rattle.hir_type_result.specs.Roots.{RootsAre, last_end}
 
 -- What is stored where one type was lowered. It reads back as what is written, and each body inside it does what the written one
 -- does. There are types and lifetimes from just those of its nodes that become one, in the order of lowering, and as many
@@ -44,7 +44,8 @@ pub record TypeResult (store : Store) (source_map : SourceMap) (i : TypeRefId) (
   pub covers_labels : CoversLabels ways 0 (length store.labels)
   pub leads : MapLeads source_map ways
   pub reached_once : (depth : ℕ) → length store.types ≤ depth → Spread 0 (length store.types) (types_reached store.types depth i)
-  pub roots : SameRoots store source_map store.roots (type_part_size t).constants
+  pub roots : RootsAre store source_map [] 0 store.roots (type_part_size t).constants
+  pub roots_end : last_end 0 store.roots ≤ length store.exprs
   pub blocks : source_map.block_scopes ≡ blocks_of_type_part t
   pub faults : IsPermutation (type_part_faults [] t) source_map.diagnostics
 

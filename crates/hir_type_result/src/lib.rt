@@ -5,6 +5,7 @@
 ghost use Rattle.hir_type_result.specs.TypeResult.{TypeResults, RefusedTypes};
 ghost use Rattle.hir_type_result.specs.Reached.{TypesReachedOnce};
 ghost use Rattle.hir_type_result.specs.Named.{ExprTypesReachedOnce, PathTypesReachedOnce};
+ghost use Rattle.hir_type_result.specs.Roots.{PathRoots, TypeRoots};
 
 /// Each type that a lowered one reaches, through its parts, is one that its lowering stored, and is reached in one way.
 pub fn types_reached_once()
@@ -16,6 +17,17 @@ pub fn types_reached_once()
 pub fn named_types_reached_once()
     ensures paths { PathTypesReachedOnce }
     ensures exprs { ExprTypesReachedOnce }
+{}
+
+/// Where no root is being lowered, each constant of a lowered type is recorded as one, in the order in which they are done, and
+/// does what the written one does; so does each that the type reaches.
+pub fn type_roots()
+    ensures { TypeRoots }
+{}
+
+/// So it is of a lowered path: the constants of a refused one are roots too, which nothing reaches.
+pub fn path_roots()
+    ensures { PathRoots }
 {}
 
 /// A type, lowered into an empty store, is one result of its tree.

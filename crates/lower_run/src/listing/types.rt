@@ -62,19 +62,11 @@ impl<'a> Waiting<'a> {
     }
 
     fn push_tuple(&mut self, types: &'a [TypeRefId]) -> Result<(), AllocError> {
-        self.push_all(&[
-            Piece::Word("("),
-            Piece::Types("", types),
-            Piece::Word(")"),
-        ])
+        self.push_all(&[Piece::Word("("), Piece::Types("", types), Piece::Word(")")])
     }
 
     fn push_slice(&mut self, ty: TypeRefId) -> Result<(), AllocError> {
-        self.push_all(&[
-            Piece::Word("["),
-            Piece::Type_(ty),
-            Piece::Word("]"),
-        ])
+        self.push_all(&[Piece::Word("["), Piece::Type_(ty), Piece::Word("]")])
     }
 
     /// The length is an expression of the same store.
