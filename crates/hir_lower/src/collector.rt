@@ -251,8 +251,8 @@ impl<'db, E: LowerEnv> ExprCollector<'db, E> {
     /// It has the names of all segments that are read, those of use trees around it in front, with the arguments that stand
     /// beside them, and begins where they say. Where no use tree stands around it or its trait, no segment of either is missing,
     /// and the trait has no qualified type, its names are those of the written segments that bear one. `Memory` where a
-    /// growth was refused, `Full` where an arena has no room for its types and lifetimes or it has more `super`s than 32
-    /// bits count, `Failed` after an error. All that was stored is stored still, unless memory was refused, and nothing
+    /// growth was refused, `Full` where an arena has no room for its types, lifetimes and constants or it has more `super`s
+    /// than 32 bits count, `Failed` after an error. All that was stored is stored still, unless memory was refused, and nothing
     /// comes behind it but the path's types, its lifetimes and its constants, each of which is recorded as a root, also
     /// where the path is refused.
     pub fn lower_path<I: ImplTraitLower>(

@@ -12,7 +12,7 @@ ghost use Rattle.hir_meaning.specs.Forms.{MakesAPair, MakesARecord, MakesOfDefau
 ghost use Rattle.hir_meaning.specs.Typed.{CastsToItsType, NamesAnOffset, CallsWithArguments};
 ghost use Rattle.hir_meaning.specs.Endings.{MissingEndsTheLoop, StraysWithItsValue, StrayIsNoValue, InnerLabelHides};
 ghost use Rattle.hir_meaning.specs.Endings.{ContinuesPastTheBlock, AnswersNoPastTheEnd, ValueEndsTheLoop, ForeignIsNotEnclosed};
-ghost use Rattle.hir_meaning.specs.InnerRows.{InnerBodiesInOrder};
+ghost use Rattle.hir_meaning.specs.InnerRows.{TypesInOrder, PathsInOrder, ExprsInOrder, StoredInOrder};
 
 /// `'a: { loop { break 'a 1 } }` with one turn is the literal and its value.
 pub fn leaves_the_loop()
@@ -230,7 +230,11 @@ pub fn foreign_is_not_enclosed()
 {}
 
 /// The bodies inside `[[!; a]; b]` are a and b, inside `[!; a as [!; b]]` the cast and b; inside a refused path, and in
-/// arguments that go again, there are none.
+/// arguments that go again, there are none. Arguments come before bindings, and of a method call those in `<..>` before the
+/// others. So they are stored, too.
 pub fn inner_bodies_in_order()
-    ensures { InnerBodiesInOrder }
+    ensures types { TypesInOrder }
+    ensures paths { PathsInOrder }
+    ensures exprs { ExprsInOrder }
+    ensures stored { StoredInOrder }
 {}

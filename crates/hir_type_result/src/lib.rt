@@ -36,7 +36,7 @@ pub fn type_results()
 {}
 
 /// Lowering a type into an empty store is refused only where there is no room for as many types and lifetimes as are
-/// counted in it, or where a path counts further than is counted.
+/// counted in it, or for as many expressions and labels as are in its constants, or where a path counts further than is counted.
 pub fn refused_types()
     ensures { RefusedTypes }
 {}
