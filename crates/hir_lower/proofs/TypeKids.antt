@@ -29,14 +29,14 @@ use Rattle.hir_env.specs.Answered as tree
 use Rattle.hir_env.specs.Answered.{Parts}
 use Rattle.hir_env.specs.Answers.{Answers}
 use Rattle.hir_env.specs.Paths as of
-use Rattle.hir_env.specs.Paths.{inside_impl, outside_impl}
+use Rattle.hir_env.specs.Paths.{inside_constant, inside_impl, outside_impl}
 use Rattle.hir_env.specs.Whole.{written, reader, read_param, read_type_arg, read_ret_type, read_path_type}
 use Rattle.hir_env.specs.TypeLayers.{GenericArgLayer, TypeKindLayer, AssocTypeArgLayer, GenericArgListLayer, ParamLayer}
 use Rattle.hir_env.specs.TypeLayers.{PathLayer, PathSegmentLayer, TypeBoundLayer}
 use Rattle.hir_env.specs.Count.{count_type, count_option_type, count_parts, count_path, count_option_path, count_segments, count_segment}
 use Rattle.hir_env.specs.Count.{count_segment_args, count_option_parens, count_option_ret, count_option_args, count_args, count_arg}
-use Rattle.hir_env.specs.Count.{count_bounds, count_bound, count_constant}
-use Rattle.hir_env.specs.Whole.{answered_type, answered_path, answered_arg_list, type_part, path_part, arg_list_part, types_part}
+use Rattle.hir_env.specs.Count.{count_bounds, count_bound, count_constant, count_expr}
+use Rattle.hir_env.specs.Whole.{answered, answered_type, answered_path, answered_arg_list, type_part, path_part, arg_list_part, types_part}
 use Rattle.hir_env.specs.Whole.{type_args_part, params_part, answer_part, ret_part, parens_part, path_type_part, segment_part}
 use Rattle.hir_env.specs.Whole.{segments_part, first_part, rest_part, generic_args_part, bounds_part, answered_constant, constant_part}
 use Rattle.hir_env.proofs.Levels.{constant_is_level}
@@ -52,7 +52,9 @@ use Rattle.hir_lower.specs.Roots.{spot_at}
 pub record Below (env : Answers) (C : Claims) (n : ℕ) : Type 0 where
   pub types : (p : Place) (t : AstType_) → count_type (answered_type (spot_at env p) t) < n → C.type_ p t
   pub paths : (p : Place) (x : AstPath) → count_path (answered_path (spot_at env p) x) < n → C.path p x
-  pub constants : (p : Place) (e : Option AstExpr) → count_constant (constant_at (spot_at env p) e) < n → C.constant p e
+  -- by the expression, which is read inside of it
+  pub constants : (p : Place) (e : AstExpr) → count_expr (answered (spot_at env (inside_constant p)) e) < n → C.constant p (Some e)
+  pub no_constant : (p : Place) → C.constant p None
   pub lists : (p : Place) (l : AstGenericArgList) → suc (count_args (answered_arg_list (spot_at env p) l)) < n → C.args p l
 
 module _ (env : Answers) (C : Claims) (n : ℕ) (below : Below env C n) where
@@ -68,14 +70,18 @@ module _ (env : Answers) (C : Claims) (n : ℕ) (below : Below env C n) where
   list p None h = tt
   list p (Some l) h = below.lists p l h
 
+  const_part : (p : Place) (o : Option AstExpr) → count_constant (constant_at (spot_at env p) o) < n → C.constant p o
+  const_part p None h = below.no_constant p
+  const_part p (Some e) h = below.constants p e (omega (arith, h))
+
   const_arg : (p : Place) (x : AstConstArg) → count_constant (answered_constant (spot_at env p) x) < n
       → C.constant p (out-ConstArg x).expr
   const_arg p x h =
       let s = ap count_constant (constant_is_level (spot_at env p) x) in
-      below.constants p (out-ConstArg x).expr (omega (arith, h, s))
+      const_part p (out-ConstArg x).expr (omega (arith, h, s))
 
   constant : (p : Place) (o : Option AstConstArg) → count_constant (constant_part (spot_at env p) o) < n → C.constant p (const_expr o)
-  constant p None h = below.constants p None h
+  constant p None h = const_part p None h
   constant p (Some x) h = const_arg p x h
 
   types : (p : Place) (ts : List AstType_) → count_parts (types_part (spot_at env p) ts) < n → Each (C.type_ p) ts

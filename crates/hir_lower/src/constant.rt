@@ -32,13 +32,7 @@ pub fn inside_constant(place: Place) -> Place
 #[tactic(auto, using(hir_lower_form::proofs::Kept::lower_on))]
 fn expr_of<
     E: LowerEnv,
-    F: Fn(
-        Global,
-        &E,
-        Place,
-        &mut BodyBuilder,
-        &ast::Expr,
-    ) -> Result<Option<ExprId>, StoreFault>,
+    F: Fn(Global, &E, Place, &mut BodyBuilder, &ast::Expr) -> Result<Option<ExprId>, StoreFault>,
 >(
     alloc: Global,
     env: &E,
@@ -59,13 +53,7 @@ fn expr_of<
 /// The expression, missing where it is absent or a condition disables it.
 fn expr_or_missing<
     E: LowerEnv,
-    F: Fn(
-        Global,
-        &E,
-        Place,
-        &mut BodyBuilder,
-        &ast::Expr,
-    ) -> Result<Option<ExprId>, StoreFault>,
+    F: Fn(Global, &E, Place, &mut BodyBuilder, &ast::Expr) -> Result<Option<ExprId>, StoreFault>,
 >(
     alloc: Global,
     env: &E,
@@ -88,13 +76,7 @@ fn expr_or_missing<
 #[tactic(auto, unfolding(hir_lower_form::specs::Lower::constant_form))]
 pub fn constant_form<
     E: LowerEnv,
-    F: Fn(
-        Global,
-        &E,
-        Place,
-        &mut BodyBuilder,
-        &ast::Expr,
-    ) -> Result<Option<ExprId>, StoreFault>,
+    F: Fn(Global, &E, Place, &mut BodyBuilder, &ast::Expr) -> Result<Option<ExprId>, StoreFault>,
 >(
     alloc: Global,
     env: &E,

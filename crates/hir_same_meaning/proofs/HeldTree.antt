@@ -43,8 +43,10 @@ constant_held : (e : OptionExpr) → Correct (lower.lower_part e) (Holds an_expr
     → Correct (lower.constant_form (lower.lower_part e)) (Holds a_constant (e ∷ bodies_in e))
 constant_held e h = correct_as (correct_constant (correct_both (correct_in_store (part_fine e)) h))
     (λ final ps m m' c g row. let x = row.first.one in record {
-      same = λ d le. (body_is (barrier_at ∷ ps) x.rel x.nodes tt refl,
-      row.first.other.same d (omega (le, row.nodes, row.types, arith)));
+      same = λ d le. (
+        body_is (barrier_at ∷ ps) x.rel x.nodes tt refl,
+        row.first.other.same d (omega (le, row.nodes, row.types, arith)),
+      );
     })
 
 mutual

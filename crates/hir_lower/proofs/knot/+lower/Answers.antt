@@ -7,13 +7,12 @@ use Rattle.hir_syntax.specs.declared.types.GenericArgList.{out-GenericArgList}
 use Rattle.hir_env.specs.Answering.{ptr, numbered}
 use Rattle.hir_env.specs.declared.place.Place.{Place}
 use Rattle.hir_env.specs.Count.{count_args, count_block, count_path, count_stmts, count_option_expr, count_type}
-use Rattle.hir_env.specs.Paths.{inside_constant}
 use Rattle.hir_env.specs.Whole.{answered_plain, expr_part, pointer_at, stmts_part}
 use Rattle.hir_env.proofs.Levels.{expr_is_level, plain_is_level}
 use Rattle.hir_env.proofs.PathLevels.{arg_list_is_level, path_is_level, type_is_level}
 use Rattle.hir_lower.specs.Nests.{HandlesArgs, HandlesBlock, HandlesConstant, HandlesExpr, HandlesPath, HandlesType}
 use Rattle.hir_lower.specs.Roots.{spot_at}
-use Rattle.hir_lower.proofs.Kids.{kids_constant, kids_expr, kids_block, expr_below, in_inside}
+use Rattle.hir_lower.proofs.Kids.{kids_expr, kids_block, expr_below, in_inside}
 use Rattle.hir_lower.proofs.TypeKids.{kids_args, kids_path, kids_type}
 use Rattle.hir_lower.proofs.knot.+lower.Goals as goal
 
@@ -72,7 +71,7 @@ collect_block_inside-block_node-requires-clause-parts g t c =
     ap count_block (plain_is_level (spot_at env c.args.place) c.args.node.now) ∙ ap level (sym inner) in
     kids_block env (HandlesExpr g.E.LowerEnv.answers _ _ c.args.env.now) (HandlesBlock g.E.LowerEnv.answers _ _ c.args.env.now)
     (HandlesPath g.E.LowerEnv.answers _ _ c.args.env.now) (HandlesType g.E.LowerEnv.answers _ _ c.args.env.now)
-    (HandlesArgs g.E.LowerEnv.answers _ _ c.args.env.now) (λ p o. Unit {0}) t
+    (HandlesArgs g.E.LowerEnv.answers _ _ c.args.env.now) (HandlesConstant g.E.LowerEnv.answers _ _ c.args.env.now) t
     (λ p e h. record {
       callable = λ alloc v old b same is. (rw same (rw is h), λ a m. m);
       lowers = λ alloc v old new b r same is q. rw (← is) (rw (← same) q.2);
@@ -121,13 +120,11 @@ read_path_segments-path_node-requires-clause-parts g t c =
         callable = λ alloc v old walk b same is has. (rw same (rw is h), ((λ a m. m), has));
         reads = λ alloc v old new walk b r same is q. rw (← is) (rw (← same) q.3);
       };
-      constants = λ p o h.
-          kids_constant env (HandlesExpr g.E.LowerEnv.answers _ _ c.args.env.now) t
-          (λ q e less. record {
-            callable = λ alloc v old b same is. (rw same (rw is less), λ a m. m);
-            lowers = λ alloc v old new b r same is q. rw (← is) (rw (← same) q.2);
-          })
-          (inside_constant p) o (omega (arith, h));
+      constants = λ p e h. record {
+        callable = λ alloc v old b same is. (rw same (rw is h), λ a m. m);
+        lowers = λ alloc v old new b r same is q. rw (← is) (rw (← same) q.2);
+      };
+      no_constant = λ p. tt;
       lists = λ p x h. record {
         callable = λ alloc v old b same is. (rw same (rw is h), λ a m. m);
         lowers = λ alloc v old new b r same is q. rw (← is) (rw (← same) q.2);
@@ -162,13 +159,11 @@ lower_type_node-type_node-requires g t c =
         callable = λ alloc v old walk b same is has. (rw same (rw is h), ((λ a m. m), has));
         reads = λ alloc v old new walk b r same is q. rw (← is) (rw (← same) q.3);
       };
-      constants = λ p o h.
-          kids_constant env (HandlesExpr g.E.LowerEnv.answers _ _ c.args.env.now) t
-          (λ q e less. record {
-            callable = λ alloc v old b same is. (rw same (rw is less), λ a m. m);
-            lowers = λ alloc v old new b r same is q. rw (← is) (rw (← same) q.2);
-          })
-          (inside_constant p) o (omega (arith, h));
+      constants = λ p e h. record {
+        callable = λ alloc v old b same is. (rw same (rw is h), λ a m. m);
+        lowers = λ alloc v old new b r same is q. rw (← is) (rw (← same) q.2);
+      };
+      no_constant = λ p. tt;
       lists = λ p x h. tt;
     })
     c.args.place (pointer_at at c.args.node.now.id c.args.node.now.range) (out-TypeKind c.args.node.now.kind) (omega (arith, d, size))
@@ -199,13 +194,11 @@ lower_arg_list-args_node-requires g t c =
         callable = λ alloc v old walk b same is has. (rw same (rw is h), ((λ a m. m), has));
         reads = λ alloc v old new walk b r same is q. rw (← is) (rw (← same) q.3);
       };
-      constants = λ p o h.
-          kids_constant env (HandlesExpr g.E.LowerEnv.answers _ _ c.args.env.now) t
-          (λ q e less. record {
-            callable = λ alloc v old b same is. (rw same (rw is less), λ a m. m);
-            lowers = λ alloc v old new b r same is q. rw (← is) (rw (← same) q.2);
-          })
-          (inside_constant p) o (omega (arith, h));
+      constants = λ p e h. record {
+        callable = λ alloc v old b same is. (rw same (rw is h), λ a m. m);
+        lowers = λ alloc v old new b r same is q. rw (← is) (rw (← same) q.2);
+      };
+      no_constant = λ p. tt;
       lists = λ p x h. record {
         callable = λ alloc v old b same is. (rw same (rw is h), λ a m. m);
         lowers = λ alloc v old new b r same is q. rw (← is) (rw (← same) q.2);
