@@ -109,7 +109,7 @@ read_path_segments-path_node-requires-clause-parts g t c =
       path = HandlesPath g.E.LowerEnv.answers _ _ c.args.env.now;
       type_ = HandlesType g.E.LowerEnv.answers _ _ c.args.env.now;
       args = HandlesArgs g.E.LowerEnv.answers _ _ c.args.env.now;
-      constant = HandlesConstant g.E.LowerEnv.answers _ _ c.args.env.now;
+      constant = λ p o. Unit {0};
     }) t
     (record {
       types = λ p x h. record {
@@ -120,10 +120,7 @@ read_path_segments-path_node-requires-clause-parts g t c =
         callable = λ alloc v old walk b same is has. (rw same (rw is h), ((λ a m. m), has));
         reads = λ alloc v old new walk b r same is q. rw (← is) (rw (← same) q.3);
       };
-      constants = λ p e h. record {
-        callable = λ alloc v old b same is. (rw same (rw is h), λ a m. m);
-        lowers = λ alloc v old new b r same is q. rw (← is) (rw (← same) q.2);
-      };
+      constants = λ p e h. tt;
       no_constant = λ p. tt;
       lists = λ p x h. record {
         callable = λ alloc v old b same is. (rw same (rw is h), λ a m. m);
