@@ -144,10 +144,7 @@ fn lowered_twice(alloc: Global, path: &Path, limit: u32) -> Answers {
 /// In a collector for one expression, and in one for two.
 fn in_one_and_two(alloc: Global, document: &Document) -> Option<(Answers, Answers)> {
     match &document.tree {
-        Tree::Path(path) => Some((
-            lowered_twice(alloc, path, 1),
-            lowered_twice(alloc, path, 2),
-        )),
+        Tree::Path(path) => Some((lowered_twice(alloc, path, 1), lowered_twice(alloc, path, 2))),
         Tree::Fn(_) | Tree::Type_(_) => None,
     }
 }
@@ -166,5 +163,8 @@ fn in_one_and_two_in_text(
 fn a_path_does_not_fit_where_its_constants_do_not(rt: HostRuntime) {
     let in_one = (Err(LowerError::Full), Err(LowerError::Failed), 1);
     let in_two = (Ok(true), Err(LowerError::Full), 2);
-    assert_eq!(rt; in_one_and_two_in_text(rt.alloc(), PATH), Ok(Some((in_one, in_two))));
+    assert_eq!(rt;
+        in_one_and_two_in_text(rt.alloc(), PATH),
+        Ok(Some((in_one, in_two)))
+    );
 }
