@@ -1,6 +1,7 @@
 //! The collector, which lowers trees into one store and stops for good after its first error.
 
 ghost use Rattle.std.specs.Prelude.{◌≡◌, ◌≢◌, false, true, Err, IfOk, IsErrOf, IsOkAnd, option_copied};
+ghost use Rattle.hir_syntax.specs.declared.ast.ConstArg.{out-ConstArg};
 ghost use Rattle.hir_store.specs.Range.{HasExpr, HasTypeParts, InRange};
 ghost use Rattle.hir_store.specs.Stored.{map_of, store_of};
 ghost use Rattle.hir_env.specs.Spot.{in_file};
@@ -221,10 +222,10 @@ impl<'db, E: LowerEnv> ExprCollector<'db, E> {
     /// since.
     pub fn lower_const_arg(&mut self, arg: &ast::ConstArg) -> Result<ConstRef, LowerError>
         ensures calls { Calls self.old.failed self.old.state result self.new.state self.new.failed }
-        ensures rooted { let e = expr_part (spot_at (E.answers self.old.db.now) self.old.place) arg.now.expr in
+        ensures rooted { let e = expr_part (spot_at (E.answers self.old.db.now) self.old.place) (out-ConstArg arg.now).expr in
             IfOk result (λ c. Rooted self.old.state.stored self.new.state.stored c.expr e) }
         ensures full { IsErrOf result LowerError.Full → SomeEnd self.new.state }
-        ensures too_large { let e = expr_part (spot_at (E.answers self.old.db.now) self.old.place) arg.now.expr in
+        ensures too_large { let e = expr_part (spot_at (E.answers self.old.db.now) self.old.place) (out-ConstArg arg.now).expr in
             IsErrOf result LowerError.Full → TooLarge self.old.state.stored e }
         ensures stays { result ≢ Err LowerError.Memory → Stays self.old.state.stored self.new.state.stored }
         ensures db { self.new.db ≡ self.old.db }
