@@ -1,5 +1,5 @@
 -- What is lowered as a path is what is written.
-use Rattle.std.proofs.Common.{◌≡◌, ◌≢◌, ◌∙◌, refl, sym, ap, subst, false, [], Option, Some, None, option_map, Result, Ok, Err}
+use Rattle.std.proofs.Common.{◌≡◌, ◌≢◌, ◌∙◌, refl, sym, ap, subst, Bool, false, [], Option, Some, None, option_map, Result, Ok, Err}
 use Rattle.std.specs.Prelude.{IfOk, IsErrOf}
 use Rattle.hir_syntax.specs.declared.ast.Path.{Path as AstPath}
 use Rattle.hir_store.specs.Stored.{Stored, store_of, map_of}
@@ -21,7 +21,7 @@ use Rattle.hir_read_back.proofs.Now.{path_law}
 use Rattle.hir_one_result.specs.Laws.{Grown, GrownUnless}
 use Rattle.hir_one_result.specs.Diagnostics.{Around}
 use Rattle.hir_one_result.specs.Room.{Short, whole_size}
-use Rattle.hir_one_result.specs.Stands.{WholeWays}
+use Rattle.hir_one_result.specs.Stands.{Open, WholeWays}
 use Rattle.hir_one_result.proofs.Fits.{paths_fit}
 use Rattle.hir_one_result.proofs.Leading.{Shown}
 use Rattle.hir_one_result.proofs.TreeBlocks.{whole_enters}
@@ -73,6 +73,13 @@ module _ (at : Spot) (x : AstPath) (b b' : Builder) where
     labels = w.moved.labels;
   }
 
+  abbrev RootsIn : Stored → Open → Bool → Type 0
+  RootsIn later around inside = RootsOf around b.stored b'.stored later (recorded inside (whole_size (whole_path at x)).constants)
+
+  roots_outside : (later : Stored) → Outside b → RootsIn later b.scopes b.in_root → RootsIn later [] false
+  roots_outside later out h =
+      subst (λ around. RootsIn later around false) out.scopes (subst (λ inside. RootsIn later b.scopes inside) out.in_root h)
+
   pub rooted_path_if : (r : Checked (Option Path)) → Alone r → Paired b.stored → Outside b
       → IfOk r (λ y. PathRooted b.stored b'.stored y (whole_path at x))
   rooted_path_if (Ok y) l d out =
@@ -85,11 +92,7 @@ module _ (at : Spot) (x : AstPath) (b b' : Builder) where
       record {
         inner = λ later ext. (path_roots p b b' y d l.0 later ext).1;
         lives = λ later ext. constants_live later none (ways_behind b b' y d l.0 (whole_left p) later ext);
-        roots = λ later ext.
-            let with_roots = λ rs inside. RootsOf rs b.stored b'.stored later (recorded inside (whole_size p).constants) in
-            let roots : with_roots b.scopes b.in_root = (path_roots p b b' y d l.0 later ext).0 in
-            let outside : with_roots b.scopes false = subst (λ inside. with_roots b.scopes inside) out.in_root roots in
-            subst (λ rs. with_roots rs false) none outside;
+        roots = λ later ext. roots_outside later out (path_roots p b b' y d l.0 later ext).0;
         more = faults.more;
         faults = faults.is;
         permuted = faults.like;
