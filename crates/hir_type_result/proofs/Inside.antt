@@ -145,7 +145,7 @@ mutual
   arg_adds l (tree.type_arg t) = adds_then (adds_beside (lists l) (part_adds None t))
       (λ i. adds_pure _ (λ v. weights.arg_added v.weight v.held l (arg.Type_ i)))
   arg_adds l (tree.lifetime_arg x) = adds_then (adds_any (lifetime_any x))
-      (λ i. adds_pure _ (λ v. weights.arg_added v.weight v.held l (arg.Lifetime i)))
+      (λ i. adds_pure _ (λ v. let e = weights.arg_added v.weight v.held l (arg.Lifetime i) in omega arith))
   arg_adds l (tree.const_arg c) = adds_then (adds_beside (lists l) (constant_adds c))
       (λ x. adds_pure _ (λ v. weights.arg_added v.weight v.held l (arg.Const x)))
   arg_adds l (tree.assoc_arg name as' dots t bs) = adds_then (adds_beside (lists l)
@@ -158,7 +158,7 @@ mutual
 
   bound_adds : (b : Bound) → Correct (lower_bound b) (Adds free a_bound)
   bound_adds tree.error_bound = adds_pure _ (λ v. omega arith)
-  bound_adds (tree.path_bound at p maybe binder) = path_bound_adds at maybe binder (path_adds p)
+  bound_adds (tree.path_bound at p may binder) = path_bound_adds at may binder (path_adds p)
   bound_adds (tree.lifetime_bound l) = adds_then (adds_any (lifetime_any l)) (λ i. adds_pure _ (λ v. omega arith))
   bound_adds (tree.use_bound us) = adds_then (adds_any (uses_any [] us)) (λ xs. adds_pure _ (λ v. omega arith))
 

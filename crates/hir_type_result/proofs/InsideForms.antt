@@ -13,7 +13,6 @@ use Rattle.hir_store.specs.declared.ids.BlockId.{BlockId}
 use Rattle.hir_store.specs.declared.ids.ExprId.{ExprId}
 use Rattle.hir_store.specs.declared.ids.HygieneId.{HygieneId}
 use Rattle.hir_store.specs.declared.ids.LabelId.{LabelId}
-use Rattle.hir_store.specs.declared.ids.TypeRefId.{TypeRefId}
 use Rattle.hir_store.specs.declared.name.Name.{Name}
 use Rattle.hir_store.specs.declared.path.GenericArgs.{GenericArgs}
 use Rattle.hir_store.specs.declared.path.Path.{Path}
@@ -31,7 +30,6 @@ use Rattle.hir_meaning.specs.Inner.{all_of, of_present, of_list, of_path}
 use Rattle.hir_steps.proofs.Frames.{loop_at, block_at}
 use Rattle.hir_steps.proofs.Steps.{Correct, correct_report, correct_report_await, correct_point, correct_point_field}
 use Rattle.hir_steps.proofs.Steps.{correct_enter_block, correct_target}
-use Rattle.hir_same_meaning.specs.Reached as reached
 use Rattle.hir_same_meaning.specs.Reached.{of_some, of_each, of_fields, of_others, of_statement, of_statements, below}
 use Rattle.hir_type_result.proofs.Counted.{times, times_append}
 use Rattle.hir_type_result.proofs.Weighed.{View, Cost, free, beside, an_expr, a_type, sum, sum_append, Adds, adds_pure, adds_then}

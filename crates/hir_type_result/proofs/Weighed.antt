@@ -9,13 +9,12 @@ use Rattle.hir_store.specs.declared.ids.TypeRefId.{TypeRefId}
 use Rattle.hir_store.specs.declared.type_ref.ConstRef.{ConstRef}
 use Rattle.hir_store.specs.declared.type_ref.TypeRef.{TypeRef}
 use Rattle.hir_env.specs.Answered.{Label}
-use Rattle.hir_scope.specs.Ribs.{rib}
 use Rattle.hir_lower_form.specs.Lowering.{Lowering, ◌>>=◌, pure, alloc_expr, alloc_type, open_label, close}
 use Rattle.hir_lower_form.specs.Lower.{ExprSteps, constant_form}
 use Rattle.hir_meaning.specs.Inner.{Inners, inners, of_type, of_expr, of_constant}
 use Rattle.hir_steps.proofs.Constants.{correct_constant}
-use Rattle.hir_steps.proofs.Frames.{Frame, ribs}
-use Rattle.hir_steps.proofs.Steps.{Mark, Grows, Rel, Correct, correct_bind, correct_as, correct_pure, correct_alloc, correct_alloc_type}
+use Rattle.hir_steps.proofs.Frames.{Frame, rib, ribs}
+use Rattle.hir_steps.proofs.Steps.{Mark, Rel, Correct, correct_bind, correct_as, correct_pure, correct_alloc, correct_alloc_type}
 use Rattle.hir_steps.proofs.Steps.{correct_opened}
 use Rattle.hir_same_meaning.specs.Reached.{below, reached_to}
 use Rattle.hir_type_result.proofs.Counted.{times, less, one_past, less_grows}
