@@ -20,8 +20,8 @@ pub fn named_types_reached_once()
     ensures exprs { ExprTypesReachedOnce }
 {}
 
-/// Each expression that a lowered tree reaches, or a constant inside it, is one that its lowering stored, and is reached in one way
-/// by one of them. So it is of types and paths.
+/// Each expression that a lowered tree reaches, or that a constant inside it does, is one that its lowering stored, and is reached
+/// in one way by one of them. So it is of the constants inside a type or a path.
 pub fn inside_reached_once()
     ensures exprs { InsideReachedOnce }
     ensures types { TypeInsideReachedOnce }
