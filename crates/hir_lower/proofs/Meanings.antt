@@ -19,7 +19,6 @@ use Rattle.hir_lower_form.specs.Lower.{lower_part}
 use Rattle.hir_steps.specs.Keeps.{KeepsAll, Keeps, Paired}
 use Rattle.hir_steps.proofs.Keeping.{keeping}
 use Rattle.hir_same_meaning.specs.Headline.{Lowered}
-use Rattle.hir_same_meaning.proofs.Tree.{reached_once}
 use Rattle.hir_same_meaning.proofs.Whole.{headline}
 use Rattle.hir_one_result.specs.Diagnostics.{Faults}
 use Rattle.hir_one_result.specs.Laws.{Fits, FitsUnless}
@@ -30,6 +29,7 @@ use Rattle.hir_one_result.proofs.TreeFaults.{diagnostics_are}
 use Rattle.hir_one_result.proofs.TreeBlocks.{blocks_are}
 use Rattle.hir_one_result.proofs.Fits.{all_fit}
 use Rattle.hir_one_result.proofs.Whole.{one_results}
+use Rattle.hir_type_result.proofs.Inside.{expr_inside}
 use Rattle.hir_type_result.proofs.Named.{expr_types_once}
 use Rattle.hir_lower.specs.Calls.{Outside}
 use Rattle.hir_lower.specs.Roots.{RefusedAtEnd, StoresFromNothing, fresh, root_of, body_of, report_missing}
@@ -141,7 +141,7 @@ root_rooted e b b' i d h =
             covers_labels = standing.covers_labels;
             led = standing.led;
             labels = standing.labels;
-            reached_once = λ depth le. reached_once e (closed b) p.inner i lowered later ext depth le;
+            reached_once = λ depth le. expr_inside e (closed b) p.inner i lowered later ext depth le;
             types_reached_once = λ depth le more new. expr_types_once e (closed b) p.inner i paired p.is later ext depth le more new;
           };
       exprs = fits.exprs;

@@ -35,10 +35,10 @@ use Rattle.hir_data.specs.Data.{path_names}
 use Rattle.hir_data.specs.Reading.{stored_path}
 use Rattle.hir_data.specs.Written.{written_path}
 use Rattle.hir_data.specs.Segments.{PlainTrait, Whole, first_trait, named_segments, segment_name}
-use Rattle.hir_meaning.specs.Inner.{path_bodies, path_inner_bodies}
+use Rattle.hir_meaning.specs.Inner.{inner_bodies, path_bodies, path_inner_bodies}
 use Rattle.hir_meaning.specs.Inner.{of_present as of_some}
 use Rattle.hir_meaning.specs.Same.{SameBodies, SameMeaning}
-use Rattle.hir_same_meaning.specs.Reached.{Spread, reached_to}
+use Rattle.hir_same_meaning.specs.Reached.{Spread, of_each, reached_to}
 use Rattle.hir_steps.specs.Keeps.{Mapped, Paired}
 use Rattle.hir_one_result.specs.Blocks.{blocks_of_part, blocks_of_whole}
 use Rattle.hir_one_result.specs.Diagnostics.{Faults, part_diagnostics, whole_faults}
@@ -65,7 +65,8 @@ pub record Lives (old new later : Stored) (i : ExprId) (e : OptionExpr) : Type 0
   pub led : Led (map_of old) (map_of new) ways
   pub labels : length new.labels.entries ≡ length old.labels.entries + label_ways ways
   pub reached_once : (depth : ℕ) → length later.exprs.entries ≤ depth
-      → Spread (length old.exprs.entries) (length new.exprs.entries) (reached_to later.exprs.entries depth i)
+      → Spread (length old.exprs.entries) (length new.exprs.entries)
+      (of_each (reached_to later.exprs.entries depth) (i ∷ inner_bodies (store_of later) i))
   pub types_reached_once : (depth : ℕ) → length later.types.entries ≤ depth
       → (more : List HirExpr) → new.exprs.entries ≡ old.exprs.entries ++ more
       → Spread (length old.types.entries) (length new.types.entries) (of_exprs (types_reached later.types.entries depth) more)
@@ -94,7 +95,8 @@ pub record HasBody (store : Store) (source_map : SourceMap) (e : OptionExpr) : T
   pub root : ExprRoot
   pub only : store.roots ≡ root ∷ []
   pub same : SameMeaning store source_map root.root e
-  pub reached_once : (depth : ℕ) → length store.exprs ≤ depth → Spread 0 (length store.exprs) (reached_to store.exprs depth root.root)
+  pub reached_once : (depth : ℕ) → length store.exprs ≤ depth
+      → Spread 0 (length store.exprs) (of_each (reached_to store.exprs depth) (root.root ∷ inner_bodies store root.root))
   pub types_reached_once : (depth : ℕ) → length store.types ≤ depth
       → Spread 0 (length store.types) (of_exprs (types_reached store.types depth) store.exprs)
 
@@ -154,6 +156,9 @@ pub record PathRooted (old new : Stored) (r : Option Path) (p : OptionPath) : Ty
   pub blocks : new.block_scopes ≡ old.block_scopes ++ blocks_of_whole p
   pub reached_once : (later : Stored) → Extends new later → (depth : ℕ) → length later.types.entries ≤ depth
       → Spread (length old.types.entries) (length new.types.entries) (of_present (of_path (types_reached later.types.entries depth)) r)
+  pub inside_reached_once : (later : Stored) → Extends new later → (depth : ℕ) → length later.exprs.entries ≤ depth
+      → Spread (length old.exprs.entries) (length new.exprs.entries)
+      (of_each (reached_to later.exprs.entries depth) (of_some (path_inner_bodies (store_of later)) r))
   pub grown : Grown (whole_size p) old new
   pub paired : Paired new
   pub mapped : Mapped old → Mapped new

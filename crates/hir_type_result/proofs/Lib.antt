@@ -10,3 +10,8 @@ pub mod NotingForms
 pub mod TreeNotes
 pub mod Behind
 pub mod Whole
+pub mod Weighed
+pub mod Weights
+pub mod InsideTypes
+pub mod InsideForms
+pub mod Inside

@@ -19,6 +19,7 @@ use Rattle.hir_one_result.proofs.Whole.{lead_back}
 use Rattle.hir_type_result.specs.Roots.{RootsAre, last_end}
 use Rattle.hir_type_result.specs.TypeResult.{TypeResults, RefusedTypes}
 use Rattle.hir_type_result.proofs.Behind.{blocks_behind, faults_behind, type_roots, ways_behind}
+use Rattle.hir_type_result.proofs.Inside.{type_inside}
 use Rattle.hir_type_result.proofs.Named.{types_once}
 
 nothing_paired : (limit : ℕ) → Paired (fresh limit).stored
@@ -58,6 +59,7 @@ type_results limit t i new is =
       covers_labels = left.moved.covers_labels;
       leads = left.moved.led [] (leads_nowhere refl refl refl);
       reached_once = types_once None t old new i none is new.stored stays;
+      inside_reached_once = type_inside None t old new i none is new.stored stays;
       roots = let r = rooted.0 in
           subst (λ rs. RootsAre (store_of new.stored) (map_of new.stored) [] 0 rs (type_part_size t).constants) (sym r.is) r.each;
       roots_end = let r = rooted.0 in subst (λ rs. last_end 0 rs ≤ length new.stored.exprs.entries) (sym r.is) r.ends;

@@ -8,7 +8,7 @@ use Rattle.hir_data.specs.Written.{written_type}
 use Rattle.hir_data.specs.Reading.{stored_type}
 use Rattle.hir_lower_form.specs.Builder.{Builder, fresh}
 use Rattle.hir_lower_form.specs.Lower.{type_part}
-use Rattle.hir_same_meaning.specs.Reached.{Spread}
+use Rattle.hir_same_meaning.specs.Reached.{Spread, of_each, reached_to}
 use Rattle.hir_one_result.specs.Leads.{Way, Covers, CoversLabels, MapLeads, LeadBack}
 use Rattle.hir_meaning.specs.Inner.{part_bodies, type_inner_bodies}
 use Rattle.hir_meaning.specs.Same.{SameBodies}
@@ -23,7 +23,7 @@ use Rattle.hir_type_result.specs.Roots.{RootsAre, last_end}
 -- does. There are types and lifetimes from just those of its nodes that become one, in the order of lowering, and as many
 -- expressions and labels as its constants become, and nothing besides. Each constant is a root, in the order in which they are
 -- done, also one that the type doesn't reach. Nodes of types and lifetimes lead to them, those of expressions and labels to what
--- they became, and no other nodes lead anywhere. However deep one looks, the type reaches no type in two ways. The faults and the
+-- they became, and no other nodes lead anywhere. However deep one looks, the type reaches no type in two ways, and its constants no expression. The faults and the
 -- entered blocks are those of its constants.
 pub record TypeResult (store : Store) (source_map : SourceMap) (i : TypeRefId) (t : OptionType) : Type 0 where
   pub reads_back : stored_type store source_map i ≡ written_type t
@@ -44,6 +44,8 @@ pub record TypeResult (store : Store) (source_map : SourceMap) (i : TypeRefId) (
   pub covers_labels : CoversLabels ways 0 (length store.labels)
   pub leads : MapLeads source_map ways
   pub reached_once : (depth : ℕ) → length store.types ≤ depth → Spread 0 (length store.types) (types_reached store.types depth i)
+  pub inside_reached_once : (depth : ℕ) → length store.exprs ≤ depth
+      → Spread 0 (length store.exprs) (of_each (reached_to store.exprs depth) (type_inner_bodies store i))
   pub roots : RootsAre store source_map [] 0 store.roots (type_part_size t).constants
   pub roots_end : last_end 0 store.roots ≤ length store.exprs
   pub blocks : source_map.block_scopes ≡ blocks_of_type_part t

@@ -6,6 +6,7 @@ ghost use Rattle.hir_type_result.specs.TypeResult.{TypeResults, RefusedTypes};
 ghost use Rattle.hir_type_result.specs.Reached.{TypesReachedOnce};
 ghost use Rattle.hir_type_result.specs.Named.{ExprTypesReachedOnce, PathTypesReachedOnce};
 ghost use Rattle.hir_type_result.specs.Roots.{PathRoots, TypeRoots};
+ghost use Rattle.hir_type_result.specs.Inside.{InsideReachedOnce, TypeInsideReachedOnce, PathInsideReachedOnce};
 
 /// Each type that a lowered one reaches, through its parts, is one that its lowering stored, and is reached in one way.
 pub fn types_reached_once()
@@ -17,6 +18,14 @@ pub fn types_reached_once()
 pub fn named_types_reached_once()
     ensures paths { PathTypesReachedOnce }
     ensures exprs { ExprTypesReachedOnce }
+{}
+
+/// Each expression that a lowered tree reaches, or that a constant inside it does, is one that its lowering stored, and is reached
+/// in one way by one of them. So it is of the constants inside a type or a path.
+pub fn inside_reached_once()
+    ensures exprs { InsideReachedOnce }
+    ensures types { TypeInsideReachedOnce }
+    ensures paths { PathInsideReachedOnce }
 {}
 
 /// Where no root is being lowered, each constant of a lowered type is recorded as one, in the order in which they are done, and
