@@ -23,8 +23,8 @@ use Rattle.hir_type_result.specs.Roots.{RootsAre, last_end}
 -- does. There are types and lifetimes from just those of its nodes that become one, in the order of lowering, and as many
 -- expressions and labels as its constants become, and nothing besides. Each constant is a root, in the order in which they are
 -- done, also one that the type doesn't reach. Nodes of types and lifetimes lead to them, those of expressions and labels to what
--- they became, and no other nodes lead anywhere. However deep one looks, the type reaches no type in two ways, and its constants no expression. The faults and the
--- entered blocks are those of its constants.
+-- they became, and no other nodes lead anywhere. However deep one looks, the type reaches no type in two ways, and its constants
+-- no expression. The faults and the entered blocks are those of its constants.
 pub record TypeResult (store : Store) (source_map : SourceMap) (i : TypeRefId) (t : OptionType) : Type 0 where
   pub reads_back : stored_type store source_map i ≡ written_type t
   pub inner : SameBodies store source_map (type_inner_bodies store i) (part_bodies t)
