@@ -126,6 +126,20 @@ def arguments(size):
     return nodes
 
 
+def constants(size):
+    """One path with very many constants as arguments, each a recorded root."""
+    nodes = Nodes()
+    nodes.add("PathType", path=1)
+    nodes.add("Path", segs=[2])
+    nodes.add("PathSegment", seg="name", name="A", generics=3)
+    args = nodes.add("GenericArgList", args=[])
+    while len(nodes.all) + 2 <= size:
+        constant = nodes.add("ConstArg")
+        nodes.all[args]["args"].append(constant)
+        nodes.all[constant]["expr"] = nodes.add("Literal", lit="int", t="1")
+    return nodes
+
+
 def nested(size):
     """One tuple of very many types, each as deep as a tree may be."""
     nodes = Nodes()
@@ -146,11 +160,12 @@ SHAPES = {
     "labels": labels,
     "segments": segments,
     "arguments": arguments,
+    "constants": constants,
     "nested": nested,
 }
 
 # The shapes whose root is no function.
-MODES = {"segments": "path", "arguments": "type", "nested": "type"}
+MODES = {"segments": "path", "arguments": "type", "constants": "type", "nested": "type"}
 
 
 HEADS = ("shape", "nodes", "MB", "seconds", "peak MB", "parse us", "rest us", "parse B", "rest B")

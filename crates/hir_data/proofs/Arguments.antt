@@ -4,7 +4,7 @@ use Rattle.std.specs.Prelude.{◌&&◌, not, if◌then◌else◌, map, is_some}
 use Rattle.hir_syntax.specs.declared.ast.Name.{Name as AstName}
 use Rattle.hir_syntax.specs.declared.ast.Lifetime.{Lifetime as AstLifetime}
 use Rattle.hir_syntax.specs.declared.types.GenericArg.{GenericArg as AstGenericArg, out-GenericArg}
-use Rattle.hir_syntax.specs.declared.types.GenericArg.TheOpen.{GenericArg-F}
+use Rattle.hir_syntax.specs.declared.ast.ElseBranch.TheOpen.{GenericArg-F}
 use Rattle.hir_syntax.specs.declared.types.AssocTypeArg.{AssocTypeArg as AstAssocTypeArg, out-AssocTypeArg}
 use Rattle.hir_syntax.specs.declared.types.GenericArgList.{GenericArgList as AstGenericArgList, out-GenericArgList}
 use Rattle.hir_env.specs.Spot.{Spot}
@@ -12,8 +12,7 @@ use Rattle.hir_env.specs.declared.place.Place.{Place}
 use Rattle.hir_env.specs.Answered.{OptionArgs, OptionType, Args, Bounds}
 use Rattle.hir_env.specs.TypeLayers.{GenericArgLayer}
 use Rattle.hir_env.specs.Paths as of
-use Rattle.hir_env.specs.Paths.{written_types, type_reader}
-use Rattle.hir_env.specs.Whole.{answered_arg, answered_assoc_arg, answered_arg_list}
+use Rattle.hir_env.specs.Whole.{written, reader, read_generic_arg, answered_arg, answered_assoc_arg, answered_arg_list}
 use Rattle.hir_env.proofs.PathLevels.{arg_list_is_level, arg_is_level, assoc_arg_is_level}
 use Rattle.hir_data.specs.Data.{ArgumentData, ArgumentsData, BindingData, BindingsData}
 use Rattle.hir_data.specs.Written.{arguments_of, argument_of, put_argument, bindings_of, binding_of, put_binding}
@@ -47,11 +46,12 @@ lifetime_is p (Some l) = refl
 argument_is : (at : Spot) (a : AstGenericArg) → is_some (argument_of (answered_arg at a)) ≡ argument_stands (out-GenericArg a)
 argument_is at a = ap (λ x. is_some (argument_of x)) (arg_is_level at a) ∙ by (out-GenericArg a)
   where
-    by : (x : GenericArgLayer written_types)
-        → is_some (argument_of (of.generic_arg_step at.answers (type_reader at.answers) x at.place)) ≡ argument_stands x
+    by : (x : GenericArgLayer written)
+        → is_some (argument_of (of.generic_arg_step at.answers (reader at.answers) x at.place)) ≡ argument_stands x
     by (GenericArg-F.TypeArg x) = refl
     by (GenericArg-F.AssocTypeArg b) = ap is_some (assoc_is_none at b)
     by (GenericArg-F.LifetimeArg x) = lifetime_is at.place x.lifetime
+    by (GenericArg-F.ConstArg x) = refl
 
 binding_is : (params : Bool) (n : Option AstName) (a : OptionArgs) (dots : Bool) (t : OptionType) (bs : Bounds)
     → is_some (binding_of (of.binding_of params n a dots t bs)) ≡ (not params && is_some n)
@@ -92,7 +92,7 @@ put_bound f a as' xs b h e = by (f a) refl b h
     by (Some x) k false g = absurd (clash g)
 
 abbrev listed : Spot → List AstGenericArg → Args
-listed at as' = of.generic_args_of (of.read_generic_arg at.answers) as' at.place
+listed at as' = of.generic_args_of (read_generic_arg at.answers) as' at.place
 
 all_arguments : (at : Spot) (as' : List AstGenericArg)
     → map Some (arguments_in (arguments_of (listed at as'))) ≡ map (λ a. argument_of (answered_arg at a)) (arguments_among as')
@@ -108,12 +108,13 @@ one_binding : (at : Spot) (a : AstGenericArg) (bs : List AstAssocTypeArg) (xs : 
     → map Some (bindings_in (put_binding (binding_of (answered_arg at a)) xs)) ≡ map (bound at) (put_written (out-GenericArg a) bs)
 one_binding at a bs xs e = ap (λ x. map Some (bindings_in (put_binding (binding_of x) xs))) (arg_is_level at a) ∙ by (out-GenericArg a)
   where
-    by : (x : GenericArgLayer written_types)
-        → map Some (bindings_in (put_binding (binding_of (of.generic_arg_step at.answers (type_reader at.answers) x at.place)) xs))
+    by : (x : GenericArgLayer written)
+        → map Some (bindings_in (put_binding (binding_of (of.generic_arg_step at.answers (reader at.answers) x at.place)) xs))
         ≡ map (bound at) (put_written x bs)
     by (GenericArg-F.TypeArg x) = e
     by (GenericArg-F.AssocTypeArg b) = put_bound (bound at) b bs xs (binding_stands b) (assoc_is at b) e
     by (GenericArg-F.LifetimeArg x) = ap (λ y. map Some (bindings_in (put_binding y xs))) (lifetime_binds at.place x.lifetime) ∙ e
+    by (GenericArg-F.ConstArg x) = e
 
 all_bindings : (at : Spot) (as' : List AstGenericArg)
     → map Some (bindings_in (bindings_of (listed at as'))) ≡ map (bound at) (bindings_among as')

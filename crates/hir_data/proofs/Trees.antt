@@ -4,7 +4,7 @@ use Rattle.hir_syntax.specs.declared.ast.Path.{roll-Path, out-roll-Path}
 use Rattle.hir_syntax.specs.declared.ast.PathSegment.{PathSegment as AstPathSegment, roll-PathSegment, out-roll-PathSegment}
 use Rattle.hir_syntax.specs.declared.types.AssocTypeArg.{roll-AssocTypeArg, out-roll-AssocTypeArg}
 use Rattle.hir_syntax.specs.declared.types.GenericArg.{GenericArg as AstGenericArg, roll-GenericArg, out-roll-GenericArg}
-use Rattle.hir_syntax.specs.declared.types.GenericArg.TheOpen.{GenericArg-F}
+use Rattle.hir_syntax.specs.declared.ast.ElseBranch.TheOpen.{GenericArg-F}
 use Rattle.hir_syntax.specs.declared.types.GenericArgList.{roll-GenericArgList, out-roll-GenericArgList}
 use Rattle.hir_syntax.specs.declared.types.Param.{Param as AstParam, roll-Param, out-roll-Param}
 use Rattle.hir_syntax.specs.declared.types.ParenArgs.{roll-ParenArgs, out-roll-ParenArgs}
@@ -22,9 +22,9 @@ use Rattle.hir_env.specs.TypeLayers.{ParamReading, TypeKindLayer, PathLayer, Pat
 use Rattle.hir_env.specs.TypeLayers.{GenericArgListLayer, ParamLayer, ParenArgsLayer, PathTypeLayer, RetTypeLayer, TypeArgLayer}
 use Rattle.hir_env.specs.TypeLayers.{TypeBoundLayer}
 use Rattle.hir_env.specs.Paths as of
-use Rattle.hir_env.specs.Paths.{written_types, type_reader}
 use Rattle.hir_env.specs.Answered as tree
 use Rattle.hir_env.specs.Answered.{Type_, OptionType, Parts, Segment, SegmentArgs, Arg}
+use Rattle.hir_env.specs.Whole.{written, reader}
 use Rattle.hir_env.specs.Whole.{answered_type, answered_param, answered_ret, answered_path, answered_segment, answered_path_type}
 use Rattle.hir_env.specs.Whole.{answered_paren_args, answered_arg_list, answered_arg, answered_type_arg, answered_assoc_arg}
 use Rattle.hir_env.specs.Whole.{answered_bound, in_impl, in_binding}
@@ -39,65 +39,65 @@ use Rattle.hir_data.specs.Trees.{plain_param, dots_param, VarargsAtTheEnd}
 -- ---- one level of a tree that is made of its parts
 
 module _ (at : Spot) where
-  type_made : (n : ℕ) (k : TypeKindLayer written_types)
-      → answered_type at (type_at n k) ≡ of.type_at at.answers (type_reader at.answers) k at.place (pointer at n)
+  type_made : (n : ℕ) (k : TypeKindLayer written)
+      → answered_type at (type_at n k) ≡ of.type_at at.answers (reader at.answers) k at.place (pointer at n)
   type_made n k = type_is_level at (type_at n k)
-      ∙ ap (λ x. of.type_at at.answers (type_reader at.answers) x at.place (pointer at n)) (out-roll-TypeKind k)
+      ∙ ap (λ x. of.type_at at.answers (reader at.answers) x at.place (pointer at n)) (out-roll-TypeKind k)
 
-  path_made : (x : PathLayer written_types)
-      → answered_path at (roll-Path x) ≡ of.path_step at.answers (type_reader at.answers) x at.place
+  path_made : (x : PathLayer written)
+      → answered_path at (roll-Path x) ≡ of.path_step at.answers (reader at.answers) x at.place
   path_made x = path_is_level at (roll-Path x)
-      ∙ ap (λ l. of.path_step at.answers (type_reader at.answers) l at.place) (out-roll-Path x)
+      ∙ ap (λ l. of.path_step at.answers (reader at.answers) l at.place) (out-roll-Path x)
 
-  segment_made : (x : PathSegmentLayer written_types)
-      → answered_segment at (roll-PathSegment x) ≡ of.segment_step at.answers (type_reader at.answers) x at.place
+  segment_made : (x : PathSegmentLayer written)
+      → answered_segment at (roll-PathSegment x) ≡ of.segment_step at.answers (reader at.answers) x at.place
   segment_made x = segment_is_level at (roll-PathSegment x)
-      ∙ ap (λ l. of.segment_step at.answers (type_reader at.answers) l at.place) (out-roll-PathSegment x)
+      ∙ ap (λ l. of.segment_step at.answers (reader at.answers) l at.place) (out-roll-PathSegment x)
 
-  path_type_made : (x : PathTypeLayer written_types)
-      → answered_path_type at (roll-PathType x) ≡ of.path_type_step at.answers (type_reader at.answers) x at.place
+  path_type_made : (x : PathTypeLayer written)
+      → answered_path_type at (roll-PathType x) ≡ of.path_type_step at.answers (reader at.answers) x at.place
   path_type_made x = path_type_is_level at (roll-PathType x)
-      ∙ ap (λ l. of.path_type_step at.answers (type_reader at.answers) l at.place) (out-roll-PathType x)
+      ∙ ap (λ l. of.path_type_step at.answers (reader at.answers) l at.place) (out-roll-PathType x)
 
-  bound_made : (x : TypeBoundLayer written_types)
-      → answered_bound at (roll-TypeBound x) ≡ of.type_bound_step at.answers (type_reader at.answers) x at.place
+  bound_made : (x : TypeBoundLayer written)
+      → answered_bound at (roll-TypeBound x) ≡ of.type_bound_step at.answers (reader at.answers) x at.place
   bound_made x = bound_is_level at (roll-TypeBound x)
-      ∙ ap (λ l. of.type_bound_step at.answers (type_reader at.answers) l at.place) (out-roll-TypeBound x)
+      ∙ ap (λ l. of.type_bound_step at.answers (reader at.answers) l at.place) (out-roll-TypeBound x)
 
-  arg_list_made : (x : GenericArgListLayer written_types)
-      → answered_arg_list at (roll-GenericArgList x) ≡ of.generic_arg_list_step at.answers (type_reader at.answers) x at.place
+  arg_list_made : (x : GenericArgListLayer written)
+      → answered_arg_list at (roll-GenericArgList x) ≡ of.generic_arg_list_step at.answers (reader at.answers) x at.place
   arg_list_made x = arg_list_is_level at (roll-GenericArgList x)
-      ∙ ap (λ l. of.generic_arg_list_step at.answers (type_reader at.answers) l at.place) (out-roll-GenericArgList x)
+      ∙ ap (λ l. of.generic_arg_list_step at.answers (reader at.answers) l at.place) (out-roll-GenericArgList x)
 
-  arg_made : (x : GenericArgLayer written_types)
-      → answered_arg at (roll-GenericArg x) ≡ of.generic_arg_step at.answers (type_reader at.answers) x at.place
+  arg_made : (x : GenericArgLayer written)
+      → answered_arg at (roll-GenericArg x) ≡ of.generic_arg_step at.answers (reader at.answers) x at.place
   arg_made x = arg_is_level at (roll-GenericArg x)
-      ∙ ap (λ l. of.generic_arg_step at.answers (type_reader at.answers) l at.place) (out-roll-GenericArg x)
+      ∙ ap (λ l. of.generic_arg_step at.answers (reader at.answers) l at.place) (out-roll-GenericArg x)
 
-  type_arg_made : (x : TypeArgLayer written_types)
-      → answered_type_arg at (roll-TypeArg x) ≡ of.type_arg_step at.answers (type_reader at.answers) x at.place
+  type_arg_made : (x : TypeArgLayer written)
+      → answered_type_arg at (roll-TypeArg x) ≡ of.type_arg_step at.answers (reader at.answers) x at.place
   type_arg_made x = type_arg_is_level at (roll-TypeArg x)
-      ∙ ap (λ l. of.type_arg_step at.answers (type_reader at.answers) l at.place) (out-roll-TypeArg x)
+      ∙ ap (λ l. of.type_arg_step at.answers (reader at.answers) l at.place) (out-roll-TypeArg x)
 
-  assoc_arg_made : (x : AssocTypeArgLayer written_types)
-      → answered_assoc_arg at (roll-AssocTypeArg x) ≡ of.assoc_type_arg_step at.answers (type_reader at.answers) x at.place
+  assoc_arg_made : (x : AssocTypeArgLayer written)
+      → answered_assoc_arg at (roll-AssocTypeArg x) ≡ of.assoc_type_arg_step at.answers (reader at.answers) x at.place
   assoc_arg_made x = assoc_arg_is_level at (roll-AssocTypeArg x)
-      ∙ ap (λ l. of.assoc_type_arg_step at.answers (type_reader at.answers) l at.place) (out-roll-AssocTypeArg x)
+      ∙ ap (λ l. of.assoc_type_arg_step at.answers (reader at.answers) l at.place) (out-roll-AssocTypeArg x)
 
-  paren_args_made : (x : ParenArgsLayer written_types)
-      → answered_paren_args at (roll-ParenArgs x) ≡ of.paren_args_step at.answers (type_reader at.answers) x at.place
+  paren_args_made : (x : ParenArgsLayer written)
+      → answered_paren_args at (roll-ParenArgs x) ≡ of.paren_args_step at.answers (reader at.answers) x at.place
   paren_args_made x = paren_args_is_level at (roll-ParenArgs x)
-      ∙ ap (λ l. of.paren_args_step at.answers (type_reader at.answers) l at.place) (out-roll-ParenArgs x)
+      ∙ ap (λ l. of.paren_args_step at.answers (reader at.answers) l at.place) (out-roll-ParenArgs x)
 
-  ret_made : (x : RetTypeLayer written_types)
-      → answered_ret at (roll-RetType x) ≡ of.ret_type_step at.answers (type_reader at.answers) x at.place
+  ret_made : (x : RetTypeLayer written)
+      → answered_ret at (roll-RetType x) ≡ of.ret_type_step at.answers (reader at.answers) x at.place
   ret_made x = ret_is_level at (roll-RetType x)
-      ∙ ap (λ l. of.ret_type_step at.answers (type_reader at.answers) l at.place) (out-roll-RetType x)
+      ∙ ap (λ l. of.ret_type_step at.answers (reader at.answers) l at.place) (out-roll-RetType x)
 
-  param_made : (x : ParamLayer written_types)
-      → answered_param at (roll-Param x) ≡ of.param_step at.answers (type_reader at.answers) x at.place
+  param_made : (x : ParamLayer written)
+      → answered_param at (roll-Param x) ≡ of.param_step at.answers (reader at.answers) x at.place
   param_made x = param_is_level at (roll-Param x)
-      ∙ ap (λ l. of.param_step at.answers (type_reader at.answers) l at.place) (out-roll-Param x)
+      ∙ ap (λ l. of.param_step at.answers (reader at.answers) l at.place) (out-roll-Param x)
 
 -- ---- an `impl` inside of one
 

@@ -2,7 +2,7 @@
 use Rattle.std.proofs.Common.{refl}
 use Rattle.hir_data.specs.Worked.{SuperAfterSelf, KeywordsInside, CrateHidesSupers, DollarCrateIsARoot, SupersInside}
 use Rattle.hir_data.specs.Worked.{SelfAlone, UseTreesStandInFront, AbsentIsMissing}
-use Rattle.hir_data.specs.Worked.{TraitInPlace, TypeInFront, OutputIsBound, BinderOfFunctions}
+use Rattle.hir_data.specs.Worked.{TraitInPlace, TypeInFront, OutputIsBound, BinderOfFunctions, LengthsBySites}
 use Rattle.hir_data.specs.Worked.{BoundsOfKinds, FirstOfLists, BindingsOfLists}
 
 pub counts_super_after_self : SuperAfterSelf
@@ -49,3 +49,6 @@ takes_the_first_list t b = (refl, refl, refl, refl)
 
 pub reads_bindings : BindingsOfLists
 reads_bindings t u n l = (refl, refl, refl)
+
+pub names_lengths_by_sites : LengthsBySites
+names_lengths_by_sites at here around t p h by fs s = (refl, refl, refl, refl, refl)

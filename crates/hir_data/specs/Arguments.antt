@@ -1,22 +1,22 @@
 -- The written arguments and bindings that those of a stored list came from: the ways back from them.
 use Rattle.std.specs.Prelude.{◌≡◌, if◌then◌else◌, Bool, true, false, ◌&&◌, not, List, [], ◌∷◌, map, Some, is_some}
 use Rattle.hir_syntax.specs.declared.types.GenericArg.{GenericArg as AstGenericArg, out-GenericArg}
-use Rattle.hir_syntax.specs.declared.types.GenericArg.TheOpen.{GenericArg-F}
+use Rattle.hir_syntax.specs.declared.ast.ElseBranch.TheOpen.{GenericArg-F}
 use Rattle.hir_syntax.specs.declared.types.AssocTypeArg.{AssocTypeArg as AstAssocTypeArg, out-AssocTypeArg}
 use Rattle.hir_syntax.specs.declared.types.GenericArgList.{GenericArgList as AstGenericArgList, out-GenericArgList}
 use Rattle.hir_env.specs.Spot.{Spot}
 use Rattle.hir_env.specs.TypeLayers.{GenericArgLayer}
-use Rattle.hir_env.specs.Paths.{written_types}
-use Rattle.hir_env.specs.Whole.{answered_arg, answered_assoc_arg, answered_arg_list}
+use Rattle.hir_env.specs.Whole.{written, answered_arg, answered_assoc_arg, answered_arg_list}
 use Rattle.hir_data.specs.Data.{ArgumentData, ArgumentsData, no_arguments, more_arguments, BindingData, BindingsData, no_bindings}
 use Rattle.hir_data.specs.Data.{more_bindings}
 use Rattle.hir_data.specs.Written.{arguments_of, argument_of, bindings_of, binding_of}
 
 -- each but a binding and a lifetime that is absent
-abbrev pub argument_stands : GenericArgLayer written_types → Bool
+abbrev pub argument_stands : GenericArgLayer written → Bool
 argument_stands (GenericArg-F.TypeArg x) = true
 argument_stands (GenericArg-F.AssocTypeArg x) = false
 argument_stands (GenericArg-F.LifetimeArg x) = is_some x.lifetime
+argument_stands (GenericArg-F.ConstArg x) = true
 
 abbrev pub arguments_among : List AstGenericArg → List AstGenericArg
 arguments_among [] = []
@@ -29,7 +29,7 @@ kept_args l = arguments_among (out-GenericArgList l).args
 abbrev pub binding_stands : AstAssocTypeArg → Bool
 binding_stands b = let level = out-AssocTypeArg b in not level.params && is_some level.name
 
-abbrev pub put_written : GenericArgLayer written_types → List AstAssocTypeArg → List AstAssocTypeArg
+abbrev pub put_written : GenericArgLayer written → List AstAssocTypeArg → List AstAssocTypeArg
 put_written (GenericArg-F.AssocTypeArg b) bs = if binding_stands b then b ∷ bs else bs
 put_written a bs = bs
 

@@ -1,5 +1,6 @@
 -- What lifetimes, types, paths, arguments and bounds are, without the numbers of a store: as they are written and as they
--- are stored. Each type and each lifetime has the node that it came from, where it came from one.
+-- are stored. Each type and each lifetime has the node that it came from, where it came from one. A constant is named by the
+-- node that it came from.
 use Rattle.std.specs.Prelude.{Bool, List, [], ◌∷◌, Option}
 use Rattle.hir_store.specs.Pointers.{Pointer}
 use Rattle.hir_store.specs.declared.name.Name.{Name}
@@ -8,6 +9,7 @@ use Rattle.hir_store.specs.declared.path.PathKind.{PathKind}
 use Rattle.hir_store.specs.declared.path.GenericArgsParentheses.{GenericArgsParentheses}
 use Rattle.hir_store.specs.declared.type_ref.LifetimeRef.{LifetimeRef}
 use Rattle.hir_store.specs.declared.type_ref.TraitBoundModifier.{TraitBoundModifier}
+use Rattle.hir_env.specs.NodeMap.{Site}
 use Rattle.hir_env.specs.Answered.{Binder, FnHead}
 
 pub record LifetimeData : Type 0 where
@@ -31,6 +33,8 @@ mutual
     path_shape : PathData → Shape
     pointer_shape : Mutability → TypeData → Shape
     slice_shape : TypeData → Shape
+    -- of such elements, and this long
+    array_shape : TypeData → Option Site → Shape
     reference_shape : TypeData → Option LifetimeData → Mutability → Shape
     -- its binder, its parameters, and behind them what it returns
     fn_shape : FnHead → Option Binder → TypesData → Shape
@@ -69,6 +73,7 @@ mutual
   pub data ArgumentData : Type 0 where
     type_argument : TypeData → ArgumentData
     lifetime_argument : LifetimeData → ArgumentData
+    constant_argument : Option Site → ArgumentData
 
   pub data BindingsData : Type 0 where
     no_bindings : BindingsData

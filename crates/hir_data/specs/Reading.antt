@@ -24,7 +24,10 @@ use Rattle.hir_store.specs.declared.type_ref.TypeBound.TheVariants as bound
 use Rattle.hir_store.specs.declared.type_ref.TypeRef.{TypeRef}
 use Rattle.hir_store.specs.declared.type_ref.TypeRef.TheVariants as ty
 use Rattle.hir_store.specs.declared.type_ref.FnType.{FnType}
+use Rattle.hir_store.specs.declared.type_ref.ConstRef.{ConstRef}
 use Rattle.hir_env.specs.Answered.{FnHead}
+use Rattle.hir_env.specs.NodeMap.{Site}
+use Rattle.hir_env.specs.Spot.{site_of}
 use Rattle.hir_data.specs.Data as datum
 use Rattle.hir_data.specs.Data.{LifetimeData, UseData, TypeData, typed, Shape, OptionTypeData, TypesData, PathData, NamesData}
 use Rattle.hir_data.specs.Data.{OptionArgsData, no_args, some_args, ArgsData, args_data, ArgumentData, ArgumentsData}
@@ -63,6 +66,10 @@ module _ (store : Store) (source_map : SourceMap) where
     from = flattened (slice_get source_map.lifetime_sources i.0);
   }
 
+  -- the node that a constant came from, where it came from one
+  abbrev pub stored_constant : ConstRef → Option Site
+  stored_constant c = option_map site_of (flattened (slice_get source_map.expr_sources c.expr.0))
+
   abbrev pub use_layer : UseArgRef → UseData
   use_layer (use_arg.Name n) = datum.name_used n
   use_layer (use_arg.Lifetime l) = datum.lifetime_used (stored_lifetime l)
@@ -93,6 +100,7 @@ module _ (store : Store) (source_map : SourceMap) where
     abbrev pub argument_layer : GenericArg → ArgumentData
     argument_layer (arg.Type_ t) = datum.type_argument (r.type t)
     argument_layer (arg.Lifetime l) = datum.lifetime_argument (stored_lifetime l)
+    argument_layer (arg.Const c) = datum.constant_argument (stored_constant c)
 
     abbrev pub arguments_layer : List GenericArg → ArgumentsData → ArgumentsData
     arguments_layer [] behind = behind
@@ -148,6 +156,7 @@ module _ (store : Store) (source_map : SourceMap) where
     shape_layer (ty.RawPtr t m) = datum.pointer_shape m (r.type t)
     shape_layer (ty.Reference x) = datum.reference_shape (r.type x.ty) (option_map stored_lifetime x.lifetime) x.mutability
     shape_layer (ty.Slice t) = datum.slice_shape (r.type t)
+    shape_layer (ty.Array x) = datum.array_shape (r.type x.ty) (stored_constant x.len)
     shape_layer (ty.Fn f) = fn_layer f
     shape_layer (ty.ImplTrait bs) = datum.impl_shape (bounds_layer bs)
     shape_layer (ty.DynTrait bs) = datum.dyn_shape (bounds_layer bs)

@@ -9,7 +9,7 @@ use Rattle.hir_syntax.specs.declared.ast.PathSegment.{PathSegment as AstPathSegm
 use Rattle.hir_syntax.specs.declared.types.AssocTypeArg.{roll-AssocTypeArg}
 use Rattle.hir_syntax.specs.declared.types.BoundKind.TheVariants as bound
 use Rattle.hir_syntax.specs.declared.types.GenericArg.{GenericArg as AstGenericArg, roll-GenericArg}
-use Rattle.hir_syntax.specs.declared.types.GenericArg.TheOpen.{GenericArg-F, TypeKind-F}
+use Rattle.hir_syntax.specs.declared.ast.ElseBranch.TheOpen.{GenericArg-F, TypeKind-F}
 use Rattle.hir_syntax.specs.declared.types.GenericArgList.{GenericArgList as AstGenericArgList, roll-GenericArgList}
 use Rattle.hir_syntax.specs.declared.types.Param.{Param as AstParam, roll-Param}
 use Rattle.hir_syntax.specs.declared.types.ParenArgs.{ParenArgs as AstParenArgs, roll-ParenArgs}
@@ -31,9 +31,8 @@ use Rattle.hir_store.specs.declared.type_ref.LifetimeRef.TheVariants as lifetime
 use Rattle.hir_store.specs.declared.type_ref.TraitBoundModifier.TheVariants as modifier
 use Rattle.hir_env.specs.declared.place.ImplTrait.TheVariants as impl
 use Rattle.hir_env.specs.Spot.{Spot}
-use Rattle.hir_env.specs.Paths.{written_types}
 use Rattle.hir_env.specs.TypeLayers.{TypeKindLayer}
-use Rattle.hir_env.specs.Whole.{answered_type, pointer_at}
+use Rattle.hir_env.specs.Whole.{written, answered_type, pointer_at}
 use Rattle.hir_data.specs.Data as datum
 use Rattle.hir_data.specs.Data.{TypeData, OptionArgsData}
 use Rattle.hir_data.specs.Written.{type_data, unit_data}
@@ -50,7 +49,7 @@ no_range = record { start = 0; end = 0 }
 abbrev pub called : List ℕ → AstName
 called t = record { id = node 9; range = no_range; t = t }
 
-abbrev pub type_at : ℕ → TypeKindLayer written_types → AstType_
+abbrev pub type_at : ℕ → TypeKindLayer written → AstType_
 type_at n k = record { id = node n; range = no_range; kind = roll-TypeKind k }
 
 -- a name, with what stands behind it

@@ -1,5 +1,5 @@
 -- Worked paths.
-use Rattle.std.specs.Prelude.{◌≡◌, ℕ, codes, false, true, List, [], ◌∷◌, Some, None}
+use Rattle.std.specs.Prelude.{◌≡◌, ℕ, codes, false, true, Option, List, [], ◌∷◌, Some, None}
 use Rattle.hir_store.specs.Pointers.{Pointer}
 use Rattle.hir_store.specs.declared.ids.CrateId.{CrateId}
 use Rattle.hir_store.specs.declared.name.Name.{Name}
@@ -10,6 +10,11 @@ use Rattle.hir_store.specs.declared.path.GenericArgsParentheses.TheVariants as p
 use Rattle.hir_store.specs.declared.type_ref.TraitBoundModifier.TheVariants as modifier
 use Rattle.hir_env.specs.Answered as tree
 use Rattle.hir_env.specs.Answered.{Binder, FnHead, Lifetime, Type_, OptionArgs, OptionParens, OptionPath, OptionRet, Segments, Segment}
+use Rattle.hir_env.specs.Answered.{OptionExpr, Fields, Spread}
+use Rattle.hir_env.specs.NodeMap.{Site}
+use Rattle.hir_env.specs.Spot.{site_of}
+use Rattle.hir_store.specs.declared.ids.CfgId.{CfgId}
+use Rattle.hir_store.specs.declared.ids.HygieneId.{HygieneId}
 use Rattle.hir_data.specs.Data as datum
 use Rattle.hir_data.specs.Data.{TypeData, NamesData, OptionArgsData, path_data}
 use Rattle.hir_data.specs.Written.{binding_of, bound_data, lifetime_data, list_data, segment_args_data, type_data, unit_data}
@@ -213,3 +218,24 @@ BindingsOfLists = (t u : Type_) (n : Name) (l : Lifetime)
     ≡ Some (datum.binding_data n (data_of_list t) datum.no_type
     (datum.more_bounds (datum.lifetime_bound (lifetime_data l)) datum.no_bounds)))
     × (list_data (tree.some_arg_list (tree.more_args tree.skipped_arg tree.no_args)) ≡ datum.no_args)
+
+-- ---- constants
+
+-- an array of this length
+abbrev pub array_of : Pointer → OptionExpr → Type_ → Type_
+array_of at e t = tree.array_type at (tree.constant e) (tree.some_type t)
+
+abbrev pub is_long : Pointer → Type_ → Type_ → Option Site → Type 0
+is_long at array t length = type_data None array ≡ datum.typed (Some at) (datum.array_shape (type_data None t) length)
+
+-- `[T; a]`, `[T; (a)]`, `[T; ]`, the first with a disabled length, and `[T; crate::crate { .. }]`
+abbrev pub LengthsBySites : Type 0
+LengthsBySites = (at here around : Pointer) (t : Type_) (p : OptionPath) (h : HygieneId) (by : CfgId)
+    (fs : Fields) (s : Spread)
+    → is_long at (array_of at (tree.some_expr (tree.path_expr here p h)) t) t (Some (site_of here))
+    × is_long at (array_of at (tree.some_expr (tree.paren_expr around (tree.some_expr (tree.path_expr here p h)))) t) t
+    (Some (site_of here))
+    × is_long at (array_of at tree.no_expr t) t None
+    × is_long at (array_of at (tree.some_expr (tree.disabled_expr around by (tree.path_expr here p h))) t) t None
+    × is_long at (array_of at
+    (tree.some_expr (tree.record_expr here (whole tree.crate_segment (tree.crate_segment ∷ [])) fs s)) t) t None

@@ -13,6 +13,9 @@ use Rattle.hir_env.specs.declared.place.ImplTrait.TheVariants.{Error, Opaque}
 use Rattle.hir_env.specs.Answered as tree
 use Rattle.hir_env.specs.Answered.{Lifetime, Binder, UseRead, TypeLeaf, TypeUnary, Type_, OptionType, Parts, Path, OptionPath}
 use Rattle.hir_env.specs.Answered.{Segments, Segment, SegmentArgs, OptionParens, OptionRet, OptionArgs, Args, Arg, Bounds, Bound}
+use Rattle.hir_env.specs.Answered.{Constant, Expr, OptionExpr, Block}
+use Rattle.hir_env.specs.NodeMap.{Site}
+use Rattle.hir_env.specs.Spot.{site_of}
 use Rattle.hir_data.specs.Data as datum
 use Rattle.hir_data.specs.Data.{LifetimeData, UseData, TypeData, typed, Shape, OptionTypeData, TypesData, PathData}
 use Rattle.hir_data.specs.Data.{OptionArgsData, no_args, some_args, args_data, ArgumentData, ArgumentsData}
@@ -73,6 +76,14 @@ abbrev pub bound_of_path : Pointer → Binder → Bool → Option PathRead → B
 bound_of_path at binder maybe None = datum.error_bound
 bound_of_path at binder maybe (Some p) = bound_behind binder (modifier_of maybe) (typed (Some at) (datum.path_shape (data_of p)))
 
+-- what a record becomes whose path is absent or refused comes from no node
+abbrev pub record_site : Pointer → Option PathRead → Option Site
+record_site at None = None
+record_site at (Some p) = Some (site_of at)
+
+abbrev pub block_site : Block → Option Site
+block_site (tree.block at is_unsafe label number ss e) = Some (site_of at)
+
 -- ---- lists of arguments
 
 abbrev pub put_argument : Option ArgumentData → ArgumentsData → ArgumentsData
@@ -117,6 +128,7 @@ abbrev mutual
   type_data b (tree.for_type binder t) = part_data (Some binder) t
   type_data b (tree.leaf_type at l) = typed (Some at) (leaf_shape l)
   type_data b (tree.over_type at u t) = typed (Some at) (unary_shape u (part_data None t))
+  type_data b (tree.array_type at c t) = typed (Some at) (datum.array_shape (part_data None t) (constant_site c))
   type_data b (tree.tuple_type at ps) = typed (Some at) (datum.tuple_shape (parts_data ps datum.no_types))
   type_data b (tree.path_type at p) = typed (Some at) (shape_of_path (path_of p))
   type_data b (tree.ref_type at l m t) = typed (Some at) (datum.reference_shape (part_data None t) (option_map lifetime_data l) m)
@@ -168,6 +180,7 @@ abbrev mutual
   pub argument_of : Arg → Option ArgumentData
   argument_of (tree.type_arg t) = Some (datum.type_argument (part_data None t))
   argument_of (tree.lifetime_arg l) = Some (datum.lifetime_argument (lifetime_data l))
+  argument_of (tree.const_arg c) = Some (datum.constant_argument (constant_site c))
   argument_of tree.skipped_arg = None
   argument_of (tree.assoc_arg n a dots t bs) = None
 
@@ -181,6 +194,7 @@ abbrev mutual
       Some (datum.binding_data n (first_list (list_data a) (notation dots)) (present_data t) (bounds_data bs))
   binding_of (tree.type_arg t) = None
   binding_of (tree.lifetime_arg l) = None
+  binding_of (tree.const_arg c) = None
   binding_of tree.skipped_arg = None
 
   pub parens_data : OptionParens → OptionArgsData
@@ -233,6 +247,43 @@ abbrev mutual
   pub path_of : OptionPath → Option PathRead
   path_of tree.no_path = None
   path_of (tree.some_path p) = path_read (read (segments p []))
+
+  -- ---- constants, by the node that the expression comes from which they become
+
+  pub constant_site : Constant → Option Site
+  constant_site (tree.constant e) = part_site e
+
+  -- an expression that is absent or disabled comes from none
+  pub part_site : OptionExpr → Option Site
+  part_site tree.no_expr = None
+  part_site (tree.some_expr e) = expr_site e
+
+  -- parentheses become what is in them
+  pub expr_site : Expr → Option Site
+  expr_site (tree.disabled_expr at by e) = None
+  expr_site (tree.paren_expr at e) = part_site e
+  expr_site (tree.block_expr b) = block_site b
+  expr_site (tree.record_expr at p fs s) = record_site at (path_of p)
+  expr_site (tree.if_expr at c t e) = Some (site_of at)
+  expr_site (tree.loop_expr at label b) = Some (site_of at)
+  expr_site (tree.call_expr at f es) = Some (site_of at)
+  expr_site (tree.path_expr at p h) = Some (site_of at)
+  expr_site (tree.continue_expr at jump) = Some (site_of at)
+  expr_site (tree.break_expr at jump e) = Some (site_of at)
+  expr_site (tree.literal_expr at l) = Some (site_of at)
+  expr_site (tree.leaf_expr at form) = Some (site_of at)
+  expr_site (tree.unary_expr at form e) = Some (site_of at)
+  expr_site (tree.binary_expr at form a b) = Some (site_of at)
+  expr_site (tree.lazy_expr at op a b) = Some (site_of at)
+  expr_site (tree.list_expr at form es) = Some (site_of at)
+  expr_site (tree.method_call_expr at e name es as') = Some (site_of at)
+  expr_site (tree.leaving_expr at form e) = Some (site_of at)
+  expr_site (tree.become_expr at e) = Some (site_of at)
+  expr_site (tree.yield_expr at e) = Some (site_of at)
+  expr_site (tree.await_expr at location e) = Some (site_of at)
+  expr_site (tree.cast_expr at e t) = Some (site_of at)
+  expr_site (tree.offset_of_expr at t names) = Some (site_of at)
+  expr_site (tree.nameless_expr at e) = Some (site_of at)
 
 -- ---- by their names for those above
 

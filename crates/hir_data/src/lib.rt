@@ -6,7 +6,7 @@ ghost use Rattle.hir_data.specs.Arguments.{ArgumentLaw};
 ghost use Rattle.hir_data.specs.Segments.{SegmentLaw};
 ghost use Rattle.hir_data.specs.Worked.{SuperAfterSelf, KeywordsInside, CrateHidesSupers, DollarCrateIsARoot, SupersInside};
 ghost use Rattle.hir_data.specs.Worked.{SelfAlone, UseTreesStandInFront, AbsentIsMissing};
-ghost use Rattle.hir_data.specs.Worked.{TraitInPlace, TypeInFront, OutputIsBound, BinderOfFunctions};
+ghost use Rattle.hir_data.specs.Worked.{TraitInPlace, TypeInFront, OutputIsBound, BinderOfFunctions, LengthsBySites};
 ghost use Rattle.hir_data.specs.Worked.{BoundsOfKinds, FirstOfLists, BindingsOfLists};
 ghost use Rattle.hir_data.specs.Trees.{ImplsInside, LifetimesOfTexts, AbisOfTexts, VarargsAtTheEnd};
 
@@ -95,6 +95,12 @@ pub fn takes_the_first_list()
 /// A list has its bindings apart from its arguments; in `N<T>(..)` the dots don't count; a list of nothing is none.
 pub fn reads_bindings()
     ensures { BindingsOfLists }
+{}
+
+/// The length of an array is named by the node of its expression, through parentheses; one that becomes a missing
+/// expression without node by none.
+pub fn names_lengths_by_sites()
+    ensures { LengthsBySites }
 {}
 
 /// As they are written, `impl A<impl B>` and `impl Fn(!) -> impl B` have an error inside, and `impl A<T = impl B>` has an `impl`.

@@ -6,39 +6,34 @@ use Rattle.hir_syntax.specs.declared.ast.ElseBranch.{ElseBranch as AstElseBranch
 use Rattle.hir_syntax.specs.declared.ast.ExprKind.{ExprKind as AstExprKind, out-ExprKind}
 use Rattle.hir_syntax.specs.declared.ast.StmtKind.{StmtKind as AstStmtKind, out-StmtKind}
 use Rattle.hir_syntax.specs.declared.ast.BlockExpr.{BlockExpr as AstBlockExpr, out-BlockExpr}
+use Rattle.hir_syntax.specs.declared.ast.ConstArg.{ConstArg as AstConstArg, out-ConstArg}
 use Rattle.hir_syntax.specs.declared.ast.Expr.{Expr as AstExpr}
 use Rattle.hir_syntax.specs.declared.ast.RecordExprField.{RecordExprField as AstRecordExprField, out-RecordExprField}
 use Rattle.hir_syntax.specs.declared.ast.RecordExprFieldList.{RecordExprFieldList as AstRecordExprFieldList, out-RecordExprFieldList}
 use Rattle.hir_syntax.specs.declared.ast.Stmt.{Stmt as AstStmt}
-use Rattle.hir_syntax.specs.declared.ast.ElseBranch.TheFolds as folds
 use Rattle.hir_syntax.specs.declared.ast.ElseBranch.TheOpen.{ElseBranch-F, ExprKind-F, StmtKind-F}
-use Rattle.hir_syntax.specs.formers.seq.Seq as seq
-use mathlib.Core.Former.{this}
 use Rattle.hir_store.specs.Pointers.{Pointer}
 use Rattle.hir_env.specs.declared.place.Place.{Place}
 use Rattle.hir_env.specs.Answers.{Answers}
 use Rattle.hir_env.specs.Spot.{Spot}
-use Rattle.hir_env.specs.Layers.{BlockReading, StmtReading, Reader, ElseBranchLayer, ExprKindLayer, StmtKindLayer, BlockExprLayer}
-use Rattle.hir_env.specs.Layers.{RecordExprFieldLayer, RecordExprFieldListLayer, RecordReading, readings, itself}
+use Rattle.hir_env.specs.Layers.{BlockReading, StmtReading, RecordReading, Reader, ElseBranchLayer, ExprKindLayer, StmtKindLayer}
+use Rattle.hir_env.specs.Layers.{BlockExprLayer, ConstArgLayer, RecordExprFieldLayer, RecordExprFieldListLayer, itself}
 use Rattle.hir_env.specs.Answering as of
-use Rattle.hir_env.specs.Paths.{path_or_none, type_or_none, arg_list_or_none, read_path, read_type, read_generic_arg_list}
+use Rattle.hir_env.specs.Paths.{inside_constant}
+use Rattle.hir_env.specs.Folds.{written, reader, read_else_branch, read_expr_kind, read_stmt_kind, read_block, read_constant}
+use Rattle.hir_env.specs.Folds.{read_expr, read_field, read_record, read_stmt}
 use Rattle.hir_env.specs.Answered as tree
-use Rattle.hir_env.specs.Answered.{Label, Expr, OptionExpr, Exprs, Fields, Field, Spread, Block, OptionBlock, Stmts, Stmt}
-use Rattle.hir_env.specs.Whole.{written, reader, read_else_branch, read_expr_kind, read_stmt_kind, read_block, read_expr}
-use Rattle.hir_env.specs.Whole.{read_stmt, answered, answered_plain, answered_block, answered_else, block_head, stmts_part}
-use Rattle.hir_env.specs.Whole.{in_block, block_number, pointer_at, asked_expr, block_level, stmt_level, else_level}
-use Rattle.hir_env.specs.Whole.{read_field, read_record, answered_field, answered_record, field_level, record_level}
+use Rattle.hir_env.specs.Answered.{Label, Expr, OptionExpr, Field}
+use Rattle.hir_env.specs.Whole.{answered, answered_plain, answered_block, answered_else, answered_constant, answered_field}
+use Rattle.hir_env.specs.Whole.{answered_record, block_head, stmts_part, in_block, block_number, pointer_at, asked_expr}
+use Rattle.hir_env.specs.Whole.{block_level, stmt_level, else_level, constant_level, field_level, record_level}
+use Rattle.hir_env.proofs.Mapped.{optional, listed, mapped_else, mapped_kind, mapped_stmt_kind, mapped_block, mapped_constant}
+use Rattle.hir_env.proofs.Mapped.{mapped_field, mapped_record}
+use Rattle.hir_env.proofs.Opened.{opened_else_branch, opened_expr_kind, opened_stmt_kind, opened_block, opened_constant}
+use Rattle.hir_env.proofs.Opened.{opened_expr, opened_field, opened_record, opened_stmt}
+use Rattle.hir_env.proofs.PathLevels.{type_is, path_is, arg_list_is}
 
--- how a fold passes an option and a list on
-abbrev optional : {A B : Type 0} → (A → B) → Option A → Option B
-optional {A} {B} h x = (folds.map-BlockExpr
-    (Unit {0}) (Unit {0}) (Unit {0}) (Unit {0}) A (Unit {0}) (Unit {0}) (Unit {0}) (Unit {0}) (Unit {0}) (Unit {0}) (Unit {0}) B
-    (Unit {0}) (Unit {0}) (Unit {0})
-    (λ x. x) (λ x. x) (λ x. x) (λ x. x) h (λ x. x) (λ x. x) (λ x. x)
-    (record { id = record { 0 = 0 }; range = record { start = 0; end = 0 }; mod_ = None; label = None; stmts = []; tail = x })).tail
-
-abbrev listed : {A B : Type 0} → (A → B) → List A → List B
-listed {A} {B} h xs = (seq.the_former (this {0})).map A B h xs
+-- parts that may be absent, and lists
 
 expr_is : {A : Type 0} (h : A → Place → Expr) (x : Option A) (p : Place) → of.expr_or_none (λ y. y) (optional h x) p ≡ of.expr_or_none h x p
 expr_is h None p = refl
@@ -77,66 +72,25 @@ module _ (env : Answers) where
   abbrev rd : Reader written
   rd = reader env
 
-  abbrev mapped_kind : ExprKindLayer written → ExprKindLayer readings
-  mapped_kind = folds.map-ExprKind written.ElseBranch written.ExprKind written.StmtKind written.BlockExpr written.Expr
-      written.RecordExprField written.RecordExprFieldList written.Stmt
-      readings.ElseBranch readings.ExprKind readings.StmtKind readings.BlockExpr readings.Expr readings.RecordExprField
-      readings.RecordExprFieldList readings.Stmt
-      rd.else_branch rd.expr_kind rd.stmt_kind rd.block_expr rd.expr rd.field rd.field_list rd.stmt
-
-  abbrev mapped_block : BlockExprLayer written → BlockExprLayer readings
-  mapped_block = folds.map-BlockExpr written.ElseBranch written.ExprKind written.StmtKind written.BlockExpr written.Expr
-      written.RecordExprField written.RecordExprFieldList written.Stmt
-      readings.ElseBranch readings.ExprKind readings.StmtKind readings.BlockExpr readings.Expr readings.RecordExprField
-      readings.RecordExprFieldList readings.Stmt
-      rd.else_branch rd.expr_kind rd.stmt_kind rd.block_expr rd.expr rd.field rd.field_list rd.stmt
-
-  abbrev mapped_stmt_kind : StmtKindLayer written → StmtKindLayer readings
-  mapped_stmt_kind = folds.map-StmtKind written.ElseBranch written.ExprKind written.StmtKind written.BlockExpr written.Expr
-      written.RecordExprField written.RecordExprFieldList written.Stmt
-      readings.ElseBranch readings.ExprKind readings.StmtKind readings.BlockExpr readings.Expr readings.RecordExprField
-      readings.RecordExprFieldList readings.Stmt
-      rd.else_branch rd.expr_kind rd.stmt_kind rd.block_expr rd.expr rd.field rd.field_list rd.stmt
-
-  abbrev mapped_else : ElseBranchLayer written → ElseBranchLayer readings
-  mapped_else = folds.map-ElseBranch written.ElseBranch written.ExprKind written.StmtKind written.BlockExpr written.Expr
-      written.RecordExprField written.RecordExprFieldList written.Stmt
-      readings.ElseBranch readings.ExprKind readings.StmtKind readings.BlockExpr readings.Expr readings.RecordExprField
-      readings.RecordExprFieldList readings.Stmt
-      rd.else_branch rd.expr_kind rd.stmt_kind rd.block_expr rd.expr rd.field rd.field_list rd.stmt
-
-  abbrev mapped_field : RecordExprFieldLayer written → RecordExprFieldLayer readings
-  mapped_field = folds.map-RecordExprField written.ElseBranch written.ExprKind written.StmtKind written.BlockExpr written.Expr
-      written.RecordExprField written.RecordExprFieldList written.Stmt
-      readings.ElseBranch readings.ExprKind readings.StmtKind readings.BlockExpr readings.Expr readings.RecordExprField
-      readings.RecordExprFieldList readings.Stmt
-      rd.else_branch rd.expr_kind rd.stmt_kind rd.block_expr rd.expr rd.field rd.field_list rd.stmt
-
-  abbrev mapped_record : RecordExprFieldListLayer written → RecordExprFieldListLayer readings
-  mapped_record = folds.map-RecordExprFieldList written.ElseBranch written.ExprKind written.StmtKind written.BlockExpr
-      written.Expr written.RecordExprField written.RecordExprFieldList written.Stmt
-      readings.ElseBranch readings.ExprKind readings.StmtKind readings.BlockExpr readings.Expr readings.RecordExprField
-      readings.RecordExprFieldList readings.Stmt
-      rd.else_branch rd.expr_kind rd.stmt_kind rd.block_expr rd.expr rd.field rd.field_list rd.stmt
-
-  expr_at_is : (k : ExprKindLayer written) (p : Place) (s : Pointer) → of.expr_at env itself (mapped_kind k) p s ≡ of.expr_at env rd k p s
+  expr_at_is : (k : ExprKindLayer written) (p : Place) (s : Pointer)
+      → of.expr_at env itself (mapped_kind env k) p s ≡ of.expr_at env rd k p s
   expr_at_is (ExprKind-F.IfExpr c t e) p s = λ j.
       tree.if_expr s (expr_is rd.expr c p j) (plain_is rd.block_expr t p j) (expr_is rd.else_branch e p j)
   expr_at_is (ExprKind-F.BlockExpr b) p s = refl
   expr_at_is (ExprKind-F.LoopExpr l b) p s = λ j. tree.loop_expr s (option_map (of.label_of env p) l) (plain_is rd.block_expr b p j)
   expr_at_is (ExprKind-F.CallExpr f None) p s = λ j. tree.call_expr s (expr_is rd.expr f p j) tree.no_exprs
   expr_at_is (ExprKind-F.CallExpr f (Some es)) p s = λ j. tree.call_expr s (expr_is rd.expr f p j) (exprs_is rd.expr es p j)
-  expr_at_is (ExprKind-F.PathExpr x) p s = refl
+  expr_at_is (ExprKind-F.PathExpr x) p s = λ j. tree.path_expr s (path_is rd.path x p j) (env.hygiene (of.site_of s))
   expr_at_is (ExprKind-F.ContinueExpr l) p s = refl
   expr_at_is (ExprKind-F.BreakExpr l e) p s = λ j. tree.break_expr s (option_map (of.jump_of env p) l) (expr_is rd.expr e p j)
   expr_at_is (ExprKind-F.ParenExpr e) p s = λ j. tree.paren_expr s (expr_is rd.expr e p j)
   expr_at_is (ExprKind-F.Literal l) p s = refl
   expr_at_is (ExprKind-F.MethodCallExpr e n as' None) p s = λ j.
       tree.method_call_expr s (expr_is rd.expr e p j) (of.name_or_missing n) tree.no_exprs
-      (arg_list_or_none (read_generic_arg_list env) as' p)
+      (arg_list_is rd.generic_arg_list as' p j)
   expr_at_is (ExprKind-F.MethodCallExpr e n as' (Some es)) p s = λ j.
       tree.method_call_expr s (expr_is rd.expr e p j) (of.name_or_missing n) (exprs_is rd.expr es p j)
-      (arg_list_or_none (read_generic_arg_list env) as' p)
+      (arg_list_is rd.generic_arg_list as' p j)
   expr_at_is (ExprKind-F.FieldExpr e n) p s = λ j. tree.unary_expr s (tree.field_of (of.name_or_missing n)) (expr_is rd.expr e p j)
   expr_at_is (ExprKind-F.PrefixExpr o e) p s = λ j. of.prefix_expr s o (expr_is rd.expr e p j)
   expr_at_is (ExprKind-F.BinExpr o a b) p s = λ j. of.bin_expr s o (expr_is rd.expr a p j) (expr_is rd.expr b p j)
@@ -150,10 +104,10 @@ module _ (env : Answers) where
   expr_at_is (ExprKind-F.YieldExpr e) p s = λ j. tree.yield_expr s (expr_is rd.expr e p j)
   expr_at_is (ExprKind-F.YeetExpr e) p s = λ j. tree.leaving_expr s tree.yeeting (expr_is rd.expr e p j)
   expr_at_is (ExprKind-F.AwaitExpr e) p s = λ j. tree.await_expr s p.await_location (expr_is rd.expr e p j)
-  expr_at_is (ExprKind-F.CastExpr e t) p s = λ j. tree.cast_expr s (expr_is rd.expr e p j) (type_or_none (read_type env) t p)
+  expr_at_is (ExprKind-F.CastExpr e t) p s = λ j. tree.cast_expr s (expr_is rd.expr e p j) (type_is rd.type_ t p j)
   expr_at_is (ExprKind-F.RecordExpr x l) p s = λ j. let r = record_is rd.field_list l p j in
-      tree.record_expr s (path_or_none (read_path env) x p) r.fields r.spread
-  expr_at_is (ExprKind-F.OffsetOfExpr t ns) p s = refl
+      tree.record_expr s (path_is rd.path x p j) r.fields r.spread
+  expr_at_is (ExprKind-F.OffsetOfExpr t ns) p s = λ j. tree.offset_of_expr s (type_is rd.type_ t p j) (of.names_of ns)
   expr_at_is (ExprKind-F.CfgPredExpr pred) p s = refl
   expr_at_is ExprKind-F.UnderscoreExpr p s = refl
   expr_at_is ExprKind-F.IncludeBytesExpr p s = refl
@@ -161,60 +115,47 @@ module _ (env : Answers) where
   expr_at_is ExprKind-F.FormatArgsExpr p s = refl
 
   expr_kind_is : (k : ExprKindLayer written) (n : AstPtr) (p : Place)
-      → of.expr_kind env itself (mapped_kind k) n p ≡ of.expr_kind env rd k n p
+      → of.expr_kind env itself (mapped_kind env k) n p ≡ of.expr_kind env rd k n p
   expr_kind_is k n p = λ j. let s = of.in_file p n in of.asked s (env.cfg (of.site_of s)) (expr_at_is k p s j)
 
-  field_step_is : (x : RecordExprFieldLayer written) (p : Place) → of.field_step env itself (mapped_field x) p ≡ of.field_step env rd x p
+  constant_step_is : (x : ConstArgLayer written) (p : Place)
+      → of.constant_step env itself (mapped_constant env x) p ≡ of.constant_step env rd x p
+  constant_step_is x p = λ j. tree.constant (expr_is rd.expr x.expr (inside_constant p) j)
+
+  field_step_is : (x : RecordExprFieldLayer written) (p : Place)
+      → of.field_step env itself (mapped_field env x) p ≡ of.field_step env rd x p
   field_step_is x p = λ j. let s = of.in_file p (of.ptr x.id x.range) in
       of.asked_field s (env.cfg (of.site_of s)) (of.field_of s x.name (expr_is rd.expr x.expr p j))
 
   record_step_is : (x : RecordExprFieldListLayer written) (p : Place)
-      → of.record_step env itself (mapped_record x) p ≡ of.record_step env rd x p
+      → of.record_step env itself (mapped_record env x) p ≡ of.record_step env rd x p
   record_step_is x p = λ j. record { fields = fields_is rd.field x.fields p j; spread = spread_is rd.expr x.spread x.dotdot p j }
 
   block_at_is : (b : BlockExprLayer written) (head : Bool × Option Label) (p : Place)
-      → of.block_at env itself (mapped_block b) head p ≡ of.block_at env rd b head p
+      → of.block_at env itself (mapped_block env b) head p ≡ of.block_at env rd b head p
   block_at_is b head p = λ j.
       let number = of.numbered env p b.id in
       let c = contents_is rd.stmt b.stmts (of.expr_or_none (λ y. y) (optional rd.expr b.tail))
       (of.expr_or_none rd.expr b.tail) (expr_is rd.expr b.tail) (of.inside number p) j in
       tree.block (of.in_file p (of.ptr b.id b.range)) head.0 head.1 (option_map (λ n. n.0) number) c.0 c.1
 
-  stmt_kind_is : (k : StmtKindLayer written) (p : Place) → of.stmt_kind env itself (mapped_stmt_kind k) p ≡ of.stmt_kind env rd k p
+  stmt_kind_is : (k : StmtKindLayer written) (p : Place) → of.stmt_kind env itself (mapped_stmt_kind env k) p ≡ of.stmt_kind env rd k p
   stmt_kind_is (StmtKind-F.ExprStmt e semi) p = λ j.
       record { before = tree.more_stmts (tree.expr_stmt (expr_is rd.expr e p j) semi); place = p }
   stmt_kind_is StmtKind-F.Item p = refl
 
-  else_is : (k : ElseBranchLayer written) (p : Place) → of.else_branch env itself (mapped_else k) p ≡ of.else_branch env rd k p
+  else_is : (k : ElseBranchLayer written) (p : Place) → of.else_branch env itself (mapped_else env k) p ≡ of.else_branch env rd k p
   else_is (ElseBranch-F.ElseBlock b) p = refl
   else_is (ElseBranch-F.ElseIf e) p = refl
 
   read_expr_kind_is : (k : AstExprKind) (n : AstPtr) (p : Place) → read_expr_kind env k n p ≡ of.expr_kind env rd (out-ExprKind k) n p
-  unfolding read_else_branch read_expr_kind read_stmt_kind read_block read_expr read_field read_record read_stmt
-  read_expr_kind_is k n p = (λ j. folds.fold_out-ExprKind
-      readings.ElseBranch readings.ExprKind readings.StmtKind readings.BlockExpr readings.Expr readings.RecordExprField
-      readings.RecordExprFieldList readings.Stmt
-      (of.else_branch env itself) (of.expr_kind env itself) (of.stmt_kind env itself) (of.block_step env itself)
-      (of.expr_step env itself) (of.field_step env itself) (of.record_step env itself) (of.stmt_step env itself) k j n p)
-      ∙ expr_kind_is (out-ExprKind k) n p
+  read_expr_kind_is k n p = opened_expr_kind env k n p ∙ expr_kind_is (out-ExprKind k) n p
 
   read_expr_is : (e : AstExpr) (p : Place) → read_expr env e p ≡ of.expr_kind env rd (out-ExprKind e.kind) (of.ptr e.id e.range) p
-  unfolding read_else_branch read_expr_kind read_stmt_kind read_block read_expr read_field read_record read_stmt
-  read_expr_is e p = (λ j. folds.fold_out-Expr
-      readings.ElseBranch readings.ExprKind readings.StmtKind readings.BlockExpr readings.Expr readings.RecordExprField
-      readings.RecordExprFieldList readings.Stmt
-      (of.else_branch env itself) (of.expr_kind env itself) (of.stmt_kind env itself) (of.block_step env itself)
-      (of.expr_step env itself) (of.field_step env itself) (of.record_step env itself) (of.stmt_step env itself) e j p)
-      ∙ read_expr_kind_is e.kind (of.ptr e.id e.range) p
+  read_expr_is e p = opened_expr env e p ∙ read_expr_kind_is e.kind (of.ptr e.id e.range) p
 
   read_plain_is : (b : AstBlockExpr) (p : Place) → (read_block env b).plain p ≡ of.block_at env rd (out-BlockExpr b) (false, None) p
-  unfolding read_else_branch read_expr_kind read_stmt_kind read_block read_expr read_field read_record read_stmt
-  read_plain_is b p = (λ j. (folds.fold_out-BlockExpr
-      readings.ElseBranch readings.ExprKind readings.StmtKind readings.BlockExpr readings.Expr readings.RecordExprField
-      readings.RecordExprFieldList readings.Stmt
-      (of.else_branch env itself) (of.expr_kind env itself) (of.stmt_kind env itself) (of.block_step env itself)
-      (of.expr_step env itself) (of.field_step env itself) (of.record_step env itself) (of.stmt_step env itself) b j).plain p)
-      ∙ block_at_is (out-BlockExpr b) (false, None) p
+  read_plain_is b p = (λ j. (opened_block env b j).plain p) ∙ block_at_is (out-BlockExpr b) (false, None) p
 
   -- what a block's label and its modifiers say of it
   abbrev own_head : BlockExprLayer written → Place → Bool × Option Label
@@ -222,58 +163,26 @@ module _ (env : Answers) where
 
   read_own_is : (b : AstBlockExpr) (p : Place) → (read_block env b).own p
       ≡ tree.block_expr (of.block_at env rd (out-BlockExpr b) (own_head (out-BlockExpr b) p) p)
-  unfolding read_else_branch read_expr_kind read_stmt_kind read_block read_expr read_field read_record read_stmt
-  read_own_is b p = (λ j. (folds.fold_out-BlockExpr
-      readings.ElseBranch readings.ExprKind readings.StmtKind readings.BlockExpr readings.Expr readings.RecordExprField
-      readings.RecordExprFieldList readings.Stmt
-      (of.else_branch env itself) (of.expr_kind env itself) (of.stmt_kind env itself) (of.block_step env itself)
-      (of.expr_step env itself) (of.field_step env itself) (of.record_step env itself) (of.stmt_step env itself) b j).own p)
+  read_own_is b p = (λ j. (opened_block env b j).own p)
       ∙ (λ j. tree.block_expr (block_at_is (out-BlockExpr b) (own_head (out-BlockExpr b) p) p j))
 
   read_stmt_kind_is : (k : AstStmtKind) (p : Place) → read_stmt_kind env k p ≡ of.stmt_kind env rd (out-StmtKind k) p
-  unfolding read_else_branch read_expr_kind read_stmt_kind read_block read_expr read_field read_record read_stmt
-  read_stmt_kind_is k p = (λ j. folds.fold_out-StmtKind
-      readings.ElseBranch readings.ExprKind readings.StmtKind readings.BlockExpr readings.Expr readings.RecordExprField
-      readings.RecordExprFieldList readings.Stmt
-      (of.else_branch env itself) (of.expr_kind env itself) (of.stmt_kind env itself) (of.block_step env itself)
-      (of.expr_step env itself) (of.field_step env itself) (of.record_step env itself) (of.stmt_step env itself) k j p)
-      ∙ stmt_kind_is (out-StmtKind k) p
+  read_stmt_kind_is k p = opened_stmt_kind env k p ∙ stmt_kind_is (out-StmtKind k) p
 
   read_stmt_is : (s : AstStmt) (p : Place) → read_stmt env s p ≡ of.stmt_kind env rd (out-StmtKind s.kind) p
-  unfolding read_else_branch read_expr_kind read_stmt_kind read_block read_expr read_field read_record read_stmt
-  read_stmt_is s p = (λ j. folds.fold_out-Stmt
-      readings.ElseBranch readings.ExprKind readings.StmtKind readings.BlockExpr readings.Expr readings.RecordExprField
-      readings.RecordExprFieldList readings.Stmt
-      (of.else_branch env itself) (of.expr_kind env itself) (of.stmt_kind env itself) (of.block_step env itself)
-      (of.expr_step env itself) (of.field_step env itself) (of.record_step env itself) (of.stmt_step env itself) s j p)
-      ∙ read_stmt_kind_is s.kind p
+  read_stmt_is s p = opened_stmt env s p ∙ read_stmt_kind_is s.kind p
 
   read_else_is : (e : AstElseBranch) (p : Place) → read_else_branch env e p ≡ of.else_branch env rd (out-ElseBranch e) p
-  unfolding read_else_branch read_expr_kind read_stmt_kind read_block read_expr read_field read_record read_stmt
-  read_else_is e p = (λ j. folds.fold_out-ElseBranch
-      readings.ElseBranch readings.ExprKind readings.StmtKind readings.BlockExpr readings.Expr readings.RecordExprField
-      readings.RecordExprFieldList readings.Stmt
-      (of.else_branch env itself) (of.expr_kind env itself) (of.stmt_kind env itself) (of.block_step env itself)
-      (of.expr_step env itself) (of.field_step env itself) (of.record_step env itself) (of.stmt_step env itself) e j p)
-      ∙ else_is (out-ElseBranch e) p
+  read_else_is e p = opened_else_branch env e p ∙ else_is (out-ElseBranch e) p
+
+  read_constant_is : (x : AstConstArg) (p : Place) → read_constant env x p ≡ of.constant_step env rd (out-ConstArg x) p
+  read_constant_is x p = opened_constant env x p ∙ constant_step_is (out-ConstArg x) p
 
   read_field_is : (x : AstRecordExprField) (p : Place) → read_field env x p ≡ of.field_step env rd (out-RecordExprField x) p
-  unfolding read_else_branch read_expr_kind read_stmt_kind read_block read_expr read_field read_record read_stmt
-  read_field_is x p = (λ j. folds.fold_out-RecordExprField
-      readings.ElseBranch readings.ExprKind readings.StmtKind readings.BlockExpr readings.Expr readings.RecordExprField
-      readings.RecordExprFieldList readings.Stmt
-      (of.else_branch env itself) (of.expr_kind env itself) (of.stmt_kind env itself) (of.block_step env itself)
-      (of.expr_step env itself) (of.field_step env itself) (of.record_step env itself) (of.stmt_step env itself) x j p)
-      ∙ field_step_is (out-RecordExprField x) p
+  read_field_is x p = opened_field env x p ∙ field_step_is (out-RecordExprField x) p
 
   read_record_is : (x : AstRecordExprFieldList) (p : Place) → read_record env x p ≡ of.record_step env rd (out-RecordExprFieldList x) p
-  unfolding read_else_branch read_expr_kind read_stmt_kind read_block read_expr read_field read_record read_stmt
-  read_record_is x p = (λ j. folds.fold_out-RecordExprFieldList
-      readings.ElseBranch readings.ExprKind readings.StmtKind readings.BlockExpr readings.Expr readings.RecordExprField
-      readings.RecordExprFieldList readings.Stmt
-      (of.else_branch env itself) (of.expr_kind env itself) (of.stmt_kind env itself) (of.block_step env itself)
-      (of.expr_step env itself) (of.field_step env itself) (of.record_step env itself) (of.stmt_step env itself) x j p)
-      ∙ record_step_is (out-RecordExprFieldList x) p
+  read_record_is x p = opened_record env x p ∙ record_step_is (out-RecordExprFieldList x) p
 
 -- so far each statement stands for itself alone
 flat : (env : Answers) (ss : List AstStmt) (tail : Place → OptionExpr) (p : Place)
@@ -301,6 +210,9 @@ block_is_level at b = read_own_is at.answers b at.place ∙ ap tree.block_expr (
 
 pub else_is_level : (at : Spot) (e : AstElseBranch) → answered_else at e ≡ else_level at e
 else_is_level at e = read_else_is at.answers e at.place
+
+pub constant_is_level : (at : Spot) (x : AstConstArg) → answered_constant at x ≡ constant_level at x
+constant_is_level at x = read_constant_is at.answers x at.place
 
 pub field_is_level : (at : Spot) (x : AstRecordExprField) → answered_field at x ≡ field_level at x
 field_is_level at x = read_field_is at.answers x at.place

@@ -1,5 +1,5 @@
 -- An answered type, path, argument or bound is one level of it around its answered parts.
-use Rattle.std.proofs.Common.{◌≡◌, ◌∙◌, refl, Bool, true, false, Option, Some, None, List, [], ◌∷◌}
+use Rattle.std.proofs.Common.{◌≡◌, ◌∙◌, refl, Bool, false, Option, Some, None, List, [], ◌∷◌}
 use Rattle.std.specs.Prelude.{option_map, map, if◌then◌else◌}
 use Rattle.hir_syntax.specs.declared.node.AstPtr.{AstPtr}
 use Rattle.hir_syntax.specs.declared.types.GenericArg.{GenericArg as AstGenericArg, out-GenericArg}
@@ -15,56 +15,40 @@ use Rattle.hir_syntax.specs.declared.types.RetType.{RetType as AstRetType, out-R
 use Rattle.hir_syntax.specs.declared.types.TypeArg.{TypeArg as AstTypeArg, out-TypeArg}
 use Rattle.hir_syntax.specs.declared.types.TypeBound.{TypeBound as AstTypeBound, out-TypeBound}
 use Rattle.hir_syntax.specs.declared.types.Type_.{Type_ as AstType_}
-use Rattle.hir_syntax.specs.declared.types.GenericArg.TheFolds as folds
-use Rattle.hir_syntax.specs.declared.types.GenericArg.TheOpen.{GenericArg-F, TypeKind-F}
-use Rattle.hir_syntax.specs.formers.seq.Seq as seq
-use mathlib.Core.Former.{this}
+use Rattle.hir_syntax.specs.declared.ast.ElseBranch.TheOpen.{GenericArg-F, TypeKind-F}
 use Rattle.hir_store.specs.Pointers.{Pointer}
 use Rattle.hir_env.specs.declared.place.Place.{Place}
 use Rattle.hir_env.specs.Answers.{Answers}
 use Rattle.hir_env.specs.Spot.{Spot, in_file, ptr}
-use Rattle.hir_env.specs.TypeLayers.{ParamReading, PathTypeReading, TypeReader, GenericArgLayer, TypeKindLayer, PathLayer}
-use Rattle.hir_env.specs.TypeLayers.{PathSegmentLayer, AssocTypeArgLayer, GenericArgListLayer, ParamLayer, ParenArgsLayer}
-use Rattle.hir_env.specs.TypeLayers.{PathTypeLayer, RetTypeLayer, TypeArgLayer, TypeBoundLayer, type_readings, type_itself}
+use Rattle.hir_env.specs.Layers.{Reader, itself}
+use Rattle.hir_env.specs.TypeLayers.{ParamReading, PathTypeReading, GenericArgLayer, TypeKindLayer, PathLayer, PathSegmentLayer}
+use Rattle.hir_env.specs.TypeLayers.{AssocTypeArgLayer, GenericArgListLayer, ParamLayer, ParenArgsLayer, PathTypeLayer}
+use Rattle.hir_env.specs.TypeLayers.{RetTypeLayer, TypeArgLayer, TypeBoundLayer}
 use Rattle.hir_env.specs.Paths as of
-use Rattle.hir_env.specs.Paths.{written_types, read_generic_arg, read_type_kind, read_path, read_segment, read_assoc_type_arg}
-use Rattle.hir_env.specs.Paths.{read_generic_arg_list, read_param, read_paren_args, read_path_type, read_ret_type, read_type_arg}
-use Rattle.hir_env.specs.Paths.{read_type_bound, read_type, type_reader}
+use Rattle.hir_env.specs.Folds.{written, reader, read_generic_arg, read_type_kind, read_path, read_segment, read_assoc_type_arg}
+use Rattle.hir_env.specs.Folds.{read_generic_arg_list, read_param, read_paren_args, read_path_type, read_ret_type, read_type_arg}
+use Rattle.hir_env.specs.Folds.{read_type_bound, read_type}
+use Rattle.hir_env.proofs.Mapped.{optional, listed, listed_options, mapped_generic_arg, mapped_type_kind, mapped_path}
+use Rattle.hir_env.proofs.Mapped.{mapped_segment, mapped_assoc_type_arg, mapped_generic_arg_list, mapped_param, mapped_paren_args}
+use Rattle.hir_env.proofs.Mapped.{mapped_path_type, mapped_ret_type, mapped_type_arg, mapped_type_bound}
+use Rattle.hir_env.proofs.Opened.{opened_generic_arg, opened_type_kind, opened_path, opened_segment, opened_assoc_type_arg}
+use Rattle.hir_env.proofs.Opened.{opened_generic_arg_list, opened_param, opened_paren_args, opened_path_type, opened_ret_type}
+use Rattle.hir_env.proofs.Opened.{opened_type_arg, opened_type_bound, opened_type}
 use Rattle.hir_env.specs.Answered as tree
-use Rattle.hir_env.specs.Answered.{Type_, OptionType, Parts, Path, OptionPath, Segments, Segment}
-use Rattle.hir_env.specs.Answered.{OptionParens, OptionRet, OptionArgs, Args, Arg, Bounds, Bound}
+use Rattle.hir_env.specs.Answered.{Type_, OptionType, Parts, Path, Segment, OptionRet, Args, Arg, Bound, Constant}
 use Rattle.hir_env.specs.Whole.{answered_type, answered_param, answered_ret, answered_path, answered_segment, answered_path_type}
 use Rattle.hir_env.specs.Whole.{answered_paren_args, answered_arg_list, answered_arg, answered_type_arg, answered_assoc_arg}
 use Rattle.hir_env.specs.Whole.{answered_bound, type_level, param_level, ret_level, path_level, segment_level, path_type_level}
 use Rattle.hir_env.specs.Whole.{paren_args_level, arg_list_level, arg_level, type_arg_level, assoc_arg_level, bound_level}
 
--- how a fold passes an option and a list on
+-- parts that may be absent, and lists
 
-abbrev optional : {A B : Type 0} → (A → B) → Option A → Option B
-optional {A} {B} h x = (folds.map-TypeArg
-    (Unit {0}) (Unit {0}) (Unit {0}) (Unit {0}) (Unit {0}) (Unit {0}) (Unit {0}) (Unit {0}) (Unit {0}) (Unit {0}) (Unit {0})
-    (Unit {0}) A (Unit {0}) (Unit {0}) (Unit {0}) (Unit {0}) (Unit {0}) (Unit {0}) (Unit {0}) (Unit {0}) (Unit {0}) (Unit {0})
-    (Unit {0}) (Unit {0}) B
-    (λ x. x) (λ x. x) (λ x. x) (λ x. x) (λ x. x) (λ x. x) (λ x. x) (λ x. x) (λ x. x) (λ x. x) (λ x. x) (λ x. x) h
-    (record { id = record { 0 = 0 }; range = record { start = 0; end = 0 }; ty = x })).ty
-
-abbrev listed : {A B : Type 0} → (A → B) → List A → List B
-listed {A} {B} h xs = (seq.the_former (this {0})).map A B h xs
-
-abbrev listed_options : {A B : Type 0} → (A → B) → List (Option A) → List (Option B)
-listed_options {A} {B} h xs = (folds.map-Path
-    (Unit {0}) (Unit {0}) (Unit {0}) A (Unit {0}) (Unit {0}) (Unit {0}) (Unit {0}) (Unit {0}) (Unit {0}) (Unit {0}) (Unit {0})
-    (Unit {0}) (Unit {0}) (Unit {0}) (Unit {0}) B (Unit {0}) (Unit {0}) (Unit {0}) (Unit {0}) (Unit {0}) (Unit {0}) (Unit {0})
-    (Unit {0}) (Unit {0})
-    (λ x. x) (λ x. x) (λ x. x) h (λ x. x) (λ x. x) (λ x. x) (λ x. x) (λ x. x) (λ x. x) (λ x. x) (λ x. x) (λ x. x)
-    (record { id = record { 0 = 0 }; range = record { start = 0; end = 0 }; leading = false; use_ = None; segs = xs })).segs
-
-type_is : {A : Type 0} (h : A → Place → Type_) (x : Option A) (p : Place)
+pub type_is : {A : Type 0} (h : A → Place → Type_) (x : Option A) (p : Place)
     → of.type_or_none (λ y. y) (optional h x) p ≡ of.type_or_none h x p
 type_is h None p = refl
 type_is h (Some x) p = refl
 
-path_is : {A : Type 0} (h : A → Place → Path) (x : Option A) (p : Place)
+pub path_is : {A : Type 0} (h : A → Place → Path) (x : Option A) (p : Place)
     → of.path_or_none (λ y. y) (optional h x) p ≡ of.path_or_none h x p
 path_is h None p = refl
 path_is h (Some x) p = refl
@@ -84,7 +68,7 @@ ret_is : {A : Type 0} (h : A → Place → OptionType) (x : Option A) (p : Place
 ret_is h None p = refl
 ret_is h (Some x) p = refl
 
-arg_list_is : {A : Type 0} (h : A → Place → Args) (x : Option A) (p : Place)
+pub arg_list_is : {A : Type 0} (h : A → Place → Args) (x : Option A) (p : Place)
     → of.arg_list_or_none (λ y. y) (optional h x) p ≡ of.arg_list_or_none h x p
 arg_list_is h None p = refl
 arg_list_is h (Some x) p = refl
@@ -93,6 +77,11 @@ parens_is : {A : Type 0} (h : A → Place → Parts) (x : Option A) (r : OptionR
     → of.parens_or_none (λ y. y) (optional h x) r p ≡ of.parens_or_none h x r p
 parens_is h None r p = refl
 parens_is h (Some x) r p = refl
+
+constant_is : {A : Type 0} (h : A → Place → Constant) (x : Option A) (p : Place)
+    → of.constant_or_absent (λ y. y) (optional h x) p ≡ of.constant_or_absent h x p
+constant_is h None p = refl
+constant_is h (Some x) p = refl
 
 types_is : {A : Type 0} (h : A → Place → Type_) (xs : List A) (p : Place) → of.types_of (λ y. y) (listed h xs) p ≡ of.types_of h xs p
 types_is h [] p = refl
@@ -142,145 +131,14 @@ rest_is h (None ∷ xs) p = segments_is h xs p
 rest_is h (Some x ∷ xs) p = segments_is h xs p
 
 module _ (env : Answers) where
-  abbrev rd : TypeReader written_types
-  rd = type_reader env
+  abbrev rd : Reader written
+  rd = reader env
 
-  abbrev mapped_generic_arg : GenericArgLayer written_types → GenericArgLayer type_readings
-  mapped_generic_arg = folds.map-GenericArg
-      written_types.GenericArg written_types.TypeKind written_types.Path written_types.PathSegment written_types.AssocTypeArg
-      written_types.GenericArgList written_types.Param written_types.ParenArgs written_types.PathType written_types.RetType
-      written_types.TypeArg written_types.TypeBound written_types.Type_
-      type_readings.GenericArg type_readings.TypeKind type_readings.Path type_readings.PathSegment type_readings.AssocTypeArg
-      type_readings.GenericArgList type_readings.Param type_readings.ParenArgs type_readings.PathType type_readings.RetType
-      type_readings.TypeArg type_readings.TypeBound type_readings.Type_
-      rd.generic_arg rd.type_kind rd.path rd.segment rd.assoc_type_arg rd.generic_arg_list rd.param rd.paren_args rd.path_type
-      rd.ret_type rd.type_arg rd.type_bound rd.type_
-
-  abbrev mapped_type_kind : TypeKindLayer written_types → TypeKindLayer type_readings
-  mapped_type_kind = folds.map-TypeKind
-      written_types.GenericArg written_types.TypeKind written_types.Path written_types.PathSegment written_types.AssocTypeArg
-      written_types.GenericArgList written_types.Param written_types.ParenArgs written_types.PathType written_types.RetType
-      written_types.TypeArg written_types.TypeBound written_types.Type_
-      type_readings.GenericArg type_readings.TypeKind type_readings.Path type_readings.PathSegment type_readings.AssocTypeArg
-      type_readings.GenericArgList type_readings.Param type_readings.ParenArgs type_readings.PathType type_readings.RetType
-      type_readings.TypeArg type_readings.TypeBound type_readings.Type_
-      rd.generic_arg rd.type_kind rd.path rd.segment rd.assoc_type_arg rd.generic_arg_list rd.param rd.paren_args rd.path_type
-      rd.ret_type rd.type_arg rd.type_bound rd.type_
-
-  abbrev mapped_path : PathLayer written_types → PathLayer type_readings
-  mapped_path = folds.map-Path
-      written_types.GenericArg written_types.TypeKind written_types.Path written_types.PathSegment written_types.AssocTypeArg
-      written_types.GenericArgList written_types.Param written_types.ParenArgs written_types.PathType written_types.RetType
-      written_types.TypeArg written_types.TypeBound written_types.Type_
-      type_readings.GenericArg type_readings.TypeKind type_readings.Path type_readings.PathSegment type_readings.AssocTypeArg
-      type_readings.GenericArgList type_readings.Param type_readings.ParenArgs type_readings.PathType type_readings.RetType
-      type_readings.TypeArg type_readings.TypeBound type_readings.Type_
-      rd.generic_arg rd.type_kind rd.path rd.segment rd.assoc_type_arg rd.generic_arg_list rd.param rd.paren_args rd.path_type
-      rd.ret_type rd.type_arg rd.type_bound rd.type_
-
-  abbrev mapped_segment : PathSegmentLayer written_types → PathSegmentLayer type_readings
-  mapped_segment = folds.map-PathSegment
-      written_types.GenericArg written_types.TypeKind written_types.Path written_types.PathSegment written_types.AssocTypeArg
-      written_types.GenericArgList written_types.Param written_types.ParenArgs written_types.PathType written_types.RetType
-      written_types.TypeArg written_types.TypeBound written_types.Type_
-      type_readings.GenericArg type_readings.TypeKind type_readings.Path type_readings.PathSegment type_readings.AssocTypeArg
-      type_readings.GenericArgList type_readings.Param type_readings.ParenArgs type_readings.PathType type_readings.RetType
-      type_readings.TypeArg type_readings.TypeBound type_readings.Type_
-      rd.generic_arg rd.type_kind rd.path rd.segment rd.assoc_type_arg rd.generic_arg_list rd.param rd.paren_args rd.path_type
-      rd.ret_type rd.type_arg rd.type_bound rd.type_
-
-  abbrev mapped_assoc_type_arg : AssocTypeArgLayer written_types → AssocTypeArgLayer type_readings
-  mapped_assoc_type_arg = folds.map-AssocTypeArg
-      written_types.GenericArg written_types.TypeKind written_types.Path written_types.PathSegment written_types.AssocTypeArg
-      written_types.GenericArgList written_types.Param written_types.ParenArgs written_types.PathType written_types.RetType
-      written_types.TypeArg written_types.TypeBound written_types.Type_
-      type_readings.GenericArg type_readings.TypeKind type_readings.Path type_readings.PathSegment type_readings.AssocTypeArg
-      type_readings.GenericArgList type_readings.Param type_readings.ParenArgs type_readings.PathType type_readings.RetType
-      type_readings.TypeArg type_readings.TypeBound type_readings.Type_
-      rd.generic_arg rd.type_kind rd.path rd.segment rd.assoc_type_arg rd.generic_arg_list rd.param rd.paren_args rd.path_type
-      rd.ret_type rd.type_arg rd.type_bound rd.type_
-
-  abbrev mapped_generic_arg_list : GenericArgListLayer written_types → GenericArgListLayer type_readings
-  mapped_generic_arg_list = folds.map-GenericArgList
-      written_types.GenericArg written_types.TypeKind written_types.Path written_types.PathSegment written_types.AssocTypeArg
-      written_types.GenericArgList written_types.Param written_types.ParenArgs written_types.PathType written_types.RetType
-      written_types.TypeArg written_types.TypeBound written_types.Type_
-      type_readings.GenericArg type_readings.TypeKind type_readings.Path type_readings.PathSegment type_readings.AssocTypeArg
-      type_readings.GenericArgList type_readings.Param type_readings.ParenArgs type_readings.PathType type_readings.RetType
-      type_readings.TypeArg type_readings.TypeBound type_readings.Type_
-      rd.generic_arg rd.type_kind rd.path rd.segment rd.assoc_type_arg rd.generic_arg_list rd.param rd.paren_args rd.path_type
-      rd.ret_type rd.type_arg rd.type_bound rd.type_
-
-  abbrev mapped_param : ParamLayer written_types → ParamLayer type_readings
-  mapped_param = folds.map-Param
-      written_types.GenericArg written_types.TypeKind written_types.Path written_types.PathSegment written_types.AssocTypeArg
-      written_types.GenericArgList written_types.Param written_types.ParenArgs written_types.PathType written_types.RetType
-      written_types.TypeArg written_types.TypeBound written_types.Type_
-      type_readings.GenericArg type_readings.TypeKind type_readings.Path type_readings.PathSegment type_readings.AssocTypeArg
-      type_readings.GenericArgList type_readings.Param type_readings.ParenArgs type_readings.PathType type_readings.RetType
-      type_readings.TypeArg type_readings.TypeBound type_readings.Type_
-      rd.generic_arg rd.type_kind rd.path rd.segment rd.assoc_type_arg rd.generic_arg_list rd.param rd.paren_args rd.path_type
-      rd.ret_type rd.type_arg rd.type_bound rd.type_
-
-  abbrev mapped_paren_args : ParenArgsLayer written_types → ParenArgsLayer type_readings
-  mapped_paren_args = folds.map-ParenArgs
-      written_types.GenericArg written_types.TypeKind written_types.Path written_types.PathSegment written_types.AssocTypeArg
-      written_types.GenericArgList written_types.Param written_types.ParenArgs written_types.PathType written_types.RetType
-      written_types.TypeArg written_types.TypeBound written_types.Type_
-      type_readings.GenericArg type_readings.TypeKind type_readings.Path type_readings.PathSegment type_readings.AssocTypeArg
-      type_readings.GenericArgList type_readings.Param type_readings.ParenArgs type_readings.PathType type_readings.RetType
-      type_readings.TypeArg type_readings.TypeBound type_readings.Type_
-      rd.generic_arg rd.type_kind rd.path rd.segment rd.assoc_type_arg rd.generic_arg_list rd.param rd.paren_args rd.path_type
-      rd.ret_type rd.type_arg rd.type_bound rd.type_
-
-  abbrev mapped_path_type : PathTypeLayer written_types → PathTypeLayer type_readings
-  mapped_path_type = folds.map-PathType
-      written_types.GenericArg written_types.TypeKind written_types.Path written_types.PathSegment written_types.AssocTypeArg
-      written_types.GenericArgList written_types.Param written_types.ParenArgs written_types.PathType written_types.RetType
-      written_types.TypeArg written_types.TypeBound written_types.Type_
-      type_readings.GenericArg type_readings.TypeKind type_readings.Path type_readings.PathSegment type_readings.AssocTypeArg
-      type_readings.GenericArgList type_readings.Param type_readings.ParenArgs type_readings.PathType type_readings.RetType
-      type_readings.TypeArg type_readings.TypeBound type_readings.Type_
-      rd.generic_arg rd.type_kind rd.path rd.segment rd.assoc_type_arg rd.generic_arg_list rd.param rd.paren_args rd.path_type
-      rd.ret_type rd.type_arg rd.type_bound rd.type_
-
-  abbrev mapped_ret_type : RetTypeLayer written_types → RetTypeLayer type_readings
-  mapped_ret_type = folds.map-RetType
-      written_types.GenericArg written_types.TypeKind written_types.Path written_types.PathSegment written_types.AssocTypeArg
-      written_types.GenericArgList written_types.Param written_types.ParenArgs written_types.PathType written_types.RetType
-      written_types.TypeArg written_types.TypeBound written_types.Type_
-      type_readings.GenericArg type_readings.TypeKind type_readings.Path type_readings.PathSegment type_readings.AssocTypeArg
-      type_readings.GenericArgList type_readings.Param type_readings.ParenArgs type_readings.PathType type_readings.RetType
-      type_readings.TypeArg type_readings.TypeBound type_readings.Type_
-      rd.generic_arg rd.type_kind rd.path rd.segment rd.assoc_type_arg rd.generic_arg_list rd.param rd.paren_args rd.path_type
-      rd.ret_type rd.type_arg rd.type_bound rd.type_
-
-  abbrev mapped_type_arg : TypeArgLayer written_types → TypeArgLayer type_readings
-  mapped_type_arg = folds.map-TypeArg
-      written_types.GenericArg written_types.TypeKind written_types.Path written_types.PathSegment written_types.AssocTypeArg
-      written_types.GenericArgList written_types.Param written_types.ParenArgs written_types.PathType written_types.RetType
-      written_types.TypeArg written_types.TypeBound written_types.Type_
-      type_readings.GenericArg type_readings.TypeKind type_readings.Path type_readings.PathSegment type_readings.AssocTypeArg
-      type_readings.GenericArgList type_readings.Param type_readings.ParenArgs type_readings.PathType type_readings.RetType
-      type_readings.TypeArg type_readings.TypeBound type_readings.Type_
-      rd.generic_arg rd.type_kind rd.path rd.segment rd.assoc_type_arg rd.generic_arg_list rd.param rd.paren_args rd.path_type
-      rd.ret_type rd.type_arg rd.type_bound rd.type_
-
-  abbrev mapped_type_bound : TypeBoundLayer written_types → TypeBoundLayer type_readings
-  mapped_type_bound = folds.map-TypeBound
-      written_types.GenericArg written_types.TypeKind written_types.Path written_types.PathSegment written_types.AssocTypeArg
-      written_types.GenericArgList written_types.Param written_types.ParenArgs written_types.PathType written_types.RetType
-      written_types.TypeArg written_types.TypeBound written_types.Type_
-      type_readings.GenericArg type_readings.TypeKind type_readings.Path type_readings.PathSegment type_readings.AssocTypeArg
-      type_readings.GenericArgList type_readings.Param type_readings.ParenArgs type_readings.PathType type_readings.RetType
-      type_readings.TypeArg type_readings.TypeBound type_readings.Type_
-      rd.generic_arg rd.type_kind rd.path rd.segment rd.assoc_type_arg rd.generic_arg_list rd.param rd.paren_args rd.path_type
-      rd.ret_type rd.type_arg rd.type_bound rd.type_
-
-  type_at_is : (k : TypeKindLayer written_types) (p : Place) (s : Pointer)
-      → of.type_at env type_itself (mapped_type_kind k) p s ≡ of.type_at env rd k p s
+  type_at_is : (k : TypeKindLayer written) (p : Place) (s : Pointer)
+      → of.type_at env itself (mapped_type_kind env k) p s ≡ of.type_at env rd k p s
   type_at_is (TypeKind-F.ParenType t) p s = λ j. tree.paren_type (type_is rd.type_ t p j)
   type_at_is (TypeKind-F.SliceType t) p s = λ j. tree.over_type s tree.slice_of (type_is rd.type_ t p j)
+  type_at_is (TypeKind-F.ArrayType t c) p s = λ j. tree.array_type s (constant_is rd.constant c p j) (type_is rd.type_ t p j)
   type_at_is (TypeKind-F.TupleType ts) p s = λ j. tree.tuple_type s (types_is rd.type_ ts p j)
   type_at_is (TypeKind-F.PathType x) p s = λ j. tree.path_type s (path_is rd.path x p j)
   type_at_is (TypeKind-F.PtrType m t) p s = λ j. tree.over_type s (tree.pointer_to (of.mutability m)) (type_is rd.type_ t p j)
@@ -299,19 +157,19 @@ module _ (env : Answers) where
   type_at_is TypeKind-F.NeverType p s = refl
   type_at_is TypeKind-F.InferType p s = refl
 
-  type_kind_step_is : (k : TypeKindLayer written_types) (n : AstPtr) (p : Place)
-      → of.type_kind_step env type_itself (mapped_type_kind k) n p ≡ of.type_kind_step env rd k n p
+  type_kind_step_is : (k : TypeKindLayer written) (n : AstPtr) (p : Place)
+      → of.type_kind_step env itself (mapped_type_kind env k) n p ≡ of.type_kind_step env rd k n p
   type_kind_step_is k n p = type_at_is k p (in_file p n)
 
-  param_step_is : (x : ParamLayer written_types) (p : Place)
-      → of.param_step env type_itself (mapped_param x) p ≡ of.param_step env rd x p
+  param_step_is : (x : ParamLayer written) (p : Place)
+      → of.param_step env itself (mapped_param env x) p ≡ of.param_step env rd x p
   param_step_is x p = λ j. record { variadic = x.variadic; ty = type_is rd.type_ x.ty p j }
 
-  ret_type_step_is : (x : RetTypeLayer written_types) (p : Place)
-      → of.ret_type_step env type_itself (mapped_ret_type x) p ≡ of.ret_type_step env rd x p
+  ret_type_step_is : (x : RetTypeLayer written) (p : Place)
+      → of.ret_type_step env itself (mapped_ret_type env x) p ≡ of.ret_type_step env rd x p
   ret_type_step_is x p = type_is rd.type_ x.ty p
 
-  path_step_is : (x : PathLayer written_types) (p : Place) → of.path_step env type_itself (mapped_path x) p ≡ of.path_step env rd x p
+  path_step_is : (x : PathLayer written) (p : Place) → of.path_step env itself (mapped_path env x) p ≡ of.path_step env rd x p
   path_step_is x p = λ j. tree.path x.leading (first_is rd.segment x.segs p j) (rest_is rd.segment x.segs p j) (path_is rd.path x.use_ p j)
 
   parens_then : (x : Option AstParenArgs) (r : Option AstRetType) (p : Place)
@@ -320,229 +178,87 @@ module _ (env : Answers) where
   parens_then x r p = parens_is rd.paren_args x (of.ret_or_none (λ y. y) (optional rd.ret_type r) p) p
       ∙ (λ j. of.parens_or_none rd.paren_args x (ret_is rd.ret_type r p j) p)
 
-  segment_step_is : (x : PathSegmentLayer written_types) (p : Place)
-      → of.segment_step env type_itself (mapped_segment x) p ≡ of.segment_step env rd x p
+  segment_step_is : (x : PathSegmentLayer written) (p : Place)
+      → of.segment_step env itself (mapped_segment env x) p ≡ of.segment_step env rd x p
   segment_step_is x p = λ j. of.kinded_segment env p x.seg x.name
       (tree.segment_args (arg_list_is rd.generic_arg_list x.generics p j)
       (parens_then x.parens x.ret p j) x.rtn)
       (type_is rd.type_ x.ty p j) (path_type_is rd.path_type x.trait_ p j)
 
-  path_type_step_is : (x : PathTypeLayer written_types) (p : Place)
-      → of.path_type_step env type_itself (mapped_path_type x) p ≡ of.path_type_step env rd x p
+  path_type_step_is : (x : PathTypeLayer written) (p : Place)
+      → of.path_type_step env itself (mapped_path_type env x) p ≡ of.path_type_step env rd x p
   path_type_step_is x p = λ j. record { pointer = in_file p (ptr x.id x.range); path = path_is rd.path x.path p j }
 
-  paren_args_step_is : (x : ParenArgsLayer written_types) (p : Place)
-      → of.paren_args_step env type_itself (mapped_paren_args x) p ≡ of.paren_args_step env rd x p
+  paren_args_step_is : (x : ParenArgsLayer written) (p : Place)
+      → of.paren_args_step env itself (mapped_paren_args env x) p ≡ of.paren_args_step env rd x p
   paren_args_step_is x p = parts_is rd.type_arg x.args p
 
-  generic_arg_list_step_is : (x : GenericArgListLayer written_types) (p : Place)
-      → of.generic_arg_list_step env type_itself (mapped_generic_arg_list x) p ≡ of.generic_arg_list_step env rd x p
+  generic_arg_list_step_is : (x : GenericArgListLayer written) (p : Place)
+      → of.generic_arg_list_step env itself (mapped_generic_arg_list env x) p ≡ of.generic_arg_list_step env rd x p
   generic_arg_list_step_is x p = generic_args_is rd.generic_arg x.args p
 
-  generic_arg_step_is : (x : GenericArgLayer written_types) (p : Place)
-      → of.generic_arg_step env type_itself (mapped_generic_arg x) p ≡ of.generic_arg_step env rd x p
+  generic_arg_step_is : (x : GenericArgLayer written) (p : Place)
+      → of.generic_arg_step env itself (mapped_generic_arg env x) p ≡ of.generic_arg_step env rd x p
   generic_arg_step_is (GenericArg-F.TypeArg x) p = refl
   generic_arg_step_is (GenericArg-F.AssocTypeArg x) p = refl
   generic_arg_step_is (GenericArg-F.LifetimeArg x) p = refl
+  generic_arg_step_is (GenericArg-F.ConstArg x) p = refl
 
-  type_arg_step_is : (x : TypeArgLayer written_types) (p : Place)
-      → of.type_arg_step env type_itself (mapped_type_arg x) p ≡ of.type_arg_step env rd x p
+  type_arg_step_is : (x : TypeArgLayer written) (p : Place)
+      → of.type_arg_step env itself (mapped_type_arg env x) p ≡ of.type_arg_step env rd x p
   type_arg_step_is x p = type_is rd.type_ x.ty p
 
-  assoc_type_arg_step_is : (x : AssocTypeArgLayer written_types) (p : Place)
-      → of.assoc_type_arg_step env type_itself (mapped_assoc_type_arg x) p ≡ of.assoc_type_arg_step env rd x p
+  assoc_type_arg_step_is : (x : AssocTypeArgLayer written) (p : Place)
+      → of.assoc_type_arg_step env itself (mapped_assoc_type_arg env x) p ≡ of.assoc_type_arg_step env rd x p
   assoc_type_arg_step_is x p = λ j. let inner = of.outside_impl p in
       of.binding_of x.params x.name (arg_list_is rd.generic_arg_list x.generics inner j) x.rtn
       (type_is rd.type_ x.ty inner j) (bounds_is rd.type_bound x.bounds inner j)
 
-  type_bound_step_is : (x : TypeBoundLayer written_types) (p : Place)
-      → of.type_bound_step env type_itself (mapped_type_bound x) p ≡ of.type_bound_step env rd x p
+  type_bound_step_is : (x : TypeBoundLayer written) (p : Place)
+      → of.type_bound_step env itself (mapped_type_bound env x) p ≡ of.type_bound_step env rd x p
   type_bound_step_is x p = λ j. of.bound_of x.b (path_type_is rd.path_type x.ty p j) x.maybe (of.binder_of x.binder)
       (option_map (of.lifetime_of p) x.lifetime) (map (of.use_of p) x.uses)
 
   read_type_kind_is : (k : AstTypeKind) (n : AstPtr) (p : Place) → read_type_kind env k n p ≡ of.type_kind_step env rd (out-TypeKind k) n p
-  unfolding read_generic_arg read_type_kind read_path read_segment read_assoc_type_arg read_generic_arg_list read_param
-      read_paren_args read_path_type read_ret_type read_type_arg read_type_bound read_type
-  read_type_kind_is k n p = (λ j. folds.fold_out-TypeKind
-      type_readings.GenericArg type_readings.TypeKind type_readings.Path type_readings.PathSegment type_readings.AssocTypeArg
-      type_readings.GenericArgList type_readings.Param type_readings.ParenArgs type_readings.PathType type_readings.RetType
-      type_readings.TypeArg type_readings.TypeBound type_readings.Type_
-      (of.generic_arg_step env type_itself) (of.type_kind_step env type_itself) (of.path_step env type_itself)
-      (of.segment_step env type_itself) (of.assoc_type_arg_step env type_itself) (of.generic_arg_list_step env type_itself)
-      (of.param_step env type_itself) (of.paren_args_step env type_itself) (of.path_type_step env type_itself)
-      (of.ret_type_step env type_itself) (of.type_arg_step env type_itself) (of.type_bound_step env type_itself)
-      (of.type_step env type_itself) k j n p)
-      ∙ type_kind_step_is (out-TypeKind k) n p
+  read_type_kind_is k n p = opened_type_kind env k n p ∙ type_kind_step_is (out-TypeKind k) n p
 
   read_type_is : (x : AstType_) (p : Place) → read_type env x p ≡ of.type_kind_step env rd (out-TypeKind x.kind) (ptr x.id x.range) p
-  unfolding read_generic_arg read_type_kind read_path read_segment read_assoc_type_arg read_generic_arg_list read_param
-      read_paren_args read_path_type read_ret_type read_type_arg read_type_bound read_type
-  read_type_is x p = (λ j. folds.fold_out-Type_
-      type_readings.GenericArg type_readings.TypeKind type_readings.Path type_readings.PathSegment type_readings.AssocTypeArg
-      type_readings.GenericArgList type_readings.Param type_readings.ParenArgs type_readings.PathType type_readings.RetType
-      type_readings.TypeArg type_readings.TypeBound type_readings.Type_
-      (of.generic_arg_step env type_itself) (of.type_kind_step env type_itself) (of.path_step env type_itself)
-      (of.segment_step env type_itself) (of.assoc_type_arg_step env type_itself) (of.generic_arg_list_step env type_itself)
-      (of.param_step env type_itself) (of.paren_args_step env type_itself) (of.path_type_step env type_itself)
-      (of.ret_type_step env type_itself) (of.type_arg_step env type_itself) (of.type_bound_step env type_itself)
-      (of.type_step env type_itself) x j p)
-      ∙ read_type_kind_is x.kind (ptr x.id x.range) p
+  read_type_is x p = opened_type env x p ∙ read_type_kind_is x.kind (ptr x.id x.range) p
 
   read_param_is : (x : AstParam) (p : Place) → read_param env x p ≡ of.param_step env rd (out-Param x) p
-  unfolding read_generic_arg read_type_kind read_path read_segment read_assoc_type_arg read_generic_arg_list read_param
-      read_paren_args read_path_type read_ret_type read_type_arg read_type_bound read_type
-  read_param_is x p = (λ j. folds.fold_out-Param
-      type_readings.GenericArg type_readings.TypeKind type_readings.Path type_readings.PathSegment type_readings.AssocTypeArg
-      type_readings.GenericArgList type_readings.Param type_readings.ParenArgs type_readings.PathType type_readings.RetType
-      type_readings.TypeArg type_readings.TypeBound type_readings.Type_
-      (of.generic_arg_step env type_itself) (of.type_kind_step env type_itself) (of.path_step env type_itself)
-      (of.segment_step env type_itself) (of.assoc_type_arg_step env type_itself) (of.generic_arg_list_step env type_itself)
-      (of.param_step env type_itself) (of.paren_args_step env type_itself) (of.path_type_step env type_itself)
-      (of.ret_type_step env type_itself) (of.type_arg_step env type_itself) (of.type_bound_step env type_itself)
-      (of.type_step env type_itself) x j p)
-      ∙ param_step_is (out-Param x) p
+  read_param_is x p = opened_param env x p ∙ param_step_is (out-Param x) p
 
   read_ret_type_is : (x : AstRetType) (p : Place) → read_ret_type env x p ≡ of.ret_type_step env rd (out-RetType x) p
-  unfolding read_generic_arg read_type_kind read_path read_segment read_assoc_type_arg read_generic_arg_list read_param
-      read_paren_args read_path_type read_ret_type read_type_arg read_type_bound read_type
-  read_ret_type_is x p = (λ j. folds.fold_out-RetType
-      type_readings.GenericArg type_readings.TypeKind type_readings.Path type_readings.PathSegment type_readings.AssocTypeArg
-      type_readings.GenericArgList type_readings.Param type_readings.ParenArgs type_readings.PathType type_readings.RetType
-      type_readings.TypeArg type_readings.TypeBound type_readings.Type_
-      (of.generic_arg_step env type_itself) (of.type_kind_step env type_itself) (of.path_step env type_itself)
-      (of.segment_step env type_itself) (of.assoc_type_arg_step env type_itself) (of.generic_arg_list_step env type_itself)
-      (of.param_step env type_itself) (of.paren_args_step env type_itself) (of.path_type_step env type_itself)
-      (of.ret_type_step env type_itself) (of.type_arg_step env type_itself) (of.type_bound_step env type_itself)
-      (of.type_step env type_itself) x j p)
-      ∙ ret_type_step_is (out-RetType x) p
+  read_ret_type_is x p = opened_ret_type env x p ∙ ret_type_step_is (out-RetType x) p
 
   read_path_is : (x : AstPath) (p : Place) → read_path env x p ≡ of.path_step env rd (out-Path x) p
-  unfolding read_generic_arg read_type_kind read_path read_segment read_assoc_type_arg read_generic_arg_list read_param
-      read_paren_args read_path_type read_ret_type read_type_arg read_type_bound read_type
-  read_path_is x p = (λ j. folds.fold_out-Path
-      type_readings.GenericArg type_readings.TypeKind type_readings.Path type_readings.PathSegment type_readings.AssocTypeArg
-      type_readings.GenericArgList type_readings.Param type_readings.ParenArgs type_readings.PathType type_readings.RetType
-      type_readings.TypeArg type_readings.TypeBound type_readings.Type_
-      (of.generic_arg_step env type_itself) (of.type_kind_step env type_itself) (of.path_step env type_itself)
-      (of.segment_step env type_itself) (of.assoc_type_arg_step env type_itself) (of.generic_arg_list_step env type_itself)
-      (of.param_step env type_itself) (of.paren_args_step env type_itself) (of.path_type_step env type_itself)
-      (of.ret_type_step env type_itself) (of.type_arg_step env type_itself) (of.type_bound_step env type_itself)
-      (of.type_step env type_itself) x j p)
-      ∙ path_step_is (out-Path x) p
+  read_path_is x p = opened_path env x p ∙ path_step_is (out-Path x) p
 
   read_segment_is : (x : AstPathSegment) (p : Place) → read_segment env x p ≡ of.segment_step env rd (out-PathSegment x) p
-  unfolding read_generic_arg read_type_kind read_path read_segment read_assoc_type_arg read_generic_arg_list read_param
-      read_paren_args read_path_type read_ret_type read_type_arg read_type_bound read_type
-  read_segment_is x p = (λ j. folds.fold_out-PathSegment
-      type_readings.GenericArg type_readings.TypeKind type_readings.Path type_readings.PathSegment type_readings.AssocTypeArg
-      type_readings.GenericArgList type_readings.Param type_readings.ParenArgs type_readings.PathType type_readings.RetType
-      type_readings.TypeArg type_readings.TypeBound type_readings.Type_
-      (of.generic_arg_step env type_itself) (of.type_kind_step env type_itself) (of.path_step env type_itself)
-      (of.segment_step env type_itself) (of.assoc_type_arg_step env type_itself) (of.generic_arg_list_step env type_itself)
-      (of.param_step env type_itself) (of.paren_args_step env type_itself) (of.path_type_step env type_itself)
-      (of.ret_type_step env type_itself) (of.type_arg_step env type_itself) (of.type_bound_step env type_itself)
-      (of.type_step env type_itself) x j p)
-      ∙ segment_step_is (out-PathSegment x) p
+  read_segment_is x p = opened_segment env x p ∙ segment_step_is (out-PathSegment x) p
 
   read_path_type_is : (x : AstPathType) (p : Place) → read_path_type env x p ≡ of.path_type_step env rd (out-PathType x) p
-  unfolding read_generic_arg read_type_kind read_path read_segment read_assoc_type_arg read_generic_arg_list read_param
-      read_paren_args read_path_type read_ret_type read_type_arg read_type_bound read_type
-  read_path_type_is x p = (λ j. folds.fold_out-PathType
-      type_readings.GenericArg type_readings.TypeKind type_readings.Path type_readings.PathSegment type_readings.AssocTypeArg
-      type_readings.GenericArgList type_readings.Param type_readings.ParenArgs type_readings.PathType type_readings.RetType
-      type_readings.TypeArg type_readings.TypeBound type_readings.Type_
-      (of.generic_arg_step env type_itself) (of.type_kind_step env type_itself) (of.path_step env type_itself)
-      (of.segment_step env type_itself) (of.assoc_type_arg_step env type_itself) (of.generic_arg_list_step env type_itself)
-      (of.param_step env type_itself) (of.paren_args_step env type_itself) (of.path_type_step env type_itself)
-      (of.ret_type_step env type_itself) (of.type_arg_step env type_itself) (of.type_bound_step env type_itself)
-      (of.type_step env type_itself) x j p)
-      ∙ path_type_step_is (out-PathType x) p
+  read_path_type_is x p = opened_path_type env x p ∙ path_type_step_is (out-PathType x) p
 
   read_paren_args_is : (x : AstParenArgs) (p : Place) → read_paren_args env x p ≡ of.paren_args_step env rd (out-ParenArgs x) p
-  unfolding read_generic_arg read_type_kind read_path read_segment read_assoc_type_arg read_generic_arg_list read_param
-      read_paren_args read_path_type read_ret_type read_type_arg read_type_bound read_type
-  read_paren_args_is x p = (λ j. folds.fold_out-ParenArgs
-      type_readings.GenericArg type_readings.TypeKind type_readings.Path type_readings.PathSegment type_readings.AssocTypeArg
-      type_readings.GenericArgList type_readings.Param type_readings.ParenArgs type_readings.PathType type_readings.RetType
-      type_readings.TypeArg type_readings.TypeBound type_readings.Type_
-      (of.generic_arg_step env type_itself) (of.type_kind_step env type_itself) (of.path_step env type_itself)
-      (of.segment_step env type_itself) (of.assoc_type_arg_step env type_itself) (of.generic_arg_list_step env type_itself)
-      (of.param_step env type_itself) (of.paren_args_step env type_itself) (of.path_type_step env type_itself)
-      (of.ret_type_step env type_itself) (of.type_arg_step env type_itself) (of.type_bound_step env type_itself)
-      (of.type_step env type_itself) x j p)
-      ∙ paren_args_step_is (out-ParenArgs x) p
+  read_paren_args_is x p = opened_paren_args env x p ∙ paren_args_step_is (out-ParenArgs x) p
 
   read_generic_arg_list_is : (x : AstGenericArgList) (p : Place)
       → read_generic_arg_list env x p ≡ of.generic_arg_list_step env rd (out-GenericArgList x) p
-  unfolding read_generic_arg read_type_kind read_path read_segment read_assoc_type_arg read_generic_arg_list read_param
-      read_paren_args read_path_type read_ret_type read_type_arg read_type_bound read_type
-  read_generic_arg_list_is x p = (λ j. folds.fold_out-GenericArgList
-      type_readings.GenericArg type_readings.TypeKind type_readings.Path type_readings.PathSegment type_readings.AssocTypeArg
-      type_readings.GenericArgList type_readings.Param type_readings.ParenArgs type_readings.PathType type_readings.RetType
-      type_readings.TypeArg type_readings.TypeBound type_readings.Type_
-      (of.generic_arg_step env type_itself) (of.type_kind_step env type_itself) (of.path_step env type_itself)
-      (of.segment_step env type_itself) (of.assoc_type_arg_step env type_itself) (of.generic_arg_list_step env type_itself)
-      (of.param_step env type_itself) (of.paren_args_step env type_itself) (of.path_type_step env type_itself)
-      (of.ret_type_step env type_itself) (of.type_arg_step env type_itself) (of.type_bound_step env type_itself)
-      (of.type_step env type_itself) x j p)
-      ∙ generic_arg_list_step_is (out-GenericArgList x) p
+  read_generic_arg_list_is x p = opened_generic_arg_list env x p ∙ generic_arg_list_step_is (out-GenericArgList x) p
 
   read_generic_arg_is : (x : AstGenericArg) (p : Place) → read_generic_arg env x p ≡ of.generic_arg_step env rd (out-GenericArg x) p
-  unfolding read_generic_arg read_type_kind read_path read_segment read_assoc_type_arg read_generic_arg_list read_param
-      read_paren_args read_path_type read_ret_type read_type_arg read_type_bound read_type
-  read_generic_arg_is x p = (λ j. folds.fold_out-GenericArg
-      type_readings.GenericArg type_readings.TypeKind type_readings.Path type_readings.PathSegment type_readings.AssocTypeArg
-      type_readings.GenericArgList type_readings.Param type_readings.ParenArgs type_readings.PathType type_readings.RetType
-      type_readings.TypeArg type_readings.TypeBound type_readings.Type_
-      (of.generic_arg_step env type_itself) (of.type_kind_step env type_itself) (of.path_step env type_itself)
-      (of.segment_step env type_itself) (of.assoc_type_arg_step env type_itself) (of.generic_arg_list_step env type_itself)
-      (of.param_step env type_itself) (of.paren_args_step env type_itself) (of.path_type_step env type_itself)
-      (of.ret_type_step env type_itself) (of.type_arg_step env type_itself) (of.type_bound_step env type_itself)
-      (of.type_step env type_itself) x j p)
-      ∙ generic_arg_step_is (out-GenericArg x) p
+  read_generic_arg_is x p = opened_generic_arg env x p ∙ generic_arg_step_is (out-GenericArg x) p
 
   read_type_arg_is : (x : AstTypeArg) (p : Place) → read_type_arg env x p ≡ of.type_arg_step env rd (out-TypeArg x) p
-  unfolding read_generic_arg read_type_kind read_path read_segment read_assoc_type_arg read_generic_arg_list read_param
-      read_paren_args read_path_type read_ret_type read_type_arg read_type_bound read_type
-  read_type_arg_is x p = (λ j. folds.fold_out-TypeArg
-      type_readings.GenericArg type_readings.TypeKind type_readings.Path type_readings.PathSegment type_readings.AssocTypeArg
-      type_readings.GenericArgList type_readings.Param type_readings.ParenArgs type_readings.PathType type_readings.RetType
-      type_readings.TypeArg type_readings.TypeBound type_readings.Type_
-      (of.generic_arg_step env type_itself) (of.type_kind_step env type_itself) (of.path_step env type_itself)
-      (of.segment_step env type_itself) (of.assoc_type_arg_step env type_itself) (of.generic_arg_list_step env type_itself)
-      (of.param_step env type_itself) (of.paren_args_step env type_itself) (of.path_type_step env type_itself)
-      (of.ret_type_step env type_itself) (of.type_arg_step env type_itself) (of.type_bound_step env type_itself)
-      (of.type_step env type_itself) x j p)
-      ∙ type_arg_step_is (out-TypeArg x) p
+  read_type_arg_is x p = opened_type_arg env x p ∙ type_arg_step_is (out-TypeArg x) p
 
   read_assoc_type_arg_is : (x : AstAssocTypeArg) (p : Place)
       → read_assoc_type_arg env x p ≡ of.assoc_type_arg_step env rd (out-AssocTypeArg x) p
-  unfolding read_generic_arg read_type_kind read_path read_segment read_assoc_type_arg read_generic_arg_list read_param
-      read_paren_args read_path_type read_ret_type read_type_arg read_type_bound read_type
-  read_assoc_type_arg_is x p = (λ j. folds.fold_out-AssocTypeArg
-      type_readings.GenericArg type_readings.TypeKind type_readings.Path type_readings.PathSegment type_readings.AssocTypeArg
-      type_readings.GenericArgList type_readings.Param type_readings.ParenArgs type_readings.PathType type_readings.RetType
-      type_readings.TypeArg type_readings.TypeBound type_readings.Type_
-      (of.generic_arg_step env type_itself) (of.type_kind_step env type_itself) (of.path_step env type_itself)
-      (of.segment_step env type_itself) (of.assoc_type_arg_step env type_itself) (of.generic_arg_list_step env type_itself)
-      (of.param_step env type_itself) (of.paren_args_step env type_itself) (of.path_type_step env type_itself)
-      (of.ret_type_step env type_itself) (of.type_arg_step env type_itself) (of.type_bound_step env type_itself)
-      (of.type_step env type_itself) x j p)
-      ∙ assoc_type_arg_step_is (out-AssocTypeArg x) p
+  read_assoc_type_arg_is x p = opened_assoc_type_arg env x p ∙ assoc_type_arg_step_is (out-AssocTypeArg x) p
 
   read_type_bound_is : (x : AstTypeBound) (p : Place) → read_type_bound env x p ≡ of.type_bound_step env rd (out-TypeBound x) p
-  unfolding read_generic_arg read_type_kind read_path read_segment read_assoc_type_arg read_generic_arg_list read_param
-      read_paren_args read_path_type read_ret_type read_type_arg read_type_bound read_type
-  read_type_bound_is x p = (λ j. folds.fold_out-TypeBound
-      type_readings.GenericArg type_readings.TypeKind type_readings.Path type_readings.PathSegment type_readings.AssocTypeArg
-      type_readings.GenericArgList type_readings.Param type_readings.ParenArgs type_readings.PathType type_readings.RetType
-      type_readings.TypeArg type_readings.TypeBound type_readings.Type_
-      (of.generic_arg_step env type_itself) (of.type_kind_step env type_itself) (of.path_step env type_itself)
-      (of.segment_step env type_itself) (of.assoc_type_arg_step env type_itself) (of.generic_arg_list_step env type_itself)
-      (of.param_step env type_itself) (of.paren_args_step env type_itself) (of.path_type_step env type_itself)
-      (of.ret_type_step env type_itself) (of.type_arg_step env type_itself) (of.type_bound_step env type_itself)
-      (of.type_step env type_itself) x j p)
-      ∙ type_bound_step_is (out-TypeBound x) p
+  read_type_bound_is x p = opened_type_bound env x p ∙ type_bound_step_is (out-TypeBound x) p
 
 pub type_is_level : (at : Spot) (x : AstType_) → answered_type at x ≡ type_level at x
 type_is_level at x = read_type_is at.answers x at.place

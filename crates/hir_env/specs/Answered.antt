@@ -97,6 +97,8 @@ mutual
     for_type : Binder → OptionType → Type_
     leaf_type : Pointer → TypeLeaf → Type_
     over_type : Pointer → TypeUnary → OptionType → Type_
+    -- its length, and what it is an array of
+    array_type : Pointer → Constant → OptionType → Type_
     tuple_type : Pointer → Parts → Type_
     path_type : Pointer → OptionPath → Type_
     ref_type : Pointer → Option Lifetime → Mutability → OptionType → Type_
@@ -170,6 +172,7 @@ mutual
   pub data Arg : Type 0 where
     type_arg : OptionType → Arg
     lifetime_arg : Lifetime → Arg
+    const_arg : Constant → Arg
     -- a lifetime that a text lacks, and a binding with a parameter list or without a name
     skipped_arg : Arg
     -- a binding: its name, its `<..>`, whether `(..)` with two dots in it stands there, its type and its bounds
@@ -186,7 +189,10 @@ mutual
     lifetime_bound : Lifetime → Bound
     use_bound : List UseRead → Bound
 
-mutual
+  -- An argument, or the length of an array. A length that a text lacks is a constant, too.
+  pub data Constant : Type 0 where
+    constant : OptionExpr → Constant
+
   pub data Expr : Type 0 where
     disabled_expr : Pointer → CfgId → Expr → Expr
     if_expr : Pointer → OptionExpr → OptionBlock → OptionExpr → Expr

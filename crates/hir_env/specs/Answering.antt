@@ -28,11 +28,13 @@ use Rattle.hir_env.specs.declared.place.LoweringMode.TheVariants as mode
 use Rattle.hir_env.specs.Answers.{Answers}
 pub use Rattle.hir_env.specs.Spot.{in_file, ptr, site_of}
 pub use Rattle.hir_env.specs.Paths.{mutability}
-use Rattle.hir_env.specs.Paths.{path_or_none, type_or_none, arg_list_or_none, read_path, read_type, read_generic_arg_list}
-use Rattle.hir_env.specs.Layers.{BlockReading, StmtReading, Sorts, Reader, ElseBranchLayer, ExprKindLayer, StmtKindLayer}
-use Rattle.hir_env.specs.Layers.{BlockExprLayer, ExprLayer, RecordExprFieldLayer, RecordExprFieldListLayer, StmtLayer, RecordReading}
+use Rattle.hir_env.specs.Paths.{path_or_none, type_or_none, arg_list_or_none, inside_constant}
+use Rattle.hir_env.specs.Layers.{BlockReading, StmtReading, RecordReading, Sorts, Reader, ElseBranchLayer, ExprKindLayer}
+use Rattle.hir_env.specs.Layers.{StmtKindLayer, BlockExprLayer, ConstArgLayer, ExprLayer, RecordExprFieldLayer}
+use Rattle.hir_env.specs.Layers.{RecordExprFieldListLayer, StmtLayer}
 use Rattle.hir_env.specs.Answered as tree
 use Rattle.hir_env.specs.Answered.{Label, Jump, Expr, OptionExpr, Exprs, Fields, Field, Spread, Block, OptionBlock, Stmts, Stmt}
+use Rattle.hir_env.specs.Answered.{Constant}
 
 -- names and labels
 
@@ -169,14 +171,14 @@ module _ (env : Answers) {S : Sorts} (part : Reader S) where
   expr_at (ExprKind-F.BlockExpr b) p s = (part.block_expr b).own p
   expr_at (ExprKind-F.LoopExpr l b) p s = tree.loop_expr s (option_map (label_of env p) l) (plain_or_none part.block_expr b p)
   expr_at (ExprKind-F.CallExpr f es) p s = tree.call_expr s (expr_or_none part.expr f p) (exprs_or_none part.expr es p)
-  expr_at (ExprKind-F.PathExpr x) p s = tree.path_expr s (path_or_none (read_path env) x p) (env.hygiene (site_of s))
+  expr_at (ExprKind-F.PathExpr x) p s = tree.path_expr s (path_or_none part.path x p) (env.hygiene (site_of s))
   expr_at (ExprKind-F.ContinueExpr l) p s = tree.continue_expr s (option_map (jump_of env p) l)
   expr_at (ExprKind-F.BreakExpr l e) p s = tree.break_expr s (option_map (jump_of env p) l) (expr_or_none part.expr e p)
   expr_at (ExprKind-F.ParenExpr e) p s = tree.paren_expr s (expr_or_none part.expr e p)
   expr_at (ExprKind-F.Literal l) p s = tree.literal_expr s l
   expr_at (ExprKind-F.MethodCallExpr e n as' es) p s =
       tree.method_call_expr s (expr_or_none part.expr e p) (name_or_missing n) (exprs_or_none part.expr es p)
-      (arg_list_or_none (read_generic_arg_list env) as' p)
+      (arg_list_or_none part.generic_arg_list as' p)
   expr_at (ExprKind-F.FieldExpr e n) p s = tree.unary_expr s (tree.field_of (name_or_missing n)) (expr_or_none part.expr e p)
   expr_at (ExprKind-F.PrefixExpr o e) p s = prefix_expr s o (expr_or_none part.expr e p)
   expr_at (ExprKind-F.BinExpr o a b) p s = bin_expr s o (expr_or_none part.expr a p) (expr_or_none part.expr b p)
@@ -189,10 +191,10 @@ module _ (env : Answers) {S : Sorts} (part : Reader S) where
   expr_at (ExprKind-F.YieldExpr e) p s = tree.yield_expr s (expr_or_none part.expr e p)
   expr_at (ExprKind-F.YeetExpr e) p s = tree.leaving_expr s tree.yeeting (expr_or_none part.expr e p)
   expr_at (ExprKind-F.AwaitExpr e) p s = tree.await_expr s p.await_location (expr_or_none part.expr e p)
-  expr_at (ExprKind-F.CastExpr e t) p s = tree.cast_expr s (expr_or_none part.expr e p) (type_or_none (read_type env) t p)
+  expr_at (ExprKind-F.CastExpr e t) p s = tree.cast_expr s (expr_or_none part.expr e p) (type_or_none part.type_ t p)
   expr_at (ExprKind-F.RecordExpr x l) p s = let r = record_or_empty part.field_list l p in
-      tree.record_expr s (path_or_none (read_path env) x p) r.fields r.spread
-  expr_at (ExprKind-F.OffsetOfExpr t ns) p s = tree.offset_of_expr s (type_or_none (read_type env) t p) (names_of ns)
+      tree.record_expr s (path_or_none part.path x p) r.fields r.spread
+  expr_at (ExprKind-F.OffsetOfExpr t ns) p s = tree.offset_of_expr s (type_or_none part.type_ t p) (names_of ns)
   expr_at (ExprKind-F.CfgPredExpr pred) p s = tree.literal_expr s (truth (env.cfg_pred pred))
   expr_at ExprKind-F.UnderscoreExpr p s = tree.leaf_expr s tree.underscore
   expr_at ExprKind-F.IncludeBytesExpr p s = tree.leaf_expr s tree.include_bytes
@@ -204,6 +206,9 @@ module _ (env : Answers) {S : Sorts} (part : Reader S) where
 
   abbrev pub expr_step : ExprLayer S → Place → Expr
   expr_step e = part.expr_kind e.kind (ptr e.id e.range)
+
+  abbrev pub constant_step : ConstArgLayer S → Place → Constant
+  constant_step x p = tree.constant (expr_or_none part.expr x.expr (inside_constant p))
 
   abbrev pub field_at : RecordExprFieldLayer S → Place → Pointer → Field
   field_at x p s = asked_field s (env.cfg (site_of s)) (field_of s x.name (expr_or_none part.expr x.expr p))

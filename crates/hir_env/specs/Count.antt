@@ -2,7 +2,7 @@
 use Rattle.std.specs.Prelude.{ℕ, suc, ◌+◌}
 use Rattle.hir_env.specs.Answered as tree
 use Rattle.hir_env.specs.Answered.{Type_, OptionType, Parts, Path, OptionPath, Segments, Segment, SegmentArgs, OptionParens}
-use Rattle.hir_env.specs.Answered.{OptionRet, OptionArgs, Args, Arg, Bounds, Bound}
+use Rattle.hir_env.specs.Answered.{OptionRet, OptionArgs, Args, Arg, Bounds, Bound, Constant}
 use Rattle.hir_env.specs.Answered.{Expr, OptionExpr, Exprs, Fields, Field, Spread, Block, OptionBlock, Stmts, Stmt}
 
 abbrev mutual
@@ -11,6 +11,7 @@ abbrev mutual
   count_type (tree.for_type binder t) = suc (count_option_type t)
   count_type (tree.leaf_type at form) = 1
   count_type (tree.over_type at form t) = suc (count_option_type t)
+  count_type (tree.array_type at c t) = suc (count_constant c + count_option_type t)
   count_type (tree.tuple_type at ts) = suc (count_parts ts)
   count_type (tree.path_type at x) = suc (count_option_path x)
   count_type (tree.ref_type at l m t) = suc (count_option_type t)
@@ -72,6 +73,7 @@ abbrev mutual
   pub count_arg : Arg → ℕ
   count_arg (tree.type_arg t) = count_option_type t
   count_arg (tree.lifetime_arg l) = 0
+  count_arg (tree.const_arg c) = count_constant c
   count_arg tree.skipped_arg = 0
   count_arg (tree.assoc_arg name as' dots t bs) = count_option_args as' + (count_option_type t + count_bounds bs)
 
@@ -85,7 +87,9 @@ abbrev mutual
   count_bound (tree.lifetime_bound l) = 0
   count_bound (tree.use_bound us) = 0
 
-abbrev mutual
+  pub count_constant : Constant → ℕ
+  count_constant (tree.constant e) = suc (count_option_expr e)
+
   pub count_expr : Expr → ℕ
   count_expr (tree.disabled_expr at by e) = suc (count_expr e)
   count_expr (tree.if_expr at c t e) = suc (count_option_expr c + (count_option_block t + count_option_expr e))

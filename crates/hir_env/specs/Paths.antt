@@ -12,27 +12,9 @@ use Rattle.hir_syntax.specs.declared.types.BoundKind.TheVariants as bound
 use Rattle.hir_syntax.specs.declared.types.ForBinder.{ForBinder as AstForBinder}
 use Rattle.hir_syntax.specs.declared.types.UseArg.{UseArg as AstUseArg}
 use Rattle.hir_syntax.specs.declared.types.UseArg.TheVariants as used
-use Rattle.hir_syntax.specs.declared.types.GenericArg.{GenericArg as AstGenericArg}
-use Rattle.hir_syntax.specs.declared.types.TypeKind.{TypeKind as AstTypeKind}
-use Rattle.hir_syntax.specs.declared.ast.Path.{Path as AstPath}
-use Rattle.hir_syntax.specs.declared.ast.PathSegment.{PathSegment as AstPathSegment}
-use Rattle.hir_syntax.specs.declared.types.AssocTypeArg.{AssocTypeArg as AstAssocTypeArg}
-use Rattle.hir_syntax.specs.declared.types.GenericArgList.{GenericArgList as AstGenericArgList}
-use Rattle.hir_syntax.specs.declared.types.Param.{Param as AstParam}
-use Rattle.hir_syntax.specs.declared.types.ParenArgs.{ParenArgs as AstParenArgs}
-use Rattle.hir_syntax.specs.declared.types.PathType.{PathType as AstPathType}
-use Rattle.hir_syntax.specs.declared.types.RetType.{RetType as AstRetType}
-use Rattle.hir_syntax.specs.declared.types.TypeArg.{TypeArg as AstTypeArg}
-use Rattle.hir_syntax.specs.declared.types.TypeBound.{TypeBound as AstTypeBound}
-use Rattle.hir_syntax.specs.declared.types.Type_.{Type_ as AstType_}
-use Rattle.hir_syntax.specs.declared.types.GenericArg.TheFolds.{fold-GenericArg, fold-TypeKind, fold-Path, fold-PathSegment}
-use Rattle.hir_syntax.specs.declared.types.GenericArg.TheFolds.{fold-AssocTypeArg, fold-GenericArgList, fold-Param}
-use Rattle.hir_syntax.specs.declared.types.GenericArg.TheFolds.{fold-ParenArgs, fold-PathType, fold-RetType, fold-TypeArg}
-use Rattle.hir_syntax.specs.declared.types.GenericArg.TheFolds.{fold-TypeBound, fold-Type_}
-use Rattle.hir_syntax.specs.declared.types.GenericArg.TheOpen.{GenericArg-F, TypeKind-F}
+use Rattle.hir_syntax.specs.declared.ast.ElseBranch.TheOpen.{GenericArg-F, TypeKind-F}
 use Rattle.hir_store.specs.Pointers.{Pointer}
 use Rattle.hir_store.specs.declared.ids.CrateId.{CrateId}
-use Rattle.hir_store.specs.declared.name.Name.{Name}
 use Rattle.hir_store.specs.declared.name.Name.TheVariants as name
 use Rattle.hir_store.specs.declared.hir.Mutability.{Mutability}
 use Rattle.hir_store.specs.declared.hir.Mutability.TheVariants as mutable
@@ -42,15 +24,16 @@ use Rattle.hir_store.specs.declared.type_ref.ExternAbi.{ExternAbi}
 use Rattle.hir_store.specs.declared.type_ref.ExternAbi.TheVariants as abi
 use Rattle.hir_env.specs.declared.place.Place.{Place}
 use Rattle.hir_env.specs.declared.place.ImplTrait.{ImplTrait}
+use Rattle.hir_env.specs.declared.place.ImplTrait.TheVariants as becomes
 use Rattle.hir_env.specs.Answers.{Answers}
 use Rattle.hir_env.specs.Spot.{in_file, ptr}
-use Rattle.hir_env.specs.TypeLayers.{ParamReading, PathTypeReading, TypeSorts, TypeReader, GenericArgLayer, TypeKindLayer}
-use Rattle.hir_env.specs.TypeLayers.{PathLayer, PathSegmentLayer, AssocTypeArgLayer, GenericArgListLayer, ParamLayer}
-use Rattle.hir_env.specs.TypeLayers.{ParenArgsLayer, PathTypeLayer, RetTypeLayer, TypeArgLayer, TypeBoundLayer, Type_Layer}
-use Rattle.hir_env.specs.TypeLayers.{type_readings, type_itself}
+use Rattle.hir_env.specs.Layers.{Sorts, Reader}
+use Rattle.hir_env.specs.TypeLayers.{ParamReading, PathTypeReading, GenericArgLayer, TypeKindLayer, PathLayer, PathSegmentLayer}
+use Rattle.hir_env.specs.TypeLayers.{AssocTypeArgLayer, GenericArgListLayer, ParamLayer, ParenArgsLayer, PathTypeLayer}
+use Rattle.hir_env.specs.TypeLayers.{RetTypeLayer, TypeArgLayer, TypeBoundLayer, Type_Layer}
 use Rattle.hir_env.specs.Answered as tree
 use Rattle.hir_env.specs.Answered.{Lifetime, Binder, UseRead, Type_, OptionType, Parts, Path, OptionPath, Segments, Segment}
-use Rattle.hir_env.specs.Answered.{SegmentArgs, OptionParens, OptionRet, OptionArgs, Args, Arg, Bounds, Bound}
+use Rattle.hir_env.specs.Answered.{SegmentArgs, OptionParens, OptionRet, OptionArgs, Args, Arg, Bounds, Bound, Constant}
 
 -- names, lifetimes and texts
 
@@ -114,6 +97,10 @@ inside_impl p = record p { in_impl = true }
 abbrev pub outside_impl : Place → Place
 outside_impl p = record p { in_impl = false }
 
+-- Inside of a constant, where an `impl` is an error. An `await` there stands in what the constant stands in.
+abbrev pub inside_constant : Place → Place
+inside_constant p = record p { impl_trait = becomes.Error }
+
 -- segments
 
 -- the root of the crate that `$crate` at the node stands for
@@ -171,6 +158,11 @@ module _ {A : Type 0} where
   abbrev pub type_or_none : (A → Place → Type_) → Option A → Place → OptionType
   type_or_none read None p = tree.no_type
   type_or_none read (Some x) p = tree.some_type (read x p)
+
+  -- a constant that a text lacks has no expression
+  abbrev pub constant_or_absent : (A → Place → Constant) → Option A → Place → Constant
+  constant_or_absent read None p = tree.constant tree.no_expr
+  constant_or_absent read (Some x) p = read x p
 
   abbrev pub types_of : (A → Place → Type_) → List A → Place → Parts
   types_of read [] p = tree.no_parts
@@ -252,10 +244,11 @@ module _ {A : Type 0} where
 
 -- one level
 
-module _ (env : Answers) {S : TypeSorts} (part : TypeReader S) where
+module _ (env : Answers) {S : Sorts} (part : Reader S) where
   abbrev pub type_at : TypeKindLayer S → Place → Pointer → Type_
   type_at (TypeKind-F.ParenType t) p s = tree.paren_type (type_or_none part.type_ t p)
   type_at (TypeKind-F.SliceType t) p s = tree.over_type s tree.slice_of (type_or_none part.type_ t p)
+  type_at (TypeKind-F.ArrayType t c) p s = tree.array_type s (constant_or_absent part.constant c p) (type_or_none part.type_ t p)
   type_at (TypeKind-F.TupleType ts) p s = tree.tuple_type s (types_of part.type_ ts p)
   type_at (TypeKind-F.PathType x) p s = tree.path_type s (path_or_none part.path x p)
   type_at (TypeKind-F.PtrType m t) p s = tree.over_type s (tree.pointer_to (mutability m)) (type_or_none part.type_ t p)
@@ -303,6 +296,7 @@ module _ (env : Answers) {S : TypeSorts} (part : TypeReader S) where
   generic_arg_step (GenericArg-F.TypeArg x) p = tree.type_arg (part.type_arg x p)
   generic_arg_step (GenericArg-F.AssocTypeArg x) p = part.assoc_type_arg x p
   generic_arg_step (GenericArg-F.LifetimeArg x) p = lifetime_arg_of p x.lifetime
+  generic_arg_step (GenericArg-F.ConstArg x) p = tree.const_arg (part.constant x p)
 
   abbrev pub type_arg_step : TypeArgLayer S → Place → OptionType
   type_arg_step x p = type_or_none part.type_ x.ty p
@@ -315,183 +309,3 @@ module _ (env : Answers) {S : TypeSorts} (part : TypeReader S) where
   abbrev pub type_bound_step : TypeBoundLayer S → Place → Bound
   type_bound_step b p = bound_of b.b (path_type_or_none part.path_type b.ty p) b.maybe (binder_of b.binder)
       (option_map (lifetime_of p) b.lifetime) (map (use_of p) b.uses)
-
--- whole ones
-
-abbrev pub written_types : TypeSorts
-written_types = record {
-  GenericArg = AstGenericArg;
-  TypeKind = AstTypeKind;
-  Path = AstPath;
-  PathSegment = AstPathSegment;
-  AssocTypeArg = AstAssocTypeArg;
-  GenericArgList = AstGenericArgList;
-  Param = AstParam;
-  ParenArgs = AstParenArgs;
-  PathType = AstPathType;
-  RetType = AstRetType;
-  TypeArg = AstTypeArg;
-  TypeBound = AstTypeBound;
-  Type_ = AstType_;
-}
-
-module _ (env : Answers) where
-  unfoldable pub read_generic_arg : AstGenericArg → Place → Arg
-  read_generic_arg = fold-GenericArg
-      type_readings.GenericArg type_readings.TypeKind type_readings.Path type_readings.PathSegment type_readings.AssocTypeArg
-      type_readings.GenericArgList type_readings.Param type_readings.ParenArgs type_readings.PathType type_readings.RetType
-      type_readings.TypeArg type_readings.TypeBound type_readings.Type_
-      (generic_arg_step env type_itself) (type_kind_step env type_itself) (path_step env type_itself)
-      (segment_step env type_itself) (assoc_type_arg_step env type_itself) (generic_arg_list_step env type_itself)
-      (param_step env type_itself) (paren_args_step env type_itself) (path_type_step env type_itself)
-      (ret_type_step env type_itself) (type_arg_step env type_itself) (type_bound_step env type_itself)
-      (type_step env type_itself)
-
-  unfoldable pub read_type_kind : AstTypeKind → AstPtr → Place → Type_
-  read_type_kind = fold-TypeKind
-      type_readings.GenericArg type_readings.TypeKind type_readings.Path type_readings.PathSegment type_readings.AssocTypeArg
-      type_readings.GenericArgList type_readings.Param type_readings.ParenArgs type_readings.PathType type_readings.RetType
-      type_readings.TypeArg type_readings.TypeBound type_readings.Type_
-      (generic_arg_step env type_itself) (type_kind_step env type_itself) (path_step env type_itself)
-      (segment_step env type_itself) (assoc_type_arg_step env type_itself) (generic_arg_list_step env type_itself)
-      (param_step env type_itself) (paren_args_step env type_itself) (path_type_step env type_itself)
-      (ret_type_step env type_itself) (type_arg_step env type_itself) (type_bound_step env type_itself)
-      (type_step env type_itself)
-
-  unfoldable pub read_path : AstPath → Place → Path
-  read_path = fold-Path
-      type_readings.GenericArg type_readings.TypeKind type_readings.Path type_readings.PathSegment type_readings.AssocTypeArg
-      type_readings.GenericArgList type_readings.Param type_readings.ParenArgs type_readings.PathType type_readings.RetType
-      type_readings.TypeArg type_readings.TypeBound type_readings.Type_
-      (generic_arg_step env type_itself) (type_kind_step env type_itself) (path_step env type_itself)
-      (segment_step env type_itself) (assoc_type_arg_step env type_itself) (generic_arg_list_step env type_itself)
-      (param_step env type_itself) (paren_args_step env type_itself) (path_type_step env type_itself)
-      (ret_type_step env type_itself) (type_arg_step env type_itself) (type_bound_step env type_itself)
-      (type_step env type_itself)
-
-  unfoldable pub read_segment : AstPathSegment → Place → Segment
-  read_segment = fold-PathSegment
-      type_readings.GenericArg type_readings.TypeKind type_readings.Path type_readings.PathSegment type_readings.AssocTypeArg
-      type_readings.GenericArgList type_readings.Param type_readings.ParenArgs type_readings.PathType type_readings.RetType
-      type_readings.TypeArg type_readings.TypeBound type_readings.Type_
-      (generic_arg_step env type_itself) (type_kind_step env type_itself) (path_step env type_itself)
-      (segment_step env type_itself) (assoc_type_arg_step env type_itself) (generic_arg_list_step env type_itself)
-      (param_step env type_itself) (paren_args_step env type_itself) (path_type_step env type_itself)
-      (ret_type_step env type_itself) (type_arg_step env type_itself) (type_bound_step env type_itself)
-      (type_step env type_itself)
-
-  unfoldable pub read_assoc_type_arg : AstAssocTypeArg → Place → Arg
-  read_assoc_type_arg = fold-AssocTypeArg
-      type_readings.GenericArg type_readings.TypeKind type_readings.Path type_readings.PathSegment type_readings.AssocTypeArg
-      type_readings.GenericArgList type_readings.Param type_readings.ParenArgs type_readings.PathType type_readings.RetType
-      type_readings.TypeArg type_readings.TypeBound type_readings.Type_
-      (generic_arg_step env type_itself) (type_kind_step env type_itself) (path_step env type_itself)
-      (segment_step env type_itself) (assoc_type_arg_step env type_itself) (generic_arg_list_step env type_itself)
-      (param_step env type_itself) (paren_args_step env type_itself) (path_type_step env type_itself)
-      (ret_type_step env type_itself) (type_arg_step env type_itself) (type_bound_step env type_itself)
-      (type_step env type_itself)
-
-  unfoldable pub read_generic_arg_list : AstGenericArgList → Place → Args
-  read_generic_arg_list = fold-GenericArgList
-      type_readings.GenericArg type_readings.TypeKind type_readings.Path type_readings.PathSegment type_readings.AssocTypeArg
-      type_readings.GenericArgList type_readings.Param type_readings.ParenArgs type_readings.PathType type_readings.RetType
-      type_readings.TypeArg type_readings.TypeBound type_readings.Type_
-      (generic_arg_step env type_itself) (type_kind_step env type_itself) (path_step env type_itself)
-      (segment_step env type_itself) (assoc_type_arg_step env type_itself) (generic_arg_list_step env type_itself)
-      (param_step env type_itself) (paren_args_step env type_itself) (path_type_step env type_itself)
-      (ret_type_step env type_itself) (type_arg_step env type_itself) (type_bound_step env type_itself)
-      (type_step env type_itself)
-
-  unfoldable pub read_param : AstParam → Place → ParamReading
-  read_param = fold-Param
-      type_readings.GenericArg type_readings.TypeKind type_readings.Path type_readings.PathSegment type_readings.AssocTypeArg
-      type_readings.GenericArgList type_readings.Param type_readings.ParenArgs type_readings.PathType type_readings.RetType
-      type_readings.TypeArg type_readings.TypeBound type_readings.Type_
-      (generic_arg_step env type_itself) (type_kind_step env type_itself) (path_step env type_itself)
-      (segment_step env type_itself) (assoc_type_arg_step env type_itself) (generic_arg_list_step env type_itself)
-      (param_step env type_itself) (paren_args_step env type_itself) (path_type_step env type_itself)
-      (ret_type_step env type_itself) (type_arg_step env type_itself) (type_bound_step env type_itself)
-      (type_step env type_itself)
-
-  unfoldable pub read_paren_args : AstParenArgs → Place → Parts
-  read_paren_args = fold-ParenArgs
-      type_readings.GenericArg type_readings.TypeKind type_readings.Path type_readings.PathSegment type_readings.AssocTypeArg
-      type_readings.GenericArgList type_readings.Param type_readings.ParenArgs type_readings.PathType type_readings.RetType
-      type_readings.TypeArg type_readings.TypeBound type_readings.Type_
-      (generic_arg_step env type_itself) (type_kind_step env type_itself) (path_step env type_itself)
-      (segment_step env type_itself) (assoc_type_arg_step env type_itself) (generic_arg_list_step env type_itself)
-      (param_step env type_itself) (paren_args_step env type_itself) (path_type_step env type_itself)
-      (ret_type_step env type_itself) (type_arg_step env type_itself) (type_bound_step env type_itself)
-      (type_step env type_itself)
-
-  unfoldable pub read_path_type : AstPathType → Place → PathTypeReading
-  read_path_type = fold-PathType
-      type_readings.GenericArg type_readings.TypeKind type_readings.Path type_readings.PathSegment type_readings.AssocTypeArg
-      type_readings.GenericArgList type_readings.Param type_readings.ParenArgs type_readings.PathType type_readings.RetType
-      type_readings.TypeArg type_readings.TypeBound type_readings.Type_
-      (generic_arg_step env type_itself) (type_kind_step env type_itself) (path_step env type_itself)
-      (segment_step env type_itself) (assoc_type_arg_step env type_itself) (generic_arg_list_step env type_itself)
-      (param_step env type_itself) (paren_args_step env type_itself) (path_type_step env type_itself)
-      (ret_type_step env type_itself) (type_arg_step env type_itself) (type_bound_step env type_itself)
-      (type_step env type_itself)
-
-  unfoldable pub read_ret_type : AstRetType → Place → OptionType
-  read_ret_type = fold-RetType
-      type_readings.GenericArg type_readings.TypeKind type_readings.Path type_readings.PathSegment type_readings.AssocTypeArg
-      type_readings.GenericArgList type_readings.Param type_readings.ParenArgs type_readings.PathType type_readings.RetType
-      type_readings.TypeArg type_readings.TypeBound type_readings.Type_
-      (generic_arg_step env type_itself) (type_kind_step env type_itself) (path_step env type_itself)
-      (segment_step env type_itself) (assoc_type_arg_step env type_itself) (generic_arg_list_step env type_itself)
-      (param_step env type_itself) (paren_args_step env type_itself) (path_type_step env type_itself)
-      (ret_type_step env type_itself) (type_arg_step env type_itself) (type_bound_step env type_itself)
-      (type_step env type_itself)
-
-  unfoldable pub read_type_arg : AstTypeArg → Place → OptionType
-  read_type_arg = fold-TypeArg
-      type_readings.GenericArg type_readings.TypeKind type_readings.Path type_readings.PathSegment type_readings.AssocTypeArg
-      type_readings.GenericArgList type_readings.Param type_readings.ParenArgs type_readings.PathType type_readings.RetType
-      type_readings.TypeArg type_readings.TypeBound type_readings.Type_
-      (generic_arg_step env type_itself) (type_kind_step env type_itself) (path_step env type_itself)
-      (segment_step env type_itself) (assoc_type_arg_step env type_itself) (generic_arg_list_step env type_itself)
-      (param_step env type_itself) (paren_args_step env type_itself) (path_type_step env type_itself)
-      (ret_type_step env type_itself) (type_arg_step env type_itself) (type_bound_step env type_itself)
-      (type_step env type_itself)
-
-  unfoldable pub read_type_bound : AstTypeBound → Place → Bound
-  read_type_bound = fold-TypeBound
-      type_readings.GenericArg type_readings.TypeKind type_readings.Path type_readings.PathSegment type_readings.AssocTypeArg
-      type_readings.GenericArgList type_readings.Param type_readings.ParenArgs type_readings.PathType type_readings.RetType
-      type_readings.TypeArg type_readings.TypeBound type_readings.Type_
-      (generic_arg_step env type_itself) (type_kind_step env type_itself) (path_step env type_itself)
-      (segment_step env type_itself) (assoc_type_arg_step env type_itself) (generic_arg_list_step env type_itself)
-      (param_step env type_itself) (paren_args_step env type_itself) (path_type_step env type_itself)
-      (ret_type_step env type_itself) (type_arg_step env type_itself) (type_bound_step env type_itself)
-      (type_step env type_itself)
-
-  unfoldable pub read_type : AstType_ → Place → Type_
-  read_type = fold-Type_
-      type_readings.GenericArg type_readings.TypeKind type_readings.Path type_readings.PathSegment type_readings.AssocTypeArg
-      type_readings.GenericArgList type_readings.Param type_readings.ParenArgs type_readings.PathType type_readings.RetType
-      type_readings.TypeArg type_readings.TypeBound type_readings.Type_
-      (generic_arg_step env type_itself) (type_kind_step env type_itself) (path_step env type_itself)
-      (segment_step env type_itself) (assoc_type_arg_step env type_itself) (generic_arg_list_step env type_itself)
-      (param_step env type_itself) (paren_args_step env type_itself) (path_type_step env type_itself)
-      (ret_type_step env type_itself) (type_arg_step env type_itself) (type_bound_step env type_itself)
-      (type_step env type_itself)
-
-  abbrev pub type_reader : TypeReader written_types
-  type_reader = record {
-    generic_arg = read_generic_arg;
-    type_kind = read_type_kind;
-    path = read_path;
-    segment = read_segment;
-    assoc_type_arg = read_assoc_type_arg;
-    generic_arg_list = read_generic_arg_list;
-    param = read_param;
-    paren_args = read_paren_args;
-    path_type = read_path_type;
-    ret_type = read_ret_type;
-    type_arg = read_type_arg;
-    type_bound = read_type_bound;
-    type_ = read_type;
-  }

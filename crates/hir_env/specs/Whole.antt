@@ -1,14 +1,18 @@
--- A whole tree with the answers written into it, by one fold, and the equations of its levels.
+-- A tree with the answers written into it at a spot, and the equations of its levels.
 use Rattle.std.specs.Prelude.{Bool, List, [], ◌∷◌, Option, option_map}
 use Rattle.hir_syntax.specs.declared.ast.ElseBranch.{ElseBranch as AstElseBranch, out-ElseBranch}
-use Rattle.hir_syntax.specs.declared.ast.ExprKind.{ExprKind as AstExprKind, out-ExprKind}
-use Rattle.hir_syntax.specs.declared.ast.StmtKind.{StmtKind as AstStmtKind, out-StmtKind}
-use Rattle.hir_syntax.specs.declared.ast.BlockExpr.{BlockExpr as AstBlockExpr, out-BlockExpr}
-use Rattle.hir_syntax.specs.declared.ast.Expr.{Expr as AstExpr}
+use Rattle.hir_syntax.specs.declared.ast.ExprKind.{out-ExprKind}
+use Rattle.hir_syntax.specs.declared.ast.StmtKind.{out-StmtKind}
 use Rattle.hir_syntax.specs.declared.types.GenericArg.{GenericArg as AstGenericArg, out-GenericArg}
-use Rattle.hir_syntax.specs.declared.types.TypeKind.{TypeKind as AstTypeKind, out-TypeKind}
+use Rattle.hir_syntax.specs.declared.types.TypeKind.{out-TypeKind}
+use Rattle.hir_syntax.specs.declared.ast.BlockExpr.{BlockExpr as AstBlockExpr, out-BlockExpr}
+use Rattle.hir_syntax.specs.declared.ast.ConstArg.{ConstArg as AstConstArg, out-ConstArg}
+use Rattle.hir_syntax.specs.declared.ast.Expr.{Expr as AstExpr}
 use Rattle.hir_syntax.specs.declared.ast.Path.{Path as AstPath, out-Path}
 use Rattle.hir_syntax.specs.declared.ast.PathSegment.{PathSegment as AstPathSegment, out-PathSegment}
+use Rattle.hir_syntax.specs.declared.ast.RecordExprField.{RecordExprField as AstRecordExprField, out-RecordExprField}
+use Rattle.hir_syntax.specs.declared.ast.RecordExprFieldList.{RecordExprFieldList as AstRecordExprFieldList, out-RecordExprFieldList}
+use Rattle.hir_syntax.specs.declared.ast.Stmt.{Stmt as AstStmt}
 use Rattle.hir_syntax.specs.declared.types.AssocTypeArg.{AssocTypeArg as AstAssocTypeArg, out-AssocTypeArg}
 use Rattle.hir_syntax.specs.declared.types.GenericArgList.{GenericArgList as AstGenericArgList, out-GenericArgList}
 use Rattle.hir_syntax.specs.declared.types.Param.{Param as AstParam, out-Param}
@@ -18,112 +22,32 @@ use Rattle.hir_syntax.specs.declared.types.RetType.{RetType as AstRetType, out-R
 use Rattle.hir_syntax.specs.declared.types.TypeArg.{TypeArg as AstTypeArg, out-TypeArg}
 use Rattle.hir_syntax.specs.declared.types.TypeBound.{TypeBound as AstTypeBound, out-TypeBound}
 use Rattle.hir_syntax.specs.declared.types.Type_.{Type_ as AstType_}
-use Rattle.hir_syntax.specs.declared.ast.RecordExprField.{RecordExprField as AstRecordExprField, out-RecordExprField}
-use Rattle.hir_syntax.specs.declared.ast.RecordExprFieldList.{RecordExprFieldList as AstRecordExprFieldList, out-RecordExprFieldList}
-use Rattle.hir_syntax.specs.declared.ast.Stmt.{Stmt as AstStmt}
 use Rattle.hir_syntax.specs.declared.ast.Label.{Label as AstLabel}
 use Rattle.hir_syntax.specs.declared.ast.Lifetime.{Lifetime as AstLifetime}
-use Rattle.hir_syntax.specs.declared.ast.ElseBranch.TheFolds.{fold-ElseBranch, fold-ExprKind, fold-StmtKind, fold-BlockExpr}
-use Rattle.hir_syntax.specs.declared.ast.ElseBranch.TheFolds.{fold-Expr, fold-RecordExprField, fold-RecordExprFieldList, fold-Stmt}
 use Rattle.hir_syntax.specs.declared.node.NodeId.{NodeId}
 use Rattle.hir_syntax.specs.declared.node.TextRange.{TextRange}
-use Rattle.hir_syntax.specs.declared.node.AstPtr.{AstPtr}
 use Rattle.hir_store.specs.Pointers.{Pointer}
-use Rattle.hir_env.specs.declared.place.Place.{Place}
-use Rattle.hir_env.specs.Answers.{Answers}
 use Rattle.hir_env.specs.Spot.{Spot}
 use Rattle.hir_store.specs.declared.ids.BlockId.{BlockId}
-use Rattle.hir_env.specs.Layers.{BlockReading, StmtReading, RecordReading, Sorts, Reader, readings, itself}
+use Rattle.hir_env.specs.Layers.{RecordReading}
 use Rattle.hir_env.specs.Answering.{in_file, ptr, site_of, label_of, jump_of, modified, expr_or_none, plain_or_none, exprs_of}
-use Rattle.hir_env.specs.Answering.{exprs_or_none, numbered, inside, asked, else_branch, expr_at, expr_kind, expr_step}
-use Rattle.hir_env.specs.Answering.{block_step, stmt_at, stmt_kind, stmt_step, field_at, field_step, record_step}
-use Rattle.hir_env.specs.Answering.{fields_of, spread_or_none, record_or_empty}
-use Rattle.hir_env.specs.Paths.{inside_impl, outside_impl}
-use Rattle.hir_env.specs.Paths.{path_or_none, segment_or_absent, segments_of, first_of, rest_of, type_or_none, types_of, parts_of}
-use Rattle.hir_env.specs.Paths.{params_or_none, is_varargs, answer_or_none, ret_or_none, parens_or_none, path_type_or_none}
-use Rattle.hir_env.specs.Paths.{arg_list_or_none, generic_args_of, bounds_of, type_at, generic_arg_step, path_step, segment_step}
-use Rattle.hir_env.specs.Paths.{assoc_type_arg_step, generic_arg_list_step, param_step, paren_args_step, path_type_step}
-use Rattle.hir_env.specs.Paths.{ret_type_step, type_arg_step, type_bound_step, read_generic_arg, read_path, read_segment}
-use Rattle.hir_env.specs.Paths.{read_assoc_type_arg, read_generic_arg_list, read_param, read_paren_args, read_path_type}
-use Rattle.hir_env.specs.Paths.{read_ret_type, read_type_arg, read_type_bound, read_type, type_reader}
+use Rattle.hir_env.specs.Answering.{exprs_or_none, numbered, inside, asked, else_branch, expr_at, constant_step, stmt_at}
+use Rattle.hir_env.specs.Answering.{field_step, record_step, fields_of, spread_or_none, record_or_empty}
+use Rattle.hir_env.specs.Paths.{inside_impl, outside_impl, inside_constant, path_or_none, segment_or_absent, segments_of}
+use Rattle.hir_env.specs.Paths.{first_of, rest_of, type_or_none, types_of, parts_of, params_or_none, is_varargs, answer_or_none}
+use Rattle.hir_env.specs.Paths.{ret_or_none, parens_or_none, path_type_or_none, arg_list_or_none, generic_args_of, bounds_of}
+use Rattle.hir_env.specs.Paths.{constant_or_absent, type_at, generic_arg_step, path_step, segment_step, assoc_type_arg_step}
+use Rattle.hir_env.specs.Paths.{generic_arg_list_step, param_step, paren_args_step, path_type_step, ret_type_step, type_arg_step}
+use Rattle.hir_env.specs.Paths.{type_bound_step}
 use Rattle.hir_env.specs.TypeLayers.{ParamReading, PathTypeReading}
+pub use Rattle.hir_env.specs.Folds.{written, reader, read_else_branch, read_expr_kind, read_stmt_kind, read_generic_arg}
+pub use Rattle.hir_env.specs.Folds.{read_type_kind, read_block, read_constant, read_expr, read_path, read_segment, read_field}
+pub use Rattle.hir_env.specs.Folds.{read_record, read_stmt, read_assoc_type_arg, read_generic_arg_list, read_param, read_paren_args}
+pub use Rattle.hir_env.specs.Folds.{read_path_type, read_ret_type, read_type_arg, read_type_bound, read_type}
 use Rattle.hir_env.specs.Answered as tree
 use Rattle.hir_env.specs.Answered.{Label, Jump, Type_, OptionType, Parts, Path, OptionPath, Segments, Segment}
 use Rattle.hir_env.specs.Answered.{SegmentArgs, OptionParens, OptionRet, OptionArgs, Args, Arg, Bounds, Bound}
-use Rattle.hir_env.specs.Answered.{Expr, OptionExpr, Exprs, Fields, Field, Spread, Block, OptionBlock, Stmts, Stmt}
-
-abbrev pub written : Sorts
-written = record {
-  ElseBranch = AstElseBranch;
-  ExprKind = AstExprKind;
-  StmtKind = AstStmtKind;
-  BlockExpr = AstBlockExpr;
-  Expr = AstExpr;
-  RecordExprField = AstRecordExprField;
-  RecordExprFieldList = AstRecordExprFieldList;
-  Stmt = AstStmt;
-}
-
-module _ (env : Answers) where
-  unfoldable pub read_else_branch : AstElseBranch → Place → Expr
-  read_else_branch = fold-ElseBranch readings.ElseBranch readings.ExprKind readings.StmtKind readings.BlockExpr readings.Expr
-      readings.RecordExprField readings.RecordExprFieldList readings.Stmt
-      (else_branch env itself) (expr_kind env itself) (stmt_kind env itself) (block_step env itself) (expr_step env itself)
-      (field_step env itself) (record_step env itself) (stmt_step env itself)
-
-  unfoldable pub read_expr_kind : AstExprKind → AstPtr → Place → Expr
-  read_expr_kind = fold-ExprKind readings.ElseBranch readings.ExprKind readings.StmtKind readings.BlockExpr readings.Expr
-      readings.RecordExprField readings.RecordExprFieldList readings.Stmt
-      (else_branch env itself) (expr_kind env itself) (stmt_kind env itself) (block_step env itself) (expr_step env itself)
-      (field_step env itself) (record_step env itself) (stmt_step env itself)
-
-  unfoldable pub read_stmt_kind : AstStmtKind → Place → StmtReading
-  read_stmt_kind = fold-StmtKind readings.ElseBranch readings.ExprKind readings.StmtKind readings.BlockExpr readings.Expr
-      readings.RecordExprField readings.RecordExprFieldList readings.Stmt
-      (else_branch env itself) (expr_kind env itself) (stmt_kind env itself) (block_step env itself) (expr_step env itself)
-      (field_step env itself) (record_step env itself) (stmt_step env itself)
-
-  unfoldable pub read_block : AstBlockExpr → BlockReading
-  read_block = fold-BlockExpr readings.ElseBranch readings.ExprKind readings.StmtKind readings.BlockExpr readings.Expr
-      readings.RecordExprField readings.RecordExprFieldList readings.Stmt
-      (else_branch env itself) (expr_kind env itself) (stmt_kind env itself) (block_step env itself) (expr_step env itself)
-      (field_step env itself) (record_step env itself) (stmt_step env itself)
-
-  unfoldable pub read_expr : AstExpr → Place → Expr
-  read_expr = fold-Expr readings.ElseBranch readings.ExprKind readings.StmtKind readings.BlockExpr readings.Expr
-      readings.RecordExprField readings.RecordExprFieldList readings.Stmt
-      (else_branch env itself) (expr_kind env itself) (stmt_kind env itself) (block_step env itself) (expr_step env itself)
-      (field_step env itself) (record_step env itself) (stmt_step env itself)
-
-  unfoldable pub read_field : AstRecordExprField → Place → Field
-  read_field = fold-RecordExprField readings.ElseBranch readings.ExprKind readings.StmtKind readings.BlockExpr readings.Expr
-      readings.RecordExprField readings.RecordExprFieldList readings.Stmt
-      (else_branch env itself) (expr_kind env itself) (stmt_kind env itself) (block_step env itself) (expr_step env itself)
-      (field_step env itself) (record_step env itself) (stmt_step env itself)
-
-  unfoldable pub read_record : AstRecordExprFieldList → Place → RecordReading
-  read_record = fold-RecordExprFieldList readings.ElseBranch readings.ExprKind readings.StmtKind readings.BlockExpr readings.Expr
-      readings.RecordExprField readings.RecordExprFieldList readings.Stmt
-      (else_branch env itself) (expr_kind env itself) (stmt_kind env itself) (block_step env itself) (expr_step env itself)
-      (field_step env itself) (record_step env itself) (stmt_step env itself)
-
-  unfoldable pub read_stmt : AstStmt → Place → StmtReading
-  read_stmt = fold-Stmt readings.ElseBranch readings.ExprKind readings.StmtKind readings.BlockExpr readings.Expr
-      readings.RecordExprField readings.RecordExprFieldList readings.Stmt
-      (else_branch env itself) (expr_kind env itself) (stmt_kind env itself) (block_step env itself) (expr_step env itself)
-      (field_step env itself) (record_step env itself) (stmt_step env itself)
-
-  abbrev pub reader : Reader written
-  reader = record {
-    else_branch = read_else_branch;
-    expr_kind = read_expr_kind;
-    stmt_kind = read_stmt_kind;
-    block_expr = read_block;
-    expr = read_expr;
-    field = read_field;
-    field_list = read_record;
-    stmt = read_stmt;
-  }
+use Rattle.hir_env.specs.Answered.{Expr, OptionExpr, Exprs, Fields, Field, Spread, Block, OptionBlock, Stmts, Stmt, Constant}
 
 -- read at a spot
 
@@ -144,6 +68,9 @@ answered_field at x = read_field at.answers x at.place
 
 abbrev pub answered_record : Spot → AstRecordExprFieldList → RecordReading
 answered_record at x = read_record at.answers x at.place
+
+abbrev pub answered_constant : Spot → AstConstArg → Constant
+answered_constant at x = read_constant at.answers x at.place
 
 abbrev pub answered_type : Spot → AstType_ → Type_
 answered_type at x = read_type at.answers x at.place
@@ -205,6 +132,9 @@ spread_part at e dots = spread_or_none (read_expr at.answers) e dots at.place
 
 abbrev pub record_part : Spot → Option AstRecordExprFieldList → RecordReading
 record_part at x = record_or_empty (read_record at.answers) x at.place
+
+abbrev pub constant_part : Spot → Option AstConstArg → Constant
+constant_part at x = constant_or_absent (read_constant at.answers) x at.place
 
 abbrev pub type_part : Spot → Option AstType_ → OptionType
 type_part at t = type_or_none (read_type at.answers) t at.place
@@ -310,43 +240,46 @@ field_level at x = field_step at.answers (reader at.answers) (out-RecordExprFiel
 abbrev pub record_level : Spot → AstRecordExprFieldList → RecordReading
 record_level at x = record_step at.answers (reader at.answers) (out-RecordExprFieldList x) at.place
 
+abbrev pub constant_level : Spot → AstConstArg → Constant
+constant_level at x = constant_step at.answers (reader at.answers) (out-ConstArg x) at.place
+
 -- one level of a type or a path
 
 abbrev pub type_level : Spot → AstType_ → Type_
-type_level at x = type_at at.answers (type_reader at.answers) (out-TypeKind x.kind) at.place (pointer_at at x.id x.range)
+type_level at x = type_at at.answers (reader at.answers) (out-TypeKind x.kind) at.place (pointer_at at x.id x.range)
 
 abbrev pub param_level : Spot → AstParam → ParamReading
-param_level at x = param_step at.answers (type_reader at.answers) (out-Param x) at.place
+param_level at x = param_step at.answers (reader at.answers) (out-Param x) at.place
 
 abbrev pub ret_level : Spot → AstRetType → OptionType
-ret_level at x = ret_type_step at.answers (type_reader at.answers) (out-RetType x) at.place
+ret_level at x = ret_type_step at.answers (reader at.answers) (out-RetType x) at.place
 
 abbrev pub path_level : Spot → AstPath → Path
-path_level at x = path_step at.answers (type_reader at.answers) (out-Path x) at.place
+path_level at x = path_step at.answers (reader at.answers) (out-Path x) at.place
 
 abbrev pub segment_level : Spot → AstPathSegment → Segment
-segment_level at x = segment_step at.answers (type_reader at.answers) (out-PathSegment x) at.place
+segment_level at x = segment_step at.answers (reader at.answers) (out-PathSegment x) at.place
 
 abbrev pub path_type_level : Spot → AstPathType → PathTypeReading
-path_type_level at x = path_type_step at.answers (type_reader at.answers) (out-PathType x) at.place
+path_type_level at x = path_type_step at.answers (reader at.answers) (out-PathType x) at.place
 
 abbrev pub paren_args_level : Spot → AstParenArgs → Parts
-paren_args_level at x = paren_args_step at.answers (type_reader at.answers) (out-ParenArgs x) at.place
+paren_args_level at x = paren_args_step at.answers (reader at.answers) (out-ParenArgs x) at.place
 
 abbrev pub arg_list_level : Spot → AstGenericArgList → Args
-arg_list_level at x = generic_arg_list_step at.answers (type_reader at.answers) (out-GenericArgList x) at.place
+arg_list_level at x = generic_arg_list_step at.answers (reader at.answers) (out-GenericArgList x) at.place
 
 abbrev pub arg_level : Spot → AstGenericArg → Arg
-arg_level at x = generic_arg_step at.answers (type_reader at.answers) (out-GenericArg x) at.place
+arg_level at x = generic_arg_step at.answers (reader at.answers) (out-GenericArg x) at.place
 
 abbrev pub type_arg_level : Spot → AstTypeArg → OptionType
-type_arg_level at x = type_arg_step at.answers (type_reader at.answers) (out-TypeArg x) at.place
+type_arg_level at x = type_arg_step at.answers (reader at.answers) (out-TypeArg x) at.place
 
 abbrev pub assoc_arg_level : Spot → AstAssocTypeArg → Arg
-assoc_arg_level at x = assoc_type_arg_step at.answers (type_reader at.answers) (out-AssocTypeArg x) at.place
+assoc_arg_level at x = assoc_type_arg_step at.answers (reader at.answers) (out-AssocTypeArg x) at.place
 
 abbrev pub bound_level : Spot → AstTypeBound → Bound
-bound_level at x = type_bound_step at.answers (type_reader at.answers) (out-TypeBound x) at.place
+bound_level at x = type_bound_step at.answers (reader at.answers) (out-TypeBound x) at.place
 
 -- what stands behind the name of a segment
 abbrev pub segment_args_level : Spot → AstPathSegment → SegmentArgs
@@ -359,3 +292,7 @@ in_impl at = record at { place = inside_impl at.place }
 
 abbrev pub in_binding : Spot → Spot
 in_binding at = record at { place = outside_impl at.place }
+
+-- the spot inside of a constant
+abbrev pub in_constant : Spot → Spot
+in_constant at = record at { place = inside_constant at.place }

@@ -14,12 +14,12 @@ use Rattle.hir_store.proofs.Range.{extends_refl, extends_root, extends_trans}
 use Rattle.hir_env.specs.Answered as tree
 use Rattle.hir_env.specs.Answered.{OptionExpr}
 use Rattle.hir_lower_form.specs.Builder.{Builder}
-use Rattle.hir_lower_form.specs.Lowering.{Checked, Lowering, Lowers, go_on, close_labels, record_root, report}
+use Rattle.hir_lower_form.specs.Lowering.{Checked, Lowering, Lowers, go_on, close_labels, enter_root, outside_root, record_root, report}
 use Rattle.hir_lower_form.specs.Lower.{lower_part}
 use Rattle.hir_steps.specs.Keeps.{KeepsAll, Keeps, Paired}
 use Rattle.hir_steps.proofs.Keeping.{keeping}
 use Rattle.hir_same_meaning.specs.Headline.{Lowered}
-use Rattle.hir_same_meaning.proofs.Tree.{headline, reached_once}
+use Rattle.hir_same_meaning.proofs.Whole.{headline}
 use Rattle.hir_one_result.specs.Diagnostics.{Faults}
 use Rattle.hir_one_result.specs.Laws.{Fits, FitsUnless}
 use Rattle.hir_one_result.specs.Room.{TooLarge}
@@ -29,24 +29,30 @@ use Rattle.hir_one_result.proofs.TreeFaults.{diagnostics_are}
 use Rattle.hir_one_result.proofs.TreeBlocks.{blocks_are}
 use Rattle.hir_one_result.proofs.Fits.{all_fit}
 use Rattle.hir_one_result.proofs.Whole.{one_results}
+use Rattle.hir_type_result.proofs.Inside.{expr_inside}
 use Rattle.hir_type_result.proofs.Named.{expr_types_once}
+use Rattle.hir_lower.specs.Calls.{Outside}
 use Rattle.hir_lower.specs.Roots.{RefusedAtEnd, StoresFromNothing, fresh, root_of, body_of, report_missing}
 use Rattle.hir_lower.specs.Stays.{Stays}
 use Rattle.hir_lower.proofs.Ways.{Went, went}
 use Rattle.hir_lower.proofs.TreeWays.{part_leads}
 use Rattle.hir_lower.specs.Means.{Rooted, HasBody, body_fault, unless_skipped, missing_fault, owed_faults}
 
+-- inside of a root no label is open
 abbrev closed : Builder → Builder
-closed b = record b { scopes = [] }
+closed b = record b { scopes = []; in_root = true }
 
 abbrev rooted : Builder → ExprId → Builder
-rooted b i = record b { stored = record b.stored { roots = b.stored.roots ++ root_at b.stored.exprs.entries i ∷ [] } }
+rooted b i = record b {
+  stored = record b.stored { roots = b.stored.roots ++ root_at b.stored.exprs.entries i ∷ [] };
+  in_root = false;
+}
 
 abbrev recorded : ExprId → Lowering ExprId
 recorded i = λ t. (Ok i, rooted t i)
 
 root_steps : (e : OptionExpr) (b : Builder) → root_of e b ≡ go_on (lower_part e (closed b)).0 (lower_part e (closed b)).1 recorded
-unfolding root_of close_labels record_root storing.record_root
+unfolding root_of close_labels enter_root record_root outside_root storing.record_root
 root_steps e b = refl
 
 -- nothing is lost
@@ -135,7 +141,7 @@ root_rooted e b b' i d h =
             covers_labels = standing.covers_labels;
             led = standing.led;
             labels = standing.labels;
-            reached_once = λ depth le. reached_once e (closed b) p.inner i lowered later ext depth le;
+            reached_once = λ depth le. expr_inside e (closed b) p.inner i lowered later ext depth le;
             types_reached_once = λ depth le more new. expr_types_once e (closed b) p.inner i paired p.is later ext depth le more new;
           };
       exprs = fits.exprs;
@@ -143,7 +149,7 @@ root_rooted e b b' i d h =
       lifetimes = fits.lifetimes;
       type_sources = fits.type_sources;
       lifetime_sources = fits.lifetime_sources;
-      roots = ap (λ rs. rs ++ root_at p.inner.stored.exprs.entries i ∷ []) kept.roots;
+      roots = ap (λ rs. rs ++ root_at p.inner.stored.exprs.entries i ∷ []) (kept.roots refl);
       more = faults.more;
       faults = faults.is;
       permuted = faults.permuted;
@@ -156,6 +162,17 @@ pub rooted_if : (e : OptionExpr) (b b' : Builder) (r : Checked ExprId) → Lower
     → IfOk r (λ i. Rooted b.stored b'.stored i e)
 rooted_if e b b' (Ok i) l d = root_rooted e b b' i d l.0
 rooted_if e b b' (Err f) l d = tt
+
+-- after a root all is closed again
+root_outside : (e : OptionExpr) (b b' : Builder) (i : ExprId) → root_of e b ≡ (Ok i, b') → Outside b'
+root_outside e b b' i h =
+    let p : Parts e b i b' = parts e b b' i h in
+    let kept : KeepsAll (closed b) p.inner = subst (λ r. Keeps (closed b) r.0 r.1) p.is (keeping e (closed b)) in
+    subst Outside p.left (record { scopes = kept.scopes; in_root = refl })
+
+pub outside_if : (e : OptionExpr) (b b' : Builder) (r : Checked ExprId) → Lowers HasExpr (root_of e) b r b' → IfOk r (λ i. Outside b')
+outside_if e b b' (Ok i) l = root_outside e b b' i l.0
+outside_if e b b' (Err f) l = tt
 
 -- the body of an item, from nothing
 

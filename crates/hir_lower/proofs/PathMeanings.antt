@@ -1,5 +1,5 @@
 -- What is lowered as a path is what is written.
-use Rattle.std.proofs.Common.{◌≡◌, ◌≢◌, refl, sym, ap, subst, Option, Some, None, option_map, Result, Ok, Err}
+use Rattle.std.proofs.Common.{◌≡◌, ◌≢◌, ◌∙◌, refl, sym, ap, subst, Bool, false, [], Option, Some, None, option_map, Result, Ok, Err}
 use Rattle.std.specs.Prelude.{IfOk, IsErrOf}
 use Rattle.hir_syntax.specs.declared.ast.Path.{Path as AstPath}
 use Rattle.hir_store.specs.Stored.{Stored, store_of, map_of}
@@ -15,21 +15,30 @@ use Rattle.hir_lower_form.specs.Builder.{Builder}
 use Rattle.hir_lower_form.specs.Lowering.{Checked, SomeEnd}
 use Rattle.hir_lower_form.specs.Lower.{lower_path}
 use Rattle.hir_lower_form.specs.Methods.{LowersPath}
-use Rattle.hir_steps.specs.Keeps.{KeepsAside, Paired}
-use Rattle.hir_steps.proofs.Aside.{paths_keep}
+use Rattle.hir_steps.specs.Keeps.{Keeps, KeepsAll, Paired}
+use Rattle.hir_steps.proofs.Keeping.{paths_keep}
 use Rattle.hir_read_back.proofs.Now.{path_law}
 use Rattle.hir_one_result.specs.Laws.{Grown, GrownUnless}
-use Rattle.hir_one_result.specs.PathRoom.{whole_size}
-use Rattle.hir_one_result.specs.Room.{Short}
+use Rattle.hir_one_result.specs.Diagnostics.{Around}
+use Rattle.hir_one_result.specs.Room.{Short, whole_size}
+use Rattle.hir_one_result.specs.Stands.{Open, WholeWays}
 use Rattle.hir_one_result.proofs.Fits.{paths_fit}
+use Rattle.hir_one_result.proofs.Leading.{Shown}
+use Rattle.hir_one_result.proofs.TreeBlocks.{whole_enters}
+use Rattle.hir_one_result.proofs.TreeFaults.{whole_reports}
+use Rattle.hir_one_result.proofs.TreeStands.{whole_left}
+use Rattle.hir_type_result.specs.Roots.{RootsOf, recorded}
+use Rattle.hir_type_result.proofs.Behind.{blocks_behind, faults_behind, path_roots, ways_behind}
+use Rattle.hir_type_result.proofs.Inside.{path_inside}
 use Rattle.hir_type_result.proofs.Named.{path_types_once}
-use Rattle.hir_lower.specs.Means.{BearsNames, PathRooted, ReadsBack, whole_path}
+use Rattle.hir_lower.specs.Calls.{Outside}
+use Rattle.hir_lower.specs.Means.{BearsNames, ConstantsLive, PathRooted, ReadsBack, whole_path}
 use Rattle.hir_lower.specs.Stays.{Stays}
 use Rattle.hir_lower.proofs.Ways.{Went, went}
-use Rattle.hir_lower.proofs.TypeWays.{option_path_leads}
+use Rattle.hir_lower.proofs.TreeWays.{option_path_leads}
 
-extends_of : (b : Builder) (o : Checked (Option Path)) (c : Builder) → KeepsAside b o c → Extends b.stored c.stored
-extends_of b (Ok x) c h = h.0.stays
+extends_of : (b : Builder) (o : Checked (Option Path)) (c : Builder) → Keeps b o c → Extends b.stored c.stored
+extends_of b (Ok x) c h = h.stays
 extends_of b (Err e) c h = h
 
 -- what is so of a path that stands alone
@@ -48,21 +57,60 @@ module _ (at : Spot) (x : AstPath) (b b' : Builder) where
       (sym (path_law (whole_path at x) b b' (Some y) d l.0 later ext))
   names_if (Err e) l d = tt
 
-  pub rooted_path_if : (r : Checked (Option Path)) → Alone r → Paired b.stored
+  -- where no label is open
+
+  none_around : b.scopes ≡ [] → Around [] b.scopes
+  none_around none = subst (λ rs. Around [] rs) (sym none) refl
+
+  constants_live : (later : Stored) → b.scopes ≡ []
+      → Shown (WholeWays (store_of later) (map_of later) b.scopes (whole_path at x)) b.stored b'.stored
+      → ConstantsLive b.stored b'.stored later (whole_path at x)
+  constants_live later none w = record {
+    ways = w.ways;
+    stands = subst (λ rs. WholeWays (store_of later) (map_of later) rs (whole_path at x) w.ways) none w.shown;
+    covers = w.moved.covers;
+    covers_labels = w.moved.covers_labels;
+    led = w.moved.led;
+    labels = w.moved.labels;
+  }
+
+  abbrev RootsIn : Stored → Open → Bool → Type 0
+  RootsIn later around inside = RootsOf around b.stored b'.stored later (recorded inside (whole_size (whole_path at x)).constants)
+
+  roots_outside : (later : Stored) → Outside b → RootsIn later b.scopes b.in_root → RootsIn later [] false
+  roots_outside later out h =
+      subst (λ around. RootsIn later around false) out.scopes (subst (λ inside. RootsIn later b.scopes inside) out.in_root h)
+
+  pub rooted_path_if : (r : Checked (Option Path)) → Alone r → Paired b.stored → Outside b
       → IfOk r (λ y. PathRooted b.stored b'.stored y (whole_path at x))
-  rooted_path_if (Ok y) l d =
-      let kept : KeepsAside b (Ok y) b' = subst (λ q. KeepsAside b q.0 q.1) l.0 (paths_keep (whole_path at x) b d) in
+  rooted_path_if (Ok y) l d out =
+      let p = whole_path at x in
+      let none = out.scopes in
+      let faults = faults_behind b b' y d l.0 (whole_reports p) [] (none_around none) in
+      let kept : KeepsAll b b' = subst (λ q. Keeps b q.0 q.1) l.0 (paths_keep (whole_path at x) b) in
       let grown : Grown (whole_size (whole_path at x)) b.stored b'.stored =
       subst (λ q. GrownUnless (whole_size (whole_path at x)) b.stored q.0 q.1.stored) l.0 (paths_fit (whole_path at x) b) in
       record {
+        inner = λ later ext. (path_roots p b b' y d l.0 later ext).1;
+        lives = λ later ext. constants_live later none (ways_behind b b' y d l.0 (whole_left p) later ext);
+        roots = λ later ext. roots_outside later out (path_roots p b b' y d l.0 later ext).0;
+        more = faults.more;
+        faults = faults.is;
+        permuted = faults.like;
+        blocks = blocks_behind b b' y d l.0 (whole_enters p);
         reached_once = λ later ext depth le. path_types_once (whole_path at x) b b' y d l.0 later ext depth le;
+        inside_reached_once = λ later ext depth le. path_inside p b b' y d l.0 later ext depth le;
         grown = grown;
-        aside = kept.1;
-        roots = kept.0.roots;
-        paired = kept.0.paired d;
-        mapped = kept.0.mapped d;
+        paired = kept.paired d;
+        mapped = kept.mapped d;
       }
-  rooted_path_if (Err e) l d = tt
+  rooted_path_if (Err e) l d out = tt
+
+  pub outside_path_if : (r : Checked (Option Path)) → Alone r → Outside b → IfOk r (λ y. Outside b')
+  outside_path_if (Ok y) l o =
+      let kept : KeepsAll b b' = subst (λ q. Keeps b q.0 q.1) l.0 (paths_keep (whole_path at x) b) in
+      record { scopes = kept.scopes ∙ o.scopes; in_root = kept.in_root ∙ o.in_root }
+  outside_path_if (Err e) l o = tt
 
   pub ends_if : (r : Checked (Option Path)) → Alone r → IsErrOf r Full → SomeEnd b'
   ends_if (Ok y) l is = cc
@@ -75,18 +123,18 @@ module _ (at : Spot) (x : AstPath) (b b' : Builder) where
   path_too_large_if (Ok y) l is = cc
   path_too_large_if (Err e) l is = let other : e ≢ Memory = λ m. cc in short_if e (l other).0
 
-  path_stays : Paired b.stored → Stays b.stored (lower_path (whole_path at x) b).1.stored
-  path_stays d =
+  path_stays : Stays b.stored (lower_path (whole_path at x) b).1.stored
+  path_stays =
       let o = lower_path (whole_path at x) b in
       let ways : Went b.stored o.1.stored = went (option_path_leads (whole_path at x)) b in record {
-        extends = extends_of b o.0 o.1 (paths_keep (whole_path at x) b d);
+        extends = extends_of b o.0 o.1 (paths_keep (whole_path at x) b);
         exprs = ways.exprs.ways;
         labels = ways.labels.ways;
         types = ways.types.ways;
         lifetimes = ways.lifetimes.ways;
       }
 
-  pub path_stays_if : (r : Checked (Option Path)) → Alone r → Paired b.stored → r ≢ Err Memory → Stays b.stored b'.stored
-  path_stays_if (Ok y) l d n = subst (λ q. Stays b.stored q.1.stored) l.0 (path_stays d)
-  path_stays_if (Err e) l d n =
-      let other : e ≢ Memory = λ is. n (ap Err is) in subst (λ q. Stays b.stored q.1.stored) (l other).0 (path_stays d)
+  pub path_stays_if : (r : Checked (Option Path)) → Alone r → r ≢ Err Memory → Stays b.stored b'.stored
+  path_stays_if (Ok y) l n = subst (λ q. Stays b.stored q.1.stored) l.0 path_stays
+  path_stays_if (Err e) l n =
+      let other : e ≢ Memory = λ is. n (ap Err is) in subst (λ q. Stays b.stored q.1.stored) (l other).0 path_stays

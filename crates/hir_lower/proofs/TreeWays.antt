@@ -13,9 +13,15 @@ use Rattle.hir_store.specs.declared.ids.ExprId.{ExprId}
 use Rattle.hir_store.specs.declared.ids.HygieneId.{HygieneId}
 use Rattle.hir_store.specs.declared.ids.LabelId.{LabelId}
 use Rattle.hir_store.specs.declared.ids.BlockId.{BlockId}
+use Rattle.hir_store.specs.declared.ids.TypeRefId.{TypeRefId}
+use Rattle.hir_store.specs.declared.type_ref.TypeBound.{TypeBound}
 use Rattle.hir_env.specs.Answered as tree
+use Rattle.hir_env.specs.Answered.{Binder, Type_, OptionType, Parts, Path, OptionPath, Segments, Segment, SegmentArgs, OptionParens}
+use Rattle.hir_env.specs.Answered.{OptionRet, OptionArgs, Args, Arg, Bounds, Bound, Constant}
 use Rattle.hir_env.specs.Answered.{Listing, Label, Jump, Expr, OptionExpr, Exprs, Fields, Field, Spread, Block, OptionBlock, Stmts, Stmt}
-use Rattle.hir_lower_form.specs.Lowering.{Lowering}
+use Rattle.hir_lower_form.specs.declared.args.ArgLists.{ArgLists}
+use Rattle.hir_lower_form.specs.declared.walk.PathWalk.{PathWalk}
+use Rattle.hir_lower_form.specs.Lowering.{Lowering, ◌>>=◌}
 use Rattle.hir_lower_form.specs.Lower.{ExprSteps, StoredContents, missing, some, if_form, loop_form, call_form, continue_form}
 use Rattle.hir_lower_form.specs.Lower.{break_form, paren_form, operand_form, operands_form, value_form, list_form}
 use Rattle.hir_lower_form.specs.Types.{TypeSteps}
@@ -23,10 +29,17 @@ use Rattle.hir_lower_form.specs.Lower.{path_form, method_call_form, await_form, 
 use Rattle.hir_lower_form.specs.Lower.{StoredFields, cast_form, offset_of_form, record_contents, record_of, record_form, field_form}
 use Rattle.hir_lower_form.specs.Lower.{present, kept_part, lower_each, lower_block, lower_block_part, lower_stmts, lower_stmt}
 use Rattle.hir_lower_form.specs.Lower.{lower_fields, lower_field, lower_spread}
-use Rattle.hir_lower.proofs.TypeWays.{args_part_leads, option_path_leads, type_part_leads}
+use Rattle.hir_lower_form.specs.Lower.{lower_type, type_part, present_type, type_or_unit, lower_parts, read_segment, read_each, read_path}
+use Rattle.hir_lower_form.specs.Lower.{read_option, lower_path, lower_segment_args, parens_part, output_part, args_part, lower_args}
+use Rattle.hir_lower_form.specs.Lower.{lower_arg, lower_bounds, lower_bound, constant_form, lower_constant}
+use Rattle.hir_lower_form.specs.Walks.{at_first}
+use Rattle.hir_lower.proofs.TypeWays.{error_leads, unit_leads, lifetime_leads, lifetime_option_leads, uses_lead, over_leads, array_leads}
+use Rattle.hir_lower.proofs.TypeWays.{tuple_leads, path_type_leads, ref_leads, fn_leads, impl_leads, dyn_leads, path_bound_leads}
+use Rattle.hir_lower.proofs.TypeWays.{binding_leads, counted_leads, proceed_leads, whole_leads, trait_leads, parens_leads}
+use Rattle.hir_lower.proofs.TypeWays.{segment_args_leads}
 use Rattle.hir_lower.proofs.Ways.{Leading, any, since, then', makes, leading_pure, leading_report, leading_block, leading_close}
 use Rattle.hir_lower.proofs.Ways.{leading_jump, leading_alloc, leading_open, leading_point, leading_closed, leading_report_await}
-use Rattle.hir_lower.proofs.Ways.{leading_point_field}
+use Rattle.hir_lower.proofs.Ways.{leading_point_field, leading_alloc_type, leading_barrier, leading_enter, leading_leave}
 
 missing_leads : Leading since missing
 unfolding missing
@@ -132,11 +145,124 @@ unfolding labelled
 labelled_leads None h = h None
 labelled_leads (Some l) h = makes (leading_open l) (λ n. leading_closed (h (Some n)))
 
+constant_form_leads : {e : ExprSteps} → Leading since e → Leading any (constant_form e)
+unfolding constant_form
+constant_form_leads h = then' leading_barrier (λ u. then' leading_enter (λ outer.
+    then' h (λ i. then' leading_close (λ u. then' (leading_leave outer i) (λ u. leading_pure _)))))
+
 kept_leads : (e : Expr) {p : ExprSteps} → Leading since p → Leading any (kept e p)
 kept_leads (tree.disabled_expr at by e) h = then' (leading_report _) (λ u. leading_pure None)
 kept_leads e h = some_leads h
 
 mutual
+  type_leads : (binder : Option Binder) (t : Type_) → Leading any (lower_type binder t)
+  type_leads binder (tree.paren_type t) = type_part_leads binder t
+  type_leads binder (tree.for_type names t) = type_part_leads (Some names) t
+  type_leads binder (tree.leaf_type at form) = leading_alloc_type _ (Some at)
+  type_leads binder (tree.over_type at form t) = over_leads at form (type_part_leads None t)
+  type_leads binder (tree.array_type at c t) = array_leads at (constant_leads c) (type_part_leads None t)
+  type_leads binder (tree.tuple_type at ts) = tuple_leads at (parts_lead [] ts)
+  type_leads binder (tree.path_type at p) = path_type_leads at (option_path_leads p)
+  type_leads binder (tree.ref_type at l mutability t) = ref_leads at mutability (type_part_leads None t) (lifetime_option_leads l)
+  type_leads binder (tree.fn_type at head ts r) = fn_leads at binder head (parts_lead [] ts) (answer_leads r)
+  type_leads binder (tree.impl_type at mode bs) = impl_leads at mode (bounds_lead [] bs)
+  type_leads binder (tree.nested_impl at) = leading_alloc_type _ (Some at)
+  type_leads binder (tree.dyn_type at bs) = dyn_leads at (bounds_lead [] bs)
+
+  type_part_leads : (binder : Option Binder) (t : OptionType) → Leading any (type_part binder t)
+  type_part_leads binder tree.no_type = error_leads
+  type_part_leads binder (tree.some_type t) = type_leads binder t
+
+  present_type_leads : (t : OptionType) → Leading any (present_type t)
+  present_type_leads tree.no_type = leading_pure None
+  present_type_leads (tree.some_type t) = then' (type_leads None t) (λ i. leading_pure _)
+
+  answer_leads : (t : OptionType) → Leading any (type_or_unit t)
+  answer_leads tree.no_type = unit_leads
+  answer_leads (tree.some_type t) = type_leads None t
+
+  parts_lead : (done : List TypeRefId) (ts : Parts) → Leading any (lower_parts done ts)
+  parts_lead done tree.no_parts = leading_pure done
+  parts_lead done (tree.more_parts t ts) = then' (type_part_leads None t) (λ i. parts_lead _ ts)
+
+  segment_leads : (first : Bool) (s : Segment) (w : PathWalk) → Leading any (read_segment first s w)
+  segment_leads first tree.absent_segment w = leading_pure _
+  segment_leads first tree.broken_segment w = leading_pure _
+  segment_leads first (tree.name_segment n as') w = then' (segment_args_lead as') (λ a. leading_pure _)
+  segment_leads first tree.self_type_segment w = leading_pure _
+  segment_leads false tree.crate_segment w = leading_pure _
+  segment_leads true tree.crate_segment w = leading_pure _
+  segment_leads false (tree.dollar_crate_segment root) w = leading_pure _
+  segment_leads true (tree.dollar_crate_segment root) w = leading_pure _
+  segment_leads false tree.self_segment w = leading_pure _
+  segment_leads true tree.self_segment w = leading_pure _
+  segment_leads first tree.super_segment w = counted_leads _
+  segment_leads false (tree.type_segment t) w = leading_pure _
+  segment_leads true (tree.type_segment t) w = then' (type_leads None t) (λ i. leading_pure _)
+  segment_leads false (tree.trait_segment t at p) w = leading_pure _
+  segment_leads true (tree.trait_segment t at p) w = then' (type_leads None t) (λ i. trait_leads i at w (option_path_leads p))
+
+  segments_lead : (ss : Segments) (w : PathWalk) → Leading any (read_each ss w)
+  segments_lead tree.no_segments w = leading_pure _
+  segments_lead (tree.more_segments s ss) w = then' (segments_lead ss w) (λ r. proceed_leads r (λ v. segment_leads false s v))
+
+  reading_leads : (p : Path) (w : PathWalk) → Leading any (read_path p w)
+  reading_leads (tree.path leading first rest use_) w = whole_leads
+      (then' (segments_lead rest w) (λ r. proceed_leads r (λ v. segment_leads true first (at_first leading v))))
+      (λ v. outer_leads use_ v)
+
+  outer_leads : (p : OptionPath) (w : PathWalk) → Leading any (read_option p w)
+  outer_leads tree.no_path w = leading_pure _
+  outer_leads (tree.some_path p) w = reading_leads p w
+
+  pub option_path_leads : (p : OptionPath) → Leading any (lower_path p)
+  option_path_leads tree.no_path = leading_pure None
+  option_path_leads (tree.some_path p) = then' (reading_leads p _) (λ r. leading_pure _)
+
+  segment_args_lead : (as' : SegmentArgs) → Leading any (lower_segment_args as')
+  segment_args_lead (tree.segment_args as' ps dots) = segment_args_leads dots (args_part_leads as') (parens_part_leads ps)
+
+  parens_part_leads : (ps : OptionParens) → Leading any (parens_part ps)
+  parens_part_leads tree.no_parens = leading_pure None
+  parens_part_leads (tree.some_parens ts r) = parens_leads (parts_lead [] ts) (output_leads r)
+
+  output_leads : (r : OptionRet) → Leading any (output_part r)
+  output_leads tree.no_ret = unit_leads
+  output_leads (tree.some_ret t) = type_part_leads None t
+
+  args_part_leads : (as' : OptionArgs) → Leading any (args_part as')
+  args_part_leads tree.no_arg_list = leading_pure None
+  args_part_leads (tree.some_arg_list as') = then' (args_lead _ as') (λ l. leading_pure _)
+
+  args_lead : (l : ArgLists) (as' : Args) → Leading any (lower_args l as')
+  args_lead l tree.no_args = leading_pure l
+  args_lead l (tree.more_args a as') = then' (arg_leads l a) (λ m. args_lead m as')
+
+  arg_leads : (l : ArgLists) (a : Arg) → Leading any (lower_arg l a)
+  arg_leads l tree.skipped_arg = leading_pure l
+  arg_leads l (tree.type_arg t) = then' (type_part_leads None t) (λ i. leading_pure _)
+  arg_leads l (tree.lifetime_arg x) = then' (lifetime_leads x) (λ i. leading_pure _)
+  arg_leads l (tree.const_arg c) = then' (constant_leads c) (λ x. leading_pure _)
+  arg_leads l (tree.assoc_arg name as' dots t bs) =
+      then' (binding_leads name dots (args_part_leads as') (present_type_leads t) (bounds_lead [] bs)) (λ b. leading_pure _)
+
+  bounds_lead : (done : List TypeBound) (bs : Bounds) → Leading any (lower_bounds done bs)
+  bounds_lead done tree.no_bounds = leading_pure done
+  bounds_lead done (tree.more_bounds b bs) = then' (bound_leads b) (λ x. bounds_lead _ bs)
+
+  bound_leads : (b : Bound) → Leading any (lower_bound b)
+  bound_leads tree.error_bound = leading_pure _
+  bound_leads (tree.path_bound at p maybe binder) = path_bound_leads at maybe binder (option_path_leads p)
+  bound_leads (tree.lifetime_bound l) = then' (lifetime_leads l) (λ i. leading_pure _)
+  bound_leads (tree.use_bound us) = then' (uses_lead [] us) (λ xs. leading_pure _)
+
+  -- ---- constants
+
+  constant_leads : (c : Constant) → Leading any (lower_constant c)
+  constant_leads (tree.constant e) = constant_form_leads (part_leads e)
+
+  -- ---- expressions
+
   node_leads : (e : Expr) → Leading since (lower e)
   node_leads (tree.disabled_expr at by e) = makes (leading_report _) (λ u. missing_leads)
   node_leads (tree.if_expr at c t e) = if_leads at (part_leads c) (block_part_leads t) (present_leads e)

@@ -1,6 +1,8 @@
 -- The parts of a type, of a path and of a list of arguments are smaller than the whole, as they are answered.
 use Rattle.std.proofs.Common.{arith, ◌≡◌, refl, ap, ℕ, suc, ◌<◌, ◌≤◌, ◌+◌, Bool, true, false, Option, Some, None, List, [], ◌∷◌}
 use Rattle.std.specs.Prelude.{codes, bytes_eq, if◌then◌else◌, map, option_map}
+use Rattle.hir_syntax.specs.declared.ast.ConstArg.{ConstArg as AstConstArg, out-ConstArg}
+use Rattle.hir_syntax.specs.declared.ast.Expr.{Expr as AstExpr}
 use Rattle.hir_syntax.specs.declared.ast.Name.{Name as AstName}
 use Rattle.hir_syntax.specs.declared.ast.Path.{Path as AstPath}
 use Rattle.hir_syntax.specs.declared.ast.PathSegment.{PathSegment as AstSegment, out-PathSegment}
@@ -18,7 +20,7 @@ use Rattle.hir_syntax.specs.declared.types.TypeBound.{TypeBound as AstTypeBound,
 use Rattle.hir_syntax.specs.declared.types.AssocTypeArg.{out-AssocTypeArg}
 use Rattle.hir_syntax.specs.declared.types.GenericArg.{GenericArg as AstGenericArg, out-GenericArg}
 use Rattle.hir_syntax.specs.declared.types.GenericArgList.{GenericArgList as AstGenericArgList}
-use Rattle.hir_syntax.specs.declared.types.GenericArg.TheOpen.{GenericArg-F, TypeKind-F}
+use Rattle.hir_syntax.specs.declared.ast.ElseBranch.TheOpen.{GenericArg-F, TypeKind-F}
 use Rattle.hir_store.specs.Pointers.{Pointer}
 use Rattle.hir_store.specs.declared.name.Name.TheVariants as name_of
 use Rattle.hir_env.specs.declared.place.Place.{Place}
@@ -27,26 +29,32 @@ use Rattle.hir_env.specs.Answered as tree
 use Rattle.hir_env.specs.Answered.{Parts}
 use Rattle.hir_env.specs.Answers.{Answers}
 use Rattle.hir_env.specs.Paths as of
-use Rattle.hir_env.specs.Paths.{written_types, type_reader, inside_impl, outside_impl}
+use Rattle.hir_env.specs.Paths.{inside_constant, inside_impl, outside_impl}
+use Rattle.hir_env.specs.Whole.{written, reader, read_param, read_type_arg, read_ret_type, read_path_type}
 use Rattle.hir_env.specs.TypeLayers.{GenericArgLayer, TypeKindLayer, AssocTypeArgLayer, GenericArgListLayer, ParamLayer}
 use Rattle.hir_env.specs.TypeLayers.{PathLayer, PathSegmentLayer, TypeBoundLayer}
 use Rattle.hir_env.specs.Count.{count_type, count_option_type, count_parts, count_path, count_option_path, count_segments, count_segment}
 use Rattle.hir_env.specs.Count.{count_segment_args, count_option_parens, count_option_ret, count_option_args, count_args, count_arg}
-use Rattle.hir_env.specs.Count.{count_bounds, count_bound}
-use Rattle.hir_env.specs.Whole.{answered_type, answered_path, answered_arg_list, type_part, path_part, arg_list_part, types_part}
+use Rattle.hir_env.specs.Count.{count_bounds, count_bound, count_constant, count_expr}
+use Rattle.hir_env.specs.Whole.{answered, answered_type, answered_path, answered_arg_list, type_part, path_part, arg_list_part, types_part}
 use Rattle.hir_env.specs.Whole.{type_args_part, params_part, answer_part, ret_part, parens_part, path_type_part, segment_part}
-use Rattle.hir_env.specs.Whole.{segments_part, first_part, rest_part, generic_args_part, bounds_part}
+use Rattle.hir_env.specs.Whole.{segments_part, first_part, rest_part, generic_args_part, bounds_part, answered_constant, constant_part}
+use Rattle.hir_env.proofs.Levels.{constant_is_level}
 use Rattle.hir_env.proofs.PathLevels.{param_is_level, ret_is_level, segment_is_level, path_type_is_level, paren_args_is_level}
 use Rattle.hir_env.proofs.PathLevels.{arg_is_level, type_arg_is_level, assoc_arg_is_level, bound_is_level}
 use Rattle.hir_lower_form.specs.Nests.{Claims, IfPresent, Each, KidsTypeArg, KidsRet, KidsParam, KidsTrait, KidsBound, KidsBounds, KidsImpl}
 use Rattle.hir_lower_form.specs.Nests.{Unless, KidsBinding, KidsAssoc, KidsType, KidsArg, KidsArgs, KidsParens, KidsSegmentArgs, KidsName}
-use Rattle.hir_lower_form.specs.Nests.{KidsQualified, KidsSegment, KidsSegments, KidsPath}
+use Rattle.hir_lower_form.specs.Nests.{KidsQualified, KidsSegment, KidsSegments, KidsPath, const_expr}
+use Rattle.hir_lower_form.specs.Methods.{constant_at}
 use Rattle.hir_lower.specs.Roots.{spot_at}
 
 -- what holds of each node smaller than n, at whatever place it is read
 pub record Below (env : Answers) (C : Claims) (n : ℕ) : Type 0 where
   pub types : (p : Place) (t : AstType_) → count_type (answered_type (spot_at env p) t) < n → C.type_ p t
   pub paths : (p : Place) (x : AstPath) → count_path (answered_path (spot_at env p) x) < n → C.path p x
+  -- by the expression, which is read inside of it
+  pub constants : (p : Place) (e : AstExpr) → count_expr (answered (spot_at env (inside_constant p)) e) < n → C.constant p (Some e)
+  pub no_constant : (p : Place) → C.constant p None
   pub lists : (p : Place) (l : AstGenericArgList) → suc (count_args (answered_arg_list (spot_at env p) l)) < n → C.args p l
 
 module _ (env : Answers) (C : Claims) (n : ℕ) (below : Below env C n) where
@@ -62,18 +70,32 @@ module _ (env : Answers) (C : Claims) (n : ℕ) (below : Below env C n) where
   list p None h = tt
   list p (Some l) h = below.lists p l h
 
+  const_part : (p : Place) (o : Option AstExpr) → count_constant (constant_at (spot_at env p) o) < n → C.constant p o
+  const_part p None h = below.no_constant p
+  const_part p (Some e) h = below.constants p e (omega (arith, h))
+
+  const_arg : (p : Place) (x : AstConstArg) → count_constant (answered_constant (spot_at env p) x) < n
+      → C.constant p (out-ConstArg x).expr
+  const_arg p x h =
+      let s = ap count_constant (constant_is_level (spot_at env p) x) in
+      const_part p (out-ConstArg x).expr (omega (arith, h, s))
+
+  constant : (p : Place) (o : Option AstConstArg) → count_constant (constant_part (spot_at env p) o) < n → C.constant p (const_expr o)
+  constant p None h = const_part p None h
+  constant p (Some x) h = const_arg p x h
+
   types : (p : Place) (ts : List AstType_) → count_parts (types_part (spot_at env p) ts) < n → Each (C.type_ p) ts
   types p [] h = tt
   types p (t ∷ ts) h = (below.types p t (omega (arith, h)), types p ts (omega (arith, h)))
 
-  type_arg : (p : Place) (x : AstTypeArg) → count_option_type (of.read_type_arg env x p) < n → KidsTypeArg C p x
+  type_arg : (p : Place) (x : AstTypeArg) → count_option_type (read_type_arg env x p) < n → KidsTypeArg C p x
   type_arg p x h = let s = ap count_option_type (type_arg_is_level (spot_at env p) x) in type_ p (out-TypeArg x).ty (omega (arith, h, s))
 
   type_args : (p : Place) (xs : List AstTypeArg) → count_parts (type_args_part (spot_at env p) xs) < n → Each (KidsTypeArg C p) xs
   type_args p [] h = tt
   type_args p (x ∷ xs) h = (type_arg p x (omega (arith, h)), type_args p xs (omega (arith, h)))
 
-  ret : (p : Place) (r : AstRetType) → count_option_type (of.read_ret_type env r p) < n → KidsRet C p r
+  ret : (p : Place) (r : AstRetType) → count_option_type (read_ret_type env r p) < n → KidsRet C p r
   ret p r h = let s = ap count_option_type (ret_is_level (spot_at env p) r) in type_ p (out-RetType r).ty (omega (arith, h, s))
 
   answer : (p : Place) (o : Option AstRetType) → count_option_type (answer_part (spot_at env p) o) < n → IfPresent (KidsRet C p) o
@@ -84,13 +106,13 @@ module _ (env : Answers) (C : Claims) (n : ℕ) (below : Below env C n) where
   ret_option p None h = tt
   ret_option p (Some r) h = ret p r h
 
-  params : (p : Place) (xs : List AstParam) → count_parts (of.params_of (of.read_param env) xs p) < n
+  params : (p : Place) (xs : List AstParam) → count_parts (of.params_of (read_param env) xs p) < n
       → Each (λ x. KidsParam C p (out-Param x)) xs
   params p [] h = tt
-  params p (x ∷ xs) h = split (out-Param x) (of.params_of (of.read_param env) xs p) (params p xs) (out-Param x).variadic refl
+  params p (x ∷ xs) h = split (out-Param x) (of.params_of (read_param env) xs p) (params p xs) (out-Param x).variadic refl
       (rw (param_is_level (spot_at env p) x) at h)
     where
-      split : (y : ParamLayer written_types) (behind : Parts) → (count_parts behind < n → Each (λ x. KidsParam C p (out-Param x)) xs)
+      split : (y : ParamLayer written) (behind : Parts) → (count_parts behind < n → Each (λ x. KidsParam C p (out-Param x)) xs)
           → (b : Bool) → y.variadic ≡ b
           → count_parts (if b then behind else tree.more_parts (type_part (spot_at env p) y.ty) behind) < n
           → KidsParam C p y × Each (λ x. KidsParam C p (out-Param x)) xs
@@ -102,11 +124,11 @@ module _ (env : Answers) (C : Claims) (n : ℕ) (below : Below env C n) where
   params_option p None h = tt
   params_option p (Some xs) h = params p xs h
 
-  trait_ : (p : Place) (t : AstPathType) → count_option_path (of.read_path_type env t p).path < n → KidsTrait C p t
+  trait_ : (p : Place) (t : AstPathType) → count_option_path (read_path_type env t p).path < n → KidsTrait C p t
   trait_ p t h = let s = ap (λ r. count_option_path r.path) (path_type_is_level (spot_at env p) t) in
       path_below p (out-PathType t).path (omega (arith, h, s))
 
-  bound : (p : Place) (x : TypeBoundLayer written_types) → count_bound (of.type_bound_step env (type_reader env) x p) < n → KidsBound C p x
+  bound : (p : Place) (x : TypeBoundLayer written) → count_bound (of.type_bound_step env (reader env) x p) < n → KidsBound C p x
   bound p x h = by x.b refl x.ty refl h
     where
       by : (k : Option BoundKind) → x.b ≡ k → (t : Option AstPathType) → x.ty ≡ t
@@ -134,10 +156,11 @@ module _ (env : Answers) (C : Claims) (n : ℕ) (below : Below env C n) where
       by true h = tt
       by false h = bounds (inside_impl p) bs (omega (arith, h))
 
-  pub kids_type : (p : Place) (at : Pointer) (k : TypeKindLayer written_types)
-      → count_type (of.type_at env (type_reader env) k p at) ≤ n → KidsType C p k
+  pub kids_type : (p : Place) (at : Pointer) (k : TypeKindLayer written)
+      → count_type (of.type_at env (reader env) k p at) ≤ n → KidsType C p k
   kids_type p at (TypeKind-F.ParenType t) h = type_ p t (omega (arith, h))
   kids_type p at (TypeKind-F.SliceType t) h = type_ p t (omega (arith, h))
+  kids_type p at (TypeKind-F.ArrayType t c) h = (constant p c (omega (arith, h)), type_ p t (omega (arith, h)))
   kids_type p at (TypeKind-F.TupleType ts) h = types p ts (omega (arith, h))
   kids_type p at (TypeKind-F.PathType x) h = path_below p x (omega (arith, h))
   kids_type p at (TypeKind-F.PtrType m t) h = type_ p t (omega (arith, h))
@@ -149,7 +172,7 @@ module _ (env : Answers) (C : Claims) (n : ℕ) (below : Below env C n) where
   kids_type p at TypeKind-F.NeverType h = tt
   kids_type p at TypeKind-F.InferType h = tt
 
-  assoc : (p : Place) (a : AssocTypeArgLayer written_types) → count_arg (of.assoc_type_arg_step env (type_reader env) a p) < n
+  assoc : (p : Place) (a : AssocTypeArgLayer written) → count_arg (of.assoc_type_arg_step env (reader env) a p) < n
       → KidsAssoc C p a
   assoc p a h = by a.params a.name h
     where
@@ -167,11 +190,12 @@ module _ (env : Answers) (C : Claims) (n : ℕ) (below : Below env C n) where
         bounds = bounds (outside_impl p) a.bounds (omega (arith, h));
       }
 
-  arg : (p : Place) (k : GenericArgLayer written_types) → count_arg (of.generic_arg_step env (type_reader env) k p) < n → KidsArg C p k
+  arg : (p : Place) (k : GenericArgLayer written) → count_arg (of.generic_arg_step env (reader env) k p) < n → KidsArg C p k
   arg p (GenericArg-F.TypeArg x) h = type_arg p x h
   arg p (GenericArg-F.AssocTypeArg x) h =
       let s = ap count_arg (assoc_arg_is_level (spot_at env p) x) in assoc p (out-AssocTypeArg x) (omega (arith, h, s))
   arg p (GenericArg-F.LifetimeArg x) h = tt
+  arg p (GenericArg-F.ConstArg x) h = const_arg p x h
 
   args : (p : Place) (as' : List AstGenericArg) → count_args (generic_args_part (spot_at env p) as') < n
       → Each (λ a. KidsArg C p (out-GenericArg a)) as'
@@ -180,8 +204,8 @@ module _ (env : Answers) (C : Claims) (n : ℕ) (below : Below env C n) where
       let s = ap count_arg (arg_is_level (spot_at env p) a) in
       (arg p (out-GenericArg a) (omega (arith, h, s)), args p as' (omega (arith, h)))
 
-  pub kids_args : (p : Place) (l : GenericArgListLayer written_types)
-      → suc (count_args (of.generic_arg_list_step env (type_reader env) l p)) ≤ n → KidsArgs C p l
+  pub kids_args : (p : Place) (l : GenericArgListLayer written)
+      → suc (count_args (of.generic_arg_list_step env (reader env) l p)) ≤ n → KidsArgs C p l
   kids_args p l h = args p l.args h
 
   parens : (p : Place) (o : Option AstParenArgs) (r : Option AstRetType) → count_option_parens (parens_part (spot_at env p) o r) < n
@@ -197,7 +221,7 @@ module _ (env : Answers) (C : Claims) (n : ℕ) (below : Below env C n) where
   qualified p (Some x) None h = (below.types p x h, tt)
   qualified p (Some x) (Some t) h = (below.types p x (omega (arith, h)), trait_ p t (omega (arith, h)))
 
-  name : (p : Place) (o : Option AstName) (s : PathSegmentLayer written_types)
+  name : (p : Place) (o : Option AstName) (s : PathSegmentLayer written)
       → count_segment (of.named_segment env p o (tree.segment_args (arg_list_part (spot_at env p) s.generics)
       (parens_part (spot_at env p) s.parens s.ret) s.rtn)) < n
       → KidsName C p o s
@@ -211,7 +235,7 @@ module _ (env : Answers) (C : Claims) (n : ℕ) (below : Below env C n) where
       by true h = tt
       by false h = (list p s.generics (omega (arith, h)), parens p s.parens s.ret (omega (arith, h)))
 
-  segment : (p : Place) (s : PathSegmentLayer written_types) → count_segment (of.segment_step env (type_reader env) s p) < n
+  segment : (p : Place) (s : PathSegmentLayer written) → count_segment (of.segment_step env (reader env) s p) < n
       → KidsSegment C p s
   segment p s h = by s.seg refl h
     where
@@ -243,5 +267,5 @@ module _ (env : Answers) (C : Claims) (n : ℕ) (below : Below env C n) where
   all_segments p [] h = tt
   all_segments p (s ∷ ss) h = (one_segment p s (omega (arith, h)), segments p ss (omega (arith, h)))
 
-  pub kids_path : (p : Place) (x : PathLayer written_types) → count_path (of.path_step env (type_reader env) x p) ≤ n → KidsPath C p x
+  pub kids_path : (p : Place) (x : PathLayer written) → count_path (of.path_step env (reader env) x p) ≤ n → KidsPath C p x
   kids_path p x h = (all_segments p x.segs (omega (arith, h)), path_below p x.use_ (omega (arith, h)))

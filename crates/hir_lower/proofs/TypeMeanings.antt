@@ -18,6 +18,7 @@ use Rattle.hir_lower_form.specs.Lower.{type_part}
 use Rattle.hir_lower_form.specs.Lowering.{Checked, Lowers, SomeEnd, alloc_type}
 use Rattle.hir_type_result.specs.TypeResult.{TypeResult, TypeTooLarge}
 use Rattle.hir_type_result.proofs.Whole.{refused_types, type_results}
+use Rattle.hir_lower.specs.Calls.{Outside}
 use Rattle.hir_lower.specs.Means.{AddsType, NoRoomForType, whole_type}
 use Rattle.hir_lower.specs.Roots.{AnswersFromNothing, RefusedAtEnd}
 use Rattle.hir_lower.proofs.Ways.{made}
@@ -85,6 +86,16 @@ module _ (b b' : Builder) (ty : TypeRef) (at : Pointer) where
   scopes_if (Err e) l n =
       let other : e ≢ Memory = λ is. n (ap Err is) in
       sym (ap (λ (q : Checked TypeRefId × Builder). q.1.scopes) (sym (alloc_is b ty at) ∙ (l other).0)) ∙ after_is
+
+  outside_after : (t : Bool) → Outside b → Outside (after t b ty at).1
+  outside_after true o = record { scopes = o.scopes; in_root = o.in_root }
+  outside_after false o = record { scopes = o.scopes; in_root = o.in_root }
+
+  pub outside_type_if : (r : Checked TypeRefId) → Alone r → Outside b → IfOk r (λ i. Outside b')
+  outside_type_if (Ok i) l o =
+      let t = nat_lt (length b.stored.types.entries) b.stored.types.limit in
+      subst (λ (q : Checked TypeRefId × Builder). Outside q.1) (sym (alloc_is b ty at) ∙ l.0) (outside_after t o)
+  outside_type_if (Err e) l o = tt
 
 -- a type that stands alone, lowered from nothing
 module _ (at : Spot) (x : Option AstType_) (limit : ℕ) where

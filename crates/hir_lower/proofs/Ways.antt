@@ -23,7 +23,7 @@ use Rattle.hir_env.specs.Answered.{Label, Jump}
 use Rattle.hir_scope.specs.Ribs.{Target, reachable, unreachable, undeclared, target}
 use Rattle.hir_lower_form.specs.Builder.{Builder}
 use Rattle.hir_lower_form.specs.Lowering.{Checked, go_on, Lowering, ◌>>=◌, pure, alloc_expr, alloc_lifetime, alloc_type, point, report}
-use Rattle.hir_lower_form.specs.Lowering.{point_field}
+use Rattle.hir_lower_form.specs.Lowering.{point_field, open_barrier, enter_root, outside_root, leave_root, record_root}
 use Rattle.hir_lower_form.specs.Lowering.{enter_block, open_label, close, jump_target, found_or_fault, open_as, report_await, count_out}
 use Rattle.hir_lower.specs.Stays.{LeadsOn}
 
@@ -217,6 +217,27 @@ pub leading_block : (n : Option BlockId) → Leading any (enter_block n)
 unfolding enter_block storing.enter_block
 leading_block None = leading_pure tt
 leading_block (Some n) = record { goes = λ b. (went_same _ _ (refl, (refl, (refl, refl))), tt) }
+
+pub leading_barrier : Leading any open_barrier
+unfolding open_barrier
+leading_barrier = record { goes = λ b. (went_same _ _ (refl, (refl, (refl, refl))), tt) }
+
+pub leading_enter : Leading any enter_root
+unfolding enter_root
+leading_enter = record { goes = λ b. (went_same _ _ (refl, (refl, (refl, refl))), tt) }
+
+leading_outside : Leading any outside_root
+unfolding outside_root
+leading_outside = record { goes = λ b. (went_same _ _ (refl, (refl, (refl, refl))), tt) }
+
+leading_record : (i : ExprId) → Leading any (record_root i)
+unfolding record_root storing.record_root
+leading_record i = record { goes = λ b. (went_same _ _ (refl, (refl, (refl, refl))), tt) }
+
+pub leading_leave : (outer : Bool) (i : ExprId) → Leading any (leave_root outer i)
+unfolding leave_root
+leading_leave true i = leading_pure tt
+leading_leave false i = then' (leading_record i) (λ u. leading_outside)
 
 pub leading_close : Leading any close
 unfolding close

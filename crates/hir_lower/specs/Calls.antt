@@ -1,5 +1,5 @@
 -- What a call of a collector does.
-use Rattle.std.specs.Prelude.{◌≡◌, ◌≢◌, Bool, true, false, is_err, Result, Err}
+use Rattle.std.specs.Prelude.{◌≡◌, ◌≢◌, Bool, true, false, is_err, [], Result, Err}
 use Rattle.hir_store.specs.declared.fault.StoreFault.{StoreFault}
 use Rattle.hir_store.specs.declared.fault.StoreFault.TheVariants as fault
 use Rattle.hir_lower.specs.declared.error.LowerError.{LowerError}
@@ -9,6 +9,11 @@ use Rattle.hir_lower_form.specs.Builder.{Builder}
 abbrev pub refusal : StoreFault → LowerError
 refusal fault.Memory = Memory
 refusal fault.Full = Full
+
+-- between two calls no label is open, and no root is being lowered
+pub record Outside (b : Builder) : Type 0 where
+  pub scopes : b.scopes ≡ []
+  pub in_root : b.in_root ≡ false
 
 -- a collector that failed before fails again and changes nothing
 pub record FailsAgain {A : Type 0} (old : Builder) (result : Result A LowerError) (new : Builder) (failed : Bool) : Type 0 where

@@ -35,17 +35,20 @@ use Rattle.hir_data.specs.Data.{path_names}
 use Rattle.hir_data.specs.Reading.{stored_path}
 use Rattle.hir_data.specs.Written.{written_path}
 use Rattle.hir_data.specs.Segments.{PlainTrait, Whole, first_trait, named_segments, segment_name}
-use Rattle.hir_meaning.specs.Same.{SameMeaning}
-use Rattle.hir_same_meaning.specs.Reached.{Spread, reached_to}
-use Rattle.hir_steps.specs.Keeps.{Mapped, Paired, StaysAside}
-use Rattle.hir_one_result.specs.Blocks.{blocks_of_part}
-use Rattle.hir_one_result.specs.Diagnostics.{Faults, part_diagnostics}
+use Rattle.hir_meaning.specs.Inner.{inner_bodies, path_bodies, path_inner_bodies}
+use Rattle.hir_meaning.specs.Inner.{of_present as of_some}
+use Rattle.hir_meaning.specs.Same.{SameBodies, SameMeaning}
+use Rattle.hir_same_meaning.specs.Reached.{Spread, of_each, reached_to}
+use Rattle.hir_steps.specs.Keeps.{Mapped, Paired}
+use Rattle.hir_one_result.specs.Blocks.{blocks_of_part, blocks_of_whole}
+use Rattle.hir_one_result.specs.Diagnostics.{Faults, part_diagnostics, whole_faults}
 use Rattle.hir_one_result.specs.Laws.{Grown}
-use Rattle.hir_one_result.specs.PathRoom.{whole_size}
+use Rattle.hir_one_result.specs.Room.{whole_size}
 use Rattle.hir_one_result.specs.Room.{count_of_exprs, count_of_lifetimes, count_of_types, lifetime_sources_of, type_sources_of}
 use Rattle.hir_one_result.specs.Leads.{Way, label_ways, Covers, CoversLabels, Led}
-use Rattle.hir_one_result.specs.Stands.{StandsPart}
+use Rattle.hir_one_result.specs.Stands.{StandsPart, WholeWays}
 use Rattle.hir_type_result.specs.Named.{of_exprs}
+use Rattle.hir_type_result.specs.Roots.{RootsOf}
 use Rattle.hir_type_result.specs.Reached.{of_path, of_present, types_reached}
 
 -- What is so of a root in a later store. Its expression does what the tree does; it stands for the tree, and each expression
@@ -62,7 +65,8 @@ pub record Lives (old new later : Stored) (i : ExprId) (e : OptionExpr) : Type 0
   pub led : Led (map_of old) (map_of new) ways
   pub labels : length new.labels.entries ≡ length old.labels.entries + label_ways ways
   pub reached_once : (depth : ℕ) → length later.exprs.entries ≤ depth
-      → Spread (length old.exprs.entries) (length new.exprs.entries) (reached_to later.exprs.entries depth i)
+      → Spread (length old.exprs.entries) (length new.exprs.entries)
+      (of_each (reached_to later.exprs.entries depth) (i ∷ inner_bodies (store_of later) i))
   pub types_reached_once : (depth : ℕ) → length later.types.entries ≤ depth
       → (more : List HirExpr) → new.exprs.entries ≡ old.exprs.entries ++ more
       → Spread (length old.types.entries) (length new.types.entries) (of_exprs (types_reached later.types.entries depth) more)
@@ -91,7 +95,8 @@ pub record HasBody (store : Store) (source_map : SourceMap) (e : OptionExpr) : T
   pub root : ExprRoot
   pub only : store.roots ≡ root ∷ []
   pub same : SameMeaning store source_map root.root e
-  pub reached_once : (depth : ℕ) → length store.exprs ≤ depth → Spread 0 (length store.exprs) (reached_to store.exprs depth root.root)
+  pub reached_once : (depth : ℕ) → length store.exprs ≤ depth
+      → Spread 0 (length store.exprs) (of_each (reached_to store.exprs depth) (root.root ∷ inner_bodies store root.root))
   pub types_reached_once : (depth : ℕ) → length store.types ≤ depth
       → Spread 0 (length store.types) (of_exprs (types_reached store.types depth) store.exprs)
 
@@ -128,14 +133,33 @@ abbrev pub becomes : ImplTrait → List TypeBound → TypeRef
 becomes mode.Error bounds = ty.Error
 becomes mode.Opaque bounds = ty.ImplTrait bounds
 
--- What lowering a path to r leaves: types and lifetimes from just those of its nodes that become one, and all else as it was. In
--- each later store r reaches each type in one way only, and none that was stored before.
+-- What stands in a later store for the constants of a lowered path: as for the tree of a root.
+pub record ConstantsLive (old new later : Stored) (p : OptionPath) : Type 0 where
+  pub ways : List Way
+  pub stands : WholeWays (store_of later) (map_of later) [] p ways
+  pub covers : Covers ways (length old.exprs.entries) (length new.exprs.entries)
+  pub covers_labels : CoversLabels ways (length old.labels.entries) (length new.labels.entries)
+  pub led : Led (map_of old) (map_of new) ways
+  pub labels : length new.labels.entries ≡ length old.labels.entries + label_ways ways
+
+-- What lowering a path to r leaves: types and lifetimes from just those of its nodes that become one, and its constants. Those are
+-- roots, also where r is none; behind the faults and the blocks that were noted before come theirs. In each later store each body
+-- inside r does what the written one does, and r reaches each type in one way only, and none that was stored before.
 pub record PathRooted (old new : Stored) (r : Option Path) (p : OptionPath) : Type 0 where
+  pub inner : (later : Stored) → Extends new later
+      → SameBodies (store_of later) (map_of later) (of_some (path_inner_bodies (store_of later)) r) (path_bodies p)
+  pub lives : (later : Stored) → Extends new later → ConstantsLive old new later p
+  pub roots : (later : Stored) → Extends new later → RootsOf [] old new later (whole_size p).constants
+  pub more : Faults
+  pub faults : new.diagnostics ≡ old.diagnostics ++ more
+  pub permuted : IsPermutation (whole_faults [] p) more
+  pub blocks : new.block_scopes ≡ old.block_scopes ++ blocks_of_whole p
   pub reached_once : (later : Stored) → Extends new later → (depth : ℕ) → length later.types.entries ≤ depth
       → Spread (length old.types.entries) (length new.types.entries) (of_present (of_path (types_reached later.types.entries depth)) r)
+  pub inside_reached_once : (later : Stored) → Extends new later → (depth : ℕ) → length later.exprs.entries ≤ depth
+      → Spread (length old.exprs.entries) (length new.exprs.entries)
+      (of_each (reached_to later.exprs.entries depth) (of_some (path_inner_bodies (store_of later)) r))
   pub grown : Grown (whole_size p) old new
-  pub aside : StaysAside old new
-  pub roots : new.roots ≡ old.roots
   pub paired : Paired new
   pub mapped : Mapped old → Mapped new
 

@@ -17,11 +17,13 @@ use Rattle.hir_env.specs.declared.place.Place.{Place}
 use Rattle.hir_env.specs.Answers.{Answers}
 use Rattle.hir_env.specs.Answered as tree
 use Rattle.hir_env.specs.Answered.{Binder}
+use Rattle.hir_env.specs.Paths.{inside_constant}
 use Rattle.hir_env.specs.Whole.{answered, answered_arg_list, answered_path, answered_plain, answered_type}
 use Rattle.hir_lower_form.specs.Builder.{Builder}
 use Rattle.hir_lower_form.specs.Lowering.{Lowering, Checked, Lowers}
 use Rattle.hir_lower_form.specs.Lower.{lower_kept, lower_inside}
 use Rattle.hir_lower_form.specs.Methods.{HasWalk, LowersArgs, LowersType, ReadsPath}
+use Rattle.hir_lower_form.specs.Nests.{IfPresent}
 use Rattle.hir_lower_form.specs.declared.walk.PathWalk.{PathWalk}
 use Rattle.hir_lower_form.specs.declared.walk.Reading.{Reading}
 use Rattle.hir_lower.specs.Roots.{spot_at}
@@ -101,3 +103,7 @@ pub record HandlesArgs {E : Type 0} (answers : E → Answers)
 module _ {E : Type 0} (answers : E → Answers) where
   abbrev pub HandlesExpr : Pre E → Post E (Option ExprId) → E → Place → AstExpr → Type 0
   HandlesExpr pre post env p e = Handles HasExprOption (lower_kept (answered (spot_at (answers env) p) e)) pre post env p e
+
+  -- the expression of a constant that is written there, where it has one
+  abbrev pub HandlesConstant : Pre E → Post E (Option ExprId) → E → Place → Option AstExpr → Type 0
+  HandlesConstant pre post env p o = IfPresent (HandlesExpr pre post env (inside_constant p)) o

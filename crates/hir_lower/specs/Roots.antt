@@ -26,7 +26,7 @@ use Rattle.hir_env.specs.Answering.{in_file}
 use Rattle.hir_env.specs.Whole.{expr_part}
 use Rattle.hir_env.specs.Answered as tree
 use Rattle.hir_env.specs.Answered.{OptionExpr}
-use Rattle.hir_lower_form.specs.Lowering.{Lowering, SomeEnd, ◌>>=◌, ◌>>◌, pure, close_labels, report, record_root}
+use Rattle.hir_lower_form.specs.Lowering.{Lowering, SomeEnd, ◌>>=◌, ◌>>◌, pure, close_labels, report, record_root, enter_root, outside_root}
 use Rattle.hir_lower_form.specs.Lower.{ExprSteps, lower_part}
 use Rattle.hir_lower.specs.Means.{required_body, body_fault}
 
@@ -34,8 +34,10 @@ use Rattle.hir_lower.specs.Means.{required_body, body_fault}
 unfoldable pub root_of : OptionExpr → ExprSteps
 root_of e = do
   close_labels
+  enter_root
   id ← lower_part e
   record_root id
+  outside_root
   pure id
 
 unfoldable pub report_missing : Pointer → Option MissingBodyItemKind → Lowering (Unit {0})

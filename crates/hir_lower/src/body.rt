@@ -149,14 +149,14 @@ fn body_steps<E: LowerEnv>(
 /// Lowers the body of an item (upstream's function of this name).
 ///
 /// The stored body does what the written one does, for every answerer and every number of turns that a loop may take,
-/// and each expression that it reaches is reached in one way only. Store, source map and diagnostics are one result of
-/// the tree: what is stored stands for it and no more is stored, each expression with its source, all in the range of
-/// the one root; the source map leads from each written expression, label, type and lifetime to what it became, from the
-/// values of a record's kept fields to their fields, and from nothing else;
-/// the numbers of blocks come in the order of entering; the diagnostics are those that body and tree owe. Each number in
-/// store and source map is in range. A skipped body is a missing expression and owes no fault. `Memory` where a growth
-/// was refused; `Full` only where the tree becomes more expressions, labels, types or lifetimes than the arenas have room
-/// for, or a path in it has more `super`s than 32 bits count; never `Failed`.
+/// and so does each body inside it; each expression that it reaches, but through constants, is reached in one way only.
+/// Store, source map and diagnostics are one result of the tree: what is stored stands for it and no more is stored, each
+/// expression with its source, all in the range of the one root; the source map leads from each written expression,
+/// label, type and lifetime to what it became, from the values of a record's kept fields to their fields, and from
+/// nothing else; the numbers of blocks come in the order of entering; the diagnostics are those that body and tree owe.
+/// Each number in store and source map is in range. A skipped body is a missing expression and owes no fault. `Memory`
+/// where a growth was refused; `Full` only where the tree becomes more expressions, labels, types or lifetimes than the
+/// arenas have room for, or a path in it has more `super`s than 32 bits count; never `Failed`.
 /// Until patterns come the caller hands in no parameters, and until inner bodies come neither flag.
 pub fn lower_body<E: LowerEnv>(
     alloc: Global,

@@ -1,6 +1,7 @@
 //! The collector, which lowers trees into one store and stops for good after its first error.
 
 ghost use Rattle.std.specs.Prelude.{◌≡◌, ◌≢◌, false, true, Err, IfOk, IsErrOf, IsOkAnd, option_copied};
+ghost use Rattle.hir_syntax.specs.declared.ast.ConstArg.{out-ConstArg};
 ghost use Rattle.hir_store.specs.Range.{HasExpr, HasTypeParts, InRange};
 ghost use Rattle.hir_store.specs.Stored.{map_of, store_of};
 ghost use Rattle.hir_env.specs.Spot.{in_file};
@@ -8,9 +9,9 @@ ghost use Rattle.hir_env.specs.Whole.{expr_part};
 ghost use Rattle.hir_lower_form.specs.Lowering.{Lowers, SomeEnd};
 ghost use Rattle.hir_lower_form.specs.Methods.{LowersExprOpt};
 ghost use Rattle.hir_steps.specs.Keeps.{Paired};
-ghost use Rattle.hir_one_result.specs.PathRoom.{whole_size};
+ghost use Rattle.hir_one_result.specs.Room.{whole_size};
 ghost use Rattle.hir_one_result.specs.Room.{Short, TooLarge};
-ghost use Rattle.hir_lower.specs.Calls.{Calls};
+ghost use Rattle.hir_lower.specs.Calls.{Calls, Outside};
 ghost use Rattle.hir_lower.specs.Means.{AddsType, BearsNames, NoRoomForType, PathRooted, ReadsBack, Rooted, whole_path};
 ghost use Rattle.hir_lower.specs.Roots.{becoming, fresh, outside_body, root_of, spot_at};
 ghost use Rattle.hir_lower.specs.Stays.{Stays};
@@ -28,15 +29,19 @@ use hir_store::ids::{ExprId, ModuleId, TypeRefId};
 use hir_store::path::Path;
 use hir_store::source_map::ExpressionStoreSourceMap;
 use hir_store::store::ExpressionStore;
-use hir_store::type_ref::TypeRef;
-use hir_syntax::ast;
+use hir_store::type_ref::{ConstRef, TypeRef};
 use hir_syntax::node::{AstPtr, HirFileId, InFile};
+use hir_syntax::{Boxed, ast};
 use std::alloc::Global;
 
-/// A lowered constant.
-#[derive(Clone, Copy, Debug, PartialEq, Eq)]
-pub struct ConstRef {
-    pub expr: ExprId,
+/// The expression in a box, where there is one.
+fn unboxed(expr: &Option<Boxed<ast::Expr>>) -> Option<&ast::Expr>
+    ensures { option_copied result ≡ expr.now }
+{
+    match expr {
+        None => None,
+        Some(expr) => Some(expr.get()),
+    }
 }
 
 /// The expression, missing where it is absent or a condition disables it.
@@ -68,8 +73,10 @@ fn root_steps<E: LowerEnv>(
         Lowers HasExpr (root_of (expr_part spot (option_copied expr.entry))) state.old result state.new }
 {
     state.close_labels(alloc);
+    let _ = state.enter_root();
     let root = collect_expr_opt(alloc, env, place, state, expr)?;
     state.record_root(root)?;
+    state.outside_root();
     Ok(root)
 }
 
@@ -85,6 +92,7 @@ pub(crate) fn lower_root<E: LowerEnv>(
         Lowers HasExpr (root_of (expr_part spot (option_copied expr.entry))) state.old result state.new }
     ensures rooted { let e = expr_part (spot_at (E.answers env.now) place) (option_copied expr.entry) in
         Paired state.old.stored → IfOk result (λ i. Rooted state.old.stored state.new.stored i e) }
+    ensures outside { IfOk result (λ i. Outside state.new) }
     ensures too_large { let e = expr_part (spot_at (E.answers env.now) place) (option_copied expr.entry) in
         IsErrOf result StoreFault.Full → TooLarge state.old.stored e }
     ensures stays { result ≢ Err StoreFault.Memory → Stays state.old.stored state.new.stored }
@@ -104,7 +112,8 @@ fn lower_whole_path<E: LowerEnv>(
         Paired state.old.stored → IfOk result (λ r. ReadsBack state.new.stored r p) }
     ensures segments { Paired state.old.stored → IfOk result (λ r. BearsNames state.new.stored path.now r) }
     ensures rooted { let p = whole_path (spot_at (E.answers env.now) place) path.now in
-        Paired state.old.stored → IfOk result (λ r. PathRooted state.old.stored state.new.stored r p) }
+        Paired state.old.stored → Outside state.old → IfOk result (λ r. PathRooted state.old.stored state.new.stored r p) }
+    ensures outside { Outside state.old → IfOk result (λ r. Outside state.new) }
     ensures full { IsErrOf result StoreFault.Full → SomeEnd state.new }
     ensures too_large { let p = whole_path (spot_at (E.answers env.now) place) path.now in
         IsErrOf result StoreFault.Full → Short (whole_size p) state.old.stored }
@@ -125,6 +134,7 @@ fn add_type(
     ensures no_room { IsErrOf result StoreFault.Full → NoRoomForType state.old.stored }
     ensures unchanged { IsErrOf result StoreFault.Full → state.new.stored ≡ state.old.stored }
     ensures scopes { result ≢ Err StoreFault.Memory → state.new.scopes ≡ state.old.scopes }
+    ensures outside { Outside state.old → IfOk result (λ i. Outside state.new) }
 {
     state.alloc_type(ty, Some(source))
 }
@@ -140,6 +150,7 @@ pub struct ExprCollector<'db, E: LowerEnv> {
     state: BodyBuilder,
     failed: bool,
     ghost paired: { failed ≡ false → Paired state.stored },
+    ghost outside: { failed ≡ false → Outside state },
 }
 
 impl<'db, E: LowerEnv> Drop for ExprCollector<'db, E> {
@@ -211,10 +222,10 @@ impl<'db, E: LowerEnv> ExprCollector<'db, E> {
     /// since.
     pub fn lower_const_arg(&mut self, arg: &ast::ConstArg) -> Result<ConstRef, LowerError>
         ensures calls { Calls self.old.failed self.old.state result self.new.state self.new.failed }
-        ensures rooted { let e = expr_part (spot_at (E.answers self.old.db.now) self.old.place) arg.now.expr in
+        ensures rooted { let e = expr_part (spot_at (E.answers self.old.db.now) self.old.place) (out-ConstArg arg.now).expr in
             IfOk result (λ c. Rooted self.old.state.stored self.new.state.stored c.expr e) }
         ensures full { IsErrOf result LowerError.Full → SomeEnd self.new.state }
-        ensures too_large { let e = expr_part (spot_at (E.answers self.old.db.now) self.old.place) arg.now.expr in
+        ensures too_large { let e = expr_part (spot_at (E.answers self.old.db.now) self.old.place) (out-ConstArg arg.now).expr in
             IsErrOf result LowerError.Full → TooLarge self.old.state.stored e }
         ensures stays { result ≢ Err LowerError.Memory → Stays self.old.state.stored self.new.state.stored }
         ensures db { self.new.db ≡ self.old.db }
@@ -229,7 +240,7 @@ impl<'db, E: LowerEnv> ExprCollector<'db, E> {
             self.db,
             self.place,
             &mut self.state,
-            arg.expr.as_ref(),
+            unboxed(&arg.expr),
         )?;
         self.failed = false;
         Ok(ConstRef { expr })
@@ -241,9 +252,10 @@ impl<'db, E: LowerEnv> ExprCollector<'db, E> {
     /// It has the names of all segments that are read, those of use trees around it in front, with the arguments that stand
     /// beside them, and begins where they say. Where no use tree stands around it or its trait, no segment of either is missing,
     /// and the trait has no qualified type, its names are those of the written segments that bear one. `Memory` where a
-    /// growth was refused, `Full` where an arena has no room for its types and lifetimes or it has more `super`s than 32
-    /// bits count, `Failed` after an error. All that was stored is stored still, unless memory was refused, and nothing
-    /// comes behind it but as many types and lifetimes as the path becomes.
+    /// growth was refused, `Full` where an arena has no room for its types, lifetimes and constants or it has more `super`s
+    /// than 32 bits count, `Failed` after an error. All that was stored is stored still, unless memory was refused, and nothing
+    /// comes behind it but the path's types, its lifetimes and its constants, each of which is recorded as a root, also
+    /// where the path is refused.
     pub fn lower_path<I: ImplTraitLower>(
         &mut self,
         path: &ast::Path,

@@ -7,9 +7,10 @@ ghost use Rattle.hir_env.specs.Answered.{some_arg_list, some_path};
 ghost use Rattle.hir_env.specs.Whole.{answered, answered_arg_list, answered_path, answered_plain, answered_type};
 ghost use Rattle.hir_lower_form.specs.Methods.{HasWalk, LowersArgs, LowersExpr, LowersInside, LowersPath, LowersType};
 ghost use Rattle.hir_lower_form.specs.Methods.{MaybeLowersExpr, ReadsPath};
-ghost use Rattle.hir_lower.specs.Nests.{HandlesArgs, HandlesBlock, HandlesExpr, HandlesPath, HandlesType};
+ghost use Rattle.hir_lower.specs.Nests.{HandlesArgs, HandlesBlock, HandlesConstant, HandlesExpr, HandlesPath, HandlesType};
 ghost use Rattle.hir_lower.specs.Roots.{spot_at};
 
+use crate::constant::{constant_form, inside_constant};
 use hir_env::env::LowerEnv;
 use hir_env::place::{LoweringMode, Place};
 use hir_lower_expr::blocks::block_node;
@@ -25,8 +26,9 @@ use hir_store::fault::StoreFault;
 use hir_store::ids::{BlockId, CfgId, CrateId, ExprId, HygieneId, LabelId, ModuleId, TypeRefId};
 use hir_store::name::Name;
 use hir_store::path::{GenericArgs, Path};
+use hir_store::type_ref::ConstRef;
 use hir_syntax::node::{InFile, NodeId, PredId};
-use hir_syntax::{Seq, ast};
+use hir_syntax::{Boxed, Seq, ast};
 use std::alloc::Global;
 
 /// The functions that lower the parts of a form, at one place.
@@ -78,6 +80,7 @@ impl<
       path = HandlesPath E.answers (Q.pre it.path) (Q.post it.path) it.env.now;
       type_ = HandlesType E.answers (T.pre it.type_ref) (T.post it.type_ref) it.env.now;
       args = HandlesArgs E.answers (G.pre it.args) (G.post it.args) it.env.now;
+      constant = HandlesConstant E.answers (F.pre it.expr) (F.post it.expr) it.env.now;
     } };
 
     ghost spot = { λ it. spot_at (E.answers it.env.now) it.place };
@@ -158,6 +161,22 @@ impl<
         node: &ast::GenericArgList,
     ) -> Result<Option<GenericArgs>, StoreFault> {
         (self.args)(self.alloc, self.env, place, state, node)
+    }
+
+    fn collect_constant(
+        &self,
+        state: &mut BodyBuilder,
+        place: Place,
+        expr: &Option<Boxed<ast::Expr>>,
+    ) -> Result<ConstRef, StoreFault> {
+        constant_form(
+            self.alloc,
+            self.env,
+            inside_constant(place),
+            state,
+            &self.expr,
+            expr,
+        )
     }
 }
 

@@ -5,15 +5,16 @@ use Rattle.hir_store.specs.Storing.{empty}
 use Rattle.hir_store.specs.declared.ids.LabelId.{LabelId}
 use Rattle.hir_scope.specs.Ribs.{Rib, label_rib, macro_rib, barrier_rib}
 
--- what is stored, what is open, innermost first, and whether a counter came to its end
+-- what is stored, what is open, innermost first, whether a counter came to its end, and whether a root is being lowered
 pub record Builder : Type 0 where
   pub stored : Stored
   pub scopes : List (Rib LabelId)
   pub counted_out : Bool
+  pub in_root : Bool
 
--- nothing is stored, no label is open and no counter is at its end
+-- nothing is stored, no label is open, no counter is at its end and no root is being lowered
 abbrev pub fresh : ℕ → Builder
-fresh limit = record { stored = empty limit; scopes = []; counted_out = false }
+fresh limit = record { stored = empty limit; scopes = []; counted_out = false; in_root = false }
 
 -- the least number above those of the labels
 abbrev pub past_ribs : List (Rib LabelId) → ℕ

@@ -1,5 +1,5 @@
 -- The steps of lowering: each answers a value, or is refused because an arena is full, and leaves what is stored by then.
-use Rattle.std.specs.Prelude.{◌≡◌, ◌≢◌, ◌⊎◌, true, [], ◌∷◌, Option, Some, None, Ok, Err}
+use Rattle.std.specs.Prelude.{◌≡◌, ◌≢◌, ◌⊎◌, Bool, true, false, [], ◌∷◌, Option, Some, None, Ok, Err}
 use Rattle.hir_store.specs.Pointers.{Pointer}
 use Rattle.hir_store.specs.Stored.{Stored}
 use Rattle.hir_store.specs.Range.{Grows}
@@ -19,7 +19,7 @@ use Rattle.hir_store.specs.declared.diagnostics.ExpressionStoreDiagnostics.{Expr
 use Rattle.hir_store.specs.declared.diagnostics.ExpressionStoreDiagnostics.TheVariants.{AwaitOutsideOfAsync}
 use Rattle.hir_store.specs.declared.diagnostics.ExpressionStoreDiagnostics.TheVariants.{UndeclaredLabel, UnreachableLabel}
 use Rattle.hir_store.specs.declared.diagnostics.AwaitLocation.{AwaitLocation}
-use Rattle.hir_scope.specs.Ribs.{label_rib, Target, reachable, unreachable, undeclared, target}
+use Rattle.hir_scope.specs.Ribs.{label_rib, barrier_rib, Target, reachable, unreachable, undeclared, target}
 use Rattle.hir_lower_scope.specs.Labels.{rest}
 use Rattle.hir_env.specs.Answered.{Label, Jump}
 use Rattle.hir_lower_form.specs.Builder.{Builder}
@@ -76,6 +76,21 @@ enter_block (Some b) = stored (storing.enter_block b)
 unfoldable pub record_root : ExprId → Lowering (Unit {0})
 record_root root = stored (storing.record_root root)
 
+-- from here on a root is being lowered; whether one was before
+unfoldable pub enter_root : Lowering Bool
+enter_root = λ b. (Ok b.in_root, record b { in_root = true })
+
+-- from here on none is
+unfoldable pub outside_root : Lowering (Unit {0})
+outside_root = λ b. (Ok tt, record b { in_root = false })
+
+-- inside of another root it isn't recorded
+unfoldable pub leave_root : Bool → ExprId → Lowering (Unit {0})
+leave_root true id = pure tt
+leave_root false id = do
+  record_root id
+  outside_root
+
 -- a counter is at its end
 unfoldable pub count_out : {A : Type 0} → Lowering A
 count_out = λ b. (Err Full, record b { counted_out = true })
@@ -89,6 +104,10 @@ open_label l = do
   id ← stored (storing.alloc_label (record { name = l.name }) (Some l.pointer))
   open_as l id
   pure id
+
+-- no jump behind it reaches what is open
+unfoldable pub open_barrier : Lowering (Unit {0})
+open_barrier = λ b. (Ok tt, record b { scopes = barrier_rib ∷ b.scopes })
 
 -- closes what was opened last
 unfoldable pub close : Lowering (Unit {0})
@@ -115,6 +134,10 @@ jump_target (Some j) = λ b. found_or_fault j (target j b.scopes) b
 -- an arena has reached its limit, or a counter its end
 abbrev pub SomeEnd : Builder → Type 0
 SomeEnd b = SomeAtLimit b.stored ⊎ (b.counted_out ≡ true)
+
+-- an answer that is no number
+abbrev pub HasFlag : Stored → Bool → Type 0
+HasFlag s b = Unit {0}
 
 -- What the steps answer and leave, unless memory was refused. What is answered exists, and no arena is shorter than it
 -- was; where there is no room some end is reached.

@@ -1,15 +1,17 @@
 -- What each kind of method does: the steps of one part, and what it answers.
 use Rattle.std.specs.Prelude.{◌≤◌, length, Bool, List, [], Option, Some, None}
 use Rattle.hir_syntax.specs.declared.ast.BlockExpr.{BlockExpr as AstBlockExpr, out-BlockExpr}
+use Rattle.hir_syntax.specs.declared.ast.Expr.{Expr as AstExpr}
 use Rattle.hir_store.specs.Stored.{Stored}
 use Rattle.hir_store.specs.Range.{HasExpr, HasExprOption, HasExprs, HasStatements, HasStatementOption}
 use Rattle.hir_store.specs.Range.{HasFields, HasSpread, past_field}
 use Rattle.hir_store.specs.Arenas.{past_option}
 use Rattle.hir_store.specs.declared.hir.RecordLitField.{RecordLitField}
 use Rattle.hir_env.specs.Layers.{RecordReading}
-use Rattle.hir_store.specs.Range.{Has, HasType, HasTypeOption, HasTypes, HasArgsOption, HasBounds, HasPathOption}
+use Rattle.hir_store.specs.Range.{Has, HasConst, HasType, HasTypeOption, HasTypes, HasArgsOption, HasBounds, HasPathOption}
 use Rattle.hir_store.specs.declared.ids.TypeRefId.{TypeRefId}
 use Rattle.hir_store.specs.declared.path.GenericArgs.{GenericArgs}
+use Rattle.hir_store.specs.declared.type_ref.ConstRef.{ConstRef}
 use Rattle.hir_store.specs.declared.type_ref.TypeBound.{TypeBound}
 use Rattle.hir_store.specs.declared.type_ref.UseArgRef.{UseArgRef}
 use Rattle.hir_store.specs.Past.{past_use_arg}
@@ -23,9 +25,9 @@ use Rattle.hir_env.specs.Spot.{Spot}
 use Rattle.hir_env.specs.Answering.{expr_at}
 use Rattle.hir_env.specs.Answered as tree
 use Rattle.hir_env.specs.declared.place.Place.{Place}
-use Rattle.hir_env.specs.Answered.{Binder, Type_, OptionType, Parts, Path, OptionPath, Segment, OptionArgs, Bounds}
+use Rattle.hir_env.specs.Answered.{Binder, Type_, OptionType, Parts, Path, OptionPath, Segment, OptionArgs, Bounds, Constant}
 use Rattle.hir_env.specs.Answered.{Expr, OptionExpr, Exprs, Block, OptionBlock, Stmts, Stmt}
-use Rattle.hir_env.specs.Whole.{expr_part, reader, stmts_part, pointer_at}
+use Rattle.hir_env.specs.Whole.{expr_part, in_constant, reader, stmts_part, pointer_at}
 use Rattle.hir_store.specs.declared.path.Path.{Path as HirPath}
 use Rattle.hir_lower_form.specs.Builder.{Builder}
 use Rattle.hir_lower_form.specs.Walks.{past_walk, past_reading}
@@ -112,6 +114,13 @@ LowersParts ts old result new = Lowers HasTypes (spec.lower_parts [] ts) old res
 -- none where it is absent or yields nothing
 abbrev pub LowersArgs : OptionArgs → Builder → Checked (Option GenericArgs) → Builder → Type 0
 LowersArgs as' old result new = Lowers HasArgsOption (spec.args_part as') old result new
+
+-- the constant of this expression, which is written at this spot
+abbrev pub constant_at : Spot → Option AstExpr → Constant
+constant_at at e = tree.constant (expr_part (in_constant at) e)
+
+abbrev pub LowersConstant : Constant → Builder → Checked ConstRef → Builder → Type 0
+LowersConstant c old result new = Lowers HasConst (spec.lower_constant c) old result new
 
 abbrev pub LowersBounds : Bounds → Builder → Checked (List TypeBound) → Builder → Type 0
 LowersBounds bs old result new = Lowers HasBounds (spec.lower_bounds [] bs) old result new

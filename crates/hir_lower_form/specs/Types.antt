@@ -12,6 +12,7 @@ use Rattle.hir_store.specs.declared.path.GenericArg.{GenericArg}
 use Rattle.hir_store.specs.declared.path.GenericArgs.{GenericArgs}
 use Rattle.hir_store.specs.declared.path.AssociatedTypeBinding.{AssociatedTypeBinding}
 use Rattle.hir_store.specs.declared.path.GenericArgsParentheses.TheVariants as parens
+use Rattle.hir_store.specs.declared.type_ref.ConstRef.{ConstRef}
 use Rattle.hir_store.specs.declared.type_ref.TypeRef.{TypeRef}
 use Rattle.hir_store.specs.declared.type_ref.TypeRef.TheVariants as ty
 use Rattle.hir_store.specs.declared.type_ref.UseArgRef.{UseArgRef}
@@ -83,6 +84,17 @@ unfoldable pub tuple_type_form : Pointer → Lowering (List TypeRefId) → TypeS
 tuple_type_form at fields = do
   ts ← fields
   alloc_type (ty.Tuple ts) (Some at)
+
+abbrev pub array_of_length : Pointer → ConstRef → TypeSteps → TypeSteps
+array_of_length at length element = do
+  t ← element
+  alloc_type (ty.Array (record { ty = t; len = length })) (Some at)
+
+-- the length before the type of the elements
+unfoldable pub array_type_form : Pointer → Lowering ConstRef → TypeSteps → TypeSteps
+array_type_form at length element = do
+  n ← length
+  array_of_length at n element
 
 -- a path that is absent or refused is an error
 abbrev pub path_or_error : Option HirPath → TypeRef

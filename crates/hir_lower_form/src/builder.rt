@@ -6,7 +6,7 @@ ghost use Rattle.hir_store.specs.declared.fault.StoreFault.TheVariants.{Full};
 ghost use Rattle.hir_env.specs.Answering.{jump};
 ghost use Rattle.hir_lower_form.specs.Builder.{fresh};
 ghost use Rattle.hir_lower_form.specs.Lowering as spec;
-ghost use Rattle.hir_lower_form.specs.Lowering.{Lowers};
+ghost use Rattle.hir_lower_form.specs.Lowering.{HasFlag, Lowers};
 ghost use Rattle.hir_lower_form.specs.Lower.{missing};
 ghost use Rattle.hir_lower_form.specs.Types.{error_type, unit_type};
 
@@ -32,6 +32,7 @@ pub struct BodyBuilder {
     store: ExpressionStoreBuilder,
     scopes: LabelScopes,
     counted_out: bool,
+    in_root: bool,
 }
 
 impl Drop for BodyBuilder {
@@ -40,6 +41,7 @@ impl Drop for BodyBuilder {
             store: _,
             scopes: _,
             counted_out: _,
+            in_root: _,
         } = self;
     }
 }
@@ -53,9 +55,10 @@ impl Model for BodyBuilder {
 
     ghost coded = { Prim.hlevel (codes, generic_args.the_row.coded) };
 
-    ghost view = { λ b. record { stored = b.store; scopes = b.scopes; counted_out = b.counted_out } };
+    ghost view = { λ b. record { stored = b.store; scopes = b.scopes; counted_out = b.counted_out; in_root = b.in_root } };
 
-    ghost invariant = { λ b. RibsExist (record { stored = b.store; scopes = b.scopes; counted_out = b.counted_out }) };
+    ghost invariant = { λ b.
+        RibsExist (record { stored = b.store; scopes = b.scopes; counted_out = b.counted_out; in_root = b.in_root }) };
 }
 
 impl BodyBuilder {
@@ -67,6 +70,7 @@ impl BodyBuilder {
             store: ExpressionStoreBuilder::new(alloc, limit),
             scopes: LabelScopes::new(alloc),
             counted_out: false,
+            in_root: false,
         }
     }
 
@@ -194,6 +198,38 @@ impl BodyBuilder {
         self.store.record_root(root)
     }
 
+    /// From here on a root is being lowered. It answers whether one was before.
+    #[tactic(auto, unfolding(crate::specs::Lowering::enter_root))]
+    pub fn enter_root(&mut self) -> bool
+        ensures { Lowers HasFlag spec.enter_root self.old (Ok result) self.new }
+    {
+        let outer = self.in_root;
+        self.in_root = true;
+        outer
+    }
+
+    /// From here on no root is being lowered.
+    #[tactic(auto, unfolding(crate::specs::Lowering::outside_root))]
+    pub fn outside_root(&mut self)
+        ensures { Lowers HasNone spec.outside_root self.old (Ok tt) self.new }
+    {
+        self.in_root = false;
+    }
+
+    /// Records a root and is outside of it again, unless it stands inside of another one.
+    #[tactic(auto, unfolding(crate::specs::Lowering::leave_root))]
+    pub fn leave_root(&mut self, outer: bool, root: ExprId) -> Result<(), StoreFault>
+        requires { HasExpr self.old.stored root }
+        ensures { Lowers HasNone (spec.leave_root outer root) self.old result self.new }
+    {
+        if outer {
+            return Ok(());
+        }
+        self.record_root(root)?;
+        self.outside_root();
+        Ok(())
+    }
+
     /// Notes that a counter is at its end, and answers `Full`.
     pub fn count_out(&mut self) -> StoreFault
         ensures fault { result ≡ Full }
@@ -218,6 +254,15 @@ impl BodyBuilder {
         let label = self.store.alloc_label(Label { name }, Some(source))?;
         self.scopes.enter_label(copy, hygiene, label)?;
         Ok(label)
+    }
+
+    /// Opens the border of a constant: until it is closed no jump reaches what is open around it.
+    #[tactic(auto, unfolding(crate::specs::Lowering::open_barrier))]
+    pub fn open_barrier(&mut self) -> Result<(), StoreFault>
+        ensures { Lowers HasNone spec.open_barrier self.old result self.new }
+    {
+        self.scopes.enter_barrier()?;
+        Ok(())
     }
 
     /// Closes what was opened last.
@@ -276,6 +321,7 @@ impl BodyBuilder {
             store,
             scopes: _,
             counted_out: _,
+            in_root: _,
         } = self;
         store
     }

@@ -12,7 +12,7 @@ ghost use Rattle.hir_lower_scope.specs.Labels.{answer};
 ghost use Rattle.hir_lower_form.specs.Nests.{Claims, IfPresent};
 ghost use Rattle.hir_lower_form.specs.Methods.{LowersBlock, LowersBlockOpt, LowersExpr, LowersExprOpt, LowersIfPresent, LowersInside};
 ghost use Rattle.hir_lower_form.specs.Methods.{MaybeLowersExpr, MaybeLowersExprOpt};
-ghost use Rattle.hir_lower_form.specs.Methods.{HasWalk, LowersArgs, LowersType, ReadsPath, at_place};
+ghost use Rattle.hir_lower_form.specs.Methods.{HasWalk, LowersArgs, LowersConstant, LowersType, ReadsPath, at_place, constant_at};
 
 use crate::builder::BodyBuilder;
 use crate::walk::{PathWalk, Reading};
@@ -22,6 +22,7 @@ use hir_store::fault::StoreFault;
 use hir_store::ids::{CfgId, CrateId, ExprId, HygieneId, LabelId, TypeRefId};
 use hir_store::name::Name;
 use hir_store::path::GenericArgs;
+use hir_store::type_ref::ConstRef;
 use hir_syntax::node::{AstPtr, InFile, NodeId, PredId, TextRange};
 use hir_syntax::{Boxed, Seq, ast};
 use std::alloc::Global;
@@ -115,6 +116,16 @@ pub trait LowerParts {
         requires { (can self.now).args place node.now }
         ensures { LowersArgs (tree.some_arg_list (answered_arg_list (at_place (spot self.now) place) node.now))
             state.old result state.new };
+
+    /// The constant with this expression, written at this place. A disabled or absent expression is missing.
+    fn collect_constant(
+        &self,
+        state: &mut BodyBuilder,
+        place: Place,
+        expr: &Option<Boxed<ast::Expr>>,
+    ) -> Result<ConstRef, StoreFault>
+        requires { (can self.now).constant place expr.now }
+        ensures { LowersConstant (constant_at (at_place (spot self.now) place) expr.now) state.old result state.new };
 }
 
 /// The node that a pointer leads to, as it is asked about.

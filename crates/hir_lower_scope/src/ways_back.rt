@@ -91,12 +91,13 @@ pub fn hir_segment_to_ast_segment(path: &Path, segment_index: u32) -> Option<&Pa
     }
 }
 
-/// Whether the argument stands in the stored list as one: a type, or a lifetime that is there.
+/// Whether the argument stands in the stored list as one: a type, a constant, or a lifetime that is there.
 fn argument_stands(arg: &GenericArg) -> bool
     ensures { result ≡ argument_stands (out-GenericArg arg.now) }
 {
     match arg {
         GenericArg::TypeArg(_) => true,
+        GenericArg::ConstArg(_) => true,
         GenericArg::LifetimeArg(arg) => arg.lifetime.is_some(),
         GenericArg::AssocTypeArg(_) => false,
     }

@@ -10,7 +10,8 @@ use Rattle.hir_env.specs.declared.place.Place.{Place}
 use Rattle.hir_env.specs.Answered as tree
 use Rattle.hir_env.specs.Answered.{Parts, OptionType}
 use Rattle.hir_env.specs.TypeLayers.{ParamReading}
-use Rattle.hir_env.specs.Paths.{last_variadic, params_of, read_param}
+use Rattle.hir_env.specs.Paths.{last_variadic, params_of}
+use Rattle.hir_env.specs.Whole.{read_param}
 use Rattle.hir_lower_form.specs.Builder.{Builder}
 use Rattle.hir_lower_form.specs.Lowering.{Checked, go_on, pure}
 use Rattle.hir_lower_form.specs.Lower.{lower_parts, push_some, some, type_part}

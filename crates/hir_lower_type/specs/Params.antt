@@ -5,7 +5,8 @@ use Rattle.hir_store.specs.declared.ids.TypeRefId.{TypeRefId}
 use Rattle.hir_env.specs.Spot.{Spot}
 use Rattle.hir_env.specs.Answered.{Parts}
 use Rattle.hir_env.specs.TypeLayers.{ParamReading}
-use Rattle.hir_env.specs.Paths.{params_of, read_param}
+use Rattle.hir_env.specs.Paths.{params_of}
+use Rattle.hir_env.specs.Whole.{read_param}
 use Rattle.hir_lower_form.specs.Lowering.{Lowering, pure}
 use Rattle.hir_lower_form.specs.Lower.{some, type_part}
 

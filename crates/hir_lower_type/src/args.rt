@@ -109,6 +109,10 @@ fn arg_form<P: LowerParts>(
                 Ok(lists.with_arg(GenericArg::Lifetime(id))?)
             }
         },
+        ast::GenericArg::ConstArg(node) => {
+            let constant = lowerer.constant_arg(state, lowerer.parts.place(), node)?;
+            Ok(lists.with_arg(GenericArg::Const(constant))?)
+        }
     }
 }
 

@@ -1,12 +1,16 @@
 //! Types of one form.
 
 ghost use Rattle.std.specs.Prelude.{◌≡◌, None, Some, option_map};
+ghost use Rattle.hir_store.specs.Range.{HasConst, HasType};
 ghost use Rattle.hir_env.specs.Answered as tree;
 ghost use Rattle.hir_env.specs.Paths.{binder_of, impl_at, lifetime_of, mutability};
 ghost use Rattle.hir_env.specs.Paths as of;
-ghost use Rattle.hir_env.specs.Whole.{bounds_part, path_part, type_part, types_part};
+ghost use Rattle.hir_env.specs.Whole.{bounds_part, constant_part, path_part, type_part, types_part};
+ghost use Rattle.hir_lower_form.specs.Lower as steps;
+ghost use Rattle.hir_lower_form.specs.Lowering.{Lowers};
 ghost use Rattle.hir_lower_form.specs.Methods.{LowersParts, LowersType, LowersTypeOpt, at_place};
-ghost use Rattle.hir_lower_form.specs.Nests.{Each, IfPresent, KidsBounds, KidsImpl};
+ghost use Rattle.hir_lower_form.specs.Types as steps_of;
+ghost use Rattle.hir_lower_form.specs.Nests.{Each, IfPresent, KidsBounds, KidsImpl, const_expr};
 
 use crate::bounds::bounds;
 use crate::lifetimes::{binder, lifetime_if_present};
@@ -18,7 +22,7 @@ use hir_store::fault::StoreFault;
 use hir_store::hir::Mutability;
 use hir_store::ids::TypeRefId;
 use hir_store::lists::push_type;
-use hir_store::type_ref::{RefType, TypeRef};
+use hir_store::type_ref::{ArrayType, ConstRef, RefType, TypeRef};
 use hir_syntax::node::{AstPtr, InFile};
 use hir_syntax::{Boxed, Seq, ast};
 
@@ -74,6 +78,41 @@ pub(crate) fn pointer_form<P: LowerParts>(
 {
     let id = lowerer.type_or_error(state, lowerer.parts.place(), &None, ty)?;
     state.alloc_type(TypeRef::RawPtr(id, written_mutability(mut_)), Some(at))
+}
+
+/// An array of this length.
+fn array_of_length<P: LowerParts>(
+    lowerer: &Lowerer<P>,
+    state: &mut BodyBuilder,
+    at: InFile<AstPtr>,
+    len: ConstRef,
+    ty: &Option<Boxed<ast::Type_>>,
+) -> Result<TypeRefId, StoreFault>
+    requires len { HasConst state.old.stored len }
+    requires ty { IfPresent ((P.can lowerer.now.parts).type_ (P.spot lowerer.now.parts).place) ty.now }
+    ensures { let element = steps.type_part None (type_part (P.spot lowerer.now.parts) ty.now) in
+        Lowers HasType (steps_of.array_of_length at len element) state.old result state.new }
+{
+    let ty = lowerer.type_or_error(state, lowerer.parts.place(), &None, ty)?;
+    state.alloc_type(TypeRef::Array(ArrayType { ty, len }), Some(at))
+}
+
+/// The length before the type of the elements.
+#[tactic(auto, unfolding(hir_lower_form::specs::Types::array_type_form))]
+pub(crate) fn array_form<P: LowerParts>(
+    lowerer: &Lowerer<P>,
+    state: &mut BodyBuilder,
+    at: InFile<AstPtr>,
+    ty: &Option<Boxed<ast::Type_>>,
+    len: &Option<ast::ConstArg>,
+) -> Result<TypeRefId, StoreFault>
+    requires len { (P.can lowerer.now.parts).constant (P.spot lowerer.now.parts).place (const_expr len.now) }
+    requires ty { IfPresent ((P.can lowerer.now.parts).type_ (P.spot lowerer.now.parts).place) ty.now }
+    ensures { let here = P.spot lowerer.now.parts in
+        LowersType None (tree.array_type at (constant_part here len.now) (type_part here ty.now)) state.old result state.new }
+{
+    let len = lowerer.constant_or_missing(state, lowerer.parts.place(), len)?;
+    array_of_length(lowerer, state, at, len, ty)
 }
 
 /// The type before the lifetime.

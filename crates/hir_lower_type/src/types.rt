@@ -7,7 +7,8 @@ ghost use Rattle.hir_lower_form.specs.Nests.{KidsType};
 
 use crate::functions::fn_form;
 use crate::simple::{
-    dyn_form, for_form, impl_form, path_form, pointer_form, ref_form, slice_form, tuple_form,
+    array_form, dyn_form, for_form, impl_form, path_form, pointer_form, ref_form, slice_form,
+    tuple_form,
 };
 use hir_lower_form::builder::BodyBuilder;
 use hir_lower_form::parts::{LowerParts, Lowerer};
@@ -38,6 +39,7 @@ pub fn type_node<P: LowerParts>(
         ast::TypeKind::RefType { lifetime, mut_, ty } => {
             ref_form(lowerer, state, at, lifetime, *mut_, ty)
         }
+        ast::TypeKind::ArrayType { ty, len } => array_form(lowerer, state, at, ty, len),
         ast::TypeKind::TupleType { fields } => tuple_form(lowerer, state, at, fields),
         ast::TypeKind::PathType { path } => path_form(lowerer, state, at, path),
         ast::TypeKind::FnPtrType {

@@ -14,7 +14,7 @@ use Rattle.hir_store.specs.declared.ids.CfgId.{CfgId}
 use Rattle.hir_store.specs.declared.name.Name.{Name}
 use Rattle.hir_store.specs.declared.name.Name.TheVariants as name
 use Rattle.hir_env.specs.Answered as tree
-use Rattle.hir_env.specs.Answered.{Expr, OptionExpr, Exprs}
+use Rattle.hir_env.specs.Answered.{Expr, Exprs}
 use Rattle.hir_scope.specs.Scopes.{Scope}
 use Rattle.hir_meaning.specs.Run.{unit, answered, truth, Event, Answer, test, is_true, enter, operator, tuple, missing, returned}
 use Rattle.hir_data.specs.Data.{no_args}

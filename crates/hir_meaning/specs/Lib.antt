@@ -7,6 +7,7 @@ pub mod Contents
 pub mod Syntax
 pub mod Store
 pub mod Jumps
+pub mod Inner
 pub mod Same
 pub mod Small
 pub mod Rows
@@ -14,4 +15,5 @@ pub mod Turns
 pub mod Worked
 pub mod Forms
 pub mod Typed
+pub mod InnerRows
 pub mod Endings

@@ -1,5 +1,5 @@
 -- A stored body does what the written one does.
-use Rattle.std.specs.Prelude.{ℕ, ◌≡◌, []}
+use Rattle.std.specs.Prelude.{ℕ, ◌≡◌, List, [], ◌∷◌}
 use Rattle.hir_store.specs.Stored.{Store, SourceMap}
 use Rattle.hir_store.specs.declared.ids.ExprId.{ExprId}
 use Rattle.hir_env.specs.Answered.{OptionExpr}
@@ -7,6 +7,7 @@ use Rattle.hir_meaning.specs.Run.{Value, Answerer, Leave, Outcome, value, break,
 use Rattle.hir_meaning.specs.Syntax.{SyntaxBody, written_body}
 use Rattle.hir_meaning.specs.Store.{StoreBody, stored_body}
 use Rattle.hir_meaning.specs.Jumps.{Enclosed}
+use Rattle.hir_meaning.specs.Inner.{Bodies, bodies_in, inner_bodies}
 
 -- the same run
 
@@ -46,6 +47,18 @@ pub record SameBody (store : Store) (stored : StoreBody) (root : ExprId) (writte
   pub runs : SameRun stored written
   pub jumps : Enclosed store.exprs root
 
--- the stored expression, as a body by itself, does what the written one does
+-- the stored expression, as a body by itself
+abbrev pub SameAlone : Store → SourceMap → ExprId → OptionExpr → Type 0
+SameAlone store source_map i e = SameBody store (stored_body store source_map i) i (written_body e)
+
+-- each like the written one in the same place of the list
+abbrev pub SameBodies : Store → SourceMap → List ExprId → Bodies → Type 0
+SameBodies store source_map [] [] = Unit {0}
+SameBodies store source_map (i ∷ is) (e ∷ es) = SameAlone store source_map i e × SameBodies store source_map is es
+SameBodies store source_map [] (e ∷ es) = ⊥
+SameBodies store source_map (i ∷ is) [] = ⊥
+
+-- the stored expression does what the written one does, and so does each body inside it
 pub record SameMeaning (store : Store) (source_map : SourceMap) (root : ExprId) (e : OptionExpr) : Type 0 where
-  pub body : SameBody store (stored_body store source_map root) root (written_body e)
+  pub body : SameAlone store source_map root e
+  pub inner : SameBodies store source_map (inner_bodies store root) (bodies_in e)

@@ -12,6 +12,7 @@ ghost use Rattle.hir_meaning.specs.Forms.{MakesAPair, MakesARecord, MakesOfDefau
 ghost use Rattle.hir_meaning.specs.Typed.{CastsToItsType, NamesAnOffset, CallsWithArguments};
 ghost use Rattle.hir_meaning.specs.Endings.{MissingEndsTheLoop, StraysWithItsValue, StrayIsNoValue, InnerLabelHides};
 ghost use Rattle.hir_meaning.specs.Endings.{ContinuesPastTheBlock, AnswersNoPastTheEnd, ValueEndsTheLoop, ForeignIsNotEnclosed};
+ghost use Rattle.hir_meaning.specs.InnerRows.{TypesInOrder, PathsInOrder, ExprsInOrder, StoredInOrder};
 
 /// `'a: { loop { break 'a 1 } }` with one turn is the literal and its value.
 pub fn leaves_the_loop()
@@ -226,4 +227,14 @@ pub fn value_ends_the_loop()
 /// A jump for a label that is not around it is not enclosed.
 pub fn foreign_is_not_enclosed()
     ensures { ForeignIsNotEnclosed }
+{}
+
+/// The bodies inside `[[!; a]; b]` are a and b, inside `[!; a as [!; b]]` the cast and b; inside a refused path, and in
+/// arguments that go again, there are none. Arguments come before bindings, and of a method call those in `<..>` before the
+/// others. So they are stored, too.
+pub fn inner_bodies_in_order()
+    ensures types { TypesInOrder }
+    ensures paths { PathsInOrder }
+    ensures exprs { ExprsInOrder }
+    ensures stored { StoredInOrder }
 {}

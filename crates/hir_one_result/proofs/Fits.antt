@@ -6,8 +6,7 @@ use Rattle.hir_one_result.specs.Size.{Size}
 use Rattle.hir_one_result.specs.Laws.{GrownUnless, AllFit, TypesFit, PathsFit}
 use Rattle.hir_one_result.proofs.Rooms.{Room, Takes}
 use Rattle.hir_one_result.proofs.Tellings.{takes_of}
-use Rattle.hir_one_result.proofs.PathRooms.{type_part_takes, path_tells}
-use Rattle.hir_one_result.proofs.TreeRooms.{part_takes}
+use Rattle.hir_one_result.proofs.TreeRooms.{part_takes, path_tells, type_part_takes}
 
 fits : {A : Type 0} {n : Size} {p : Lowering A} → Takes n p → (old : Builder) → GrownUnless n old.stored (p old).0 (p old).1.stored
 fits {A = A} {n = n} {p = p} h old = by (p old).0 (p old).1 (h.takes old)

@@ -1,7 +1,6 @@
 -- Steps by how much they store.
-use Rattle.std.proofs.Common.{arith, ◌≡◌, ◌∙◌, refl, sym, ap, ℕ, ◌+◌, ◌<◌, ◌≤◌, Bool, true, false, if◌then◌else◌, nat_lt, length}
-use Rattle.std.proofs.Common.{length-append, append-nil, append_assoc, List, [], ◌∷◌, ◌++◌, Option, Some, None, Ok, Err}
-use Rattle.std.proofs.Common.{◌⊎◌, inl, inr, ⊎_elim}
+use Rattle.std.proofs.Common.{arith, ◌≡◌, ◌∙◌, refl, sym, ap, ◌+◌, ◌<◌, Bool, true, false, if◌then◌else◌, nat_lt, length, length-append}
+use Rattle.std.proofs.Common.{append-nil, append_assoc, List, [], ◌∷◌, ◌++◌, Option, Some, None, Ok, Err, inl, inr, ⊎_elim}
 use Rattle.std.proofs.lemmas.Bool.{ltb-false}
 use Rattle.hir_store.specs.Pointers.{Pointer}
 use Rattle.hir_store.specs.Arenas.{Sourced, with_entry}
@@ -16,17 +15,18 @@ use Rattle.hir_store.specs.declared.hir.Label.{Label as HirLabel}
 use Rattle.hir_store.specs.declared.ids.ExprId.{ExprId}
 use Rattle.hir_store.specs.declared.ids.LabelId.{LabelId}
 use Rattle.hir_store.specs.declared.ids.BlockId.{BlockId}
-use Rattle.hir_env.specs.Answered.{Label, Jump}
+use Rattle.hir_env.specs.Answered.{Label, Jump, OptionExpr}
 use Rattle.hir_scope.specs.Ribs.{Target, reachable, unreachable, undeclared, target}
 use Rattle.hir_lower_form.specs.Builder.{Builder}
-use Rattle.hir_lower_form.specs.Lowering.{Checked, go_on, Lowering, ◌>>=◌, pure, alloc_expr, point, point_field, report}
-use Rattle.hir_lower_form.specs.Lowering.{enter_block, open_label, close, jump_target, found_or_fault, open_as, report_await}
+use Rattle.hir_lower_form.specs.Lowering.{Checked, go_on, Lowering, ◌>>=◌, pure, alloc_expr, point, point_field, report, enter_block}
+use Rattle.hir_lower_form.specs.Lowering.{open_label, close, jump_target, found_or_fault, open_as, report_await, open_barrier, enter_root}
+use Rattle.hir_lower_form.specs.Lowering.{leave_root, outside_root, record_root, alloc_type, alloc_lifetime}
+use Rattle.hir_lower_form.specs.Lower.{ExprSteps, constant_form}
 use Rattle.hir_store.specs.declared.type_ref.TypeRef.{TypeRef}
 use Rattle.hir_store.specs.declared.type_ref.LifetimeRef.{LifetimeRef}
 use Rattle.hir_store.specs.declared.ids.TypeRefId.{TypeRefId}
 use Rattle.hir_store.specs.declared.ids.LifetimeRefId.{LifetimeRefId}
-use Rattle.hir_lower_form.specs.Lowering.{alloc_type, alloc_lifetime}
-use Rattle.hir_one_result.specs.Size.{Size, nothing, an_expr, a_label, a_type, a_lifetime, ◌∪◌}
+use Rattle.hir_one_result.specs.Size.{Size, nothing, an_expr, a_label, a_type, a_lifetime, a_constant, ◌∪◌}
 use Rattle.hir_one_result.specs.Room.{Short}
 
 -- so much more is stored
@@ -411,3 +411,26 @@ takes_lifetime x source = record { takes = λ b. by b (nat_lt (length b.stored.l
         }
     by b false is =
         let full = ltb-false (length b.stored.lifetimes.entries) b.stored.lifetimes.limit is in inr (inr (inr (inl (omega arith))))
+
+-- a constant: behind a barrier, in a root
+
+takes_barrier : Takes nothing open_barrier
+unfolding open_barrier
+takes_barrier = record { takes = λ b. took_besides _ _ refl refl refl refl refl }
+
+takes_enter : Takes nothing enter_root
+unfolding enter_root
+takes_enter = record { takes = λ b. took_besides _ _ refl refl refl refl refl }
+
+takes_leave : (outer : Bool) (id : ExprId) → Takes nothing (leave_root outer id)
+unfolding leave_root record_root outside_root storing.record_root
+takes_leave true id = takes_pure tt
+takes_leave false id = record { takes = λ b. took_besides _ _ refl refl refl refl refl }
+
+as_constant : (e : OptionExpr) (n : Size) → Same n (a_constant e n)
+as_constant e n = record { exprs = refl; labels = refl; types = refl; lifetimes = refl; overcounts = λ x. x }
+
+pub takes_constant : (e : OptionExpr) {n : Size} {p : ExprSteps} → Takes n p → Takes (a_constant e n) (constant_form p)
+unfolding constant_form
+takes_constant e {n = n} h = takes_as (as_constant e n) (takes_begin takes_barrier (λ u. takes_begin takes_enter (λ outer.
+    takes_end h (λ id. takes_end takes_close (λ u. takes_end (takes_leave outer id) (λ u. takes_pure _))))))

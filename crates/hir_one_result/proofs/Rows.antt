@@ -105,11 +105,15 @@ enters_in_order = refl
 
 pub leaves : Leaves
 leaves = record {
-  one_name = λ store source_map i ws h. h.2.0.stored ∙ ap (λ q. Some (hir.Path q other)) (is_read store source_map h.0 _ refl h.1);
-  two_names = λ store source_map i ws h. h.2.0.stored ∙ ap (λ q. Some (hir.Path q root)) (is_read store source_map h.0 _ refl h.1);
-  from_crate = λ store source_map i ws h. h.2.0.stored ∙ ap (λ q. Some (hir.Path q other)) (is_read store source_map h.0 _ refl h.1);
-  self_alone = λ store source_map i ws h. h.2.0.stored ∙ ap (λ q. Some (hir.Path q other)) (is_read store source_map h.0 _ refl h.1);
-  refused = λ store source_map i ws h. h.0.stored;
+  one_name = λ store source_map i ws h.
+      h.second.2.0.stored ∙ ap (λ q. Some (hir.Path q other)) (is_read store source_map h.second.0 _ refl h.second.1);
+  two_names = λ store source_map i ws h.
+      h.second.2.0.stored ∙ ap (λ q. Some (hir.Path q root)) (is_read store source_map h.second.0 _ refl h.second.1);
+  from_crate = λ store source_map i ws h.
+      h.second.2.0.stored ∙ ap (λ q. Some (hir.Path q other)) (is_read store source_map h.second.0 _ refl h.second.1);
+  self_alone = λ store source_map i ws h.
+      h.second.2.0.stored ∙ ap (λ q. Some (hir.Path q other)) (is_read store source_map h.second.0 _ refl h.second.1);
+  refused = λ store source_map i ws h. h.second.0.stored;
   parentheses = λ store source_map i ws h. h.is ∙ (ap (λ l. l ++ h.right) h.first.2.1 ∙ ap (λ r. expr_way (at 1) i ∷ r) h.second);
 }
 
@@ -164,7 +168,7 @@ plain_forms = record {
         one = h.0;
         other = v;
         whole = h.3.stored ∙ (ap (λ xs. Some (hir.MethodCall h.0 (letter 109) h.2 xs)) is
-            ∙ ap (λ g. Some (hir.MethodCall h.0 (letter 109) g (v ∷ []))) (no_list store source_map h.2 h.4.second.second.first.0));
+            ∙ ap (λ g. Some (hir.MethodCall h.0 (letter 109) g (v ∷ []))) (no_list store source_map h.2 h.4.second.second.first.second.0));
         first = literal_stored store source_map (at 1) _ h.0 h.4.left h.4.first;
         second = literal_stored store source_map (at 2) _ v c.3.left c.3.first.2;
       };

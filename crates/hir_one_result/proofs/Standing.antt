@@ -1,7 +1,6 @@
 -- Steps whose answers stand for what is written, and the forms that are made of them.
-use Rattle.std.proofs.Common.{◌≡◌, ◌∙◌, refl, sym, ap, subst, List, [], ◌∷◌, length, length-append, slice_get}
-use Rattle.std.proofs.Common.{Option, Some, None, option_map}
-use Rattle.std.proofs.Common.{arith, Bool, true, false}
+use Rattle.std.proofs.Common.{◌≡◌, ◌∙◌, refl, sym, ap, subst, List, [], ◌∷◌, length, length-append, slice_get, Option, Some, None}
+use Rattle.std.proofs.Common.{option_map, arith, Bool, true, false, append-nil}
 use Rattle.indexmap.specs.IndexMap.{insert_entry}
 use Rattle.hir_syntax.specs.declared.ast.Literal.{Literal as AstLiteral}
 use Rattle.hir_store.specs.Pointers.{Pointer, same_pointer}
@@ -19,38 +18,35 @@ use Rattle.hir_scope.specs.Ribs.{Rib, Target, reachable, unreachable, undeclared
 use Rattle.hir_store.specs.declared.diagnostics.AwaitLocation.{AwaitLocation}
 use Rattle.hir_store.specs.declared.name.Name.{Name}
 use Rattle.hir_env.specs.Answered as tree
-use Rattle.hir_env.specs.Answered.{Leaf, Unary, Binary, Leaving, Listing, Label, Jump, OptionPath}
+use Rattle.hir_env.specs.Answered.{Leaf, Unary, Binary, Leaving, Listing, Label, Jump, OptionPath, OptionType, OptionArgs}
 use Rattle.hir_data.specs.Data.{PathData}
-use Rattle.hir_data.specs.Written.{written_path}
+use Rattle.hir_data.specs.Written.{written_path, written_type, written_args}
 use Rattle.hir_read_back.proofs.Now.{path_now, type_now, args_now}
 use Rattle.hir_data.specs.Reading.{stored_path, stored_type, stored_args}
-use Rattle.hir_data.specs.Written.{written_type, written_args}
 use Rattle.hir_store.specs.declared.hir.RecordLitField.{RecordLitField}
 use Rattle.hir_store.specs.declared.hir.RecordSpread.{RecordSpread}
 use Rattle.hir_store.specs.declared.path.Path.{Path}
-use Rattle.hir_env.specs.Answered.{OptionType, OptionArgs}
 use Rattle.hir_lower_form.specs.Lower.{StoredFields, type_part, args_part, cast_form, offset_of_form, record_contents, record_of}
-use Rattle.hir_lower_form.specs.Lower.{record_form, field_form}
-use Rattle.hir_steps.proofs.Steps.{correct_point_field, with_field}
-use Rattle.hir_one_result.specs.Leads.{Way}
-use Rattle.hir_one_result.specs.Stands.{ReadsAs, StandsOverThree, StandsRecord}
-use Rattle.hir_steps.proofs.Aside.{Aside, part_aside, args_aside, path_aside}
+use Rattle.hir_lower_form.specs.Lower.{record_form, field_form, ExprSteps, StoredContents, missing, some, if_form, loop_form, call_form}
+use Rattle.hir_lower_form.specs.Lower.{continue_form, break_form, stored_leaf, stored_unary, stored_binary, stored_leaving, operand_form}
+use Rattle.hir_lower_form.specs.Lower.{operands_form, value_form, list_form, method_call_form, await_form, paren_form, path_or_missing}
+use Rattle.hir_lower_form.specs.Lower.{path_form, lower_path, block_form, labelled, settled, stored_literal}
+use Rattle.hir_steps.proofs.Steps.{correct_point_field, with_field, Mark, Rel, Correct, Allocated, Opened, correct_bind, correct_as}
+use Rattle.hir_steps.proofs.Steps.{correct_pure, correct_point, correct_enter_block, correct_alloc, correct_opened, correct_target}
+use Rattle.hir_steps.proofs.Steps.{with_fault, with_target, with_jump, with_block, with_await, correct_report_await, correct_both}
+use Rattle.hir_one_result.specs.Leads.{Way, Ways, OneWay, OneMissing, OneLabelWay, OneFieldWay, ◌&◌}
+use Rattle.hir_one_result.specs.Stands.{ReadsAs, StandsOverThree, StandsRecord, Open, Absent, There, ExprAt, LabelAt, StandsMissing}
+use Rattle.hir_one_result.specs.Stands.{StandsAlone, StandsPath, StandsLiteral, StandsOver, StandsOverTwo, StandsList, InLabel}
+use Rattle.hir_steps.proofs.Aside.{Aside}
 use Rattle.hir_lower_form.specs.Lowering.{Lowering, ◌>>=◌, pure, alloc_expr}
-use Rattle.hir_lower_form.specs.Lower.{ExprSteps, StoredContents, missing, some, if_form, loop_form, call_form, continue_form, break_form}
-use Rattle.hir_lower_form.specs.Lower.{stored_leaf, stored_unary, stored_binary, stored_leaving}
-use Rattle.hir_lower_form.specs.Lower.{operand_form, operands_form, value_form, list_form, method_call_form, await_form}
-use Rattle.hir_lower_form.specs.Lower.{paren_form, path_or_missing, path_form, lower_path, block_form, labelled, settled, stored_literal}
 use Rattle.hir_steps.proofs.Frames.{Frame, loop_at, block_at, ribs}
-use Rattle.hir_steps.proofs.Steps.{Mark, Rel, Correct, Allocated, Opened, correct_bind, correct_as, correct_pure, correct_point}
-use Rattle.hir_steps.proofs.Steps.{correct_enter_block, correct_alloc, correct_opened, correct_target, with_fault, with_target, with_jump}
-use Rattle.hir_steps.proofs.Steps.{with_block, with_await, correct_report_await, correct_both}
 use Rattle.hir_one_result.specs.Forms.{leaf_form, unary_form, binary_form, leaving_form}
-use Rattle.hir_one_result.specs.Leads.{Ways, OneWay, OneMissing, OneLabelWay, OneFieldWay, ◌&◌}
-use Rattle.hir_one_result.specs.Stands.{Open, Absent, There, ExprAt, LabelAt, StandsMissing, StandsAlone, StandsPath, StandsLiteral}
-use Rattle.hir_one_result.specs.Stands.{StandsOver, StandsOverTwo, StandsList, InLabel}
 use Rattle.hir_one_result.proofs.Leading.{Shown, shown_as, shown_none, shown_own, shown_label, shown_both, shown_swap, shown_after}
-use Rattle.hir_one_result.proofs.Leading.{shown_before, shown_unled, shown_field, Moved, moved_same, moved_then, OnlyNew, none_new}
+use Rattle.hir_one_result.proofs.Leading.{shown_before, shown_unled, shown_field, Moved, moved_same, OnlyNew, none_new}
 use Rattle.hir_one_result.proofs.Data.{PathIs, path_is}
+use Rattle.hir_store.specs.declared.ids.TypeRefId.{TypeRefId}
+use Rattle.hir_store.specs.declared.path.GenericArgs.{GenericArgs}
+use Rattle.hir_lower_form.specs.Types.{TypeSteps}
 
 abbrev pub Of : Type 0 → Type 1
 Of A = Stored → Open → A → Ways
@@ -61,6 +57,10 @@ Placed final i e from = ExprAt (store_of final) (map_of final) i e from
 -- what is so of the final store, with the ways from what was written
 pub record Shows {A : Type 0} (S : Of A) (final : Stored) (ps : List Frame) (m m' : Mark) (a : A) : Type 0 where
   pub shown : Shown (S final (ribs ps) a) m.stored m'.stored
+
+-- whatever the answer is
+pub record Leaves {A : Type 0} (W : Stored → Open → Ways) (final : Stored) (ps : List Frame) (m m' : Mark) (a : A) : Type 0 where
+  pub shown : Shown (W final (ribs ps)) m.stored m'.stored
 
 -- what steps store, and where they lead
 
@@ -178,7 +178,8 @@ pub leaf_stands : (at : Pointer) (form : Leaf)
 leaf_stands at form = correct_as (alone_stands (stored_leaf form) at) (λ final ps m m' i g row.
     record { shown = shown_as row.shown (λ ws y. (subst (λ e. Placed final i e (Some at)) (leaf_is form) y.0, y.1)) })
 
-moved_aside : {A : Type 0} {final : Stored} {ps : List Frame} {m m' : Mark} {a : A} → Aside final ps m m' a → Moved m.stored m'.stored []
+pub moved_aside : {A : Type 0} {final : Stored} {ps : List Frame} {m m' : Mark} {a : A} → Aside final ps m m' a
+    → Moved m.stored m'.stored []
 moved_aside {m' = m'} row = moved_same _ m'.stored refl row.exprs_are row.labels_are row.field_map_back
 
 path_shown : {final : Stored} {qs : List Frame} {m m' : Mark} {i : ExprId} (at : Pointer) (h : HygieneId) (d : Option PathData)
@@ -190,14 +191,14 @@ path_shown {final = final} {i = i} at h None e is row =
 path_shown {final = final} {i = i} at h (Some p) e is row =
     shown_as (own row) (λ ws y. (is.0, is.1, (subst (λ z. Placed final i z (Some at)) is.2 (expr_at row), y)))
 
-pub path_stands : (at : Pointer) (p : OptionPath) (h : HygieneId)
+pub path_stands : (at : Pointer) (p : OptionPath) (h : HygieneId) {W : Stored → Open → Ways} → Correct (lower_path p) (Leaves W)
     → Correct (path_form at h (lower_path p))
-    (Shows (λ final rs i. StandsPath (store_of final) (map_of final) at (written_path p) h i))
+    (Shows (λ final rs i. W final rs & StandsPath (store_of final) (map_of final) at (written_path p) h i))
 unfolding path_form
-path_stands at p h = correct_as
-    (correct_bind (correct_both (path_aside p) (path_now p)) (λ r. correct_alloc (path_or_missing h r) (Some at)))
+path_stands at p h hp = correct_as
+    (correct_bind (correct_both hp (path_now p)) (λ r. correct_alloc (path_or_missing h r) (Some at)))
     (λ final ps m m' i g row. record {
-      shown = shown_after (moved_aside row.first.one)
+      shown = shown_both row.first.one.shown
           (path_shown at h (written_path p) (path_or_missing h row.one)
           (path_is (store_of final) (map_of final) row.one (written_path p) h row.first.other.is) row.second);
     })
@@ -211,15 +212,22 @@ literal_stands at l =
 
 -- parts that are no expressions
 
-type_shown : (t : OptionType)
-    → Correct (type_part None t) (Shows (λ final rs i. ReadsAs (stored_type (store_of final) (map_of final)) (written_type t) i))
-type_shown t = correct_as (correct_both (part_aside None t) (type_now t)) (λ final ps m m' i g row.
-    record { shown = shown_none (moved_aside row.one) (row.other.is, refl) })
+-- what its constants leave, and how it reads back
+read_behind : {A D : Type 0} {W : Ways} (read : A → D) {d : D} {a : A} {s t : Stored} → read a ≡ d → Shown W s t
+    → Shown (W & ReadsAs read d a) s t
+read_behind read e x = shown_as x (λ ws y. record { left = ws; right = []; is = sym (append-nil ws); first = y; second = (e, refl) })
 
-args_shown : (a : OptionArgs)
-    → Correct (args_part a) (Shows (λ final rs r. ReadsAs (stored_args (store_of final) (map_of final)) (written_args a) r))
-args_shown a = correct_as (correct_both (args_aside a) (args_now a)) (λ final ps m m' i g row.
-    record { shown = shown_none (moved_aside row.one) (row.other.is, refl) })
+pub type_shown : (t : OptionType) {W : Stored → Open → Ways} → Correct (type_part None t) (Leaves W)
+    → Correct (type_part None t)
+    (Shows (λ final rs i. W final rs & ReadsAs (stored_type (store_of final) (map_of final)) (written_type t) i))
+type_shown t h = correct_as (correct_both h (type_now t)) (λ final ps m m' i g row.
+    record { shown = read_behind (stored_type (store_of final) (map_of final)) row.other.is row.one.shown })
+
+pub args_shown : (a : OptionArgs) {W : Stored → Open → Ways} → Correct (args_part a) (Leaves W)
+    → Correct (args_part a)
+    (Shows (λ final rs r. W final rs & ReadsAs (stored_args (store_of final) (map_of final)) (written_args a) r))
+args_shown a h = correct_as (correct_both h (args_now a)) (λ final ps m m' i g row.
+    record { shown = read_behind (stored_args (store_of final) (map_of final)) row.other.is row.one.shown })
 
 -- forms
 
@@ -323,30 +331,31 @@ module _ (at : Pointer) where
   list_stands (tree.tuple_of true) h = over_two (λ is i. refl) h missing_stands
   list_stands tree.array_of h = over (λ is. refl) h
 
-  pub method_call_stands : (name : Name) (g : OptionArgs) {e : ExprSteps} {xs : Lowering (List ExprId)} {S : Of ExprId}
-      {X : Of (List ExprId)} → Correct e (Shows S) → Correct xs (Shows X)
-      → Correct (method_call_form at e name xs (args_part g)) (Shows (λ final rs i. StandsOverThree (store_of final) (map_of final)
+  pub method_call_stands : (name : Name) {e : ExprSteps} {xs : Lowering (List ExprId)} {as' : Lowering (Option GenericArgs)}
+      {S : Of ExprId} {X : Of (List ExprId)} {G : Of (Option GenericArgs)} → Correct e (Shows S) → Correct xs (Shows X)
+      → Correct as' (Shows G)
+      → Correct (method_call_form at e name xs as') (Shows (λ final rs i. StandsOverThree (store_of final) (map_of final)
       (λ receiver arguments a. hir.MethodCall receiver name a arguments) at (λ x. S final rs x) (λ is. X final rs is)
-      (ReadsAs (stored_args (store_of final) (map_of final)) (written_args g)) i))
+      (λ a. G final rs a) i))
   unfolding method_call_form
-  method_call_stands name g he hx = correct_as (correct_bind he (λ i. correct_bind hx (λ is. correct_bind (args_shown g)
+  method_call_stands name he hx ha = correct_as (correct_bind he (λ i. correct_bind hx (λ is. correct_bind ha
       (λ a. correct_alloc (hir.MethodCall i name a is) (Some at))))) (λ final ps m m' i u row.
       let r = row.second in
       let s = r.second in
       let parts = shown_both row.first.shown (shown_both r.first.shown (shown_both s.first.shown (own s.second))) in
       record { shown = shown_as parts (λ ws x. (row.one, r.one, s.one, expr_at s.second, x)) })
 
-  pub cast_stands : (t : OptionType) {e : ExprSteps} {S : Of ExprId} → Correct e (Shows S)
-      → Correct (cast_form at e (type_part None t)) (Shows (λ final rs i. StandsOverTwo (store_of final) (map_of final) hir.Cast at
-      (λ x. S final rs x) (ReadsAs (stored_type (store_of final) (map_of final)) (written_type t)) i))
+  pub cast_stands : {e : ExprSteps} {t : TypeSteps} {S : Of ExprId} {T : Of TypeRefId} → Correct e (Shows S) → Correct t (Shows T)
+      → Correct (cast_form at e t) (Shows (λ final rs i. StandsOverTwo (store_of final) (map_of final) hir.Cast at
+      (λ x. S final rs x) (λ y. T final rs y) i))
   unfolding cast_form
-  cast_stands t h = over_two (λ e i. refl) h (type_shown t)
+  cast_stands he ht = over_two (λ e i. refl) he ht
 
-  pub offset_of_stands : (t : OptionType) (names : List Name)
-      → Correct (offset_of_form at (type_part None t) names) (Shows (λ final rs i. StandsOver (store_of final) (map_of final)
-      (λ container. hir.OffsetOf container names) at (ReadsAs (stored_type (store_of final) (map_of final)) (written_type t)) i))
+  pub offset_of_stands : (names : List Name) {t : TypeSteps} {T : Of TypeRefId} → Correct t (Shows T)
+      → Correct (offset_of_form at t names) (Shows (λ final rs i. StandsOver (store_of final) (map_of final)
+      (λ container. hir.OffsetOf container names) at (λ y. T final rs y) i))
   unfolding offset_of_form
-  offset_of_stands t names = over (λ i. refl) (type_shown t)
+  offset_of_stands names ht = over (λ i. refl) ht
 
   -- what a record is, where the path became this
   abbrev record_over : Option Path → Of StoredFields → Of ExprId
@@ -371,14 +380,15 @@ module _ (at : Pointer) where
       by None h = h
       by (Some p) h = (p, h.0, h.1, record { left = []; right = ws; is = refl; first = (refl, refl); second = h.2 })
 
-  pub record_stands : (p : OptionPath) {c : Lowering StoredFields} {S : Of StoredFields} → Correct c (Shows S)
+  pub record_stands : (p : OptionPath) {W : Stored → Open → Ways} {c : Lowering StoredFields} {S : Of StoredFields}
+      → Correct (lower_path p) (Leaves W) → Correct c (Shows S)
       → Correct (record_form at (lower_path p) c)
-      (Shows (λ final rs i. StandsRecord (store_of final) (map_of final) at (written_path p) (λ r. S final rs r) i))
+      (Shows (λ final rs i. W final rs & StandsRecord (store_of final) (map_of final) at (written_path p) (λ r. S final rs r) i))
   unfolding record_form
-  record_stands p {S = S} h = correct_as
-      (correct_bind (correct_both (path_aside p) (path_now p)) (λ o. record_of_stands h o))
+  record_stands p {S = S} hp h = correct_as
+      (correct_bind (correct_both hp (path_now p)) (λ o. record_of_stands h o))
       (λ final ps m m' i g row. record {
-        shown = shown_after (moved_aside row.first.one) (shown_as row.second.shown
+        shown = shown_both row.first.one.shown (shown_as row.second.shown
             (record_is final (ribs ps) S i row.one (written_path p) row.first.other.is));
       })
 

@@ -1,8 +1,8 @@
 -- Steps that add to one of the lists of what is stored: which they are, and what the forms add that are made of them.
-use Rattle.std.proofs.Common.{◌≡◌, ◌∙◌, refl, sym, ap, subst, List, [], ◌∷◌, ◌++◌, append_assoc, append-nil, Option, Some, None, option_map}
-use Rattle.std.proofs.Common.{Bool, true, false}
+use Rattle.std.proofs.Common.{◌≡◌, ◌∙◌, refl, sym, ap, subst, List, [], ◌∷◌, ◌++◌, append_assoc, append-nil, Option, Some, None}
+use Rattle.std.proofs.Common.{option_map, Bool, true, false, ◌⊎◌, inl, inr}
 use Rattle.hir_store.specs.Pointers.{Pointer}
-use Rattle.hir_store.specs.Stored.{Stored}
+use Rattle.hir_store.specs.Stored.{Stored, store_of, map_of}
 use Rattle.hir_store.specs.declared.hir.Expr.{Expr as HirExpr}
 use Rattle.hir_store.specs.declared.ids.ExprId.{ExprId}
 use Rattle.hir_store.specs.declared.ids.LabelId.{LabelId}
@@ -15,38 +15,34 @@ use Rattle.hir_store.specs.declared.diagnostics.ExpressionStoreDiagnostics.TheVa
 use Rattle.hir_store.specs.declared.diagnostics.AwaitLocation.{AwaitLocation}
 use Rattle.hir_store.specs.declared.name.Name.{Name}
 use Rattle.hir_env.specs.Answered as tree
-use Rattle.hir_env.specs.Answered.{Label, Jump}
-use Rattle.hir_scope.specs.Ribs.{Rib, label_rib, Target, reachable, unreachable, undeclared, target, map_ribs, map_target}
+use Rattle.hir_env.specs.Answered.{Label, Jump, OptionPath}
+use Rattle.hir_scope.specs.Ribs.{Rib, label_rib, Target, reachable, unreachable, undeclared, target, map_ribs, map_target, barrier_rib}
 use Rattle.hir_scope.specs.Scopes as scope
-use Rattle.hir_scope.specs.Scopes.{Scope, loop_scope, block_scope, scopes_in_block}
+use Rattle.hir_scope.specs.Scopes.{Scope, loop_scope, block_scope, scopes_in_block, barrier}
 use Rattle.hir_scope.proofs.Ribs.{target_map}
-use Rattle.hir_lower_form.specs.Lowering.{Lowering, ◌>>=◌, pure, alloc_expr, point, report, report_await, enter_block}
-use Rattle.hir_lower_form.specs.Lowering.{open_label, close, jump_target}
+use Rattle.hir_lower_form.specs.Lowering.{Lowering, ◌>>=◌, pure, alloc_expr, point, report, report_await, enter_block, open_label, close}
+use Rattle.hir_lower_form.specs.Lowering.{jump_target, point_field}
 use Rattle.hir_lower_form.specs.Lower.{ExprSteps, StoredContents, missing, some, if_form, loop_form, call_form, continue_form, break_form}
-use Rattle.hir_lower_form.specs.Lower.{operand_form, operands_form, value_form, list_form, method_call_form, await_form}
-use Rattle.hir_lower_form.specs.Lower.{paren_form, path_form, block_form, labelled}
-use Rattle.hir_store.specs.Stored.{store_of, map_of}
+use Rattle.hir_lower_form.specs.Lower.{operand_form, operands_form, value_form, list_form, method_call_form, await_form, paren_form}
+use Rattle.hir_lower_form.specs.Lower.{path_form, block_form, labelled, StoredFields, lower_path, cast_form, offset_of_form}
+use Rattle.hir_lower_form.specs.Lower.{record_contents, record_of, record_form, field_form, constant_form}
 use Rattle.hir_store.specs.declared.hir.RecordLitField.{RecordLitField}
 use Rattle.hir_store.specs.declared.hir.RecordSpread.{RecordSpread}
 use Rattle.hir_store.specs.declared.path.GenericArgs.{GenericArgs}
-use Rattle.hir_env.specs.Answered.{OptionPath}
 use Rattle.hir_data.specs.Reading.{stored_path}
 use Rattle.hir_data.specs.Written.{written_path}
 use Rattle.hir_read_back.proofs.Now.{path_now}
-use Rattle.hir_lower_form.specs.Lowering.{point_field}
 use Rattle.hir_lower_form.specs.Types.{TypeSteps}
-use Rattle.hir_lower_form.specs.Lower.{StoredFields, lower_path, cast_form, offset_of_form, record_contents, record_of, record_form}
-use Rattle.hir_lower_form.specs.Lower.{field_form}
 use Rattle.hir_one_result.specs.Blocks.{where_some}
-use Rattle.hir_steps.proofs.Steps.{correct_both, correct_point_field, with_field}
-use Rattle.hir_steps.proofs.Aside.{Aside, path_aside}
+use Rattle.hir_steps.proofs.Steps.{correct_both, correct_point_field, with_field, Mark, Correct, correct_bind, correct_as, correct_pure}
+use Rattle.hir_steps.proofs.Steps.{correct_report, correct_report_await, correct_point, correct_enter_block, correct_alloc}
+use Rattle.hir_steps.proofs.Steps.{correct_opened, correct_target, with_fault, with_block, with_expr, with_await, with_label, pointing}
+use Rattle.hir_steps.proofs.Steps.{with_target, with_jump}
+use Rattle.hir_steps.proofs.Aside.{Aside}
 use Rattle.hir_steps.proofs.Frames.{Frame, loop_at, block_at, ribs}
-use Rattle.hir_steps.proofs.Steps.{Mark, Correct, correct_bind, correct_as, correct_pure, correct_report, correct_report_await}
-use Rattle.hir_steps.proofs.Steps.{correct_point}
-use Rattle.hir_steps.proofs.Steps.{correct_enter_block, correct_alloc, correct_opened, correct_target, with_fault, with_block, with_expr}
-use Rattle.hir_steps.proofs.Steps.{with_await, with_label, pointing, with_target, with_jump}
 use Rattle.hir_one_result.specs.Diagnostics.{forget, Around, target_faults, jump_faults, await_faults}
 use Rattle.hir_one_result.proofs.Around.{IsRib, in_loop, loop_is_rib, block_is_rib}
+use Rattle.hir_steps.proofs.Constants.{correct_constant, with_root}
 
 -- A list of what is stored, which faults and entered blocks add to, and in which way a list may be another.
 pub record Listing (X : Type 0) : Type 1 where
@@ -71,13 +67,13 @@ module _ {X : Type 0} (L : Listing X) where
     pub is : L.list b ≡ L.list a ++ more
     pub like : L.Like xs more
 
-  added_none : {a b : Stored} → L.list b ≡ L.list a → Added [] a b
+  pub added_none : {a b : Stored} → L.list b ≡ L.list a → Added [] a b
   added_none e = record { more = []; is = e ∙ sym (append-nil _); like = L.same [] }
 
   added_these : (xs : List X) {a b : Stored} → L.list b ≡ L.list a ++ xs → Added xs a b
   added_these xs e = record { more = xs; is = e; like = L.same xs }
 
-  added_then : {xs ys : List X} {a b c : Stored} → Added xs a b → Added ys b c → Added (xs ++ ys) a c
+  pub added_then : {xs ys : List X} {a b c : Stored} → Added xs a b → Added ys b c → Added (xs ++ ys) a c
   added_then {xs = xs} {ys = ys} {a = a} g h = record {
     more = g.more ++ h.more;
     is = h.is ∙ (ap (λ zs. zs ++ h.more) g.is ∙ append_assoc (L.list a) g.more h.more);
@@ -198,7 +194,7 @@ module _ {X : Type 0} (L : Listing X) where
 
   -- a label around steps
 
-  last_none : {xs : List X} {a b : Stored} → Added (xs ++ []) a b → Added xs a b
+  pub last_none : {xs : List X} {a b : Stored} → Added (xs ++ []) a b → Added xs a b
   last_none {xs = xs} {a = a} {b = b} g = subst (λ ys. Added ys a b) (append-nil xs) g
 
   opened_tells : {A B : Type 0} {D : List Scope → List X} (at : Label → LabelId → Frame) (l : Label) (c : Scope)
@@ -256,9 +252,10 @@ module _ {X : Type 0} (L : Listing X) where
     unfolding paren_form
     paren_tells h = tells_end h (λ i. tells_end (tells_point at i) (λ u. tells_pure i))
 
-    pub path_tells : (h : HygieneId) {p : Lowering (Option Path)} → Correct p Aside → Correct (path_form at h p) (Tells nothing)
+    pub path_tells : (h : HygieneId) {D : List Scope → List X} {p : Lowering (Option Path)} → Correct p (Tells D)
+        → Correct (path_form at h p) (Tells D)
     unfolding path_form
-    path_tells h hp = tells_end (tells_aside hp) (λ r. tells_alloc _ _)
+    path_tells h hp = tells_end hp (λ r. tells_alloc _ _)
 
     pub operand_tells : (form : ExprId → HirExpr) {D : List Scope → List X} {e : ExprSteps} → Correct e (Tells D)
         → Correct (operand_form at form e) (Tells D)
@@ -282,21 +279,22 @@ module _ {X : Type 0} (L : Listing X) where
     list_tells (tree.tuple_of true) h = tells_end h (λ is. tells_end missing_tells (λ i. tells_alloc _ _))
     list_tells tree.array_of h = tells_end h (λ is. tells_alloc _ _)
 
-    pub method_call_tells : (name : Name) {D E : List Scope → List X} {e : ExprSteps} {xs : Lowering (List ExprId)}
-        {as' : Lowering (Option GenericArgs)} → Correct e (Tells D) → Correct xs (Tells E) → Correct as' Aside
-        → Correct (method_call_form at e name xs as') (Tells (λ ss. D ss ++ E ss))
+    pub method_call_tells : (name : Name) {D E F : List Scope → List X} {e : ExprSteps} {xs : Lowering (List ExprId)}
+        {as' : Lowering (Option GenericArgs)} → Correct e (Tells D) → Correct xs (Tells E) → Correct as' (Tells F)
+        → Correct (method_call_form at e name xs as') (Tells (λ ss. D ss ++ (E ss ++ F ss)))
     unfolding method_call_form
     method_call_tells name he hx ha =
-        tells_bind he (λ i. tells_end hx (λ is. tells_end (tells_aside ha) (λ g. tells_alloc _ _)))
+        tells_bind he (λ i. tells_bind hx (λ is. tells_end ha (λ g. tells_alloc _ _)))
 
-    pub cast_tells : {D : List Scope → List X} {e : ExprSteps} {t : TypeSteps} → Correct e (Tells D) → Correct t Aside
-        → Correct (cast_form at e t) (Tells D)
+    pub cast_tells : {D E : List Scope → List X} {e : ExprSteps} {t : TypeSteps} → Correct e (Tells D) → Correct t (Tells E)
+        → Correct (cast_form at e t) (Tells (λ ss. D ss ++ E ss))
     unfolding cast_form
-    cast_tells he ht = tells_end he (λ i. tells_end (tells_aside ht) (λ t. tells_alloc _ _))
+    cast_tells he ht = tells_bind he (λ i. tells_end ht (λ t. tells_alloc _ _))
 
-    pub offset_of_tells : (names : List Name) {t : TypeSteps} → Correct t Aside → Correct (offset_of_form at t names) (Tells nothing)
+    pub offset_of_tells : (names : List Name) {D : List Scope → List X} {t : TypeSteps} → Correct t (Tells D)
+        → Correct (offset_of_form at t names) (Tells D)
     unfolding offset_of_form
-    offset_of_tells names ht = tells_end (tells_aside ht) (λ t. tells_alloc _ _)
+    offset_of_tells names ht = tells_end ht (λ t. tells_alloc _ _)
 
     record_of_tells : {D : List Scope → List X} {c : Lowering StoredFields} → Correct c (Tells D) → (p : Option Path)
         → Correct (record_of at c p) (Tells (λ ss. where_some p (D ss)))
@@ -312,16 +310,17 @@ module _ {X : Type 0} (L : Listing X) where
         by None = refl
         by (Some a) = refl
 
-    pub record_tells : (p : OptionPath) {D : List Scope → List X} {c : Lowering StoredFields} → Correct c (Tells D)
-        → Correct (record_form at (lower_path p) c) (Tells (λ ss. where_some (written_path p) (D ss)))
+    pub record_tells : (p : OptionPath) {W D : List Scope → List X} {c : Lowering StoredFields} → Correct (lower_path p) (Tells W)
+        → Correct c (Tells D)
+        → Correct (record_form at (lower_path p) c) (Tells (λ ss. W ss ++ where_some (written_path p) (D ss)))
     unfolding record_form
-    record_tells p {D = D} h = correct_as
-        (correct_bind (correct_both (tells_aside (path_aside p)) (path_now p)) (λ o. record_of_tells h o))
+    record_tells p {W = W} {D = D} hp h = correct_as
+        (correct_bind (correct_both hp (path_now p)) (λ o. record_of_tells h o))
         (λ final ps m m' i g row. record {
           told = λ ss e.
               let added = added_then (row.first.one.told ss e) (row.second.told ss e) in
               let is = kept_where (stored_path (store_of final) (map_of final)) row.one (written_path p) row.first.other.is (D ss) in
-              subst (λ xs. Added xs m.stored m'.stored) is added;
+              subst (λ xs. Added (W ss ++ xs) m.stored m'.stored) is added;
         })
 
     pub field_tells : (name : Name) {D : List Scope → List X} {e : ExprSteps} → Correct e (Tells D)
@@ -352,3 +351,15 @@ module _ {X : Type 0} (L : Listing X) where
   labelled_tells None h = h None
   labelled_tells (Some l) h =
       opened_tells block_at l (block_scope l) (λ n ps. refl) (λ n. block_is_rib l n) (λ n. h (Some n)) (λ n i. tells_pure i)
+
+  -- constants
+
+  root_none : (i : ExprId) {a b : Stored} → (b ≡ a) ⊎ (b ≡ with_root i a) → Added [] a b
+  root_none i (inl e) = added_none (ap L.list e)
+  root_none i {a = a} (inr e) = added_none (ap L.list e ∙ L.unchanged a (with_root i a) refl refl)
+
+  pub constant_tells : {D : List Scope → List X} {p : ExprSteps} → Correct p (Tells D)
+      → Correct (constant_form p) (Tells (λ ss. D (barrier ∷ ss)))
+  constant_tells h = correct_as (correct_constant h) (λ final ps m m' c g row. record {
+    told = λ ss e. last_none (added_then (row.first.told (barrier ∷ ss) (ap (λ y. barrier_rib ∷ y) e)) (root_none c.expr row.stored));
+  })

@@ -1,12 +1,11 @@
 -- Steps by how much they store, and by what their answers are.
-use Rattle.std.proofs.Common.{◌≡◌, refl, subst, Bool, true, false, Option, Some, None, Ok, Err}
-use Rattle.hir_store.specs.Stored.{Stored}
+use Rattle.std.proofs.Common.{Ok, Err}
 use Rattle.hir_lower_form.specs.Builder.{Builder}
 use Rattle.hir_lower_form.specs.Lowering.{Checked, go_on, Lowering, ◌>>=◌, pure}
 use Rattle.hir_one_result.specs.Size.{Size, nothing, ◌∪◌}
 use Rattle.hir_one_result.specs.Room.{Short}
 use Rattle.hir_one_result.proofs.Rooms.{Took, Room, Takes, Same, took_none, took_then, took_as, short_first, short_then, short_as}
-use Rattle.hir_one_result.proofs.Rooms.{none_after, none_before}
+use Rattle.hir_one_result.proofs.Rooms.{none_after}
 
 abbrev pub Told : {A : Type 0} → Size → (A → Type 0) → Builder → Checked A → Builder → Type 0
 Told n P b (Ok a) c = Took n b.stored c.stored × P a

@@ -1,5 +1,5 @@
 -- Lowering a tree stores as much as it becomes, or there is no room for it.
-use Rattle.std.proofs.Common.{◌≡◌, ◌∙◌, refl, ap, subst, is_some, Bool, true, false, List, [], Option, Some, None, Ok, Err}
+use Rattle.std.proofs.Common.{◌≡◌, ◌∙◌, refl, ap, subst, is_some, Bool, true, false, List, [], Option, Some, None, ◌||◌}
 use Rattle.hir_store.specs.Pointers.{Pointer}
 use Rattle.hir_store.specs.declared.hir.Expr.{Expr as HirExpr}
 use Rattle.hir_store.specs.declared.hir.Statement.{Statement}
@@ -10,32 +10,49 @@ use Rattle.hir_store.specs.declared.ids.LabelId.{LabelId}
 use Rattle.hir_store.specs.declared.ids.BlockId.{BlockId}
 use Rattle.hir_store.specs.declared.ids.HygieneId.{HygieneId}
 use Rattle.hir_env.specs.Answered as tree
-use Rattle.hir_env.specs.Answered.{OptionPath, Listing, Label, Jump, Expr, OptionExpr, Exprs, Block, OptionBlock, Stmts, Stmt}
+use Rattle.hir_env.specs.Answered.{OptionPath, Listing, Label, Jump, Expr, OptionExpr, Exprs, Block, OptionBlock, Stmts, Stmt, Fields}
+use Rattle.hir_env.specs.Answered.{Field, Spread, Constant, Binder, Type_, OptionType, Parts, Path as TreePath, Segments, Segment}
+use Rattle.hir_env.specs.Answered.{SegmentArgs, OptionParens, OptionRet, OptionArgs, Args, Arg, Bounds, Bound}
 use Rattle.hir_meaning.specs.Left.{is_kept}
-use Rattle.hir_lower_form.specs.Lowering.{Lowering}
-use Rattle.hir_lower_form.specs.Lower.{ExprSteps, StoredContents, missing, some, if_form, loop_form, call_form, continue_form}
-use Rattle.hir_lower_form.specs.Lower.{break_form, paren_form, path_form, operand_form, operands_form, value_form, list_form}
-use Rattle.hir_lower_form.specs.Lower.{method_call_form, await_form, block_form, labelled, kept, lower, lower_part}
-use Rattle.hir_lower_form.specs.Lower.{lower_path, present, kept_part, lower_each, lower_block, lower_block_part, lower_stmts, lower_stmt}
-use Rattle.hir_one_result.specs.Size.{Size, nothing, an_expr, ◌∪◌, if_so}
+use Rattle.hir_lower_form.specs.Lowering.{Lowering, ◌>>=◌}
+use Rattle.hir_lower_form.specs.Lower.{ExprSteps, StoredContents, missing, some, if_form, loop_form, call_form, continue_form, break_form}
+use Rattle.hir_lower_form.specs.Lower.{paren_form, path_form, operand_form, operands_form, value_form, list_form, method_call_form}
+use Rattle.hir_lower_form.specs.Lower.{await_form, block_form, labelled, kept, lower, lower_part, lower_path, present, kept_part}
+use Rattle.hir_lower_form.specs.Lower.{lower_each, lower_block, lower_block_part, lower_stmts, lower_stmt, StoredFields, cast_form}
+use Rattle.hir_lower_form.specs.Lower.{offset_of_form, record_contents, record_of, record_form, field_form, lower_fields, lower_field}
+use Rattle.hir_lower_form.specs.Lower.{lower_spread, lower_constant, lower_type, type_part, present_type, type_or_unit, lower_parts}
+use Rattle.hir_lower_form.specs.Lower.{read_segment, read_each, read_path, read_option, lower_segment_args, parens_part, output_part}
+use Rattle.hir_lower_form.specs.Lower.{args_part, lower_args, lower_arg, lower_bounds, lower_bound}
+use Rattle.hir_one_result.specs.Size.{Size, an_expr, ◌∪◌, if_so}
 use Rattle.hir_store.specs.declared.hir.RecordLitField.{RecordLitField}
 use Rattle.hir_store.specs.declared.hir.RecordSpread.{RecordSpread}
 use Rattle.hir_store.specs.declared.path.Path.{Path}
 use Rattle.hir_store.specs.declared.path.GenericArgs.{GenericArgs}
-use Rattle.hir_env.specs.Answered.{Fields, Field, Spread}
-use Rattle.hir_lower_form.specs.Types.{TypeSteps}
-use Rattle.hir_lower_form.specs.Lower.{StoredFields, cast_form, offset_of_form, record_contents, record_of, record_form, field_form}
-use Rattle.hir_lower_form.specs.Lower.{lower_fields, lower_field, lower_spread}
-use Rattle.hir_one_result.specs.PathRoom.{Seen, whole_read, whole_size}
-use Rattle.hir_one_result.specs.Room.{fields_size, field_size, spread_size}
-use Rattle.hir_one_result.specs.Room.{label_size, front_size, size, size_part, size_present, size_kept, size_each, block_size}
-use Rattle.hir_one_result.specs.Room.{block_part_size, stmts_size, stmt_size}
-use Rattle.hir_one_result.proofs.Rooms.{Takes, takes_then, takes_as, takes_end, takes_begin, takes_pure, takes_report}
-use Rattle.hir_one_result.proofs.Rooms.{takes_block, takes_close, takes_point, takes_jump, takes_alloc, takes_open, takes_report_await}
-use Rattle.hir_one_result.proofs.Rooms.{takes_point_field}
-use Rattle.hir_one_result.proofs.Tellings.{tells_then, tells_any, takes_of}
-use Rattle.hir_one_result.proofs.PathRooms.{GivesPath, option_seen, path_tells, args_tell, type_part_takes}
-use Rattle.hir_one_result.proofs.Rooms.{nothing_first, moved_in, moved_out}
+use Rattle.hir_lower_form.specs.Types.{TypeSteps, no_lists}
+use Rattle.hir_one_result.specs.PathRoom.{Seen, whole_read, at_first, found, segment_read, segments_read, path_read, outer_read, any_arg}
+use Rattle.hir_one_result.specs.PathRoom.{yields, before, own_read}
+use Rattle.hir_one_result.specs.Room.{whole_size, fields_size, field_size, spread_size, label_size, front_size, size, size_part}
+use Rattle.hir_one_result.specs.Room.{size_present, size_kept, size_each, block_size, block_part_size, stmts_size, stmt_size}
+use Rattle.hir_one_result.specs.Room.{constant_size, type_size, type_part_size, present_size, parts_size, segment_size, segments_size}
+use Rattle.hir_one_result.specs.Room.{path_size, outer_size, beside_size, parens_size, output_size, args_size, each_arg_size, arg_size}
+use Rattle.hir_one_result.specs.Room.{bounds_size, bound_size}
+use Rattle.hir_one_result.proofs.Rooms.{Takes, takes_then, takes_as, takes_end, takes_begin, takes_pure, takes_report, takes_block}
+use Rattle.hir_one_result.proofs.Rooms.{takes_close, takes_point, takes_jump, takes_alloc, takes_open, takes_report_await}
+use Rattle.hir_one_result.proofs.Rooms.{takes_point_field, nothing_first, moved_in, moved_out, takes_constant, takes_type}
+use Rattle.hir_one_result.proofs.Tellings.{tells_then, tells_any, takes_of, Tells, tells_as, tells_pure, tells_end}
+use Rattle.hir_one_result.proofs.PathRooms.{GivesPath, option_seen, seen, seen_read, seen_named, seen_dollar, seen_self, Gives}
+use Rattle.hir_one_result.proofs.PathRooms.{proceed_tells, whole_tells, counted_tells, trait_tells, error_takes, unit_takes}
+use Rattle.hir_one_result.proofs.PathRooms.{lifetime_takes, lifetime_option_takes, uses_take, over_takes, tuple_takes, path_type_takes}
+use Rattle.hir_one_result.proofs.PathRooms.{ref_takes, fn_takes, impl_takes, dyn_takes, path_bound_takes, full, Yields, Fills, full_arg}
+use Rattle.hir_one_result.proofs.PathRooms.{full_binding, yields_full, parens_takes, beside_takes, binding_takes, filled_by, or_nothing}
+use Rattle.hir_one_result.proofs.PathRooms.{IsThere, array_takes}
+use Rattle.hir_store.specs.declared.ids.TypeRefId.{TypeRefId}
+use Rattle.hir_store.specs.declared.type_ref.TypeBound.{TypeBound}
+use Rattle.hir_lower_form.specs.declared.args.ArgLists.{ArgLists}
+use Rattle.hir_lower_form.specs.declared.walk.PathWalk.{PathWalk}
+use Rattle.hir_lower_form.specs.Walks as walks
+use Rattle.hir_lower_form.specs.Walks.{start}
+use Rattle.hir_lower_form.specs.Paths.{proceed}
 
 missing_takes : Takes an_expr missing
 unfolding missing
@@ -81,9 +98,9 @@ module _ (at : Pointer) where
   unfolding paren_form
   paren_takes h = takes_end h (λ i. takes_end (takes_point at i) (λ u. takes_pure i))
 
-  path_takes : (p : OptionPath) (h : HygieneId) → Takes (whole_size p ∪ an_expr) (path_form at h (lower_path p))
+  path_takes : (h : HygieneId) {n : Size} {p : Lowering (Option Path)} → Takes n p → Takes (n ∪ an_expr) (path_form at h p)
   unfolding path_form
-  path_takes p h = takes_then (takes_of (path_tells p)) (λ r. takes_alloc _ (Some at))
+  path_takes h hp = takes_then hp (λ r. takes_alloc _ (Some at))
 
   operand_takes : (form : ExprId → HirExpr) {n : Size} {e : ExprSteps} → Takes n e → Takes (n ∪ an_expr) (operand_form at form e)
   unfolding operand_form
@@ -124,11 +141,11 @@ module _ (at : Pointer) where
   record_of_takes h None = takes_as (nothing_first an_expr) missing_takes
   record_of_takes h (Some p) = takes_then h (λ r. takes_alloc _ (Some at))
 
-  record_takes : (p : OptionPath) {n : Size} {c : Lowering StoredFields} → Takes n c
-      → Takes (whole_size p ∪ (if_so (is_some (whole_read p)) n ∪ an_expr)) (record_form at (lower_path p) c)
+  record_takes : {k n : Size} {x : Option Seen} {p : Lowering (Option Path)} {c : Lowering StoredFields} → Tells k (GivesPath x) p
+      → Takes n c → Takes (k ∪ (if_so (is_some x) n ∪ an_expr)) (record_form at p c)
   unfolding record_form
-  record_takes p {n = n} {c = c} h = takes_of (tells_then (path_tells p) (λ o e. tells_any
-      (subst (λ b. Takes (if_so b n ∪ an_expr) (record_of at c o)) (some_read o (whole_read p) e) (record_of_takes h o))))
+  record_takes {n = n} {x = x} {c = c} hp h = takes_of (tells_then hp (λ o e. tells_any
+      (subst (λ b. Takes (if_so b n ∪ an_expr) (record_of at c o)) (some_read o x e) (record_of_takes h o))))
 
   field_takes : (name : Name) {n : Size} {e : ExprSteps} → Takes n e → Takes n (field_form at name e)
   unfolding field_form
@@ -159,14 +176,158 @@ kept_takes : (e : Expr) {n : Size} {p : ExprSteps} → Takes n p → Takes (if_s
 kept_takes (tree.disabled_expr at by e) h = takes_end (takes_report _) (λ u. takes_pure None)
 kept_takes e h = some_takes h
 
+-- the first segment, with the `::` in front of it
+first_tells : (leading : Bool) (s : Segment) (w : PathWalk)
+    → ((v : PathWalk) → Tells (segment_size true s (seen v)) (Gives (segment_read true s (seen v))) (read_segment true s v))
+    → Tells (segment_size true s (at_first leading (seen w))) (Gives (segment_read true s (at_first leading (seen w))))
+    (read_segment true s (walks.at_first leading w))
+first_tells true s w h = h (walks.at_first true w)
+first_tells false s w h = h w
+
+-- the segments of a path, without those of the use tree around it
+abbrev Own : Bool → Segment → Segments → PathWalk → Type 0
+Own leading first rest w =
+    Tells (segments_size rest (seen w) ∪ before (segments_read rest (seen w)) (λ y. segment_size true first (at_first leading y)))
+    (Gives (own_read leading first rest (seen w)))
+    (read_each rest w >>= (λ r. proceed r (λ v. read_segment true first (walks.at_first leading v))))
+
+own_segments : (leading : Bool) (first : Segment) (rest : Segments) (w : PathWalk)
+    → Tells (segments_size rest (seen w)) (Gives (segments_read rest (seen w))) (read_each rest w)
+    → ((v : PathWalk) → Tells (segment_size true first (seen v)) (Gives (segment_read true first (seen v))) (read_segment true first v))
+    → Own leading first rest w
+own_segments leading first rest w h more = tells_then h (λ r e.
+    proceed_tells r (segments_read rest (seen w)) (λ y. segment_size true first (at_first leading y))
+    (λ y. segment_read true first (at_first leading y)) e (λ v. first_tells leading first v more))
+
 mutual
+  pub type_takes : (b : Option Binder) (t : Type_) → Takes (type_size t) (lower_type b t)
+  type_takes b (tree.paren_type t) = type_part_takes b t
+  type_takes b (tree.for_type names t) = type_part_takes (Some names) t
+  type_takes b (tree.leaf_type at form) = takes_type _ _
+  type_takes b (tree.over_type at form t) = over_takes at form (type_part_takes None t)
+  type_takes b (tree.array_type at c t) = array_takes at (constant_takes c) (type_part_takes None t)
+  type_takes b (tree.tuple_type at ts) = tuple_takes at (parts_take [] ts)
+  type_takes b (tree.path_type at p) = path_type_takes at (takes_of (path_tells p))
+  type_takes b (tree.ref_type at l mutability t) = ref_takes at mutability (type_part_takes None t) (lifetime_option_takes l)
+  type_takes b (tree.fn_type at head ts r) = fn_takes at b head (or_unit_takes r) (parts_take [] ts)
+  type_takes b (tree.impl_type at mode bs) = impl_takes at mode (bounds_take [] bs)
+  type_takes b (tree.nested_impl at) = takes_type _ _
+  type_takes b (tree.dyn_type at bs) = dyn_takes at (bounds_take [] bs)
+
+  pub type_part_takes : (b : Option Binder) (t : OptionType) → Takes (type_part_size t) (type_part b t)
+  type_part_takes b tree.no_type = error_takes
+  type_part_takes b (tree.some_type t) = type_takes b t
+
+  present_type_takes : (t : OptionType) → Takes (present_size t) (present_type t)
+  present_type_takes tree.no_type = takes_pure None
+  present_type_takes (tree.some_type t) = takes_end (type_takes None t) (λ i. takes_pure (Some i))
+
+  or_unit_takes : (t : OptionType) → Takes (type_part_size t) (type_or_unit t)
+  or_unit_takes tree.no_type = unit_takes
+  or_unit_takes (tree.some_type t) = type_takes None t
+
+  parts_take : (done : List TypeRefId) (ts : Parts) → Takes (parts_size ts) (lower_parts done ts)
+  parts_take done tree.no_parts = takes_pure done
+  parts_take done (tree.more_parts t ts) = takes_then (type_part_takes None t) (λ i. parts_take _ ts)
+
+  pub segment_tells : (first : Bool) (s : Segment) (w : PathWalk)
+      → Tells (segment_size first s (seen w)) (Gives (segment_read first s (seen w))) (read_segment first s w)
+  segment_tells first tree.absent_segment w = tells_pure _ _ (seen_named walks.missing_name None w)
+  segment_tells first tree.broken_segment w = tells_pure _ _ refl
+  segment_tells first (tree.name_segment n as') w =
+      tells_end (tells_any (segment_args_take as')) (λ a u. tells_pure _ _ (seen_named n a w))
+  segment_tells first tree.self_type_segment w = tells_pure _ _ (seen_named walks.self_type_name None w)
+  segment_tells false tree.crate_segment w = tells_pure _ _ refl
+  segment_tells true tree.crate_segment w = tells_pure _ _ refl
+  segment_tells false (tree.dollar_crate_segment root) w = tells_pure _ _ refl
+  segment_tells true (tree.dollar_crate_segment root) w = tells_pure _ _ (seen_dollar root w)
+  segment_tells false tree.self_segment w = tells_pure _ _ refl
+  segment_tells true tree.self_segment w = tells_pure _ _ (seen_self w)
+  segment_tells first tree.super_segment w = counted_tells w
+  segment_tells false (tree.type_segment t) w = tells_pure _ _ refl
+  segment_tells true (tree.type_segment t) w = tells_end (tells_any (type_takes None t)) (λ i u. tells_pure _ _ refl)
+  segment_tells false (tree.trait_segment t at p) w = tells_pure _ _ refl
+  segment_tells true (tree.trait_segment t at p) w =
+      tells_then (tells_any (type_takes None t)) (λ i u. trait_tells (path_tells p) i at w)
+
+  pub each_tells : (ss : Segments) (w : PathWalk)
+      → Tells (segments_size ss (seen w)) (Gives (segments_read ss (seen w))) (read_each ss w)
+  each_tells tree.no_segments w = tells_pure _ _ refl
+  each_tells (tree.more_segments s ss) w = tells_then (each_tells ss w) (λ r e.
+      proceed_tells r (segments_read ss (seen w)) (λ y. segment_size false s y) (λ y. segment_read false s y) e
+      (λ v. segment_tells false s v))
+
+  reading_tells : (p : TreePath) (w : PathWalk) → Tells (path_size p (seen w)) (Gives (path_read p (seen w))) (read_path p w)
+  reading_tells (tree.path leading first rest use_) w =
+      whole_tells (λ y. outer_size use_ y) (λ y. outer_read use_ y)
+      (own_segments leading first rest w (each_tells rest w) (λ u. segment_tells true first u)) (λ v. outer_tells use_ v)
+
+  outer_tells : (p : OptionPath) (w : PathWalk) → Tells (outer_size p (seen w)) (Gives (outer_read p (seen w))) (read_option p w)
+  outer_tells tree.no_path w = tells_pure _ _ refl
+  outer_tells (tree.some_path p) w = reading_tells p w
+
+  pub path_tells : (p : OptionPath) → Tells (whole_size p) (GivesPath (whole_read p)) (lower_path p)
+  path_tells tree.no_path = tells_pure _ _ refl
+  path_tells (tree.some_path p) =
+      tells_end (reading_tells p start) (λ r e. tells_pure _ _ (seen_read r ∙ ap found e))
+
+  segment_args_take : (as' : SegmentArgs) → Takes (beside_size as') (lower_segment_args as')
+  segment_args_take (tree.segment_args as' ps dots) = beside_takes (args_tell as') (parens_part_takes ps) dots
+
+  parens_part_takes : (ps : OptionParens) → Takes (parens_size ps) (parens_part ps)
+  parens_part_takes tree.no_parens = takes_pure None
+  parens_part_takes (tree.some_parens ts r) = parens_takes (parts_take [] ts) (output_takes r)
+
+  output_takes : (r : OptionRet) → Takes (output_size r) (output_part r)
+  output_takes tree.no_ret = unit_takes
+  output_takes (tree.some_ret t) = type_part_takes None t
+
+  pub args_tell : (as' : OptionArgs) → Tells (args_size as') (Yields (yields as')) (args_part as')
+  args_tell tree.no_arg_list = tells_pure _ _ refl
+  args_tell (tree.some_arg_list as') = tells_end (each_arg_tells as' no_lists) (λ l e. tells_pure _ _ (yields_full l ∙ e))
+
+  each_arg_tells : (as' : Args) (l : ArgLists) → Tells (each_arg_size as') (Fills (full l || any_arg as')) (lower_args l as')
+  each_arg_tells tree.no_args l = tells_pure _ l (or_nothing (full l))
+  each_arg_tells (tree.more_args tree.skipped_arg as') l =
+      tells_as (nothing_first _) (each_arg_tells as' l)
+  each_arg_tells (tree.more_args (tree.type_arg t) as') l =
+      tells_then (arg_fills l (tree.type_arg t) tt) (λ m e. filled_by l m (any_arg as') e (each_arg_tells as' m))
+  each_arg_tells (tree.more_args (tree.lifetime_arg x) as') l =
+      tells_then (arg_fills l (tree.lifetime_arg x) tt) (λ m e. filled_by l m (any_arg as') e (each_arg_tells as' m))
+  each_arg_tells (tree.more_args (tree.const_arg c) as') l =
+      tells_then (arg_fills l (tree.const_arg c) tt) (λ m e. filled_by l m (any_arg as') e (each_arg_tells as' m))
+  each_arg_tells (tree.more_args (tree.assoc_arg n a dots t bs) as') l =
+      tells_then (arg_fills l (tree.assoc_arg n a dots t bs) tt) (λ m e. filled_by l m (any_arg as') e (each_arg_tells as' m))
+
+  arg_fills : (l : ArgLists) (a : Arg) → IsThere a → Tells (arg_size a) (Fills true) (lower_arg l a)
+  arg_fills l tree.skipped_arg h = absurd h
+  arg_fills l (tree.type_arg t) h = tells_end (tells_any (type_part_takes None t)) (λ i u. tells_pure _ _ (full_arg l _))
+  arg_fills l (tree.lifetime_arg x) h = tells_end (tells_any (lifetime_takes x)) (λ i u. tells_pure _ _ (full_arg l _))
+  arg_fills l (tree.const_arg c) h = tells_end (tells_any (constant_takes c)) (λ x u. tells_pure _ _ (full_arg l _))
+  arg_fills l (tree.assoc_arg n a dots t bs) h =
+      tells_end (tells_any (binding_takes n dots (takes_of (args_tell a)) (present_type_takes t) (bounds_take [] bs)))
+      (λ b u. tells_pure _ _ (full_binding l b))
+
+  bounds_take : (done : List TypeBound) (bs : Bounds) → Takes (bounds_size bs) (lower_bounds done bs)
+  bounds_take done tree.no_bounds = takes_pure done
+  bounds_take done (tree.more_bounds b bs) = takes_then (bound_takes b) (λ x. bounds_take _ bs)
+
+  bound_takes : (b : Bound) → Takes (bound_size b) (lower_bound b)
+  bound_takes tree.error_bound = takes_pure _
+  bound_takes (tree.path_bound at p maybe binder) = path_bound_takes at maybe binder (path_tells p)
+  bound_takes (tree.lifetime_bound l) = takes_end (lifetime_takes l) (λ i. takes_pure _)
+  bound_takes (tree.use_bound us) = takes_end (uses_take [] us) (λ xs. takes_pure _)
+
+  constant_takes : (c : Constant) → Takes (constant_size c) (lower_constant c)
+  constant_takes (tree.constant e) = takes_constant e (part_takes e)
+
   node_takes : (e : Expr) → Takes (size e) (lower e)
   node_takes (tree.disabled_expr at by e) = takes_begin (takes_report _) (λ u. missing_takes)
   node_takes (tree.if_expr at c t e) = if_takes at (part_takes c) (block_part_takes t) (present_takes e)
   node_takes (tree.block_expr b) = block_takes b
   node_takes (tree.loop_expr at label b) = loop_takes at label (block_part_takes b)
   node_takes (tree.call_expr at f es) = call_takes at (part_takes f) (each_takes [] es)
-  node_takes (tree.path_expr at p h) = path_takes at p h
+  node_takes (tree.path_expr at p h) = path_takes at h (takes_of (path_tells p))
   node_takes (tree.continue_expr at jump) = continue_takes at jump
   node_takes (tree.break_expr at jump e) = break_takes at jump (present_takes e)
   node_takes (tree.paren_expr at e) = paren_takes at (part_takes e)
@@ -179,7 +340,7 @@ mutual
   node_takes (tree.method_call_expr at e name es generics) =
       method_call_takes at name (part_takes e) (each_takes [] es) (takes_of (args_tell generics))
   node_takes (tree.cast_expr at e t) = cast_takes at (part_takes e) (type_part_takes None t)
-  node_takes (tree.record_expr at p fs s) = record_takes at p (contents_take (fields_take [] fs) (spread_takes s))
+  node_takes (tree.record_expr at p fs s) = record_takes at (path_tells p) (contents_take (fields_take [] fs) (spread_takes s))
   node_takes (tree.offset_of_expr at t names) = offset_of_takes at names (type_part_takes None t)
   node_takes (tree.leaving_expr at form e) = value_takes at _ (present_takes e)
   node_takes (tree.become_expr at e) = operand_takes at _ (part_takes e)
@@ -235,3 +396,6 @@ mutual
   stmt_takes : (s : Stmt) → Takes (stmt_size s) (lower_stmt s)
   stmt_takes (tree.expr_stmt e semi) = takes_end (kept_part_takes e) (λ x. takes_pure _)
   stmt_takes tree.item_stmt = takes_pure _
+
+pub own_tells : (leading : Bool) (first : Segment) (rest : Segments) (w : PathWalk) → Own leading first rest w
+own_tells leading first rest w = own_segments leading first rest w (each_tells rest w) (λ u. segment_tells true first u)

@@ -1,6 +1,6 @@
 -- What lowering a tree answers stands for the tree.
-use Rattle.std.proofs.Common.{◌≡◌, ◌∙◌, refl, sym, ap, subst, List, [], ◌∷◌, ◌++◌, append_assoc, append-nil, option_to_list}
-use Rattle.std.proofs.Common.{Bool, Option, Some, None}
+use Rattle.std.proofs.Common.{◌≡◌, ◌∙◌, refl, sym, ap, subst, List, [], ◌∷◌, ◌++◌, append_assoc, append-nil, option_to_list, Bool, Option}
+use Rattle.std.proofs.Common.{Some, None, true, false}
 use Rattle.hir_store.specs.Stored.{Stored, store_of, map_of}
 use Rattle.hir_store.specs.declared.hir.Expr.TheVariants as hir
 use Rattle.hir_store.specs.declared.hir.Statement.{Statement}
@@ -13,30 +13,48 @@ use Rattle.hir_store.specs.declared.diagnostics.ExpressionStoreDiagnostics.TheVa
 use Rattle.hir_env.specs.Answered as tree
 use Rattle.hir_store.specs.declared.hir.RecordLitField.{RecordLitField}
 use Rattle.hir_store.specs.declared.hir.RecordSpread.TheVariants as spread
-use Rattle.hir_env.specs.Answered.{Expr, OptionExpr, Exprs, Fields, Spread, Block, OptionBlock, Stmts}
-use Rattle.hir_lower_form.specs.Lower.{lower_fields, lower_spread}
-use Rattle.hir_one_result.specs.Stands.{StandsFields, StandsOthers}
-use Rattle.hir_one_result.proofs.Standing.{cast_stands, record_stands, offset_of_stands, field_stands, contents_stand}
+use Rattle.hir_env.specs.Answered.{Expr, OptionExpr, Exprs, Fields, Spread, Block, OptionBlock, Stmts, Type_, OptionType, Parts, Path}
+use Rattle.hir_env.specs.Answered.{OptionPath, Segments, Segment, SegmentArgs, OptionParens, OptionRet, OptionArgs, Args, Arg, Bounds}
+use Rattle.hir_env.specs.Answered.{Bound, Constant, Binder}
+use Rattle.hir_lower_form.specs.Lower.{lower_fields, lower_spread, ExprSteps, StoredContents, push_some, block_form, kept, settled, lower}
+use Rattle.hir_lower_form.specs.Lower.{lower_part, present, kept_part, lower_each, lower_block, lower_block_part, lower_stmts}
+use Rattle.hir_lower_form.specs.Lower.{lower_constant, lower_type, type_part, present_type, type_or_unit, lower_parts, read_segment}
+use Rattle.hir_lower_form.specs.Lower.{read_each, read_path, read_option, lower_path, lower_segment_args, parens_part, output_part}
+use Rattle.hir_lower_form.specs.Lower.{args_part, lower_args, lower_arg, lower_bounds, lower_bound}
+use Rattle.hir_one_result.specs.Stands.{StandsFields, StandsOthers, Open, ThereIf, statement_of, Stands, StandsPart, StandsPresent}
+use Rattle.hir_one_result.specs.Stands.{StandsKept, StandsEach, StandsBlock, StandsBlockPart, StandsContents, TypeWays, TypePartWays}
+use Rattle.hir_one_result.specs.Stands.{PresentTypeWays, PartsWays, SegmentWays, SegmentsWays, PathWays, OuterWays, WholeWays, BesideWays}
+use Rattle.hir_one_result.specs.Stands.{ParensWays, OutputWays, ArgsWays, EachArgWays, ArgWays, BoundsWays, BoundWays, ConstantWays}
+use Rattle.hir_one_result.proofs.Standing.{cast_stands, record_stands, offset_of_stands, field_stands, contents_stand, Of, Placed, Shows}
+use Rattle.hir_one_result.proofs.Standing.{moved_pure, moved_fault, missing_stands, path_stands, literal_stands, present_none}
+use Rattle.hir_one_result.proofs.Standing.{present_some, if_stands, loop_stands, call_stands, continue_stands, break_stands, unary_is}
+use Rattle.hir_one_result.proofs.Standing.{binary_is, leaving_is, leaf_stands, operand_stands, operands_stand, value_stands, list_stands}
+use Rattle.hir_one_result.proofs.Standing.{method_call_stands, await_stands, paren_stands, block_form_stands, labelled_stands, Leaves}
+use Rattle.hir_one_result.proofs.Standing.{type_shown, args_shown}
 use Rattle.hir_meaning.specs.Left.{is_kept, is_left, gives_value}
 use Rattle.hir_meaning.specs.Contents.{BlockContents}
 use Rattle.hir_lower_form.specs.Lowering.{Lowering, ◌>>=◌, pure}
-use Rattle.hir_lower_form.specs.Lower.{ExprSteps, StoredContents, push_some, block_form, kept, settled, lower, lower_part, present}
-use Rattle.hir_lower_form.specs.Lower.{kept_part}
-use Rattle.hir_lower_form.specs.Lower.{lower_each, lower_block, lower_block_part, lower_stmts}
 use Rattle.hir_steps.proofs.Frames.{ribs, ribs_frames}
 use Rattle.hir_steps.proofs.Steps.{Correct, correct_bind, correct_as, correct_pure, correct_report}
 use Rattle.hir_one_result.specs.Leads.{Ways, OneWay, OneFieldWay, ◌&◌}
-use Rattle.hir_one_result.specs.Stands.{Open, ThereIf, statement_of, Stands, StandsPart, StandsPresent, StandsKept, StandsEach, StandsBlock}
-use Rattle.hir_one_result.specs.Stands.{StandsBlockPart, StandsContents}
 use Rattle.hir_one_result.specs.Laws.{AllStand}
 use Rattle.hir_one_result.proofs.AfterLowering.{after_lowering}
 use Rattle.hir_one_result.proofs.Leading.{Shown, shown_as, shown_none, shown_both, shown_after, shown_before, moved_then}
-use Rattle.hir_one_result.proofs.Standing.{Of, Placed, Shows, moved_pure, moved_fault, missing_stands, path_stands, literal_stands}
-use Rattle.hir_one_result.proofs.Standing.{present_none, present_some, if_stands, loop_stands, call_stands, continue_stands, break_stands}
-use Rattle.hir_one_result.proofs.Standing.{unary_is, binary_is, leaving_is, leaf_stands, operand_stands, operands_stand, value_stands}
-use Rattle.hir_one_result.proofs.Standing.{list_stands, method_call_stands, await_stands}
-use Rattle.hir_one_result.proofs.Standing.{paren_stands, block_form_stands, labelled_stands}
 use Rattle.hir_one_result.proofs.Contents.{has_contents}
+use Rattle.hir_store.specs.declared.ids.TypeRefId.{TypeRefId}
+use Rattle.hir_one_result.proofs.PathStanding.{ways_bind, ways_end, ways_pure, ways_aside, type_leaves, over_leaves, array_leaves}
+use Rattle.hir_one_result.proofs.PathStanding.{tuple_leaves, path_type_leaves, ref_leaves, fn_leaves, impl_leaves, dyn_leaves}
+use Rattle.hir_one_result.proofs.PathStanding.{path_bound_leaves, reads_leave, whole_leaves, first_leaves, counted_leaves}
+use Rattle.hir_one_result.proofs.PathStanding.{with_trait_leaves, parens_leaves, beside_leaves, binding_leaves, constant_leaves}
+use Rattle.hir_steps.proofs.Aside.{error_aside, unit_aside, lifetime_aside, uses_aside}
+use Rattle.hir_lower_form.specs.Walks.{start, super_read}
+use Rattle.hir_one_result.proofs.TreeRooms.{each_tells, own_tells, args_tell}
+use Rattle.hir_one_result.proofs.PathRooms.{seen}
+use Rattle.hir_one_result.specs.PathRoom.{at_first}
+use Rattle.hir_store.specs.declared.type_ref.TypeBound.{TypeBound}
+use Rattle.hir_lower_form.specs.declared.args.ArgLists.{ArgLists}
+use Rattle.hir_lower_form.specs.declared.walk.PathWalk.{PathWalk}
+use Rattle.hir_lower_form.specs.Types.{no_lists}
 
 kept_stands : (e : Expr) {p : ExprSteps} {S : Of ExprId} → Correct p (Shows S)
     → Correct (kept e p) (Shows (λ final rs o. ThereIf (is_kept e) (λ i. S final rs i) o))
@@ -111,7 +129,126 @@ inside_stands at is_unsafe n number ss e h =
           (y.0.0, y.0.1, settled y.0.0 y.0.1, is, y.1, y.2));
     })
 
+abbrev Stays : {A : Type 0} → (Stored → Open → Ways) → Lowering A → Type 0
+Stays W p = Correct p (Leaves W)
+
 mutual
+  one_type_left : (b : Option Binder) (t : Type_) → Stays (λ final rs. TypeWays (store_of final) (map_of final) rs t) (lower_type b t)
+  one_type_left b (tree.paren_type t) = type_left b t
+  one_type_left b (tree.for_type names t) = type_left (Some names) t
+  one_type_left b (tree.leaf_type at form) = type_leaves _ _
+  one_type_left b (tree.over_type at form t) = over_leaves at form (type_left None t)
+  one_type_left b (tree.array_type at c t) = array_leaves at (constant_left c) (type_left None t)
+  one_type_left b (tree.tuple_type at ts) = tuple_leaves at (parts_left [] ts)
+  one_type_left b (tree.path_type at p) = path_type_leaves at (whole_left p)
+  one_type_left b (tree.ref_type at l mutability t) = ref_leaves at l mutability (type_left None t)
+  one_type_left b (tree.fn_type at head ts r) = fn_leaves at b head (or_unit_left r) (parts_left [] ts)
+  one_type_left b (tree.impl_type at mode bs) = impl_leaves at mode (bounds_left [] bs)
+  one_type_left b (tree.nested_impl at) = type_leaves _ _
+  one_type_left b (tree.dyn_type at bs) = dyn_leaves at (bounds_left [] bs)
+
+  pub type_left : (b : Option Binder) (t : OptionType)
+      → Stays (λ final rs. TypePartWays (store_of final) (map_of final) rs t) (type_part b t)
+  type_left b tree.no_type = ways_aside error_aside
+  type_left b (tree.some_type t) = one_type_left b t
+
+  present_type_left : (t : OptionType) → Stays (λ final rs. PresentTypeWays (store_of final) (map_of final) rs t) (present_type t)
+  present_type_left tree.no_type = ways_pure None
+  present_type_left (tree.some_type t) = ways_end (one_type_left None t) (λ i. ways_pure (Some i))
+
+  or_unit_left : (t : OptionType) → Stays (λ final rs. TypePartWays (store_of final) (map_of final) rs t) (type_or_unit t)
+  or_unit_left tree.no_type = ways_aside unit_aside
+  or_unit_left (tree.some_type t) = one_type_left None t
+
+  parts_left : (done : List TypeRefId) (ts : Parts)
+      → Stays (λ final rs. PartsWays (store_of final) (map_of final) rs ts) (lower_parts done ts)
+  parts_left done tree.no_parts = ways_pure done
+  parts_left done (tree.more_parts t ts) = ways_bind (type_left None t) (λ i. parts_left _ ts)
+
+  segment_left : (first : Bool) (s : Segment) (w : PathWalk)
+      → Stays (λ final rs. SegmentWays (store_of final) (map_of final) rs first s (seen w)) (read_segment first s w)
+  segment_left first tree.absent_segment w = ways_pure _
+  segment_left first tree.broken_segment w = ways_pure _
+  segment_left first (tree.name_segment n as') w = ways_end (beside_left as') (λ a. ways_pure _)
+  segment_left first tree.self_type_segment w = ways_pure _
+  segment_left false tree.crate_segment w = ways_pure _
+  segment_left true tree.crate_segment w = ways_pure _
+  segment_left false (tree.dollar_crate_segment root) w = ways_pure _
+  segment_left true (tree.dollar_crate_segment root) w = ways_pure _
+  segment_left false tree.self_segment w = ways_pure _
+  segment_left true tree.self_segment w = ways_pure _
+  segment_left first tree.super_segment w = counted_leaves (super_read w)
+  segment_left false (tree.type_segment t) w = ways_pure _
+  segment_left true (tree.type_segment t) w = ways_end (one_type_left None t) (λ i. ways_pure _)
+  segment_left false (tree.trait_segment t at p) w = ways_pure _
+  segment_left true (tree.trait_segment t at p) w = ways_bind (one_type_left None t) (λ i. with_trait_leaves (whole_left p) i at w)
+
+  segments_left : (ss : Segments) (w : PathWalk)
+      → Stays (λ final rs. SegmentsWays (store_of final) (map_of final) rs ss (seen w)) (read_each ss w)
+  segments_left tree.no_segments w = ways_pure _
+  segments_left (tree.more_segments s more) w =
+      reads_leave (λ y final rs. SegmentWays (store_of final) (map_of final) rs false s y)
+      (segments_left more w) (each_tells more w) (λ v. segment_left false s v)
+
+  reading_left : (p : Path) (w : PathWalk) → Stays (λ final rs. PathWays (store_of final) (map_of final) rs p (seen w)) (read_path p w)
+  reading_left (tree.path leading first rest use_) w =
+      whole_leaves (λ y final rs. OuterWays (store_of final) (map_of final) rs use_ y)
+      (reads_leave (λ y final rs. SegmentWays (store_of final) (map_of final) rs true first (at_first leading y))
+      (segments_left rest w) (each_tells rest w)
+      (λ v. first_leaves leading v (λ y final rs. SegmentWays (store_of final) (map_of final) rs true first y)
+      {f = λ u. read_segment true first u} (λ u. segment_left true first u)))
+      (own_tells leading first rest w) (λ v. outer_left use_ v)
+
+  outer_left : (p : OptionPath) (w : PathWalk)
+      → Stays (λ final rs. OuterWays (store_of final) (map_of final) rs p (seen w)) (read_option p w)
+  outer_left tree.no_path w = ways_pure _
+  outer_left (tree.some_path p) w = reading_left p w
+
+  pub whole_left : (p : OptionPath) → Stays (λ final rs. WholeWays (store_of final) (map_of final) rs p) (lower_path p)
+  whole_left tree.no_path = ways_pure None
+  whole_left (tree.some_path p) = ways_end (reading_left p start) (λ r. ways_pure _)
+
+  beside_left : (as' : SegmentArgs) → Stays (λ final rs. BesideWays (store_of final) (map_of final) rs as') (lower_segment_args as')
+  beside_left (tree.segment_args as' ps dots) = beside_leaves (args_left as') (args_tell as') (parens_left ps) dots
+
+  parens_left : (ps : OptionParens) → Stays (λ final rs. ParensWays (store_of final) (map_of final) rs ps) (parens_part ps)
+  parens_left tree.no_parens = ways_pure None
+  parens_left (tree.some_parens ts r) = parens_leaves (parts_left [] ts) (output_left r)
+
+  output_left : (r : OptionRet) → Stays (λ final rs. OutputWays (store_of final) (map_of final) rs r) (output_part r)
+  output_left tree.no_ret = ways_aside unit_aside
+  output_left (tree.some_ret t) = type_left None t
+
+  args_left : (as' : OptionArgs) → Stays (λ final rs. ArgsWays (store_of final) (map_of final) rs as') (args_part as')
+  args_left tree.no_arg_list = ways_pure None
+  args_left (tree.some_arg_list as') = ways_end (each_arg_left no_lists as') (λ l. ways_pure _)
+
+  each_arg_left : (l : ArgLists) (as' : Args) → Stays (λ final rs. EachArgWays (store_of final) (map_of final) rs as') (lower_args l as')
+  each_arg_left l tree.no_args = ways_pure l
+  each_arg_left l (tree.more_args a as') = ways_bind (arg_left l a) (λ m. each_arg_left m as')
+
+  arg_left : (l : ArgLists) (a : Arg) → Stays (λ final rs. ArgWays (store_of final) (map_of final) rs a) (lower_arg l a)
+  arg_left l tree.skipped_arg = ways_pure l
+  arg_left l (tree.type_arg t) = ways_end (type_left None t) (λ i. ways_pure _)
+  arg_left l (tree.lifetime_arg lifetime) = ways_end (ways_aside (lifetime_aside lifetime)) (λ i. ways_pure _)
+  arg_left l (tree.const_arg c) = ways_end (constant_left c) (λ x. ways_pure _)
+  arg_left l (tree.assoc_arg name as' dots t bs) =
+      ways_end (binding_leaves name dots (args_left as') (present_type_left t) (bounds_left [] bs)) (λ b. ways_pure _)
+
+  bounds_left : (done : List TypeBound) (bs : Bounds)
+      → Stays (λ final rs. BoundsWays (store_of final) (map_of final) rs bs) (lower_bounds done bs)
+  bounds_left done tree.no_bounds = ways_pure done
+  bounds_left done (tree.more_bounds b bs) = ways_bind (bound_left b) (λ x. bounds_left _ bs)
+
+  bound_left : (b : Bound) → Stays (λ final rs. BoundWays (store_of final) (map_of final) rs b) (lower_bound b)
+  bound_left tree.error_bound = ways_pure _
+  bound_left (tree.path_bound at p maybe binder) = path_bound_leaves at maybe binder (whole_left p)
+  bound_left (tree.lifetime_bound l) = ways_end (ways_aside (lifetime_aside l)) (λ i. ways_pure _)
+  bound_left (tree.use_bound us) = ways_end (ways_aside (uses_aside [] us)) (λ xs. ways_pure _)
+
+  constant_left : (c : Constant) → Stays (λ final rs. ConstantWays (store_of final) (map_of final) rs c) (lower_constant c)
+  constant_left (tree.constant e) = constant_leaves (part_stands e)
+
   node_stands : (e : Expr) → Correct (lower e) (Shows (λ final rs i. Stands (store_of final) (map_of final) rs e i))
   node_stands (tree.disabled_expr at by e) = correct_as (correct_bind (correct_report _) (λ u. missing_stands)) (λ final ps m m' i g row.
       record { shown = shown_after (moved_fault (InactiveCode at by) row.first.stored) row.second.shown })
@@ -119,7 +256,7 @@ mutual
   node_stands (tree.block_expr b) = block_stands b
   node_stands (tree.loop_expr at label b) = loop_stands at label (block_part_stands b)
   node_stands (tree.call_expr at f es) = call_stands at (part_stands f) (all_stand_for es (each_stands [] es))
-  node_stands (tree.path_expr at p h) = path_stands at p h
+  node_stands (tree.path_expr at p h) = path_stands at p h (whole_left p)
   node_stands (tree.continue_expr at jump) = continue_stands at jump
   node_stands (tree.break_expr at jump e) = break_stands at jump (present_stands e)
   node_stands (tree.paren_expr at e) = paren_stands at (part_stands e)
@@ -130,11 +267,11 @@ mutual
   node_stands (tree.lazy_expr at op a b) = operands_stand at (λ i j. refl) (part_stands a) (part_stands b)
   node_stands (tree.list_expr at form es) = list_stands at form (all_stand_for es (each_stands [] es))
   node_stands (tree.method_call_expr at e name es generics) =
-      method_call_stands at name generics (part_stands e) (all_stand_for es (each_stands [] es))
-  node_stands (tree.cast_expr at e t) = cast_stands at t (part_stands e)
+      method_call_stands at name (part_stands e) (all_stand_for es (each_stands [] es)) (args_shown generics (args_left generics))
+  node_stands (tree.cast_expr at e t) = cast_stands at (part_stands e) (type_shown t (type_left None t))
   node_stands (tree.record_expr at p fs s) =
-      record_stands at p (contents_stand (all_fields_stand fs (fields_stand [] fs)) (others_stand s))
-  node_stands (tree.offset_of_expr at t names) = offset_of_stands at t names
+      record_stands at p (whole_left p) (contents_stand (all_fields_stand fs (fields_stand [] fs)) (others_stand s))
+  node_stands (tree.offset_of_expr at t names) = offset_of_stands at names (type_shown t (type_left None t))
   node_stands (tree.leaving_expr at form e) = value_stands at (leaving_is form) (present_stands e)
   node_stands (tree.become_expr at e) = operand_stands at (λ i. refl) (part_stands e)
   node_stands (tree.yield_expr at e) = value_stands at (λ o. refl) (present_stands e)

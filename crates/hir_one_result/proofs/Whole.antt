@@ -7,7 +7,7 @@ use Rattle.hir_store.proofs.Maps.{maps_back_none}
 use Rattle.hir_steps.specs.Keeps.{KeepsAll, Keeps, Paired, Mapped}
 use Rattle.hir_steps.proofs.Keeping.{keeping}
 use Rattle.hir_one_result.specs.Laws.{Fits, FitsUnless}
-use Rattle.hir_one_result.specs.OneResult.{OneResults, fresh_owing, with_root}
+use Rattle.hir_one_result.specs.OneResult.{OneResults, fresh_owing, in_root_of, with_root}
 use Rattle.hir_one_result.specs.Leads.{LeadBack}
 use Rattle.hir_one_result.proofs.Leading.{leads_nowhere}
 use Rattle.hir_one_result.proofs.TreeStands.{all_stand}
@@ -25,7 +25,7 @@ lead_back place a h = record {
 pub one_results : OneResults
 unfolding record_root
 one_results limit owed e id new is =
-    let old = fresh_owing limit owed in
+    let old = in_root_of (fresh_owing limit owed) in
     let none : Paired old.stored = record { exprs = refl; labels = refl; types = refl; lifetimes = refl } in
     let nowhere : Mapped old.stored = record { types = maps_back_none (λ i. i.0) limit; lifetimes = maps_back_none (λ i. i.0) limit } in
     let kept : KeepsAll old new = subst (λ r. Keeps old r.0 r.1) is (keeping e old) in
@@ -36,7 +36,7 @@ one_results limit owed e id new is =
     let fits : Fits e old.stored new.stored = subst (λ r. FitsUnless e old.stored r.0 r.1.stored) is (all_fit e old) in
     let faults = diagnostics_are e old id new none is [] refl in record {
       root = id;
-      only = ap (λ rs. rs ++ root_at new.stored.exprs.entries id ∷ []) kept.roots;
+      only = ap (λ rs. rs ++ root_at new.stored.exprs.entries id ∷ []) (kept.roots refl);
       expr_sources = paired.exprs;
       label_sources = paired.labels;
       type_sources = fits.type_sources;

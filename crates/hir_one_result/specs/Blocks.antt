@@ -1,17 +1,126 @@
--- The numbers of the blocks that lowering enters, in the order in which it reads the parts of a tree. What is in a
--- disabled node isn't read.
-use Rattle.std.specs.Prelude.{List, [], ◌++◌, option_to_list, Option, Some, None}
+-- The numbers of the blocks that lowering enters, in the order in which it reads the parts of a tree, those in constants of types
+-- and paths among them. What is in a disabled node isn't read.
+use Rattle.std.specs.Prelude.{Bool, true, false, List, [], ◌++◌, option_to_list, Option, Some, None}
 use Rattle.hir_store.specs.declared.ids.BlockId.{BlockId}
 use Rattle.hir_env.specs.Answered as tree
+use Rattle.hir_env.specs.Answered.{Type_, OptionType, Parts, Path, OptionPath, Segments, Segment, SegmentArgs, OptionParens, OptionRet}
+use Rattle.hir_env.specs.Answered.{OptionArgs, Args, Arg, Bounds, Bound, Constant}
 use Rattle.hir_env.specs.Answered.{Expr, OptionExpr, Exprs, Fields, Field, Spread, Block, OptionBlock, Stmts, Stmt}
 use Rattle.hir_data.specs.Written.{written_path}
+use Rattle.hir_one_result.specs.PathRoom.{Seen, nothing_seen, at_first, Read, goes_on, segments_read, own_read, yields}
 
 -- a record whose path is absent or refused isn't read
 abbrev pub where_some : {A X : Type 0} → Option A → List X → List X
 where_some None xs = []
 where_some (Some a) xs = xs
 
+-- what stands before is read where the reading goes on
+abbrev pub where_goes_on : {X : Type 0} → Read → (Seen → List X) → List X
+where_goes_on (goes_on x) f = f x
+where_goes_on read f = []
+
+abbrev pub unless : {X : Type 0} → Bool → List X → List X
+unless true xs = []
+unless false xs = xs
+
 abbrev mutual
+  -- ---- constants in types, paths, arguments and bounds
+
+  pub blocks_of_type : Type_ → List BlockId
+  blocks_of_type (tree.paren_type t) = blocks_of_type_part t
+  blocks_of_type (tree.for_type names t) = blocks_of_type_part t
+  blocks_of_type (tree.leaf_type at form) = []
+  blocks_of_type (tree.over_type at form t) = blocks_of_type_part t
+  -- its length first
+  blocks_of_type (tree.array_type at c t) = blocks_of_constant c ++ blocks_of_type_part t
+  blocks_of_type (tree.tuple_type at ts) = blocks_of_parts ts
+  blocks_of_type (tree.path_type at p) = blocks_of_whole p
+  blocks_of_type (tree.ref_type at l mutability t) = blocks_of_type_part t
+  blocks_of_type (tree.fn_type at head ts r) = blocks_of_type_part r ++ blocks_of_parts ts
+  blocks_of_type (tree.impl_type at mode bs) = blocks_of_bounds bs
+  blocks_of_type (tree.nested_impl at) = []
+  blocks_of_type (tree.dyn_type at bs) = blocks_of_bounds bs
+
+  pub blocks_of_type_part : OptionType → List BlockId
+  blocks_of_type_part tree.no_type = []
+  blocks_of_type_part (tree.some_type t) = blocks_of_type t
+
+  pub blocks_of_present_type : OptionType → List BlockId
+  blocks_of_present_type tree.no_type = []
+  blocks_of_present_type (tree.some_type t) = blocks_of_type t
+
+  pub blocks_of_parts : Parts → List BlockId
+  blocks_of_parts tree.no_parts = []
+  blocks_of_parts (tree.more_parts t ts) = blocks_of_type_part t ++ blocks_of_parts ts
+
+  pub blocks_of_segment : Bool → Segment → Seen → List BlockId
+  blocks_of_segment first (tree.name_segment n as') x = blocks_of_beside as'
+  blocks_of_segment first tree.super_segment x = []
+  blocks_of_segment true (tree.type_segment t) x = blocks_of_type t
+  blocks_of_segment true (tree.trait_segment t at p) x = blocks_of_type t ++ blocks_of_whole p
+  blocks_of_segment first s x = []
+
+  pub blocks_of_segments : Segments → Seen → List BlockId
+  blocks_of_segments tree.no_segments x = []
+  blocks_of_segments (tree.more_segments s ss) x =
+      blocks_of_segments ss x ++ where_goes_on (segments_read ss x) (λ y. blocks_of_segment false s y)
+
+  pub blocks_of_path : Path → Seen → List BlockId
+  blocks_of_path (tree.path leading first rest use_) x =
+      (blocks_of_segments rest x ++ where_goes_on (segments_read rest x) (λ y. blocks_of_segment true first (at_first leading y)))
+      ++ where_goes_on (own_read leading first rest x) (λ y. blocks_of_outer use_ y)
+
+  pub blocks_of_outer : OptionPath → Seen → List BlockId
+  blocks_of_outer tree.no_path x = []
+  blocks_of_outer (tree.some_path p) x = blocks_of_path p x
+
+  -- of a path from its end
+  pub blocks_of_whole : OptionPath → List BlockId
+  blocks_of_whole tree.no_path = []
+  blocks_of_whole (tree.some_path p) = blocks_of_path p nothing_seen
+
+  -- `(A) -> C` is read where `<..>` yields none
+  pub blocks_of_beside : SegmentArgs → List BlockId
+  blocks_of_beside (tree.segment_args as' ps dots) = blocks_of_args as' ++ unless (yields as') (blocks_of_parens ps)
+
+  pub blocks_of_parens : OptionParens → List BlockId
+  blocks_of_parens tree.no_parens = []
+  blocks_of_parens (tree.some_parens ts r) = blocks_of_parts ts ++ blocks_of_output r
+
+  pub blocks_of_output : OptionRet → List BlockId
+  blocks_of_output tree.no_ret = []
+  blocks_of_output (tree.some_ret t) = blocks_of_type_part t
+
+  pub blocks_of_args : OptionArgs → List BlockId
+  blocks_of_args tree.no_arg_list = []
+  blocks_of_args (tree.some_arg_list as') = blocks_of_each_arg as'
+
+  pub blocks_of_each_arg : Args → List BlockId
+  blocks_of_each_arg tree.no_args = []
+  blocks_of_each_arg (tree.more_args a as') = blocks_of_arg a ++ blocks_of_each_arg as'
+
+  pub blocks_of_arg : Arg → List BlockId
+  blocks_of_arg tree.skipped_arg = []
+  blocks_of_arg (tree.type_arg t) = blocks_of_type_part t
+  blocks_of_arg (tree.lifetime_arg l) = []
+  blocks_of_arg (tree.const_arg c) = blocks_of_constant c
+  blocks_of_arg (tree.assoc_arg n as' dots t bs) = blocks_of_args as' ++ (blocks_of_present_type t ++ blocks_of_bounds bs)
+
+  pub blocks_of_bounds : Bounds → List BlockId
+  blocks_of_bounds tree.no_bounds = []
+  blocks_of_bounds (tree.more_bounds b bs) = blocks_of_bound b ++ blocks_of_bounds bs
+
+  pub blocks_of_bound : Bound → List BlockId
+  blocks_of_bound tree.error_bound = []
+  blocks_of_bound (tree.path_bound at p maybe binder) = blocks_of_whole p
+  blocks_of_bound (tree.lifetime_bound l) = []
+  blocks_of_bound (tree.use_bound us) = []
+
+  pub blocks_of_constant : Constant → List BlockId
+  blocks_of_constant (tree.constant e) = blocks_of_part e
+
+  -- ---- expressions
+
   pub blocks_of : Expr → List BlockId
   blocks_of (tree.disabled_expr at by e) = []
   -- the branches are read before the condition
@@ -19,7 +128,7 @@ abbrev mutual
   blocks_of (tree.block_expr b) = blocks_of_block b
   blocks_of (tree.loop_expr at label b) = blocks_of_block_part b
   blocks_of (tree.call_expr at f es) = blocks_of_part f ++ blocks_of_each es
-  blocks_of (tree.path_expr at x h) = []
+  blocks_of (tree.path_expr at p h) = blocks_of_whole p
   blocks_of (tree.continue_expr at jump) = []
   blocks_of (tree.break_expr at jump e) = blocks_of_part e
   blocks_of (tree.paren_expr at e) = blocks_of_part e
@@ -29,10 +138,11 @@ abbrev mutual
   blocks_of (tree.binary_expr at form a b) = blocks_of_part a ++ blocks_of_part b
   blocks_of (tree.lazy_expr at op a b) = blocks_of_part a ++ blocks_of_part b
   blocks_of (tree.list_expr at form es) = blocks_of_each es
-  blocks_of (tree.method_call_expr at e name es generics) = blocks_of_part e ++ blocks_of_each es
-  blocks_of (tree.cast_expr at e t) = blocks_of_part e
-  blocks_of (tree.record_expr at p fs s) = where_some (written_path p) (blocks_of_fields fs ++ blocks_of_spread s)
-  blocks_of (tree.offset_of_expr at t names) = []
+  blocks_of (tree.method_call_expr at e name es generics) = blocks_of_part e ++ (blocks_of_each es ++ blocks_of_args generics)
+  blocks_of (tree.cast_expr at e t) = blocks_of_part e ++ blocks_of_type_part t
+  blocks_of (tree.record_expr at p fs s) =
+      blocks_of_whole p ++ where_some (written_path p) (blocks_of_fields fs ++ blocks_of_spread s)
+  blocks_of (tree.offset_of_expr at t names) = blocks_of_type_part t
   blocks_of (tree.leaving_expr at form e) = blocks_of_part e
   blocks_of (tree.become_expr at e) = blocks_of_part e
   blocks_of (tree.yield_expr at e) = blocks_of_part e

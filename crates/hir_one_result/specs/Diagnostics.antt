@@ -1,18 +1,21 @@
--- The faults of what lowering reads of a tree, in written order: one for each disabled node that is asked about, and one
--- for each named jump that has no target, or none in reach, and one for each await outside of async code. What is in a
--- disabled node isn't read.
-use Rattle.std.specs.Prelude.{◌≡◌, List, [], ◌∷◌, ◌++◌, Option, Some, None}
+-- The faults of what lowering reads of a tree, in some order: one for each disabled node that is asked about, and one for each
+-- named jump that has no target, or none in reach, and one for each await outside of async code. Those of constants in types and
+-- paths are among them. What is in a disabled node isn't read.
+use Rattle.std.specs.Prelude.{◌≡◌, Bool, true, false, List, [], ◌∷◌, ◌++◌, Option, Some, None}
 use Rattle.hir_store.specs.declared.diagnostics.ExpressionStoreDiagnostics.{ExpressionStoreDiagnostics}
 use Rattle.hir_store.specs.declared.diagnostics.ExpressionStoreDiagnostics.TheVariants.{AwaitOutsideOfAsync, InactiveCode}
 use Rattle.hir_store.specs.declared.diagnostics.ExpressionStoreDiagnostics.TheVariants.{UndeclaredLabel, UnreachableLabel}
 use Rattle.hir_store.specs.declared.diagnostics.AwaitLocation.{AwaitLocation}
 use Rattle.hir_store.specs.Pointers.{Pointer}
 use Rattle.hir_env.specs.Answered as tree
+use Rattle.hir_env.specs.Answered.{Type_, OptionType, Parts, Path, OptionPath, Segments, Segment, SegmentArgs, OptionParens, OptionRet}
+use Rattle.hir_env.specs.Answered.{OptionArgs, Args, Arg, Bounds, Bound, Constant}
 use Rattle.hir_env.specs.Answered.{Jump, Expr, OptionExpr, Exprs, Fields, Field, Spread, Block, OptionBlock, Stmts}
 use Rattle.hir_data.specs.Written.{written_path}
-use Rattle.hir_one_result.specs.Blocks.{where_some}
+use Rattle.hir_one_result.specs.Blocks.{where_some, where_goes_on, unless}
+use Rattle.hir_one_result.specs.PathRoom.{Seen, nothing_seen, at_first, segments_read, own_read, yields}
 use Rattle.hir_scope.specs.Ribs.{Rib, Target, reachable, unreachable, undeclared, target, map_ribs}
-use Rattle.hir_scope.specs.Scopes.{Scope, loop_scope, ribs, scopes_in_block}
+use Rattle.hir_scope.specs.Scopes.{Scope, loop_scope, barrier, ribs, scopes_in_block}
 
 abbrev pub Faults : Type 0
 Faults = List ExpressionStoreDiagnostics
@@ -32,13 +35,111 @@ await_faults at None = []
 await_faults at (Some location) = AwaitOutsideOfAsync at location ∷ []
 
 abbrev mutual
+  -- ---- constants in types, paths, arguments and bounds
+
+  pub type_faults : List Scope → Type_ → Faults
+  type_faults ss (tree.paren_type t) = type_part_faults ss t
+  type_faults ss (tree.for_type names t) = type_part_faults ss t
+  type_faults ss (tree.leaf_type at form) = []
+  type_faults ss (tree.over_type at form t) = type_part_faults ss t
+  -- its length first
+  type_faults ss (tree.array_type at c t) = constant_faults ss c ++ type_part_faults ss t
+  type_faults ss (tree.tuple_type at ts) = parts_faults ss ts
+  type_faults ss (tree.path_type at p) = whole_faults ss p
+  type_faults ss (tree.ref_type at l mutability t) = type_part_faults ss t
+  type_faults ss (tree.fn_type at head ts r) = type_part_faults ss r ++ parts_faults ss ts
+  type_faults ss (tree.impl_type at mode bs) = bounds_faults ss bs
+  type_faults ss (tree.nested_impl at) = []
+  type_faults ss (tree.dyn_type at bs) = bounds_faults ss bs
+
+  pub type_part_faults : List Scope → OptionType → Faults
+  type_part_faults ss tree.no_type = []
+  type_part_faults ss (tree.some_type t) = type_faults ss t
+
+  pub present_type_faults : List Scope → OptionType → Faults
+  present_type_faults ss tree.no_type = []
+  present_type_faults ss (tree.some_type t) = type_faults ss t
+
+  pub parts_faults : List Scope → Parts → Faults
+  parts_faults ss tree.no_parts = []
+  parts_faults ss (tree.more_parts t ts) = type_part_faults ss t ++ parts_faults ss ts
+
+  pub segment_faults : List Scope → Bool → Segment → Seen → Faults
+  segment_faults ss first (tree.name_segment n as') x = beside_faults ss as'
+  segment_faults ss first tree.super_segment x = []
+  segment_faults ss true (tree.type_segment t) x = type_faults ss t
+  segment_faults ss true (tree.trait_segment t at p) x = type_faults ss t ++ whole_faults ss p
+  segment_faults ss first s x = []
+
+  pub segments_faults : List Scope → Segments → Seen → Faults
+  segments_faults ss tree.no_segments x = []
+  segments_faults ss (tree.more_segments s more) x =
+      segments_faults ss more x ++ where_goes_on (segments_read more x) (λ y. segment_faults ss false s y)
+
+  pub path_faults : List Scope → Path → Seen → Faults
+  path_faults ss (tree.path leading first rest use_) x =
+      (segments_faults ss rest x ++ where_goes_on (segments_read rest x) (λ y. segment_faults ss true first (at_first leading y)))
+      ++ where_goes_on (own_read leading first rest x) (λ y. outer_faults ss use_ y)
+
+  pub outer_faults : List Scope → OptionPath → Seen → Faults
+  outer_faults ss tree.no_path x = []
+  outer_faults ss (tree.some_path p) x = path_faults ss p x
+
+  -- of a path from its end
+  pub whole_faults : List Scope → OptionPath → Faults
+  whole_faults ss tree.no_path = []
+  whole_faults ss (tree.some_path p) = path_faults ss p nothing_seen
+
+  -- `(A) -> C` is read where `<..>` yields none
+  pub beside_faults : List Scope → SegmentArgs → Faults
+  beside_faults ss (tree.segment_args as' ps dots) = args_faults ss as' ++ unless (yields as') (parens_faults ss ps)
+
+  pub parens_faults : List Scope → OptionParens → Faults
+  parens_faults ss tree.no_parens = []
+  parens_faults ss (tree.some_parens ts r) = parts_faults ss ts ++ output_faults ss r
+
+  pub output_faults : List Scope → OptionRet → Faults
+  output_faults ss tree.no_ret = []
+  output_faults ss (tree.some_ret t) = type_part_faults ss t
+
+  pub args_faults : List Scope → OptionArgs → Faults
+  args_faults ss tree.no_arg_list = []
+  args_faults ss (tree.some_arg_list as') = each_arg_faults ss as'
+
+  pub each_arg_faults : List Scope → Args → Faults
+  each_arg_faults ss tree.no_args = []
+  each_arg_faults ss (tree.more_args a as') = arg_faults ss a ++ each_arg_faults ss as'
+
+  pub arg_faults : List Scope → Arg → Faults
+  arg_faults ss tree.skipped_arg = []
+  arg_faults ss (tree.type_arg t) = type_part_faults ss t
+  arg_faults ss (tree.lifetime_arg l) = []
+  arg_faults ss (tree.const_arg c) = constant_faults ss c
+  arg_faults ss (tree.assoc_arg n as' dots t bs) = args_faults ss as' ++ (present_type_faults ss t ++ bounds_faults ss bs)
+
+  pub bounds_faults : List Scope → Bounds → Faults
+  bounds_faults ss tree.no_bounds = []
+  bounds_faults ss (tree.more_bounds b bs) = bound_faults ss b ++ bounds_faults ss bs
+
+  pub bound_faults : List Scope → Bound → Faults
+  bound_faults ss tree.error_bound = []
+  bound_faults ss (tree.path_bound at p maybe binder) = whole_faults ss p
+  bound_faults ss (tree.lifetime_bound l) = []
+  bound_faults ss (tree.use_bound us) = []
+
+  -- no jump in it reaches what is open around it
+  pub constant_faults : List Scope → Constant → Faults
+  constant_faults ss (tree.constant e) = part_diagnostics (barrier ∷ ss) e
+
+  -- ---- expressions
+
   pub diagnostics : List Scope → Expr → Faults
   diagnostics ss (tree.disabled_expr at by e) = InactiveCode at by ∷ []
   diagnostics ss (tree.if_expr at c t e) = part_diagnostics ss c ++ (block_part_diagnostics ss t ++ part_diagnostics ss e)
   diagnostics ss (tree.block_expr b) = block_diagnostics ss b
   diagnostics ss (tree.loop_expr at label b) = block_part_diagnostics (loop_scope label ∷ ss) b
   diagnostics ss (tree.call_expr at f es) = part_diagnostics ss f ++ each_diagnostics ss es
-  diagnostics ss (tree.path_expr at x h) = []
+  diagnostics ss (tree.path_expr at p h) = whole_faults ss p
   diagnostics ss (tree.continue_expr at jump) = jump_faults ss jump
   diagnostics ss (tree.break_expr at jump e) = jump_faults ss jump ++ part_diagnostics ss e
   diagnostics ss (tree.paren_expr at e) = part_diagnostics ss e
@@ -48,10 +149,12 @@ abbrev mutual
   diagnostics ss (tree.binary_expr at form a b) = part_diagnostics ss a ++ part_diagnostics ss b
   diagnostics ss (tree.lazy_expr at op a b) = part_diagnostics ss a ++ part_diagnostics ss b
   diagnostics ss (tree.list_expr at form es) = each_diagnostics ss es
-  diagnostics ss (tree.method_call_expr at e name es generics) = part_diagnostics ss e ++ each_diagnostics ss es
-  diagnostics ss (tree.cast_expr at e t) = part_diagnostics ss e
-  diagnostics ss (tree.record_expr at p fs s) = where_some (written_path p) (fields_diagnostics ss fs ++ spread_diagnostics ss s)
-  diagnostics ss (tree.offset_of_expr at t names) = []
+  diagnostics ss (tree.method_call_expr at e name es generics) =
+      part_diagnostics ss e ++ (each_diagnostics ss es ++ args_faults ss generics)
+  diagnostics ss (tree.cast_expr at e t) = part_diagnostics ss e ++ type_part_faults ss t
+  diagnostics ss (tree.record_expr at p fs s) =
+      whole_faults ss p ++ where_some (written_path p) (fields_diagnostics ss fs ++ spread_diagnostics ss s)
+  diagnostics ss (tree.offset_of_expr at t names) = type_part_faults ss t
   diagnostics ss (tree.leaving_expr at form e) = part_diagnostics ss e
   diagnostics ss (tree.become_expr at e) = part_diagnostics ss e
   diagnostics ss (tree.yield_expr at e) = part_diagnostics ss e

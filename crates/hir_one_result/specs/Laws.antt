@@ -15,7 +15,7 @@ use Rattle.hir_one_result.specs.Stands.{StandsPart}
 use Rattle.hir_one_result.specs.Diagnostics.{Faults, part_diagnostics, Around}
 use Rattle.hir_one_result.specs.Blocks.{blocks_of_part}
 use Rattle.hir_one_result.specs.Size.{Size}
-use Rattle.hir_one_result.specs.PathRoom.{type_part_size, whole_size}
+use Rattle.hir_one_result.specs.Room.{type_part_size, whole_size}
 use Rattle.hir_one_result.specs.Room.{Short, size_part}
 
 -- what is claimed where the tree is lowered into a `Paired` store

@@ -1,5 +1,5 @@
 -- Store, source map and faults of a lowered body are one result of its tree.
-use Rattle.std.specs.Prelude.{◌≡◌, ℕ, List, [], ◌∷◌, ◌++◌, length, Ok, IsPermutation}
+use Rattle.std.specs.Prelude.{◌≡◌, ℕ, true, List, [], ◌∷◌, ◌++◌, length, Ok, IsPermutation}
 use Rattle.hir_store.specs.Stored.{Stored, Store, SourceMap, store_of, map_of}
 use Rattle.hir_store.specs.Storing.{root_at, record_root}
 use Rattle.hir_store.specs.declared.ids.ExprId.{ExprId}
@@ -46,11 +46,15 @@ pub record OneResult (store : Store) (source_map : SourceMap) (owed : Faults) (e
 abbrev pub fresh_owing : ℕ → Faults → Builder
 fresh_owing limit owed = let b = fresh limit in record b { stored = record b.stored { diagnostics = owed } }
 
+-- where a root is being lowered
+abbrev pub in_root_of : Builder → Builder
+in_root_of b = record b { in_root = true }
+
 abbrev pub with_root : ExprId → Stored → Stored
 with_root root s = (record_root root s).1
 
 -- so it is where a tree is lowered first, and is the root
 abbrev pub OneResults : Type 0
 OneResults = (limit : ℕ) (owed : Faults) (e : OptionExpr) (id : ExprId) (new : Builder)
-    → lower_part e (fresh_owing limit owed) ≡ (Ok id, new)
+    → lower_part e (in_root_of (fresh_owing limit owed)) ≡ (Ok id, new)
     → OneResult (store_of (with_root id new.stored)) (map_of (with_root id new.stored)) owed e

@@ -1,7 +1,8 @@
 -- What stands in a store for a written tree: for each kept expression one stored expression of its form, which came from
 -- its own node and whose parts stand for its parts. An absent or disabled part is a missing expression that came from no
 -- node, or none where the form knows none. With it stand the ways of the tree: from the node of each written expression
--- and label to what it became, and to each missing one from no node.
+-- and label to what it became, and to each missing one from no node. What its constants became stands for them, also where
+-- nothing names it.
 use Rattle.std.specs.Prelude.{◌≡◌, Bool, true, false, List, [], ◌∷◌, ◌++◌, Option, Some, None, option_map, option_to_list, slice_get}
 use Rattle.hir_syntax.specs.declared.ast.Literal.{Literal as AstLiteral}
 use Rattle.hir_store.specs.Pointers.{Pointer}
@@ -19,8 +20,10 @@ use Rattle.hir_store.specs.declared.path.Path.{Path}
 use Rattle.hir_store.specs.declared.ids.ExprId.{ExprId}
 use Rattle.hir_store.specs.declared.ids.LabelId.{LabelId}
 use Rattle.hir_store.specs.declared.ids.HygieneId.{HygieneId}
-use Rattle.hir_scope.specs.Ribs.{Rib, label_rib, jump_number}
+use Rattle.hir_scope.specs.Ribs.{Rib, label_rib, barrier_rib, jump_number}
 use Rattle.hir_env.specs.Answered as tree
+use Rattle.hir_env.specs.Answered.{Type_, OptionType, Parts, Path as WrittenPath, OptionPath, Segments, Segment, SegmentArgs}
+use Rattle.hir_env.specs.Answered.{OptionParens, OptionRet, OptionArgs, Args, Arg, Bounds, Bound, Constant}
 use Rattle.hir_env.specs.Answered.{Listing, Label, Expr, OptionExpr, Exprs, Fields, Spread, Block, OptionBlock, Stmts}
 use Rattle.hir_data.specs.Data.{PathData}
 use Rattle.hir_data.specs.Reading.{stored_path, stored_type, stored_args}
@@ -30,6 +33,7 @@ use Rattle.hir_meaning.specs.Data.{literal_data, literal_read}
 use Rattle.hir_meaning.specs.Left.{is_kept, is_left, gives_value}
 use Rattle.hir_meaning.specs.Contents.{BlockContents}
 use Rattle.hir_one_result.specs.Forms.{leaf_form, unary_form, binary_form, lazy_form, leaving_form}
+use Rattle.hir_one_result.specs.PathRoom.{Seen, nothing_seen, at_first, Read, goes_on, segments_read, own_read, yields}
 use Rattle.hir_one_result.specs.Leads.{Ways, No, OneWay, OneMissing, OneLabelWay, OneFieldWay, ◌&◌}
 
 -- the numbers of the labels that are open, innermost first
@@ -57,6 +61,15 @@ ReadsAs read d a = λ ws. (read a ≡ d) × No ws
 
 abbrev pub statement_of : Bool → Option ExprId → Option Statement
 statement_of semi o = option_map (λ id. statement.Expr id semi) o
+
+-- what stands before is read where the reading goes on
+abbrev pub WhereOn : Read → (Seen → Ways) → Ways
+WhereOn (goes_on x) W = W x
+WhereOn read W = No
+
+abbrev pub Unless : Bool → Ways → Ways
+Unless true W = No
+Unless false W = W
 
 -- in a store
 
@@ -121,6 +134,104 @@ module _ (store : Store) (source_map : SourceMap) where
   InLabel rs (Some l) S = λ ws. (n : LabelId) × LabelAt n l × (OneLabelWay l.pointer n & S (opened l n rs) (Some n)) ws
 
   abbrev mutual
+    -- ---- what stands for the constants of types, paths, arguments and bounds
+
+    pub TypeWays : Open → Type_ → Ways
+    TypeWays rs (tree.paren_type t) = TypePartWays rs t
+    TypeWays rs (tree.for_type names t) = TypePartWays rs t
+    TypeWays rs (tree.leaf_type at form) = No
+    TypeWays rs (tree.over_type at form t) = TypePartWays rs t
+    -- its length first
+    TypeWays rs (tree.array_type at c t) = ConstantWays rs c & TypePartWays rs t
+    TypeWays rs (tree.tuple_type at ts) = PartsWays rs ts
+    TypeWays rs (tree.path_type at p) = WholeWays rs p
+    TypeWays rs (tree.ref_type at l mutability t) = TypePartWays rs t
+    TypeWays rs (tree.fn_type at head ts r) = TypePartWays rs r & PartsWays rs ts
+    TypeWays rs (tree.impl_type at mode bs) = BoundsWays rs bs
+    TypeWays rs (tree.nested_impl at) = No
+    TypeWays rs (tree.dyn_type at bs) = BoundsWays rs bs
+
+    pub TypePartWays : Open → OptionType → Ways
+    TypePartWays rs tree.no_type = No
+    TypePartWays rs (tree.some_type t) = TypeWays rs t
+
+    pub PresentTypeWays : Open → OptionType → Ways
+    PresentTypeWays rs tree.no_type = No
+    PresentTypeWays rs (tree.some_type t) = TypeWays rs t
+
+    pub PartsWays : Open → Parts → Ways
+    PartsWays rs tree.no_parts = No
+    PartsWays rs (tree.more_parts t ts) = TypePartWays rs t & PartsWays rs ts
+
+    pub SegmentWays : Open → Bool → Segment → Seen → Ways
+    SegmentWays rs first (tree.name_segment n as') x = BesideWays rs as'
+    SegmentWays rs first tree.super_segment x = No
+    SegmentWays rs true (tree.type_segment t) x = TypeWays rs t
+    SegmentWays rs true (tree.trait_segment t at p) x = TypeWays rs t & WholeWays rs p
+    SegmentWays rs first s x = No
+
+    pub SegmentsWays : Open → Segments → Seen → Ways
+    SegmentsWays rs tree.no_segments x = No
+    SegmentsWays rs (tree.more_segments s more) x =
+        SegmentsWays rs more x & WhereOn (segments_read more x) (λ y. SegmentWays rs false s y)
+
+    pub PathWays : Open → WrittenPath → Seen → Ways
+    PathWays rs (tree.path leading first rest use_) x =
+        (SegmentsWays rs rest x & WhereOn (segments_read rest x) (λ y. SegmentWays rs true first (at_first leading y)))
+        & WhereOn (own_read leading first rest x) (λ y. OuterWays rs use_ y)
+
+    pub OuterWays : Open → OptionPath → Seen → Ways
+    OuterWays rs tree.no_path x = No
+    OuterWays rs (tree.some_path p) x = PathWays rs p x
+
+    -- of a path from its end
+    pub WholeWays : Open → OptionPath → Ways
+    WholeWays rs tree.no_path = No
+    WholeWays rs (tree.some_path p) = PathWays rs p nothing_seen
+
+    -- `(A) -> C` is read where `<..>` yields none
+    pub BesideWays : Open → SegmentArgs → Ways
+    BesideWays rs (tree.segment_args as' ps dots) = ArgsWays rs as' & Unless (yields as') (ParensWays rs ps)
+
+    pub ParensWays : Open → OptionParens → Ways
+    ParensWays rs tree.no_parens = No
+    ParensWays rs (tree.some_parens ts r) = PartsWays rs ts & OutputWays rs r
+
+    pub OutputWays : Open → OptionRet → Ways
+    OutputWays rs tree.no_ret = No
+    OutputWays rs (tree.some_ret t) = TypePartWays rs t
+
+    pub ArgsWays : Open → OptionArgs → Ways
+    ArgsWays rs tree.no_arg_list = No
+    ArgsWays rs (tree.some_arg_list as') = EachArgWays rs as'
+
+    pub EachArgWays : Open → Args → Ways
+    EachArgWays rs tree.no_args = No
+    EachArgWays rs (tree.more_args a as') = ArgWays rs a & EachArgWays rs as'
+
+    pub ArgWays : Open → Arg → Ways
+    ArgWays rs tree.skipped_arg = No
+    ArgWays rs (tree.type_arg t) = TypePartWays rs t
+    ArgWays rs (tree.lifetime_arg l) = No
+    ArgWays rs (tree.const_arg c) = ConstantWays rs c
+    ArgWays rs (tree.assoc_arg n as' dots t bs) = ArgsWays rs as' & (PresentTypeWays rs t & BoundsWays rs bs)
+
+    pub BoundsWays : Open → Bounds → Ways
+    BoundsWays rs tree.no_bounds = No
+    BoundsWays rs (tree.more_bounds b bs) = BoundWays rs b & BoundsWays rs bs
+
+    pub BoundWays : Open → Bound → Ways
+    BoundWays rs tree.error_bound = No
+    BoundWays rs (tree.path_bound at p maybe binder) = WholeWays rs p
+    BoundWays rs (tree.lifetime_bound l) = No
+    BoundWays rs (tree.use_bound us) = No
+
+    -- no jump in it reaches what is open around it
+    pub ConstantWays : Open → Constant → Ways
+    ConstantWays rs (tree.constant e) = λ ws. (i : ExprId) × StandsPart (barrier_rib ∷ rs) e i ws
+
+    -- ---- expressions
+
     pub Stands : Open → Expr → ExprId → Ways
     Stands rs (tree.disabled_expr at by e) i = StandsMissing i
     Stands rs (tree.if_expr at c t e) i = λ ws.
@@ -134,7 +245,7 @@ module _ (store : Store) (source_map : SourceMap) where
     Stands rs (tree.call_expr at f es) i = λ ws.
         (callee : ExprId) × (arguments : List ExprId) × ExprAt i (hir.Call callee arguments) (Some at)
         × (StandsPart rs f callee & StandsEach rs es arguments & OneWay at i) ws
-    Stands rs (tree.path_expr at p h) i = StandsPath at (written_path p) h i
+    Stands rs (tree.path_expr at p h) i = WholeWays rs p & StandsPath at (written_path p) h i
     Stands rs (tree.continue_expr at jump) i = StandsAlone (hir.Continue (jump_number rs jump)) at i
     Stands rs (tree.break_expr at jump e) i = λ ws.
         (value : Option ExprId) × ExprAt i (hir.Break (jump_number rs jump) value) (Some at) × (StandsPresent rs e value & OneWay at i) ws
@@ -148,13 +259,16 @@ module _ (store : Store) (source_map : SourceMap) where
     Stands rs (tree.list_expr at form es) i = StandsList at form (λ is. StandsEach rs es is) i
     Stands rs (tree.method_call_expr at e name es generics) i =
         StandsOverThree (λ receiver arguments g. hir.MethodCall receiver name g arguments) at
-        (λ x. StandsPart rs e x) (λ is. StandsEach rs es is) (ReadsAs (stored_args store source_map) (written_args generics)) i
+        (λ x. StandsPart rs e x) (λ is. StandsEach rs es is)
+        (λ g. ArgsWays rs generics & ReadsAs (stored_args store source_map) (written_args generics) g) i
     Stands rs (tree.cast_expr at e t) i =
-        StandsOverTwo hir.Cast at (λ x. StandsPart rs e x) (ReadsAs (stored_type store source_map) (written_type t)) i
+        StandsOverTwo hir.Cast at (λ x. StandsPart rs e x)
+        (λ y. TypePartWays rs t & ReadsAs (stored_type store source_map) (written_type t) y) i
     Stands rs (tree.record_expr at p fs s) i =
-        StandsRecord at (written_path p) (λ r. StandsFields rs fs r.0 & StandsOthers rs s r.1) i
+        WholeWays rs p & StandsRecord at (written_path p) (λ r. StandsFields rs fs r.0 & StandsOthers rs s r.1) i
     Stands rs (tree.offset_of_expr at t names) i =
-        StandsOver (λ container. hir.OffsetOf container names) at (ReadsAs (stored_type store source_map) (written_type t)) i
+        StandsOver (λ container. hir.OffsetOf container names) at
+        (λ y. TypePartWays rs t & ReadsAs (stored_type store source_map) (written_type t) y) i
     Stands rs (tree.leaving_expr at form e) i = StandsOver (leaving_form form) at (λ o. StandsPresent rs e o) i
     Stands rs (tree.become_expr at e) i = StandsOver hir.Become at (λ x. StandsPart rs e x) i
     Stands rs (tree.yield_expr at e) i = StandsOver hir.Yield at (λ o. StandsPresent rs e o) i

@@ -182,14 +182,14 @@ path_bound_reads y at maybe binder h = correct_as (correct_bind h (λ o. bound_s
 
 -- ---- `<T as Trait>`, whose path is stored as a type too
 
-abbrev traited : TypeRefId → PathWalk → Option HirPath → Reading
+abbrev pub traited : TypeRefId → PathWalk → Option HirPath → Reading
 traited i w None = Refused
 traited i w (Some p) = projected i p w
 
-record Is {A : Type 0} (x : A) (final : Stored) (ps : List Frame) (m m' : Mark) (a : A) : Type 0 where
-  is : a ≡ x
+pub record Is {A : Type 0} (x : A) (final : Stored) (ps : List Frame) (m m' : Mark) (a : A) : Type 0 where
+  pub is : a ≡ x
 
-trait_read : (i : TypeRefId) (at : Pointer) (w : PathWalk) (o : Option HirPath) → Correct (read_trait i at w o) (Is (traited i w o))
+pub trait_read : (i : TypeRefId) (at : Pointer) (w : PathWalk) (o : Option HirPath) → Correct (read_trait i at w o) (Is (traited i w o))
 trait_read i at w None = correct_as (correct_pure Refused) (λ final ps m m' r g row. record { is = row.is })
 trait_read i at w (Some p) = correct_as (correct_bind (correct_alloc_type (ty.Path p) (Some at)) (λ _. correct_pure (projected i p w)))
     (λ final ps m m' r g row. record { is = row.second.is })

@@ -9,9 +9,12 @@ use Rattle.hir_store.specs.declared.path.GenericArg.{GenericArg}
 use Rattle.hir_store.specs.declared.path.GenericArgs.{GenericArgs}
 use Rattle.hir_store.specs.declared.path.AssociatedTypeBinding.{AssociatedTypeBinding}
 use Rattle.hir_store.specs.declared.path.Path.{Path as HirPath}
+use Rattle.hir_store.specs.declared.ids.ExprId.{ExprId}
+use Rattle.hir_store.specs.declared.type_ref.ConstRef.{ConstRef}
 use Rattle.hir_store.specs.declared.type_ref.TypeRef.{TypeRef}
 use Rattle.hir_store.specs.declared.type_ref.TypeBound.{TypeBound}
 use Rattle.hir_store.specs.declared.type_ref.UseArgRef.{UseArgRef}
+use Rattle.hir_env.specs.NodeMap.{Site}
 use Rattle.hir_lower_form.specs.Lowering.{Lowering, ◌>>=◌, pure, alloc_type}
 use Rattle.hir_steps.proofs.Frames.{Frame}
 use Rattle.hir_steps.proofs.Steps.{Mark, Grows, Rel, Correct, correct_bind, correct_as, correct_pure}
@@ -30,6 +33,13 @@ a_lifetime final r l = reading.stored_lifetime (store_of final) (map_of final) l
 
 abbrev pub maybe_lifetime : Layer (Option LifetimeRefId) (Option LifetimeData)
 maybe_lifetime final r l = option_map (reading.stored_lifetime (store_of final) (map_of final)) l
+
+abbrev pub a_constant : Layer ConstRef (Option Site)
+a_constant final r c = reading.stored_constant (store_of final) (map_of final) c
+
+-- the node that an expression came from
+abbrev pub a_source : Layer ExprId (Option Site)
+a_source final r i = reading.stored_constant (store_of final) (map_of final) (record { expr = i })
 
 abbrev pub a_use : Layer UseArgRef UseData
 a_use final r u = reading.use_layer (store_of final) (map_of final) u

@@ -9,7 +9,7 @@ use Rattle.hir_store.specs.declared.type_ref.TypeBound.{TypeBound}
 use Rattle.hir_store.specs.declared.type_ref.TypeBound.TheVariants as bound
 use Rattle.hir_env.specs.Answered as tree
 use Rattle.hir_env.specs.Answered.{Binder, Type_, OptionType, Parts, Path, OptionPath, Segments, Segment, SegmentArgs, OptionParens}
-use Rattle.hir_env.specs.Answered.{OptionRet, OptionArgs, Args, Arg, Bounds, Bound}
+use Rattle.hir_env.specs.Answered.{OptionRet, OptionArgs, Args, Arg, Bounds, Bound, Constant, Expr, OptionExpr, Block}
 use Rattle.hir_lower_form.specs.declared.args.ArgLists.{ArgLists}
 use Rattle.hir_lower_form.specs.declared.walk.PathWalk.{PathWalk}
 use Rattle.hir_lower_form.specs.declared.walk.Reading.TheVariants.{Refused, Ended, Open}
@@ -19,12 +19,17 @@ use Rattle.hir_lower_form.specs.Walks.{start, at_first, missing_name, self_type_
 use Rattle.hir_lower_form.specs.Paths.{proceed, whole}
 use Rattle.hir_lower_form.specs.Types.{no_lists}
 use Rattle.hir_lower_form.specs.Lower as lower
-use Rattle.hir_steps.proofs.Steps.{Correct}
+use Rattle.hir_steps.proofs.Steps.{Correct, correct_report}
+use Rattle.hir_steps.proofs.Keeping.{part_any, present_any, each_any, block_part_any, stmts_any, kept_part_any, contents_any, fields_any}
+use Rattle.hir_steps.proofs.Keeping.{spread_any, type_any, lower_path_any, args_any}
 use Rattle.hir_data.specs.Data as datum
 use Rattle.hir_data.specs.Data.{TypesData, no_args}
 use Rattle.hir_data.specs.Rule.{Item, broken, named}
 use Rattle.hir_data.specs.Written as written
 use Rattle.hir_read_back.proofs.Layers.{a_type, types_before, maybe_type, a_bound, many_bounds, a_list, Reads, value0, Pushed}
+use Rattle.hir_read_back.proofs.Layers.{a_constant, a_source}
+use Rattle.hir_read_back.proofs.Sites as sites
+use Rattle.hir_read_back.proofs.Sites.{From, ends_from, missing_from}
 use Rattle.hir_read_back.proofs.Layers.{pushed_all, type0}
 use Rattle.hir_read_back.proofs.Types as kinds
 use Rattle.hir_read_back.proofs.Types.{Grown, Listed}
@@ -52,6 +57,7 @@ mutual
   type_reads b (tree.for_type binder t) = part_reads (Some binder) t
   type_reads b (tree.leaf_type at l) = kinds.leaf_reads at l
   type_reads b (tree.over_type at u t) = kinds.over_reads at u (part_reads None t)
+  type_reads b (tree.array_type at c t) = kinds.array_reads at (constant_reads c) (part_reads None t)
   type_reads b (tree.tuple_type at ps) = kinds.tuple_reads at (pushed_all (parts_read ps datum.no_types []))
   type_reads b (tree.path_type at p) = path_type_reads (written.path_of p) at (path_reads p)
   type_reads b (tree.ref_type at l m t) = kinds.ref_reads at m (part_reads None t) (kinds.lifetime_option_reads l)
@@ -108,6 +114,8 @@ mutual
   arg_grown (tree.type_arg t) l = kinds.argument_grown l arg.Type_ datum.type_argument (part_reads None t) (λ final r a. refl)
   arg_grown (tree.lifetime_arg l') l =
       kinds.argument_grown l arg.Lifetime datum.lifetime_argument (kinds.lifetime_reads l') (λ final r a. refl)
+  arg_grown (tree.const_arg c) l =
+      kinds.argument_grown l arg.Const datum.constant_argument (constant_reads c) (λ final r a. refl)
   arg_grown (tree.assoc_arg n as' dots t bs) l =
       kinds.binding_grown l (kinds.binding_reads n dots (list_reads as') (present_reads t) (pushed_all (bounds_read bs [])))
 
@@ -124,7 +132,7 @@ mutual
 
   -- ---- paths
 
-  first_goes : (l : Bool) (s : Segment) (w : PathWalk)
+  pub first_goes : (l : Bool) (s : Segment) (w : PathWalk)
       → Correct (lower.read_segment true s (at_first l w)) (Goes (Open w) (λ is. item l (written.what true s) ∷ is))
   first_goes l tree.absent_segment w = bare_goes l missing_name w
   first_goes l tree.broken_segment w = broken_goes l w
@@ -137,7 +145,7 @@ mutual
   first_goes l (tree.type_segment t) w = anchor_goes l w (type_reads None t)
   first_goes l (tree.trait_segment t at p) w = trait_goes (written.path_of p) l at w (type_reads None t) (path_reads p)
 
-  behind_goes : (s : Segment) (w : PathWalk)
+  pub behind_goes : (s : Segment) (w : PathWalk)
       → Correct (lower.read_segment false s w) (Goes (Open w) (λ is. item false (written.what false s) ∷ is))
   behind_goes tree.absent_segment w = bare_goes false missing_name w
   behind_goes tree.broken_segment w = broken_goes false w
@@ -170,3 +178,44 @@ mutual
   pub path_reads : (p : OptionPath) → Correct (lower.lower_path p) (PathIs (written.path_of p))
   path_reads tree.no_path = none_is
   path_reads (tree.some_path p) = path_is {add = written.segments p} (path_goes p start)
+
+  -- ---- constants
+
+  constant_reads : (c : Constant) → Correct (lower.lower_constant c) (Reads a_constant (written.constant_site c))
+  constant_reads (tree.constant e) = sites.constant_reads (part_from e)
+
+  part_from : (e : OptionExpr) → From (written.part_site e) (lower.lower_part e)
+  part_from tree.no_expr = missing_from
+  part_from (tree.some_expr e) = expr_from e
+
+  block_from : (b : Block) → From (written.block_site b) (lower.lower_block b)
+  block_from (tree.block at is_unsafe label number ss e) = sites.labelled_from label
+      (λ n. sites.block_form_from at is_unsafe n number (stmts_any [] ss (kept_part_any e)))
+
+  expr_from : (e : Expr) → From (written.expr_site e) (lower.lower e)
+  expr_from (tree.disabled_expr at by e) = ends_from (correct_report _) (λ u. missing_from)
+  expr_from (tree.paren_expr at e) = sites.paren_from at (part_from e)
+  expr_from (tree.block_expr b) = block_from b
+  expr_from (tree.record_expr at p fs s) =
+      sites.record_from at (written.path_of p) (path_reads p) (contents_any (fields_any [] fs) (spread_any s))
+  expr_from (tree.if_expr at c t e) = sites.if_from at (part_any c) (block_part_any t) (present_any e)
+  expr_from (tree.loop_expr at label b) = sites.loop_from at label (block_part_any b)
+  expr_from (tree.call_expr at f es) = sites.call_from at (part_any f) (each_any [] es)
+  expr_from (tree.path_expr at p h) = sites.path_from at h (lower_path_any p)
+  expr_from (tree.continue_expr at jump) = sites.continue_from at jump
+  expr_from (tree.break_expr at jump e) = sites.break_from at jump (present_any e)
+  expr_from (tree.literal_expr at l) = sites.alloc_from _ (Some at)
+  expr_from (tree.leaf_expr at form) = sites.alloc_from _ (Some at)
+  expr_from (tree.unary_expr at form e) = sites.operand_from at _ (part_any e)
+  expr_from (tree.binary_expr at form a b) = sites.operands_from at _ (part_any a) (part_any b)
+  expr_from (tree.lazy_expr at op a b) = sites.operands_from at _ (part_any a) (part_any b)
+  expr_from (tree.list_expr at form es) = sites.list_from at form (each_any [] es)
+  expr_from (tree.method_call_expr at e name es as') =
+      sites.method_call_from at name (part_any e) (each_any [] es) (args_any as')
+  expr_from (tree.leaving_expr at form e) = sites.value_from at _ (present_any e)
+  expr_from (tree.become_expr at e) = sites.operand_from at _ (part_any e)
+  expr_from (tree.yield_expr at e) = sites.value_from at _ (present_any e)
+  expr_from (tree.await_expr at location e) = sites.await_from at location (part_any e)
+  expr_from (tree.cast_expr at e t) = sites.cast_from at (part_any e) (type_any None t)
+  expr_from (tree.offset_of_expr at t names) = sites.offset_of_from at names (type_any None t)
+  expr_from (tree.nameless_expr at e) = sites.operand_from at _ (part_any e)

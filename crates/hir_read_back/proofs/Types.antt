@@ -13,6 +13,7 @@ use Rattle.hir_store.specs.declared.path.GenericArg.TheVariants as arg
 use Rattle.hir_store.specs.declared.path.GenericArgs.{GenericArgs}
 use Rattle.hir_store.specs.declared.path.GenericArgsParentheses.TheVariants as parens
 use Rattle.hir_store.specs.declared.path.AssociatedTypeBinding.{AssociatedTypeBinding}
+use Rattle.hir_store.specs.declared.type_ref.ConstRef.{ConstRef}
 use Rattle.hir_store.specs.declared.type_ref.TypeRef.TheVariants as ty
 use Rattle.hir_store.specs.declared.type_ref.TypeBound.{TypeBound}
 use Rattle.hir_store.specs.declared.type_ref.TypeBound.TheVariants as bound
@@ -20,6 +21,7 @@ use Rattle.hir_store.specs.declared.type_ref.UseArgRef.{UseArgRef}
 use Rattle.hir_store.specs.declared.type_ref.UseArgRef.TheVariants as use_arg
 use Rattle.hir_env.specs.declared.place.ImplTrait.{ImplTrait}
 use Rattle.hir_env.specs.declared.place.ImplTrait.TheVariants as becomes
+use Rattle.hir_env.specs.NodeMap.{Site}
 use Rattle.hir_env.specs.Answered as tree
 use Rattle.hir_env.specs.Answered.{Lifetime, Binder, FnHead, UseRead, TypeLeaf, TypeUnary}
 use Rattle.hir_lower_form.specs.declared.args.ArgLists.{ArgLists}
@@ -27,6 +29,7 @@ use Rattle.hir_lower_form.specs.Lowering.{Lowering, ◌>>=◌, pure, alloc_type}
 use Rattle.hir_lower_form.specs.Paths.{parens_form, segment_args_form, or_else, or_notation, notation, sugared_args, output_name}
 use Rattle.hir_lower_form.specs.Types.{error_type, unit_type, lower_lifetime, lower_lifetime_option, lower_use, lower_uses}
 use Rattle.hir_lower_form.specs.Types.{stored_leaf_type, stored_over_type, over_form, tuple_type_form, ref_type_form, stored_fn}
+use Rattle.hir_lower_form.specs.Types.{array_type_form}
 use Rattle.hir_lower_form.specs.Types.{fn_type_form}
 use Rattle.hir_lower_form.specs.Types.{stored_impl, impl_type_form, dyn_type_form, yielded, binding_form, add_arg, add_binding, no_lists}
 use Rattle.hir_steps.proofs.Frames.{Frame}
@@ -39,6 +42,7 @@ use Rattle.hir_data.specs.Data.{args_data, ArgumentsData, BindingData, BindingsD
 use Rattle.hir_data.specs.Written as written
 use Rattle.hir_data.specs.Reading as reading
 use Rattle.hir_data.specs.Reading.{Readers}
+use Rattle.hir_read_back.proofs.Layers.{a_constant}
 use Rattle.hir_read_back.proofs.Layers.{Layer, a_lifetime, maybe_lifetime, a_use, many_uses, a_type, types_before, maybe_type, a_shape}
 use Rattle.hir_read_back.proofs.Layers.{a_bound, many_bounds, arguments_before, a_binding, bindings_before, a_list, within, Reads}
 use Rattle.hir_read_back.proofs.Layers.{value0, value1, Pushed, pushed_all, none_read, more_read, type_at, type0, type1, type2}
@@ -90,6 +94,14 @@ pub over_reads : {x : TypeData} {p : Lowering TypeRefId} (at : Pointer) (u : Typ
 unfolding over_form
 over_reads at (tree.pointer_to m) h = type1 (Some at) (λ t. ty.RawPtr t m) (datum.pointer_shape m) h (λ final r a. refl)
 over_reads at tree.slice_of h = type1 (Some at) ty.Slice datum.slice_shape h (λ final r a. refl)
+
+-- the length is lowered first
+pub array_reads : {x : TypeData} {y : Option Site} {p : Lowering ConstRef} {q : Lowering TypeRefId} (at : Pointer)
+    → Correct p (Reads a_constant y) → Correct q (Reads a_type x)
+    → Correct (array_type_form at p q) (Reads a_type (typed (Some at) (datum.array_shape x y)))
+unfolding array_type_form
+array_reads at h k = type2 (Some at) (λ n t. ty.Array (record { ty = t; len = n })) (λ y x. datum.array_shape x y) h k
+    (λ final r a b. refl)
 
 pub tuple_reads : {x : TypesData} {p : Lowering (List TypeRefId)} (at : Pointer) → Correct p (Reads (types_before datum.no_types) x)
     → Correct (tuple_type_form at p) (Reads a_type (typed (Some at) (datum.tuple_shape x)))

@@ -64,13 +64,13 @@ same_crate (Some c) = refl
 
 -- ---- lists
 
-abbrev name_at : Named → Name
+abbrev pub name_at : Named → Name
 name_at n = n.name
 
-abbrev args_at : Named → OptionArgsData
+abbrev pub args_at : Named → OptionArgsData
 args_at n = n.args
 
-map_reverse : {A B : Type 0} (f : A → B) (xs : List A) → map f (reverse xs) ≡ reverse (map f xs)
+pub map_reverse : {A B : Type 0} (f : A → B) (xs : List A) → map f (reverse xs) ≡ reverse (map f xs)
 map_reverse f [] = refl
 map_reverse f (x ∷ xs) =
     ap (map f) (reverse-append (x ∷ []) xs)
@@ -103,7 +103,7 @@ or_swap false true c d e f = rw (← e) (rw (← f) refl)
 or_swap true false c d e f = rw (← e) (rw (← f) refl)
 or_swap true true c d e f = rw (← e) (rw (← f) refl)
 
-read_whole : (is : List Item) → ended is ≡ false → read is ≡ is
+pub read_whole : (is : List Item) → ended is ≡ false → read is ≡ is
 read_whole [] h = refl
 read_whole (i ∷ is) h = by (ends i.what (rule.names is)) h
   where
@@ -113,11 +113,11 @@ read_whole (i ∷ is) h = by (ends i.what (rule.names is)) h
 
 -- ---- what a walk that has read these items has found, when so many types are stored
 
-abbrev none_beside : List Name → List (Option GenericArgs)
+abbrev pub none_beside : List Name → List (Option GenericArgs)
 none_beside xs = map (λ n. None) xs
 
 -- what stands beside each name
-abbrev lists : Stored → ℕ → List (Option GenericArgs) → List OptionArgsData
+abbrev pub lists : Stored → ℕ → List (Option GenericArgs) → List OptionArgsData
 lists final d as' = map (a_list final (within final d)) as'
 
 abbrev anchor_read : Stored → ℕ → Option TypeRefId → Option TypeData

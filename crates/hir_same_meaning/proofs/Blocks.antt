@@ -6,7 +6,7 @@ use Rattle.hir_store.specs.declared.hir.Statement.{Statement}
 use Rattle.hir_store.specs.declared.hir.Statement.TheVariants as statement
 use Rattle.hir_store.specs.declared.ids.ExprId.{ExprId}
 use Rattle.hir_env.specs.Answered as tree
-use Rattle.hir_env.specs.Answered.{Expr, OptionExpr, Stmts, Stmt}
+use Rattle.hir_env.specs.Answered.{Expr, OptionExpr, Stmts}
 use Rattle.hir_lower_form.specs.Lower.{settled}
 use Rattle.hir_meaning.specs.Run.{Value, unit, pure, ◌>>◌}
 use Rattle.hir_scope.specs.Scopes.{Scope}

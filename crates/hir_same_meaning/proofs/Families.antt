@@ -5,7 +5,6 @@ use Rattle.hir_syntax.specs.declared.ast.BinaryOp.TheVariants as ast
 use Rattle.hir_store.specs.Pointers.{Pointer}
 use Rattle.hir_store.specs.declared.hir.Expr.{Expr as HirExpr}
 use Rattle.hir_store.specs.declared.hir.Expr.TheVariants as hir
-use Rattle.hir_store.specs.declared.name.Name.{Name}
 use Rattle.hir_store.specs.declared.ids.ExprId.{ExprId}
 use Rattle.hir_store.specs.declared.diagnostics.AwaitLocation.{AwaitLocation}
 use Rattle.hir_env.specs.Answered as tree
@@ -14,8 +13,8 @@ use Rattle.hir_env.specs.NodeMap.{Site}
 use Rattle.hir_env.specs.Answering.{site_of}
 use Rattle.hir_lower_form.specs.Lowering.{Lowering, alloc_expr}
 use Rattle.hir_lower_form.specs.Lower.{ExprSteps, stored_leaf, stored_unary, stored_binary, stored_lazy, stored_leaving}
-use Rattle.hir_lower_form.specs.Lower.{operand_form, operands_form, value_form, list_form, method_call_form, await_form}
-use Rattle.hir_meaning.specs.Run.{Value, Operation, array, method_call, yielding, awaiting, leave, became, missing, ends, ◌>>=◌, ask}
+use Rattle.hir_lower_form.specs.Lower.{operand_form, operands_form, value_form, list_form, await_form}
+use Rattle.hir_meaning.specs.Run.{Value, Operation, array, yielding, awaiting, leave, became, missing, ends, ◌>>=◌, ask}
 use Rattle.hir_meaning.specs.Syntax.{run_leaf, unary_operation, run_binary, run_lazy, run_list, leaves_with}
 use Rattle.hir_steps.proofs.Steps.{Rel, Correct, correct_bind, correct_as, correct_alloc, correct_report_await}
 use Rattle.hir_same_meaning.proofs.Senses.{Walk, one, optional, many, Runs, goes_within}

@@ -16,7 +16,7 @@ use Rattle.hir_store.specs.declared.ids.CfgId.{CfgId}
 use Rattle.hir_store.specs.declared.ids.HygieneId.{HygieneId}
 use Rattle.hir_store.specs.declared.diagnostics.ExpressionStoreDiagnostics.TheVariants.{InactiveCode}
 use Rattle.hir_env.specs.Answered as tree
-use Rattle.hir_env.specs.Answered.{OptionPath, Label, Jump, Expr, OptionExpr, Exprs, Stmts, Stmt}
+use Rattle.hir_env.specs.Answered.{OptionPath, Label, Jump, Expr, OptionExpr, Stmts}
 use Rattle.hir_env.specs.NodeMap.{Site}
 use Rattle.hir_env.specs.Answering.{site_of}
 use Rattle.hir_lower_form.specs.Builder.{Builder}

@@ -7,7 +7,7 @@ use Rattle.hir_store.specs.declared.hir.RecordSpread.TheVariants as spread
 use Rattle.hir_store.specs.declared.diagnostics.ExpressionStoreDiagnostics.TheVariants.{InactiveCode}
 use Rattle.hir_store.specs.declared.ids.ExprId.{ExprId}
 use Rattle.hir_env.specs.Answered as tree
-use Rattle.hir_env.specs.Answered.{Expr, OptionExpr, Exprs, Fields, Spread, Block, OptionBlock, Stmts, Stmt}
+use Rattle.hir_env.specs.Answered.{Expr, OptionExpr, Exprs, Fields, Spread, Block, OptionBlock, Stmts}
 use Rattle.hir_lower_form.specs.Lower.{push_some, lower, lower_part, present, kept_part, lower_each, lower_block, lower_block_part}
 use Rattle.hir_lower_form.specs.Lower.{lower_stmts, lower_fields, lower_spread}
 use Rattle.hir_lower_form.specs.Lowering.{Lowering}

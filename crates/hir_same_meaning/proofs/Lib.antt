@@ -13,4 +13,12 @@ pub mod Spread
 pub mod Owned
 pub mod Body
 pub mod Tree
+pub mod Holding
+pub mod HeldArgs
+pub mod HeldTypes
+pub mod HeldWalk
+pub mod HeldPaths
+pub mod HeldForms
+pub mod HeldTree
+pub mod Whole
 pub mod Computed

@@ -23,7 +23,7 @@ use Rattle.hir_store.specs.declared.diagnostics.ExpressionStoreDiagnostics.TheVa
 use Rattle.hir_env.specs.Answered as tree
 use Rattle.hir_env.specs.Answered.{Leaf, Unary, Binary, Listing, Leaving}
 use Rattle.hir_env.specs.Answered.{OptionType, OptionPath, OptionArgs, Label, Jump, Expr, OptionExpr, Exprs, Fields, Field}
-use Rattle.hir_env.specs.Answered.{Block, OptionBlock, Stmts, Stmt}
+use Rattle.hir_env.specs.Answered.{Block, OptionBlock, Stmts}
 use Rattle.hir_lower_form.specs.Lowering.{Lowering, ◌>>=◌, pure, alloc_expr, report}
 use Rattle.hir_lower_form.specs.Lower.{ExprSteps, push_some, missing, some, if_form, loop_form, call_form, continue_form, break_form}
 use Rattle.hir_lower_form.specs.Lower.{paren_form, path_or_missing, path_form, lower_path, settled, settled_block, StoredContents}
@@ -38,7 +38,7 @@ use Rattle.hir_steps.proofs.Frames.{Frame, loop_at, block_at}
 use Rattle.hir_steps.proofs.Steps.{Mark, Grows, Rel, Correct, Allocated, correct_bind, correct_as, correct_pure}
 use Rattle.hir_steps.proofs.Steps.{correct_report, correct_report_await, correct_point, correct_enter_block, correct_alloc}
 use Rattle.hir_steps.proofs.Steps.{correct_opened, correct_target, correct_point_field}
-use Rattle.hir_steps.proofs.Aside.{part_aside, args_aside, path_aside}
+use Rattle.hir_steps.proofs.Keeping.{type_any, args_any, lower_path_any}
 use Rattle.hir_same_meaning.proofs.Spread.{spread_none, spread_wider, spread_append, spread_node}
 use Rattle.hir_same_meaning.proofs.Forms.{Pushed, pushed_none, pushed_one, correct_statement}
 
@@ -172,7 +172,7 @@ module _ (at : Pointer) where
   method_call_owns : (name : Name) (g : OptionArgs) {p : ExprSteps} {q : Lowering (List ExprId)} → Correct p Owns
       → Correct q (OwnsAs of_each) → Correct (method_call_form at p name q (args_part g)) Owns
   unfolding method_call_form
-  method_call_owns name g hp hq = correct_as (correct_bind hp (λ e. correct_bind hq (λ es. correct_bind (args_aside g)
+  method_call_owns name g hp hq = correct_as (correct_bind hp (λ e. correct_bind hq (λ es. correct_bind (args_any g)
       (λ a. correct_alloc (hir.MethodCall e name a es) (Some at)))))
       (λ final ps m m' i u row. let r = row.second in let s = r.second in
       owns_at m s.second (omega arith) (λ d le. spread_append m.nodes s.middle.nodes (inl (omega arith)) (omega arith)
@@ -181,14 +181,14 @@ module _ (at : Pointer) where
   -- the type reaches no expression
   cast_owns : (t : OptionType) {p : ExprSteps} → Correct p Owns → Correct (cast_form at p (type_part None t)) Owns
   unfolding cast_form
-  cast_owns t h = correct_as (correct_bind h (λ e. correct_bind (part_aside None t) (λ i. correct_alloc (hir.Cast e i) (Some at))))
+  cast_owns t h = correct_as (correct_bind h (λ e. correct_bind (type_any None t) (λ i. correct_alloc (hir.Cast e i) (Some at))))
       (λ final ps m m' i g row. let r = row.second in
       owns_at m r.second (omega arith) (λ d le. spread_wider m.nodes r.middle.nodes (omega arith) (omega arith)
       (row.first.spread d (omega arith))))
 
   offset_of_owns : (t : OptionType) (names : List Name) → Correct (offset_of_form at (type_part None t) names) Owns
   unfolding offset_of_form
-  offset_of_owns t names = correct_as (correct_bind (part_aside None t) (λ i. correct_alloc (hir.OffsetOf i names) (Some at)))
+  offset_of_owns t names = correct_as (correct_bind (type_any None t) (λ i. correct_alloc (hir.OffsetOf i names) (Some at)))
       (λ final ps m m' i g row. owns_at m row.second (omega arith) (λ d le. spread_none m.nodes row.middle.nodes))
 
   record_of_owns : {c : Lowering StoredFields} → Correct c (OwnsAs of_record) → (p : Option Path) → Correct (record_of at c p) Owns
@@ -197,7 +197,7 @@ module _ (at : Pointer) where
 
   record_owns : (p : OptionPath) {c : Lowering StoredFields} → Correct c (OwnsAs of_record) → Correct (record_form at (lower_path p) c) Owns
   unfolding record_form
-  record_owns p h = correct_as (correct_bind (path_aside p) (λ o. record_of_owns h o))
+  record_owns p h = correct_as (correct_bind (lower_path_any p) (λ o. record_of_owns h o))
       (λ final ps m m' i g row.
       record { spread = λ d le. spread_wider m.nodes m'.nodes (omega arith) (omega arith) (row.second.spread d le) })
 
@@ -268,7 +268,7 @@ path_below h (Some p) f = refl
 
 path_owns : (at : Pointer) (p : OptionPath) (h : HygieneId) → Correct (path_form at h (lower_path p)) Owns
 unfolding path_form
-path_owns at p h = correct_as (correct_bind (path_aside p) (λ r. correct_alloc (path_or_missing h r) (Some at)))
+path_owns at p h = correct_as (correct_bind (lower_path_any p) (λ r. correct_alloc (path_or_missing h r) (Some at)))
     (λ final ps m m' i g row. owns_at m row.second (omega arith)
     (λ d le. rw (path_below h row.one (reached_to final.exprs.entries d)) (spread_none m.nodes row.middle.nodes)))
 

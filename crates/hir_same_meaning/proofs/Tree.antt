@@ -1,5 +1,5 @@
--- What holds of whole bodies.
-use Rattle.std.proofs.Common.{[], refl, arith}
+-- What holds of whole bodies by themselves: how deep one looks, and which numbers they reach.
+use Rattle.std.proofs.Common.{[], arith}
 use Rattle.hir_store.specs.Stored.{Stored}
 use Rattle.hir_store.specs.Storing.{Extends}
 use Rattle.hir_store.specs.declared.ids.ExprId.{ExprId}
@@ -7,22 +7,19 @@ use Rattle.hir_env.specs.Answered.{OptionExpr}
 use Rattle.hir_lower_form.specs.Builder.{Builder}
 use Rattle.hir_lower_form.specs.Lower.{lower_part}
 use Rattle.hir_steps.proofs.Steps.{mark, Rel, Answers, InStore, Correct, correct_in_store}
-use Rattle.hir_same_meaning.specs.Headline.{Lowered, Headline, Deeper}
+use Rattle.hir_same_meaning.specs.Headline.{Lowered, Deeper}
 use Rattle.hir_same_meaning.specs.Reached.{ReachedOnce}
 use Rattle.hir_same_meaning.proofs.Owned.{part_owns}
-use Rattle.hir_same_meaning.proofs.Body.{runs_at, body_is}
+use Rattle.hir_same_meaning.proofs.Body.{runs_at}
 use Rattle.hir_same_meaning.proofs.Induction.{part_fine}
 
 -- what is so of each lowering is so of this body, of which nothing encloses
-of_body : {R : Rel ExprId} {e : OptionExpr} {b b' : Builder} {i : ExprId} {final : Stored} → Correct (lower_part e) R → Lowered e b i b'
+pub of_body : {R : Rel ExprId} {e : OptionExpr} {b b' : Builder} {i : ExprId} {final : Stored} → Correct (lower_part e) R → Lowered e b i b'
     → Extends b'.stored final → InStore R final [] (mark b) (mark b') i
 of_body {R = R} {e = e} {b = b} {b' = b'} {i = i} {final = final} c l x =
     let h = (correct_in_store c).holds final [] b l.none_open in
     let r : Answers (InStore R) final [] b b' i = rw l.is at h in
     r.in_final l.paired x
-
-pub headline : Headline
-headline e b b' i l final x = let r = of_body (part_fine e) l x in record { body = body_is [] r.rel r.nodes tt refl }
 
 pub deeper : Deeper
 deeper e b b' i l final x d le = let r = of_body (part_fine e) l x in let nodes = r.nodes in runs_at [] d r.rel (omega arith) tt

@@ -5,36 +5,33 @@ use Rattle.hir_store.specs.Stored.{Stored, store_of, map_of}
 use Rattle.hir_store.specs.declared.hir.Expr.TheVariants as hir
 use Rattle.hir_store.specs.declared.hir.RecordLitField.{RecordLitField}
 use Rattle.hir_store.specs.declared.hir.RecordSpread.{RecordSpread}
-use Rattle.hir_store.specs.declared.hir.RecordSpread.TheVariants as spread
 use Rattle.hir_store.specs.declared.ids.ExprId.{ExprId}
 use Rattle.hir_store.specs.declared.ids.TypeRefId.{TypeRefId}
-use Rattle.hir_store.specs.declared.ids.CfgId.{CfgId}
 use Rattle.hir_store.specs.declared.name.Name.{Name}
 use Rattle.hir_store.specs.declared.path.Path.{Path}
 use Rattle.hir_store.specs.declared.path.GenericArgs.{GenericArgs}
-use Rattle.hir_store.specs.declared.diagnostics.ExpressionStoreDiagnostics.TheVariants.{InactiveCode}
 use Rattle.hir_env.specs.NodeMap.{Site}
 use Rattle.hir_env.specs.Answering.{site_of}
 use Rattle.hir_env.specs.Answered.{OptionType, OptionPath, OptionArgs}
-use Rattle.hir_lower_form.specs.Lowering.{Lowering, pure, report, ◌>>=◌ as ◌next◌}
+use Rattle.hir_lower_form.specs.Lowering.{Lowering}
 use Rattle.hir_lower_form.specs.Lower.{ExprSteps, StoredFields, push_some, type_part, lower_path, args_part, cast_form, offset_of_form}
 use Rattle.hir_lower_form.specs.Lower.{method_call_form, record_contents, record_of, record_form, field_form}
 use Rattle.hir_data.specs.Data.{TypeData, PathData, OptionArgsData}
 use Rattle.hir_data.specs.Reading.{stored_type, stored_path, stored_args}
 use Rattle.hir_data.specs.Written.{written_type, written_path, written_args}
 use Rattle.hir_read_back.proofs.Now.{type_now, path_now, args_now}
-use Rattle.hir_meaning.specs.Run.{Value, leave, missing as is_missing, SpreadForm, cast, made_record, offset_of, method_call}
-use Rattle.hir_meaning.specs.Run.{ends, pure as gives, ◌>>=◌, ask}
+use Rattle.hir_meaning.specs.Run.{Value, SpreadForm, cast, made_record, offset_of, method_call}
+use Rattle.hir_meaning.specs.Run.{pure as gives, ◌>>=◌, ask}
 use Rattle.hir_meaning.specs.Syntax.{run_record}
 use Rattle.hir_meaning.specs.Store.{others_form}
 use Rattle.hir_steps.proofs.Frames.{Frame}
-use Rattle.hir_steps.proofs.Steps.{Mark, Grows, Rel, Correct, Allocated, correct_bind, correct_as, correct_pure, correct_report}
+use Rattle.hir_steps.proofs.Steps.{Mark, Grows, Rel, Correct, Allocated, correct_bind, correct_as, correct_pure}
 use Rattle.hir_steps.proofs.Steps.{correct_alloc}
 use Rattle.hir_steps.proofs.Steps.{correct_point_field}
 use Rattle.hir_same_meaning.proofs.Relation.{same_bind, same_ask}
 use Rattle.hir_same_meaning.proofs.Senses.{Walk, one, many, others, Goes, Runs, goes_within, goes_at}
 use Rattle.hir_same_meaning.proofs.Nodes
-use Rattle.hir_same_meaning.proofs.Forms.{missing_fine, Pushed, pushed_none, pushed_one}
+use Rattle.hir_same_meaning.proofs.Forms.{missing_fine, Pushed, pushed_one}
 
 abbrev type_in : Stored → TypeRefId → TypeData
 type_in final t = stored_type (store_of final) (map_of final) t

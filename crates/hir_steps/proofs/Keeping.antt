@@ -17,6 +17,18 @@ use Rattle.hir_store.specs.declared.ids.HygieneId.{HygieneId}
 use Rattle.hir_env.specs.Answered as tree
 use Rattle.hir_env.specs.Answered.{Listing, Label, Jump, Expr, OptionExpr, Exprs, Fields, Field, Spread, Block, OptionBlock}
 use Rattle.hir_env.specs.Answered.{Stmts, Stmt}
+use Rattle.hir_env.specs.Answered.{Binder, Type_, OptionType, Parts, Path as TreePath, OptionPath, Segments, Segment, SegmentArgs}
+use Rattle.hir_env.specs.Answered.{OptionParens, OptionRet, OptionArgs, Args, Arg, Bounds, Bound, Constant}
+use Rattle.hir_store.specs.declared.ids.TypeRefId.{TypeRefId}
+use Rattle.hir_store.specs.declared.type_ref.TypeBound.{TypeBound}
+use Rattle.hir_lower_form.specs.declared.args.ArgLists.{ArgLists}
+use Rattle.hir_lower_form.specs.declared.walk.PathWalk.{PathWalk}
+use Rattle.hir_lower_form.specs.declared.walk.Reading.TheVariants.{Refused, Open}
+use Rattle.hir_lower_form.specs.Walks.{start, at_first, super_read, path_read}
+use Rattle.hir_lower_form.specs.Types.{no_lists}
+use Rattle.hir_lower_form.specs.Lower.{lower_type, type_part, present_type, type_or_unit, lower_parts, read_segment, read_each, read_path}
+use Rattle.hir_lower_form.specs.Lower.{read_option, lower_path, lower_segment_args, parens_part, output_part, args_part, lower_args}
+use Rattle.hir_lower_form.specs.Lower.{lower_arg, lower_bounds, lower_bound, lower_constant}
 use Rattle.hir_lower_form.specs.Builder.{Builder}
 use Rattle.hir_lower_form.specs.Lowering.{Checked, Lowering, ◌>>=◌, alloc_expr}
 use Rattle.hir_lower_form.specs.Lower.{ExprSteps, StoredContents, missing, some, if_form, loop_form, call_form, continue_form}
@@ -27,21 +39,17 @@ use Rattle.hir_lower_form.specs.Lower.{lower_fields, lower_field, lower_spread}
 use Rattle.hir_lower_form.specs.Lower.{method_call_form, await_form, block_form, labelled, kept, lower, lower_part}
 use Rattle.hir_lower_form.specs.Lower.{present, kept_part, lower_each, lower_block, lower_block_part, lower_stmts}
 use Rattle.hir_lower_form.specs.Lower.{lower_stmt}
-use Rattle.hir_steps.specs.Keeps.{Keeps, Keeping}
+use Rattle.hir_steps.specs.Keeps.{Keeps, Keeping, PathsKeep, TypesKeep}
 use Rattle.hir_steps.proofs.Frames.{Frame, loop_at, block_at, frames, ribs_frames}
-use Rattle.hir_steps.proofs.Aside.{part_aside, args_aside, path_aside}
+use Rattle.hir_steps.proofs.Constants.{correct_constant}
+pub use Rattle.hir_steps.proofs.TypeAny.{Any, any}
+use Rattle.hir_steps.proofs.TypeAny.{args_form_any, array_any, binding_any, counted_any, dyn_any, error_any, fn_any, impl_any}
+use Rattle.hir_steps.proofs.TypeAny.{lifetime_any, lifetime_option_any, over_any, parens_form_any, path_bound_any, path_type_any}
+use Rattle.hir_steps.proofs.TypeAny.{proceed_any, pure_any, ref_any, stored_type_any, then_any, tuple_any, unit_any, uses_any}
+use Rattle.hir_steps.proofs.TypeAny.{whole_any, with_trait_any}
 use Rattle.hir_steps.proofs.Steps.{Mark, Rel, Holds, Correct, correct_bind, correct_as, correct_pure, correct_report}
 use Rattle.hir_steps.proofs.Steps.{correct_report_await, correct_point_field, correct_point, correct_enter_block, correct_alloc}
 use Rattle.hir_steps.proofs.Steps.{correct_opened, correct_target}
-
-pub record Any {A : Type 0} (final : Stored) (ps : List Frame) (m m' : Mark) (a : A) : Type 0 where
-  pub any : Unit {0}
-
-any : {A : Type 0} {p : Lowering A} {R : Rel A} → Correct p R → Correct p Any
-any h = correct_as h (λ final ps m m' a g row. record { any = tt })
-
-then' : {A B : Type 0} {p : Lowering A} {f : A → Lowering B} → Correct p Any → ((a : A) → Correct (f a) Any) → Correct (p >>= f) Any
-then' h k = any (correct_bind h k)
 
 missing_any : Correct missing Any
 unfolding missing
@@ -51,95 +59,95 @@ stored_any : (e : HirExpr) (at : Pointer) → Correct (alloc_expr e (Some at)) A
 stored_any e at = any (correct_alloc e (Some at))
 
 some_any : {A : Type 0} {p : Lowering A} → Correct p Any → Correct (some p) Any
-some_any h = then' h (λ a. any (correct_pure (Some a)))
+some_any h = then_any h (λ a. any (correct_pure (Some a)))
 
 module _ (at : Pointer) where
   if_any : {c t : ExprSteps} {e : Lowering (Option ExprId)} → Correct c Any → Correct t Any → Correct e Any → Correct (if_form at c t e) Any
   unfolding if_form
-  if_any hc ht he = then' ht (λ i. then' he (λ j. then' hc (λ k. stored_any _ at)))
+  if_any hc ht he = then_any ht (λ i. then_any he (λ j. then_any hc (λ k. stored_any _ at)))
 
   loop_any : (label : Option Label) {b : ExprSteps} → Correct b Any → Correct (loop_form at label b) Any
   unfolding loop_form
-  loop_any None h = then' h (λ i. stored_any _ at)
+  loop_any None h = then_any h (λ i. stored_any _ at)
   loop_any (Some l) h = any (correct_opened loop_at l (λ n ps. refl) (λ n. h) (λ n i. stored_any _ at))
 
   call_any : {f : ExprSteps} {xs : Lowering (List ExprId)} → Correct f Any → Correct xs Any → Correct (call_form at f xs) Any
   unfolding call_form
-  call_any hf hx = then' hf (λ i. then' hx (λ is. stored_any _ at))
+  call_any hf hx = then_any hf (λ i. then_any hx (λ is. stored_any _ at))
 
   continue_any : (j : Option Jump) → Correct (continue_form at j) Any
   unfolding continue_form
-  continue_any j = then' (any (correct_target j)) (λ n. stored_any _ at)
+  continue_any j = then_any (any (correct_target j)) (λ n. stored_any _ at)
 
   break_any : (j : Option Jump) {e : Lowering (Option ExprId)} → Correct e Any → Correct (break_form at j e) Any
   unfolding break_form
-  break_any j h = then' (any (correct_target j)) (λ n. then' h (λ v. stored_any _ at))
+  break_any j h = then_any (any (correct_target j)) (λ n. then_any h (λ v. stored_any _ at))
 
   paren_any : {e : ExprSteps} → Correct e Any → Correct (paren_form at e) Any
   unfolding paren_form
-  paren_any h = then' h (λ i. then' (any (correct_point at i)) (λ u. any (correct_pure i)))
+  paren_any h = then_any h (λ i. then_any (any (correct_point at i)) (λ u. any (correct_pure i)))
 
   path_any : (h : HygieneId) {p : Lowering (Option Path)} → Correct p Any → Correct (path_form at h p) Any
   unfolding path_form
-  path_any h hp = then' hp (λ r. stored_any _ at)
+  path_any h hp = then_any hp (λ r. stored_any _ at)
 
   operand_any : (form : ExprId → HirExpr) {e : ExprSteps} → Correct e Any → Correct (operand_form at form e) Any
   unfolding operand_form
-  operand_any form h = then' h (λ i. stored_any _ at)
+  operand_any form h = then_any h (λ i. stored_any _ at)
 
   operands_any : (form : ExprId → ExprId → HirExpr) {a b : ExprSteps} → Correct a Any → Correct b Any
       → Correct (operands_form at form a b) Any
   unfolding operands_form
-  operands_any form ha hb = then' ha (λ i. then' hb (λ j. stored_any _ at))
+  operands_any form ha hb = then_any ha (λ i. then_any hb (λ j. stored_any _ at))
 
   value_any : (form : Option ExprId → HirExpr) {e : Lowering (Option ExprId)} → Correct e Any → Correct (value_form at form e) Any
   unfolding value_form
-  value_any form h = then' h (λ v. stored_any _ at)
+  value_any form h = then_any h (λ v. stored_any _ at)
 
   list_any : (form : Listing) {xs : Lowering (List ExprId)} → Correct xs Any → Correct (list_form at form xs) Any
   unfolding list_form
-  list_any (tree.tuple_of false) h = then' h (λ is. stored_any _ at)
-  list_any (tree.tuple_of true) h = then' h (λ is. then' missing_any (λ i. stored_any _ at))
-  list_any tree.array_of h = then' h (λ is. stored_any _ at)
+  list_any (tree.tuple_of false) h = then_any h (λ is. stored_any _ at)
+  list_any (tree.tuple_of true) h = then_any h (λ is. then_any missing_any (λ i. stored_any _ at))
+  list_any tree.array_of h = then_any h (λ is. stored_any _ at)
 
   method_call_any : {e : ExprSteps} (name : Name) {xs : Lowering (List ExprId)} {as' : Lowering (Option GenericArgs)} → Correct e Any
       → Correct xs Any → Correct as' Any → Correct (method_call_form at e name xs as') Any
   unfolding method_call_form
-  method_call_any name he hx ha = then' he (λ i. then' hx (λ is. then' ha (λ g. stored_any _ at)))
+  method_call_any name he hx ha = then_any he (λ i. then_any hx (λ is. then_any ha (λ g. stored_any _ at)))
 
   cast_any : {e : ExprSteps} {t : TypeSteps} → Correct e Any → Correct t Any → Correct (cast_form at e t) Any
   unfolding cast_form
-  cast_any he ht = then' he (λ i. then' ht (λ t. stored_any _ at))
+  cast_any he ht = then_any he (λ i. then_any ht (λ t. stored_any _ at))
 
   offset_of_any : {t : TypeSteps} (names : List Name) → Correct t Any → Correct (offset_of_form at t names) Any
   unfolding offset_of_form
-  offset_of_any names h = then' h (λ t. stored_any _ at)
+  offset_of_any names h = then_any h (λ t. stored_any _ at)
 
   record_of_any : {c : Lowering StoredFields} → Correct c Any → (p : Option Path) → Correct (record_of at c p) Any
   record_of_any h None = missing_any
-  record_of_any h (Some p) = then' h (λ r. stored_any _ at)
+  record_of_any h (Some p) = then_any h (λ r. stored_any _ at)
 
   record_any : {p : Lowering (Option Path)} {c : Lowering StoredFields} → Correct p Any → Correct c Any → Correct (record_form at p c) Any
   unfolding record_form
-  record_any hp hc = then' hp (λ p. record_of_any hc p)
+  record_any hp hc = then_any hp (λ p. record_of_any hc p)
 
   field_any : (name : Name) {e : ExprSteps} → Correct e Any → Correct (field_form at name e) Any
   unfolding field_form
-  field_any name h = then' h (λ i. then' (any (correct_point_field i at)) (λ u. any (correct_pure _)))
+  field_any name h = then_any h (λ i. then_any (any (correct_point_field i at)) (λ u. any (correct_pure _)))
 
   await_any : (location : Option AwaitLocation) {e : ExprSteps} → Correct e Any → Correct (await_form at location e) Any
   unfolding await_form
-  await_any location h = then' h (λ i. then' (any (correct_report_await at location)) (λ u. stored_any _ at))
+  await_any location h = then_any h (λ i. then_any (any (correct_report_await at location)) (λ u. stored_any _ at))
 
   block_form_any : (is_unsafe : Bool) (label : Option LabelId) (number : Option BlockId) {c : Lowering StoredContents} → Correct c Any
       → Correct (block_form at is_unsafe label number c) Any
   unfolding block_form
-  block_form_any is_unsafe label number h = then' (any (correct_enter_block number)) (λ u. then' h (λ r. stored_any _ at))
+  block_form_any is_unsafe label number h = then_any (any (correct_enter_block number)) (λ u. then_any h (λ r. stored_any _ at))
 
-contents_any : {fs : Lowering (List RecordLitField)} {s : Lowering RecordSpread} → Correct fs Any → Correct s Any
+pub contents_any : {fs : Lowering (List RecordLitField)} {s : Lowering RecordSpread} → Correct fs Any → Correct s Any
     → Correct (record_contents fs s) Any
 unfolding record_contents
-contents_any hf hs = then' hf (λ fs. then' hs (λ s. any (correct_pure (fs, s))))
+contents_any hf hs = then_any hf (λ fs. then_any hs (λ s. any (correct_pure (fs, s))))
 
 labelled_any : (label : Option Label) {f : Option LabelId → ExprSteps} → ((n : Option LabelId) → Correct (f n) Any)
     → Correct (labelled label f) Any
@@ -148,17 +156,125 @@ labelled_any None h = h None
 labelled_any (Some l) h = any (correct_opened block_at l (λ n ps. refl) (λ n. h (Some n)) (λ n i. correct_pure i))
 
 kept_any : (e : Expr) {p : ExprSteps} → Correct p Any → Correct (kept e p) Any
-kept_any (tree.disabled_expr at by e) h = then' (any (correct_report _)) (λ u. any (correct_pure None))
+kept_any (tree.disabled_expr at by e) h = then_any (any (correct_report _)) (λ u. any (correct_pure None))
 kept_any e h = some_any h
 
 mutual
+  pub one_type_any : (b : Option Binder) (t : Type_) → Correct (lower_type b t) Any
+  one_type_any b (tree.paren_type t) = type_any b t
+  one_type_any b (tree.for_type names t) = type_any (Some names) t
+  one_type_any b (tree.leaf_type at form) = stored_type_any _ _
+  one_type_any b (tree.over_type at form t) = over_any at form (type_any None t)
+  one_type_any b (tree.array_type at c t) = array_any at (constant_any c) (type_any None t)
+  one_type_any b (tree.tuple_type at ts) = tuple_any at (parts_any [] ts)
+  one_type_any b (tree.path_type at p) = path_type_any at (lower_path_any p)
+  one_type_any b (tree.ref_type at l mutability t) = ref_any at mutability (type_any None t) (lifetime_option_any l)
+  one_type_any b (tree.fn_type at head ts r) = fn_any at b head (parts_any [] ts) (or_unit_any r)
+  one_type_any b (tree.impl_type at mode bs) = impl_any at mode (bounds_any [] bs)
+  one_type_any b (tree.nested_impl at) = stored_type_any _ _
+  one_type_any b (tree.dyn_type at bs) = dyn_any at (bounds_any [] bs)
+
+  pub type_any : (b : Option Binder) (t : OptionType) → Correct (type_part b t) Any
+  type_any b tree.no_type = error_any
+  type_any b (tree.some_type t) = one_type_any b t
+
+  present_type_any : (t : OptionType) → Correct (present_type t) Any
+  present_type_any tree.no_type = pure_any None
+  present_type_any (tree.some_type t) = then_any (one_type_any None t) (λ i. pure_any (Some i))
+
+  or_unit_any : (t : OptionType) → Correct (type_or_unit t) Any
+  or_unit_any tree.no_type = unit_any
+  or_unit_any (tree.some_type t) = one_type_any None t
+
+  parts_any : (done : List TypeRefId) (ts : Parts) → Correct (lower_parts done ts) Any
+  parts_any done tree.no_parts = pure_any done
+  parts_any done (tree.more_parts t ts) = then_any (type_any None t) (λ i. parts_any _ ts)
+
+  segment_any : (first : Bool) (s : Segment) (w : PathWalk) → Correct (read_segment first s w) Any
+  segment_any first tree.absent_segment w = pure_any _
+  segment_any first tree.broken_segment w = pure_any _
+  segment_any first (tree.name_segment n as') w = then_any (segment_args_any as') (λ a. pure_any _)
+  segment_any first tree.self_type_segment w = pure_any _
+  segment_any false tree.crate_segment w = pure_any _
+  segment_any true tree.crate_segment w = pure_any _
+  segment_any false (tree.dollar_crate_segment root) w = pure_any _
+  segment_any true (tree.dollar_crate_segment root) w = pure_any _
+  segment_any false tree.self_segment w = pure_any _
+  segment_any true tree.self_segment w = pure_any _
+  segment_any first tree.super_segment w = counted_any (super_read w)
+  segment_any false (tree.type_segment t) w = pure_any _
+  segment_any true (tree.type_segment t) w = then_any (one_type_any None t) (λ i. pure_any _)
+  segment_any false (tree.trait_segment t at p) w = pure_any _
+  segment_any true (tree.trait_segment t at p) w = then_any (one_type_any None t) (λ i. with_trait_any (lower_path_any p) i at w)
+
+  segments_any : (ss : Segments) (w : PathWalk) → Correct (read_each ss w) Any
+  segments_any tree.no_segments w = pure_any (Open w)
+  segments_any (tree.more_segments s ss) w = then_any (segments_any ss w) (λ r. proceed_any r (λ v. segment_any false s v))
+
+  reading_any : (p : TreePath) (w : PathWalk) → Correct (read_path p w) Any
+  reading_any (tree.path leading first rest use_) w =
+      whole_any (then_any (segments_any rest w) (λ r. proceed_any r (λ v. segment_any true first (at_first leading v))))
+      (λ v. outer_any use_ v)
+
+  outer_any : (p : OptionPath) (w : PathWalk) → Correct (read_option p w) Any
+  outer_any tree.no_path w = pure_any (Open w)
+  outer_any (tree.some_path p) w = reading_any p w
+
+  pub lower_path_any : (p : OptionPath) → Correct (lower_path p) Any
+  lower_path_any tree.no_path = pure_any None
+  lower_path_any (tree.some_path p) = then_any (reading_any p start) (λ r. pure_any (path_read r))
+
+  segment_args_any : (as' : SegmentArgs) → Correct (lower_segment_args as') Any
+  segment_args_any (tree.segment_args as' ps dots) = args_form_any (args_any as') (parens_any ps) dots
+
+  parens_any : (ps : OptionParens) → Correct (parens_part ps) Any
+  parens_any tree.no_parens = pure_any None
+  parens_any (tree.some_parens ts r) = parens_form_any (parts_any [] ts) (output_any r)
+
+  output_any : (r : OptionRet) → Correct (output_part r) Any
+  output_any tree.no_ret = unit_any
+  output_any (tree.some_ret t) = type_any None t
+
+  pub args_any : (as' : OptionArgs) → Correct (args_part as') Any
+  args_any tree.no_arg_list = pure_any None
+  args_any (tree.some_arg_list as') = then_any (each_arg_any no_lists as') (λ l. pure_any _)
+
+  each_arg_any : (l : ArgLists) (as' : Args) → Correct (lower_args l as') Any
+  each_arg_any l tree.no_args = pure_any l
+  each_arg_any l (tree.more_args a as') = then_any (arg_any l a) (λ m. each_arg_any m as')
+
+  arg_any : (l : ArgLists) (a : Arg) → Correct (lower_arg l a) Any
+  arg_any l tree.skipped_arg = pure_any l
+  arg_any l (tree.type_arg t) = then_any (type_any None t) (λ i. pure_any _)
+  arg_any l (tree.lifetime_arg lifetime) = then_any (lifetime_any lifetime) (λ i. pure_any _)
+  arg_any l (tree.const_arg c) = then_any (constant_any c) (λ x. pure_any _)
+  arg_any l (tree.assoc_arg name as' dots t bs) =
+      then_any (binding_any name dots (args_any as') (present_type_any t) (bounds_any [] bs)) (λ b. pure_any _)
+
+  bounds_any : (done : List TypeBound) (bs : Bounds) → Correct (lower_bounds done bs) Any
+  bounds_any done tree.no_bounds = pure_any done
+  bounds_any done (tree.more_bounds b bs) = then_any (bound_any b) (λ x. bounds_any _ bs)
+
+  bound_any : (b : Bound) → Correct (lower_bound b) Any
+  bound_any tree.error_bound = pure_any _
+  bound_any (tree.path_bound at p maybe binder) = path_bound_any at maybe binder (lower_path_any p)
+  bound_any (tree.lifetime_bound l) = then_any (lifetime_any l) (λ i. pure_any _)
+  bound_any (tree.use_bound us) = then_any (uses_any [] us) (λ xs. pure_any _)
+
+  -- constants
+
+  constant_any : (c : Constant) → Correct (lower_constant c) Any
+  constant_any (tree.constant e) = any (correct_constant (part_any e))
+
+  -- expressions
+
   node_any : (e : Expr) → Correct (lower e) Any
-  node_any (tree.disabled_expr at by e) = then' (any (correct_report _)) (λ u. missing_any)
+  node_any (tree.disabled_expr at by e) = then_any (any (correct_report _)) (λ u. missing_any)
   node_any (tree.if_expr at c t e) = if_any at (part_any c) (block_part_any t) (present_any e)
   node_any (tree.block_expr b) = block_any b
   node_any (tree.loop_expr at label b) = loop_any at label (block_part_any b)
   node_any (tree.call_expr at f es) = call_any at (part_any f) (each_any [] es)
-  node_any (tree.path_expr at p h) = path_any at h (any (path_aside p))
+  node_any (tree.path_expr at p h) = path_any at h (lower_path_any p)
   node_any (tree.continue_expr at jump) = continue_any at jump
   node_any (tree.break_expr at jump e) = break_any at jump (present_any e)
   node_any (tree.paren_expr at e) = paren_any at (part_any e)
@@ -169,68 +285,76 @@ mutual
   node_any (tree.lazy_expr at op a b) = operands_any at _ (part_any a) (part_any b)
   node_any (tree.list_expr at form es) = list_any at form (each_any [] es)
   node_any (tree.method_call_expr at e name es generics) =
-      method_call_any at name (part_any e) (each_any [] es) (any (args_aside generics))
-  node_any (tree.cast_expr at e t) = cast_any at (part_any e) (any (part_aside None t))
-  node_any (tree.record_expr at p fs s) = record_any at (any (path_aside p)) (contents_any (fields_any [] fs) (spread_any s))
-  node_any (tree.offset_of_expr at t names) = offset_of_any at names (any (part_aside None t))
+      method_call_any at name (part_any e) (each_any [] es) (args_any generics)
+  node_any (tree.cast_expr at e t) = cast_any at (part_any e) (type_any None t)
+  node_any (tree.record_expr at p fs s) = record_any at (lower_path_any p) (contents_any (fields_any [] fs) (spread_any s))
+  node_any (tree.offset_of_expr at t names) = offset_of_any at names (type_any None t)
   node_any (tree.leaving_expr at form e) = value_any at _ (present_any e)
   node_any (tree.become_expr at e) = operand_any at _ (part_any e)
   node_any (tree.yield_expr at e) = value_any at _ (present_any e)
   node_any (tree.await_expr at location e) = await_any at location (part_any e)
   node_any (tree.nameless_expr at e) = operand_any at _ (part_any e)
 
-  part_any : (e : OptionExpr) → Correct (lower_part e) Any
+  pub part_any : (e : OptionExpr) → Correct (lower_part e) Any
   part_any tree.no_expr = missing_any
   part_any (tree.some_expr e) = node_any e
 
-  present_any : (e : OptionExpr) → Correct (present e) Any
+  pub present_any : (e : OptionExpr) → Correct (present e) Any
   present_any tree.no_expr = any (correct_pure None)
   present_any (tree.some_expr e) = some_any (node_any e)
 
-  kept_part_any : (e : OptionExpr) → Correct (kept_part e) Any
+  pub kept_part_any : (e : OptionExpr) → Correct (kept_part e) Any
   kept_part_any tree.no_expr = any (correct_pure None)
   kept_part_any (tree.some_expr e) = kept_any e (node_any e)
 
-  each_any : (done : List ExprId) (es : Exprs) → Correct (lower_each done es) Any
+  pub each_any : (done : List ExprId) (es : Exprs) → Correct (lower_each done es) Any
   each_any done tree.no_exprs = any (correct_pure done)
-  each_any done (tree.more_exprs e es) = then' (kept_any e (node_any e)) (λ x. each_any _ es)
+  each_any done (tree.more_exprs e es) = then_any (kept_any e (node_any e)) (λ x. each_any _ es)
 
-  fields_any : (done : List RecordLitField) (fs : Fields) → Correct (lower_fields done fs) Any
+  pub fields_any : (done : List RecordLitField) (fs : Fields) → Correct (lower_fields done fs) Any
   fields_any done tree.no_fields = any (correct_pure done)
-  fields_any done (tree.more_fields f fs) = then' (one_field_any f) (λ x. fields_any _ fs)
+  fields_any done (tree.more_fields f fs) = then_any (one_field_any f) (λ x. fields_any _ fs)
 
   one_field_any : (f : Field) → Correct (lower_field f) Any
-  one_field_any (tree.disabled_field at by f) = then' (any (correct_report _)) (λ u. any (correct_pure None))
+  one_field_any (tree.disabled_field at by f) = then_any (any (correct_report _)) (λ u. any (correct_pure None))
   one_field_any tree.nameless_field = any (correct_pure None)
   one_field_any (tree.named_field at name e) = field_any at name (part_any e)
 
-  spread_any : (s : Spread) → Correct (lower_spread s) Any
+  pub spread_any : (s : Spread) → Correct (lower_spread s) Any
   spread_any tree.no_spread = any (correct_pure _)
   spread_any tree.field_defaults = any (correct_pure _)
-  spread_any (tree.spread_of e) = then' (node_any e) (λ i. any (correct_pure _))
+  spread_any (tree.spread_of e) = then_any (node_any e) (λ i. any (correct_pure _))
 
   block_any : (b : Block) → Correct (lower_block b) Any
   block_any (tree.block at is_unsafe label number ss e) =
       labelled_any label (λ n. block_form_any at is_unsafe n number (stmts_any [] ss (kept_part_any e)))
 
-  block_part_any : (b : OptionBlock) → Correct (lower_block_part b) Any
+  pub block_part_any : (b : OptionBlock) → Correct (lower_block_part b) Any
   block_part_any tree.no_block = missing_any
   block_part_any (tree.some_block b) = block_any b
 
-  stmts_any : (done : List Statement) (ss : Stmts) {tail : Lowering (Option ExprId)} → Correct tail Any
+  pub stmts_any : (done : List Statement) (ss : Stmts) {tail : Lowering (Option ExprId)} → Correct tail Any
       → Correct (lower_stmts done ss tail) Any
-  stmts_any done tree.no_stmts h = then' h (λ t. any (correct_pure (done, t)))
-  stmts_any done (tree.more_stmts s ss) h = then' (stmt_any s) (λ x. stmts_any _ ss h)
+  stmts_any done tree.no_stmts h = then_any h (λ t. any (correct_pure (done, t)))
+  stmts_any done (tree.more_stmts s ss) h = then_any (stmt_any s) (λ x. stmts_any _ ss h)
 
   stmt_any : (s : Stmt) → Correct (lower_stmt s) Any
-  stmt_any (tree.expr_stmt e semi) = then' (kept_part_any e) (λ x. any (correct_pure _))
+  stmt_any (tree.expr_stmt e semi) = then_any (kept_part_any e) (λ x. any (correct_pure _))
   stmt_any tree.item_stmt = any (correct_pure _)
 
-kept_of : (final : Stored) (ps : List Frame) (b : Builder) (o : Checked ExprId) (c : Builder) → Holds Any final ps b o c → Keeps b o c
-kept_of final ps b (Ok i) c h = h.kept
+kept_of : {A : Type 0} (final : Stored) (ps : List Frame) (b : Builder) (o : Checked A) (c : Builder) → Holds Any final ps b o c
+    → Keeps b o c
+kept_of final ps b (Ok a) c h = h.kept
 kept_of final ps b (Err e) c h = h
 
+pub kept_by : {A : Type 0} {p : Lowering A} → Correct p Any → (b : Builder) → Keeps b (p b).0 (p b).1
+kept_by {p = p} h b = let ps = frames b.scopes in kept_of b.stored ps b (p b).0 (p b).1 (h.holds b.stored ps b (ribs_frames b.scopes))
+
 pub keeping : Keeping
-keeping e b =
-    let ps = frames b.scopes in
-    kept_of b.stored ps b (lower_part e b).0 (lower_part e b).1 ((part_any e).holds b.stored ps b (ribs_frames b.scopes))
+keeping e b = kept_by (part_any e) b
+
+pub types_keep : TypesKeep
+types_keep binder t b = kept_by (type_any binder t) b
+
+pub paths_keep : PathsKeep
+paths_keep p b = kept_by (lower_path_any p) b

@@ -69,12 +69,20 @@ pub grows_refl : (m : Mark) → Grows m m
 grows_refl m = record { nodes = omega arith; labels = omega arith; types = omega arith; lifetimes = omega arith }
 
 pub kept_still : (b : Builder) → KeepsAll b b
-kept_still b = record { scopes = refl; roots = refl; paired = λ d. d; mapped = λ d w. w; stays = extends_refl b.stored }
+kept_still b = record {
+  scopes = refl;
+  in_root = refl;
+  roots = λ t. refl;
+  paired = λ d. d;
+  mapped = λ d w. w;
+  stays = extends_refl b.stored;
+}
 
 pub kept_trans : {a b c : Builder} → KeepsAll a b → KeepsAll b c → KeepsAll a c
 kept_trans g h = record {
   scopes = h.scopes ∙ g.scopes;
-  roots = h.roots ∙ g.roots;
+  in_root = h.in_root ∙ g.in_root;
+  roots = λ t. h.roots (g.in_root ∙ t) ∙ g.roots t;
   paired = λ d. h.paired (g.paired d);
   mapped = λ d w. h.mapped (g.paired d) (g.mapped d w);
   stays = extends_trans g.stays h.stays;
@@ -137,7 +145,7 @@ correct_both {A = A} {p = p} {R = R} {Q = Q} h k =
     }
     go final ps b (Err e) c y z = y
 
-longer : {A : Type 0} {xs ys : List A} → Prefix xs ys → length xs ≤ length ys
+pub longer : {A : Type 0} {xs ys : List A} → Prefix xs ys → length xs ≤ length ys
 longer {xs = xs} p = let e = ap length p.is in let n = length-append xs p.more in omega arith
 
 -- what is stored by then is in the final store

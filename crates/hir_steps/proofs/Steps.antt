@@ -73,7 +73,8 @@ correct_report fault = record {
   holds = λ final ps b r. record {
     kept = record {
       scopes = refl;
-      roots = refl;
+      in_root = refl;
+      roots = λ t. refl;
       paired = λ d. record { exprs = d.exprs; labels = d.labels; types = d.types; lifetimes = d.lifetimes };
       mapped = λ d w. record { types = w.types; lifetimes = w.lifetimes };
       stays = extends_report b.stored fault;
@@ -104,7 +105,8 @@ correct_point node id = record {
   holds = λ final ps b r. record {
     kept = record {
       scopes = refl;
-      roots = refl;
+      in_root = refl;
+      roots = λ t. refl;
       paired = λ d. record { exprs = d.exprs; labels = d.labels; types = d.types; lifetimes = d.lifetimes };
       mapped = λ d w. record { types = w.types; lifetimes = w.lifetimes };
       stays = extends_point b.stored node id;
@@ -120,7 +122,8 @@ correct_point_field id node = record {
   holds = λ final ps b r. record {
     kept = record {
       scopes = refl;
-      roots = refl;
+      in_root = refl;
+      roots = λ t. refl;
       paired = λ d. record { exprs = d.exprs; labels = d.labels; types = d.types; lifetimes = d.lifetimes };
       mapped = λ d w. record { types = w.types; lifetimes = w.lifetimes };
       stays = extends_field b.stored id node;
@@ -137,7 +140,8 @@ correct_enter_block (Some n) = record {
   holds = λ final ps b r. record {
     kept = record {
       scopes = refl;
-      roots = refl;
+      in_root = refl;
+      roots = λ t. refl;
       paired = λ d. record { exprs = d.exprs; labels = d.labels; types = d.types; lifetimes = d.lifetimes };
       mapped = λ d w. record { types = w.types; lifetimes = w.lifetimes };
       stays = extends_block b.stored n;
@@ -179,7 +183,8 @@ correct_alloc e source = record { holds = λ final ps b r. go final ps b (nat_lt
         let grown = length-append xs (e ∷ []) in record {
           kept = record {
             scopes = refl;
-            roots = refl;
+            in_root = refl;
+            roots = λ t. refl;
             paired = λ d. record { exprs = one_more xs e ss source d.exprs; labels = d.labels; types = d.types; lifetimes = d.lifetimes };
             mapped = λ d w. record { types = w.types; lifetimes = w.lifetimes };
             stays = record {
@@ -234,6 +239,7 @@ pub record Opened {A B : Type 0} (at : Label → LabelId → Frame) (l : Label) 
 -- what opening a label does
 record Opening (l : Label) (b : Builder) (n : LabelId) (b' : Builder) : Type 0 where
   scopes : b'.scopes ≡ rib l n ∷ b.scopes
+  in_root : b'.in_root ≡ b.in_root
   roots : b'.stored.roots ≡ b.stored.roots
   paired : Paired b.stored → Paired b'.stored
   mapped : Paired b.stored → Mapped b.stored → Mapped b'.stored
@@ -274,6 +280,7 @@ opens l b = go (nat_lt (length b.stored.labels.entries) b.stored.labels.limit)
         let ss = s.labels.sources in
         let grown = length-append xs (x ∷ []) in record {
           scopes = refl;
+          in_root = refl;
           roots = refl;
           paired = λ d. record {
             exprs = d.exprs;
@@ -324,7 +331,8 @@ correct_opened {A = A} {B = B} at l {p = p} {R = R} {f = f} {Q = Q} frame hp hf 
     third final ps b b1 b2 n a h x (Ok e) c y = record {
       kept = record {
         scopes = y.kept.scopes ∙ ap rest (x.kept.scopes ∙ h.scopes);
-        roots = y.kept.roots ∙ (x.kept.roots ∙ h.roots);
+        in_root = y.kept.in_root ∙ (x.kept.in_root ∙ h.in_root);
+        roots = λ t. let u = h.in_root ∙ t in y.kept.roots (x.kept.in_root ∙ u) ∙ (x.kept.roots u ∙ h.roots);
         paired = λ d. y.kept.paired (x.kept.paired (h.paired d));
         mapped = λ d w. y.kept.mapped (x.kept.paired (h.paired d)) (x.kept.mapped (h.paired d) (h.mapped d w));
         stays = extends_trans h.stays (extends_trans x.kept.stays y.kept.stays);
@@ -415,7 +423,8 @@ correct_target (Some j) = record { holds = λ final ps b r. go final ps b (targe
     go final ps b unreachable e = record {
       kept = record {
         scopes = refl;
-        roots = refl;
+        in_root = refl;
+        roots = λ t. refl;
         paired = λ d. record { exprs = d.exprs; labels = d.labels; types = d.types; lifetimes = d.lifetimes };
         mapped = λ d w. record { types = w.types; lifetimes = w.lifetimes };
         stays = extends_report b.stored (UnreachableLabel j.pointer j.name);
@@ -426,7 +435,8 @@ correct_target (Some j) = record { holds = λ final ps b r. go final ps b (targe
     go final ps b undeclared e = record {
       kept = record {
         scopes = refl;
-        roots = refl;
+        in_root = refl;
+        roots = λ t. refl;
         paired = λ d. record { exprs = d.exprs; labels = d.labels; types = d.types; lifetimes = d.lifetimes };
         mapped = λ d w. record { types = w.types; lifetimes = w.lifetimes };
         stays = extends_report b.stored (UndeclaredLabel j.pointer j.name);

@@ -54,7 +54,8 @@ correct_alloc_type t source =
         let grown = length-append xs (t ∷ []) in record {
           kept = record {
             scopes = refl;
-            roots = refl;
+            in_root = refl;
+            roots = λ t. refl;
             paired = λ d. record { exprs = d.exprs; labels = d.labels; types = one_more xs t ss source d.types; lifetimes = d.lifetimes };
             mapped = λ d w. record {
               types = maps_back_entry (λ i. i.0) type_id (λ n. refl) s.types t d.types w.types source;
@@ -122,7 +123,8 @@ correct_alloc_lifetime l source =
         let grown = length-append xs (l ∷ []) in record {
           kept = record {
             scopes = refl;
-            roots = refl;
+            in_root = refl;
+            roots = λ t. refl;
             paired = λ d. record { exprs = d.exprs; labels = d.labels; lifetimes = one_more xs l ss source d.lifetimes; types = d.types };
             mapped = λ d w. record {
               lifetimes = maps_back_entry (λ i. i.0) lifetime_id (λ n. refl) s.lifetimes l d.lifetimes w.lifetimes source;

@@ -1,5 +1,5 @@
 -- What lowering leaves as it was.
-use Rattle.std.specs.Prelude.{◌≡◌, length, Option, Ok, Err}
+use Rattle.std.specs.Prelude.{◌≡◌, true, length, Option, Ok, Err}
 use Rattle.hir_store.specs.Arenas.{MapsBack}
 use Rattle.hir_store.specs.Stored.{Stored}
 use Rattle.hir_store.specs.Storing.{Checked, Extends}
@@ -21,7 +21,9 @@ pub record Mapped (s : Stored) : Type 0 where
 
 pub record KeepsAll (b b' : Builder) : Type 0 where
   pub scopes : b'.scopes ≡ b.scopes
-  pub roots : b'.stored.roots ≡ b.stored.roots
+  pub in_root : b'.in_root ≡ b.in_root
+  -- inside of a root none is recorded
+  pub roots : b.in_root ≡ true → b'.stored.roots ≡ b.stored.roots
   pub paired : Paired b.stored → Paired b'.stored
   pub mapped : Paired b.stored → Mapped b.stored → Mapped b'.stored
   pub stays : Extends b.stored b'.stored
@@ -34,21 +36,10 @@ Keeps b (Err e) b' = Extends b.stored b'.stored
 abbrev pub Keeping : Type 0
 Keeping = (e : OptionExpr) (b : Builder) → Keeps b (lower_part e b).0 (lower_part e b).1
 
--- types and paths store beside expressions and labels, report nothing and enter no block
-pub record StaysAside (old new : Stored) : Type 0 where
-  pub exprs : new.exprs ≡ old.exprs
-  pub labels : new.labels ≡ old.labels
-  pub diagnostics : new.diagnostics ≡ old.diagnostics
-  pub block_scopes : new.block_scopes ≡ old.block_scopes
-  pub field_map_back : new.field_map_back ≡ old.field_map_back
-
-abbrev pub KeepsAside : {A : Type 0} → Builder → Checked A → Builder → Type 0
-KeepsAside b (Ok a) b' = KeepsAll b b' × StaysAside b.stored b'.stored
-KeepsAside b (Err e) b' = Extends b.stored b'.stored
+-- so it is of types and paths by themselves
 
 abbrev pub TypesKeep : Type 0
-TypesKeep = (binder : Option Binder) (t : OptionType) (b : Builder) → Paired b.stored
-    → KeepsAside b (type_part binder t b).0 (type_part binder t b).1
+TypesKeep = (binder : Option Binder) (t : OptionType) (b : Builder) → Keeps b (type_part binder t b).0 (type_part binder t b).1
 
 abbrev pub PathsKeep : Type 0
-PathsKeep = (p : OptionPath) (b : Builder) → Paired b.stored → KeepsAside b (lower_path p b).0 (lower_path p b).1
+PathsKeep = (p : OptionPath) (b : Builder) → Keeps b (lower_path p b).0 (lower_path p b).1

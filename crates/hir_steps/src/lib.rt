@@ -9,9 +9,8 @@ pub fn keeps()
     ensures { Keeping }
 {}
 
-/// Types and paths are stored behind what is stored too, and beside expressions and labels; they report nothing and enter no
-/// block.
-pub fn keeps_aside()
+/// Types and paths by themselves, with the expressions of their constants, are stored behind what is stored too.
+pub fn keeps_alone()
     ensures types { TypesKeep }
     ensures paths { PathsKeep }
 {}

@@ -7,6 +7,8 @@ use Rattle.hir_store.specs.declared.type_ref.UseArgRef.{UseArgRef}
 use Rattle.hir_store.specs.declared.type_ref.UseArgRef.TheVariants as use_arg
 use Rattle.hir_store.specs.declared.type_ref.TypeBound.{TypeBound}
 use Rattle.hir_store.specs.declared.type_ref.TypeBound.TheVariants as bound
+use Rattle.hir_store.specs.declared.type_ref.ConstRef.{ConstRef}
+use Rattle.hir_store.specs.declared.type_ref.ArrayType.{ArrayType}
 use Rattle.hir_store.specs.declared.type_ref.RefType.{RefType}
 use Rattle.hir_store.specs.declared.type_ref.TypeRef.{TypeRef}
 use Rattle.hir_store.specs.declared.type_ref.TypeRef.TheVariants as ty
@@ -51,12 +53,16 @@ past_type_id id = record { exprs = 0; types = suc id.0; lifetimes = 0 }
 abbrev pub past_lifetime_id : LifetimeRefId → Past
 past_lifetime_id id = record { exprs = 0; types = 0; lifetimes = suc id.0 }
 
+abbrev pub past_constant : ConstRef → Past
+past_constant c = record { exprs = suc c.expr.0; types = 0; lifetimes = 0 }
+
 abbrev pub past_type_ids : List TypeRefId → Past
 past_type_ids = past_each past_type_id
 
 abbrev pub past_arg : GenericArg → Past
 past_arg (arg.Type_ id) = past_type_id id
 past_arg (arg.Lifetime id) = past_lifetime_id id
+past_arg (arg.Const c) = past_constant c
 
 abbrev pub past_args : List GenericArg → Past
 past_args = past_each past_arg
@@ -107,6 +113,9 @@ abbrev pub past_path : Path → Past
 past_path (path.BarePath p) = nothing
 past_path (path.Normal p) = past_normal p
 
+abbrev pub past_array : ArrayType → Past
+past_array a = join (past_type_id a.ty) (past_constant a.len)
+
 abbrev pub past_reference : RefType → Past
 past_reference r = join (past_type_id r.ty) (past_present past_lifetime_id r.lifetime)
 
@@ -119,6 +128,7 @@ past_type (ty.Path p) = past_path p
 past_type (ty.RawPtr id mutability) = past_type_id id
 past_type (ty.Reference r) = past_reference r
 past_type (ty.Slice id) = past_type_id id
+past_type (ty.Array a) = past_array a
 past_type (ty.Fn f) = past_type_ids f.params
 past_type (ty.ImplTrait bounds) = past_bounds bounds
 past_type (ty.DynTrait bounds) = past_bounds bounds

@@ -20,6 +20,7 @@ use Rattle.hir_store.specs.declared.path.Path.{Path}
 use Rattle.hir_store.specs.declared.path.GenericArg.{GenericArg}
 use Rattle.hir_store.specs.declared.path.GenericArgs.{GenericArgs}
 use Rattle.hir_store.specs.declared.path.AssociatedTypeBinding.{AssociatedTypeBinding}
+use Rattle.hir_store.specs.declared.type_ref.ConstRef.{ConstRef}
 use Rattle.hir_store.specs.declared.type_ref.UseArgRef.{UseArgRef}
 use Rattle.hir_store.specs.declared.type_ref.TypeBound.{TypeBound}
 use Rattle.hir_store.specs.declared.type_ref.TypeRef.{TypeRef}
@@ -139,6 +140,9 @@ HasTypeOption s o = Has s (past_present past_type_id o)
 
 abbrev pub HasTypes : Stored → List TypeRefId → Type 0
 HasTypes s ids = Has s (past_type_ids ids)
+
+abbrev pub HasConst : Stored → ConstRef → Type 0
+HasConst s c = HasExpr s c.expr
 
 abbrev pub HasLifetime : Stored → LifetimeRefId → Type 0
 HasLifetime s id = suc id.0 ≤ length s.lifetimes.entries

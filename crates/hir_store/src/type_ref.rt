@@ -3,7 +3,7 @@
 ghost use Rattle.std.specs.Prelude.{◌≡◌, IfOk};
 
 use crate::hir::Mutability;
-use crate::ids::{LifetimeRefId, TypeRefId};
+use crate::ids::{ExprId, LifetimeRefId, TypeRefId};
 use crate::name::{Name, copy_names};
 use crate::path::Path;
 use hir_syntax::Seq;
@@ -114,6 +114,19 @@ pub fn copy_bounds(bounds: &Seq<TypeBound>) -> Result<Seq<TypeBound>, AllocError
     bounds.clone()
 }
 
+/// A lowered constant.
+#[derive(Clone, Copy, Debug, PartialEq, Eq)]
+pub struct ConstRef {
+    pub expr: ExprId,
+}
+
+/// `[T; N]`. A length that isn't written is a missing expression.
+#[derive(Clone, Copy, PartialEq, Eq)]
+pub struct ArrayType {
+    pub ty: TypeRefId,
+    pub len: ConstRef,
+}
+
 /// `&'a mut T`.
 #[derive(Clone, Copy, PartialEq, Eq)]
 pub struct RefType {
@@ -174,6 +187,7 @@ pub enum TypeRef {
     RawPtr(TypeRefId, Mutability),
     Reference(RefType),
     Slice(TypeRefId),
+    Array(ArrayType),
     Fn(FnType),
     ImplTrait(Seq<TypeBound>),
     DynTrait(Seq<TypeBound>),
@@ -190,6 +204,7 @@ impl Drop for TypeRef {
             TypeRef::RawPtr(_, _) => {}
             TypeRef::Reference(_) => {}
             TypeRef::Slice(_) => {}
+            TypeRef::Array(_) => {}
             TypeRef::Fn(_) => {}
             TypeRef::ImplTrait(_) => {}
             TypeRef::DynTrait(_) => {}

@@ -1,13 +1,13 @@
 //! Types, and the arguments and bounds in them.
 
-use crate::ast::{Lifetime, Name, Path};
+use crate::ast::{ConstArg, Lifetime, Name, Path};
 use crate::boxed::Boxed;
 use crate::node::{NodeId, TextRange};
 use crate::seq::Seq;
 use crate::text::Text;
 
 /// A type.
-#[cycle(types)]
+#[cycle(ast)]
 pub struct Type_ {
     pub id: NodeId,
     pub range: TextRange,
@@ -15,7 +15,7 @@ pub struct Type_ {
 }
 
 impl Drop for Type_ {
-    #[cycle(types_drop)]
+    #[cycle(ast_drop)]
     fn drop(self) {
         let Type_ {
             id: _,
@@ -25,13 +25,17 @@ impl Drop for Type_ {
     }
 }
 
-#[cycle(types)]
+#[cycle(ast)]
 pub enum TypeKind {
     ParenType {
         ty: Option<Boxed<Type_>>,
     },
     SliceType {
         ty: Option<Boxed<Type_>>,
+    },
+    ArrayType {
+        ty: Option<Boxed<Type_>>,
+        len: Option<ConstArg>,
     },
     TupleType {
         fields: Seq<Type_>,
@@ -70,11 +74,12 @@ pub enum TypeKind {
 }
 
 impl Drop for TypeKind {
-    #[cycle(types_drop)]
+    #[cycle(ast_drop)]
     fn drop(self) {
         match self {
             TypeKind::ParenType { ty: _ } => {}
             TypeKind::SliceType { ty: _ } => {}
+            TypeKind::ArrayType { ty: _, len: _ } => {}
             TypeKind::TupleType { fields: _ } => {}
             TypeKind::PathType { path: _ } => {}
             TypeKind::PtrType { mut_: _, ty: _ } => {}
@@ -99,7 +104,7 @@ impl Drop for TypeKind {
 }
 
 /// A parameter of a function pointer. A variadic one is `...`.
-#[cycle(types)]
+#[cycle(ast)]
 pub struct Param {
     pub id: NodeId,
     pub range: TextRange,
@@ -108,7 +113,7 @@ pub struct Param {
 }
 
 impl Drop for Param {
-    #[cycle(types_drop)]
+    #[cycle(ast_drop)]
     fn drop(self) {
         let Param {
             id: _,
@@ -120,7 +125,7 @@ impl Drop for Param {
 }
 
 /// `-> T`.
-#[cycle(types)]
+#[cycle(ast)]
 pub struct RetType {
     pub id: NodeId,
     pub range: TextRange,
@@ -128,7 +133,7 @@ pub struct RetType {
 }
 
 impl Drop for RetType {
-    #[cycle(types_drop)]
+    #[cycle(ast_drop)]
     fn drop(self) {
         let RetType {
             id: _,
@@ -139,7 +144,7 @@ impl Drop for RetType {
 }
 
 /// A bound of a type. One without a kind, a path without `ty` and a lifetime without `lifetime` are errors.
-#[cycle(types)]
+#[cycle(ast)]
 pub struct TypeBound {
     pub id: NodeId,
     pub range: TextRange,
@@ -156,7 +161,7 @@ pub struct TypeBound {
 }
 
 impl Drop for TypeBound {
-    #[cycle(types_drop)]
+    #[cycle(ast_drop)]
     fn drop(self) {
         let TypeBound {
             id: _,
@@ -212,7 +217,7 @@ impl Drop for UseArg {
 }
 
 /// The path of a trait.
-#[cycle(types)]
+#[cycle(ast)]
 pub struct PathType {
     pub id: NodeId,
     pub range: TextRange,
@@ -220,7 +225,7 @@ pub struct PathType {
 }
 
 impl Drop for PathType {
-    #[cycle(types_drop)]
+    #[cycle(ast_drop)]
     fn drop(self) {
         let PathType {
             id: _,
@@ -231,7 +236,7 @@ impl Drop for PathType {
 }
 
 /// `<..>` behind a name.
-#[cycle(types)]
+#[cycle(ast)]
 pub struct GenericArgList {
     pub id: NodeId,
     pub range: TextRange,
@@ -239,7 +244,7 @@ pub struct GenericArgList {
 }
 
 impl Drop for GenericArgList {
-    #[cycle(types_drop)]
+    #[cycle(ast_drop)]
     fn drop(self) {
         let GenericArgList {
             id: _,
@@ -249,26 +254,28 @@ impl Drop for GenericArgList {
     }
 }
 
-#[cycle(types)]
+#[cycle(ast)]
 pub enum GenericArg {
     TypeArg(TypeArg),
     AssocTypeArg(AssocTypeArg),
     LifetimeArg(LifetimeArg),
+    ConstArg(ConstArg),
 }
 
 impl Drop for GenericArg {
-    #[cycle(types_drop)]
+    #[cycle(ast_drop)]
     fn drop(self) {
         match self {
             GenericArg::TypeArg(_) => {}
             GenericArg::AssocTypeArg(_) => {}
             GenericArg::LifetimeArg(_) => {}
+            GenericArg::ConstArg(_) => {}
         }
     }
 }
 
 /// A type as an argument.
-#[cycle(types)]
+#[cycle(ast)]
 pub struct TypeArg {
     pub id: NodeId,
     pub range: TextRange,
@@ -276,7 +283,7 @@ pub struct TypeArg {
 }
 
 impl Drop for TypeArg {
-    #[cycle(types_drop)]
+    #[cycle(ast_drop)]
     fn drop(self) {
         let TypeArg {
             id: _,
@@ -287,7 +294,7 @@ impl Drop for TypeArg {
 }
 
 /// `N = T` or `N: B` as an argument.
-#[cycle(types)]
+#[cycle(ast)]
 pub struct AssocTypeArg {
     pub id: NodeId,
     pub range: TextRange,
@@ -303,7 +310,7 @@ pub struct AssocTypeArg {
 }
 
 impl Drop for AssocTypeArg {
-    #[cycle(types_drop)]
+    #[cycle(ast_drop)]
     fn drop(self) {
         let AssocTypeArg {
             id: _,
@@ -336,7 +343,7 @@ impl Drop for LifetimeArg {
 }
 
 /// `(A, B)` behind a name.
-#[cycle(types)]
+#[cycle(ast)]
 pub struct ParenArgs {
     pub id: NodeId,
     pub range: TextRange,
@@ -344,7 +351,7 @@ pub struct ParenArgs {
 }
 
 impl Drop for ParenArgs {
-    #[cycle(types_drop)]
+    #[cycle(ast_drop)]
     fn drop(self) {
         let ParenArgs {
             id: _,

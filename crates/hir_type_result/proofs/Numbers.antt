@@ -7,6 +7,7 @@ use Rattle.hir_store.specs.declared.ids.TypeRefId.{TypeRefId}
 use Rattle.hir_store.specs.declared.ids.LifetimeRefId.{LifetimeRefId}
 use Rattle.hir_store.specs.declared.name.Name.{Name}
 use Rattle.hir_store.specs.declared.name.Name.TheVariants.{Missing}
+use Rattle.hir_store.specs.declared.type_ref.ConstRef.{ConstRef}
 use Rattle.hir_store.specs.declared.type_ref.TypeBound.{TypeBound}
 use Rattle.hir_store.specs.declared.path.GenericArg.{GenericArg}
 use Rattle.hir_store.specs.declared.path.GenericArg.TheVariants as arg
@@ -135,6 +136,11 @@ pub lifetime_added : (f : TypeRefId → List ℕ) (l : ArgLists) (i : LifetimeRe
     → of_arg_lists f (add_arg l (arg.Lifetime i)) ⊑ of_arg_lists f l
 lifetime_added f l i k =
     let a = arg_added f l (arg.Lifetime i) k in
+    let s = times_append k (of_arg_lists f l) [] in omega arith
+
+pub constant_added : (f : TypeRefId → List ℕ) (l : ArgLists) (c : ConstRef) → of_arg_lists f (add_arg l (arg.Const c)) ⊑ of_arg_lists f l
+constant_added f l c k =
+    let a = arg_added f l (arg.Const c) k in
     let s = times_append k (of_arg_lists f l) [] in omega arith
 
 pub binding_added : (f : TypeRefId → List ℕ) (l : ArgLists) (b : AssociatedTypeBinding)

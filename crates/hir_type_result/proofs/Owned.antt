@@ -1,5 +1,5 @@
--- What is answered for a tree names types that its lowering stored, each once: by induction, a line for each kind.
-use Rattle.std.proofs.Common.{ℕ, ◌≤◌, Bool, true, false, List, [], ◌∷◌, ◌++◌, Option, Some, None, arith}
+-- What is answered for types, paths, arguments and bounds names what their parts name, and types that were stored, each once.
+use Rattle.std.proofs.Common.{ℕ, ◌≤◌, Bool, List, [], ◌∷◌, ◌++◌, Option, Some, None, arith}
 use Rattle.std.specs.Prelude.{option_map}
 use Rattle.hir_store.specs.Pointers.{Pointer}
 use Rattle.hir_store.specs.declared.hir.Mutability.{Mutability}
@@ -7,222 +7,221 @@ use Rattle.hir_store.specs.declared.ids.TypeRefId.{TypeRefId}
 use Rattle.hir_store.specs.declared.name.Name.{Name}
 use Rattle.hir_store.specs.declared.path.Path.{Path as HirPath}
 use Rattle.hir_store.specs.declared.path.PathKind.{PathKind}
-use Rattle.hir_store.specs.declared.path.GenericArg.TheVariants as arg
 use Rattle.hir_store.specs.declared.path.GenericArgs.{GenericArgs}
+use Rattle.hir_store.specs.declared.type_ref.ConstRef.{ConstRef}
 use Rattle.hir_store.specs.declared.type_ref.TypeRef.TheVariants as ty
 use Rattle.hir_store.specs.declared.type_ref.TypeBound.{TypeBound}
 use Rattle.hir_store.specs.declared.type_ref.UseArgRef.{UseArgRef}
 use Rattle.hir_env.specs.declared.place.ImplTrait.{ImplTrait}
 use Rattle.hir_env.specs.declared.place.ImplTrait.TheVariants as becomes
 use Rattle.hir_env.specs.Answered as tree
-use Rattle.hir_env.specs.Answered.{Binder, FnHead, Lifetime, TypeLeaf, TypeUnary, UseRead, Type_, OptionType, Parts, Path, OptionPath}
-use Rattle.hir_env.specs.Answered.{Segments}
-use Rattle.hir_env.specs.Answered.{Segment, SegmentArgs, OptionParens, OptionRet, OptionArgs, Args, Arg, Bounds, Bound}
+use Rattle.hir_env.specs.Answered.{Binder, FnHead, Lifetime, TypeLeaf, TypeUnary, UseRead}
 use Rattle.hir_lower_form.specs.declared.args.ArgLists.{ArgLists}
 use Rattle.hir_lower_form.specs.declared.walk.PathWalk.{PathWalk}
 use Rattle.hir_lower_form.specs.declared.walk.Reading.{Reading}
 use Rattle.hir_lower_form.specs.declared.walk.Reading.TheVariants.{Refused, Ended, Open}
 use Rattle.hir_lower_form.specs.Lowering.{Lowering, ◌>>=◌, pure}
-use Rattle.hir_lower_form.specs.Walks.{start, at_first, no_names, self_read, super_read, one_more_super, named, path_read}
+use Rattle.hir_lower_form.specs.Walks.{at_first, no_names, self_read, super_read, one_more_super, named}
 use Rattle.hir_lower_form.specs.Paths.{proceed, whole, counted, read_trait, with_trait, parens_form, or_else, segment_args_form}
 use Rattle.hir_lower_form.specs.Types.{TypeSteps, error_type, unit_type, lower_lifetime, lower_lifetime_option, lower_use, lower_uses}
-use Rattle.hir_lower_form.specs.Types.{over_form}
+use Rattle.hir_lower_form.specs.Types.{over_form, array_type_form}
 use Rattle.hir_lower_form.specs.Types.{tuple_type_form, path_type_form, ref_type_form, fn_type_form, impl_type_form, dyn_type_form}
 use Rattle.hir_lower_form.specs.Types.{stored_leaf_type, stored_over_type, path_or_error, stored_impl}
-use Rattle.hir_lower_form.specs.Types.{no_lists, binding_form, path_bound_of, path_bound_form}
-use Rattle.hir_lower_form.specs.Lower.{lower_type, type_part, present_type, type_or_unit, lower_parts, read_segment, read_each, read_path}
-use Rattle.hir_lower_form.specs.Lower.{read_option, lower_path, lower_segment_args, parens_part, output_part, args_part, lower_args}
-use Rattle.hir_lower_form.specs.Lower.{lower_arg}
-use Rattle.hir_lower_form.specs.Lower.{lower_bounds, lower_bound}
+use Rattle.hir_lower_form.specs.Types.{binding_form, path_bound_of, path_bound_form}
 use Rattle.hir_steps.proofs.Steps.{Correct, correct_count_out}
 use Rattle.hir_type_result.specs.Reached.{of_present, of_each, of_bound, of_args, of_binding, below}
 use Rattle.hir_type_result.proofs.Counted.{times, ◌⊑◌, times_append, either}
 use Rattle.hir_type_result.proofs.Numbers as numbers
 use Rattle.hir_type_result.proofs.Numbers.{of_arg_lists, of_walk, of_reading, of_read}
 use Rattle.hir_type_result.proofs.Adding.{Numbers, none, Adds, adds_pure, adds_then, adds_beside, adds_from, adds_type, adds_unnamed}
-use Rattle.hir_type_result.proofs.Adding.{adds_lifetime}
+use Rattle.hir_type_result.proofs.Adding.{Quiet, adds_lifetime}
 
 -- what each kind of answer names
 
 abbrev pub a_type : TypeRefId → Numbers
 a_type i f = f i
 
-abbrev maybe_type : Option TypeRefId → Numbers
+abbrev pub maybe_type : Option TypeRefId → Numbers
 maybe_type i f = of_present f i
 
-abbrev types : List TypeRefId → Numbers
+abbrev pub types : List TypeRefId → Numbers
 types is f = of_each f is
 
-abbrev bounds : List TypeBound → Numbers
+abbrev pub bounds : List TypeBound → Numbers
 bounds bs f = of_each (of_bound f) bs
 
 abbrev pub arguments : Option GenericArgs → Numbers
 arguments a f = of_present (of_args f) a
 
-abbrev lists : ArgLists → Numbers
+abbrev pub lists : ArgLists → Numbers
 lists l f = of_arg_lists f l
 
 abbrev pub maybe_path : Option HirPath → Numbers
 maybe_path p f = of_read f p
 
-abbrev walk : PathWalk → Numbers
+abbrev pub walk : PathWalk → Numbers
 walk w f = of_walk f w
 
-abbrev reading : Reading → Numbers
+abbrev pub reading : Reading → Numbers
 reading r f = of_reading f r
 
 -- with as much beside it
-abbrev beside : Numbers → Numbers → Numbers
+abbrev pub beside : Numbers → Numbers → Numbers
 beside more now f = more f ++ now f
 
 -- lifetimes name no type
 
-lifetime_adds : {was : Numbers} (l : Lifetime) → Correct (lower_lifetime l) (Adds was (λ i. was))
+pub lifetime_adds : {was : Numbers} (l : Lifetime) → Correct (lower_lifetime l) (Adds was (λ i. was))
 unfolding lower_lifetime
 lifetime_adds l = adds_lifetime _ _
 
-lifetime_option_adds : {was : Numbers} (l : Option Lifetime) → Correct (lower_lifetime_option l) (Adds was (λ i. was))
+pub lifetime_option_adds : {was : Numbers} (l : Option Lifetime) → Correct (lower_lifetime_option l) (Adds was (λ i. was))
 lifetime_option_adds None = adds_pure None (λ f k. omega arith)
 lifetime_option_adds (Some l) = adds_then (lifetime_adds l) (λ i. adds_pure (Some i) (λ f k. omega arith))
 
-use_adds : (u : UseRead) → Correct (lower_use u) (Adds none (λ i. none))
+pub use_adds : (u : UseRead) → Correct (lower_use u) (Adds none (λ i. none))
 use_adds (tree.used_name n) = adds_pure _ (λ f k. omega arith)
 use_adds (tree.used_lifetime l) = adds_then (lifetime_adds l) (λ i. adds_pure _ (λ f k. omega arith))
 
-uses_add : (done : List UseArgRef) (us : List UseRead) → Correct (lower_uses done us) (Adds none (λ i. none))
+pub uses_add : (done : List UseArgRef) (us : List UseRead) → Correct (lower_uses done us) (Adds none (λ i. none))
 uses_add done [] = adds_pure done (λ f k. omega arith)
 uses_add done (u ∷ us) = adds_then (use_adds u) (λ x. uses_add _ us)
 
 -- types
 
-leaf_below : (form : TypeLeaf) (f : TypeRefId → List ℕ) → below f (stored_leaf_type form) ⊑ []
+pub leaf_below : (form : TypeLeaf) (f : TypeRefId → List ℕ) → below f (stored_leaf_type form) ⊑ []
 leaf_below tree.never_leaf f k = omega arith
 leaf_below tree.infer_leaf f k = omega arith
 
-over_below : (form : TypeUnary) (t : TypeRefId) (f : TypeRefId → List ℕ) → below f (stored_over_type form t) ⊑ f t
+pub over_below : (form : TypeUnary) (t : TypeRefId) (f : TypeRefId → List ℕ) → below f (stored_over_type form t) ⊑ f t
 over_below (tree.pointer_to mutability) t f k = omega arith
 over_below tree.slice_of t f k = omega arith
 
-path_below : (p : Option HirPath) (f : TypeRefId → List ℕ) → below f (path_or_error p) ⊑ of_read f p
+pub path_below : (p : Option HirPath) (f : TypeRefId → List ℕ) → below f (path_or_error p) ⊑ of_read f p
 path_below None f k = omega arith
 path_below (Some p) f k = omega arith
 
-impl_below : (mode : ImplTrait) (bs : List TypeBound) (f : TypeRefId → List ℕ) → below f (stored_impl mode bs) ⊑ of_each (of_bound f) bs
+pub impl_below : (mode : ImplTrait) (bs : List TypeBound) (f : TypeRefId → List ℕ) → below f (stored_impl mode bs) ⊑ of_each (of_bound f) bs
 impl_below becomes.Error bs f k = omega arith
 impl_below becomes.Opaque bs f k = omega arith
 
-error_adds : Correct error_type (Adds none a_type)
+pub error_adds : Correct error_type (Adds none a_type)
 unfolding error_type
 error_adds = adds_type ty.Error None (λ f k. omega arith)
 
-unit_adds : Correct unit_type (Adds none a_type)
+pub unit_adds : Correct unit_type (Adds none a_type)
 unfolding unit_type
 unit_adds = adds_type (ty.Tuple []) None (λ f k. omega arith)
 
 module _ (at : Pointer) where
-  over_adds : (form : TypeUnary) {t : TypeSteps} → Correct t (Adds none a_type) → Correct (over_form at form t) (Adds none a_type)
+  pub over_adds : (form : TypeUnary) {t : TypeSteps} → Correct t (Adds none a_type) → Correct (over_form at form t) (Adds none a_type)
   unfolding over_form
   over_adds form h = adds_then h (λ t. adds_type _ (Some at) (over_below form t))
 
-  tuple_adds : {ts : Lowering (List TypeRefId)} → Correct ts (Adds none types) → Correct (tuple_type_form at ts) (Adds none a_type)
+  pub array_adds : {n : Lowering ConstRef} {t : TypeSteps} → Correct n Quiet → Correct t (Adds none a_type)
+      → Correct (array_type_form at n t) (Adds none a_type)
+  unfolding array_type_form
+  array_adds h k = adds_then h (λ n. adds_then k (λ t. adds_type _ (Some at) (λ f k. omega arith)))
+
+  pub tuple_adds : {ts : Lowering (List TypeRefId)} → Correct ts (Adds none types) → Correct (tuple_type_form at ts) (Adds none a_type)
   unfolding tuple_type_form
   tuple_adds h = adds_then h (λ ts. adds_type _ (Some at) (λ f k. omega arith))
 
-  path_type_adds : {p : Lowering (Option HirPath)} → Correct p (Adds none maybe_path) → Correct (path_type_form at p) (Adds none a_type)
+  pub path_type_adds : {p : Lowering (Option HirPath)} → Correct p (Adds none maybe_path) → Correct (path_type_form at p) (Adds none a_type)
   unfolding path_type_form
   path_type_adds h = adds_then h (λ p. adds_type _ (Some at) (path_below p))
 
-  ref_adds : (mutability : Mutability) (l : Option Lifetime) {t : TypeSteps} → Correct t (Adds none a_type)
+  pub ref_adds : (mutability : Mutability) (l : Option Lifetime) {t : TypeSteps} → Correct t (Adds none a_type)
       → Correct (ref_type_form at mutability t (lower_lifetime_option l)) (Adds none a_type)
   unfolding ref_type_form
   ref_adds mutability l h = adds_then h (λ t. adds_then (lifetime_option_adds l) (λ i. adds_type _ (Some at) (λ f k. omega arith)))
 
-  fn_adds : (binder : Option Binder) (head : FnHead) {ts : Lowering (List TypeRefId)} {r : TypeSteps}
+  pub fn_adds : (binder : Option Binder) (head : FnHead) {ts : Lowering (List TypeRefId)} {r : TypeSteps}
       → Correct ts (Adds none types) → Correct r (Adds none a_type) → Correct (fn_type_form at binder head ts r) (Adds none a_type)
   unfolding fn_type_form
   fn_adds binder head h k = adds_then k (λ r. adds_then (adds_beside (a_type r) h) (λ ts. adds_type _ (Some at) (λ f k.
       let e = numbers.each_push f ts r k in let s = times_append k (f r) (of_each f ts) in omega arith)))
 
-  impl_adds : (mode : ImplTrait) {bs : Lowering (List TypeBound)} → Correct bs (Adds none bounds)
+  pub impl_adds : (mode : ImplTrait) {bs : Lowering (List TypeBound)} → Correct bs (Adds none bounds)
       → Correct (impl_type_form at mode bs) (Adds none a_type)
   unfolding impl_type_form
   impl_adds mode h = adds_then h (λ bs. adds_type _ (Some at) (impl_below mode bs))
 
-  dyn_adds : {bs : Lowering (List TypeBound)} → Correct bs (Adds none bounds) → Correct (dyn_type_form at bs) (Adds none a_type)
+  pub dyn_adds : {bs : Lowering (List TypeBound)} → Correct bs (Adds none bounds) → Correct (dyn_type_form at bs) (Adds none a_type)
   unfolding dyn_type_form
   dyn_adds h = adds_then h (λ bs. adds_type _ (Some at) (λ f k. omega arith))
 
-  bound_of_adds : (maybe : Bool) (binder : Binder) (p : Option HirPath)
+  pub bound_of_adds : (maybe : Bool) (binder : Binder) (p : Option HirPath)
       → Correct (path_bound_of at maybe binder p) (Adds (maybe_path p) (λ b f. of_bound f b))
   bound_of_adds maybe binder None = adds_pure _ (λ f k. omega arith)
   bound_of_adds maybe binder (Some p) = adds_then (adds_type (ty.Path p) (Some at) (λ f k. omega arith))
       (λ i. adds_pure _ (λ f. numbers.path_bound_less f maybe binder i))
 
-  path_bound_adds : (maybe : Bool) (binder : Binder) {p : Lowering (Option HirPath)} → Correct p (Adds none maybe_path)
+  pub path_bound_adds : (maybe : Bool) (binder : Binder) {p : Lowering (Option HirPath)} → Correct p (Adds none maybe_path)
       → Correct (path_bound_form at maybe binder p) (Adds none (λ b f. of_bound f b))
   unfolding path_bound_form
   path_bound_adds maybe binder h = adds_then h (λ p. bound_of_adds maybe binder p)
 
 -- paths
 
-proceed_adds : (r : Reading) {f : PathWalk → Lowering Reading} → ((w : PathWalk) → Correct (f w) (Adds (walk w) reading))
+pub proceed_adds : (r : Reading) {f : PathWalk → Lowering Reading} → ((w : PathWalk) → Correct (f w) (Adds (walk w) reading))
     → Correct (proceed r f) (Adds (reading r) reading)
 proceed_adds Refused h = adds_pure Refused (λ f k. omega arith)
 proceed_adds (Ended w) h = adds_pure (Ended w) (λ f k. omega arith)
 proceed_adds (Open w) h = h w
 
-whole_adds : {was : Numbers} {p : Lowering Reading} {f : PathWalk → Lowering Reading} → Correct p (Adds was reading)
+pub whole_adds : {was : Numbers} {p : Lowering Reading} {f : PathWalk → Lowering Reading} → Correct p (Adds was reading)
     → ((w : PathWalk) → Correct (f w) (Adds (walk w) reading)) → Correct (whole p f) (Adds was reading)
 unfolding whole
 whole_adds h k = adds_then h (λ r. proceed_adds r k)
 
-super_adds : (w : PathWalk) → Correct (counted (super_read w)) (Adds (walk w) reading)
+pub super_adds : (w : PathWalk) → Correct (counted (super_read w)) (Adds (walk w) reading)
 super_adds w = go (one_more_super w.kind)
   where
     go : (o : Option PathKind) → Correct (counted (option_map (λ k. Open (record w { kind = k })) o)) (Adds (walk w) reading)
     go None = correct_count_out _
     go (Some k) = adds_pure _ (λ f n. omega arith)
 
-self_adds : (w : PathWalk) → Correct (pure (self_read w)) (Adds (walk w) reading)
+pub self_adds : (w : PathWalk) → Correct (pure (self_read w)) (Adds (walk w) reading)
 self_adds w = adds_pure _ (λ f k. either (λ r. times k (of_reading f r) ≤ times k (of_walk f w)) (no_names w.names)
     (omega arith) (omega arith))
 
-at_first_adds : {p : Lowering Reading} (leading : Bool) (w : PathWalk) → Correct p (Adds (walk (at_first leading w)) reading)
+pub at_first_adds : {p : Lowering Reading} (leading : Bool) (w : PathWalk) → Correct p (Adds (walk (at_first leading w)) reading)
     → Correct p (Adds (walk w) reading)
 at_first_adds leading w h = adds_from (λ f. numbers.at_first_less f leading w) h
 
-bare_adds : (n : Name) (w : PathWalk) → Correct (pure (named n None w)) (Adds (walk w) reading)
+pub bare_adds : (n : Name) (w : PathWalk) → Correct (pure (named n None w)) (Adds (walk w) reading)
 bare_adds n w = adds_pure _ (λ f. numbers.bare_less f n w)
 
-trait_adds : (t : TypeRefId) (at : Pointer) (w : PathWalk) (p : Option HirPath)
+pub trait_adds : (t : TypeRefId) (at : Pointer) (w : PathWalk) (p : Option HirPath)
     → Correct (read_trait t at w p) (Adds (beside (beside (walk w) (a_type t)) (maybe_path p)) reading)
 trait_adds t at w None = adds_pure Refused (λ f k. omega arith)
 trait_adds t at w (Some p) = adds_then (adds_unnamed (ty.Path p) (Some at)) (λ i. adds_pure _ (λ f. numbers.projected_less f t p w))
 
-with_trait_adds : (t : TypeRefId) (at : Pointer) (w : PathWalk) {p : Lowering (Option HirPath)} → Correct p (Adds none maybe_path)
+pub with_trait_adds : (t : TypeRefId) (at : Pointer) (w : PathWalk) {p : Lowering (Option HirPath)} → Correct p (Adds none maybe_path)
     → Correct (with_trait p t at w) (Adds (beside (walk w) (a_type t)) reading)
 unfolding with_trait
 with_trait_adds t at w h = adds_then (adds_beside (beside (walk w) (a_type t)) h) (λ p. trait_adds t at w p)
 
 -- arguments
 
-parens_form_adds : {ts : Lowering (List TypeRefId)} {r : TypeSteps} → Correct ts (Adds none types) → Correct r (Adds none a_type)
+pub parens_form_adds : {ts : Lowering (List TypeRefId)} {r : TypeSteps} → Correct ts (Adds none types) → Correct r (Adds none a_type)
     → Correct (parens_form ts r) (Adds none arguments)
 unfolding parens_form
 parens_form_adds h k = adds_then h (λ ts. adds_then (adds_type (ty.Tuple ts) None (λ f k. omega arith))
     (λ t. adds_then (adds_beside (a_type t) k) (λ o. adds_pure _ (λ f. numbers.sugared_less f t o))))
 
-or_else_adds : (a : Option GenericArgs) {next : Lowering (Option GenericArgs)} → Correct next (Adds none arguments)
+pub or_else_adds : (a : Option GenericArgs) {next : Lowering (Option GenericArgs)} → Correct next (Adds none arguments)
     → Correct (or_else a next) (Adds (arguments a) arguments)
 or_else_adds None h = h
 or_else_adds (Some a) h = adds_pure (Some a) (λ f k. omega arith)
 
-args_form_adds : {as' ps : Lowering (Option GenericArgs)} → Correct as' (Adds none arguments) → Correct ps (Adds none arguments)
+pub args_form_adds : {as' ps : Lowering (Option GenericArgs)} → Correct as' (Adds none arguments) → Correct ps (Adds none arguments)
     → (dots : Bool) → Correct (segment_args_form as' ps dots) (Adds none arguments)
 unfolding segment_args_form
 args_form_adds h k dots = adds_then h (λ a. adds_then (or_else_adds a k) (λ p. adds_pure _ (λ f. numbers.notation_less f p dots)))
 
-binding_adds : (name : Name) (dots : Bool) {a : Lowering (Option GenericArgs)} {t : Lowering (Option TypeRefId)}
+pub binding_adds : (name : Name) (dots : Bool) {a : Lowering (Option GenericArgs)} {t : Lowering (Option TypeRefId)}
     {bs : Lowering (List TypeBound)} → Correct a (Adds none arguments) → Correct t (Adds none maybe_type) → Correct bs (Adds none bounds)
     → Correct (binding_form name dots a t bs) (Adds none (λ b f. of_binding f b))
 unfolding binding_form
@@ -233,120 +232,12 @@ binding_adds name dots ha ht hb = adds_then ha (λ a. adds_then (adds_beside (ar
 -- lists that grow
 
 module _ {A : Type 0} (names : (TypeRefId → List ℕ) → A → List ℕ) where
-  none_more : (done : List A) → Correct (pure done) (Adds (λ f. of_each (names f) done) (λ as' f. of_each (names f) as'))
+  pub none_more : (done : List A) → Correct (pure done) (Adds (λ f. of_each (names f) done) (λ as' f. of_each (names f) as'))
   none_more done = adds_pure done (λ f k. omega arith)
 
-  one_more : {p : Lowering A} {q : List A → Lowering (List A)} → Correct p (Adds none (λ a f. names f a))
+  pub one_more : {p : Lowering A} {q : List A → Lowering (List A)} → Correct p (Adds none (λ a f. names f a))
       → ((done : List A) → Correct (q done) (Adds (λ f. of_each (names f) done) (λ as' f. of_each (names f) as')))
       → (done : List A) → Correct (p >>= (λ a. q (done ++ a ∷ []))) (Adds (λ f. of_each (names f) done) (λ as' f. of_each (names f) as'))
   one_more h k done = adds_then (adds_beside (λ f. of_each (names f) done) h) (λ a. adds_from
       (λ f n. let e = numbers.each_push (names f) done a n in let s = times_append n (of_each (names f) done) (names f a) in omega arith)
       (k (done ++ a ∷ [])))
-
--- a tree
-
-mutual
-  type_adds : (b : Option Binder) (t : Type_) → Correct (lower_type b t) (Adds none a_type)
-  type_adds b (tree.paren_type t) = part_adds b t
-  type_adds b (tree.for_type names t) = part_adds (Some names) t
-  type_adds b (tree.leaf_type at form) = adds_type _ (Some at) (leaf_below form)
-  type_adds b (tree.over_type at form t) = over_adds at form (part_adds None t)
-  type_adds b (tree.tuple_type at ts) = tuple_adds at (parts_add [] ts)
-  type_adds b (tree.path_type at p) = path_type_adds at (path_adds p)
-  type_adds b (tree.ref_type at l mutability t) = ref_adds at mutability l (part_adds None t)
-  type_adds b (tree.fn_type at head ts r) = fn_adds at b head (parts_add [] ts) (or_unit_adds r)
-  type_adds b (tree.impl_type at mode bs) = impl_adds at mode (bounds_add [] bs)
-  type_adds b (tree.nested_impl at) = adds_type _ (Some at) (λ f k. omega arith)
-  type_adds b (tree.dyn_type at bs) = dyn_adds at (bounds_add [] bs)
-
-  pub part_adds : (b : Option Binder) (t : OptionType) → Correct (type_part b t) (Adds none a_type)
-  part_adds b tree.no_type = error_adds
-  part_adds b (tree.some_type t) = type_adds b t
-
-  present_adds : (t : OptionType) → Correct (present_type t) (Adds none maybe_type)
-  present_adds tree.no_type = adds_pure None (λ f k. omega arith)
-  present_adds (tree.some_type t) = adds_then (type_adds None t) (λ i. adds_pure (Some i) (λ f k. omega arith))
-
-  or_unit_adds : (t : OptionType) → Correct (type_or_unit t) (Adds none a_type)
-  or_unit_adds tree.no_type = unit_adds
-  or_unit_adds (tree.some_type t) = type_adds None t
-
-  parts_add : (done : List TypeRefId) (ts : Parts) → Correct (lower_parts done ts) (Adds (types done) types)
-  parts_add done tree.no_parts = none_more (λ f. f) done
-  parts_add done (tree.more_parts t ts) = one_more (λ f. f) (part_adds None t) (λ xs. parts_add xs ts) done
-
-  segment_adds : (first : Bool) (s : Segment) (w : PathWalk) → Correct (read_segment first s w) (Adds (walk w) reading)
-  segment_adds first tree.absent_segment w = bare_adds _ w
-  segment_adds first tree.broken_segment w = adds_pure _ (λ f k. omega arith)
-  segment_adds first (tree.name_segment n as') w = adds_then (adds_beside (walk w) (segment_args_add as'))
-      (λ a. adds_pure _ (λ f. numbers.named_less f n a w))
-  segment_adds first tree.self_type_segment w = bare_adds _ w
-  segment_adds false tree.crate_segment w = adds_pure _ (λ f k. omega arith)
-  segment_adds true tree.crate_segment w = adds_pure _ (λ f k. omega arith)
-  segment_adds false (tree.dollar_crate_segment root) w = adds_pure _ (λ f k. omega arith)
-  segment_adds true (tree.dollar_crate_segment root) w = adds_pure _ (λ f k. omega arith)
-  segment_adds false tree.self_segment w = adds_pure _ (λ f k. omega arith)
-  segment_adds true tree.self_segment w = self_adds w
-  segment_adds first tree.super_segment w = super_adds w
-  segment_adds false (tree.type_segment t) w = adds_pure _ (λ f k. omega arith)
-  segment_adds true (tree.type_segment t) w = adds_then (adds_beside (walk w) (type_adds None t))
-      (λ i. adds_pure _ (λ f. numbers.anchored_less f i w))
-  segment_adds false (tree.trait_segment t at p) w = adds_pure _ (λ f k. omega arith)
-  segment_adds true (tree.trait_segment t at p) w = adds_then (adds_beside (walk w) (type_adds None t))
-      (λ i. with_trait_adds i at w (path_adds p))
-
-  each_adds : (ss : Segments) (w : PathWalk) → Correct (read_each ss w) (Adds (walk w) reading)
-  each_adds tree.no_segments w = adds_pure (Open w) (λ f k. omega arith)
-  each_adds (tree.more_segments s ss) w = adds_then (each_adds ss w) (λ r. proceed_adds r (λ v. segment_adds false s v))
-
-  reading_adds : (p : Path) (w : PathWalk) → Correct (read_path p w) (Adds (walk w) reading)
-  reading_adds (tree.path leading first rest use_) w =
-      whole_adds (adds_then (each_adds rest w)
-      (λ r. proceed_adds r (λ v. at_first_adds leading v (segment_adds true first (at_first leading v)))))
-      (λ v. option_adds use_ v)
-
-  option_adds : (p : OptionPath) (w : PathWalk) → Correct (read_option p w) (Adds (walk w) reading)
-  option_adds tree.no_path w = adds_pure (Open w) (λ f k. omega arith)
-  option_adds (tree.some_path p) w = reading_adds p w
-
-  pub path_adds : (p : OptionPath) → Correct (lower_path p) (Adds none maybe_path)
-  path_adds tree.no_path = adds_pure None (λ f k. omega arith)
-  path_adds (tree.some_path p) = adds_then (reading_adds p start) (λ r. adds_pure (path_read r) (λ f. numbers.path_read_less f r))
-
-  segment_args_add : (as' : SegmentArgs) → Correct (lower_segment_args as') (Adds none arguments)
-  segment_args_add (tree.segment_args as' ps dots) = args_form_adds (args_add as') (parens_add ps) dots
-
-  parens_add : (ps : OptionParens) → Correct (parens_part ps) (Adds none arguments)
-  parens_add tree.no_parens = adds_pure None (λ f k. omega arith)
-  parens_add (tree.some_parens ts r) = parens_form_adds (parts_add [] ts) (output_adds r)
-
-  output_adds : (r : OptionRet) → Correct (output_part r) (Adds none a_type)
-  output_adds tree.no_ret = unit_adds
-  output_adds (tree.some_ret t) = part_adds None t
-
-  pub args_add : (as' : OptionArgs) → Correct (args_part as') (Adds none arguments)
-  args_add tree.no_arg_list = adds_pure None (λ f k. omega arith)
-  args_add (tree.some_arg_list as') = adds_then (each_arg_adds no_lists as') (λ l. adds_pure _ (λ f. numbers.yielded_less f l))
-
-  each_arg_adds : (l : ArgLists) (as' : Args) → Correct (lower_args l as') (Adds (lists l) lists)
-  each_arg_adds l tree.no_args = adds_pure l (λ f k. omega arith)
-  each_arg_adds l (tree.more_args a as') = adds_then (arg_adds l a) (λ m. each_arg_adds m as')
-
-  arg_adds : (l : ArgLists) (a : Arg) → Correct (lower_arg l a) (Adds (lists l) lists)
-  arg_adds l tree.skipped_arg = adds_pure l (λ f k. omega arith)
-  arg_adds l (tree.type_arg t) = adds_then (adds_beside (lists l) (part_adds None t))
-      (λ i. adds_pure _ (λ f. numbers.arg_added f l (arg.Type_ i)))
-  arg_adds l (tree.lifetime_arg x) = adds_then (lifetime_adds x) (λ i. adds_pure _ (λ f. numbers.lifetime_added f l i))
-  arg_adds l (tree.assoc_arg name as' dots t bs) = adds_then (adds_beside (lists l)
-      (binding_adds name dots (args_add as') (present_adds t) (bounds_add [] bs)))
-      (λ b. adds_pure _ (λ f. numbers.binding_added f l b))
-
-  bounds_add : (done : List TypeBound) (bs : Bounds) → Correct (lower_bounds done bs) (Adds (bounds done) bounds)
-  bounds_add done tree.no_bounds = none_more (λ f b. of_bound f b) done
-  bounds_add done (tree.more_bounds b bs) = one_more (λ f b. of_bound f b) (bound_adds b) (λ xs. bounds_add xs bs) done
-
-  bound_adds : (b : Bound) → Correct (lower_bound b) (Adds none (λ b f. of_bound f b))
-  bound_adds tree.error_bound = adds_pure _ (λ f k. omega arith)
-  bound_adds (tree.path_bound at p maybe binder) = path_bound_adds at maybe binder (path_adds p)
-  bound_adds (tree.lifetime_bound l) = adds_then (lifetime_adds l) (λ i. adds_pure _ (λ f k. omega arith))
-  bound_adds (tree.use_bound us) = adds_then (uses_add [] us) (λ xs. adds_pure _ (λ f k. omega arith))

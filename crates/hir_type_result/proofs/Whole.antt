@@ -1,19 +1,26 @@
 -- What is stored where one type was lowered is one result of its tree.
-use Rattle.std.proofs.Common.{arith, refl, ap, subst, ℕ, None, Ok, inl, inr}
+use Rattle.std.proofs.Common.{arith, refl, sym, subst, ℕ, ◌≤◌, length, [], None, IsPermutation}
+use Rattle.hir_store.specs.Stored.{store_of, map_of}
 use Rattle.hir_store.proofs.Maps.{maps_back_none}
 use Rattle.hir_store.proofs.Range.{extends_refl}
 use Rattle.hir_lower_form.specs.Builder.{fresh}
 use Rattle.hir_read_back.proofs.Now.{type_law}
-use Rattle.hir_steps.specs.Keeps.{Paired, Mapped, KeepsAll, StaysAside, KeepsAside}
-use Rattle.hir_steps.proofs.Aside.{types_keep}
+use Rattle.hir_steps.specs.Keeps.{Paired, Mapped, Keeps, KeepsAll}
+use Rattle.hir_steps.proofs.Keeping.{types_keep}
+use Rattle.hir_one_result.specs.Diagnostics.{type_part_faults}
 use Rattle.hir_one_result.specs.Laws.{Grown, GrownUnless}
-use Rattle.hir_one_result.specs.PathRoom.{type_part_size}
-use Rattle.hir_one_result.specs.Room.{Short}
+use Rattle.hir_one_result.specs.Room.{type_part_size}
 use Rattle.hir_one_result.proofs.Fits.{types_fit}
+use Rattle.hir_one_result.proofs.Leading.{leads_nowhere}
+use Rattle.hir_one_result.proofs.TreeBlocks.{type_enters}
+use Rattle.hir_one_result.proofs.TreeFaults.{type_reports}
+use Rattle.hir_one_result.proofs.TreeStands.{type_left}
 use Rattle.hir_one_result.proofs.Whole.{lead_back}
-use Rattle.hir_type_result.specs.TypeResult.{TypeResults, RefusedTypes, TypeTooLarge}
-use Rattle.hir_type_result.proofs.Once.{reached_once}
-use Rattle.hir_type_result.proofs.Refused.{part_aside}
+use Rattle.hir_type_result.specs.Roots.{RootsAre, last_end}
+use Rattle.hir_type_result.specs.TypeResult.{TypeResults, RefusedTypes}
+use Rattle.hir_type_result.proofs.Behind.{blocks_behind, faults_behind, type_roots, ways_behind}
+use Rattle.hir_type_result.proofs.Inside.{type_inside}
+use Rattle.hir_type_result.proofs.Named.{types_once}
 
 nothing_paired : (limit : ℕ) → Paired (fresh limit).stored
 nothing_paired limit = record { exprs = refl; labels = refl; types = refl; lifetimes = refl }
@@ -25,44 +32,41 @@ pub type_results : TypeResults
 type_results limit t i new is =
     let old = fresh limit in
     let none = nothing_paired limit in
-    let keeps : KeepsAside old (Ok i) new = subst (λ r. KeepsAside old r.0 r.1) is (types_keep None t old none) in
-    let kept : KeepsAll old new = keeps.0 in
-    let aside : StaysAside old.stored new.stored = keeps.1 in
+    let kept : KeepsAll old new = subst (λ r. Keeps old r.0 r.1) is (types_keep None t old) in
     let paired = kept.paired none in
     let mapped = kept.mapped none (nothing_mapped limit) in
     let fits : Grown (type_part_size t) old.stored new.stored =
     subst (λ r. GrownUnless (type_part_size t) old.stored r.0 r.1.stored) is (types_fit None t old) in
-    let stays = extends_refl new.stored in record {
+    let stays = extends_refl new.stored in
+    let left = ways_behind old new i none is (type_left None t) new.stored stays in
+    let rooted = type_roots None t old new i none is new.stored stays in
+    let faults = faults_behind old new i none is (type_reports None t) [] refl in record {
       reads_back = type_law t old new i none is new.stored stays;
+      inner = rooted.1;
+      exprs = let n = fits.exprs in omega arith;
+      labels = let n = fits.labels in omega arith;
       types = let n = fits.types in omega arith;
       lifetimes = let n = fits.lifetimes in omega arith;
+      expr_sources = paired.exprs;
+      label_sources = paired.labels;
       type_sources = fits.type_sources;
       lifetime_sources = fits.lifetime_sources;
       type_ways = lead_back (λ i. i.0) new.stored.types mapped.types;
       lifetime_ways = lead_back (λ i. i.0) new.stored.lifetimes mapped.lifetimes;
-      reached_once = reached_once None t old new i none is new.stored stays;
-      alone = record {
-        exprs = ap (λ a. a.entries) aside.exprs;
-        labels = ap (λ a. a.entries) aside.labels;
-        roots = kept.roots;
-        expr_sources = ap (λ a. a.sources) aside.exprs;
-        label_sources = ap (λ a. a.sources) aside.labels;
-        expr_ways = ap (λ a. a.map) aside.exprs;
-        label_ways = ap (λ a. a.map) aside.labels;
-        field_ways = aside.field_map_back;
-        blocks = aside.block_scopes;
-        faults = aside.diagnostics;
-      };
+      ways = left.ways;
+      stands = left.shown;
+      covers = left.moved.covers;
+      covers_labels = left.moved.covers_labels;
+      leads = left.moved.led [] (leads_nowhere refl refl refl);
+      reached_once = types_once None t old new i none is new.stored stays;
+      inside_reached_once = type_inside None t old new i none is new.stored stays;
+      roots = let r = rooted.0 in
+          subst (λ rs. RootsAre (store_of new.stored) (map_of new.stored) [] 0 rs (type_part_size t).constants) (sym r.is) r.each;
+      roots_end = let r = rooted.0 in subst (λ rs. last_end 0 rs ≤ length new.stored.exprs.entries) (sym r.is) r.ends;
+      blocks = blocks_behind old new i none is (type_enters None t);
+      faults = subst (IsPermutation (type_part_faults [] t)) (sym faults.is) faults.like;
     }
 
 pub refused_types : RefusedTypes
 refused_types limit t fault new is =
-    let old = fresh limit in
-    by (subst (λ r. GrownUnless (type_part_size t) old.stored r.0 r.1.stored) is (types_fit None t old))
-  where
-    by : Short (type_part_size t) (fresh limit).stored → TypeTooLarge limit t
-    by (inl exprs) = let none = (part_aside t).exprs in absurd (omega arith)
-    by (inr (inl labels)) = let none = (part_aside t).labels in absurd (omega arith)
-    by (inr (inr (inl types))) = inl (omega (arith, types))
-    by (inr (inr (inr (inl lifetimes)))) = inr (inl (omega (arith, lifetimes)))
-    by (inr (inr (inr (inr over)))) = inr (inr over)
+    let old = fresh limit in subst (λ r. GrownUnless (type_part_size t) old.stored r.0 r.1.stored) is (types_fit None t old)

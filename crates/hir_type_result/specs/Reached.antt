@@ -33,12 +33,13 @@ abbrev pub joined : List (List ℕ) → List ℕ
 joined [] = []
 joined (ks ∷ kss) = ks ++ joined kss
 
--- the numbers that are reached, one for each way
+-- the numbers that are reached, one for each way; what the expressions of constants name isn't reached through the type
 
 module _ (f : TypeRefId → List ℕ) where
   abbrev pub of_arg : GenericArg → List ℕ
   of_arg (arg.Type_ t) = f t
   of_arg (arg.Lifetime l) = []
+  of_arg (arg.Const c) = []
 
   abbrev pub of_bound : TypeBound → List ℕ
   of_bound (bound.Path t modifier) = f t
@@ -76,6 +77,7 @@ module _ (f : TypeRefId → List ℕ) where
   below (ty.Path p) = of_path p
   below (ty.RawPtr t mutability) = f t
   below (ty.Reference r) = f r.ty
+  below (ty.Array a) = f a.ty
   below (ty.Slice t) = f t
   below (ty.Fn g) = of_each f g.params
   below (ty.ImplTrait bounds) = of_each of_bound bounds

@@ -5,6 +5,8 @@
 ghost use Rattle.hir_type_result.specs.TypeResult.{TypeResults, RefusedTypes};
 ghost use Rattle.hir_type_result.specs.Reached.{TypesReachedOnce};
 ghost use Rattle.hir_type_result.specs.Named.{ExprTypesReachedOnce, PathTypesReachedOnce};
+ghost use Rattle.hir_type_result.specs.Roots.{PathRoots, TypeRoots};
+ghost use Rattle.hir_type_result.specs.Inside.{InsideReachedOnce, TypeInsideReachedOnce, PathInsideReachedOnce};
 
 /// Each type that a lowered one reaches, through its parts, is one that its lowering stored, and is reached in one way.
 pub fn types_reached_once()
@@ -18,13 +20,32 @@ pub fn named_types_reached_once()
     ensures exprs { ExprTypesReachedOnce }
 {}
 
+/// Each expression that a lowered tree reaches, or that a constant inside it does, is one that its lowering stored, and is reached
+/// in one way by one of them. So it is of the constants inside a type or a path.
+pub fn inside_reached_once()
+    ensures exprs { InsideReachedOnce }
+    ensures types { TypeInsideReachedOnce }
+    ensures paths { PathInsideReachedOnce }
+{}
+
+/// Where no root is being lowered, each constant of a lowered type is recorded as one, in the order in which they are done, and
+/// does what the written one does; so does each that the type reaches.
+pub fn type_roots()
+    ensures { TypeRoots }
+{}
+
+/// So it is of a lowered path: the constants of a refused one are roots too, which nothing reaches.
+pub fn path_roots()
+    ensures { PathRoots }
+{}
+
 /// A type, lowered into an empty store, is one result of its tree.
 pub fn type_results()
     ensures { TypeResults }
 {}
 
 /// Lowering a type into an empty store is refused only where there is no room for as many types and lifetimes as are
-/// counted in it, or where a path counts further than is counted.
+/// counted in it, or for as many expressions and labels as are in its constants, or where a path counts further than is counted.
 pub fn refused_types()
     ensures { RefusedTypes }
 {}

@@ -231,6 +231,11 @@ row kind.RefType = record {
       ∷ (codes "ty" ∶ sort.Part group.Type_)
       ∷ [];
 }
+row kind.ArrayType = record {
+  word = codes "ArrayType";
+  groups = group.Type_ ∷ [];
+  fields = (codes "ty" ∶ sort.Part group.Type_) ∷ (codes "len" ∶ sort.Part group.ConstArg) ∷ [];
+}
 row kind.FnPtrType = record {
   word = codes "FnPtrType";
   groups = group.Type_ ∷ [];
@@ -304,6 +309,11 @@ row kind.LifetimeArg = record {
   word = codes "LifetimeArg";
   groups = group.GenericArg ∷ [];
   fields = (codes "lifetime" ∶ sort.Part group.Lifetime) ∷ [];
+}
+row kind.ConstArg = record {
+  word = codes "ConstArg";
+  groups = group.GenericArg ∷ group.ConstArg ∷ [];
+  fields = (codes "expr" ∶ sort.Part group.Expr) ∷ [];
 }
 row kind.ParenArgs = record {
   word = codes "ParenArgs";
@@ -386,9 +396,10 @@ keywords = kind.ReturnExpr ∷ kind.BecomeExpr ∷ kind.YieldExpr ∷ kind.YeetE
 abbrev pub typed : List Kind
 typed = kind.CastExpr ∷ kind.RecordExpr ∷ kind.OffsetOfExpr ∷ kind.RecordExprFieldList ∷ kind.RecordExprField ∷ []
 
--- types made of types, paths and lifetimes
+-- types made of types, paths, lifetimes and constants
 abbrev pub types : List Kind
-types = kind.ParenType ∷ kind.SliceType ∷ kind.TupleType ∷ kind.PathType ∷ kind.PtrType ∷ kind.RefType ∷ []
+types = kind.ParenType ∷ kind.SliceType ∷ kind.TupleType ∷ kind.PathType
+    ∷ kind.PtrType ∷ kind.RefType ∷ kind.ArrayType ∷ []
 
 -- types with parameters or bounds, and those that are a word
 abbrev pub other_types : List Kind
@@ -396,7 +407,8 @@ other_types = kind.FnPtrType ∷ kind.ForType ∷ kind.ImplTraitType ∷ kind.Dy
 
 -- paths, and what stands beside a name
 abbrev pub paths : List Kind
-paths = kind.Path ∷ kind.PathSegment ∷ kind.GenericArgList ∷ kind.TypeArg ∷ kind.AssocTypeArg ∷ kind.LifetimeArg ∷ []
+paths = kind.Path ∷ kind.PathSegment ∷ kind.GenericArgList ∷ kind.TypeArg
+    ∷ kind.AssocTypeArg ∷ kind.LifetimeArg ∷ kind.ConstArg ∷ []
 
 -- other parts of types
 abbrev pub type_parts : List Kind

@@ -14,6 +14,7 @@ pub enum Group {
     GenericArgs,
     GenericArg,
     TypeArg,
+    ConstArg,
     ParenArgs,
     Bound,
     UseArg,

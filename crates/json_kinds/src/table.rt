@@ -11,8 +11,9 @@ use crate::field::Sort::{
 };
 use crate::group::Group;
 use crate::group::Group::{
-    Binder, Block, Bound, Else, Expr, Fn, GenericArg, GenericArgs, Label, Lifetime, Name, Param,
-    ParenArgs, Path, PathType, RecordField, RecordList, Ret, Segment, Stmt, Type_, TypeArg, UseArg,
+    Binder, Block, Bound, ConstArg, Else, Expr, Fn, GenericArg, GenericArgs, Label, Lifetime, Name,
+    Param, ParenArgs, Path, PathType, RecordField, RecordList, Ret, Segment, Stmt, Type_, TypeArg,
+    UseArg,
 };
 use crate::kind::Kind;
 use crate::words::Words;
@@ -63,6 +64,7 @@ macro_rules! kinds {
             PathType [Type_ PathType] { "path": Part(Path) }
             PtrType [Type_] { "mut": Flag, "ty": Part(Type_) }
             RefType [Type_] { "lifetime": Part(Lifetime), "mut": Flag, "ty": Part(Type_) }
+            ArrayType [Type_] { "ty": Part(Type_), "len": Part(ConstArg) }
             FnPtrType [Type_] { "unsafe": Flag, "abi": TextIfThere, "params": List(Param), "ret": Part(Ret) }
             ForType [Type_] { "binder": Part(Binder), "ty": Part(Type_) }
             ImplTraitType [Type_] { "bounds": List(Bound) }
@@ -81,6 +83,7 @@ macro_rules! kinds {
                 "bounds": List(Bound)
             }
             LifetimeArg [GenericArg] { "lifetime": Part(Lifetime) }
+            ConstArg [GenericArg ConstArg] { "expr": Part(Expr) }
             ParenArgs [ParenArgs] { "args": List(TypeArg) }
             TypeBound [Bound] {
                 "b": WordIfThere(Words::Bounds), "ty": Part(PathType), "binder": Part(Binder), "maybe": Flag,
@@ -185,6 +188,7 @@ fn types(word: &str) -> Option<Kind>
         "PathType" => Some(Kind::PathType),
         "PtrType" => Some(Kind::PtrType),
         "RefType" => Some(Kind::RefType),
+        "ArrayType" => Some(Kind::ArrayType),
         _ => None,
     }
 }
@@ -213,6 +217,7 @@ fn paths(word: &str) -> Option<Kind>
         "TypeArg" => Some(Kind::TypeArg),
         "AssocTypeArg" => Some(Kind::AssocTypeArg),
         "LifetimeArg" => Some(Kind::LifetimeArg),
+        "ConstArg" => Some(Kind::ConstArg),
         _ => None,
     }
 }

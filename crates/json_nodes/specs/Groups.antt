@@ -6,6 +6,7 @@ use Rattle.hir_syntax.specs.declared.ast.ElseBranch.{ElseBranch}
 use Rattle.hir_syntax.specs.declared.ast.ElseBranch.TheVariants as branch
 use Rattle.hir_syntax.specs.declared.ast.BlockExpr.{BlockExpr, out-BlockExpr}
 use Rattle.hir_syntax.specs.declared.ast.Stmt.{Stmt}
+use Rattle.hir_syntax.specs.declared.ast.ConstArg.{ConstArg}
 use Rattle.hir_syntax.specs.declared.ast.Path.{Path}
 use Rattle.hir_syntax.specs.declared.ast.PathSegment.{PathSegment}
 use Rattle.hir_syntax.specs.declared.types.Type_.{Type_}
@@ -78,9 +79,15 @@ abbrev pub as_type_arg : AnyPart → Option TypeArg
 as_type_arg (part.TypeArg x) = Some x
 as_type_arg _ = None
 
+abbrev pub as_const_arg : AnyPart → Option ConstArg
+as_const_arg (part.ConstArg x) = Some x
+as_const_arg _ = None
+
+-- a type and a constant serve as arguments
 abbrev pub as_generic_arg : AnyPart → Option GenericArg
 as_generic_arg (part.GenericArg a) = Some a
 as_generic_arg (part.TypeArg a) = Some (arg.TypeArg a)
+as_generic_arg (part.ConstArg a) = Some (arg.ConstArg a)
 as_generic_arg _ = None
 
 abbrev pub as_paren_args : AnyPart → Option ParenArgs

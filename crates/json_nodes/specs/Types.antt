@@ -8,7 +8,7 @@ use Rattle.json_kinds.specs.ByWord.{or_else}
 use Rattle.json_kinds.specs.declared.kind.Kind.{Kind}
 use Rattle.json_kinds.specs.declared.kind.Kind.TheVariants as kind
 use Rattle.json_nodes.specs.Fields.{flag_of, text_in}
-use Rattle.json_nodes.specs.Groups.{as_type, as_path, as_lifetime, as_param, as_ret, as_binder, as_bound}
+use Rattle.json_nodes.specs.Groups.{as_type, as_path, as_lifetime, as_const_arg, as_param, as_ret, as_binder, as_bound}
 use Rattle.json_nodes.specs.Parts.{Here, part_in, list_in, list_if_there}
 use Rattle.json_nodes.specs.declared.part.AnyPart.{AnyPart}
 use Rattle.json_nodes.specs.declared.part.AnyPart.TheVariants as part
@@ -27,6 +27,9 @@ reference h = type_kinds.RefType
     (flag_of (get (codes "mut") h.value))
     (part_in h as_type (codes "ty"))
 
+unfoldable pub array : Here → TypeKind
+array h = type_kinds.ArrayType (part_in h as_type (codes "ty")) (part_in h as_const_arg (codes "len"))
+
 unfoldable pub function_pointer : Here → TypeKind
 function_pointer h = type_kinds.FnPtrType
     (flag_of (get (codes "unsafe") h.value))
@@ -40,6 +43,7 @@ under_binder h = type_kinds.ForType (part_in h as_binder (codes "binder")) (part
 -- what has a part of another group beside its type, or in its place
 abbrev pub beside_types : Here → Kind → Option TypeKind
 beside_types h kind.RefType = Some (reference h)
+beside_types h kind.ArrayType = Some (array h)
 beside_types h kind.FnPtrType = Some (function_pointer h)
 beside_types h kind.ForType = Some (under_binder h)
 beside_types h _ = None

@@ -9,8 +9,8 @@ use crate::node::{Node, ReadParts};
 use crate::part::AnyPart;
 use hir_syntax::Boxed;
 use hir_syntax::ast::{
-    AssocTypeArg, GenericArg, GenericArgList, Lifetime, LifetimeArg, Name, ParenArgs, Type_,
-    TypeArg, TypeBound,
+    AssocTypeArg, ConstArg, Expr, GenericArg, GenericArgList, Lifetime, LifetimeArg, Name,
+    ParenArgs, Type_, TypeArg, TypeBound,
 };
 use json_kinds::kind::Kind;
 use std::alloc::AllocError;
@@ -32,21 +32,12 @@ fn assoc_arg<P: ReadParts>(node: &Node<'_, P>) -> Result<AssocTypeArg, AllocErro
     })
 }
 
-/// An argument, or a list of some.
-#[tactic(auto, unfolding(crate::specs::Args::of_args))]
-pub fn of_args<P: ReadParts>(node: &Node<'_, P>, kind: Kind) -> Result<Option<AnyPart>, AllocError>
+#[tactic(auto, unfolding(crate::specs::Args::arg))]
+fn arg<P: ReadParts>(node: &Node<'_, P>, kind: Kind) -> Result<Option<AnyPart>, AllocError>
     requires { P.can node.now.parts.now }
-    ensures { IfOk result (λ part. part ≡ spec.of_args (here P.parts node.now) kind) }
+    ensures { IfOk result (λ part. part ≡ spec.arg (here P.parts node.now) kind) }
 {
     match kind {
-        Kind::GenericArgList => {
-            let args = GenericArgList {
-                id: node.id,
-                range: node.range,
-                args: node.list::<GenericArg>("args")?,
-            };
-            Ok(Some(AnyPart::GenericArgs(Boxed::new(node.alloc, args)?)))
-        }
         Kind::TypeArg => {
             let arg = TypeArg {
                 id: node.id,
@@ -67,6 +58,32 @@ pub fn of_args<P: ReadParts>(node: &Node<'_, P>, kind: Kind) -> Result<Option<An
             });
             Ok(Some(AnyPart::GenericArg(Boxed::new(node.alloc, arg)?)))
         }
+        Kind::ConstArg => {
+            let arg = ConstArg {
+                id: node.id,
+                range: node.range,
+                expr: node.boxed::<Expr>("expr")?,
+            };
+            Ok(Some(AnyPart::ConstArg(Boxed::new(node.alloc, arg)?)))
+        }
+        _ => Ok(None),
+    }
+}
+
+#[tactic(auto, unfolding(crate::specs::Args::arg_list))]
+fn arg_list<P: ReadParts>(node: &Node<'_, P>, kind: Kind) -> Result<Option<AnyPart>, AllocError>
+    requires { P.can node.now.parts.now }
+    ensures { IfOk result (λ part. part ≡ spec.arg_list (here P.parts node.now) kind) }
+{
+    match kind {
+        Kind::GenericArgList => {
+            let args = GenericArgList {
+                id: node.id,
+                range: node.range,
+                args: node.list::<GenericArg>("args")?,
+            };
+            Ok(Some(AnyPart::GenericArgs(Boxed::new(node.alloc, args)?)))
+        }
         Kind::ParenArgs => {
             let args = ParenArgs {
                 id: node.id,
@@ -77,4 +94,15 @@ pub fn of_args<P: ReadParts>(node: &Node<'_, P>, kind: Kind) -> Result<Option<An
         }
         _ => Ok(None),
     }
+}
+
+/// An argument, or a list of some.
+pub fn of_args<P: ReadParts>(node: &Node<'_, P>, kind: Kind) -> Result<Option<AnyPart>, AllocError>
+    requires { P.can node.now.parts.now }
+    ensures { IfOk result (λ part. part ≡ spec.of_args (here P.parts node.now) kind) }
+{
+    if let Some(part) = arg(node, kind)? {
+        return Ok(Some(part));
+    }
+    arg_list(node, kind)
 }

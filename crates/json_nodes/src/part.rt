@@ -2,15 +2,15 @@
 
 ghost use Rattle.std.specs.Prelude.{◌≡◌, IfOk, Option, Some};
 ghost use Rattle.json_nodes.specs.Groups.{as_expr, as_block, as_else, as_stmt, as_path, as_segment, as_label, as_lifetime, as_name};
-ghost use Rattle.json_nodes.specs.Groups.{as_type, as_path_type, as_generic_args, as_generic_arg, as_type_arg, as_paren_args};
+ghost use Rattle.json_nodes.specs.Groups.{as_type, as_path_type, as_generic_args, as_generic_arg, as_type_arg, as_const_arg, as_paren_args};
 ghost use Rattle.json_nodes.specs.Groups.{as_bound, as_use_arg, as_binder, as_ret, as_param, is_quoted};
 ghost use Rattle.json_nodes.specs.declared.part.AnyPart.TheVariants as any_part;
 ghost use Rattle.json_nodes.specs.Groups.{as_record_list, as_record_field};
 
 use hir_syntax::ast::{
-    BlockExpr, ElseBranch, Expr, ExprKind, ForBinder, GenericArg, GenericArgList, Label, Lifetime,
-    Name, Param, ParenArgs, Path, PathSegment, PathType, RecordExprField, RecordExprFieldList,
-    RetType, Stmt, Type_, TypeArg, TypeBound, TypeKind, UseArg,
+    BlockExpr, ConstArg, ElseBranch, Expr, ExprKind, ForBinder, GenericArg, GenericArgList, Label,
+    Lifetime, Name, Param, ParenArgs, Path, PathSegment, PathType, RecordExprField,
+    RecordExprFieldList, RetType, Stmt, Type_, TypeArg, TypeBound, TypeKind, UseArg,
 };
 use hir_syntax::node::{NodeId, TextRange};
 use hir_syntax::{Boxed, Text};
@@ -32,6 +32,8 @@ pub enum AnyPart {
     GenericArgs(Boxed<GenericArgList>),
     /// A type as an argument, which may also stand in parentheses.
     TypeArg(Boxed<TypeArg>),
+    /// A constant as an argument, which may also be the length of an array.
+    ConstArg(Boxed<ConstArg>),
     GenericArg(Boxed<GenericArg>),
     ParenArgs(Boxed<ParenArgs>),
     Bound(Boxed<TypeBound>),
@@ -60,6 +62,7 @@ impl Drop for AnyPart {
             AnyPart::PathType(_) => {}
             AnyPart::GenericArgs(_) => {}
             AnyPart::TypeArg(_) => {}
+            AnyPart::ConstArg(_) => {}
             AnyPart::GenericArg(_) => {}
             AnyPart::ParenArgs(_) => {}
             AnyPart::Bound(_) => {}
@@ -230,12 +233,25 @@ impl AnyPart {
         }
     }
 
+    fn into_const_arg(self) -> Option<ConstArg>
+        ensures { result ≡ as_const_arg self }
+    {
+        match self {
+            AnyPart::ConstArg(const_arg) => Some(const_arg.into_inner()),
+            other => {
+                drop(other);
+                None
+            }
+        }
+    }
+
     fn into_generic_arg(self) -> Option<GenericArg>
         ensures { result ≡ as_generic_arg self }
     {
         match self {
             AnyPart::GenericArg(arg) => Some(arg.into_inner()),
             AnyPart::TypeArg(arg) => Some(GenericArg::TypeArg(arg.into_inner())),
+            AnyPart::ConstArg(arg) => Some(GenericArg::ConstArg(arg.into_inner())),
             other => {
                 drop(other);
                 None
@@ -473,6 +489,14 @@ impl Part for TypeArg {
 
     fn from_part(_alloc: Global, part: AnyPart) -> Result<Option<TypeArg>, AllocError> {
         Ok(part.into_type_arg())
+    }
+}
+
+impl Part for ConstArg {
+    ghost as_group = { as_const_arg };
+
+    fn from_part(_alloc: Global, part: AnyPart) -> Result<Option<ConstArg>, AllocError> {
+        Ok(part.into_const_arg())
     }
 }
 

@@ -9,7 +9,7 @@ use crate::node::{Node, ReadParts};
 use crate::part::AnyPart;
 use hir_syntax::Boxed;
 use hir_syntax::ast::{
-    ForBinder, Lifetime, Param, Path, PathType, RetType, Type_, TypeBound, TypeKind,
+    ConstArg, ForBinder, Lifetime, Param, Path, PathType, RetType, Type_, TypeBound, TypeKind,
 };
 use json_kinds::kind::Kind;
 use std::alloc::AllocError;
@@ -49,6 +49,17 @@ fn reference<P: ReadParts>(node: &Node<'_, P>) -> Result<TypeKind, AllocError>
     })
 }
 
+#[tactic(auto, unfolding(crate::specs::Types::array))]
+fn array<P: ReadParts>(node: &Node<'_, P>) -> Result<TypeKind, AllocError>
+    requires { P.can node.now.parts.now }
+    ensures { IfOk result (λ kind. kind ≡ spec.array (here P.parts node.now)) }
+{
+    Ok(TypeKind::ArrayType {
+        ty: node.boxed::<Type_>("ty")?,
+        len: node.part::<ConstArg>("len")?,
+    })
+}
+
 #[tactic(auto, unfolding(crate::specs::Types::function_pointer))]
 fn function_pointer<P: ReadParts>(node: &Node<'_, P>) -> Result<TypeKind, AllocError>
     requires { P.can node.now.parts.now }
@@ -83,6 +94,7 @@ fn beside_types<P: ReadParts>(
 {
     match kind {
         Kind::RefType => Ok(Some(reference(node)?)),
+        Kind::ArrayType => Ok(Some(array(node)?)),
         Kind::FnPtrType => Ok(Some(function_pointer(node)?)),
         Kind::ForType => Ok(Some(under_binder(node)?)),
         _ => Ok(None),

@@ -4,6 +4,8 @@
 #[cfg(test)]
 mod blocks;
 #[cfg(test)]
+mod constants;
+#[cfg(test)]
 mod errors;
 #[cfg(test)]
 mod limits;

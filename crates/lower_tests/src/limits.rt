@@ -27,12 +27,12 @@ fn expr(node: u32, kind: ExprKind) -> Expr {
     }
 }
 
-fn constant(value: Expr) -> ConstArg {
-    ConstArg {
+fn constant(alloc: Global, value: Expr) -> Result<ConstArg, AllocError> {
+    Ok(ConstArg {
         id: NodeId(0),
         range: range(0),
-        expr: Some(value),
-    }
+        expr: Some(Boxed::new(alloc, value)?),
+    })
 }
 
 fn one(alloc: Global, node: u32) -> Result<Expr, AllocError> {
@@ -84,7 +84,7 @@ fn call_of_one(alloc: Global) -> Result<ConstArg, AllocError> {
         expr: Some(callee),
         args: Some(args),
     };
-    Ok(constant(expr(1, call)))
+    constant(alloc, expr(1, call))
 }
 
 fn table(alloc: Global) -> TableEnv {
@@ -181,7 +181,7 @@ fn a_call_of_one_takes_three_expressions(rt: HostRuntime) {
 }
 
 fn literal_in_none(alloc: Global) -> Result<Answers, AllocError> {
-    let literal = constant(one(alloc, 1)?);
+    let literal = constant(alloc, one(alloc, 1)?)?;
     let answers = lowered_twice(alloc, &literal, 0);
     drop(literal);
     Ok(answers)

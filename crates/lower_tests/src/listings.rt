@@ -13,7 +13,7 @@ use hir_store::name::Name;
 use hir_store::path::{ModPath, Path, PathKind};
 use hir_syntax::ast::{self, ConstArg, ExprKind, LiteralKind};
 use hir_syntax::node::{AstPtr, HirFileId, InFile, NodeId, TextRange};
-use hir_syntax::{Seq, Text};
+use hir_syntax::{Boxed, Seq, Text};
 use lower_run::listing::body_listing;
 use std::alloc::{AllocError, Global};
 use std::test::Fail;
@@ -124,16 +124,17 @@ fn a_label_behind_a_border_is_told(rt: HostRuntime) -> Result<(), Fail> {
     Ok(())
 }
 
-fn awaiting() -> ConstArg {
-    ConstArg {
+fn awaiting(alloc: Global) -> Result<ConstArg, AllocError> {
+    let expr = ast::Expr {
+        id: NodeId(1),
+        range: TextRange { start: 1, end: 2 },
+        kind: ExprKind::AwaitExpr { expr: None },
+    };
+    Ok(ConstArg {
         id: NodeId(0),
         range: TextRange { start: 0, end: 2 },
-        expr: Some(ast::Expr {
-            id: NodeId(1),
-            range: TextRange { start: 1, end: 2 },
-            kind: ExprKind::AwaitExpr { expr: None },
-        }),
-    }
+        expr: Some(Boxed::new(alloc, expr)?),
+    })
 }
 
 /// The listing of what a collector holds, with sources.
@@ -151,8 +152,8 @@ fn collected(alloc: Global, collector: ExprCollector<'_, TableEnv>) -> Result<St
 
 /// The listing of an `await` in a constant that stands in no body.
 fn await_in_no_body(alloc: Global) -> Result<String, LowerError> {
+    let constant = awaiting(alloc).map_err(|_| LowerError::Memory)?;
     let env = TableEnv::new(alloc, ItemContainerId::ModuleId(ModuleId(0)));
-    let constant = awaiting();
     let mut collector = ExprCollector::new(
         alloc,
         &env,

@@ -13,11 +13,11 @@ use lower_json::fault::ReadError;
 use lower_json::read::read_tree;
 use std::alloc::Global;
 
-/// `A<T, 'x, B = u8>`.
+/// `A<T, 'x, B = u8, 3>`.
 const ARGUMENTS: &str = r#"{"nodes": [
     {"k": "Path", "segs": [1]},
     {"k": "PathSegment", "seg": "name", "name": "A", "generics": 2},
-    {"k": "GenericArgList", "args": [3, 7, 8]},
+    {"k": "GenericArgList", "args": [3, 7, 8, 12]},
     {"k": "TypeArg", "ty": 4},
     {"k": "PathType", "path": 5},
     {"k": "Path", "segs": [6]},
@@ -26,7 +26,9 @@ const ARGUMENTS: &str = r#"{"nodes": [
     {"k": "AssocTypeArg", "name": "B", "ty": 9},
     {"k": "PathType", "path": 10},
     {"k": "Path", "segs": [11]},
-    {"k": "PathSegment", "seg": "name", "name": "u8"}
+    {"k": "PathSegment", "seg": "name", "name": "u8"},
+    {"k": "ConstArg", "expr": 13},
+    {"k": "Literal", "lit": "int", "t": "3"}
 ]}"#;
 
 fn node_of(arg: &GenericArg) -> NodeId {
@@ -34,6 +36,7 @@ fn node_of(arg: &GenericArg) -> NodeId {
         GenericArg::TypeArg(arg) => arg.id,
         GenericArg::AssocTypeArg(arg) => arg.id,
         GenericArg::LifetimeArg(arg) => arg.id,
+        GenericArg::ConstArg(arg) => arg.id,
     }
 }
 
@@ -45,11 +48,16 @@ fn binding_node(list: &GenericArgList, at: u32) -> Option<NodeId> {
     Some(hir_assoc_type_binding_to_ast(list, at)?.id)
 }
 
-/// The first three arguments, the one behind `Self`, and the first two bindings.
-type Lent = ([Option<NodeId>; 3], Option<NodeId>, [Option<NodeId>; 2]);
+/// The first four arguments, the one behind `Self`, and the first two bindings.
+type Lent = ([Option<NodeId>; 4], Option<NodeId>, [Option<NodeId>; 2]);
 
 fn lent(list: &GenericArgList) -> Lent {
-    let args = [arg_node(list, 0), arg_node(list, 1), arg_node(list, 2)];
+    let args = [
+        arg_node(list, 0),
+        arg_node(list, 1),
+        arg_node(list, 2),
+        arg_node(list, 3),
+    ];
     let behind_self = hir_generic_arg_to_ast(list, 1, true).map(node_of);
     let bindings = [binding_node(list, 0), binding_node(list, 1)];
     (args, behind_self, bindings)
@@ -74,7 +82,7 @@ fn lent_in_text(alloc: Global, text: &str) -> Result<Option<Lent>, ReadError> {
 
 #[test]
 fn arguments_and_bindings_are_lent(rt: HostRuntime) {
-    let args = [Some(NodeId(3)), Some(NodeId(7)), None];
+    let args = [Some(NodeId(3)), Some(NodeId(7)), Some(NodeId(12)), None];
     let bindings = [Some(NodeId(8)), None];
     assert_eq!(rt;
         lent_in_text(rt.alloc(), ARGUMENTS),

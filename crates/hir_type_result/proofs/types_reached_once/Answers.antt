@@ -1,4 +1,4 @@
-use Rattle.hir_type_result.proofs.Once.{reached_once as proved}
+use Rattle.hir_type_result.proofs.Named.{types_once as proved}
 use Rattle.hir_type_result.proofs.types_reached_once.Goals as goal
 
 pub returns : goal.returns

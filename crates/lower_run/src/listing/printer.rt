@@ -2,7 +2,7 @@
 
 use super::lines;
 use super::numbering::Numbering;
-use super::waiting::{Piece, Waiting};
+use super::waiting::{Piece, Waiting, arg_piece};
 use super::words::{expr_word, statement_word};
 use super::writer::Writer;
 use hir_store::hir::{RecordLitField, Statement};
@@ -148,33 +148,21 @@ impl<'a> Printer<'a> {
             Piece::Statement(statement) => self.open_statement(statement),
             Piece::Statements(statements) => self.statements("[", statements, "[]"),
             Piece::MoreStatements(statements) => self.statements(" ", statements, "]"),
+            _ => self.plain_piece(piece),
+        }
+    }
+
+    /// What is neither a word nor an expression nor a statement.
+    fn plain_piece(&mut self, piece: Piece<'a>) -> Result<(), AllocError> {
+        match piece {
             Piece::Label(id) => self.label(id),
             Piece::Block(id) => self.writer.numbered("b", id.0),
             Piece::Name(name) => self.writer.name(name),
             Piece::Literal(literal) => self.writer.literal(literal),
             Piece::Names(names) => self.writer.names(names),
-            Piece::FieldList(fields) => self.waiting.push_all(&[
-                Piece::Word("["),
-                Piece::Fields("", fields),
-                Piece::Word("]"),
-            ]),
+            Piece::FieldList(fields) => self.waiting.push_field_list(fields),
             Piece::Fields(before, fields) => self.fields(before, fields),
-            Piece::Path(_, _)
-            | Piece::Hygiene(_)
-            | Piece::PathKind(_)
-            | Piece::ModPath(_)
-            | Piece::Segments(_, _, _)
-            | Piece::GenericArgs(_)
-            | Piece::Args(_, _)
-            | Piece::Bindings(_, _)
-            | Piece::Binding(_) => self.path_piece(piece),
-            Piece::Type_(_)
-            | Piece::Types(_, _)
-            | Piece::Lifetime(_)
-            | Piece::Bounds(_, _)
-            | Piece::Bound(_)
-            | Piece::UseArgs(_, _)
-            | Piece::Binder(_) => self.type_piece(piece),
+            _ => self.path_piece(piece),
         }
     }
 
@@ -198,22 +186,26 @@ impl<'a> Printer<'a> {
         self.writer.word("(")
     }
 
-    /// A piece of a path.
+    /// A piece of a path, or of a type.
     fn path_piece(&mut self, piece: Piece<'a>) -> Result<(), AllocError> {
         match piece {
-            Piece::Path(path, hygiene) => {
-                self.waiting.push(Piece::Hygiene(hygiene))?;
-                self.waiting.push_path(path)
-            }
+            Piece::Path(path, hygiene) => self.waiting.push_path_of(path, hygiene),
             Piece::Hygiene(hygiene) => self.writer.hygiene(hygiene),
             Piece::PathKind(kind) => self.writer.path_kind(kind),
             Piece::ModPath(path) => self.writer.mod_path(path),
             Piece::Segments(before, names, args) => self.segments(before, names, args),
+            _ => self.args_piece(piece),
+        }
+    }
+
+    /// A piece of a list of arguments, or of a type.
+    fn args_piece(&mut self, piece: Piece<'a>) -> Result<(), AllocError> {
+        match piece {
             Piece::GenericArgs(args) => self.waiting.push_generic_args(args),
             Piece::Args(before, args) => self.args(before, args),
             Piece::Bindings(before, bindings) => self.bindings(before, bindings),
             Piece::Binding(binding) => self.waiting.push_binding(binding),
-            _ => Ok(()),
+            _ => self.type_piece(piece),
         }
     }
 
@@ -223,10 +215,17 @@ impl<'a> Printer<'a> {
             Piece::Type_(id) => self.open_type(id),
             Piece::Types(before, types) => self.types(before, types),
             Piece::Lifetime(id) => self.lifetime(id),
+            Piece::Binder(names) => self.writer.binder(names),
+            _ => self.bound_piece(piece),
+        }
+    }
+
+    /// A piece of bounds.
+    fn bound_piece(&mut self, piece: Piece<'a>) -> Result<(), AllocError> {
+        match piece {
             Piece::Bounds(before, bounds) => self.bounds(before, bounds),
             Piece::Bound(bound) => self.waiting.push_bound(bound),
             Piece::UseArgs(before, args) => self.use_args(before, args),
-            Piece::Binder(names) => self.writer.binder(names),
             _ => Ok(()),
         }
     }
@@ -259,10 +258,7 @@ impl<'a> Printer<'a> {
             return Ok(());
         };
         self.waiting.push(Piece::Args(", ", rest))?;
-        self.waiting.push(match first {
-            GenericArg::Type_(id) => Piece::Type_(*id),
-            GenericArg::Lifetime(id) => Piece::Lifetime(*id),
-        })?;
+        self.waiting.push(arg_piece(*first))?;
         self.writer.word(before)
     }
 
@@ -373,18 +369,19 @@ impl<'a> Printer<'a> {
     }
 
     /// Prints `rk=` where the expression is the k-th recorded root.
+    ///
+    /// What a root reaches is stored behind all of the root before it, so that the numbers of the roots grow.
     fn root_mark(&mut self, id: ExprId) -> Result<(), AllocError> {
         let number = self
             .store
             .expr_roots()
-            .iter()
-            .position(|root| root.root == id);
+            .binary_search_by_key(&id.0, |root| root.root.0);
         match number {
-            Some(number) => {
+            Ok(number) => {
                 self.writer.numbered("r", number)?;
                 self.writer.word("=")
             }
-            None => Ok(()),
+            Err(_) => Ok(()),
         }
     }
 }

@@ -1,12 +1,13 @@
 //! The parts of types, paths, arguments and bounds, in the order in which they are printed.
 
 use super::waiting::{Piece, Waiting};
-use super::words::extern_word;
+use super::words::{extern_word, type_word};
 use hir_store::hir::Mutability;
+use hir_store::ids::TypeRefId;
 use hir_store::path::{
     AssociatedTypeBinding, GenericArgs, GenericArgsParentheses, NormalPath, Path, PathKind,
 };
-use hir_store::type_ref::{FnType, RefType, TraitBoundModifier, TypeBound, TypeRef};
+use hir_store::type_ref::{ArrayType, FnType, RefType, TraitBoundModifier, TypeBound, TypeRef};
 use std::alloc::AllocError;
 
 const NOTHING: Piece<'static> = Piece::Word("");
@@ -24,47 +25,67 @@ impl<'a> Waiting<'a> {
     /// Lets the parts of a type wait.
     pub fn push_type(&mut self, ty: &'a TypeRef) -> Result<(), AllocError> {
         match ty {
-            TypeRef::Never => self.push(Piece::Word("!")),
-            TypeRef::Placeholder => self.push(Piece::Word("_")),
-            TypeRef::Error => self.push(Piece::Word("{error}")),
+            TypeRef::Never | TypeRef::Placeholder | TypeRef::Error => {
+                self.push(Piece::Word(type_word(ty)))
+            }
             TypeRef::Path(path) => self.push_path(path),
-            TypeRef::ImplTrait(bounds) => self.push_all(&[
-                Piece::Word("impl"),
-                Piece::Bounds(" ", bounds.as_slice()),
-            ]),
-            TypeRef::DynTrait(bounds) => self.push_all(&[
-                Piece::Word("dyn"),
-                Piece::Bounds(" ", bounds.as_slice()),
-            ]),
+            TypeRef::ImplTrait(bounds) => self.push_bounds("impl", bounds.as_slice()),
+            TypeRef::DynTrait(bounds) => self.push_bounds("dyn", bounds.as_slice()),
             TypeRef::Fn(pointer) => self.push_function(pointer),
-            TypeRef::Tuple(_) | TypeRef::RawPtr(_, _) | TypeRef::Reference(_) | TypeRef::Slice(_) =>
-                { self.push_type_over(ty) }
+            TypeRef::Tuple(_)
+            | TypeRef::RawPtr(_, _)
+            | TypeRef::Reference(_)
+            | TypeRef::Array(_)
+            | TypeRef::Slice(_) => self.push_type_over(ty),
         }
     }
 
     /// The same of a type that is made of other types.
     fn push_type_over(&mut self, ty: &'a TypeRef) -> Result<(), AllocError> {
         match ty {
-            TypeRef::Tuple(types) => self.push_all(&[
-                Piece::Word("("),
-                Piece::Types("", types.as_slice()),
-                Piece::Word(")"),
-            ]),
-            TypeRef::Slice(ty) => self.push_all(&[
-                Piece::Word("["),
-                Piece::Type_(*ty),
-                Piece::Word("]"),
-            ]),
-            TypeRef::RawPtr(ty, mutability) => {
-                let word = match mutability {
-                    Mutability::Shared => "*const ",
-                    Mutability::Mut => "*mut ",
-                };
-                self.push_all(&[Piece::Word(word), Piece::Type_(*ty)])
-            }
+            TypeRef::Tuple(types) => self.push_tuple(types.as_slice()),
+            TypeRef::Slice(ty) => self.push_slice(*ty),
+            TypeRef::Array(array) => self.push_array(array),
+            TypeRef::RawPtr(ty, mutability) => self.push_pointer(*ty, *mutability),
             TypeRef::Reference(reference) => self.push_reference(reference),
             _ => Ok(()),
         }
+    }
+
+    /// The word stands alone where there are no bounds.
+    fn push_bounds(
+        &mut self,
+        word: &'static str,
+        bounds: &'a [TypeBound],
+    ) -> Result<(), AllocError> {
+        self.push_all(&[Piece::Word(word), Piece::Bounds(" ", bounds)])
+    }
+
+    fn push_tuple(&mut self, types: &'a [TypeRefId]) -> Result<(), AllocError> {
+        self.push_all(&[Piece::Word("("), Piece::Types("", types), Piece::Word(")")])
+    }
+
+    fn push_slice(&mut self, ty: TypeRefId) -> Result<(), AllocError> {
+        self.push_all(&[Piece::Word("["), Piece::Type_(ty), Piece::Word("]")])
+    }
+
+    /// The length is an expression of the same store.
+    fn push_array(&mut self, array: &ArrayType) -> Result<(), AllocError> {
+        self.push_all(&[
+            Piece::Word("["),
+            Piece::Type_(array.ty),
+            Piece::Word("; "),
+            Piece::Expr(array.len.expr),
+            Piece::Word("]"),
+        ])
+    }
+
+    fn push_pointer(&mut self, ty: TypeRefId, mutability: Mutability) -> Result<(), AllocError> {
+        let word = match mutability {
+            Mutability::Shared => "*const ",
+            Mutability::Mut => "*mut ",
+        };
+        self.push_all(&[Piece::Word(word), Piece::Type_(ty)])
     }
 
     fn push_reference(&mut self, reference: &RefType) -> Result<(), AllocError> {

@@ -84,6 +84,15 @@ fn args_or_absent(args: &Option<GenericArgs>) -> Piece<'_> {
     }
 }
 
+/// An argument as it is printed: a constant as its expression.
+pub fn arg_piece(arg: GenericArg) -> Piece<'static> {
+    match arg {
+        GenericArg::Type_(id) => Piece::Type_(id),
+        GenericArg::Lifetime(id) => Piece::Lifetime(id),
+        GenericArg::Const(constant) => Piece::Expr(constant.expr),
+    }
+}
+
 fn spread_or_absent(spread: RecordSpread) -> Piece<'static> {
     match spread {
         RecordSpread::None => ABSENT,
@@ -122,6 +131,21 @@ impl<'a> Waiting<'a> {
             self.push(*piece)?;
         }
         Ok(())
+    }
+
+    /// Lets a list of the fields of a record wait.
+    pub fn push_field_list(&mut self, fields: &'a [RecordLitField]) -> Result<(), AllocError> {
+        self.push_all(&[
+            Piece::Word("["),
+            Piece::Fields("", fields),
+            Piece::Word("]"),
+        ])
+    }
+
+    /// Lets a path of an expression wait, and its hygiene behind it.
+    pub fn push_path_of(&mut self, path: &'a Path, hygiene: HygieneId) -> Result<(), AllocError> {
+        self.push(Piece::Hygiene(hygiene))?;
+        self.push_path(path)
     }
 
     /// Lets the parts of an expression wait, and the bracket after them.

@@ -2,7 +2,7 @@
 
 use hir_store::diagnostics::{AwaitLocation, MissingBodyItemKind};
 use hir_store::hir::{Expr, LoopSource, Mutability, Rawness, Statement};
-use hir_store::type_ref::ExternAbi;
+use hir_store::type_ref::{ExternAbi, TypeRef};
 use hir_syntax::ast::{ArithOp, BinaryOp, CmpOp, LogicOp, Ordering, UnaryOp};
 
 /// The kind that an expression begins with.
@@ -159,6 +159,15 @@ pub fn missing_body_word(kind: MissingBodyItemKind) -> &'static str {
         MissingBodyItemKind::Static => "diag MissingBody Static",
         MissingBodyItemKind::Const => "diag MissingBody Const",
         MissingBodyItemKind::AssocConst => "diag MissingBody AssocConst",
+    }
+}
+
+/// The word of a type that is one.
+pub fn type_word(ty: &TypeRef) -> &'static str {
+    match ty {
+        TypeRef::Never => "!",
+        TypeRef::Placeholder => "_",
+        _ => "{error}",
     }
 }
 

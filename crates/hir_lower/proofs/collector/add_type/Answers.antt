@@ -1,4 +1,4 @@
-use Rattle.hir_lower.proofs.TypeMeanings.{adds_if, ends_of_type_if, no_room_if, scopes_if, unchanged_if}
+use Rattle.hir_lower.proofs.TypeMeanings.{adds_if, ends_of_type_if, no_room_if, outside_type_if, scopes_if, unchanged_if}
 use Rattle.hir_lower.proofs.collector.add_type.Goals as goal
 
 pub returns-clause-adds : goal.returns-clause-adds
@@ -15,3 +15,6 @@ returns-clause-unchanged c = λ is. unchanged_if _ _ _ _ c.alloc_type.result c.a
 
 pub returns-clause-scopes : goal.returns-clause-scopes
 returns-clause-scopes c = λ n. scopes_if _ _ _ _ c.alloc_type.result c.alloc_type.ensures n
+
+pub returns-clause-outside : goal.returns-clause-outside
+returns-clause-outside c = λ out. outside_type_if _ _ _ _ c.alloc_type.result c.alloc_type.ensures out

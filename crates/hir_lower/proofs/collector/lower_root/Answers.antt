@@ -1,8 +1,11 @@
-use Rattle.hir_lower.proofs.Meanings.{rooted_if, stays_unless, too_large_if}
+use Rattle.hir_lower.proofs.Meanings.{outside_if, rooted_if, stays_unless, too_large_if}
 use Rattle.hir_lower.proofs.collector.lower_root.Goals as goal
 
 pub returns-clause-rooted : goal.returns-clause-rooted
 returns-clause-rooted g c = λ d. rooted_if _ _ _ c.root_steps.result c.root_steps.ensures d
+
+pub returns-clause-outside : goal.returns-clause-outside
+returns-clause-outside g c = outside_if _ _ _ c.root_steps.result c.root_steps.ensures
 
 pub returns-clause-stays : goal.returns-clause-stays
 returns-clause-stays g c = λ n. stays_unless _ _ _ c.root_steps.result c.root_steps.ensures n

@@ -1,4 +1,4 @@
-use Rattle.hir_lower.proofs.PathMeanings.{data_if, ends_if, names_if, path_stays_if, path_too_large_if, rooted_path_if}
+use Rattle.hir_lower.proofs.PathMeanings.{data_if, ends_if, names_if, outside_path_if, path_stays_if, path_too_large_if, rooted_path_if}
 use Rattle.hir_lower.proofs.collector.lower_whole_path.Goals as goal
 
 pub returns-clause-data : goal.returns-clause-data
@@ -8,7 +8,10 @@ pub returns-clause-segments : goal.returns-clause-segments
 returns-clause-segments g c = λ d. names_if _ _ _ _ c.lower_path.result c.lower_path.ensures d
 
 pub returns-clause-rooted : goal.returns-clause-rooted
-returns-clause-rooted g c = λ d. rooted_path_if _ _ _ _ c.lower_path.result c.lower_path.ensures d
+returns-clause-rooted g c = λ d out. rooted_path_if _ _ _ _ c.lower_path.result c.lower_path.ensures d out
+
+pub returns-clause-outside : goal.returns-clause-outside
+returns-clause-outside g c = λ out. outside_path_if _ _ _ _ c.lower_path.result c.lower_path.ensures out
 
 pub returns-clause-full : goal.returns-clause-full
 returns-clause-full g c = λ is. ends_if _ _ _ _ c.lower_path.result c.lower_path.ensures is
@@ -17,4 +20,4 @@ pub returns-clause-too_large : goal.returns-clause-too_large
 returns-clause-too_large g c = λ is. path_too_large_if _ _ _ _ c.lower_path.result c.lower_path.ensures is
 
 pub returns-clause-stays : goal.returns-clause-stays
-returns-clause-stays g c = λ d n. path_stays_if _ _ _ _ c.lower_path.result c.lower_path.ensures d n
+returns-clause-stays g c = λ d n. path_stays_if _ _ _ _ c.lower_path.result c.lower_path.ensures n

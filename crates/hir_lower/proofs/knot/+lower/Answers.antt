@@ -10,7 +10,7 @@ use Rattle.hir_env.specs.Count.{count_args, count_block, count_path, count_stmts
 use Rattle.hir_env.specs.Whole.{answered_plain, expr_part, pointer_at, stmts_part}
 use Rattle.hir_env.proofs.Levels.{expr_is_level, plain_is_level}
 use Rattle.hir_env.proofs.PathLevels.{arg_list_is_level, path_is_level, type_is_level}
-use Rattle.hir_lower.specs.Nests.{HandlesArgs, HandlesExpr, HandlesBlock, HandlesPath, HandlesType}
+use Rattle.hir_lower.specs.Nests.{HandlesArgs, HandlesBlock, HandlesConstant, HandlesExpr, HandlesPath, HandlesType}
 use Rattle.hir_lower.specs.Roots.{spot_at}
 use Rattle.hir_lower.proofs.Kids.{kids_expr, kids_block, expr_below, in_inside}
 use Rattle.hir_lower.proofs.TypeKids.{kids_args, kids_path, kids_type}
@@ -28,7 +28,7 @@ maybe_collect_expr-expr_node-requires g t c =
     let size = expr_below at c.args.node.now in
     kids_expr env (HandlesExpr g.E.LowerEnv.answers _ _ c.args.env.now) (HandlesBlock g.E.LowerEnv.answers _ _ c.args.env.now)
     (HandlesPath g.E.LowerEnv.answers _ _ c.args.env.now) (HandlesType g.E.LowerEnv.answers _ _ c.args.env.now)
-    (HandlesArgs g.E.LowerEnv.answers _ _ c.args.env.now) t
+    (HandlesArgs g.E.LowerEnv.answers _ _ c.args.env.now) (λ p o. Unit {0}) t
     (λ p e h. record {
       callable = λ alloc v old b same is. (rw same (rw is h), λ a m. m);
       lowers = λ alloc v old new b r same is q. rw (← is) (rw (← same) q.2);
@@ -71,7 +71,7 @@ collect_block_inside-block_node-requires-clause-parts g t c =
     ap count_block (plain_is_level (spot_at env c.args.place) c.args.node.now) ∙ ap level (sym inner) in
     kids_block env (HandlesExpr g.E.LowerEnv.answers _ _ c.args.env.now) (HandlesBlock g.E.LowerEnv.answers _ _ c.args.env.now)
     (HandlesPath g.E.LowerEnv.answers _ _ c.args.env.now) (HandlesType g.E.LowerEnv.answers _ _ c.args.env.now)
-    (HandlesArgs g.E.LowerEnv.answers _ _ c.args.env.now) t
+    (HandlesArgs g.E.LowerEnv.answers _ _ c.args.env.now) (HandlesConstant g.E.LowerEnv.answers _ _ c.args.env.now) t
     (λ p e h. record {
       callable = λ alloc v old b same is. (rw same (rw is h), λ a m. m);
       lowers = λ alloc v old new b r same is q. rw (← is) (rw (← same) q.2);
@@ -109,6 +109,7 @@ read_path_segments-path_node-requires-clause-parts g t c =
       path = HandlesPath g.E.LowerEnv.answers _ _ c.args.env.now;
       type_ = HandlesType g.E.LowerEnv.answers _ _ c.args.env.now;
       args = HandlesArgs g.E.LowerEnv.answers _ _ c.args.env.now;
+      constant = λ p o. Unit {0};
     }) t
     (record {
       types = λ p x h. record {
@@ -119,6 +120,8 @@ read_path_segments-path_node-requires-clause-parts g t c =
         callable = λ alloc v old walk b same is has. (rw same (rw is h), ((λ a m. m), has));
         reads = λ alloc v old new walk b r same is q. rw (← is) (rw (← same) q.3);
       };
+      constants = λ p e h. tt;
+      no_constant = λ p. tt;
       lists = λ p x h. record {
         callable = λ alloc v old b same is. (rw same (rw is h), λ a m. m);
         lowers = λ alloc v old new b r same is q. rw (← is) (rw (← same) q.2);
@@ -142,6 +145,7 @@ lower_type_node-type_node-requires g t c =
       path = HandlesPath g.E.LowerEnv.answers _ _ c.args.env.now;
       type_ = HandlesType g.E.LowerEnv.answers _ _ c.args.env.now;
       args = λ p l. Unit {0};
+      constant = HandlesConstant g.E.LowerEnv.answers _ _ c.args.env.now;
     }) t
     (record {
       types = λ p x h. record {
@@ -152,6 +156,11 @@ lower_type_node-type_node-requires g t c =
         callable = λ alloc v old walk b same is has. (rw same (rw is h), ((λ a m. m), has));
         reads = λ alloc v old new walk b r same is q. rw (← is) (rw (← same) q.3);
       };
+      constants = λ p e h. record {
+        callable = λ alloc v old b same is. (rw same (rw is h), λ a m. m);
+        lowers = λ alloc v old new b r same is q. rw (← is) (rw (← same) q.2);
+      };
+      no_constant = λ p. tt;
       lists = λ p x h. tt;
     })
     c.args.place (pointer_at at c.args.node.now.id c.args.node.now.range) (out-TypeKind c.args.node.now.kind) (omega (arith, d, size))
@@ -171,6 +180,7 @@ lower_arg_list-args_node-requires g t c =
       path = HandlesPath g.E.LowerEnv.answers _ _ c.args.env.now;
       type_ = HandlesType g.E.LowerEnv.answers _ _ c.args.env.now;
       args = HandlesArgs g.E.LowerEnv.answers _ _ c.args.env.now;
+      constant = HandlesConstant g.E.LowerEnv.answers _ _ c.args.env.now;
     }) t
     (record {
       types = λ p x h. record {
@@ -181,6 +191,11 @@ lower_arg_list-args_node-requires g t c =
         callable = λ alloc v old walk b same is has. (rw same (rw is h), ((λ a m. m), has));
         reads = λ alloc v old new walk b r same is q. rw (← is) (rw (← same) q.3);
       };
+      constants = λ p e h. record {
+        callable = λ alloc v old b same is. (rw same (rw is h), λ a m. m);
+        lowers = λ alloc v old new b r same is q. rw (← is) (rw (← same) q.2);
+      };
+      no_constant = λ p. tt;
       lists = λ p x h. record {
         callable = λ alloc v old b same is. (rw same (rw is h), λ a m. m);
         lowers = λ alloc v old new b r same is q. rw (← is) (rw (← same) q.2);

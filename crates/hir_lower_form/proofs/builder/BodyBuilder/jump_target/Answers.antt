@@ -5,7 +5,12 @@ use Rattle.hir_lower_form.proofs.builder.BodyBuilder.jump_target.Goals as goal
 
 pub returns-in-Ok : goal.returns-in-Ok
 returns-in-Ok g c =
-    let b : Builder = record { stored = c.self.inside.store; scopes = c.self.inside.scopes; counted_out = c.self.inside.counted_out } in
+    let b : Builder = record {
+      stored = c.self.inside.store;
+      scopes = c.self.inside.scopes;
+      counted_out = c.self.inside.counted_out;
+      in_root = c.self.inside.in_root;
+    } in
     let env = (g.P.LowerParts.spot c.args.parts.now).answers in
     let is = sym c.find_label.ensures ∙ c.in-Ok.is in
     let h = found_lowers b env c.args.source c.args.name c.args.hygiene c.in-Ok.label is c.self.invariant in

@@ -1,0 +1,165 @@
+-- Worked lists of the bodies inside types, paths and expressions.
+use Rattle.std.specs.Prelude.{◌≡◌, codes, false, List, [], ◌∷◌, Some}
+use Rattle.hir_syntax.specs.declared.ast.Literal.{Literal}
+use Rattle.hir_store.specs.Generics.{of_args}
+use Rattle.hir_store.specs.Pointers.{Pointer}
+use Rattle.hir_store.specs.declared.hir.Expr.TheVariants as hir
+use Rattle.hir_store.specs.declared.ids.ExprId.{ExprId}
+use Rattle.hir_store.specs.declared.name.Name.{Name}
+use Rattle.hir_store.specs.declared.name.Name.TheVariants as name
+use Rattle.hir_store.specs.declared.path.GenericArg.TheVariants as arg
+use Rattle.hir_store.specs.declared.path.GenericArgsParentheses.TheVariants as parens
+use Rattle.hir_store.specs.declared.type_ref.TypeRef.TheVariants as ty
+use Rattle.hir_env.specs.Answered as tree
+use Rattle.hir_env.specs.Answered.{Type_, OptionType, OptionExpr, OptionPath, OptionArgs, Arg, FnHead, SegmentArgs, Segment}
+use Rattle.hir_meaning.specs.Inner.{Bodies, bodies_in, inner_bodies, path_bodies, type_bodies}
+use Rattle.hir_meaning.specs.Small.{id, literal_at, name_at, one, two, stored_one, stored_two}
+use Rattle.hir_meaning.specs.Small.{at as node}
+use Rattle.hir_meaning.specs.Forms.{name_a, stored_a, name_m}
+use Rattle.hir_meaning.specs.Typed.{StoredTypes, TypedExample, store_with, type_number}
+
+abbrev pub body : Pointer → Literal → OptionExpr
+body at l = tree.some_expr (tree.literal_expr at l)
+
+-- `[T; e]`
+abbrev pub array : Pointer → Type_ → OptionExpr → Type_
+array at t e = tree.array_type at (tree.constant e) (tree.some_type t)
+
+abbrev pub never : Pointer → Type_
+never at = tree.leaf_type at tree.never_leaf
+
+-- `[!; e]`
+abbrev pub nevers : Pointer → OptionExpr → OptionType
+nevers at e = tree.some_type (array at (never at) e)
+
+-- `e as [!; l]`
+abbrev pub cast_to : Pointer → OptionExpr → OptionExpr → OptionExpr
+cast_to at e l = tree.some_expr (tree.cast_expr at e (nevers at l))
+
+-- `<a>`, and `<{e}>`
+abbrev pub just : Arg → OptionArgs
+just a = tree.some_arg_list (tree.more_args a tree.no_args)
+
+abbrev pub constant : OptionExpr → Arg
+constant e = tree.const_arg (tree.constant e)
+
+-- behind a name
+abbrev pub with_list : OptionArgs → SegmentArgs
+with_list as' = tree.segment_args as' tree.no_parens false
+
+abbrev pub with_array : Pointer → OptionExpr → SegmentArgs
+with_array at e = with_list (just (tree.type_arg (nevers at e)))
+
+abbrev pub a_name : SegmentArgs → Segment
+a_name as' = tree.name_segment (name.Text (codes "A")) as'
+
+abbrev pub plain : SegmentArgs
+plain = with_list tree.no_arg_list
+
+-- `A` with these arguments, and behind it another segment
+abbrev pub one_segment : SegmentArgs → OptionPath
+one_segment as' = tree.some_path (tree.path false (a_name as') tree.no_segments tree.no_path)
+
+abbrev pub then_another : SegmentArgs → Segment → OptionPath
+then_another as' s = tree.some_path (tree.path false (a_name as') (tree.more_segments s tree.no_segments) tree.no_path)
+
+-- `<[!; e] as A>`, and behind it another segment or none
+abbrev pub in_trait : Pointer → OptionExpr → OptionPath
+in_trait at e =
+    tree.some_path (tree.path false (tree.trait_segment (array at (never at) e) at (one_segment plain)) tree.no_segments tree.no_path)
+
+abbrev pub in_trait_then : Pointer → OptionExpr → OptionPath
+in_trait_then at e = tree.some_path (tree.path false (tree.trait_segment (array at (never at) e) at (one_segment plain))
+    (tree.more_segments (a_name plain) tree.no_segments) tree.no_path)
+
+-- `[[!; a]; b]`, `[!; a as [!; b]]` and `fn([!; a]) -> [!; b]`
+abbrev pub TypesInOrder : Type 0
+TypesInOrder = (at : Pointer) (a b : Literal) (head : FnHead)
+    → (type_bodies (array at (array at (never at) (body at a)) (body at b)) ≡ body at a ∷ body at b ∷ [])
+    × (type_bodies (array at (never at) (cast_to at (body at a) (body at b))) ≡ cast_to at (body at a) (body at b) ∷ body at b ∷ [])
+    × (type_bodies (tree.fn_type at head (tree.more_parts (nevers at (body at a)) tree.no_parts) (nevers at (body at b)))
+    ≡ body at a ∷ body at b ∷ [])
+
+-- `([!; a]) -> [!; b]` behind a name
+abbrev pub with_parens : Pointer → OptionExpr → OptionExpr → SegmentArgs
+with_parens at a b = tree.segment_args tree.no_arg_list
+    (tree.some_parens (tree.more_parts (nevers at a) tree.no_parts) (tree.some_ret (nevers at b))) false
+
+-- `<B<{a}> = [!; b]: A<{c}>, {d}>`
+abbrev pub bound_first : Pointer → OptionExpr → OptionExpr → OptionExpr → OptionExpr → OptionArgs
+bound_first at a b c d =
+    let bound = tree.path_bound at (one_segment (with_list (just (constant c)))) false [] in
+    let binding = tree.assoc_arg (name.Text (codes "B")) (just (constant a)) false (nevers at b) (tree.more_bounds bound tree.no_bounds) in
+    tree.some_arg_list (tree.more_args binding (tree.more_args (constant d) tree.no_args))
+
+-- `A<[!; a]>`, `A<[!; a]>::crate`, `<[!; a] as A>`, `<[!; a] as A>::A`, `A([!; a]) -> [!; b]` and
+-- `A<B<{a}> = [!; b]: A<{c}>, {d}>`
+abbrev pub PathsInOrder : Type 0
+PathsInOrder = (at : Pointer) (a b c d : Literal)
+    → (path_bodies (one_segment (with_array at (body at a))) ≡ body at a ∷ [])
+    × (path_bodies (then_another (with_array at (body at a)) tree.crate_segment) ≡ [])
+    × (path_bodies (in_trait at (body at a)) ≡ [])
+    × (path_bodies (in_trait_then at (body at a)) ≡ body at a ∷ [])
+    × (path_bodies (one_segment (with_parens at (body at a) (body at b))) ≡ body at a ∷ body at b ∷ [])
+    × (path_bodies (one_segment (with_list (bound_first at (body at a) (body at b) (body at c) (body at d))))
+    ≡ body at d ∷ body at a ∷ body at b ∷ body at c ∷ [])
+
+-- `e.n::<{a}>(f as [!; b])`
+abbrev pub method_of : Pointer → Name → OptionExpr → OptionExpr → OptionExpr → OptionExpr → OptionExpr
+method_of at n e a f b = tree.some_expr (tree.method_call_expr at e n
+    (tree.more_exprs (tree.cast_expr at f (nevers at b)) tree.no_exprs) (just (constant a)))
+
+-- `A::<{a}> { n: e as [!; b] }`
+abbrev pub record_of : Pointer → Name → OptionExpr → OptionExpr → OptionExpr → OptionExpr
+record_of at n a e b = tree.some_expr (tree.record_expr at (one_segment (with_list (just (constant a))))
+    (tree.more_fields (tree.named_field at n (cast_to at e b)) tree.no_fields) tree.no_spread)
+
+abbrev pub ExprsInOrder : Type 0
+ExprsInOrder = (at : Pointer) (a b e f : Literal) (n : Name)
+    → (bodies_in (method_of at n (body at e) (body at a) (body at f) (body at b)) ≡ body at a ∷ body at b ∷ [])
+    × (bodies_in (record_of at n (body at a) (body at e) (body at b)) ≡ body at a ∷ body at b ∷ [])
+
+-- as they are written and as they are stored
+pub record BothList (x : TypedExample) (es : Bodies) (is : List ExprId) : Type 0 where
+  pub written : bodies_in x.written ≡ es
+  pub stored : inner_bodies (store_with x) (id x.root) ≡ is
+
+-- `1 as [!; 2]`, whose length is stored before what the array is of
+
+abbrev pub stored_nevers : ExprId → StoredTypes
+stored_nevers length =
+    (ty.Never, Some 3) ∷ (ty.Array (record { ty = type_number 0; len = record { expr = length } }), Some 2) ∷ []
+
+abbrev pub nevers_of_two : OptionType
+nevers_of_two = tree.some_type (array (node 2) (never (node 3)) (tree.some_expr (literal_at 4 two)))
+
+abbrev pub cast_to_nevers : TypedExample
+cast_to_nevers = record {
+  written = tree.some_expr (tree.cast_expr (node 0) (tree.some_expr (literal_at 1 one)) nevers_of_two);
+  nodes = (stored_one, Some 1) ∷ (stored_two, Some 4) ∷ (hir.Cast (id 0) (type_number 1), Some 0) ∷ [];
+  types = stored_nevers (id 1);
+  root = 2;
+}
+
+-- `a.m::<{1}>(a as [!; 2])`, whose constant is stored behind the argument
+
+abbrev pub constant_of_method : TypedExample
+constant_of_method = record {
+  written = tree.some_expr (tree.method_call_expr (node 0) (tree.some_expr name_a) name_m
+      (tree.more_exprs (tree.cast_expr (node 5) (tree.some_expr (name_at 97 6)) nevers_of_two) tree.no_exprs)
+      (just (constant (tree.some_expr (literal_at 7 one)))));
+  nodes = (stored_a, Some 1)
+      ∷ (stored_a, Some 6)
+      ∷ (stored_two, Some 4)
+      ∷ (hir.Cast (id 1) (type_number 1), Some 5)
+      ∷ (stored_one, Some 7)
+      ∷ (hir.MethodCall (id 0) name_m (Some (of_args (arg.Const (record { expr = id 4 }) ∷ []) false [] parens.No)) (id 3 ∷ []), Some 0)
+      ∷ [];
+  types = stored_nevers (id 2);
+  root = 5;
+}
+
+abbrev pub StoredInOrder : Type 0
+StoredInOrder =
+    BothList cast_to_nevers (tree.some_expr (literal_at 4 two) ∷ []) (id 1 ∷ [])
+    × BothList constant_of_method (tree.some_expr (literal_at 7 one) ∷ tree.some_expr (literal_at 4 two) ∷ []) (id 4 ∷ id 2 ∷ [])

@@ -1,0 +1,170 @@
+-- What a written expression becomes comes from its node: a line for each form, whatever its parts are.
+use Rattle.std.proofs.Common.{arith, ◌≡◌, refl, ap, Bool, true, false, ℕ, ◌≤◌, List, [], ◌∷◌, Option, Some, None, option_map}
+use Rattle.hir_store.specs.Pointers.{Pointer}
+use Rattle.hir_store.specs.Stored.{Stored, store_of, map_of}
+use Rattle.hir_store.specs.declared.hir.Expr.{Expr as HirExpr}
+use Rattle.hir_store.specs.declared.ids.BlockId.{BlockId}
+use Rattle.hir_store.specs.declared.ids.ExprId.{ExprId}
+use Rattle.hir_store.specs.declared.ids.HygieneId.{HygieneId}
+use Rattle.hir_store.specs.declared.ids.LabelId.{LabelId}
+use Rattle.hir_store.specs.declared.ids.TypeRefId.{TypeRefId}
+use Rattle.hir_store.specs.declared.name.Name.{Name}
+use Rattle.hir_store.specs.declared.path.GenericArgs.{GenericArgs}
+use Rattle.hir_store.specs.declared.path.Path.{Path as HirPath}
+use Rattle.hir_store.specs.declared.type_ref.ConstRef.{ConstRef}
+use Rattle.hir_store.specs.declared.diagnostics.AwaitLocation.{AwaitLocation}
+use Rattle.hir_env.specs.Answered as tree
+use Rattle.hir_env.specs.Answered.{Jump, Label, Listing}
+use Rattle.hir_env.specs.NodeMap.{Site}
+use Rattle.hir_env.specs.Spot.{site_of}
+use Rattle.hir_lower_form.specs.Lowering.{Lowering, ◌>>=◌, pure, alloc_expr}
+use Rattle.hir_lower_form.specs.Types.{TypeSteps}
+use Rattle.hir_lower_form.specs.Lower.{ExprSteps, StoredContents, StoredFields, missing, if_form, loop_form, call_form, continue_form}
+use Rattle.hir_lower_form.specs.Lower.{break_form, paren_form, path_form, operand_form, operands_form, value_form, list_form}
+use Rattle.hir_lower_form.specs.Lower.{method_call_form, await_form, cast_form, offset_of_form, record_of, record_form, block_form}
+use Rattle.hir_lower_form.specs.Lower.{labelled, constant_form}
+use Rattle.hir_steps.proofs.Frames.{Frame, loop_at, block_at}
+use Rattle.hir_steps.proofs.Steps.{Mark, Rel, Correct, correct_bind, correct_as, correct_pure, correct_alloc, correct_point}
+use Rattle.hir_steps.proofs.Steps.{correct_enter_block, correct_opened, correct_report_await, correct_target}
+use Rattle.hir_steps.proofs.Constants.{correct_constant}
+use Rattle.hir_steps.proofs.Keeping.{Any}
+use Rattle.hir_data.specs.Reading as reading
+use Rattle.hir_data.specs.Rule.{PathRead}
+use Rattle.hir_data.specs.Written as written
+use Rattle.hir_read_back.proofs.Layers.{Layer, Reads, a_constant, a_source}
+use Rattle.hir_read_back.proofs.Going.{PathIs}
+use Rattle.hir_read_back.proofs.Walk.{Answers}
+
+-- what comes from this node
+abbrev pub From : Option Site → ExprSteps → Type 0
+From x p = Correct p (Reads a_source x)
+
+pub alloc_from : (e : HirExpr) (source : Option Pointer) → From (option_map site_of source) (alloc_expr e source)
+alloc_from e source = correct_as (correct_alloc e source) (λ final ps m m' i g at. record { is = λ d le. rw (at.number, at.from) refl })
+
+pub missing_from : From None missing
+unfolding missing
+missing_from = alloc_from _ None
+
+-- behind other steps
+pub ends_from : {A : Type 0} {x : Option Site} {R : Rel A} {p : Lowering A} {f : A → ExprSteps} → Correct p R
+    → ((a : A) → From x (f a)) → From x (p >>= f)
+ends_from h k = correct_as (correct_bind h k) (λ final ps m m' i g row. record { is = row.second.is })
+
+module _ (at : Pointer) where
+  abbrev here : Option Site
+  here = Some (site_of at)
+
+  stored_from : (e : HirExpr) → From here (alloc_expr e (Some at))
+  stored_from e = alloc_from e (Some at)
+
+  pub if_from : {c t : ExprSteps} {e : Lowering (Option ExprId)} → Correct c Any → Correct t Any → Correct e Any
+      → From here (if_form at c t e)
+  unfolding if_form
+  if_from hc ht he = ends_from ht (λ i. ends_from he (λ j. ends_from hc (λ k. stored_from _)))
+
+  pub loop_from : (label : Option Label) {b : ExprSteps} → Correct b Any → From here (loop_form at label b)
+  unfolding loop_form
+  loop_from None h = ends_from h (λ i. stored_from _)
+  loop_from (Some l) h = correct_as (correct_opened loop_at l (λ n ps. refl) (λ n. h) (λ n i. stored_from _))
+      (λ final ps m m' i g row. record { is = row.second.is })
+
+  pub call_from : {f : ExprSteps} {xs : Lowering (List ExprId)} → Correct f Any → Correct xs Any → From here (call_form at f xs)
+  unfolding call_form
+  call_from hf hx = ends_from hf (λ i. ends_from hx (λ is. stored_from _))
+
+  pub continue_from : (j : Option Jump) → From here (continue_form at j)
+  unfolding continue_form
+  continue_from j = ends_from (correct_target j) (λ n. stored_from _)
+
+  pub break_from : (j : Option Jump) {e : Lowering (Option ExprId)} → Correct e Any → From here (break_form at j e)
+  unfolding break_form
+  break_from j h = ends_from (correct_target j) (λ n. ends_from h (λ v. stored_from _))
+
+  -- parentheses are what is in them
+  pub paren_from : {x : Option Site} {e : ExprSteps} → From x e → From x (paren_form at e)
+  unfolding paren_form
+  paren_from h = correct_as (correct_bind h (λ i. correct_bind (correct_point at i) (λ u. correct_pure i)))
+      (λ final ps m m' i g row. let s = row.second in rw s.second.is (record {
+        is = λ d le. row.first.is d (omega (le, row.after.types, arith));
+      }))
+
+  pub path_from : (h : HygieneId) {p : Lowering (Option HirPath)} → Correct p Any → From here (path_form at h p)
+  unfolding path_form
+  path_from h hp = ends_from hp (λ r. stored_from _)
+
+  pub operand_from : (form : ExprId → HirExpr) {e : ExprSteps} → Correct e Any → From here (operand_form at form e)
+  unfolding operand_form
+  operand_from form h = ends_from h (λ i. stored_from _)
+
+  pub operands_from : (form : ExprId → ExprId → HirExpr) {a b : ExprSteps} → Correct a Any → Correct b Any
+      → From here (operands_form at form a b)
+  unfolding operands_form
+  operands_from form ha hb = ends_from ha (λ i. ends_from hb (λ j. stored_from _))
+
+  pub value_from : (form : Option ExprId → HirExpr) {e : Lowering (Option ExprId)} → Correct e Any → From here (value_form at form e)
+  unfolding value_form
+  value_from form h = ends_from h (λ v. stored_from _)
+
+  pub list_from : (form : Listing) {xs : Lowering (List ExprId)} → Correct xs Any → From here (list_form at form xs)
+  unfolding list_form
+  list_from (tree.tuple_of false) h = ends_from h (λ is. stored_from _)
+  list_from (tree.tuple_of true) h = ends_from h (λ is. ends_from missing_from (λ i. stored_from _))
+  list_from tree.array_of h = ends_from h (λ is. stored_from _)
+
+  pub method_call_from : {e : ExprSteps} (name : Name) {xs : Lowering (List ExprId)} {as' : Lowering (Option GenericArgs)}
+      → Correct e Any → Correct xs Any → Correct as' Any → From here (method_call_form at e name xs as')
+  unfolding method_call_form
+  method_call_from name he hx ha = ends_from he (λ i. ends_from hx (λ is. ends_from ha (λ g. stored_from _)))
+
+  pub await_from : (location : Option AwaitLocation) {e : ExprSteps} → Correct e Any → From here (await_form at location e)
+  unfolding await_form
+  await_from location h = ends_from h (λ i. ends_from (correct_report_await at location) (λ u. stored_from _))
+
+  pub cast_from : {e : ExprSteps} {t : TypeSteps} → Correct e Any → Correct t Any → From here (cast_form at e t)
+  unfolding cast_form
+  cast_from he ht = ends_from he (λ i. ends_from ht (λ t. stored_from _))
+
+  pub offset_of_from : {t : TypeSteps} (names : List Name) → Correct t Any → From here (offset_of_form at t names)
+  unfolding offset_of_form
+  offset_of_from names h = ends_from h (λ t. stored_from _)
+
+  -- where its path is absent or refused it is missing, without a node
+  abbrev FromEither : Option HirPath → Rel ExprId
+  FromEither None = Reads a_source None
+  FromEither (Some p) = Reads a_source here
+
+  record_of_from : {c : Lowering StoredFields} → Correct c Any → (p : Option HirPath) → Correct (record_of at c p) (FromEither p)
+  record_of_from h None = missing_from
+  record_of_from h (Some p) = ends_from h (λ r. stored_from _)
+
+  pub record_from : (y : Option PathRead) {p : Lowering (Option HirPath)} {c : Lowering StoredFields} → Correct p (PathIs y)
+      → Correct c Any → From (written.record_site at y) (record_form at p c)
+  unfolding record_form
+  record_from y hp hc = correct_as (correct_bind hp (λ p. record_of_from hc p))
+      (λ final ps m m' i g row. go final ps m row.middle m' i y row.one row.first.is row.second)
+    where
+      go : (final : Stored) (ps : List Frame) (m n m' : Mark) (i : ExprId) (y : Option PathRead) (o : Option HirPath)
+          → Answers final n.types y o → FromEither o final ps n m' i → Reads a_source (written.record_site at y) final ps m m' i
+      go final ps m n m' i None None h row = record { is = row.is }
+      go final ps m n m' i None (Some p) h row = absurd h
+      go final ps m n m' i (Some x) None h row = absurd h
+      go final ps m n m' i (Some x) (Some p) h row = record { is = row.is }
+
+  pub block_form_from : (is_unsafe : Bool) (label : Option LabelId) (number : Option BlockId) {c : Lowering StoredContents}
+      → Correct c Any → From here (block_form at is_unsafe label number c)
+  unfolding block_form
+  block_form_from is_unsafe label number h = ends_from (correct_enter_block number) (λ u. ends_from h (λ r. stored_from _))
+
+pub labelled_from : {x : Option Site} (label : Option Label) {f : Option LabelId → ExprSteps} → ((n : Option LabelId) → From x (f n))
+    → From x (labelled label f)
+unfolding labelled
+labelled_from None h = h None
+labelled_from (Some l) h = correct_as (correct_opened block_at l (λ n ps. refl) (λ n. h (Some n)) (λ n i. correct_pure i))
+    (λ final ps m m' i g row. rw (row.second.is, row.second.still) (record { is = row.first.is }))
+
+-- ---- constants
+
+pub constant_reads : {x : Option Site} {p : ExprSteps} → From x p → Correct (constant_form p) (Reads a_constant x)
+constant_reads h = correct_as (correct_constant h)
+    (λ final ps m m' c g row. record { is = λ d le. row.first.is d (omega (le, row.after.types, arith)) })

@@ -1,0 +1,390 @@
+-- What each form of an expression becomes holds what its parts hold.
+use Rattle.std.proofs.Common.{◌≡◌, ◌∙◌, refl, sym, ap, Bool, true, false, List, [], ◌∷◌, ◌++◌, append-nil, append_assoc}
+use Rattle.std.proofs.Common.{Option, Some, None, option_map, arith}
+use Rattle.hir_store.specs.Pointers.{Pointer}
+use Rattle.hir_store.specs.Stored.{Stored}
+use Rattle.hir_store.specs.declared.diagnostics.AwaitLocation.{AwaitLocation}
+use Rattle.hir_store.specs.declared.diagnostics.ExpressionStoreDiagnostics.TheVariants.{InactiveCode}
+use Rattle.hir_store.specs.declared.hir.Expr.{Expr as HirExpr}
+use Rattle.hir_store.specs.declared.hir.Expr.TheVariants as hir
+use Rattle.hir_store.specs.declared.hir.LoopSource.TheVariants as source
+use Rattle.hir_store.specs.declared.hir.RecordLitField.{RecordLitField}
+use Rattle.hir_store.specs.declared.hir.RecordSpread.{RecordSpread}
+use Rattle.hir_store.specs.declared.hir.Statement.{Statement}
+use Rattle.hir_store.specs.declared.hir.Statement.TheVariants as statement
+use Rattle.hir_store.specs.declared.ids.BlockId.{BlockId}
+use Rattle.hir_store.specs.declared.ids.ExprId.{ExprId}
+use Rattle.hir_store.specs.declared.ids.HygieneId.{HygieneId}
+use Rattle.hir_store.specs.declared.ids.LabelId.{LabelId}
+use Rattle.hir_store.specs.declared.name.Name.{Name}
+use Rattle.hir_store.specs.declared.path.GenericArgs.{GenericArgs}
+use Rattle.hir_store.specs.declared.path.Path.{Path as HirPath}
+use Rattle.hir_env.specs.Answered as tree
+use Rattle.hir_env.specs.Answered.{Leaf, Unary, Binary, Listing, Leaving, Label, Jump, Expr}
+use Rattle.hir_data.specs.Rule.{PathRead}
+use Rattle.hir_lower_form.specs.Lowering.{Lowering, ◌>>=◌, pure, alloc_expr}
+use Rattle.hir_lower_form.specs.Types.{TypeSteps}
+use Rattle.hir_lower_form.specs.Lower.{ExprSteps, StoredContents, StoredFields, push_some, missing, some, if_form, loop_form, call_form}
+use Rattle.hir_lower_form.specs.Lower.{continue_form, break_form, operand_form, operands_form, value_form, list_form}
+use Rattle.hir_lower_form.specs.Lower.{method_call_form, await_form, paren_form, path_form, path_or_missing, cast_form}
+use Rattle.hir_lower_form.specs.Lower.{offset_of_form, record_contents, record_of, record_form, field_form, block_form, labelled}
+use Rattle.hir_lower_form.specs.Lower.{stored_leaf, stored_unary, stored_binary, stored_leaving, settled, settled_block, kept}
+use Rattle.hir_meaning.specs.Inner.{Bodies, Inners, all_of, of_present, of_path, of_list, of_field, of_others, of_statement, of_expr}
+use Rattle.hir_meaning.specs.Inner.{if_read, expr_bodies}
+use Rattle.hir_read_back.proofs.Going.{PathIs}
+use Rattle.hir_read_back.proofs.Layers.{Pushed}
+use Rattle.hir_read_back.proofs.Walk.{Answers}
+use Rattle.hir_steps.proofs.Frames.{Frame, loop_at, block_at}
+use Rattle.hir_steps.proofs.Steps.{Mark, Rel, Correct, correct_bind, correct_as, correct_both, correct_pure, correct_alloc}
+use Rattle.hir_steps.proofs.Steps.{correct_report, correct_report_await, correct_point, correct_point_field, correct_enter_block}
+use Rattle.hir_steps.proofs.Steps.{correct_opened, correct_target}
+use Rattle.hir_same_meaning.proofs.Holding.{inners_in, same_append, same_ids, Ids, an_expr, a_type, each, maybe, Holds}
+use Rattle.hir_same_meaning.proofs.Holding.{holds_none, holds_one, holds_two, holds_behind, expr_held, expr0, expr1, expr2}
+use Rattle.hir_same_meaning.proofs.HeldTypes.{a_path, some_args}
+
+-- ---- what is kept, and lists of it
+
+pub missing_held : Correct missing (Holds an_expr [])
+unfolding missing
+missing_held = expr0 hir.Missing None (λ r. refl)
+
+pub some_held : {es : Bodies} {p : ExprSteps} → Correct p (Holds an_expr es) → Correct (some p) (Holds (maybe an_expr) es)
+some_held h = holds_one Some (λ r i. refl) h
+
+pub kept_held : (e : Expr) {p : ExprSteps} → Correct p (Holds an_expr (expr_bodies e))
+    → Correct (kept e p) (Holds (maybe an_expr) (expr_bodies e))
+kept_held (tree.disabled_expr at by e) h = holds_behind (correct_report (InactiveCode at by)) (λ u. holds_none None (λ r. refl))
+kept_held e h = some_held h
+
+-- what is pushed where something is left
+newly : {A : Type 0} → Option A → List A → List A
+newly None xs = xs
+newly (Some x) xs = x ∷ xs
+
+newly_pushed : {A : Type 0} (done : List A) (o : Option A) (new : List A) → push_some done o ++ new ≡ done ++ newly o new
+unfolding newly
+newly_pushed done None new = refl
+newly_pushed done (Some x) new = append_assoc done (x ∷ []) new
+
+newly_holds : {A : Type 0} (f : A → List ExprId) (o : Option A) (new : List A) → all_of f (newly o new) ≡ of_present f o ++ all_of f new
+unfolding newly
+newly_holds f None new = refl
+newly_holds f (Some x) new = refl
+
+pub some_pushed : {A : Type 0} {ids : Ids A} {es fs : Bodies} {p : Lowering (Option A)} {q : List A → Lowering (List A)}
+    → Correct p (Holds (maybe ids) es) → ((done : List A) → Correct (q done) (Pushed done (Holds (each ids) fs)))
+    → (done : List A) → Correct (p >>= (λ o. q (push_some done o))) (Pushed done (Holds (each ids) (es ++ fs)))
+some_pushed {ids = ids} {es = es} {fs = fs} h k done = correct_as (correct_bind h (λ o. k (push_some done o)))
+    (λ final ps m m' r g row. let s = row.second in record {
+      new = newly row.one s.new;
+      is = s.is ∙ newly_pushed done row.one s.new;
+      rel = record {
+        same = λ d le. let r = inners_in final d in same_ids final (es ++ fs) (newly_holds (ids r) row.one s.new)
+            (same_append final (of_present (ids r) row.one) (all_of (ids r) s.new) es fs
+            (row.first.same d (omega (le, row.after.nodes, row.after.types, arith))) (s.rel.same d le));
+      };
+    })
+
+-- ---- forms
+
+leaf_is : (form : Leaf) (r : Inners) → of_expr r (stored_leaf form) ≡ []
+leaf_is tree.underscore r = refl
+leaf_is tree.include_bytes r = refl
+leaf_is tree.left_out r = refl
+
+unary_is : (form : Unary) (r : Inners) (i : ExprId) → of_expr r (stored_unary form i) ≡ r.expr i
+unary_is (tree.field_of name) r i = refl
+unary_is (tree.prefix_of op) r i = refl
+unary_is (tree.reference_to rawness mutability) r i = refl
+
+binary_is : (form : Binary) (r : Inners) (i j : ExprId) → of_expr r (stored_binary form i j) ≡ r.expr i ++ r.expr j
+binary_is (tree.operator op) r i j = refl
+binary_is tree.index_of r i j = refl
+
+leaving_is : (form : Leaving) (r : Inners) (o : Option ExprId) → of_expr r (stored_leaving form o) ≡ of_present r.expr o
+leaving_is tree.returning r o = refl
+leaving_is tree.yeeting r o = refl
+
+path_is : (h : HygieneId) (r : Inners) (p : Option HirPath) → of_expr r (path_or_missing h p) ≡ a_path r p
+path_is h r None = refl
+path_is h r (Some p) = refl
+
+-- what is in a record
+abbrev pub a_field : Ids RecordLitField
+a_field r f = of_field r f
+
+abbrev pub a_record : Ids StoredFields
+a_record r c = all_of (of_field r) c.0 ++ of_others r c.1
+
+abbrev pub a_spread : Ids RecordSpread
+a_spread r s = of_others r s
+
+-- where the path became this
+
+abbrev if_some : Option HirPath → Bodies → Bodies
+if_some None bs = []
+if_some (Some p) bs = bs
+
+record Record (es fs : Bodies) (o : Option HirPath) (final : Stored) (ps : List Frame) (m m' : Mark) (i : ExprId) : Type 0 where
+  rel : (n : Mark) → Holds a_path es final ps n m o → Holds an_expr (if_some o (es ++ fs)) final ps m m' i
+
+record_of_held : {es fs : Bodies} (at : Pointer) {c : Lowering StoredFields} → Correct c (Holds a_record fs) → (o : Option HirPath)
+    → Correct (record_of at c o) (Record es fs o)
+record_of_held at hc None = correct_as missing_held (λ final ps m m' i g row. record { rel = λ n h. row })
+record_of_held {es = es} {fs = fs} at hc (Some p) =
+    correct_as (correct_bind hc (λ c. correct_alloc (hir.RecordLit p c.0 c.1) (Some at)))
+    (λ final ps m m' i g row. record {
+      rel = λ n h. expr_held row.second row.after (λ d le. let r = inners_in final d in
+          same_append final (of_path r p) (a_record r row.one) es fs
+          (h.same d (omega (le, row.before.nodes, row.before.types, arith))) (row.first.same d le));
+    })
+
+module _ (at : Pointer) where
+  pub leaf_held : (form : Leaf) → Correct (alloc_expr (stored_leaf form) (Some at)) (Holds an_expr [])
+  leaf_held form = expr0 (stored_leaf form) (Some at) (leaf_is form)
+
+  -- a prefix without operator holds nothing
+  pub nameless_held : {R : Rel ExprId} {p : ExprSteps} → Correct p R → Correct (operand_form at (λ i. hir.Missing) p) (Holds an_expr [])
+  unfolding operand_form
+  nameless_held h = holds_behind h (λ i. expr0 hir.Missing (Some at) (λ r. refl))
+
+  pub continue_held : (j : Option Jump) → Correct (continue_form at j) (Holds an_expr [])
+  unfolding continue_form
+  continue_held j = holds_behind (correct_target j) (λ n. expr0 (hir.Continue n) (Some at) (λ r. refl))
+
+module _ (at : Pointer) {es : Bodies} where
+  pub unary_held : (form : Unary) {p : ExprSteps} → Correct p (Holds an_expr es)
+      → Correct (operand_form at (stored_unary form) p) (Holds an_expr es)
+  unfolding operand_form
+  unary_held form h = expr1 (Some at) (stored_unary form) (unary_is form) h
+
+  pub become_held : {p : ExprSteps} → Correct p (Holds an_expr es) → Correct (operand_form at hir.Become p) (Holds an_expr es)
+  unfolding operand_form
+  become_held h = expr1 (Some at) hir.Become (λ r i. refl) h
+
+  pub leaving_held : (form : Leaving) {p : Lowering (Option ExprId)} → Correct p (Holds (maybe an_expr) es)
+      → Correct (value_form at (stored_leaving form) p) (Holds an_expr es)
+  unfolding value_form
+  leaving_held form h = expr1 (Some at) (stored_leaving form) (leaving_is form) h
+
+  pub yield_held : {p : Lowering (Option ExprId)} → Correct p (Holds (maybe an_expr) es)
+      → Correct (value_form at hir.Yield p) (Holds an_expr es)
+  unfolding value_form
+  yield_held h = expr1 (Some at) hir.Yield (λ r o. refl) h
+
+  pub list_held : (form : Listing) {p : Lowering (List ExprId)} → Correct p (Holds (each an_expr) es)
+      → Correct (list_form at form p) (Holds an_expr es)
+  unfolding list_form
+  list_held (tree.tuple_of false) h = expr1 (Some at) hir.Tuple (λ r is. refl) h
+  -- what is missing in front is made last
+  list_held (tree.tuple_of true) h = correct_as
+      (correct_bind h (λ is. correct_bind missing_held (λ i. correct_alloc (hir.Tuple (i ∷ is)) (Some at))))
+      (λ final ps m m' i g row. let s = row.second in expr_held s.second s.after (λ d le. let r = inners_in final d in
+      same_append final (r.expr s.one) (all_of r.expr row.one) [] es (s.first.same d le)
+      (row.first.same d (omega (le, s.before.nodes, s.before.types, arith)))))
+  list_held tree.array_of h = expr1 (Some at) hir.Array (λ r is. refl) h
+
+  pub await_held : (l : Option AwaitLocation) {p : ExprSteps} → Correct p (Holds an_expr es)
+      → Correct (await_form at l p) (Holds an_expr es)
+  unfolding await_form
+  await_held l h = correct_as
+      (correct_bind h (λ i. correct_bind (correct_report_await at l) (λ u. correct_alloc (hir.Await i) (Some at))))
+      (λ final ps m m' i g row. let s = row.second in expr_held s.second s.after (λ d le.
+      row.first.same d (omega (le, s.before.nodes, s.before.types, arith))))
+
+  pub paren_held : {p : ExprSteps} → Correct p (Holds an_expr es) → Correct (paren_form at p) (Holds an_expr es)
+  unfolding paren_form
+  paren_held h = correct_as (correct_bind h (λ i. correct_bind (correct_point at i) (λ u. correct_pure i)))
+      (λ final ps m m' i g row. rw row.second.second.is (record {
+        same = λ d le. row.first.same d (omega (le, row.after.nodes, row.after.types, arith));
+      }))
+
+  pub path_held : (h : HygieneId) {p : Lowering (Option HirPath)} → Correct p (Holds a_path es)
+      → Correct (path_form at h p) (Holds an_expr es)
+  unfolding path_form
+  path_held h hp = expr1 (Some at) (path_or_missing h) (path_is h) hp
+
+  pub break_held : (j : Option Jump) {p : Lowering (Option ExprId)} → Correct p (Holds (maybe an_expr) es)
+      → Correct (break_form at j p) (Holds an_expr es)
+  unfolding break_form
+  break_held j h = holds_behind (correct_target j) (λ n. expr1 (Some at) (hir.Break n) (λ r o. refl) h)
+
+  pub loop_held : (label : Option Label) {b : ExprSteps} → Correct b (Holds an_expr es)
+      → Correct (loop_form at label b) (Holds an_expr es)
+  unfolding loop_form
+  loop_held None h = expr1 (Some at) (λ b. hir.Loop b None source.Loop) (λ r i. refl) h
+  loop_held (Some l) h = correct_as
+      (correct_opened loop_at l (λ n ps. refl) (λ n. h) (λ n i. correct_alloc (hir.Loop i (Some n) source.Loop) (Some at)))
+      (λ final ps m m' i g row. expr_held row.second row.after (λ d le. row.first.same d le))
+
+  pub offset_of_held : (names : List Name) {t : TypeSteps} → Correct t (Holds a_type es)
+      → Correct (offset_of_form at t names) (Holds an_expr es)
+  unfolding offset_of_form
+  offset_of_held names h = expr1 (Some at) (λ t. hir.OffsetOf t names) (λ r t. refl) h
+
+  pub field_held : (name : Name) {p : ExprSteps} → Correct p (Holds an_expr es) → Correct (field_form at name p) (Holds (maybe a_field) es)
+  unfolding field_form
+  field_held name h = correct_as (correct_bind h (λ i. correct_bind (correct_point_field i at) (λ u. correct_pure _)))
+      (λ final ps m m' o g row. rw row.second.second.is (record {
+        same = λ d le. row.first.same d (omega (le, row.after.nodes, row.after.types, arith));
+      }))
+
+  -- of more parts
+
+  module _ {fs : Bodies} where
+    pub binary_held : (form : Binary) {p q : ExprSteps} → Correct p (Holds an_expr es) → Correct q (Holds an_expr fs)
+        → Correct (operands_form at (stored_binary form) p q) (Holds an_expr (es ++ fs))
+    unfolding operands_form
+    binary_held form hp hq = expr2 (Some at) (stored_binary form) (binary_is form) hp hq
+
+    pub both_held : (form : ExprId → ExprId → HirExpr) {p q : ExprSteps}
+        → ((r : Inners) (i j : ExprId) → of_expr r (form i j) ≡ r.expr i ++ r.expr j)
+        → Correct p (Holds an_expr es) → Correct q (Holds an_expr fs) → Correct (operands_form at form p q) (Holds an_expr (es ++ fs))
+    unfolding operands_form
+    both_held form is hp hq = expr2 (Some at) form is hp hq
+
+    pub call_held : {p : ExprSteps} {q : Lowering (List ExprId)} → Correct p (Holds an_expr es) → Correct q (Holds (each an_expr) fs)
+        → Correct (call_form at p q) (Holds an_expr (es ++ fs))
+    unfolding call_form
+    call_held hp hq = expr2 (Some at) hir.Call (λ r f xs. refl) hp hq
+
+    pub cast_held : {p : ExprSteps} {t : TypeSteps} → Correct p (Holds an_expr es) → Correct t (Holds a_type fs)
+        → Correct (cast_form at p t) (Holds an_expr (es ++ fs))
+    unfolding cast_form
+    cast_held hp ht = expr2 (Some at) hir.Cast (λ r e t. refl) hp ht
+
+    -- it is read where its path is
+    pub record_held : (y : Option PathRead) {p : Lowering (Option HirPath)} {c : Lowering StoredFields} → Correct p (PathIs y)
+        → Correct p (Holds a_path es) → Correct c (Holds a_record fs)
+        → Correct (record_form at p c) (Holds an_expr (if_read y (es ++ fs)))
+    unfolding record_form
+    record_held y says hp hc = correct_as (correct_bind (correct_both says hp) (λ o. record_of_held at hc o))
+        (λ final ps m m' i g row.
+        go final ps row.middle m m' i y row.one row.first.one.is (row.second.rel m row.first.other))
+      where
+        go : (final : Stored) (ps : List Frame) (n m m' : Mark) (i : ExprId) (y : Option PathRead) (o : Option HirPath)
+            → Answers final n.types y o → Holds an_expr (if_some o (es ++ fs)) final ps n m' i
+            → Holds an_expr (if_read y (es ++ fs)) final ps m m' i
+        go final ps n m m' i None None e h = record { same = h.same }
+        go final ps n m m' i None (Some p) e h = absurd e
+        go final ps n m m' i (Some x) None e h = absurd e
+        go final ps n m m' i (Some x) (Some p) e h = record { same = h.same }
+
+  module _ {fs gs : Bodies} where
+    -- the condition is lowered last
+    pub if_held : {c t : ExprSteps} {e : Lowering (Option ExprId)} → Correct c (Holds an_expr es) → Correct t (Holds an_expr fs)
+        → Correct e (Holds (maybe an_expr) gs) → Correct (if_form at c t e) (Holds an_expr (es ++ (fs ++ gs)))
+    unfolding if_form
+    if_held hc ht he = correct_as
+        (correct_bind ht (λ t. correct_bind he (λ e. correct_bind hc (λ c. correct_alloc (hir.If c t e) (Some at)))))
+        (λ final ps m m' i g row. let s = row.second in let u = s.second in
+        expr_held u.second u.after (λ d le. let r = inners_in final d in
+        same_append final (r.expr u.one) (r.expr row.one ++ of_present r.expr s.one) es (fs ++ gs) (u.first.same d le)
+        (same_append final (r.expr row.one) (of_present r.expr s.one) fs gs
+        (row.first.same d (omega (le, s.before.nodes, s.before.types, u.before.nodes, u.before.types, arith)))
+        (s.first.same d (omega (le, u.before.nodes, u.before.types, arith))))))
+
+    -- the generic arguments are lowered last
+    pub method_call_held : (name : Name) {p : ExprSteps} {q : Lowering (List ExprId)} {a : Lowering (Option GenericArgs)}
+        → Correct p (Holds an_expr es) → Correct a (Holds some_args fs) → Correct q (Holds (each an_expr) gs)
+        → Correct (method_call_form at p name q a) (Holds an_expr (es ++ (fs ++ gs)))
+    unfolding method_call_form
+    method_call_held name hp ha hq = correct_as
+        (correct_bind hp (λ i. correct_bind hq (λ is. correct_bind ha (λ a. correct_alloc (hir.MethodCall i name a is) (Some at)))))
+        (λ final ps m m' i g row. let s = row.second in let u = s.second in
+        expr_held u.second u.after (λ d le. let r = inners_in final d in
+        same_append final (r.expr row.one) (of_list r u.one ++ all_of r.expr s.one) es (fs ++ gs)
+        (row.first.same d (omega (le, s.before.nodes, s.before.types, u.before.nodes, u.before.types, arith)))
+        (same_append final (of_list r u.one) (all_of r.expr s.one) fs gs (u.first.same d le)
+        (s.first.same d (omega (le, u.before.nodes, u.before.types, arith))))))
+
+pub contents_held : {es fs : Bodies} {p : Lowering (List RecordLitField)} {q : Lowering RecordSpread} → Correct p (Holds (each a_field) es)
+    → Correct q (Holds a_spread fs) → Correct (record_contents p q) (Holds a_record (es ++ fs))
+unfolding record_contents
+contents_held hp hq = holds_two (λ fs s. (fs, s)) (λ r fs s. refl) hp hq
+
+-- ---- blocks
+
+abbrev pub a_statement : Ids Statement
+a_statement r s = of_statement r s
+
+-- the statements are pushed on those that stand, and the tail is behind them
+pub record Filled (done : List Statement) (es fs : Bodies) (final : Stored) (ps : List Frame) (m m' : Mark) (r : StoredContents)
+    : Type 0 where
+  pub new : List Statement
+  pub is : r.0 ≡ done ++ new
+  pub statements : Holds (each a_statement) es final ps m m' new
+  pub tail : Holds (maybe an_expr) fs final ps m m' r.1
+
+pub filled_end : {fs : Bodies} {q : Lowering (Option ExprId)} (done : List Statement) → Correct q (Holds (maybe an_expr) fs)
+    → Correct (q >>= (λ t. pure (done, t))) (Filled done [] fs)
+filled_end done h = correct_as (correct_bind h (λ t. correct_pure (done, t)))
+    (λ final ps m m' r g row. rw (row.second.is, row.second.still) (record {
+      new = [];
+      is = sym (append-nil done);
+      statements = record { same = λ d le. tt };
+      tail = record { same = row.first.same };
+    }))
+
+pub filled_more : {es fs gs : Bodies} {p : Lowering (Option Statement)} {q : List Statement → Lowering StoredContents}
+    → Correct p (Holds (maybe a_statement) es) → ((done : List Statement) → Correct (q done) (Filled done fs gs))
+    → (done : List Statement) → Correct (p >>= (λ o. q (push_some done o))) (Filled done (es ++ fs) gs)
+filled_more {es = es} {fs = fs} h k done = correct_as (correct_bind h (λ o. k (push_some done o)))
+    (λ final ps m m' r g row. let s = row.second in record {
+      new = newly row.one s.new;
+      is = s.is ∙ newly_pushed done row.one s.new;
+      statements = record {
+        same = λ d le. let r = inners_in final d in same_ids final (es ++ fs) (newly_holds (of_statement r) row.one s.new)
+            (same_append final (of_present (of_statement r) row.one) (all_of (of_statement r) s.new) es fs
+            (row.first.same d (omega (le, row.after.nodes, row.after.types, arith))) (s.statements.same d le));
+      };
+      tail = record { same = s.tail.same };
+    })
+
+statement_is : (semi : Bool) (r : Inners) (o : Option ExprId)
+    → of_present (of_statement r) (option_map (λ i. statement.Expr i semi) o) ≡ of_present r.expr o
+statement_is semi r None = refl
+statement_is semi r (Some i) = refl
+
+pub statement_held : {es : Bodies} (semi : Bool) {p : Lowering (Option ExprId)} → Correct p (Holds (maybe an_expr) es)
+    → Correct (p >>= (λ x. pure (option_map (λ i. statement.Expr i semi) x))) (Holds (maybe a_statement) es)
+statement_held semi h = holds_one (option_map (λ i. statement.Expr i semi)) (statement_is semi) h
+
+-- a last expression without a semicolon becomes the tail
+
+abbrev of_contents : Ids StoredContents
+of_contents r c = all_of (of_statement r) c.0 ++ of_present r.expr c.1
+
+one_before : (is js ks ms ns : List ExprId) → js ++ ks ≡ ms ++ ns → (is ++ js) ++ ks ≡ (is ++ ms) ++ ns
+one_before is js ks ms ns e = append_assoc is js ks ∙ (ap (λ xs. is ++ xs) e ∙ sym (append_assoc is ms ns))
+
+settled_is : (r : Inners) (ss : List Statement) (o : Option ExprId) → of_contents r (settled ss o) ≡ of_contents r (ss, o)
+settled_is r ss (Some i) = refl
+settled_is r [] None = refl
+settled_is r (statement.Item ∷ ss) None = settled_is r ss None
+settled_is r (statement.Expr i true ∷ ss) None =
+    let t = settled ss None in
+    one_before (r.expr i) (all_of (of_statement r) t.0) (of_present r.expr t.1) (all_of (of_statement r) ss) [] (settled_is r ss None)
+settled_is r (statement.Expr i false ∷ []) None = sym (append-nil (r.expr i ++ []) ∙ append-nil (r.expr i))
+settled_is r (statement.Expr i false ∷ (s ∷ ss)) None =
+    let t = settled (s ∷ ss) None in
+    one_before (r.expr i) (all_of (of_statement r) t.0) (of_present r.expr t.1) (all_of (of_statement r) (s ∷ ss)) []
+    (settled_is r (s ∷ ss) None)
+
+pub block_form_held : {es fs : Bodies} (at : Pointer) (is_unsafe : Bool) (label : Option LabelId) (number : Option BlockId)
+    {p : Lowering StoredContents} → Correct p (Filled [] es fs)
+    → Correct (block_form at is_unsafe label number p) (Holds an_expr (es ++ fs))
+unfolding block_form
+block_form_held {es = es} {fs = fs} at is_unsafe label number h = holds_behind (correct_enter_block number) (λ u. correct_as
+    (correct_bind h (λ r. correct_alloc (settled_block is_unsafe label number (settled r.0 r.1)) (Some at)))
+    (λ final ps m m' i g row. let s = row.first in expr_held row.second row.after (λ d le. let r = inners_in final d in
+    same_ids final (es ++ fs) (settled_is r row.one.0 row.one.1
+    ∙ ap (λ ss. all_of (of_statement r) ss ++ of_present r.expr row.one.1) s.is)
+    (same_append final (all_of (of_statement r) s.new) (of_present r.expr row.one.1) es fs (s.statements.same d le) (s.tail.same d le)))))
+
+pub labelled_held : {es : Bodies} (label : Option Label) {f : Option LabelId → ExprSteps}
+    → ((n : Option LabelId) → Correct (f n) (Holds an_expr es)) → Correct (labelled label f) (Holds an_expr es)
+unfolding labelled
+labelled_held None h = h None
+labelled_held (Some l) h = correct_as (correct_opened block_at l (λ n ps. refl) (λ n. h (Some n)) (λ n i. correct_pure i))
+    (λ final ps m m' i g row. rw (row.second.is, row.second.still) (record { same = row.first.same }))

@@ -1,0 +1,291 @@
+-- Of a lowered tree, a type or a path, each expression is reached in one way, by itself or by a constant inside.
+use Rattle.std.proofs.Common.{◌≡◌, refl, arith, ℕ, ◌+◌, ◌≤◌, Bool, true, false, length, List, [], ◌∷◌, Option, Some, None, Ok}
+use Rattle.hir_store.specs.Stored.{Stored, store_of}
+use Rattle.hir_store.specs.Storing.{Extends}
+use Rattle.hir_store.specs.declared.hir.RecordLitField.{RecordLitField}
+use Rattle.hir_store.specs.declared.hir.Statement.{Statement}
+use Rattle.hir_store.specs.declared.ids.ExprId.{ExprId}
+use Rattle.hir_store.specs.declared.ids.TypeRefId.{TypeRefId}
+use Rattle.hir_store.specs.declared.path.Path.{Path}
+use Rattle.hir_store.specs.declared.path.GenericArg.TheVariants as arg
+use Rattle.hir_store.specs.declared.type_ref.TypeBound.{TypeBound}
+use Rattle.hir_env.specs.Answered as tree
+use Rattle.hir_env.specs.Answered.{OptionType, OptionPath, OptionArgs}
+use Rattle.hir_env.specs.Answered.{Expr, OptionExpr, Exprs, Fields, Field, Spread as TreeSpread, Block, OptionBlock, Stmts, Stmt}
+use Rattle.hir_env.specs.Answered.{Binder, Type_, Parts, Path as TreePath, Segments, Segment, SegmentArgs, OptionParens, OptionRet}
+use Rattle.hir_env.specs.Answered.{Args, Arg, Bounds, Bound, Constant}
+use Rattle.hir_lower_form.specs.declared.args.ArgLists.{ArgLists}
+use Rattle.hir_lower_form.specs.declared.walk.PathWalk.{PathWalk}
+use Rattle.hir_lower_form.specs.declared.walk.Reading.TheVariants.{Open}
+use Rattle.hir_lower_form.specs.Builder.{Builder}
+use Rattle.hir_lower_form.specs.Lowering.{Lowering}
+use Rattle.hir_lower_form.specs.Walks.{start, at_first, path_read}
+use Rattle.hir_lower_form.specs.Types.{no_lists}
+use Rattle.hir_lower_form.specs.Lower.{lower, lower_part, present, kept_part, lower_each, lower_fields, lower_field, lower_spread}
+use Rattle.hir_lower_form.specs.Lower.{lower_block, lower_block_part, lower_stmts, lower_stmt, lower_path, args_part, type_part}
+use Rattle.hir_lower_form.specs.Lower.{lower_type, present_type, type_or_unit, lower_parts, read_segment, read_each, read_path}
+use Rattle.hir_lower_form.specs.Lower.{read_option, lower_segment_args, parens_part, output_part, lower_args, lower_arg}
+use Rattle.hir_lower_form.specs.Lower.{lower_bounds, lower_bound, lower_constant}
+use Rattle.hir_meaning.specs.Inner.{inners, inner_bodies, of_bound, of_present, path_inner_bodies, type_inner_bodies}
+use Rattle.hir_steps.specs.Keeps.{Paired}
+use Rattle.hir_steps.proofs.Steps.{Correct, correct_in_store, correct_report}
+use Rattle.hir_steps.proofs.TypeAny.{lifetime_any, uses_any}
+use Rattle.hir_one_result.proofs.AfterLowering.{after_lowering}
+use Rattle.hir_same_meaning.specs.Reached.{of_each, reached_to, Spread}
+use Rattle.hir_type_result.specs.Inside.{InsideReachedOnce, TypeInsideReachedOnce, PathInsideReachedOnce}
+use Rattle.hir_type_result.proofs.Counted.{times, times_append, counted_spread}
+use Rattle.hir_type_result.proofs.Weighed.{Cost, view, free, an_expr, a_type, a_constant, sum, Adds, adds_pure, adds_then, adds_beside}
+use Rattle.hir_type_result.proofs.Weighed.{adds_any, adds_type, adds_expr, adds_constant}
+use Rattle.hir_type_result.proofs.Weights as weights
+use Rattle.hir_type_result.proofs.InsideTypes.{maybe_type, types, a_bound, bounds, arguments, lists, maybe_path, walk, reading}
+use Rattle.hir_type_result.proofs.InsideTypes.{error_adds, unit_adds, leaf_adds, over_adds, array_adds, tuple_adds, path_type_adds}
+use Rattle.hir_type_result.proofs.InsideTypes.{ref_adds, fn_adds, impl_adds, dyn_adds, path_bound_adds, proceed_adds, whole_adds}
+use Rattle.hir_type_result.proofs.InsideTypes.{super_adds, self_adds, at_first_adds, bare_adds, with_trait_adds, parens_form_adds}
+use Rattle.hir_type_result.proofs.InsideTypes.{args_form_adds, binding_adds, none_more, one_more}
+use Rattle.hir_type_result.proofs.InsideForms as forms
+use Rattle.hir_type_result.proofs.InsideForms.{maybe, each, a_field, a_spread, a_statement, contents, some_more, missing_adds, some_adds}
+use Rattle.hir_type_result.proofs.InsideForms.{kept_adds}
+
+-- ---- a tree: types and paths hold constants, which are expressions, and these hold types and paths
+
+mutual
+  -- types and paths
+
+  type_adds : (b : Option Binder) (t : Type_) → Correct (lower_type b t) (Adds free a_type)
+  type_adds b (tree.paren_type t) = part_adds b t
+  type_adds b (tree.for_type names t) = part_adds (Some names) t
+  type_adds b (tree.leaf_type at form) = leaf_adds at form
+  type_adds b (tree.over_type at form t) = over_adds at form (part_adds None t)
+  type_adds b (tree.array_type at c t) = array_adds at (constant_adds c) (part_adds None t)
+  type_adds b (tree.tuple_type at ts) = tuple_adds at (parts_add [] ts)
+  type_adds b (tree.path_type at p) = path_type_adds at (path_adds p)
+  type_adds b (tree.ref_type at l mutability t) = ref_adds at mutability l (part_adds None t)
+  type_adds b (tree.fn_type at head ts r) = fn_adds at b head (parts_add [] ts) (or_unit_adds r)
+  type_adds b (tree.impl_type at mode bs) = impl_adds at mode (bounds_add [] bs)
+  type_adds b (tree.nested_impl at) = adds_type _ (Some at) (λ v. omega arith)
+  type_adds b (tree.dyn_type at bs) = dyn_adds at (bounds_add [] bs)
+
+  pub part_adds : (b : Option Binder) (t : OptionType) → Correct (type_part b t) (Adds free a_type)
+  part_adds b tree.no_type = error_adds
+  part_adds b (tree.some_type t) = type_adds b t
+
+  present_adds : (t : OptionType) → Correct (present_type t) (Adds free maybe_type)
+  present_adds tree.no_type = adds_pure None (λ v. omega arith)
+  present_adds (tree.some_type t) = adds_then (type_adds None t) (λ i. adds_pure (Some i) (λ v. omega arith))
+
+  or_unit_adds : (t : OptionType) → Correct (type_or_unit t) (Adds free a_type)
+  or_unit_adds tree.no_type = unit_adds
+  or_unit_adds (tree.some_type t) = type_adds None t
+
+  parts_add : (done : List TypeRefId) (ts : Parts) → Correct (lower_parts done ts) (Adds (types done) types)
+  parts_add done tree.no_parts = none_more (λ r i. r.type i) done
+  parts_add done (tree.more_parts t ts) = one_more (λ r i. r.type i) (part_adds None t) (λ xs. parts_add xs ts) done
+
+  segment_adds : (first : Bool) (s : Segment) (w : PathWalk) → Correct (read_segment first s w) (Adds (walk w) reading)
+  segment_adds first tree.absent_segment w = bare_adds _ w
+  segment_adds first tree.broken_segment w = adds_pure _ (λ v. omega arith)
+  segment_adds first (tree.name_segment n as') w = adds_then (adds_beside (walk w) (segment_args_add as'))
+      (λ a. adds_pure _ (λ v. weights.named_less v.weight v.held n a w))
+  segment_adds first tree.self_type_segment w = bare_adds _ w
+  segment_adds false tree.crate_segment w = adds_pure _ (λ v. omega arith)
+  segment_adds true tree.crate_segment w = adds_pure _ (λ v. omega arith)
+  segment_adds false (tree.dollar_crate_segment root) w = adds_pure _ (λ v. omega arith)
+  segment_adds true (tree.dollar_crate_segment root) w = adds_pure _ (λ v. omega arith)
+  segment_adds false tree.self_segment w = adds_pure _ (λ v. omega arith)
+  segment_adds true tree.self_segment w = self_adds w
+  segment_adds first tree.super_segment w = super_adds w
+  segment_adds false (tree.type_segment t) w = adds_pure _ (λ v. omega arith)
+  segment_adds true (tree.type_segment t) w = adds_then (adds_beside (walk w) (type_adds None t))
+      (λ i. adds_pure _ (λ v. omega arith))
+  segment_adds false (tree.trait_segment t at p) w = adds_pure _ (λ v. omega arith)
+  segment_adds true (tree.trait_segment t at p) w = adds_then (adds_beside (walk w) (type_adds None t))
+      (λ i. with_trait_adds i at w (path_adds p))
+
+  each_adds : (ss : Segments) (w : PathWalk) → Correct (read_each ss w) (Adds (walk w) reading)
+  each_adds tree.no_segments w = adds_pure (Open w) (λ v. omega arith)
+  each_adds (tree.more_segments s ss) w = adds_then (each_adds ss w) (λ r. proceed_adds r (λ v. segment_adds false s v))
+
+  reading_adds : (p : TreePath) (w : PathWalk) → Correct (read_path p w) (Adds (walk w) reading)
+  reading_adds (tree.path leading first rest use_) w =
+      whole_adds (adds_then (each_adds rest w)
+      (λ r. proceed_adds r (λ v. at_first_adds leading v (segment_adds true first (at_first leading v)))))
+      (λ v. option_adds use_ v)
+
+  option_adds : (p : OptionPath) (w : PathWalk) → Correct (read_option p w) (Adds (walk w) reading)
+  option_adds tree.no_path w = adds_pure (Open w) (λ v. omega arith)
+  option_adds (tree.some_path p) w = reading_adds p w
+
+  pub path_adds : (p : OptionPath) → Correct (lower_path p) (Adds free maybe_path)
+  path_adds tree.no_path = adds_pure None (λ v. omega arith)
+  path_adds (tree.some_path p) = adds_then (reading_adds p start) (λ r. adds_pure (path_read r)
+      (λ v. weights.path_read_less v.weight v.held r))
+
+  segment_args_add : (as' : SegmentArgs) → Correct (lower_segment_args as') (Adds free arguments)
+  segment_args_add (tree.segment_args as' ps dots) = args_form_adds (args_add as') (parens_add ps) dots
+
+  parens_add : (ps : OptionParens) → Correct (parens_part ps) (Adds free arguments)
+  parens_add tree.no_parens = adds_pure None (λ v. omega arith)
+  parens_add (tree.some_parens ts r) = parens_form_adds (parts_add [] ts) (output_adds r)
+
+  output_adds : (r : OptionRet) → Correct (output_part r) (Adds free a_type)
+  output_adds tree.no_ret = unit_adds
+  output_adds (tree.some_ret t) = part_adds None t
+
+  pub args_add : (as' : OptionArgs) → Correct (args_part as') (Adds free arguments)
+  args_add tree.no_arg_list = adds_pure None (λ v. omega arith)
+  args_add (tree.some_arg_list as') = adds_then (each_arg_adds no_lists as') (λ l. adds_pure _
+      (λ v. weights.yielded_less v.weight v.held l))
+
+  each_arg_adds : (l : ArgLists) (as' : Args) → Correct (lower_args l as') (Adds (lists l) lists)
+  each_arg_adds l tree.no_args = adds_pure l (λ v. omega arith)
+  each_arg_adds l (tree.more_args a as') = adds_then (arg_adds l a) (λ m. each_arg_adds m as')
+
+  arg_adds : (l : ArgLists) (a : Arg) → Correct (lower_arg l a) (Adds (lists l) lists)
+  arg_adds l tree.skipped_arg = adds_pure l (λ v. omega arith)
+  arg_adds l (tree.type_arg t) = adds_then (adds_beside (lists l) (part_adds None t))
+      (λ i. adds_pure _ (λ v. weights.arg_added v.weight v.held l (arg.Type_ i)))
+  arg_adds l (tree.lifetime_arg x) = adds_then (adds_any (lifetime_any x))
+      (λ i. adds_pure _ (λ v. let e = weights.arg_added v.weight v.held l (arg.Lifetime i) in omega arith))
+  arg_adds l (tree.const_arg c) = adds_then (adds_beside (lists l) (constant_adds c))
+      (λ x. adds_pure _ (λ v. weights.arg_added v.weight v.held l (arg.Const x)))
+  arg_adds l (tree.assoc_arg name as' dots t bs) = adds_then (adds_beside (lists l)
+      (binding_adds name dots (args_add as') (present_adds t) (bounds_add [] bs)))
+      (λ b. adds_pure _ (λ v. weights.binding_added v.weight v.held l b))
+
+  bounds_add : (done : List TypeBound) (bs : Bounds) → Correct (lower_bounds done bs) (Adds (bounds done) bounds)
+  bounds_add done tree.no_bounds = none_more (λ r b. of_bound r b) done
+  bounds_add done (tree.more_bounds b bs) = one_more (λ r b. of_bound r b) (bound_adds b) (λ xs. bounds_add xs bs) done
+
+  bound_adds : (b : Bound) → Correct (lower_bound b) (Adds free a_bound)
+  bound_adds tree.error_bound = adds_pure _ (λ v. omega arith)
+  bound_adds (tree.path_bound at p may binder) = path_bound_adds at may binder (path_adds p)
+  bound_adds (tree.lifetime_bound l) = adds_then (adds_any (lifetime_any l)) (λ i. adds_pure _ (λ v. omega arith))
+  bound_adds (tree.use_bound us) = adds_then (adds_any (uses_any [] us)) (λ xs. adds_pure _ (λ v. omega arith))
+
+  -- constants
+
+  constant_adds : (c : Constant) → Correct (lower_constant c) (Adds free a_constant)
+  constant_adds (tree.constant e) = adds_constant (body_adds e)
+
+  -- expressions
+
+  node_adds : (e : Expr) → Correct (lower e) (Adds free an_expr)
+  node_adds (tree.disabled_expr at by e) = adds_then (adds_any (correct_report _)) (λ u. missing_adds)
+  node_adds (tree.if_expr at c t e) = forms.if_adds at (body_adds c) (block_part_adds t) (present_expr_adds e)
+  node_adds (tree.block_expr b) = block_adds b
+  node_adds (tree.loop_expr at label b) = forms.loop_adds at label (block_part_adds b)
+  node_adds (tree.call_expr at f es) = forms.call_adds at (body_adds f) (each_expr_adds [] es)
+  node_adds (tree.path_expr at p h) = forms.path_adds at h (path_adds p)
+  node_adds (tree.continue_expr at jump) = forms.continue_adds at jump
+  node_adds (tree.break_expr at jump e) = forms.break_adds at jump (present_expr_adds e)
+  node_adds (tree.paren_expr at e) = forms.paren_adds at (body_adds e)
+  node_adds (tree.literal_expr at l) = adds_expr _ (Some at) (λ v. omega arith)
+  node_adds (tree.leaf_expr at form) = forms.leaf_adds at form
+  node_adds (tree.unary_expr at form e) = forms.operand_adds at _ (forms.unary_less form) (body_adds e)
+  node_adds (tree.binary_expr at form a b) = forms.operands_adds at _ (forms.binary_less form) (body_adds a) (body_adds b)
+  node_adds (tree.lazy_expr at op a b) = forms.operands_adds at _ forms.two_less (body_adds a) (body_adds b)
+  node_adds (tree.list_expr at form es) = forms.list_adds at form (each_expr_adds [] es)
+  node_adds (tree.method_call_expr at e name es generics) =
+      forms.method_call_adds at name (body_adds e) (each_expr_adds [] es) (args_add generics)
+  node_adds (tree.cast_expr at e t) = forms.cast_adds at (body_adds e) (part_adds None t)
+  node_adds (tree.record_expr at p fs s) =
+      forms.record_adds at (path_adds p) (forms.contents_adds (fields_add [] fs) (spread_adds s))
+  node_adds (tree.offset_of_expr at t names) = forms.offset_of_adds at names (part_adds None t)
+  node_adds (tree.leaving_expr at form e) = forms.value_adds at _ (forms.leaving_less form) (present_expr_adds e)
+  node_adds (tree.become_expr at e) = forms.operand_adds at _ (λ i v. omega arith) (body_adds e)
+  node_adds (tree.yield_expr at e) = forms.value_adds at _ forms.value_less (present_expr_adds e)
+  node_adds (tree.await_expr at location e) = forms.await_adds at location (body_adds e)
+  node_adds (tree.nameless_expr at e) = forms.operand_adds at _ (λ i v. omega arith) (body_adds e)
+
+  body_adds : (e : OptionExpr) → Correct (lower_part e) (Adds free an_expr)
+  body_adds tree.no_expr = missing_adds
+  body_adds (tree.some_expr e) = node_adds e
+
+  present_expr_adds : (e : OptionExpr) → Correct (present e) (Adds free (maybe an_expr))
+  present_expr_adds tree.no_expr = adds_pure None (λ v. omega arith)
+  present_expr_adds (tree.some_expr e) = some_adds (node_adds e)
+
+  kept_part_adds : (e : OptionExpr) → Correct (kept_part e) (Adds free (maybe an_expr))
+  kept_part_adds tree.no_expr = adds_pure None (λ v. omega arith)
+  kept_part_adds (tree.some_expr e) = kept_adds e (node_adds e)
+
+  each_expr_adds : (done : List ExprId) (es : Exprs) → Correct (lower_each done es) (Adds (each an_expr done) (each an_expr))
+  each_expr_adds done tree.no_exprs = adds_pure done (λ v. omega arith)
+  each_expr_adds done (tree.more_exprs e es) = some_more {cost = an_expr} (kept_adds e (node_adds e)) (λ xs. each_expr_adds xs es) done
+
+  fields_add : (done : List RecordLitField) (fs : Fields) → Correct (lower_fields done fs) (Adds (each a_field done) (each a_field))
+  fields_add done tree.no_fields = adds_pure done (λ v. omega arith)
+  fields_add done (tree.more_fields f fs) = some_more {cost = a_field} (one_field_adds f) (λ xs. fields_add xs fs) done
+
+  one_field_adds : (f : Field) → Correct (lower_field f) (Adds free (maybe a_field))
+  one_field_adds (tree.disabled_field at by f) = adds_then (adds_any (correct_report _)) (λ u. adds_pure None (λ v. omega arith))
+  one_field_adds tree.nameless_field = adds_pure None (λ v. omega arith)
+  one_field_adds (tree.named_field at name e) = forms.field_adds at name (body_adds e)
+
+  spread_adds : (s : TreeSpread) → Correct (lower_spread s) (Adds free a_spread)
+  spread_adds tree.no_spread = adds_pure _ (λ v. omega arith)
+  spread_adds tree.field_defaults = adds_pure _ (λ v. omega arith)
+  spread_adds (tree.spread_of e) = adds_then (node_adds e) (λ i. adds_pure _ (λ v. omega arith))
+
+  block_adds : (b : Block) → Correct (lower_block b) (Adds free an_expr)
+  block_adds (tree.block at is_unsafe label number ss e) =
+      forms.labelled_adds label (λ n. forms.block_form_adds at is_unsafe n number (stmts_add [] ss (kept_part_adds e)))
+
+  block_part_adds : (b : OptionBlock) → Correct (lower_block_part b) (Adds free an_expr)
+  block_part_adds tree.no_block = missing_adds
+  block_part_adds (tree.some_block b) = block_adds b
+
+  stmts_add : (done : List Statement) (ss : Stmts) {tail : Lowering (Option ExprId)} → Correct tail (Adds free (maybe an_expr))
+      → Correct (lower_stmts done ss tail) (Adds (each a_statement done) contents)
+  stmts_add done tree.no_stmts h = adds_then (adds_beside (each a_statement done) h) (λ t. adds_pure _ (λ v. omega arith))
+  stmts_add done (tree.more_stmts s ss) h = some_more {cost = a_statement} (stmt_adds s) (λ xs. stmts_add xs ss h) done
+
+  stmt_adds : (s : Stmt) → Correct (lower_stmt s) (Adds free (maybe a_statement))
+  stmt_adds (tree.expr_stmt e semi) = forms.statement_adds semi (kept_part_adds e)
+  stmt_adds tree.item_stmt = adds_pure _ (λ v. omega arith)
+
+-- ---- laws
+
+-- what is reached, list by list
+weighed : (f : ExprId → List ℕ) (k : ℕ) (is : List ExprId) → times k (of_each f is) ≡ sum (λ i. times k (f i)) is
+weighed f k [] = refl
+weighed f k (i ∷ is) = let a = times_append k (f i) (of_each f is) in let r = weighed f k is in omega arith
+
+-- where nothing was reached before, and the answer costs as much as these reach
+inside_once : {A : Type 0} {now : A → Cost} {p : Lowering A} → Correct p (Adds free now) → (b b' : Builder) (a : A) → Paired b.stored
+    → p b ≡ (Ok a, b') → (final : Stored) → Extends b'.stored final → (depth : ℕ) → length final.exprs.entries ≤ depth
+    → (is : List ExprId) → ((k : ℕ) → sum (λ i. times k (reached_to final.exprs.entries depth i)) is
+    ≤ now a (view final depth k depth (length final.exprs.entries + length final.types.entries)))
+    → Spread (length b.stored.exprs.entries) (length b'.stored.exprs.entries) (of_each (reached_to final.exprs.entries depth) is)
+inside_once h b b' a paired is final stays depth le list less =
+    let r = after_lowering (correct_in_store h) b a b' paired is final stays in
+    let n = r.nodes in
+    let t = r.types in
+    counted_spread _ _ _ (λ k.
+    let e = r.rel.earlier depth k depth (length final.exprs.entries + length final.types.entries) (omega arith) (omega arith)
+    (omega arith) in
+    let c = e.counted in
+    let l = less k in
+    let w = weighed (reached_to final.exprs.entries depth) k list in omega arith)
+
+pub expr_inside : InsideReachedOnce
+unfolding inner_bodies
+expr_inside e b b' i l final stays depth le =
+    inside_once (body_adds e) b b' i l.paired l.is final stays depth le (i ∷ inner_bodies (store_of final) i) (λ k. omega arith)
+
+pub type_inside : TypeInsideReachedOnce
+unfolding type_inner_bodies
+type_inside binder t b b' i paired is final stays depth le =
+    inside_once (part_adds binder t) b b' i paired is final stays depth le (type_inner_bodies (store_of final) i) (λ k. omega arith)
+
+held_path : (final : Stored) (r : Option Path) (k : ExprId → ℕ)
+    → sum k (of_present (path_inner_bodies (store_of final)) r)
+    ≤ weights.in_path k (inners (store_of final) (length final.exprs.entries + length final.types.entries)) r
+unfolding path_inner_bodies
+held_path final None k = omega arith
+held_path final (Some p) k = omega arith
+
+pub path_inside : PathInsideReachedOnce
+path_inside p b b' r paired is final stays depth le =
+    inside_once (path_adds p) b b' r paired is final stays depth le (of_present (path_inner_bodies (store_of final)) r)
+    (λ k. held_path final r (λ i. times k (reached_to final.exprs.entries depth i)))
