@@ -1,11 +1,14 @@
 -- The sums decide the rule.
-use Rattle.std.proofs.Common.{◌≡◌, ℕ, Bool, true, false, not, refl, sym, ◌∙◌, ap, ◌||◌, ◌&&◌, List, [], ◌∷◌, ◌++◌, Some, None, nat_eq, if◌then◌else◌, ◌⊎◌, inl, inr, MatchBool}
+use Rattle.std.proofs.Common.{◌≡◌, ℕ, Bool, true, false, not, refl, sym, ◌∙◌, ap, ◌||◌, ◌&&◌, List, [], ◌∷◌, ◌++◌, Some, None, nat_eq}
+use Rattle.std.proofs.Common.{if◌then◌else◌, ◌⊎◌, inl, inr, MatchBool}
 use Rattle.hir_binding.specs.declared.binding.BindingAnnotation.{BindingAnnotation}
 use Rattle.hir_binding.specs.declared.binding.BindingAnnotation.TheVariants.{Unannotated, Mutable, Ref, RefMut}
 use Rattle.hir_binding.specs.Uses.{Uses, name_use, product, alternatives, Parts, no_parts, more_parts}
 use Rattle.hir_binding.specs.Steps.{same_mode}
-use Rattle.hir_binding.specs.Rule.{Binds, BindsInSome, BindsInEach, BindsAs, BindsAsInSome, HasOneMode, BindsInOneAtMost, BindsOnce, BindsOnceInEach, BindsAcrossAll, BindsAcrossAllInEach}
-use Rattle.hir_binding.proofs.Summary.{binds, binds_some, modes, modes_of, twice, twice_in, twice_each, differ, partly, partly_in, partly_first, partly_later, clash}
+use Rattle.hir_binding.specs.Rule.{Binds, BindsInSome, BindsInEach, BindsAs, BindsAsInSome, HasOneMode, BindsInOneAtMost, BindsOnce}
+use Rattle.hir_binding.specs.Rule.{BindsOnceInEach, BindsAcrossAll, BindsAcrossAllInEach}
+use Rattle.hir_binding.proofs.Summary.{binds, binds_some, modes, modes_of, twice, twice_in, twice_each, differ, partly, partly_in}
+use Rattle.hir_binding.proofs.Summary.{partly_first, partly_later, clash}
 use Rattle.std.proofs.lemmas.Bool.Decides.{eqb_tells}
 
 -- a fault: where it is true the fact fails
@@ -50,7 +53,9 @@ mutual
 
 -- of a product: each part is right, and the first shares the name with none of the rest
 once_in : (A B C N : Type 0) (x y z : Bool) → Denies x A → Denies y (N × B) → Denies z C → Denies ((x || y) || z) ((C × N) × (A × B))
-once_in A B C N x y z a b c = denies_like ((A × (N × B)) × C) ((C × N) × (A × B)) ((x || y) || z) (λ h. ((h.1, h.0.1.0), (h.0.0, h.0.1.1))) (λ h. ((h.1.0, (h.0.1, h.1.1)), h.0.0)) (denies_or (A × (N × B)) C (x || y) z (denies_or A (N × B) x y a b) c)
+once_in A B C N x y z a b c = denies_like ((A × (N × B)) × C) ((C × N) × (A × B)) ((x || y) || z)
+    (λ h. ((h.1, h.0.1.0), (h.0.0, h.0.1.1))) (λ h. ((h.1.0, (h.0.1, h.1.1)), h.0.0))
+    (denies_or (A × (N × B)) C (x || y) z (denies_or A (N × B) x y a b) c)
 
 mutual
   pub denies_once : (k : ℕ) (t : Uses) → Denies (twice k t) (BindsOnce k t)
@@ -60,12 +65,14 @@ mutual
 
   denies_once_in : (k : ℕ) (ps : Parts) → Denies (twice_in k ps) (BindsInOneAtMost k ps × BindsOnceInEach k ps)
   denies_once_in k no_parts = (tt, tt)
-  denies_once_in k (more_parts p ps) = once_in (BindsOnce k p) (BindsOnceInEach k ps) (Binds k p → ¬ BindsInSome k ps) (BindsInOneAtMost k ps) (twice k p) (twice_in k ps) (binds k p && binds_some k ps) (denies_once k p) (denies_once_in k ps)
+  denies_once_in k (more_parts p ps) = once_in (BindsOnce k p) (BindsOnceInEach k ps) (Binds k p → ¬ BindsInSome k ps)
+      (BindsInOneAtMost k ps) (twice k p) (twice_in k ps) (binds k p && binds_some k ps) (denies_once k p) (denies_once_in k ps)
       (denies_both (Binds k p) (BindsInSome k ps) (binds k p) (binds_some k ps) (tells_binds k p) (tells_some k ps))
 
   denies_once_each : (k : ℕ) (ps : Parts) → Denies (twice_each k ps) (BindsOnceInEach k ps)
   denies_once_each k no_parts = tt
-  denies_once_each k (more_parts p ps) = denies_or (BindsOnce k p) (BindsOnceInEach k ps) (twice k p) (twice_each k ps) (denies_once k p) (denies_once_each k ps)
+  denies_once_each k (more_parts p ps) = denies_or (BindsOnce k p) (BindsOnceInEach k ps) (twice k p) (twice_each k ps) (denies_once k p)
+      (denies_once_each k ps)
 
 -- each of these alternatives binds the name, or none of them does
 abbrev Alike : Bool → ℕ → Parts → Type 0
@@ -95,7 +102,8 @@ alike_none true k = tt
 alike_none false k = λ h. h
 
 -- the first of the later alternatives, and those after it, of which as many bind as before or it differs
-later_more : (A B C D : Type 0) (x y z z' : Bool) → Denies x A → Denies y D → (y ≡ false → z' ≡ z) → Denies z (C × B) → Denies ((x || y) || z') ((D × C) × (A × B))
+later_more : (A B C D : Type 0) (x y z z' : Bool) → Denies x A → Denies y D → (y ≡ false → z' ≡ z) → Denies z (C × B) →
+    Denies ((x || y) || z') ((D × C) × (A × B))
 later_more A B C D true y z z' a d e c = λ h. a h.1.0
 later_more A B C D false true z z' a d e c = λ h. d h.0.0
 later_more A B C D false false true z' a d e c = rw (e refl) (λ h. c (h.0.1, h.1.1))
@@ -105,7 +113,8 @@ some_as_before : (some b : Bool) → differ some b ≡ false → (some || b) ≡
 some_as_before true b e = refl
 some_as_before false b e = e
 
-across_first : (x b : Bool) (k : ℕ) (p : Uses) (ps : Parts) (y : Bool) → Denies x (BindsAcrossAll k p) → Tells b (Binds k p) → Denies y (Alike b k ps × BindsAcrossAllInEach k ps) →
+across_first : (x b : Bool) (k : ℕ) (p : Uses) (ps : Parts) (y : Bool) → Denies x (BindsAcrossAll k p) → Tells b (Binds k p) →
+    Denies y (Alike b k ps × BindsAcrossAllInEach k ps) →
     Denies (x || y) ((BindsInEach k (more_parts p ps) ⊎ (¬ BindsInSome k (more_parts p ps))) × BindsAcrossAllInEach k (more_parts p ps))
 across_first true b k p ps y h g f = λ r. h r.1.0
 across_first false true k p ps true h g f = λ r. elim r.0 [ inl e ↦ f (e.1, r.1.1) | inr n ↦ n (inl g) ]
@@ -113,12 +122,18 @@ across_first false false k p ps true h g f = λ r. elim r.0 [ inl e ↦ g e.0 | 
 across_first false true k p ps false h g f = (inl (g, f.0), (h, f.1))
 across_first false false k p ps false h g f = (inr (elim [ inl x ↦ g x | inr x ↦ f.0 x ]), (h, f.1))
 
-across_later : (some b : Bool) (k : ℕ) (p : Uses) (ps : Parts) (x : Bool) → Denies x (BindsAcrossAll k p) → Tells b (Binds k p) → Denies (partly_later k some ps) (Alike some k ps × BindsAcrossAllInEach k ps) →
-    Denies ((x || differ some b) || partly_later k (some || b) ps) (Alike some k (more_parts p ps) × BindsAcrossAllInEach k (more_parts p ps))
-across_later some b k p ps x h g f = denies_like ((Tells some (Binds k p) × Alike some k ps) × (BindsAcrossAll k p × BindsAcrossAllInEach k ps)) (Alike some k (more_parts p ps) × BindsAcrossAllInEach k (more_parts p ps)) ((x || differ some b) || partly_later k (some || b) ps)
+across_later : (some b : Bool) (k : ℕ) (p : Uses) (ps : Parts) (x : Bool) → Denies x (BindsAcrossAll k p) → Tells b (Binds k p) →
+    Denies (partly_later k some ps) (Alike some k ps × BindsAcrossAllInEach k ps) →
+    Denies ((x || differ some b) || partly_later k (some || b) ps)
+        (Alike some k (more_parts p ps) × BindsAcrossAllInEach k (more_parts p ps))
+across_later some b k p ps x h g f = denies_like ((Tells some (Binds k p) × Alike some k ps) ×
+    (BindsAcrossAll k p × BindsAcrossAllInEach k ps)) (Alike some k (more_parts p ps) × BindsAcrossAllInEach k (more_parts p ps))
+    ((x || differ some b) || partly_later k (some || b) ps)
     (λ r. (alike_more some k p ps r.0.0 r.0.1, (r.1.0, r.1.1)))
     (λ r. ((alike_first some k p ps r.0, alike_rest some k p ps r.0), (r.1.0, r.1.1)))
-    (later_more (BindsAcrossAll k p) (BindsAcrossAllInEach k ps) (Alike some k ps) (Tells some (Binds k p)) x (differ some b) (partly_later k some ps) (partly_later k (some || b) ps) h (denies_alike (Binds k p) some b g) (λ e. ap (λ c. partly_later k c ps) (some_as_before some b e)) f)
+    (later_more (BindsAcrossAll k p) (BindsAcrossAllInEach k ps) (Alike some k ps) (Tells some (Binds k p)) x (differ some b)
+        (partly_later k some ps) (partly_later k (some || b) ps) h (denies_alike (Binds k p) some b g)
+        (λ e. ap (λ c. partly_later k c ps) (some_as_before some b e)) f)
 
 mutual
   pub denies_across : (k : ℕ) (t : Uses) → Denies (partly k t) (BindsAcrossAll k t)
@@ -128,15 +143,19 @@ mutual
 
   denies_across_in : (k : ℕ) (ps : Parts) → Denies (partly_in k ps) (BindsAcrossAllInEach k ps)
   denies_across_in k no_parts = tt
-  denies_across_in k (more_parts p ps) = denies_or (BindsAcrossAll k p) (BindsAcrossAllInEach k ps) (partly k p) (partly_in k ps) (denies_across k p) (denies_across_in k ps)
+  denies_across_in k (more_parts p ps) = denies_or (BindsAcrossAll k p) (BindsAcrossAllInEach k ps) (partly k p) (partly_in k ps)
+      (denies_across k p) (denies_across_in k ps)
 
-  denies_across_first : (k : ℕ) (ps : Parts) → Denies (partly_first k ps) ((BindsInEach k ps ⊎ (¬ BindsInSome k ps)) × BindsAcrossAllInEach k ps)
+  denies_across_first : (k : ℕ) (ps : Parts) → Denies (partly_first k ps)
+      ((BindsInEach k ps ⊎ (¬ BindsInSome k ps)) × BindsAcrossAllInEach k ps)
   denies_across_first k no_parts = (inl tt, tt)
-  denies_across_first k (more_parts p ps) = across_first (partly k p) (binds k p) k p ps (partly_later k (binds k p) ps) (denies_across k p) (tells_binds k p) (denies_across_later k (binds k p) ps)
+  denies_across_first k (more_parts p ps) = across_first (partly k p) (binds k p) k p ps (partly_later k (binds k p) ps)
+      (denies_across k p) (tells_binds k p) (denies_across_later k (binds k p) ps)
 
   denies_across_later : (k : ℕ) (some : Bool) (ps : Parts) → Denies (partly_later k some ps) (Alike some k ps × BindsAcrossAllInEach k ps)
   denies_across_later k some no_parts = (alike_none some k, tt)
-  denies_across_later k some (more_parts p ps) = across_later some (binds k p) k p ps (partly k p) (denies_across k p) (tells_binds k p) (denies_across_later k some ps)
+  denies_across_later k some (more_parts p ps) = across_later some (binds k p) k p ps (partly k p) (denies_across k p) (tells_binds k p)
+      (denies_across_later k some ps)
 
 -- the modes are those of the uses
 abbrev IsIn : BindingAnnotation → List BindingAnnotation → Type 0
@@ -171,7 +190,10 @@ mutual
 
   in_modes_of : (k : ℕ) (m : BindingAnnotation) (ps : Parts) → BindsAsInSome k m ps → IsIn m (modes_of k ps)
   in_modes_of k m no_parts h = h
-  in_modes_of k m (more_parts p ps) h = elim h [ inl x ↦ in_left m (modes k p) (modes_of k ps) (in_modes k m p x) | inr x ↦ in_right m (modes k p) (modes_of k ps) (in_modes_of k m ps x) ]
+  in_modes_of k m (more_parts p ps) h = elim h [
+    | inl x ↦ in_left m (modes k p) (modes_of k ps) (in_modes k m p x)
+    | inr x ↦ in_right m (modes k p) (modes_of k ps) (in_modes_of k m ps x)
+  ]
 
 mutual
   of_modes : (k : ℕ) (m : BindingAnnotation) (t : Uses) → IsIn m (modes k t) → BindsAs k m t
@@ -181,7 +203,8 @@ mutual
 
   of_modes_of : (k : ℕ) (m : BindingAnnotation) (ps : Parts) → IsIn m (modes_of k ps) → BindsAsInSome k m ps
   of_modes_of k m no_parts h = h
-  of_modes_of k m (more_parts p ps) h = elim (in_either m (modes k p) (modes_of k ps) h) [ inl x ↦ inl (of_modes k m p x) | inr x ↦ inr (of_modes_of k m ps x) ]
+  of_modes_of k m (more_parts p ps) h = elim (in_either m (modes k p) (modes_of k ps) h)
+      [ inl x ↦ inl (of_modes k m p x) | inr x ↦ inr (of_modes_of k m ps x) ]
 
 tells_mode : (m l : BindingAnnotation) → Tells (same_mode m l) (m ≡ l)
 tells_mode Unannotated Unannotated = refl
@@ -201,7 +224,8 @@ denies_not P false h = h
 
 denies_all : (f : BindingAnnotation) (ms : List BindingAnnotation) → Denies (clash (Some f) ms) (AreAll f ms)
 denies_all f [] = tt
-denies_all f (m ∷ ms) = denies_or (f ≡ m) (AreAll f ms) (not (same_mode f m)) (clash (Some f) ms) (denies_not (f ≡ m) (same_mode f m) (tells_mode f m)) (denies_all f ms)
+denies_all f (m ∷ ms) = denies_or (f ≡ m) (AreAll f ms) (not (same_mode f m)) (clash (Some f) ms)
+    (denies_not (f ≡ m) (same_mode f m) (tells_mode f m)) (denies_all f ms)
 
 all_are : (f m : BindingAnnotation) (ms : List BindingAnnotation) → AreAll f ms → IsIn m ms → f ≡ m
 all_are f m [] h i = absurd i

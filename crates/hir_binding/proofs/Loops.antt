@@ -3,7 +3,8 @@ use Rattle.std.proofs.Math.ListN.{set}
 use Rattle.std.proofs.lemmas.Bool.{lt-ltb, le-ltb, cases_eq}
 use Rattle.std.proofs.lemmas.Bool.Decides.{nat_tests}
 use Rattle.std.proofs.lemmas.Option.{slice_get-get_or}
-use Rattle.std.proofs.Common.{zero, suc, length, get_or, ◌≡◌, ◌≢◌, ◌+◌, ◌<◌, ◌≤◌, ◌&&◌, not, refl, sym, ◌∙◌, ap, true, inl, inr, arith, List, [], ◌∷◌, slice_get, option_map, ℕ, Bool, false, Option, Some, None, if◌then◌else◌, nat_lt}
+use Rattle.std.proofs.Common.{zero, suc, length, get_or, ◌≡◌, ◌≢◌, ◌+◌, ◌<◌, ◌≤◌, ◌&&◌, not, refl, sym, ◌∙◌, ap, true, inl, inr, arith}
+use Rattle.std.proofs.Common.{List, [], ◌∷◌, slice_get, option_map, ℕ, Bool, false, Option, Some, None, if◌then◌else◌, nat_lt}
 use Rattle.hir_binding.specs.declared.binding.BindingProblems.TheVariants.{NotBoundAcrossAll}
 use Rattle.hir_binding.specs.declared.binding.Mark.TheVariants.{Unseen, Missing, Unmarked, Marked}
 use Rattle.hir_binding.specs.declared.list.Entry.{Entry}
@@ -96,9 +97,12 @@ none_between true = refl
 none_between false = refl
 
 -- before the first turn nothing is written
-pub entry_first : (m : ℕ) (o : Option ℕ) (x : Option Entry) → x ≡ option_map (entry_between m m o) x
-entry_first m o None = refl
-entry_first m o (Some e) = ap (λ b. Some (entry_if b e)) (sym (none_between (is_before m o)))
+entry_same : (m : ℕ) (o : Option ℕ) (x : Option Entry) → x ≡ option_map (entry_between m m o) x
+entry_same m o None = refl
+entry_same m o (Some e) = ap (λ b. Some (entry_if b e)) (sym (none_between (is_before m o)))
+
+pub entry_first : (m n : ℕ) (o : Option ℕ) (x : Option Entry) → n ≡ m → x ≡ option_map (entry_between m n o) x
+entry_first m n o x e = rw e (entry_same m o x)
 
 -- and after the last what the end of the alternative says
 ended_either : (before within : Bool) (e : Entry) →

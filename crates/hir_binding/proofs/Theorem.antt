@@ -19,7 +19,8 @@ fails_at : {P : Type 0} (b : Bool) → Denies b P → b ≡ true → ¬ P
 fails_at true d e = d
 fails_at false d e = cc
 
-true_of : (p : BindingProblems) (k : ℕ) (t : Uses) (i w a : Bool) → Denies i (HasOneMode k t) → Denies w (BindsOnce k t) → Denies a (BindsAcrossAll k t) → at_fault p i w a ≡ true → IsTrueOf p k t
+true_of : (p : BindingProblems) (k : ℕ) (t : Uses) (i w a : Bool) → Denies i (HasOneMode k t) → Denies w (BindsOnce k t) →
+    Denies a (BindsAcrossAll k t) → at_fault p i w a ≡ true → IsTrueOf p k t
 true_of BoundInconsistently k t i w a d e f h = fails_at i d h
 true_of BoundMoreThanOnce k t i w a d e f h = fails_at w e h
 true_of NotBoundAcrossAll k t i w a d e f h = fails_at a f h

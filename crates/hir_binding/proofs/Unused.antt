@@ -21,7 +21,8 @@ mutual
 
   unused_parts : (k : ℕ) (ps : Parts) (s : Noted) → binds_some k ps ≡ false → after_parts over_all k ps s ≡ s
   unused_parts k no_parts s e = refl
-  unused_parts k (more_parts p ps) s e = let h = neither (binds k p) (binds_some k ps) e in ap (λ x. after_parts over_all k ps x) (unused k p s h.0) ∙ unused_parts k ps s h.1
+  unused_parts k (more_parts p ps) s e = let h = neither (binds k p) (binds_some k ps) e in ap (λ x. after_parts over_all k ps x)
+      (unused k p s h.0) ∙ unused_parts k ps s h.1
 
   unused_alternatives : (k : ℕ) (ps : Parts) (s : Noted) → binds_some k ps ≡ false → after_alternatives over_all k ps s ≡ s
   unused_alternatives k no_parts s e = refl
@@ -29,7 +30,8 @@ mutual
       let h = neither (binds k p) (binds_some k ps) e in
       ap (λ x. left over_all (after_later over_all k ps x)) (unused k p (entered s) h.0) ∙ unused_later k ps s false h.1
 
-  unused_later : (k : ℕ) (ps : Parts) (s : Noted) (later : Bool) → binds_some k ps ≡ false → left over_all (after_later over_all k ps (unseen_in later (entered s))) ≡ s
+  unused_later : (k : ℕ) (ps : Parts) (s : Noted) (later : Bool) → binds_some k ps ≡ false →
+      left over_all (after_later over_all k ps (unseen_in later (entered s))) ≡ s
   unused_later k no_parts s later e = refl
   unused_later k (more_parts p ps) s later e =
       let h = neither (binds k p) (binds_some k ps) e in

@@ -1,5 +1,5 @@
 -- What follows from the steps.
-use Rattle.std.specs.Prelude.{◌≡◌, ℕ, Option, Some, None}
+use Rattle.std.specs.Prelude.{◌≡◌, ℕ, Some, None}
 use Rattle.hir_binding.specs.declared.binding.BindingAnnotation.{BindingAnnotation}
 use Rattle.hir_binding.specs.declared.binding.BindingAnnotation.TheVariants.{Unannotated, Ref}
 use Rattle.hir_binding.specs.declared.binding.BindingProblems.TheVariants.{BoundMoreThanOnce, BoundInconsistently, NotBoundAcrossAll}
@@ -44,5 +44,6 @@ pub record Worked : Type 0 where
   pub new_later : shown over_recent 0 (alternatives (both wild (x Unannotated))) ≡ Some NotBoundAcrossAll
   -- `A(x) | B | C | (x, x)`: unmarked at one end and missing at the next, and then used twice
   pub back_again :
-      shown over_recent 0 (alternatives (more_parts (x Unannotated) (more_parts wild (both wild (product (both (x Unannotated) (x Unannotated)))))))
+      shown over_recent 0 (alternatives (more_parts (x Unannotated)
+          (more_parts wild (both wild (product (both (x Unannotated) (x Unannotated)))))))
       ≡ Some BoundMoreThanOnce

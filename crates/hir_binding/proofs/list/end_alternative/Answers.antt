@@ -5,10 +5,13 @@ use Rattle.hir_binding.proofs.list.end_alternative.Goals.{in-Some, in_default}
 use Rattle.hir_binding.proofs.list.end_alternative.Goals as goal
 
 pub bounds-entries-name : goal.bounds-entries-name
-bounds-entries-name c = let h = c.requires c.in-Some.name (is_seen c.args.names.now.previous c.args.names.now.start c.loop-place.place (get nat_eq c.args.names.now.last c.in-Some.name) ((c.last_marked_at.ensures c.in-Some.name).0 c.in-Some.is)) in omega arith
+bounds-entries-name c = let h = c.requires c.in-Some.name (is_seen c.args.names.now.previous c.args.names.now.start c.loop-place.place
+    (get nat_eq c.args.names.now.last c.in-Some.name) ((c.last_marked_at.ensures c.in-Some.name).0 c.in-Some.is)) in omega arith
 
 pub offset_bounds-entries-name : goal.offset_bounds-entries-name
-offset_bounds-entries-name c = let h = c.requires c.in-Some.name (is_seen c.args.names.now.previous c.args.names.now.start c.loop-place.place (get nat_eq c.args.names.now.last c.in-Some.name) ((c.last_marked_at.ensures c.in-Some.name).0 c.in-Some.is)) in search rules
+offset_bounds-entries-name c = let h = c.requires c.in-Some.name
+    (is_seen c.args.names.now.previous c.args.names.now.start c.loop-place.place (get nat_eq c.args.names.now.last c.in-Some.name)
+    ((c.last_marked_at.ensures c.in-Some.name).0 c.in-Some.is)) in search rules
 
 pub loop-place-preserved : goal.loop-place-preserved
 loop-place-preserved c = record {

@@ -7,7 +7,8 @@ use Rattle.hir_binding.proofs.Lists.{sets_push, entered_is}
 use Rattle.hir_binding.proofs.list.BindingList.begin_or.Goals as goal
 
 pub invariant_of-self-2-clause-known_here : goal.invariant_of-self-2-clause-known_here
-invariant_of-self-2-clause-known_here c = λ k h. absurd (h (ap (λ (s : SeenNames). mark_of s k) c.replace-around.ensures.after ∙ ap (λ (s : Set). s.mark) (c.new-first.ensures k)))
+invariant_of-self-2-clause-known_here c = λ k h. absurd (h (ap (λ (s : SeenNames). mark_of s k) c.replace-around.ensures.after ∙ ap
+    (λ (s : Set). s.mark) (c.new-first.ensures k)))
 
 pub invariant_of-self-2-clause-known_outside : goal.invariant_of-self-2-clause-known_outside
 invariant_of-self-2-clause-known_outside c = λ i s k e h.
@@ -20,4 +21,5 @@ invariant_of-self-2-clause-known_outside c = λ i s k e h.
 pub returns-clause-noted : goal.returns-clause-noted
 returns-clause-noted c = λ k. entered_is _ _ (set_of c.args.self.now.here k) _ _ _
     (ap (λ (s : SeenNames). set_of s k) c.replace-around.ensures.after ∙ c.new-first.ensures k)
-    (sets_push k c.args.self.now.outer.items c.push_reserved.new.self.items c.args.self.now.here (let p = rw c.in_ok-reserve.ensures.items at c.push_reserved.ensures.items in rw c.replace-around.ensures.value at p))
+    (sets_push k c.args.self.now.outer.items c.push_reserved.new.self.items c.args.self.now.here
+        (let p = rw c.in_ok-reserve.ensures.items at c.push_reserved.ensures.items in rw c.replace-around.ensures.value at p))
