@@ -116,7 +116,12 @@ ended_is : (previous start : ℕ) (o : Option ℕ) (e : Entry) → entry_between
 ended_is previous start None e = refl
 ended_is previous start (Some p) e = ended_either (nat_lt p previous) (nat_lt p start) e
 
-pub entries_ended : (previous start : ℕ) (o : Option ℕ) (x : Option Entry) →
+entries_ended : (previous start : ℕ) (o : Option ℕ) (x : Option Entry) →
     option_map (entry_between previous start o) x ≡ option_map (ended_entry (mark_at previous start o)) x
 entries_ended previous start o None = refl
 entries_ended previous start o (Some e) = ap (λ (x : Entry). Some x) (ended_is previous start o e)
+
+pub entries_at_end : (previous start place : ℕ) (o : Option ℕ) (x y : Option Entry) →
+    y ≡ option_map (entry_between previous place o) x → place ≡ start → y ≡ option_map (ended_entry (mark_at previous start o)) x
+entries_at_end previous start place o x y e h = e
+    ∙ (ap (λ n. option_map (entry_between previous n o) x) h ∙ entries_ended previous start o x)

@@ -172,6 +172,7 @@ impl BindingList {
 /// Ends an alternative: a later one leaves no name of its or-pattern unmarked. It goes over the names of the alternative before
 /// alone, so each place of a set is visited once, however many alternatives there are: any other name that is left unmarked has
 /// its problem since an earlier end.
+#[tactic(auto, using(crate::proofs::Loops::entry_first, crate::proofs::Loops::entries_at_end))]
 fn end_alternative(entries: &mut [Entry], names: &SeenNames)
     requires { (k : ℕ) → mark_of names.now k ≢ Unseen → k < length entries.old }
     ensures { (k : ℕ) → slice_get entries.new k ≡ option_map (ended_entry (mark_of names.now k)) (slice_get entries.old k) }
