@@ -183,7 +183,7 @@ past_pat (pat.Ref mutability p) = past_pat_id p
 past_pat (pat.Box inner) = past_pat_id inner
 past_pat (pat.Deref inner) = past_pat_id inner
 past_pat (pat.Lit e) = past_expr_id e
-past_pat (pat.Range op start end) = join (past_present past_expr_id start) (past_present past_expr_id end)
+past_pat (pat.Range op low high) = join (past_present past_expr_id low) (past_present past_expr_id high)
 past_pat (pat.Expr e) = past_expr_id e
 
 abbrev pub past_pats : List Pat → Past
