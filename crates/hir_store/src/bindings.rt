@@ -155,6 +155,9 @@ impl BindingArena {
             limit,
             alloc: _,
         } = self;
-        (Arena::of(entries, limit), Definitions { lists: definitions })
+        (
+            Arena::of(entries, limit),
+            Definitions { lists: definitions },
+        )
     }
 }

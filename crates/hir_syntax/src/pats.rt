@@ -131,7 +131,10 @@ impl Drop for PatKind {
                 leading_comma: _,
                 fields: _,
             } => {}
-            PatKind::TuplePat { leading_comma: _, fields: _ } => {}
+            PatKind::TuplePat {
+                leading_comma: _,
+                fields: _,
+            } => {}
             PatKind::RefPat { mut_: _, pat: _ } => {}
             PatKind::PathPat { path: _ } => {}
             PatKind::OrPat { pats: _ } => {}
