@@ -112,32 +112,38 @@ def segments(size):
     return nodes
 
 
-def arguments(size):
-    """One path with very many types as arguments."""
+def one_list(size, add_argument):
+    """One path with very many arguments of two nodes each."""
     nodes = Nodes()
     nodes.add("PathType", path=1)
     nodes.add("Path", segs=[2])
     nodes.add("PathSegment", seg="name", name="A", generics=3)
     args = nodes.add("GenericArgList", args=[])
     while len(nodes.all) + 2 <= size:
-        argument = nodes.add("TypeArg")
-        nodes.all[args]["args"].append(argument)
-        nodes.all[argument]["ty"] = nodes.add("NeverType")
+        nodes.all[args]["args"].append(add_argument(nodes))
     return nodes
+
+
+def type_argument(nodes):
+    argument = nodes.add("TypeArg")
+    nodes.all[argument]["ty"] = nodes.add("NeverType")
+    return argument
+
+
+def constant_argument(nodes):
+    argument = nodes.add("ConstArg")
+    nodes.all[argument]["expr"] = nodes.add("Literal", lit="int", t="1")
+    return argument
+
+
+def arguments(size):
+    """One path with very many types as arguments."""
+    return one_list(size, type_argument)
 
 
 def constants(size):
     """One path with very many constants as arguments, each a recorded root."""
-    nodes = Nodes()
-    nodes.add("PathType", path=1)
-    nodes.add("Path", segs=[2])
-    nodes.add("PathSegment", seg="name", name="A", generics=3)
-    args = nodes.add("GenericArgList", args=[])
-    while len(nodes.all) + 2 <= size:
-        constant = nodes.add("ConstArg")
-        nodes.all[args]["args"].append(constant)
-        nodes.all[constant]["expr"] = nodes.add("Literal", lit="int", t="1")
-    return nodes
+    return one_list(size, constant_argument)
 
 
 def nested(size):
