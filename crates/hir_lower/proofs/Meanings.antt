@@ -10,7 +10,7 @@ use Rattle.hir_store.specs.declared.ids.ExprId.{ExprId}
 use Rattle.hir_store.specs.declared.fault.StoreFault.{StoreFault}
 use Rattle.hir_store.specs.declared.fault.StoreFault.TheVariants.{Memory, Full}
 use Rattle.hir_store.specs.declared.diagnostics.MissingBodyItemKind.{MissingBodyItemKind}
-use Rattle.hir_store.proofs.Range.{extends_refl, extends_root, extends_trans}
+use Rattle.hir_store.proofs.Extending.{extends_refl, extends_root, extends_trans}
 use Rattle.hir_env.specs.Answered as tree
 use Rattle.hir_env.specs.Answered.{OptionExpr}
 use Rattle.hir_lower_form.specs.Builder.{Builder}
@@ -44,7 +44,7 @@ closed b = record b { scopes = []; in_root = true }
 
 abbrev rooted : Builder → ExprId → Builder
 rooted b i = record b {
-  stored = record b.stored { roots = b.stored.roots ++ root_at b.stored.exprs.entries i ∷ [] };
+  stored = record b.stored { roots = b.stored.roots ++ root_at (store_of b.stored) i ∷ [] };
   in_root = false;
 }
 
@@ -58,7 +58,7 @@ root_steps e b = refl
 -- nothing is lost
 
 recorded_stays : (b : Builder) (o : Checked ExprId) (c : Builder) → Keeps (closed b) o c → Extends b.stored (go_on o c recorded).1.stored
-recorded_stays b (Ok i) c h = extends_trans h.stays (extends_root c.stored (root_at c.stored.exprs.entries i))
+recorded_stays b (Ok i) c h = extends_trans h.stays (extends_root c.stored (root_at (store_of c.stored) i))
 recorded_stays b (Err x) c h = h
 
 recorded_went : (b : Builder) (o : Checked ExprId) (c : Builder) → Went b.stored c.stored → Went b.stored (go_on o c recorded).1.stored
@@ -132,7 +132,7 @@ root_rooted e b b' i d h =
     let after = kept.paired paired in
     subst P p.left (record {
       lives = λ later x.
-          let ext : Extends p.inner.stored later = extends_trans (extends_root p.inner.stored (root_at p.inner.stored.exprs.entries i)) x in
+          let ext : Extends p.inner.stored later = extends_trans (extends_root p.inner.stored (root_at (store_of p.inner.stored) i)) x in
           let standing = all_stand e (closed b) i p.inner paired p.is later ext in record {
             same = headline e (closed b) p.inner i lowered later ext;
             ways = standing.ways;
@@ -149,7 +149,7 @@ root_rooted e b b' i d h =
       lifetimes = fits.lifetimes;
       type_sources = fits.type_sources;
       lifetime_sources = fits.lifetime_sources;
-      roots = ap (λ rs. rs ++ root_at p.inner.stored.exprs.entries i ∷ []) (kept.roots refl);
+      roots = ap (λ rs. rs ++ root_at (store_of p.inner.stored) i ∷ []) (kept.roots refl);
       more = faults.more;
       faults = faults.is;
       permuted = faults.permuted;
@@ -191,7 +191,7 @@ root_whole e limit owed b' i h =
     let P : Builder → Type 0 = λ x. OneResult (store_of x.stored) (map_of x.stored) owed e in record {
       result = subst P p.left (one_results limit owed e i p.inner p.is);
       body = record {
-        root = root_at b'.stored.exprs.entries i;
+        root = root_at (store_of b'.stored) i;
         only = done.roots;
         same = live.same;
         reached_once = live.reached_once;

@@ -81,7 +81,7 @@ pub record Rooted (old new : Stored) (i : ExprId) (e : OptionExpr) : Type 0 wher
   pub lifetimes : length new.lifetimes.entries ≡ length old.lifetimes.entries + count_of_lifetimes e
   pub type_sources : new.types.sources ≡ old.types.sources ++ type_sources_of e
   pub lifetime_sources : new.lifetimes.sources ≡ old.lifetimes.sources ++ lifetime_sources_of e
-  pub roots : new.roots ≡ old.roots ++ root_at new.exprs.entries i ∷ []
+  pub roots : new.roots ≡ old.roots ++ root_at (store_of new) i ∷ []
   pub more : Faults
   pub faults : new.diagnostics ≡ old.diagnostics ++ more
   pub permuted : IsPermutation (part_diagnostics [] e) more

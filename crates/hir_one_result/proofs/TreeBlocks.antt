@@ -5,7 +5,7 @@ use Rattle.hir_store.specs.Stored.{Stored}
 use Rattle.hir_store.specs.declared.hir.Statement.{Statement}
 use Rattle.hir_store.specs.declared.ids.ExprId.{ExprId}
 use Rattle.hir_store.specs.declared.ids.BlockId.{BlockId}
-use Rattle.hir_store.proofs.Range.{extends_refl}
+use Rattle.hir_store.proofs.Extending.{extends_refl}
 use Rattle.hir_env.specs.Answered as tree
 use Rattle.hir_store.specs.declared.hir.RecordLitField.{RecordLitField}
 use Rattle.hir_lower_form.specs.Lower.{lower_fields, lower_field, lower_spread, ExprSteps, kept, lower, lower_part, present, kept_part}

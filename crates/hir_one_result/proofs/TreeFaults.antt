@@ -8,7 +8,7 @@ use Rattle.hir_store.specs.declared.hir.Statement.{Statement}
 use Rattle.hir_store.specs.declared.hir.Statement.TheVariants as statement
 use Rattle.hir_store.specs.declared.ids.ExprId.{ExprId}
 use Rattle.hir_store.specs.declared.diagnostics.ExpressionStoreDiagnostics.{ExpressionStoreDiagnostics}
-use Rattle.hir_store.proofs.Range.{extends_refl}
+use Rattle.hir_store.proofs.Extending.{extends_refl}
 use Rattle.hir_scope.specs.Scopes.{Scope}
 use Rattle.hir_env.specs.Answered as tree
 use Rattle.hir_store.specs.declared.hir.RecordLitField.{RecordLitField}

@@ -1,6 +1,7 @@
 -- What is stored where one body was lowered is one result of its tree.
 use Rattle.std.proofs.Common.{arith, refl, ap, subst, ℕ, [], ◌∷◌, ◌++◌}
-use Rattle.hir_store.proofs.Range.{extends_root}
+use Rattle.hir_store.proofs.Extending.{extends_root}
+use Rattle.hir_store.specs.Stored.{store_of}
 use Rattle.hir_store.specs.Storing.{root_at, record_root}
 use Rattle.hir_store.specs.Arenas.{Sourced, MapsBack}
 use Rattle.hir_store.proofs.Maps.{maps_back_none}
@@ -31,12 +32,12 @@ one_results limit owed e id new is =
     let kept : KeepsAll old new = subst (λ r. Keeps old r.0 r.1) is (keeping e old) in
     let paired = kept.paired none in
     let mapped = kept.mapped none nowhere in
-    let stays = extends_root new.stored (root_at new.stored.exprs.entries id) in
+    let stays = extends_root new.stored (root_at (store_of new.stored) id) in
     let standing = all_stand e old id new none is (with_root id new.stored) stays in
     let fits : Fits e old.stored new.stored = subst (λ r. FitsUnless e old.stored r.0 r.1.stored) is (all_fit e old) in
     let faults = diagnostics_are e old id new none is [] refl in record {
       root = id;
-      only = ap (λ rs. rs ++ root_at new.stored.exprs.entries id ∷ []) (kept.roots refl);
+      only = ap (λ rs. rs ++ root_at (store_of new.stored) id ∷ []) (kept.roots refl);
       expr_sources = paired.exprs;
       label_sources = paired.labels;
       type_sources = fits.type_sources;

@@ -21,7 +21,7 @@ use Rattle.hir_one_result.specs.Room.{count_of_exprs, count_of_types, count_of_l
 -- blocks with numbers are those of the tree, in the order of entering.
 pub record OneResult (store : Store) (source_map : SourceMap) (owed : Faults) (e : OptionExpr) : Type 0 where
   pub root : ExprId
-  pub only : store.roots ≡ root_at store.exprs root ∷ []
+  pub only : store.roots ≡ root_at store root ∷ []
   pub expr_sources : length source_map.expr_sources ≡ length store.exprs
   pub label_sources : length source_map.label_sources ≡ length store.labels
   pub type_sources : source_map.type_sources ≡ type_sources_of e

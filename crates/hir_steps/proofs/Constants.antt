@@ -1,11 +1,11 @@
 -- A constant: an expression behind a barrier, which is a root where no other is being lowered.
 use Rattle.std.proofs.Common.{◌≡◌, ◌⊎◌, ◌∙◌, inl, inr, refl, sym, ap, List, [], ◌∷◌, ◌++◌, Bool, true, false, true≢false, Ok, Err}
-use Rattle.hir_store.specs.Stored.{Stored}
+use Rattle.hir_store.specs.Stored.{Stored, store_of}
 use Rattle.hir_store.specs.Storing as storing
 use Rattle.hir_store.specs.Storing.{root_at}
 use Rattle.hir_store.specs.declared.ids.ExprId.{ExprId}
 use Rattle.hir_store.specs.declared.type_ref.ConstRef.{ConstRef}
-use Rattle.hir_store.proofs.Range.{extends_root, extends_trans}
+use Rattle.hir_store.proofs.Extending.{extends_root, extends_trans}
 use Rattle.hir_scope.specs.Ribs.{barrier_rib}
 use Rattle.hir_lower_scope.specs.Labels.{rest}
 use Rattle.hir_lower_form.specs.Builder.{Builder}
@@ -16,7 +16,7 @@ use Rattle.hir_steps.proofs.Frames.{Frame, barrier_at, ribs}
 use Rattle.hir_steps.proofs.Logic.{Mark, mark, Grows, Rel, Answers, Holds, Correct, grows_refl}
 
 abbrev pub with_root : ExprId → Stored → Stored
-with_root i s = record s { roots = s.roots ++ root_at s.exprs.entries i ∷ [] }
+with_root i s = record s { roots = s.roots ++ root_at (store_of s) i ∷ [] }
 
 -- What is so of the expression behind the barrier; and then nothing more is stored, or it is recorded.
 pub record Constant (R : Rel ExprId) (final : Stored) (ps : List Frame) (m m' : Mark) (c : ConstRef) : Type 0 where
@@ -72,7 +72,7 @@ correct_constant {p = p} {R = R} h = record {
       };
     }
     by final ps b false e (Ok i) c x =
-        let more = extends_root c.stored (root_at c.stored.exprs.entries i) in record {
+        let more = extends_root c.stored (root_at (store_of c.stored) i) in record {
           kept = record {
             scopes = ap rest x.kept.scopes;
             in_root = sym e;

@@ -7,7 +7,7 @@ use Rattle.std.proofs.Math.Seq.{get_or-append_seam}
 use Rattle.hir_store.specs.Arenas.{Prefix}
 use Rattle.hir_store.specs.Stored.{Stored}
 use Rattle.hir_store.specs.Storing.{Extends}
-use Rattle.hir_store.proofs.Range.{extends_refl, extends_trans}
+use Rattle.hir_store.proofs.Extending.{extends_refl, extends_trans}
 use Rattle.hir_lower_form.specs.Builder.{Builder}
 use Rattle.hir_lower_form.specs.Lowering.{Checked, go_on, Lowering, ◌>>=◌, pure}
 use Rattle.hir_steps.specs.Keeps.{Paired, Mapped, KeepsAll}

@@ -22,7 +22,7 @@ use Rattle.hir_store.specs.declared.diagnostics.ExpressionStoreDiagnostics.TheVa
 use Rattle.hir_store.specs.declared.diagnostics.ExpressionStoreDiagnostics.TheVariants.{UnreachableLabel}
 use Rattle.hir_store.specs.declared.diagnostics.AwaitLocation.{AwaitLocation}
 use Rattle.hir_store.proofs.Arenas.{continues_refl, continues_entry, prefix_refl}
-use Rattle.hir_store.proofs.Range.{extends_refl, extends_trans, extends_point, extends_field, extends_report, extends_block}
+use Rattle.hir_store.proofs.Extending.{extends_refl, extends_trans, extends_point, extends_field, extends_report, extends_block}
 use Rattle.hir_env.specs.Answered.{Label, Jump}
 use Rattle.hir_scope.specs.Ribs.{Rib, Target, reachable, unreachable, undeclared, target, number_found, jump_number}
 use Rattle.hir_lower_scope.specs.Labels.{rest}

@@ -13,7 +13,7 @@ use Rattle.hir_store.specs.declared.ids.TypeRefId.{TypeRefId}
 use Rattle.hir_store.specs.declared.ids.LifetimeRefId.{LifetimeRefId}
 use Rattle.hir_store.proofs.Arenas.{continues_refl, continues_entry, prefix_refl}
 use Rattle.hir_store.proofs.Maps.{maps_back_entry}
-use Rattle.hir_store.proofs.Range.{extends_refl}
+use Rattle.hir_store.proofs.Extending.{extends_refl}
 use Rattle.hir_lower_form.specs.Builder.{Builder}
 use Rattle.hir_lower_form.specs.Lowering.{Checked, alloc_type, alloc_lifetime}
 use Rattle.hir_steps.proofs.Frames.{Frame}

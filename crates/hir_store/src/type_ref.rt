@@ -3,7 +3,7 @@
 ghost use Rattle.std.specs.Prelude.{◌≡◌, IfOk};
 
 use crate::hir::Mutability;
-use crate::ids::{ExprId, LifetimeRefId, TypeRefId};
+use crate::ids::{ExprId, LifetimeRefId, PatId, TypeRefId};
 use crate::name::{Name, copy_names};
 use crate::path::Path;
 use hir_syntax::Seq;
@@ -191,6 +191,8 @@ pub enum TypeRef {
     Fn(FnType),
     ImplTrait(Seq<TypeBound>),
     DynTrait(Seq<TypeBound>),
+    /// The values of a type that a pattern fits.
+    Pattern(TypeRefId, PatId),
 }
 
 impl Drop for TypeRef {
@@ -208,6 +210,7 @@ impl Drop for TypeRef {
             TypeRef::Fn(_) => {}
             TypeRef::ImplTrait(_) => {}
             TypeRef::DynTrait(_) => {}
+            TypeRef::Pattern(_, _) => {}
         }
     }
 }

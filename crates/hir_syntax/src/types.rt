@@ -3,6 +3,7 @@
 use crate::ast::{ConstArg, Lifetime, Name, Path};
 use crate::boxed::Boxed;
 use crate::node::{NodeId, TextRange};
+use crate::pats::Pat;
 use crate::seq::Seq;
 use crate::text::Text;
 
@@ -69,6 +70,11 @@ pub enum TypeKind {
     DynTraitType {
         bounds: Seq<TypeBound>,
     },
+    /// `T is p`.
+    PatternType {
+        ty: Option<Boxed<Type_>>,
+        pat: Option<Boxed<Pat>>,
+    },
     NeverType,
     InferType,
 }
@@ -97,17 +103,19 @@ impl Drop for TypeKind {
             TypeKind::ForType { binder: _, ty: _ } => {}
             TypeKind::ImplTraitType { bounds: _ } => {}
             TypeKind::DynTraitType { bounds: _ } => {}
+            TypeKind::PatternType { ty: _, pat: _ } => {}
             TypeKind::NeverType => {}
             TypeKind::InferType => {}
         }
     }
 }
 
-/// A parameter of a function pointer. A variadic one is `...`.
+/// A parameter of a function or of a function pointer. A variadic one is `...`.
 #[cycle(ast)]
 pub struct Param {
     pub id: NodeId,
     pub range: TextRange,
+    pub pat: Option<Boxed<Pat>>,
     pub ty: Option<Boxed<Type_>>,
     pub variadic: bool,
 }
@@ -118,6 +126,7 @@ impl Drop for Param {
         let Param {
             id: _,
             range: _,
+            pat: _,
             ty: _,
             variadic: _,
         } = self;

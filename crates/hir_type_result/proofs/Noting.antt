@@ -10,7 +10,7 @@ use Rattle.hir_store.specs.declared.roots.ExprRoot.{ExprRoot}
 use Rattle.hir_store.specs.declared.type_ref.TypeRef.{TypeRef}
 use Rattle.hir_store.specs.declared.type_ref.LifetimeRef.{LifetimeRef}
 use Rattle.hir_store.specs.declared.type_ref.ConstRef.{ConstRef}
-use Rattle.hir_store.proofs.Range.{extends_root, extends_trans}
+use Rattle.hir_store.proofs.Extending.{extends_root, extends_trans}
 use Rattle.hir_env.specs.Answered.{OptionExpr}
 use Rattle.hir_scope.specs.Ribs.{barrier_rib}
 use Rattle.hir_lower_form.specs.Builder.{Builder}
@@ -188,7 +188,7 @@ notes_constant e = record {
         → Noted (e ∷ []) b (go_on o c (leaving outer)).0 (go_on o c (leaving outer)).1
     by b true in' (Ok i) c is inner kept = record { kept = kept; noted = λ outside. absurd (true≢false (sym in' ∙ outside)) }
     by b false in' (Ok i) c is inner kept =
-        let root = root_at c.stored.exprs.entries i in
+        let root = root_at (store_of c.stored) i in
         let around = frames b.scopes in
         let behind = ap (λ rs. barrier_rib ∷ rs) (ribs_frames b.scopes) in record {
           kept = kept;

@@ -2,7 +2,7 @@
 use Rattle.std.proofs.Common.{arith, refl, sym, subst, ℕ, ◌≤◌, length, [], None, IsPermutation}
 use Rattle.hir_store.specs.Stored.{store_of, map_of}
 use Rattle.hir_store.proofs.Maps.{maps_back_none}
-use Rattle.hir_store.proofs.Range.{extends_refl}
+use Rattle.hir_store.proofs.Extending.{extends_refl}
 use Rattle.hir_lower_form.specs.Builder.{fresh}
 use Rattle.hir_read_back.proofs.Now.{type_law}
 use Rattle.hir_steps.specs.Keeps.{Paired, Mapped, Keeps, KeepsAll}

@@ -1,0 +1,10 @@
+pub mod Summary
+pub mod Faults
+pub mod Walks
+pub mod Unused
+pub mod Recent
+pub mod Decided
+pub mod Theorem
+pub mod Places
+pub mod Loops
+pub mod Lists
