@@ -16,9 +16,8 @@ comparisons = codes "==" ∷ codes "!=" ∷ codes "<=" ∷ codes "<" ∷ codes "
 abbrev ariths : List (List ℕ)
 ariths = codes "+" ∷ codes "*" ∷ codes "-" ∷ codes "/" ∷ codes "%" ∷ codes "<<" ∷ codes ">>" ∷ codes "^" ∷ codes "|" ∷ codes "&" ∷ []
 
--- all but plain assignment, which isn't read yet
 abbrev binary_ops : List (List ℕ)
-binary_ops = codes "||" ∷ codes "&&" ∷ (comparisons ++ (ariths ++ map (λ w. w ++ codes "=") ariths))
+binary_ops = codes "||" ∷ codes "&&" ∷ (comparisons ++ (ariths ++ codes "=" ∷ map (λ w. w ++ codes "=") ariths))
 
 -- the words of a set
 abbrev pub words : Words → List (List ℕ)
@@ -28,5 +27,6 @@ words set.Bounds = codes "path" ∷ codes "use" ∷ codes "lifetime" ∷ []
 words set.Modifiers = codes "unsafe" ∷ []
 words set.UnaryOps = codes "*" ∷ codes "!" ∷ codes "-" ∷ []
 words set.BinaryOps = binary_ops
+words set.RangeOps = codes ".." ∷ codes "..=" ∷ []
 words set.Owners = codes "fn" ∷ codes "static" ∷ codes "const" ∷ codes "variant" ∷ []
 words set.Containers = codes "module" ∷ codes "extern" ∷ codes "impl" ∷ codes "trait" ∷ []

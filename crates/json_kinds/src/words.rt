@@ -12,6 +12,7 @@ pub enum Words {
     Modifiers,
     UnaryOps,
     BinaryOps,
+    RangeOps,
     Owners,
     Containers,
 }
@@ -29,8 +30,9 @@ impl Words {
             Words::UnaryOps => &["*", "!", "-"],
             Words::BinaryOps => &[
                 "||", "&&", "==", "!=", "<=", "<", ">=", ">", "+", "*", "-", "/", "%", "<<", ">>",
-                "^", "|", "&", "+=", "*=", "-=", "/=", "%=", "<<=", ">>=", "^=", "|=", "&=",
+                "^", "|", "&", "=", "+=", "*=", "-=", "/=", "%=", "<<=", ">>=", "^=", "|=", "&=",
             ],
+            Words::RangeOps => &["..", "..="],
             Words::Owners => &["fn", "static", "const", "variant"],
             Words::Containers => &["module", "extern", "impl", "trait"],
         }
