@@ -19,13 +19,13 @@ use Rattle.hir_store.specs.declared.hir.Expr.{Expr}
 use Rattle.hir_store.specs.declared.hir.Label.{Label}
 use Rattle.hir_store.specs.declared.pat.Pat.{Pat}
 use Rattle.hir_store.specs.declared.pat.Binding.{Binding}
-use Rattle.hir_store.specs.declared.pat.BindingProblems.{BindingProblems}
+use Rattle.hir_binding.specs.declared.binding.BindingProblems.{BindingProblems}
 use Rattle.hir_store.specs.declared.roots.ExprRoot.{ExprRoot}
 use Rattle.hir_store.specs.declared.ids.BlockId.{BlockId}
 use Rattle.hir_store.specs.declared.diagnostics.ExpressionStoreDiagnostics.{ExpressionStoreDiagnostics}
 use Rattle.hir_store.proofs.Arenas.{first_stays, prefix_refl, prefix_push, prefix_trans}
 use Rattle.hir_store.proofs.Arenas.{continues_refl, continues_trans, continues_way}
-use Rattle.hir_store.proofs.Bindings.{bindings_definition, bindings_problem, bindings_refl, bindings_trans}
+use Rattle.hir_store.proofs.BindingLemmas.{bindings_definition, bindings_problem, bindings_refl, bindings_trans}
 
 pub extends_refl : (s : Stored) → Extends s s
 extends_refl s = record {

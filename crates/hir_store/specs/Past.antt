@@ -190,8 +190,8 @@ abbrev pub past_pats : List Pat → Past
 past_pats = past_each past_pat
 
 abbrev pub past_statement : Statement → Past
-past_statement (statement.Let p ty initializer else_branch) = join (past_pat_id p)
-    (join (past_present past_type_id ty) (join (past_present past_expr_id initializer) (past_present past_expr_id else_branch)))
+past_statement (statement.Let p type_ref initializer else_branch) = join (past_pat_id p)
+    (join (past_present past_type_id type_ref) (join (past_present past_expr_id initializer) (past_present past_expr_id else_branch)))
 past_statement (statement.Expr id semi) = past_expr_id id
 past_statement statement.Item = nothing
 

@@ -256,8 +256,11 @@ pub record StoreInRange (s : Store) : Type 0 where
   pub bindings_ends : past bindings_end s.roots ≤ length s.bindings
 
 -- the patterns that make bindings
+abbrev pub past_definition : PatId → ℕ
+past_definition p = suc p.0
+
 abbrev pub past_definitions : List (List PatId) → ℕ
-past_definitions pss = past (past (λ p. suc p.0)) pss
+past_definitions pss = past (past past_definition) pss
 
 -- every number in what is stored so far is in range, but for the ways to what is stored
 abbrev pub InRangeSoFar : Stored → Type 0

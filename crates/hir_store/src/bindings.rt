@@ -1,13 +1,15 @@
 //! Bindings, each with the patterns that make it.
 
-ghost use Rattle.std.specs.Prelude.{◌≡◌, ◌<◌, ◌≤◌, OnOk, OnErr, length, slice_get};
+ghost use Rattle.std.specs.Prelude.{◌≡◌, ◌<◌, OnOk, OnErr, length, slice_get};
 ghost use Rattle.std.specs.Option.{option_copied};
-ghost use Rattle.hir_store.specs.Bindings.{AddsBinding, none_bound, with_definition, with_problem};
+ghost use Rattle.hir_store.specs.Bindings.{AddsBinding, KeptBindings, at_place, none_bound, pattern_added, problem_set};
+ghost use Rattle.hir_store.specs.Bindings.{with_definition, with_problem};
 
 use crate::arena::Arena;
 use crate::fault::StoreFault;
 use crate::ids::{BindingId, PatId};
-use crate::pat::{Binding, BindingProblems};
+use crate::pat::Binding;
+use hir_binding::binding::BindingProblems;
 use hir_syntax::Seq;
 use std::alloc::{AllocError, Global};
 use std::marker::Model;
@@ -41,6 +43,23 @@ impl Definitions {
     }
 }
 
+/// Adds a pattern to the list at this place. Where memory is refused nothing changes.
+fn push_at(lists: &mut Vec<Seq<PatId>>, at: usize, pat: PatId) -> Result<(), AllocError>
+    requires { at < length lists.old.items }
+    ensures ok { OnOk result (lists.new.items ≡ at_place at (pattern_added pat) lists.old.items) }
+    ensures unchanged { OnErr result (lists.new.items ≡ lists.old.items) }
+{
+    lists[at].push(pat)
+}
+
+/// Notes what is wrong with the binding at this place.
+fn note_at(entries: &mut Vec<Binding>, at: usize, problem: Option<BindingProblems>)
+    requires { at < length entries.old.items }
+    ensures { entries.new.items ≡ at_place at (problem_set problem) entries.old.items }
+{
+    entries[at].problems = problem;
+}
+
 /// Bindings, each with the patterns that make it. A problem is noted behind the last of them.
 pub struct BindingArena {
     entries: Vec<Binding>,
@@ -61,15 +80,14 @@ impl Drop for BindingArena {
 }
 
 impl Model for BindingArena {
-    ghost use Rattle.std.specs.Prelude.{length, ◌≡◌, ◌≤◌, ◌<◌, ◌^◌};
-    ghost use Rattle.hir_store.specs.Bindings.{Bindings};
+    ghost use Rattle.std.specs.Prelude.{◌<◌, ◌^◌};
+    ghost use Rattle.hir_store.specs.Bindings.{Bindings, KeptBindings, bindings_of};
 
     ghost Value = { Bindings };
 
-    ghost view = { λ a. record { entries = a.entries.items; definitions = a.definitions.items; limit = a.limit } };
+    ghost view = { λ a. bindings_of a.entries.items a.definitions.items a.limit };
 
-    ghost invariant = { λ a. (length a.definitions.items ≡ length a.entries.items) × (length a.entries.items ≤ a.limit)
-        × (a.limit < 2 ^ 32) };
+    ghost invariant = { λ a. KeptBindings (bindings_of a.entries.items a.definitions.items a.limit) × (a.limit < 2 ^ 32) };
 }
 
 impl BindingArena {
@@ -101,7 +119,6 @@ impl BindingArena {
     ///
     /// `Full` exactly where the limit is reached, and then no memory is asked for; `Memory` where a growth was refused. On either
     /// the binding is dropped and nothing changes.
-    #[tactic(auto, using(crate::proofs::Bindings::adds, crate::proofs::Bindings::refuses_binding))]
     pub fn alloc(&mut self, binding: Binding) -> Result<BindingId, StoreFault>
         ensures { AddsBinding binding self.old result self.new }
     {
@@ -123,7 +140,7 @@ impl BindingArena {
         ensures ok { OnOk result (self.new ≡ with_definition self.old id pat) }
         ensures unchanged { OnErr result (self.new ≡ self.old) }
     {
-        self.definitions[id.0 as usize].push(pat)?;
+        push_at(&mut self.definitions, id.0 as usize, pat)?;
         Ok(())
     }
 
@@ -132,13 +149,12 @@ impl BindingArena {
         requires { id.0 < length self.old.entries }
         ensures { self.new ≡ with_problem self.old id problem }
     {
-        self.entries[id.0 as usize].problems = problem;
+        note_at(&mut self.entries, id.0 as usize, problem);
     }
 
     /// Each binding has its patterns, and no more are there than there may be.
     pub fn kept(&self)
-        ensures as_many { length self.now.definitions ≡ length self.now.entries }
-        ensures fits { length self.now.entries ≤ self.now.limit }
+        ensures { KeptBindings self.now }
     {
         let _ = &self.entries;
     }
@@ -147,7 +163,7 @@ impl BindingArena {
     pub fn split(self) -> (Arena<Binding>, Definitions)
         ensures entries { result.0 ≡ record { entries = self.entries; limit = self.limit } }
         ensures definitions { result.1 ≡ self.definitions }
-        ensures as_many { length self.definitions ≡ length self.entries }
+        ensures kept { KeptBindings self }
     {
         let BindingArena {
             entries,

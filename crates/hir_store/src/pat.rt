@@ -4,32 +4,9 @@ use crate::hir::Mutability;
 use crate::ids::{BindingId, ExprId, HygieneId, PatId};
 use crate::name::Name;
 use crate::path::Path;
+use hir_binding::binding::{BindingAnnotation, BindingProblems};
 use hir_syntax::Seq;
 use hir_syntax::ast::RangeOp;
-
-/// How a name is bound.
-#[derive(Clone, Copy, Debug, PartialEq, Eq)]
-pub enum BindingAnnotation {
-    /// `x`
-    Unannotated,
-    /// `mut x`
-    Mutable,
-    /// `ref x`
-    Ref,
-    /// `ref mut x`
-    RefMut,
-}
-
-/// What is wrong with the uses of a name in one pattern.
-#[derive(Clone, Copy, Debug, PartialEq, Eq)]
-pub enum BindingProblems {
-    /// Two parts that are there together bind it.
-    BoundMoreThanOnce,
-    /// Two uses bind it in two ways.
-    BoundInconsistently,
-    /// Some alternatives bind it and others don't.
-    NotBoundAcrossAll,
-}
 
 /// A name that a pattern binds, bound as by its first use.
 pub struct Binding {

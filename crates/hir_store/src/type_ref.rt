@@ -155,10 +155,11 @@ pub enum ExternAbi {
     RustCall,
 }
 
-/// A function pointer. The last of `params` is what it returns. `binder` has the names of the lifetimes of the `for<..>`
-/// directly around it, where one stands there.
+/// A function pointer. The last of `params` is what it returns, and `names` has what each of the others is called, where it has a
+/// name. `binder` has the names of the lifetimes of the `for<..>` directly around it, where one stands there.
 pub struct FnType {
     pub params: Seq<TypeRefId>,
+    pub names: Seq<Option<Name>>,
     pub is_varargs: bool,
     pub is_unsafe: bool,
     pub abi: ExternAbi,
@@ -169,6 +170,7 @@ impl Drop for FnType {
     fn drop(self) {
         let FnType {
             params: _,
+            names: _,
             is_varargs: _,
             is_unsafe: _,
             abi: _,

@@ -13,7 +13,7 @@ returns-clause-in_range c =
     let types = c.split-types.ensures.kept in
     let lifetimes = c.split-lifetimes.ensures.kept in
     let pats = c.split-pats.ensures.kept in
-    let bindings = c.split-bindings.ensures.as_many in
+    let bindings = c.split-bindings.ensures.kept in
     subst P c.self.view_is (record {
       store = c.self.invariant.0;
       source_map = record {
@@ -27,7 +27,7 @@ returns-clause-in_range c =
         pats = pats.ways;
         fields = c.self.invariant.1;
         pat_fields = c.self.invariant.2;
-        as_many_bindings = bindings;
+        as_many_bindings = bindings.as_many;
         definitions = c.self.invariant.3;
         types = types.ways;
         lifetimes = lifetimes.ways;

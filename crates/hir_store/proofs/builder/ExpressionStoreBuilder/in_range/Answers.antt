@@ -11,7 +11,7 @@ returns c =
     let types = c.kept-3.ensures in
     let lifetimes = c.kept-4.ensures in
     let pats = c.kept-5.ensures in
-    let bindings = c.kept-6.ensures.as_many in
+    let bindings = c.kept-6.ensures in
     subst P c.self.view_is (record {
       store = c.self.invariant.0;
       source_map = record {
@@ -25,7 +25,7 @@ returns c =
         pats = pats.ways;
         fields = c.self.invariant.1;
         pat_fields = c.self.invariant.2;
-        as_many_bindings = bindings;
+        as_many_bindings = bindings.as_many;
         definitions = c.self.invariant.3;
         types = types.ways;
         lifetimes = lifetimes.ways;

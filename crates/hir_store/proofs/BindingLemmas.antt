@@ -1,14 +1,16 @@
 -- What bindings keep as they grow.
 use Rattle.std.proofs.Common.{arith, ℕ, zero, suc, ◌≤◌, ◌<◌, ◌≡◌, ◌∙◌, ap, refl, sym}
-use Rattle.std.proofs.Common.{List, [], ◌∷◌, ◌++◌, length, append-nil, Option}
-use Rattle.std.specs.Prelude.{map, Ok, Err}
+use Rattle.std.proofs.Common.{List, [], ◌∷◌, ◌++◌, length, length-append, append-nil, Option, Some}
+use Rattle.std.specs.Prelude.{map, slice_get, slice_set, Result, Ok, Err, OnOk, OnErr}
+use Rattle.std.proofs.lemmas.Option.{same_Some}
 use Rattle.hir_store.specs.declared.fault.StoreFault.TheVariants.{Full}
 use Rattle.hir_store.specs.declared.ids.BindingId.{BindingId}
 use Rattle.hir_store.specs.declared.ids.PatId.{PatId}
 use Rattle.hir_store.specs.declared.pat.Binding.{Binding}
-use Rattle.hir_store.specs.declared.pat.BindingProblems.{BindingProblems}
+use Rattle.hir_binding.specs.declared.binding.BindingProblems.{BindingProblems}
 use Rattle.hir_store.specs.Arenas.{Prefix, past}
-use Rattle.hir_store.specs.Bindings.{Bindings, BindingsContinue, EachGoesOn, AddsBinding, at_place, without_problem}
+use Rattle.hir_store.specs.Bindings.{Bindings, BindingsContinue, EachGoesOn, AddsBinding, KeptBindings}
+use Rattle.hir_store.specs.Bindings.{at_place, pattern_added, problem_set, without_problem}
 use Rattle.hir_store.specs.Bindings.{binding_id, with_binding, with_definition, with_problem}
 use Rattle.hir_store.proofs.Arenas.{prefix_refl, prefix_push, prefix_trans, room, no_room}
 
@@ -30,6 +32,28 @@ past_at g n f [] m h k = k
 past_at g zero f (x ∷ xs) m h k = let first = h x (omega (arith, k)) in omega (arith, first, k)
 past_at g (suc n) f (x ∷ xs) m h k = let others = past_at g n f xs m h (omega (arith, k)) in omega (arith, others, k)
 
+-- what is written at a place, where it comes from what stood there
+pub set_read : {A : Type 0} (n : ℕ) (f : A → A) (xs : List A) (x : A) → slice_get xs n ≡ Some x
+    → slice_set xs n (f x) ≡ at_place n f xs
+set_read n f [] x h = refl
+set_read zero f (y ∷ xs) x h = ap (λ z. f z ∷ xs) (sym (same_Some y x h))
+set_read (suc n) f (y ∷ xs) x h = ap (λ zs. y ∷ zs) (set_read n f xs x h)
+
+set_same : {A : Type 0} (n : ℕ) (xs : List A) (x : A) → slice_get xs n ≡ Some x → slice_set xs n x ≡ xs
+set_same n [] x h = refl
+set_same zero (y ∷ xs) x h = ap (λ z. z ∷ xs) (sym (same_Some y x h))
+set_same (suc n) (y ∷ xs) x h = ap (λ zs. y ∷ zs) (set_same n xs x h)
+
+-- the list at this place, once a pattern was added to it, or nothing where memory was refused
+module _ {E : Type 0} (n : ℕ) (p : PatId) (xss : List (List PatId)) (was now : List PatId) (read : slice_get xss n ≡ Some was) where
+  pub added_at : (r : Result (Unit {0}) E) → OnOk r (now ≡ was ++ p ∷ []) → OnOk r (slice_set xss n now ≡ at_place n (pattern_added p) xss)
+  added_at (Ok u) h = ap (slice_set xss n) h ∙ set_read n (pattern_added p) xss was read
+  added_at (Err e) h = tt
+
+  pub same_at : (r : Result (Unit {0}) E) → OnErr r (now ≡ was) → OnErr r (slice_set xss n now ≡ xss)
+  same_at (Ok u) h = tt
+  same_at (Err e) h = ap (slice_set xss n) h ∙ set_same n xss was read
+
 map_append : {A B : Type 0} (g : A → B) (xs ys : List A) → map g (xs ++ ys) ≡ map g xs ++ map g ys
 map_append g [] ys = refl
 map_append g (x ∷ xs) ys = ap (λ zs. g x ∷ zs) (map_append g xs ys)
@@ -50,7 +74,7 @@ each_more : {A : Type 0} (xss : List (List A)) (xs : List A) → EachGoesOn xss 
 each_more [] xs = tt
 each_more (ys ∷ xss) xs = (prefix_refl ys, each_more xss xs)
 
-each_at : {A : Type 0} (n : ℕ) (x : A) (xss : List (List A)) → EachGoesOn xss (at_place n (λ xs. xs ++ x ∷ []) xss)
+each_at : (n : ℕ) (x : PatId) (xss : List (List PatId)) → EachGoesOn xss (at_place n (pattern_added x) xss)
 each_at n x [] = tt
 each_at zero x (xs ∷ xss) = (prefix_push xs x, each_refl xss)
 each_at (suc n) x (xs ∷ xss) = (prefix_refl xs, each_at n x xss)
@@ -80,11 +104,32 @@ pub bindings_problem : (a : Bindings) (id : BindingId) (problem : Option Binding
 bindings_problem a id problem = record {
   entries = record {
     more = [];
-    is = map_at without_problem id.0 (λ b. record b { problems = problem }) a.entries (λ b. refl) ∙ sym (append-nil _);
+    is = map_at without_problem id.0 (problem_set problem) a.entries (λ b. refl) ∙ sym (append-nil _);
   };
   definitions = each_refl a.definitions;
   limit = refl;
 }
+
+-- ---- what is kept
+
+pub kept_binding : (a : Bindings) (x : Binding) → KeptBindings a → length a.entries < a.limit → KeptBindings (with_binding a x)
+kept_binding a x h room =
+    let l = length-append a.entries (x ∷ []) in
+    let d = length-append a.definitions ([] ∷ []) in
+    let m = h.as_many in
+    record { as_many = omega (arith, l, d, m); fits = omega (arith, l, room) }
+
+pub kept_definition : (a : Bindings) (id : BindingId) (p : PatId) → KeptBindings a → KeptBindings (with_definition a id p)
+kept_definition a id p h =
+    record { as_many = length_at id.0 (pattern_added p) a.definitions ∙ h.as_many; fits = h.fits }
+
+pub kept_problem : (a : Bindings) (id : BindingId) (problem : Option BindingProblems) → KeptBindings a
+    → KeptBindings (with_problem a id problem)
+kept_problem a id problem h =
+    let l = length_at id.0 (problem_set problem) a.entries in
+    let m = h.as_many in
+    let f = h.fits in
+    record { as_many = omega (arith, l, m); fits = omega (arith, l, f) }
 
 -- ---- outcomes
 
