@@ -1,7 +1,8 @@
 -- What follows from the steps.
-use Rattle.std.specs.Prelude.{◌≡◌, ℕ, Some, None}
+use Rattle.std.specs.Prelude.{◌≡◌, ℕ, Option, Some, None}
 use Rattle.hir_binding.specs.declared.binding.BindingAnnotation.{BindingAnnotation}
 use Rattle.hir_binding.specs.declared.binding.BindingAnnotation.TheVariants.{Unannotated, Ref}
+use Rattle.hir_binding.specs.declared.binding.BindingProblems.{BindingProblems}
 use Rattle.hir_binding.specs.declared.binding.BindingProblems.TheVariants.{BoundMoreThanOnce, BoundInconsistently, NotBoundAcrossAll}
 use Rattle.hir_binding.specs.Uses.{Uses, name_use, product, alternatives, Parts, no_parts, more_parts}
 use Rattle.hir_binding.specs.Rule.{Shows}
@@ -29,21 +30,24 @@ both p q = more_parts p (one q)
 abbrev pub wild : Uses
 wild = product no_parts
 
+-- the problem that x shows in the end
+abbrev pub x_shows : Uses → Option BindingProblems
+x_shows p = shown over_recent 0 p
+
 pub record Worked : Type 0 where
   -- `x @ x`
-  pub subpattern : shown over_recent 0 (product (both (x Unannotated) (x Unannotated))) ≡ Some BoundMoreThanOnce
+  pub subpattern : x_shows (product (both (x Unannotated) (x Unannotated))) ≡ Some BoundMoreThanOnce
   -- `(x, ref x)`: two problems are true, and the last stands
-  pub last_stands : shown over_recent 0 (product (both (x Unannotated) (x Ref))) ≡ Some BoundMoreThanOnce
+  pub last_stands : x_shows (product (both (x Unannotated) (x Ref))) ≡ Some BoundMoreThanOnce
   -- `A(x) | B(ref x)`
-  pub two_modes : shown over_recent 0 (alternatives (both (x Unannotated) (x Ref))) ≡ Some BoundInconsistently
+  pub two_modes : x_shows (alternatives (both (x Unannotated) (x Ref))) ≡ Some BoundInconsistently
   -- `| x`
-  pub one_alternative : shown over_recent 0 (alternatives (one (x Unannotated))) ≡ None
+  pub one_alternative : x_shows (alternatives (one (x Unannotated))) ≡ None
   -- `(x, x) | _`: the first problem doesn't stay
-  pub first_goes : shown over_recent 0 (alternatives (both (product (both (x Unannotated) (x Unannotated))) wild)) ≡ Some NotBoundAcrossAll
+  pub first_goes : x_shows (alternatives (both (product (both (x Unannotated) (x Unannotated))) wild)) ≡ Some NotBoundAcrossAll
   -- `A | B(x)`
-  pub new_later : shown over_recent 0 (alternatives (both wild (x Unannotated))) ≡ Some NotBoundAcrossAll
+  pub new_later : x_shows (alternatives (both wild (x Unannotated))) ≡ Some NotBoundAcrossAll
   -- `A(x) | B | C | (x, x)`: unmarked at one end and missing at the next, and then used twice
   pub back_again :
-      shown over_recent 0 (alternatives (more_parts (x Unannotated)
-          (more_parts wild (both wild (product (both (x Unannotated) (x Unannotated)))))))
+      x_shows (alternatives (more_parts (x Unannotated) (more_parts wild (both wild (product (both (x Unannotated) (x Unannotated)))))))
       ≡ Some BoundMoreThanOnce

@@ -25,16 +25,20 @@ impl BindingAnnotation {
 /// What can be wrong with a binding.
 #[derive(Debug, Clone, Copy, PartialEq, Eq)]
 pub enum BindingProblems {
+    /// Two parts of one product bind it.
     BoundMoreThanOnce,
+    /// Its uses have two modes.
     BoundInconsistently,
+    /// An or-pattern binds it in some of its alternatives only.
     NotBoundAcrossAll,
 }
 
 /// Whether a set of seen names has a name, and which alternative used it last.
 #[derive(Debug, Clone, Copy, PartialEq, Eq)]
 pub enum Mark {
+    /// None has used it.
     Unseen,
-    /// One before the alternative before.
+    /// One that came before the alternative before.
     Missing,
     /// The alternative before.
     Unmarked,

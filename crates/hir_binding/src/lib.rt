@@ -8,5 +8,3 @@ pub mod binding;
 pub mod laws;
 pub mod list;
 pub mod seen;
-#[cfg(test)]
-mod tests;

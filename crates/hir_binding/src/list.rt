@@ -19,7 +19,7 @@ pub struct Entry {
 }
 
 /// The bindings of one top pattern. A name with its hygiene is the number that the caller's table gives it, in the order of first
-/// use. After a refused call it may be dropped, and nothing is said of what it notes.
+/// use. A call answers an error where memory is refused: then nothing is said of what the list notes, and it may be dropped.
 #[derive(Drop)]
 pub struct BindingList {
     entries: Vec<Entry>,
@@ -92,7 +92,7 @@ impl BindingList {
         self.here.mark(name)
     }
 
-    /// A use of the name with this number. A name that had none takes the next number.
+    /// A use of the name with this number, in this mode. A name that had none takes the next number.
     pub fn use_name(&mut self, name: usize, mode: BindingAnnotation) -> Result<(), AllocError>
         requires { name ≤ name_count self.old }
         ensures noted { OnOk result ((k : ℕ) → noted self.new k ≡ after over_recent k (name_use name mode) (noted self.old k)) }
