@@ -192,7 +192,7 @@ fn_at a ps = type_at 0 (TypeKind-F.FnPtrType false a (Some ps) None)
 
 abbrev pub reads_abi : Spot → Option (List ℕ) → ExternAbi → Type 0
 reads_abi at t a = type_data None (answered_type at (fn_at t [])) ≡ datum.typed (Some (pointer at 0))
-    (datum.fn_shape (record { is_unsafe = false; abi = a; is_varargs = false }) None (datum.more_types unit_data datum.no_types))
+    (datum.fn_shape (record { is_unsafe = false; abi = a; is_varargs = false; names = [] }) None (datum.more_types unit_data datum.no_types))
 
 -- `fn()`, `extern fn()`, and `extern "C" fn()`, with "efiapi" and with "x" for "C"
 abbrev pub AbisOfTexts : Type 0
@@ -204,15 +204,15 @@ AbisOfTexts = (at : Spot)
     × reads_abi at (Some (codes "x")) abi.C
 
 abbrev pub plain_param : AstParam
-plain_param = roll-Param (record { id = node 9; range = no_range; ty = Some (never_at 1); variadic = false })
+plain_param = roll-Param (record { id = node 9; range = no_range; pat = None; ty = Some (never_at 1); variadic = false })
 
 abbrev pub dots_param : AstParam
-dots_param = roll-Param (record { id = node 9; range = no_range; ty = None; variadic = true })
+dots_param = roll-Param (record { id = node 9; range = no_range; pat = None; ty = None; variadic = true })
 
 -- a function pointer with `!` as its one parameter that isn't variadic
 abbrev pub reads_params : Spot → List AstParam → Bool → Type 0
 reads_params at ps varargs = type_data None (answered_type at (fn_at None ps)) ≡ datum.typed (Some (pointer at 0))
-    (datum.fn_shape (record { is_unsafe = false; abi = abi.Rust; is_varargs = varargs }) None
+    (datum.fn_shape (record { is_unsafe = false; abi = abi.Rust; is_varargs = varargs; names = None ∷ [] }) None
     (datum.more_types (never_data at 1) (datum.more_types unit_data datum.no_types)))
 
 -- `fn(!, ...)` has varargs, `fn(..., !)` has none
