@@ -290,7 +290,7 @@ mutual
   pub data Field : Type 0 where
     -- with the condition that disables it
     disabled_field : Pointer → CfgId → Field → Field
-    nameless_field : OptionExpr → Field
+    nameless_field : Pointer → OptionExpr → Field
     named_field : Pointer → Name → OptionExpr → Field
 
   pub data Arms : Type 0 where
