@@ -15,6 +15,7 @@ use Rattle.hir_syntax.specs.declared.types.UseArg.TheVariants as used
 use Rattle.hir_syntax.specs.declared.ast.ElseBranch.TheOpen.{GenericArg-F, TypeKind-F}
 use Rattle.hir_store.specs.Pointers.{Pointer}
 use Rattle.hir_store.specs.declared.ids.CrateId.{CrateId}
+use Rattle.hir_store.specs.declared.name.Name.{Name}
 use Rattle.hir_store.specs.declared.name.Name.TheVariants as name
 use Rattle.hir_store.specs.declared.hir.Mutability.{Mutability}
 use Rattle.hir_store.specs.declared.hir.Mutability.TheVariants as mutable
@@ -28,12 +29,14 @@ use Rattle.hir_env.specs.declared.place.ImplTrait.TheVariants as becomes
 use Rattle.hir_env.specs.Answers.{Answers}
 use Rattle.hir_env.specs.Spot.{in_file, ptr}
 use Rattle.hir_env.specs.Layers.{Sorts, Reader}
+use Rattle.hir_env.specs.TypePats.{type_pat_or_none, name_given}
 use Rattle.hir_env.specs.TypeLayers.{ParamReading, PathTypeReading, GenericArgLayer, TypeKindLayer, PathLayer, PathSegmentLayer}
 use Rattle.hir_env.specs.TypeLayers.{AssocTypeArgLayer, GenericArgListLayer, ParamLayer, ParenArgsLayer, PathTypeLayer}
 use Rattle.hir_env.specs.TypeLayers.{RetTypeLayer, TypeArgLayer, TypeBoundLayer, Type_Layer}
 use Rattle.hir_env.specs.Answered as tree
-use Rattle.hir_env.specs.Answered.{Lifetime, Binder, UseRead, Type_, OptionType, Parts, Path, OptionPath, Segments, Segment}
-use Rattle.hir_env.specs.Answered.{SegmentArgs, OptionParens, OptionRet, OptionArgs, Args, Arg, Bounds, Bound, Constant}
+use Rattle.hir_env.specs.Answered.{Lifetime, Binder, UseRead, FnHead, Type_, OptionType, Parts, Path, OptionPath, Segments, Segment}
+use Rattle.hir_env.specs.Answered.{SegmentArgs, OptionParens, OptionRet, OptionArgs, Args, Arg, Bounds, Bound, Constant, Pat}
+use Rattle.hir_env.specs.Answered.{OptionPat}
 
 -- names, lifetimes and texts
 
@@ -88,6 +91,9 @@ abbrev pub abi_of : Option (List ℕ) → ExternAbi
 abi_of None = abi.Rust
 abi_of (Some t) = abi_named t
 
+abbrev pub fn_head : Bool → Option (List ℕ) → Bool → List (Option Name) → FnHead
+fn_head is_unsafe text is_varargs names = record { is_unsafe = is_unsafe; abi = abi_of text; is_varargs = is_varargs; names = names }
+
 -- places
 
 -- inside of an `impl`, and inside of a written binding, where another may stand
@@ -97,7 +103,7 @@ inside_impl p = record p { in_impl = true }
 abbrev pub outside_impl : Place → Place
 outside_impl p = record p { in_impl = false }
 
--- Inside of a constant, where an `impl` is an error. An `await` there stands in what the constant stands in.
+-- Inside of a constant, or of the pattern of a type, where an `impl` is an error. An `await` there stands in what the constant stands in.
 abbrev pub inside_constant : Place → Place
 inside_constant p = record p { impl_trait = becomes.Error }
 
@@ -159,6 +165,10 @@ module _ {A : Type 0} where
   type_or_none read None p = tree.no_type
   type_or_none read (Some x) p = tree.some_type (read x p)
 
+  abbrev pub pat_or_none : (A → Place → Pat) → Option A → Place → OptionPat
+  pat_or_none read None p = tree.no_pat
+  pat_or_none read (Some x) p = tree.some_pat (read x p)
+
   -- a constant that a text lacks has no expression
   abbrev pub constant_or_absent : (A → Place → Constant) → Option A → Place → Constant
   constant_or_absent read None p = tree.constant tree.no_expr
@@ -181,6 +191,14 @@ module _ {A : Type 0} where
   abbrev pub params_or_none : (A → Place → ParamReading) → Option (List A) → Place → Parts
   params_or_none read None p = tree.no_parts
   params_or_none read (Some xs) p = params_of read xs p
+
+  abbrev pub names_given : (A → Place → ParamReading) → List A → Place → List (Option Name)
+  names_given read [] p = []
+  names_given read (x ∷ xs) p = let r = read x p in if r.variadic then names_given read xs p else r.name ∷ names_given read xs p
+
+  abbrev pub names_or_none : (A → Place → ParamReading) → Option (List A) → Place → List (Option Name)
+  names_or_none read None p = []
+  names_or_none read (Some xs) p = names_given read xs p
 
   -- whether the last is variadic, or else what is said where there is none
   abbrev pub last_variadic : (A → Place → ParamReading) → Bool → List A → Place → Bool
@@ -254,11 +272,13 @@ module _ (env : Answers) {S : Sorts} (part : Reader S) where
   type_at (TypeKind-F.PtrType m t) p s = tree.over_type s (tree.pointer_to (mutability m)) (type_or_none part.type_ t p)
   type_at (TypeKind-F.RefType l m t) p s = tree.ref_type s (option_map (lifetime_of p) l) (mutability m) (type_or_none part.type_ t p)
   type_at (TypeKind-F.FnPtrType is_unsafe text ps r) p s =
-      tree.fn_type s (record { is_unsafe = is_unsafe; abi = abi_of text; is_varargs = is_varargs part.param ps p })
+      tree.fn_type s (fn_head is_unsafe text (is_varargs part.param ps p) (names_or_none part.param ps p))
       (params_or_none part.param ps p) (answer_or_none part.ret_type r p)
   type_at (TypeKind-F.ForType b t) p s = tree.for_type (binder_of b) (type_or_none part.type_ t p)
   type_at (TypeKind-F.ImplTraitType bs) p s = impl_at p.in_impl p.impl_trait s (bounds_of part.type_bound bs (inside_impl p))
   type_at (TypeKind-F.DynTraitType bs) p s = tree.dyn_type s (bounds_of part.type_bound bs p)
+  type_at (TypeKind-F.PatternType t x) p s = let q = pat_or_none part.pat x (inside_constant p) in
+      tree.pattern_type s (type_or_none part.type_ t p) q (type_pat_or_none env.lang_items q)
   type_at TypeKind-F.NeverType p s = tree.leaf_type s tree.never_leaf
   type_at TypeKind-F.InferType p s = tree.leaf_type s tree.infer_leaf
 
@@ -269,7 +289,8 @@ module _ (env : Answers) {S : Sorts} (part : Reader S) where
   type_step t = part.type_kind t.kind (ptr t.id t.range)
 
   abbrev pub param_step : ParamLayer S → Place → ParamReading
-  param_step x p = record { variadic = x.variadic; ty = type_or_none part.type_ x.ty p }
+  param_step x p =
+      record { variadic = x.variadic; name = name_given (pat_or_none part.pat x.pat p); ty = type_or_none part.type_ x.ty p }
 
   abbrev pub ret_type_step : RetTypeLayer S → Place → OptionType
   ret_type_step r p = type_or_none part.type_ r.ty p

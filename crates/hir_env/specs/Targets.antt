@@ -110,13 +110,13 @@ abbrev pub call_or : Target → Pointer → Option OptionPath → Targets → Ta
 call_or place at None ts = place
 call_or place at (Some p) ts = tree.call_target at p ts
 
-module _ (resolves : Path → Bool) where
+module _ (is_found : Path → Bool) where
   abbrev pub path_or : Target → Pointer → OptionPath → HygieneId → Target
   path_or place at tree.no_path h = place
-  path_or place at (tree.some_path p) h = if resolves p then tree.path_target at p h else place
+  path_or place at (tree.some_path p) h = if is_found p then tree.path_target at p h else place
 
   abbrev mutual
-    -- What stands in parentheses is what they are. With what it is as a place: a disabled expression is one, and each that isn't named here.
+    -- Parentheses are what stands in them. With what it is as a place: a disabled expression is one, and each that isn't named here.
     pub target_or : Target → Expr → Target
     target_or place (tree.leaf_expr at tree.underscore) = tree.wild_target at
     target_or place (tree.paren_expr at tree.no_expr) = place
