@@ -292,7 +292,8 @@ module _ (env : Answers) {S : Sorts} (part : Reader S) where
   -- the one statement that it stands for
   abbrev pub stmt_at : StmtKindLayer S → Place → Pointer → Stmt
   stmt_at (StmtKind-F.LetStmt x t e b) p s = asked_stmt s (env.cfg (site_of s))
-      (tree.let_stmt (pat_or_none part.pat x p) (type_or_none part.type_ t p) (expr_or_none part.expr e p) (let_else_or_none part.let_else b p))
+      (tree.let_stmt (pat_or_none part.pat x p) (type_or_none part.type_ t p) (expr_or_none part.expr e p)
+      (let_else_or_none part.let_else b p))
   stmt_at (StmtKind-F.ExprStmt e semi) p s = tree.expr_stmt (expr_or_none part.expr e p) semi
   stmt_at StmtKind-F.Item p s = tree.item_stmt
 
