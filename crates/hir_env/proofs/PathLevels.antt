@@ -31,11 +31,12 @@ use Rattle.hir_env.specs.Folds.{read_type_bound, read_type}
 use Rattle.hir_env.proofs.Mapped.{optional, listed, listed_options, mapped_generic_arg, mapped_type_kind, mapped_path}
 use Rattle.hir_env.proofs.Mapped.{mapped_segment, mapped_assoc_type_arg, mapped_generic_arg_list, mapped_param, mapped_paren_args}
 use Rattle.hir_env.proofs.Mapped.{mapped_path_type, mapped_ret_type, mapped_type_arg, mapped_type_bound}
-use Rattle.hir_env.proofs.Opened.{opened_generic_arg, opened_type_kind, opened_path, opened_segment, opened_assoc_type_arg}
-use Rattle.hir_env.proofs.Opened.{opened_generic_arg_list, opened_param, opened_paren_args, opened_path_type, opened_ret_type}
-use Rattle.hir_env.proofs.Opened.{opened_type_arg, opened_type_bound, opened_type}
+use Rattle.hir_env.proofs.OpenedTypes.{opened_generic_arg, opened_type_kind, opened_path, opened_segment, opened_assoc_type_arg}
+use Rattle.hir_env.proofs.OpenedTypes.{opened_generic_arg_list, opened_param, opened_paren_args, opened_path_type}
+use Rattle.hir_env.proofs.OpenedTypes.{opened_ret_type, opened_type_arg, opened_type_bound, opened_type}
 use Rattle.hir_env.specs.Answered as tree
-use Rattle.hir_env.specs.Answered.{Type_, OptionType, Parts, Path, Segment, OptionRet, Args, Arg, Bound, Constant}
+use Rattle.hir_env.specs.Answered.{Type_, OptionType, Parts, Path, Segment, OptionRet, Args, Arg, Bound, Constant, Pat}
+use Rattle.hir_env.specs.TypePats.{type_pat_or_none, name_given}
 use Rattle.hir_env.specs.Whole.{answered_type, answered_param, answered_ret, answered_path, answered_segment, answered_path_type}
 use Rattle.hir_env.specs.Whole.{answered_paren_args, answered_arg_list, answered_arg, answered_type_arg, answered_assoc_arg}
 use Rattle.hir_env.specs.Whole.{answered_bound, type_level, param_level, ret_level, path_level, segment_level, path_type_level}
@@ -52,6 +53,11 @@ pub path_is : {A : Type 0} (h : A → Place → Path) (x : Option A) (p : Place)
     → of.path_or_none (λ y. y) (optional h x) p ≡ of.path_or_none h x p
 path_is h None p = refl
 path_is h (Some x) p = refl
+
+pub pat_is : {A : Type 0} (h : A → Place → Pat) (x : Option A) (p : Place)
+    → of.pat_or_none (λ y. y) (optional h x) p ≡ of.pat_or_none h x p
+pat_is h None p = refl
+pat_is h (Some x) p = refl
 
 path_type_is : {A : Type 0} (h : A → Place → PathTypeReading) (x : Option A) (p : Place)
     → of.path_type_or_none (λ y. y) (optional h x) p ≡ of.path_type_or_none h x p
@@ -107,6 +113,11 @@ params_is : {A : Type 0} (h : A → Place → ParamReading) (xs : List A) (p : P
 params_is h [] p = refl
 params_is h (x ∷ xs) p = λ j. let r = h x p in if r.variadic then params_is h xs p j else tree.more_parts r.ty (params_is h xs p j)
 
+names_is : {A : Type 0} (h : A → Place → ParamReading) (xs : List A) (p : Place)
+    → of.names_given (λ y. y) (listed h xs) p ≡ of.names_given h xs p
+names_is h [] p = refl
+names_is h (x ∷ xs) p = λ j. let r = h x p in if r.variadic then names_is h xs p j else r.name ∷ names_is h xs p j
+
 last_is : {A : Type 0} (h : A → Place → ParamReading) (b : Bool) (xs : List A) (p : Place)
     → of.last_variadic (λ y. y) b (listed h xs) p ≡ of.last_variadic h b xs p
 last_is h b [] p = refl
@@ -145,15 +156,16 @@ module _ (env : Answers) where
   type_at_is (TypeKind-F.RefType l m t) p s = λ j.
       tree.ref_type s (option_map (of.lifetime_of p) l) (of.mutability m) (type_is rd.type_ t p j)
   type_at_is (TypeKind-F.FnPtrType is_unsafe text None r) p s = λ j.
-      tree.fn_type s (record { is_unsafe = is_unsafe; abi = of.abi_of text; is_varargs = false }) tree.no_parts
-      (answer_is rd.ret_type r p j)
+      tree.fn_type s (of.fn_head is_unsafe text false []) tree.no_parts (answer_is rd.ret_type r p j)
   type_at_is (TypeKind-F.FnPtrType is_unsafe text (Some ps) r) p s = λ j.
-      tree.fn_type s (record { is_unsafe = is_unsafe; abi = of.abi_of text; is_varargs = last_is rd.param false ps p j })
+      tree.fn_type s (of.fn_head is_unsafe text (last_is rd.param false ps p j) (names_is rd.param ps p j))
       (params_is rd.param ps p j) (answer_is rd.ret_type r p j)
   type_at_is (TypeKind-F.ForType b t) p s = λ j. tree.for_type (of.binder_of b) (type_is rd.type_ t p j)
   type_at_is (TypeKind-F.ImplTraitType bs) p s = λ j.
       of.impl_at p.in_impl p.impl_trait s (bounds_is rd.type_bound bs (of.inside_impl p) j)
   type_at_is (TypeKind-F.DynTraitType bs) p s = λ j. tree.dyn_type s (bounds_is rd.type_bound bs p j)
+  type_at_is (TypeKind-F.PatternType t x) p s = λ j. let q = pat_is rd.pat x (of.inside_constant p) j in
+      tree.pattern_type s (type_is rd.type_ t p j) q (type_pat_or_none env.lang_items q)
   type_at_is TypeKind-F.NeverType p s = refl
   type_at_is TypeKind-F.InferType p s = refl
 
@@ -163,7 +175,11 @@ module _ (env : Answers) where
 
   param_step_is : (x : ParamLayer written) (p : Place)
       → of.param_step env itself (mapped_param env x) p ≡ of.param_step env rd x p
-  param_step_is x p = λ j. record { variadic = x.variadic; ty = type_is rd.type_ x.ty p j }
+  param_step_is x p = λ j. record {
+    variadic = x.variadic;
+    name = name_given (pat_is rd.pat x.pat p j);
+    ty = type_is rd.type_ x.ty p j;
+  }
 
   ret_type_step_is : (x : RetTypeLayer written) (p : Place)
       → of.ret_type_step env itself (mapped_ret_type env x) p ≡ of.ret_type_step env rd x p

@@ -29,10 +29,10 @@ pub struct Context {
 }
 
 /// What is said of a path in a module.
-struct PathEntry {
-    inside: ModuleId,
-    path: ModPath,
-    resolved: Resolved,
+pub struct PathEntry {
+    pub inside: ModuleId,
+    pub path: ModPath,
+    pub resolved: Resolved,
 }
 
 impl Drop for PathEntry {
@@ -48,7 +48,8 @@ impl Drop for PathEntry {
 /// An environment that answers all from tables. A node that stands in none is enabled, has root hygiene and no
 /// block. A name's context has the number of its hygiene. A context that stands in no table was made in the root, has
 /// the hygiene of its own number, came from no macro, and its crate has no root. A path that stands in none stands for
-/// nothing, and one that does is looked up alike in every way. Of two entries for one node, one context or one path the first counts.
+/// nothing, and one that does stands for the same in every way that it is looked up. Of two entries for one node, one
+/// context or one path the first counts.
 pub struct TableEnv {
     disabled: FirstMap<InFile<NodeId>, CfgId>,
     preds: FirstMap<PredId, Option<bool>>,
@@ -99,8 +100,8 @@ impl Model for TableEnv {
 }
 
 impl TableEnv {
-    /// Tables without entries, of a body that is not skipped and stands in the container. All items of the language are there, numbered
-    /// in their order, and ranges are made as the older ones.
+    /// Tables without entries, of a body that is not skipped and stands in the container. All items of the language are
+    /// there, numbered in their order, and ranges are made as the older ones.
     pub fn new(alloc: Global, container: ItemContainerId) -> TableEnv
         ensures { result ≡ spec.empty container }
     {
