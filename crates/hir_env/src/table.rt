@@ -198,11 +198,12 @@ impl TableEnv {
         ensures ok { OnOk result (self.new ≡ record self.old { paths = self.old.paths ++ spec.entry inside path resolved ∷ [] }) }
         ensures err { OnErr result (self.new ≡ self.old) }
     {
-        self.paths.push(PathEntry {
+        let entry = PathEntry {
             inside,
             path,
             resolved,
-        })
+        };
+        self.paths.push(entry)
     }
 
     /// Says which items of the language are there.
