@@ -7,12 +7,17 @@ use Rattle.hir_store.specs.Storing as storing
 use Rattle.hir_store.specs.Storing.{Storing, SomeAtLimit}
 pub use Rattle.hir_store.specs.Storing.{Checked}
 use Rattle.hir_store.specs.declared.fault.StoreFault.TheVariants.{Memory, Full}
+use Rattle.hir_binding.specs.declared.binding.BindingProblems.{BindingProblems}
 use Rattle.hir_store.specs.declared.hir.Expr.{Expr}
+use Rattle.hir_store.specs.declared.pat.Binding.{Binding}
+use Rattle.hir_store.specs.declared.pat.Pat.{Pat}
 use Rattle.hir_store.specs.declared.type_ref.TypeRef.{TypeRef}
 use Rattle.hir_store.specs.declared.type_ref.LifetimeRef.{LifetimeRef}
 use Rattle.hir_store.specs.declared.ids.TypeRefId.{TypeRefId}
 use Rattle.hir_store.specs.declared.ids.LifetimeRefId.{LifetimeRefId}
+use Rattle.hir_store.specs.declared.ids.BindingId.{BindingId}
 use Rattle.hir_store.specs.declared.ids.ExprId.{ExprId}
+use Rattle.hir_store.specs.declared.ids.PatId.{PatId}
 use Rattle.hir_store.specs.declared.ids.LabelId.{LabelId}
 use Rattle.hir_store.specs.declared.ids.BlockId.{BlockId}
 use Rattle.hir_store.specs.declared.diagnostics.ExpressionStoreDiagnostics.{ExpressionStoreDiagnostics}
@@ -49,6 +54,18 @@ stored p = λ b. ((p b.stored).0, record b { stored = (p b.stored).1 })
 unfoldable pub alloc_expr : Expr → Option Pointer → Lowering ExprId
 alloc_expr e source = stored (storing.alloc_expr e source)
 
+unfoldable pub alloc_pat : Pat → Option Pointer → Lowering PatId
+alloc_pat p source = stored (storing.alloc_pat p source)
+
+unfoldable pub alloc_binding : Binding → Lowering BindingId
+alloc_binding b = stored (storing.alloc_binding b)
+
+unfoldable pub define : BindingId → PatId → Lowering (Unit {0})
+define id p = stored (storing.define id p)
+
+unfoldable pub set_problem : BindingId → Option BindingProblems → Lowering (Unit {0})
+set_problem id problem = stored (storing.set_problem id problem)
+
 unfoldable pub alloc_type : TypeRef → Option Pointer → Lowering TypeRefId
 alloc_type t source = stored (storing.alloc_type t source)
 
@@ -60,6 +77,12 @@ point node id = stored (storing.point node id)
 
 unfoldable pub point_field : ExprId → Pointer → Lowering (Unit {0})
 point_field id node = stored (storing.point_field id node)
+
+unfoldable pub point_pat : Pointer → PatId → Lowering (Unit {0})
+point_pat node id = stored (storing.point_pat node id)
+
+unfoldable pub point_pat_field : PatId → Pointer → Lowering (Unit {0})
+point_pat_field id node = stored (storing.point_pat_field id node)
 
 unfoldable pub report : ExpressionStoreDiagnostics → Lowering (Unit {0})
 report fault = stored (storing.report fault)
