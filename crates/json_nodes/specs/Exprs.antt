@@ -6,35 +6,49 @@ use Rattle.hir_syntax.specs.declared.ast.ExprKind.{ExprKind}
 use Rattle.hir_syntax.specs.declared.ast.ExprKind.TheVariants as expr
 use Rattle.hir_syntax.specs.declared.node.PredId.{PredId}
 use Rattle.json_faults.specs.Values.{small_of}
-use Rattle.json_kinds.specs.declared.kind.Kind.{Kind}
-use Rattle.json_kinds.specs.declared.kind.Kind.TheVariants as kind
+use Rattle.json_kinds.specs.declared.kind.ExprNode.{ExprNode}
+use Rattle.json_kinds.specs.declared.kind.ExprNode.TheVariants as kind
 use Rattle.json_nodes.specs.Groups.{as_expr, as_block, as_else, as_path, as_label, as_lifetime, as_name, as_generic_args}
 use Rattle.json_nodes.specs.Fields.{flag_of}
 use Rattle.json_nodes.specs.Literals.{literal_of}
-use Rattle.json_nodes.specs.Operators.{unary_op_in, binary_op_in}
+use Rattle.json_nodes.specs.Operators.{unary_op_in, binary_op_in, range_op_in}
 use Rattle.json_nodes.specs.Parts.{Here, part_in, list_in, list_if_there}
+use Rattle.json_nodes.specs.declared.part.AnyPart.{AnyPart}
+use Rattle.json_nodes.specs.declared.part.AnyPart.TheVariants as part
+use Rattle.json_nodes.specs.declared.code_parts.ExprPart.TheVariants as expr_part
 
--- what steers the order of running
-unfoldable pub flow : Here → Kind → Option ExprKind
-flow h kind.IfExpr = Some (expr.IfExpr
+unfoldable pub if_expr : Here → ExprKind
+if_expr h = expr.IfExpr
     (part_in h as_expr (codes "condition"))
     (part_in h as_block (codes "then"))
-    (part_in h as_else (codes "else")))
+    (part_in h as_else (codes "else"))
+
+-- an `if` is told from other expressions, since it may follow `else`
+abbrev pub of_if : Here → Option AnyPart
+of_if h = Some (part.Expr (expr_part.If (record { id = h.id; range = h.range; kind = if_expr h })))
+
+-- a literal too, since it may stand in a pattern
+abbrev pub of_literal : Here → Option AnyPart
+of_literal h = option_map (λ l. part.Expr (expr_part.Literal h.id h.range l)) (literal_of h.value)
+
+-- what steers the order of running
+unfoldable pub flow : Here → ExprNode → Option ExprKind
 flow h kind.LoopExpr = Some (expr.LoopExpr (part_in h as_label (codes "label")) (part_in h as_block (codes "body")))
 flow h kind.ContinueExpr = Some (expr.ContinueExpr (part_in h as_lifetime (codes "lifetime")))
 flow h kind.BreakExpr = Some (expr.BreakExpr (part_in h as_lifetime (codes "lifetime")) (part_in h as_expr (codes "expr")))
 flow h _ = None
 
--- calls, paths, parentheses and literals
-unfoldable pub plain : Here → Kind → Option ExprKind
+-- calls, paths, parentheses and ranges
+unfoldable pub plain : Here → ExprNode → Option ExprKind
 plain h kind.CallExpr = Some (expr.CallExpr (part_in h as_expr (codes "expr")) (list_if_there h as_expr (codes "args")))
 plain h kind.PathExpr = Some (expr.PathExpr (part_in h as_path (codes "path")))
 plain h kind.ParenExpr = Some (expr.ParenExpr (part_in h as_expr (codes "expr")))
-plain h kind.Literal = option_map expr.Literal (literal_of h.value)
+plain h kind.RangeExpr =
+    Some (expr.RangeExpr (range_op_in h.value) (part_in h as_expr (codes "start")) (part_in h as_expr (codes "end")))
 plain h _ = None
 
 -- what is made of operands
-unfoldable pub operation : Here → Kind → Option ExprKind
+unfoldable pub operation : Here → ExprNode → Option ExprKind
 operation h kind.PrefixExpr = Some (expr.PrefixExpr (unary_op_in h.value) (part_in h as_expr (codes "expr")))
 operation h kind.BinExpr = Some (expr.BinExpr (binary_op_in h.value) (part_in h as_expr (codes "lhs")) (part_in h as_expr (codes "rhs")))
 operation h kind.IndexExpr = Some (expr.IndexExpr (part_in h as_expr (codes "base")) (part_in h as_expr (codes "index")))
@@ -43,7 +57,7 @@ operation h kind.RefExpr =
 operation h _ = None
 
 -- what names a member, or lists its elements
-unfoldable pub member : Here → Kind → Option ExprKind
+unfoldable pub member : Here → ExprNode → Option ExprKind
 member h kind.MethodCallExpr = Some (expr.MethodCallExpr
     (part_in h as_expr (codes "receiver"))
     (part_in h as_name (codes "name"))
@@ -55,7 +69,7 @@ member h kind.ArrayExpr = Some (expr.ArrayExpr (list_in h as_expr (codes "elems"
 member h _ = None
 
 -- what leaves a body, or waits in it
-unfoldable pub leaving : Here → Kind → Option ExprKind
+unfoldable pub leaving : Here → ExprNode → Option ExprKind
 leaving h kind.ReturnExpr = Some (expr.ReturnExpr (part_in h as_expr (codes "expr")))
 leaving h kind.BecomeExpr = Some (expr.BecomeExpr (part_in h as_expr (codes "expr")))
 leaving h kind.YieldExpr = Some (expr.YieldExpr (part_in h as_expr (codes "expr")))
@@ -68,7 +82,7 @@ abbrev pub pred_in : Option Data → Option PredId
 pred_in d = option_map (λ n. record { 0 = n }) (option_and_then small_of d)
 
 -- what has no parts
-unfoldable pub partless : Data → Kind → Option ExprKind
+unfoldable pub partless : Data → ExprNode → Option ExprKind
 partless d kind.CfgPredExpr = Some (expr.CfgPredExpr (pred_in (get (codes "pred") d)))
 partless d kind.UnderscoreExpr = Some expr.UnderscoreExpr
 partless d kind.IncludeBytesExpr = Some expr.IncludeBytesExpr

@@ -1,5 +1,5 @@
 -- Operators, by their words.
-use Rattle.std.specs.Prelude.{ℕ, List, [], ◌∷◌, ◌++◌, true, false, Option, codes, option_and_then, option_map}
+use Rattle.std.specs.Prelude.{ℕ, List, [], ◌∷◌, ◌++◌, Bool, true, false, Option, Some, None, bytes_eq, codes, option_and_then, option_map}
 use Rattle.serde_json.specs.Data.{Data}
 use Rattle.hir_syntax.specs.declared.ast.ArithOp.{ArithOp}
 use Rattle.hir_syntax.specs.declared.ast.ArithOp.TheVariants as arith
@@ -10,6 +10,8 @@ use Rattle.hir_syntax.specs.declared.ast.CmpOp.TheVariants as cmp
 use Rattle.hir_syntax.specs.declared.ast.LogicOp.{LogicOp}
 use Rattle.hir_syntax.specs.declared.ast.LogicOp.TheVariants as logic
 use Rattle.hir_syntax.specs.declared.ast.Ordering.TheVariants.{Less, Greater}
+use Rattle.hir_syntax.specs.declared.pats.RangeOp.{RangeOp}
+use Rattle.hir_syntax.specs.declared.pats.RangeOp.TheVariants as range
 use Rattle.hir_syntax.specs.declared.ast.UnaryOp.{UnaryOp}
 use Rattle.hir_syntax.specs.declared.ast.UnaryOp.TheVariants as unary
 use Rattle.json_nodes.specs.Fields.{text_in}
@@ -63,15 +65,31 @@ abbrev pub arith_ops : List ArithOp
 arith_ops = arith.Add ∷ arith.Mul ∷ arith.Sub ∷ arith.Div ∷ arith.Rem
     ∷ arith.Shl ∷ arith.Shr ∷ arith.BitXor ∷ arith.BitOr ∷ arith.BitAnd ∷ []
 
+abbrev assign_of : Bool → Option BinaryOp
+assign_of true = Some binary.Assign
+assign_of false = None
+
 -- the operator of a binary expression that a word is
 abbrev pub binary_op_of : List ℕ → Option BinaryOp
 binary_op_of word = or_else (option_map binary.LogicOp (with_word logic_word logic_ops word))
     (or_else (option_map binary.CmpOp (with_word cmp_word cmp_ops word))
     (or_else (option_map binary.ArithOp (with_word arith_word arith_ops word))
-    (option_map binary.Assignment (with_word assigned_word arith_ops word))))
+    (or_else (option_map binary.Assignment (with_word assigned_word arith_ops word))
+    (assign_of (bytes_eq word (codes "="))))))
 
 abbrev pub unary_op_in : Data → Option UnaryOp
 unary_op_in d = option_and_then unary_op_of (text_in (codes "op") d)
 
 abbrev pub binary_op_in : Data → Option BinaryOp
 binary_op_in d = option_and_then binary_op_of (text_in (codes "op") d)
+
+abbrev range_word : RangeOp → List ℕ
+range_word range.Exclusive = codes ".."
+range_word range.Inclusive = codes "..="
+
+-- the operator of a range that a word is
+abbrev pub range_op_of : List ℕ → Option RangeOp
+range_op_of word = with_word range_word (range.Exclusive ∷ range.Inclusive ∷ []) word
+
+abbrev pub range_op_in : Data → Option RangeOp
+range_op_in d = option_and_then range_op_of (text_in (codes "op") d)

@@ -7,6 +7,7 @@ use Rattle.hir_syntax.specs.declared.node.NodeId.{NodeId}
 use Rattle.hir_syntax.specs.declared.node.TextRange.{TextRange}
 use Rattle.json_nodes.specs.declared.part.AnyPart.{AnyPart}
 use Rattle.json_nodes.specs.declared.part.AnyPart.TheVariants as part
+use Rattle.json_nodes.specs.declared.name_parts.NamePart.TheVariants as name_part
 
 -- a node, with what stands at each node
 pub record Here : Type 0 where
@@ -46,7 +47,7 @@ listed f (Some ds) = all_read f ds
 module _ (h : Here) where
   -- a text, which has the number and the range of the node that holds it, or what stands at a node, by its index
   abbrev pub any_part : Data → Option AnyPart
-  any_part d = text_or (λ t. part.Text h.id h.range t) (option_and_then h.part (small_of d)) (as_str d)
+  any_part d = text_or (λ t. part.Name (name_part.Text h.id h.range t)) (option_and_then h.part (small_of d)) (as_str d)
 
   -- the same as a part of a group
   abbrev pub child : {T : Type 0} → (AnyPart → Option T) → Data → Option T

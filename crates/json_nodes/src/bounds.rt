@@ -1,4 +1,4 @@
-//! Bounds, binders, parameters and return types.
+//! Bounds, binders and return types.
 
 ghost use Rattle.std.specs.Prelude.{◌≡◌, IfOk, codes, option_and_then};
 ghost use Rattle.serde_json.specs.View.{view};
@@ -9,11 +9,12 @@ ghost use Rattle.json_nodes.specs.Nodes.{here};
 use crate::field::{flag, text};
 use crate::node::{Node, ReadParts};
 use crate::part::AnyPart;
+use crate::type_parts::TypePart;
 use hir_syntax::Boxed;
 use hir_syntax::ast::{
-    BoundKind, ForBinder, Lifetime, Param, PathType, RetType, Type_, TypeBound, UseArg,
+    BoundKind, ForBinder, Lifetime, PathType, RetType, Type_, TypeBound, UseArg,
 };
-use json_kinds::kind::Kind;
+use json_kinds::kind::PartNode;
 use serde_json::Value;
 use std::alloc::AllocError;
 
@@ -54,36 +55,27 @@ fn bound<P: ReadParts>(node: &Node<'_, P>) -> Result<TypeBound, AllocError>
 
 /// A bound, or what else stands beside types.
 #[tactic(auto, unfolding(crate::specs::Bounds::of_bound))]
-pub fn of_bound<P: ReadParts>(node: &Node<'_, P>, kind: Kind) -> Result<Option<AnyPart>, AllocError>
+pub fn of_bound<P: ReadParts>(node: &Node<'_, P>, kind: PartNode) -> Result<Option<AnyPart>, AllocError>
     requires { P.can node.now.parts.now }
     ensures { IfOk result (λ part. part ≡ spec.of_bound (here P.parts node.now) kind) }
 {
     match kind {
-        Kind::TypeBound => Ok(Some(AnyPart::Bound(Boxed::new(node.alloc, bound(node)?)?))),
-        Kind::ForBinder => {
+        PartNode::TypeBound => Ok(Some(AnyPart::Type_(TypePart::Bound(Boxed::new(node.alloc, bound(node)?)?)))),
+        PartNode::ForBinder => {
             let binder = ForBinder {
                 id: node.id,
                 range: node.range,
                 params: node.list_with_nulls::<Lifetime>("params")?,
             };
-            Ok(Some(AnyPart::Binder(Boxed::new(node.alloc, binder)?)))
+            Ok(Some(AnyPart::Type_(TypePart::Binder(Boxed::new(node.alloc, binder)?))))
         }
-        Kind::RetType => {
+        PartNode::RetType => {
             let ret = RetType {
                 id: node.id,
                 range: node.range,
                 ty: node.boxed::<Type_>("ty")?,
             };
-            Ok(Some(AnyPart::Ret(Boxed::new(node.alloc, ret)?)))
-        }
-        Kind::Param => {
-            let param = Param {
-                id: node.id,
-                range: node.range,
-                ty: node.boxed::<Type_>("ty")?,
-                variadic: flag(node.value, "variadic"),
-            };
-            Ok(Some(AnyPart::Param(Boxed::new(node.alloc, param)?)))
+            Ok(Some(AnyPart::Type_(TypePart::Ret(Boxed::new(node.alloc, ret)?))))
         }
         _ => Ok(None),
     }

@@ -6,29 +6,29 @@ ghost use Rattle.json_nodes.specs.Nodes.{here};
 
 use crate::node::{Node, ReadParts};
 use hir_syntax::ast::{Expr, ExprKind};
-use json_kinds::kind::Kind;
+use json_kinds::kind::ExprNode;
 use std::alloc::AllocError;
 
 /// `return`, `become`, `yield`, `do yeet` and `.await`.
 #[tactic(auto, unfolding(crate::specs::Exprs::leaving))]
-pub fn leaving<P: ReadParts>(node: &Node<'_, P>, kind: Kind) -> Result<Option<ExprKind>, AllocError>
+pub fn leaving<P: ReadParts>(node: &Node<'_, P>, kind: ExprNode) -> Result<Option<ExprKind>, AllocError>
     requires { P.can node.now.parts.now }
     ensures { IfOk result (λ expr. expr ≡ spec.leaving (here P.parts node.now) kind) }
 {
     match kind {
-        Kind::ReturnExpr => Ok(Some(ExprKind::ReturnExpr {
+        ExprNode::ReturnExpr => Ok(Some(ExprKind::ReturnExpr {
             expr: node.boxed::<Expr>("expr")?,
         })),
-        Kind::BecomeExpr => Ok(Some(ExprKind::BecomeExpr {
+        ExprNode::BecomeExpr => Ok(Some(ExprKind::BecomeExpr {
             expr: node.boxed::<Expr>("expr")?,
         })),
-        Kind::YieldExpr => Ok(Some(ExprKind::YieldExpr {
+        ExprNode::YieldExpr => Ok(Some(ExprKind::YieldExpr {
             expr: node.boxed::<Expr>("expr")?,
         })),
-        Kind::YeetExpr => Ok(Some(ExprKind::YeetExpr {
+        ExprNode::YeetExpr => Ok(Some(ExprKind::YeetExpr {
             expr: node.boxed::<Expr>("expr")?,
         })),
-        Kind::AwaitExpr => Ok(Some(ExprKind::AwaitExpr {
+        ExprNode::AwaitExpr => Ok(Some(ExprKind::AwaitExpr {
             expr: node.boxed::<Expr>("expr")?,
         })),
         _ => Ok(None),

@@ -7,6 +7,7 @@ ghost use Rattle.json_nodes.specs.Parts.{all_read, or_null};
 ghost use Rattle.json_nodes.specs.Nodes.{here};
 ghost use Rattle.json_nodes.specs.declared.part.AnyPart.{AnyPart};
 
+use crate::name_parts::NamePart;
 use crate::part::{AnyPart, Part};
 use hir_syntax::node::{NodeId, TextRange};
 use hir_syntax::{Boxed, Seq, Text};
@@ -48,7 +49,8 @@ impl<P: ReadParts> Node<'_, P> {
     {
         if let Some(text) = value.as_str() {
             let text = Text::new(self.alloc, text)?;
-            return Ok(Some(AnyPart::Text(self.id, self.range, text)));
+            let text = NamePart::Text(self.id, self.range, text);
+            return Ok(Some(AnyPart::Name(text)));
         }
         match small(value) {
             Some(at) => self.parts.part_at(self.alloc, at),

@@ -8,33 +8,33 @@ use crate::field::flag;
 use crate::node::{Node, ReadParts};
 use crate::operators::{binary_op, unary_op};
 use hir_syntax::ast::{Expr, ExprKind};
-use json_kinds::kind::Kind;
+use json_kinds::kind::ExprNode;
 use std::alloc::AllocError;
 
 /// Operators, references and indexes.
 #[tactic(auto, unfolding(crate::specs::Exprs::operation))]
 pub fn operation<P: ReadParts>(
     node: &Node<'_, P>,
-    kind: Kind,
+    kind: ExprNode,
 ) -> Result<Option<ExprKind>, AllocError>
     requires { P.can node.now.parts.now }
     ensures { IfOk result (λ expr. expr ≡ spec.operation (here P.parts node.now) kind) }
 {
     match kind {
-        Kind::PrefixExpr => Ok(Some(ExprKind::PrefixExpr {
+        ExprNode::PrefixExpr => Ok(Some(ExprKind::PrefixExpr {
             op: unary_op(node.value),
             expr: node.boxed::<Expr>("expr")?,
         })),
-        Kind::BinExpr => Ok(Some(ExprKind::BinExpr {
+        ExprNode::BinExpr => Ok(Some(ExprKind::BinExpr {
             op: binary_op(node.value),
             lhs: node.boxed::<Expr>("lhs")?,
             rhs: node.boxed::<Expr>("rhs")?,
         })),
-        Kind::IndexExpr => Ok(Some(ExprKind::IndexExpr {
+        ExprNode::IndexExpr => Ok(Some(ExprKind::IndexExpr {
             base: node.boxed::<Expr>("base")?,
             index: node.boxed::<Expr>("index")?,
         })),
-        Kind::RefExpr => Ok(Some(ExprKind::RefExpr {
+        ExprNode::RefExpr => Ok(Some(ExprKind::RefExpr {
             raw: flag(node.value, "raw"),
             mut_: flag(node.value, "mut"),
             expr: node.boxed::<Expr>("expr")?,

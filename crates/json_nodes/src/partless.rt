@@ -8,11 +8,11 @@ ghost use Rattle.json_nodes.specs.Exprs as spec;
 use hir_syntax::ast::ExprKind;
 use hir_syntax::node::PredId;
 use json_faults::value::small;
-use json_kinds::kind::Kind;
+use json_kinds::kind::ExprNode;
 use serde_json::Value;
 
 /// The predicate that a node names.
-fn pred(node: &Value) -> Option<PredId>
+pub fn pred(node: &Value) -> Option<PredId>
     ensures { result ≡ spec.pred_in (get (codes "pred") (view node.now)) }
 {
     Some(PredId(small(node.get("pred")?)?))
@@ -20,15 +20,15 @@ fn pred(node: &Value) -> Option<PredId>
 
 /// Predicates of conditions, `_`, and what the compiler's own macros write.
 #[tactic(auto, unfolding(crate::specs::Exprs::partless))]
-pub fn partless(node: &Value, kind: Kind) -> Option<ExprKind>
+pub fn partless(node: &Value, kind: ExprNode) -> Option<ExprKind>
     ensures { result ≡ spec.partless (view node.now) kind }
 {
     match kind {
-        Kind::CfgPredExpr => Some(ExprKind::CfgPredExpr { pred: pred(node) }),
-        Kind::UnderscoreExpr => Some(ExprKind::UnderscoreExpr),
-        Kind::IncludeBytesExpr => Some(ExprKind::IncludeBytesExpr),
-        Kind::AsmExpr => Some(ExprKind::AsmExpr),
-        Kind::FormatArgsExpr => Some(ExprKind::FormatArgsExpr),
+        ExprNode::CfgPredExpr => Some(ExprKind::CfgPredExpr { pred: pred(node) }),
+        ExprNode::UnderscoreExpr => Some(ExprKind::UnderscoreExpr),
+        ExprNode::IncludeBytesExpr => Some(ExprKind::IncludeBytesExpr),
+        ExprNode::AsmExpr => Some(ExprKind::AsmExpr),
+        ExprNode::FormatArgsExpr => Some(ExprKind::FormatArgsExpr),
         _ => None,
     }
 }

@@ -9,11 +9,12 @@ ghost use Rattle.json_nodes.specs.Paths as spec;
 use crate::field::{flag, text};
 use crate::node::{Node, ReadParts};
 use crate::part::AnyPart;
+use crate::path_parts::PathPart;
 use hir_syntax::Boxed;
 use hir_syntax::ast::{
     GenericArgList, Name, ParenArgs, Path, PathSegment, PathType, RetType, SegmentKind, Type_,
 };
-use json_kinds::kind::Kind;
+use json_kinds::kind::PathNode;
 use serde_json::Value;
 use std::alloc::AllocError;
 
@@ -80,13 +81,13 @@ pub fn path<P: ReadParts>(node: &Node<'_, P>) -> Result<Path, AllocError>
 }
 
 /// A path or a segment.
-pub fn of_path<P: ReadParts>(node: &Node<'_, P>, kind: Kind) -> Result<Option<AnyPart>, AllocError>
+pub fn of_path<P: ReadParts>(node: &Node<'_, P>, kind: PathNode) -> Result<Option<AnyPart>, AllocError>
     requires { P.can node.now.parts.now }
     ensures { IfOk result (λ part. part ≡ spec.of_path (here P.parts node.now) kind) }
 {
     match kind {
-        Kind::Path => Ok(Some(AnyPart::Path(Boxed::new(node.alloc, path(node)?)?))),
-        Kind::PathSegment => Ok(Some(AnyPart::Segment(Boxed::new(node.alloc, segment(node)?)?))),
+        PathNode::Path => Ok(Some(AnyPart::Path(PathPart::Path(Boxed::new(node.alloc, path(node)?)?)))),
+        PathNode::PathSegment => Ok(Some(AnyPart::Path(PathPart::Segment(Boxed::new(node.alloc, segment(node)?)?)))),
         _ => Ok(None),
     }
 }

@@ -7,29 +7,30 @@ ghost use Rattle.json_nodes.specs.Nodes.{here};
 use crate::field::{flag, own_text};
 use crate::node::{Node, ReadParts};
 use crate::part::AnyPart;
+use crate::type_parts::TypePart;
 use hir_syntax::Boxed;
 use hir_syntax::ast::{
-    ConstArg, ForBinder, Lifetime, Param, Path, PathType, RetType, Type_, TypeBound, TypeKind,
+    ConstArg, ForBinder, Lifetime, Param, Pat, Path, PathType, RetType, Type_, TypeBound, TypeKind,
 };
-use json_kinds::kind::Kind;
+use json_kinds::kind::TypeNode;
 use std::alloc::AllocError;
 
 #[tactic(auto, unfolding(crate::specs::Types::over_types))]
-fn over_types<P: ReadParts>(node: &Node<'_, P>, kind: Kind) -> Result<Option<TypeKind>, AllocError>
+fn over_types<P: ReadParts>(node: &Node<'_, P>, kind: TypeNode) -> Result<Option<TypeKind>, AllocError>
     requires { P.can node.now.parts.now }
     ensures { IfOk result (λ part. part ≡ spec.over_types (here P.parts node.now) kind) }
 {
     match kind {
-        Kind::ParenType => Ok(Some(TypeKind::ParenType {
+        TypeNode::ParenType => Ok(Some(TypeKind::ParenType {
             ty: node.boxed::<Type_>("ty")?,
         })),
-        Kind::SliceType => Ok(Some(TypeKind::SliceType {
+        TypeNode::SliceType => Ok(Some(TypeKind::SliceType {
             ty: node.boxed::<Type_>("ty")?,
         })),
-        Kind::TupleType => Ok(Some(TypeKind::TupleType {
+        TypeNode::TupleType => Ok(Some(TypeKind::TupleType {
             fields: node.list::<Type_>("fields")?,
         })),
-        Kind::PtrType => Ok(Some(TypeKind::PtrType {
+        TypeNode::PtrType => Ok(Some(TypeKind::PtrType {
             mut_: flag(node.value, "mut"),
             ty: node.boxed::<Type_>("ty")?,
         })),
@@ -84,42 +85,54 @@ fn under_binder<P: ReadParts>(node: &Node<'_, P>) -> Result<TypeKind, AllocError
     })
 }
 
+#[tactic(auto, unfolding(crate::specs::Types::patterned))]
+fn patterned<P: ReadParts>(node: &Node<'_, P>) -> Result<TypeKind, AllocError>
+    requires { P.can node.now.parts.now }
+    ensures { IfOk result (λ kind. kind ≡ spec.patterned (here P.parts node.now)) }
+{
+    Ok(TypeKind::PatternType {
+        ty: node.boxed::<Type_>("ty")?,
+        pat: node.boxed::<Pat>("pat")?,
+    })
+}
+
 /// A type with a part of another group beside its type, or in its place.
 fn beside_types<P: ReadParts>(
     node: &Node<'_, P>,
-    kind: Kind,
+    kind: TypeNode,
 ) -> Result<Option<TypeKind>, AllocError>
     requires { P.can node.now.parts.now }
     ensures { IfOk result (λ part. part ≡ spec.beside_types (here P.parts node.now) kind) }
 {
     match kind {
-        Kind::RefType => Ok(Some(reference(node)?)),
-        Kind::ArrayType => Ok(Some(array(node)?)),
-        Kind::FnPtrType => Ok(Some(function_pointer(node)?)),
-        Kind::ForType => Ok(Some(under_binder(node)?)),
+        TypeNode::RefType => Ok(Some(reference(node)?)),
+        TypeNode::ArrayType => Ok(Some(array(node)?)),
+        TypeNode::FnPtrType => Ok(Some(function_pointer(node)?)),
+        TypeNode::ForType => Ok(Some(under_binder(node)?)),
+        TypeNode::PatternType => Ok(Some(patterned(node)?)),
         _ => Ok(None),
     }
 }
 
 #[tactic(auto, unfolding(crate::specs::Types::bounded))]
-fn bounded<P: ReadParts>(node: &Node<'_, P>, kind: Kind) -> Result<Option<TypeKind>, AllocError>
+fn bounded<P: ReadParts>(node: &Node<'_, P>, kind: TypeNode) -> Result<Option<TypeKind>, AllocError>
     requires { P.can node.now.parts.now }
     ensures { IfOk result (λ part. part ≡ spec.bounded (here P.parts node.now) kind) }
 {
     match kind {
-        Kind::ImplTraitType => Ok(Some(TypeKind::ImplTraitType {
+        TypeNode::ImplTraitType => Ok(Some(TypeKind::ImplTraitType {
             bounds: node.list::<TypeBound>("bounds")?,
         })),
-        Kind::DynTraitType => Ok(Some(TypeKind::DynTraitType {
+        TypeNode::DynTraitType => Ok(Some(TypeKind::DynTraitType {
             bounds: node.list::<TypeBound>("bounds")?,
         })),
-        Kind::NeverType => Ok(Some(TypeKind::NeverType)),
-        Kind::InferType => Ok(Some(TypeKind::InferType)),
+        TypeNode::NeverType => Ok(Some(TypeKind::NeverType)),
+        TypeNode::InferType => Ok(Some(TypeKind::InferType)),
         _ => Ok(None),
     }
 }
 
-fn type_kind<P: ReadParts>(node: &Node<'_, P>, kind: Kind) -> Result<Option<TypeKind>, AllocError>
+fn type_kind<P: ReadParts>(node: &Node<'_, P>, kind: TypeNode) -> Result<Option<TypeKind>, AllocError>
     requires { P.can node.now.parts.now }
     ensures { IfOk result (λ part. part ≡ spec.type_kind (here P.parts node.now) kind) }
 {
@@ -132,19 +145,14 @@ fn type_kind<P: ReadParts>(node: &Node<'_, P>, kind: Kind) -> Result<Option<Type
     bounded(node, kind)
 }
 
-/// A type. A path is told from others, since it may also name a trait.
-pub fn of_type<P: ReadParts>(node: &Node<'_, P>, kind: Kind) -> Result<Option<AnyPart>, AllocError>
+/// A type that is no path.
+pub fn of_type<P: ReadParts>(
+    node: &Node<'_, P>,
+    kind: TypeNode,
+) -> Result<Option<AnyPart>, AllocError>
     requires { P.can node.now.parts.now }
     ensures { IfOk result (λ part. part ≡ spec.of_type (here P.parts node.now) kind) }
 {
-    if let Kind::PathType = kind {
-        let path_type = PathType {
-            id: node.id,
-            range: node.range,
-            path: node.boxed::<Path>("path")?,
-        };
-        return Ok(Some(AnyPart::PathType(Boxed::new(node.alloc, path_type)?)));
-    }
     match type_kind(node, kind)? {
         Some(kind) => {
             let ty = Type_ {
@@ -152,8 +160,22 @@ pub fn of_type<P: ReadParts>(node: &Node<'_, P>, kind: Kind) -> Result<Option<An
                 range: node.range,
                 kind,
             };
-            Ok(Some(AnyPart::Type_(Boxed::new(node.alloc, ty)?)))
+            Ok(Some(AnyPart::Type_(TypePart::Type_(Boxed::new(node.alloc, ty)?))))
         }
         None => Ok(None),
     }
+}
+
+/// A path as a type, which is told from other types, since it may also name a trait.
+#[tactic(auto, unfolding(crate::specs::Types::of_path_type))]
+pub fn of_path_type<P: ReadParts>(node: &Node<'_, P>) -> Result<Option<AnyPart>, AllocError>
+    requires { P.can node.now.parts.now }
+    ensures { IfOk result (λ part. part ≡ spec.of_path_type (here P.parts node.now)) }
+{
+    let path_type = PathType {
+        id: node.id,
+        range: node.range,
+        path: node.boxed::<Path>("path")?,
+    };
+    Ok(Some(AnyPart::Type_(TypePart::PathType(Boxed::new(node.alloc, path_type)?))))
 }
