@@ -1,7 +1,7 @@
 -- What lifetimes, types, paths, arguments, bounds and patterns are, without the numbers of a store: as they are written and as
 -- they are stored. Each type, each lifetime and each pattern has the node that it came from, where it came from one. A constant
 -- is named by the node that it came from.
-use Rattle.std.specs.Prelude.{ℕ, Bool, true, List, [], ◌∷◌, Option, None}
+use Rattle.std.specs.Prelude.{ℕ, Bool, true, List, [], ◌∷◌, Option, None, option_map}
 use Rattle.hir_syntax.specs.declared.pats.RangeOp.{RangeOp}
 use Rattle.hir_binding.specs.declared.binding.BindingAnnotation.{BindingAnnotation}
 use Rattle.hir_store.specs.Pointers.{Pointer}
@@ -15,6 +15,7 @@ use Rattle.hir_store.specs.declared.path.GenericArgsParentheses.{GenericArgsPare
 use Rattle.hir_store.specs.declared.type_ref.LifetimeRef.{LifetimeRef}
 use Rattle.hir_store.specs.declared.type_ref.TraitBoundModifier.{TraitBoundModifier}
 use Rattle.hir_env.specs.NodeMap.{Site}
+use Rattle.hir_env.specs.Spot.{site_of}
 use Rattle.hir_env.specs.Answered.{Binder, FnHead}
 use Rattle.hir_data.specs.Literals.{LiteralData}
 
@@ -167,12 +168,9 @@ abbrev pub path_names : PathData → List Name
 path_names (path_data k anchor ns bare) = names_in ns
 path_names (item_path i) = []
 
-abbrev pub shape_of : PatData → PatShape
-shape_of (pat_at source shape) = shape
-
--- the node that a pattern came from, where it came from one
-abbrev pub source_of : PatData → Option Pointer
-source_of (pat_at source shape) = source
+-- the node of a pattern, where it came from one
+abbrev pub pattern_site : PatData → Option Site
+pattern_site (pat_at source shape) = option_map site_of source
 
 -- a name alone, and the path of it
 abbrev pub name_alone : Name → NamesData

@@ -137,7 +137,8 @@ abbrev mutual
   pattern_data (tree.name_pat at u) us = pat_at (Some at) (datum.path_pattern (bare_path u.name) root_hygiene)
   pattern_data (tree.path_pat at p) us = pat_at (Some at) (path_pattern_of (path_of p))
   pattern_data (tree.tuple_struct_pat at p comma ps) us = if_path (path_of p)
-      (λ d. pat_at (Some at) (datum.tuple_struct_pattern d (ellipsis_of comma ps) (behind_comma comma (tuple_parts_data ps us)))) absent_pattern
+      (λ d. pat_at (Some at) (datum.tuple_struct_pattern d (ellipsis_of comma ps) (behind_comma comma (tuple_parts_data ps us))))
+      absent_pattern
   pattern_data (tree.tuple_pat at comma ps) us =
       pat_at (Some at) (datum.tuple_pattern (ellipsis_of comma ps) (behind_comma comma (tuple_parts_data ps us)))
   pattern_data (tree.record_pat at p fs dots) us = if_path (path_of p)

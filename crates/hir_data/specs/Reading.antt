@@ -281,6 +281,10 @@ module _ (store : Store) (source_map : SourceMap) where
   unfoldable pub stored_type : TypeRefId → TypeData
   stored_type i = (readers entries).type i
 
+  -- one that may stay absent
+  unfoldable pub stored_option_type : Option TypeRefId → OptionTypeData
+  stored_option_type t = present_layer (readers entries) t
+
   unfoldable pub stored_path : Path → PathData
   stored_path p = path_layer (readers entries) p
 

@@ -192,7 +192,8 @@ fn_at a ps = type_at 0 (TypeKind-F.FnPtrType false a (Some ps) None)
 
 abbrev pub reads_abi : Spot → Option (List ℕ) → ExternAbi → Type 0
 reads_abi at t a = type_data None (answered_type at (fn_at t [])) ≡ datum.typed (Some (pointer at 0))
-    (datum.fn_shape (record { is_unsafe = false; abi = a; is_varargs = false; names = [] }) None (datum.more_types unit_data datum.no_types))
+    (datum.fn_shape (record { is_unsafe = false; abi = a; is_varargs = false; names = [] }) None
+    (datum.more_types unit_data datum.no_types))
 
 -- `fn()`, `extern fn()`, and `extern "C" fn()`, with "efiapi" and with "x" for "C"
 abbrev pub AbisOfTexts : Type 0

@@ -348,6 +348,10 @@ abbrev mutual
 abbrev pub written_type : OptionType → TypeData
 written_type t = part_data None t
 
+-- one that may stay absent
+abbrev pub written_option_type : OptionType → OptionTypeData
+written_option_type t = present_data t
+
 abbrev pub written_args : OptionArgs → OptionArgsData
 written_args as' = list_data as'
 

@@ -100,19 +100,23 @@ StoredExprs = List (Stored × Option ℕ)
 
 -- a store of these alone
 abbrev pub only : StoredExprs → Store
-only ns = record { exprs = map (λ n. n.0) ns; labels = []; types = []; lifetimes = []; roots = [] }
+only ns = record { exprs = map (λ n. n.0) ns; labels = []; pats = []; bindings = []; types = []; lifetimes = []; roots = [] }
 
 abbrev pub from : StoredExprs → SourceMap
 from ns = record {
   expr_sources = map (λ n. option_map at n.1) ns;
   label_sources = [];
+  pat_sources = [];
   type_sources = [];
   lifetime_sources = [];
   expr_map = [];
   label_map = [];
+  pat_map = [];
+  binding_definitions = [];
   types_map = [];
   lifetime_map = [];
   field_map_back = [];
+  pat_field_map_back = [];
   block_scopes = [];
   diagnostics = [];
 }
