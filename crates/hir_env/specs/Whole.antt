@@ -2,6 +2,7 @@
 use Rattle.std.specs.Prelude.{Bool, List, [], ◌∷◌, Option, option_map}
 use Rattle.hir_syntax.specs.declared.ast.ElseBranch.{ElseBranch as AstElseBranch, out-ElseBranch}
 use Rattle.hir_syntax.specs.declared.ast.ExprKind.{out-ExprKind}
+use Rattle.hir_syntax.specs.declared.ast.ElseBranch.TheOpen.{ExprKind-F}
 use Rattle.hir_syntax.specs.declared.ast.StmtKind.{out-StmtKind}
 use Rattle.hir_syntax.specs.declared.types.GenericArg.{GenericArg as AstGenericArg, out-GenericArg}
 use Rattle.hir_syntax.specs.declared.types.TypeKind.{out-TypeKind}
@@ -36,7 +37,8 @@ use Rattle.hir_store.specs.Pointers.{Pointer}
 use Rattle.hir_env.specs.Spot.{Spot}
 use Rattle.hir_store.specs.declared.ids.BlockId.{BlockId}
 use Rattle.hir_store.specs.declared.name.Name.{Name}
-use Rattle.hir_env.specs.Layers.{RecordReading}
+use Rattle.hir_env.specs.declared.place.Place.{Place}
+use Rattle.hir_env.specs.Layers.{RecordReading, ExprKindLayer}
 use Rattle.hir_env.specs.Answering.{in_file, ptr, site_of, label_of, jump_of, modified, expr_or_none, plain_or_none, exprs_of}
 use Rattle.hir_env.specs.Answering.{exprs_or_none, numbered, inside, asked, else_branch, expr_at, constant_step, stmt_at}
 use Rattle.hir_env.specs.Answering.{field_step, record_step, fields_of, spread_or_none, record_or_empty, arms_of, arms_or_none}
@@ -261,6 +263,14 @@ pointer_at at id range = in_file at.place (ptr id range)
 -- whether the block is unsafe, and its label
 abbrev pub block_head : Spot → AstBlockExpr → Bool × Option Label
 block_head at b = let level = out-BlockExpr b in modified level.mod_ (label_part at level.label)
+
+-- the node of an expression, and of a block as an expression the block's
+abbrev pub kind_pointer : Place → ExprKindLayer written → Pointer → Pointer
+kind_pointer p (ExprKind-F.BlockExpr b) s = let level = out-BlockExpr b in in_file p (ptr level.id level.range)
+kind_pointer p _ s = s
+
+abbrev pub own_pointer : Spot → AstExpr → Pointer
+own_pointer at e = kind_pointer at.place (out-ExprKind e.kind) (pointer_at at e.id e.range)
 
 -- one level
 abbrev pub kept_expr : Spot → AstExpr → Expr
