@@ -14,4 +14,4 @@ returns-in-Ok g c =
     let env = (g.P.LowerParts.spot c.args.parts.now).answers in
     let is = sym c.find_label.ensures ∙ c.in-Ok.is in
     let h = found_lowers b env c.args.source c.args.name c.args.hygiene c.in-Ok.label is c.self.invariant in
-    rw (← c.self.view_is) (h.0, (omega arith, omega arith, omega arith, omega arith), h.1)
+    rw (← c.self.view_is) (h.0, (omega arith, omega arith, omega arith, omega arith, omega arith, omega arith), h.1)
