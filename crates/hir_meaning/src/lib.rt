@@ -14,7 +14,7 @@ ghost use Rattle.hir_meaning.specs.Endings.{MissingEndsTheLoop, StraysWithItsVal
 ghost use Rattle.hir_meaning.specs.Endings.{ContinuesPastTheBlock, AnswersNoPastTheEnd, ValueEndsTheLoop, ForeignIsNotEnclosed};
 ghost use Rattle.hir_meaning.specs.Patterned.{AssignsInOrder, TestsThePattern, TriesTheArms, LeavesByElse, BindsNoValue, MakesRanges};
 ghost use Rattle.hir_meaning.specs.Patterned.{CallsForTheLast};
-ghost use Rattle.hir_meaning.specs.InnerRows.{TypesInOrder, PathsInOrder, ExprsInOrder, StoredInOrder};
+ghost use Rattle.hir_meaning.specs.InnerRows.{TypesInOrder, PathsInOrder, ExprsInOrder, PatternsInOrder, StoredInOrder};
 
 /// `'a: { loop { break 'a 1 } }` with one turn is the literal and its value.
 pub fn leaves_the_loop()
@@ -233,11 +233,12 @@ pub fn foreign_is_not_enclosed()
 
 /// The bodies inside `[[!; a]; b]` are a and b, inside `[!; a as [!; b]]` the cast and b; inside a refused path, and in
 /// arguments that go again, there are none. Arguments come before bindings, and of a method call those in `<..>` before the
-/// others. So they are stored, too.
+/// others; of an arm those of its guard before those of its body. So they are stored, too.
 pub fn inner_bodies_in_order()
     ensures types { TypesInOrder }
     ensures paths { PathsInOrder }
     ensures exprs { ExprsInOrder }
+    ensures patterns { PatternsInOrder }
     ensures stored { StoredInOrder }
 {}
 
