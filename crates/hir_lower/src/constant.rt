@@ -73,7 +73,7 @@ fn expr_or_missing<
 
 /// The expression, read at this place, as a constant: no jump in it reaches what is open around it, and it is recorded as a
 /// root unless one is being lowered.
-#[tactic(auto, unfolding(hir_lower_form::specs::Lower::constant_form))]
+#[tactic(auto, unfolding(hir_lower_form::specs::Forms::constant_form))]
 pub fn constant_form<
     E: LowerEnv,
     F: Fn(Global, &E, Place, &mut BodyBuilder, &ast::Expr) -> Result<Option<ExprId>, StoreFault>,

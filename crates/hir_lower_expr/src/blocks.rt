@@ -10,6 +10,7 @@ ghost use Rattle.hir_lower_form.specs.Lower as spec;
 ghost use Rattle.hir_lower_form.specs.Nests.{Each, KidsBlock, KidsStmt};
 ghost use Rattle.hir_lower_form.specs.Methods.{HasContents, LowersExpr, LowersStmt, LowersStmts, block_steps_at, contents_at, flat};
 
+use crate::lets::let_stmt;
 use hir_lower_form::builder::BodyBuilder;
 use hir_lower_form::parts::{LowerParts, Lowerer};
 use hir_store::fault::StoreFault;
@@ -60,6 +61,15 @@ fn collect_stmt<P: LowerParts>(
     ensures { LowersStmt (stmt_level (P.spot lowerer.now.parts) node.now) state.old result state.new }
 {
     match &node.kind {
+        ast::StmtKind::LetStmt {
+            pat,
+            ty,
+            init,
+            else_,
+        } => {
+            let at = lowerer.pointer(node.id, node.range);
+            let_stmt(lowerer, state, at, pat, ty, init, else_)
+        }
         ast::StmtKind::ExprStmt { expr, semi } => {
             match lowerer.maybe_collect_expr_opt(state, expr)? {
                 None => Ok(None),
@@ -121,7 +131,7 @@ fn contents<P: LowerParts>(
 }
 
 /// A block that is read here, as one that is unsafe or isn't, inside the label of this number.
-#[tactic(auto, unfolding(hir_lower_form::specs::Lower::block_form))]
+#[tactic(auto, unfolding(hir_lower_form::specs::Forms::block_form))]
 pub fn block_node<P: LowerParts>(
     lowerer: &Lowerer<P>,
     state: &mut BodyBuilder,
@@ -148,7 +158,7 @@ pub fn block_node<P: LowerParts>(
 }
 
 /// A block with a label, if it has one, and with no modifier.
-#[tactic(auto, unfolding(hir_lower_form::specs::Lower::labelled))]
+#[tactic(auto, unfolding(hir_lower_form::specs::Forms::labelled))]
 fn labelled_block<P: LowerParts>(
     lowerer: &Lowerer<P>,
     state: &mut BodyBuilder,
@@ -172,7 +182,7 @@ fn labelled_block<P: LowerParts>(
 }
 
 /// A block with its modifier, beside which no label counts, or else with its label.
-#[tactic(auto, unfolding(hir_lower_form::specs::Lower::labelled))]
+#[tactic(auto, unfolding(hir_lower_form::specs::Forms::labelled))]
 fn headed_block<P: LowerParts>(
     lowerer: &Lowerer<P>,
     state: &mut BodyBuilder,

@@ -54,7 +54,7 @@ fn else_if_present<P: LowerParts>(
 }
 
 /// The branches are lowered before the condition.
-#[tactic(auto, unfolding(hir_lower_form::specs::Lower::if_form))]
+#[tactic(auto, unfolding(hir_lower_form::specs::Forms::if_form))]
 pub(crate) fn if_form<P: LowerParts>(
     lowerer: &Lowerer<P>,
     state: &mut BodyBuilder,
@@ -82,7 +82,7 @@ pub(crate) fn if_form<P: LowerParts>(
     state.alloc_expr(expr, Some(at))
 }
 
-#[tactic(auto, unfolding(hir_lower_form::specs::Lower::loop_form))]
+#[tactic(auto, unfolding(hir_lower_form::specs::Forms::loop_form))]
 pub(crate) fn loop_form<P: LowerParts>(
     lowerer: &Lowerer<P>,
     state: &mut BodyBuilder,

@@ -13,7 +13,7 @@ use hir_store::ids::ExprId;
 use hir_syntax::node::{AstPtr, InFile};
 use hir_syntax::{Boxed, ast};
 
-#[tactic(auto, unfolding(hir_lower_form::specs::Lower::continue_form))]
+#[tactic(auto, unfolding(hir_lower_form::specs::Forms::continue_form))]
 pub(crate) fn continue_form<P: LowerParts>(
     lowerer: &Lowerer<P>,
     state: &mut BodyBuilder,
@@ -26,7 +26,7 @@ pub(crate) fn continue_form<P: LowerParts>(
     state.alloc_expr(Expr::Continue { label }, Some(at))
 }
 
-#[tactic(auto, unfolding(hir_lower_form::specs::Lower::break_form))]
+#[tactic(auto, unfolding(hir_lower_form::specs::Forms::break_form))]
 pub(crate) fn break_form<P: LowerParts>(
     lowerer: &Lowerer<P>,
     state: &mut BodyBuilder,

@@ -2,6 +2,7 @@
 //! parts is handed in.
 #![tactic(auto)]
 
+mod assignments;
 pub mod blocks;
 mod calls;
 mod control;
@@ -11,7 +12,10 @@ mod here;
 mod jumps;
 mod leaves;
 mod leaving;
+mod lets;
 mod lists;
+mod matches;
 mod operators;
+mod ranges;
 mod records;
 mod typed;

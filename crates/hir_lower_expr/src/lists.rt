@@ -26,7 +26,7 @@ fn with_first(alloc: Global, first: ExprId, rest: Seq<ExprId>) -> Result<Seq<Exp
 }
 
 /// A leading comma stands for a missing element in front, which is made last.
-#[tactic(auto, unfolding(hir_lower_form::specs::Lower::list_form))]
+#[tactic(auto, unfolding(hir_lower_form::specs::Forms::list_form))]
 pub(crate) fn tuple_form<P: LowerParts>(
     lowerer: &Lowerer<P>,
     state: &mut BodyBuilder,
@@ -48,7 +48,7 @@ pub(crate) fn tuple_form<P: LowerParts>(
     state.alloc_expr(Expr::Tuple { exprs }, Some(at))
 }
 
-#[tactic(auto, unfolding(hir_lower_form::specs::Lower::list_form))]
+#[tactic(auto, unfolding(hir_lower_form::specs::Forms::list_form))]
 pub(crate) fn array_form<P: LowerParts>(
     lowerer: &Lowerer<P>,
     state: &mut BodyBuilder,

@@ -20,7 +20,7 @@ use hir_syntax::{Boxed, Seq, ast};
 use std::alloc::{AllocError, Global};
 
 /// A path that is absent or refused is missing.
-#[tactic(auto, unfolding(hir_lower_form::specs::Lower::path_form))]
+#[tactic(auto, unfolding(hir_lower_form::specs::Forms::path_form))]
 pub(crate) fn path_form<P: LowerParts>(
     lowerer: &Lowerer<P>,
     state: &mut BodyBuilder,
@@ -36,7 +36,7 @@ pub(crate) fn path_form<P: LowerParts>(
     state.alloc_expr(path_expr(path, hygiene), Some(at))
 }
 
-#[tactic(auto, unfolding(hir_lower_form::specs::Lower::cast_form))]
+#[tactic(auto, unfolding(hir_lower_form::specs::Forms::cast_form))]
 pub(crate) fn cast_form<P: LowerParts>(
     lowerer: &Lowerer<P>,
     state: &mut BodyBuilder,
@@ -61,7 +61,7 @@ fn field_names(alloc: Global, names: &Seq<ast::Name>) -> Result<Seq<Name>, Alloc
     names_of(alloc, names.as_slice())
 }
 
-#[tactic(auto, unfolding(hir_lower_form::specs::Lower::offset_of_form))]
+#[tactic(auto, unfolding(hir_lower_form::specs::Forms::offset_of_form))]
 pub(crate) fn offset_of_form<P: LowerParts>(
     lowerer: &Lowerer<P>,
     state: &mut BodyBuilder,

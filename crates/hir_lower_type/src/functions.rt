@@ -200,6 +200,46 @@ fn answer<P: LowerParts>(
     }
 }
 
+/// The name that the pattern of a parameter gives it: any that is one name.
+fn param_name(node: &ast::Param) -> Result<Option<Name>, AllocError>
+    ensures { IfOk result (λ name. name ≡ name_written node.now) }
+{
+    let Some(pat) = &node.pat else {
+        return Ok(None);
+    };
+    match &pat.get().kind {
+        ast::PatKind::IdentPat { name, .. } => Ok(Some(name_of(name)?)),
+        _ => Ok(None),
+    }
+}
+
+/// The names of the parameters that aren't variadic.
+fn names(alloc: Global, mut left: &[ast::Param]) -> Result<Seq<Option<Name>>, AllocError>
+    ensures { IfOk result (λ names. names ≡ names_written left.entry.now) }
+{
+    let mut names = Seq::new(alloc);
+    while let [one, rest @ ..] = left {
+        if !one.variadic {
+            names.push(param_name(one)?)?;
+        }
+        left = rest;
+    }
+    Ok(names)
+}
+
+#[tactic(auto, using(crate::proofs::Params::names_are))]
+fn names_if_present<P: LowerParts>(
+    lowerer: &Lowerer<P>,
+    all: &Option<Seq<ast::Param>>,
+) -> Result<Seq<Option<Name>>, AllocError>
+    ensures { IfOk result (λ names. names ≡ names_part (P.spot lowerer.now.parts) all.now) }
+{
+    match all {
+        None => Ok(Seq::new(lowerer.alloc)),
+        Some(all) => names(lowerer.alloc, all.as_slice()),
+    }
+}
+
 fn binder_copy(binder: &Option<Seq<Name>>) -> Result<Option<Seq<Name>>, AllocError>
     ensures { IfOk result (λ copy. copy ≡ binder.now) }
 {
