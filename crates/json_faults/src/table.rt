@@ -14,6 +14,10 @@ pub enum Cell {
     Truth,
     /// `true` or `false`, or null.
     Decision,
+    /// The text of a path without arguments.
+    PathText,
+    /// What a path stands for, or null.
+    Resolution,
 }
 
 /// A table of an environment: its name, and what each entry holds.
@@ -54,6 +58,16 @@ pub fn tables() -> &'static [Table]
         Table {
             name: "blocks",
             cells: &[Cell::Small, Cell::Small, Cell::Small, Cell::Small],
+        },
+        Table {
+            name: "resolve",
+            cells: &[
+                Cell::Small,
+                Cell::PathText,
+                Cell::Resolution,
+                Cell::Resolution,
+                Cell::SmallOrNull,
+            ],
         },
     ]
 }

@@ -15,6 +15,10 @@ pub enum Words {
     RangeOps,
     Owners,
     Containers,
+    /// What a path may stand for, but for aliases.
+    Resolutions,
+    /// The items that the language itself names, in the order of their numbers.
+    LangItems,
 }
 
 impl Words {
@@ -35,6 +39,18 @@ impl Words {
             Words::RangeOps => &["..", "..="],
             Words::Owners => &["fn", "static", "const", "variant"],
             Words::Containers => &["module", "extern", "impl", "trait"],
+            Words::Resolutions => &[
+                "module", "function", "struct", "union", "enum", "variant", "const", "static",
+                "trait", "builtin",
+            ],
+            Words::LangItems => &[
+                "RangeFull", "RangeFrom", "RangeFromCopy", "RangeTo", "RangeCopy", "Range",
+                "RangeToInclusiveCopy", "RangeToInclusive", "RangeInclusiveCopy",
+                "RangeInclusiveNew", "TryTraitFromOutput", "TryTraitBranch", "ControlFlowContinue",
+                "ControlFlowBreak", "ResidualIntoTryType", "TryTraitFromResidual",
+                "IntoIterIntoIter", "IteratorNext", "OptionSome", "OptionNone", "RangeMin",
+                "RangeMax", "RangeSub",
+            ],
         }
     }
 }
