@@ -12,7 +12,7 @@ use Rattle.hir_data.specs.Data as datum
 use Rattle.hir_data.specs.Data.{PathData, bare_path, PatData, pat_at, absent_pattern, PatShape, PatsData, OptionPatData, PatFieldsData}
 use Rattle.hir_data.specs.Data.{SideData, OptionSideData}
 use Rattle.hir_data.specs.Rule.{PathRead, data_of}
-use Rattle.hir_data.specs.Uses.{FirstUses, mode_of, number_of, with_use}
+use Rattle.hir_data.specs.Uses.{FirstUses, first_use, number_of, with_use}
 use Rattle.hir_data.specs.Written.{path_of, root_hygiene, signed_data}
 
 -- ---- patterns without patterns in them
@@ -53,6 +53,10 @@ side_data tree.other_side = datum.no_side
 abbrev pub range_pattern_of : Option RangeOp → Side → Side → PatShape
 range_pattern_of None start end = datum.missing_pattern
 range_pattern_of (Some op) start end = datum.range_pattern op (side_data start) (side_data end)
+
+-- a name is bound as by its first use
+abbrev pub bind_as : Use → OptionPatData → PatShape
+bind_as first sub = datum.bind_pattern first.name first.hygiene first.mode sub
 
 -- ---- two dots and commas
 
@@ -133,7 +137,7 @@ abbrev mutual
   pub pattern_data : Pat → FirstUses → PatData
   pattern_data (tree.leaf_pat at form) us = pat_at (Some at) (leaf_pattern form)
   pattern_data (tree.bind_pat at u sub) us =
-      pat_at (Some at) (datum.bind_pattern u.name u.hygiene (mode_of (uses_after_part sub us) u) (subpattern_data sub us))
+      pat_at (Some at) (bind_as (first_use (uses_after_part sub us) u) (subpattern_data sub us))
   pattern_data (tree.name_pat at u) us = pat_at (Some at) (datum.path_pattern (bare_path u.name) root_hygiene)
   pattern_data (tree.path_pat at p) us = pat_at (Some at) (path_pattern_of (path_of p))
   pattern_data (tree.tuple_struct_pat at p comma ps) us = if_path (path_of p)

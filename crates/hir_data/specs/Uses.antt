@@ -1,6 +1,5 @@
 -- Names of a top pattern: a name with its hygiene is one, and has the number of its first use, counted in the order of lowering.
-use Rattle.std.specs.Prelude.{ℕ, suc, Bool, ◌&&◌, nat_eq, if◌then◌else◌, List, [], ◌∷◌, Option, Some, None, unwrap_or}
-use Rattle.hir_binding.specs.declared.binding.BindingAnnotation.{BindingAnnotation}
+use Rattle.std.specs.Prelude.{ℕ, suc, Bool, ◌&&◌, nat_eq, if◌then◌else◌, List, [], ◌∷◌}
 use Rattle.hir_store.specs.Names.{same_name}
 use Rattle.hir_store.specs.declared.ids.HygieneId.{HygieneId}
 use Rattle.hir_store.specs.declared.name.Name.{Name}
@@ -15,13 +14,10 @@ FirstUses = List Use
 abbrev pub is_of : Name → HygieneId → Use → Bool
 is_of n h u = same_name n u.name && nat_eq h.0 u.hygiene.0
 
-abbrev pub first_mode : FirstUses → Name → HygieneId → Option BindingAnnotation
-first_mode [] n h = None
-first_mode (u ∷ us) n h = if is_of n h u then Some u.mode else first_mode us n h
-
--- the mode of the first use of the name, which the use may be itself
-abbrev pub mode_of : FirstUses → Use → BindingAnnotation
-mode_of us u = unwrap_or (first_mode us u.name u.hygiene) u.mode
+-- the first use of the name, which the use may be itself
+abbrev pub first_use : FirstUses → Use → Use
+first_use [] u = u
+first_use (f ∷ fs) u = if is_of u.name u.hygiene f then f else first_use fs u
 
 -- the number of the name: the place of its first use, or the next one where it has none
 abbrev pub number_of : FirstUses → Use → ℕ

@@ -151,7 +151,7 @@ module _ (turns : ℕ) (outer : List Scope) where
     fields_alone tree.no_fields inner = refl
     fields_alone (tree.more_fields (tree.named_field at name e) fs) inner = λ i.
         part_alone e inner i >>= (λ v. fields_alone fs inner i >>= (λ vs. pure (v ∷ vs)))
-    fields_alone (tree.more_fields (tree.nameless_field e) fs) inner = fields_alone fs inner
+    fields_alone (tree.more_fields (tree.nameless_field at e) fs) inner = fields_alone fs inner
     fields_alone (tree.more_fields (tree.disabled_field at by f) fs) inner = fields_alone fs inner
 
     spread_alone : (s : Spread) (inner : List Scope) → run_spread turns s (inner ++ barrier ∷ outer) ≡ run_spread turns s inner

@@ -313,7 +313,7 @@ abbrev mutual
 
   pub field_bodies : Field → Bodies
   field_bodies (tree.disabled_field at by f) = []
-  field_bodies (tree.nameless_field e) = []
+  field_bodies (tree.nameless_field at e) = []
   field_bodies (tree.named_field at name e) = bodies_in e
 
   pub spread_bodies : Spread → Bodies

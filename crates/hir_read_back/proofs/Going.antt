@@ -38,13 +38,13 @@ use Rattle.hir_read_back.proofs.Walk.{Closed, Answers, Matches, matches_read, be
 
 -- from what was read this is read, where these items are added
 pub record Goes (from : Reading) (add : List Item → List Item) (final : Stored) (ps : List Frame) (m m' : Mark) (r : Reading) : Type 0 where
-  pub says : (is : List Item) → Says final m.types is from → Says final m'.types (add is) r
+  pub says : (is : List Item) → Says final m.entries is from → Says final m'.entries (add is) r
 
 -- it is read at once
 pub goes_at_once : {from : Reading} {add : List Item → List Item} (r : Reading)
     → ((final : Stored) (n : ℕ) (is : List Item) → Says final n is from → Says final n (add is) r) → Correct (pure r) (Goes from add)
 goes_at_once r h = correct_as (correct_pure r)
-    (λ final ps m m' x g row. rw (row.is, row.still) (record { says = λ is k. h final m.types is k }))
+    (λ final ps m m' x g row. rw (row.is, row.still) (record { says = λ is k. h final m.entries is k }))
 
 -- more is read, unless it was refused or has ended
 pub then_goes : {from : Reading} {add more : List Item → List Item} {p : Lowering Reading} {f : PathWalk → Lowering Reading}
@@ -67,8 +67,8 @@ pub named_goes : {x : OptionArgsData} {p : Lowering (Option GenericArgs)} (l : B
     (Goes (Open w) (λ is. item l (named (record { name = n; args = x })) ∷ is))
 named_goes {x = x} l n w h = correct_as (correct_bind h (λ a. correct_pure (walks.named n a (at_first l w))))
     (λ final ps m m' r g row. rw (row.second.is, row.second.still) (record {
-      says = λ is s. says_named final row.middle.types l is (record { name = n; args = x }) row.one w row.first.is
-          (says_later final m.types row.middle.types is (Open w) row.before.types s);
+      says = λ is s. says_named final row.middle.entries l is (record { name = n; args = x }) row.one w row.first.is
+          (says_later final m.entries row.middle.entries is (Open w) row.before.entries s);
     }))
 
 abbrev one_super : PathWalk → Bool → Option Reading
@@ -86,15 +86,15 @@ pub anchor_goes : {t : TypeData} {p : Lowering TypeRefId} (l : Bool) (w : PathWa
     → Correct (p >>= (λ i. pure (anchored i (at_first l w)))) (Goes (Open w) (λ is. item l (anchor t) ∷ is))
 anchor_goes {t = t} l w h = correct_as (correct_bind h (λ i. correct_pure (anchored i (at_first l w))))
     (λ final ps m m' r g row. rw (row.second.is, row.second.still) (record {
-      says = λ is s. says_anchor final row.middle.types l is t row.one w row.first.is
-          (says_later final m.types row.middle.types is (Open w) row.before.types s);
+      says = λ is s. says_anchor final row.middle.entries l is t row.one w row.first.is
+          (says_later final m.entries row.middle.entries is (Open w) row.before.entries s);
     }))
 
 -- ---- whole paths
 
 -- on both sides nothing, or a path that is read so
 pub record PathIs (y : Option PathRead) (final : Stored) (ps : List Frame) (m m' : Mark) (o : Option HirPath) : Type 0 where
-  pub is : Answers final m'.types y o
+  pub is : Answers final m'.entries y o
 
 pub none_is : Correct (pure None) (PathIs None)
 none_is = correct_as (correct_pure None) (λ final ps m m' o g row. rw row.is (record { is = tt }))
@@ -103,7 +103,7 @@ pub path_is : {add : List Item → List Item} {p : Lowering Reading} → Correct
     → Correct (p >>= (λ r. pure (path_read r))) (PathIs (rule.path_read (rule.read (add []))))
 path_is {add = add} h = correct_as (correct_bind h (λ r. correct_pure (path_read r)))
     (λ final ps m m' o g row. rw (row.second.is, row.second.still) (record {
-      is = says_answers final row.middle.types (add []) row.one (row.first.says [] (begins final m.types));
+      is = says_answers final row.middle.entries (add []) row.one (row.first.says [] (begins final m.entries));
     }))
 
 answers_later : (final : Stored) (n n' : ℕ) (y : Option PathRead) (o : Option HirPath) → n ≤ n' → Answers final n y o → Answers final n' y o
@@ -126,7 +126,7 @@ pub path_type_reads : (y : Option PathRead) {p : Lowering (Option HirPath)} (at 
     → Correct (path_type_form at p) (Reads a_type (typed (Some at) (written.shape_of_path y)))
 unfolding path_type_form
 path_type_reads y at h = correct_as (correct_bind h (λ o. correct_alloc_type (path_or_error o) (Some at)))
-    (λ final ps m m' i g row. type_at row.second (λ d le. go final row.middle.types y row.one row.first.is d le))
+    (λ final ps m m' i g row. type_at row.second (λ d le. go final row.middle.entries y row.one row.first.is d le))
   where
     go : (final : Stored) (n : ℕ) (y : Option PathRead) (o : Option HirPath) → Answers final n y o → (d : ℕ) → n ≤ d
         → shape_of final d (path_or_error o) ≡ written.shape_of_path y
@@ -170,13 +170,13 @@ path_bound_reads y at maybe binder h = correct_as (correct_bind h (λ o. bound_s
     (λ final ps m m' b g row. record { is = λ d le. go final ps row.middle m' y row.one b row.first.is row.second d le })
   where
     go : (final : Stored) (ps : List Frame) (m m' : Mark) (y : Option PathRead) (o : Option HirPath) (b : TypeBound)
-        → Answers final m.types y o → BoundStored at maybe binder o final ps m m' b → (d : ℕ) → m'.types ≤ d
+        → Answers final m.entries y o → BoundStored at maybe binder o final ps m m' b → (d : ℕ) → m'.entries ≤ d
         → a_bound final (within final d) b ≡ written.bound_of_path at binder maybe y
     go final ps m m' None None b h row d le = ap (a_bound final (within final d)) row
     go final ps m m' None (Some p) b h row d le = absurd h
     go final ps m m' (Some x) None b h row d le = absurd h
     go final ps m m' (Some x) (Some p) b h row d le =
-        let t = type_at {m0 = m} row.stored (λ n ge. ap datum.path_shape (matches_read final m.types x p h n ge)) in
+        let t = type_at {m0 = m} row.stored (λ n ge. ap datum.path_shape (matches_read final m.entries x p h n ge)) in
         ap (a_bound final (within final d)) row.is ∙ (bound_read final d binder maybe row.number
         ∙ ap (written.bound_behind binder (written.modifier_of maybe)) (t.is d le))
 
@@ -201,10 +201,10 @@ unfolding with_trait
 trait_goes y {t = t} l at w hp hq =
     correct_as (correct_bind hp (λ i. correct_bind hq (λ o. trait_read i at (at_first l w) o)))
     (λ final ps m m' r g row. let s = row.second in rw s.second.is (record {
-      says = λ is k. go final m'.types y row.one s.one is
-          (λ d le. row.first.is d (omega (le, s.before.types, s.after.types, arith)))
-          (answers_later final s.middle.types m'.types y s.one s.after.types s.first.is)
-          (says_later final m.types m'.types is (Open w) g.types k);
+      says = λ is k. go final m'.entries y row.one s.one is
+          (λ d le. row.first.is d (omega (le, s.before.entries, s.after.entries, arith)))
+          (answers_later final s.middle.entries m'.entries y s.one s.after.entries s.first.is)
+          (says_later final m.entries m'.entries is (Open w) g.entries k);
     }))
   where
     go : (final : Stored) (n : ℕ) (y : Option PathRead) (i : TypeRefId) (o : Option HirPath) (is : List Item)

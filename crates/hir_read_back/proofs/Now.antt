@@ -1,5 +1,5 @@
 -- What is answered, read in the whole store.
-use Rattle.std.proofs.Common.{◌≡◌, refl, ap, subst, ℕ, ◌≤◌, length, List, Option, Some, None, option_map, Ok}
+use Rattle.std.proofs.Common.{◌≡◌, refl, ap, subst, ℕ, ◌+◌, ◌≤◌, length, List, Option, Some, None, option_map, Ok}
 use Rattle.hir_store.specs.Stored.{Stored, store_of, map_of}
 use Rattle.hir_store.specs.Storing.{Checked, Extends}
 use Rattle.hir_store.specs.declared.ids.TypeRefId.{TypeRefId}
@@ -25,7 +25,7 @@ pub record TypeNow (x : TypeData) (final : Stored) (ps : List Frame) (m m' : Mar
 pub type_now : (t : OptionType) → Correct (type_part None t) (TypeNow (written_type t))
 unfolding stored_type
 type_now t = correct_as (correct_in_store (part_reads None t))
-    (λ final ps m m' i g row. record { is = row.rel.is (length final.types.entries) row.types })
+    (λ final ps m m' i g row. record { is = row.rel.is (length final.types.entries + length final.pats.entries) row.entries })
 
 pub record ArgsNow (x : OptionArgsData) (final : Stored) (ps : List Frame) (m m' : Mark) (a : Option GenericArgs) : Type 0 where
   pub is : stored_args (store_of final) (map_of final) a ≡ x
@@ -33,7 +33,7 @@ pub record ArgsNow (x : OptionArgsData) (final : Stored) (ps : List Frame) (m m'
 pub args_now : (a : OptionArgs) → Correct (args_part a) (ArgsNow (written_args a))
 unfolding stored_args
 args_now a = correct_as (correct_in_store (list_reads a))
-    (λ final ps m m' r g row. record { is = row.rel.is (length final.types.entries) row.types })
+    (λ final ps m m' r g row. record { is = row.rel.is (length final.types.entries + length final.pats.entries) row.entries })
 
 -- on both sides nothing, or a path with this data
 pub record PathNow (y : Option PathData) (final : Stored) (ps : List Frame) (m m' : Mark) (o : Option HirPath) : Type 0 where
@@ -42,14 +42,15 @@ pub record PathNow (y : Option PathData) (final : Stored) (ps : List Frame) (m m
 pub path_now : (p : OptionPath) → Correct (lower_path p) (PathNow (written_path p))
 unfolding stored_path
 path_now p = correct_as (correct_in_store (path_reads p))
-    (λ final ps m m' o g row. record { is = go final m'.types (path_of p) o row.rel.is row.types })
+    (λ final ps m m' o g row. record { is = go final m'.entries (path_of p) o row.rel.is row.entries })
   where
-    go : (final : Stored) (n : ℕ) (y : Option PathRead) (o : Option HirPath) → Answers final n y o → n ≤ length final.types.entries
+    go : (final : Stored) (n : ℕ) (y : Option PathRead) (o : Option HirPath) → Answers final n y o
+        → n ≤ length final.types.entries + length final.pats.entries
         → option_map (stored_path (store_of final) (map_of final)) o ≡ option_map data_of y
     go final n None None h le = refl
     go final n None (Some p) h le = absurd h
     go final n (Some x) None h le = absurd h
-    go final n (Some x) (Some p) h le = ap Some (matches_read final n x p h (length final.types.entries) le)
+    go final n (Some x) (Some p) h le = ap Some (matches_read final n x p h (length final.types.entries + length final.pats.entries) le)
 
 -- ---- laws
 

@@ -86,7 +86,7 @@ module _ (at : Pointer) where
   unfolding paren_form
   paren_from h = correct_as (correct_bind h (λ i. correct_bind (correct_point at i) (λ u. correct_pure i)))
       (λ final ps m m' i g row. let s = row.second in rw s.second.is (record {
-        is = λ d le. row.first.is d (omega (le, row.after.types, arith));
+        is = λ d le. row.first.is d (omega (le, row.after.entries, arith));
       }))
 
   pub path_from : (h : HygieneId) {p : Lowering (Option HirPath)} → Correct p Any → From here (path_form at h p)
@@ -145,7 +145,7 @@ module _ (at : Pointer) where
       (λ final ps m m' i g row. go final ps m row.middle m' i y row.one row.first.is row.second)
     where
       go : (final : Stored) (ps : List Frame) (m n m' : Mark) (i : ExprId) (y : Option PathRead) (o : Option HirPath)
-          → Answers final n.types y o → FromEither o final ps n m' i → Reads a_source (written.record_site at y) final ps m m' i
+          → Answers final n.entries y o → FromEither o final ps n m' i → Reads a_source (written.record_site at y) final ps m m' i
       go final ps m n m' i None None h row = record { is = row.is }
       go final ps m n m' i None (Some p) h row = absurd h
       go final ps m n m' i (Some x) None h row = absurd h
@@ -167,4 +167,4 @@ labelled_from (Some l) h = correct_as (correct_opened block_at l (λ n ps. refl)
 
 pub constant_reads : {x : Option Site} {p : ExprSteps} → From x p → Correct (constant_form p) (Reads a_constant x)
 constant_reads h = correct_as (correct_constant h)
-    (λ final ps m m' c g row. record { is = λ d le. row.first.is d (omega (le, row.after.types, arith)) })
+    (λ final ps m m' c g row. record { is = λ d le. row.first.is d (omega (le, row.after.entries, arith)) })
