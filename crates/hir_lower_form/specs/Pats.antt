@@ -1,9 +1,10 @@
 -- What is done with the names and the parts of a pattern.
-use Rattle.std.specs.Prelude.{ℕ, zero, suc, nat_eq, nat_lt, ◌^◌, if◌then◌else◌, Bool, true, false, ◌&&◌}
-use Rattle.std.specs.Prelude.{List, [], ◌∷◌, ◌++◌, length, map, Option, Some, None, unwrap_or}
+use Rattle.std.specs.Prelude.{ℕ, suc, nat_eq, nat_lt, ◌^◌, if◌then◌else◌, Bool, true, false, ◌&&◌}
+use Rattle.std.specs.Prelude.{List, [], ◌∷◌, ◌++◌, length, Option, Some, None, unwrap_or}
 use Rattle.std.specs.List.{position_or_len}
-use Rattle.std.specs.Map.{lookup}
+use Rattle.std.specs.Map.{keys_of, lookup}
 use Rattle.hir_syntax.specs.declared.pats.RangeOp.{RangeOp}
+use Rattle.hir_binding.specs.declared.binding.BindingAnnotation.{BindingAnnotation}
 use Rattle.hir_binding.specs.Uses.{name_use}
 use Rattle.hir_binding.specs.Steps.{Noted, over_recent, fresh, after, entered, next, left}
 use Rattle.hir_store.specs.Names.{same_name}
@@ -42,45 +43,57 @@ same_key k l = same_name k.0 l.0 && nat_eq k.1.0 l.1.0
 abbrev pub key_of : Use → Key
 key_of u = (u.name, u.hygiene)
 
+-- what is noted of each name, by its number
+abbrev pub Notes : Type 0
+Notes = ℕ → Noted
+
+abbrev pub no_notes : Notes
+no_notes = λ n. fresh
+
+-- The same step for each name: a use, into the first alternative of an or-pattern, from one to the next, and out of the last.
+abbrev pub note_use : ℕ → BindingAnnotation → Notes → Notes
+note_use number mode notes = λ n. after over_recent n (name_use number mode) (notes n)
+
+abbrev pub note_entered : Notes → Notes
+note_entered notes = λ n. entered (notes n)
+
+abbrev pub note_next : Notes → Notes
+note_next notes = λ n. next over_recent (notes n)
+
+abbrev pub note_left : Notes → Notes
+note_left notes = λ n. left over_recent (notes n)
+
 -- What is known of the names of one top pattern: the binding of each, in the order of first use, and what is noted of each. The
 -- place of a name in that order is its number.
 pub record Table : Type 0 where
   pub bindings : List (Key × BindingId)
-  pub noted : ℕ → Noted
+  pub noted : Notes
 
 -- no name has a use
 abbrev pub no_names : Table
-no_names = record { bindings = []; noted = λ n. fresh }
-
-abbrev pub keys : Table → List Key
-keys t = map (λ e. e.0) t.bindings
+no_names = record { bindings = []; noted = no_notes }
 
 abbrev pub binding_of : Key → Table → Option BindingId
 binding_of k t = lookup (same_key k) t.bindings
 
 -- a name that has no use takes the next number
 abbrev pub number_of : Key → Table → ℕ
-number_of k t = position_or_len (same_key k) (keys t)
+number_of k t = position_or_len (same_key k) (keys_of t.bindings)
 
 abbrev pub with_name : Key → BindingId → Table → Table
 with_name k b t = record t { bindings = t.bindings ++ (k, b) ∷ [] }
 
--- the same step for each name
-abbrev pub noted_by : (ℕ → Noted → Noted) → Table → Table
-noted_by step t = record t { noted = λ n. step n (t.noted n) }
+abbrev pub with_use : ℕ → BindingAnnotation → Table → Table
+with_use number mode t = record t { noted = note_use number mode t.noted }
 
-abbrev pub note_use : ℕ → Use → Table → Table
-note_use number u t = noted_by (λ n. after over_recent n (name_use number u.mode)) t
-
--- into the first alternative, from one to the next, and out of the last
 abbrev pub enter_or : Table → Table
-enter_or t = noted_by (λ n. entered) t
+enter_or t = record t { noted = note_entered t.noted }
 
 abbrev pub next_alternative : Table → Table
-next_alternative t = noted_by (λ n. next over_recent) t
+next_alternative t = record t { noted = note_next t.noted }
 
 abbrev pub leave_or : Table → Table
-leave_or t = noted_by (λ n. left over_recent) t
+leave_or t = record t { noted = note_left t.noted }
 
 -- a binding has the mode of its first use
 abbrev pub new_binding : Use → Binding
@@ -88,16 +101,16 @@ new_binding u = record { name = u.name; mode = u.mode; hygiene = u.hygiene; prob
 
 -- one binding for all uses of a name
 abbrev pub use_of_known : Use → Table → Option BindingId → Lowering (BindingId × Table)
-use_of_known u t (Some b) = pure (b, note_use (number_of (key_of u) t) u t)
+use_of_known u t (Some b) = pure (b, with_use (number_of (key_of u) t) u.mode t)
 use_of_known u t None = do
   b ← alloc_binding (new_binding u)
-  pure (b, note_use (length t.bindings) u (with_name (key_of u) b t))
+  pure (b, with_use (length t.bindings) u.mode (with_name (key_of u) b t))
 
 unfoldable pub use_name : Use → Table → Lowering (BindingId × Table)
 use_name u t = use_of_known u t (binding_of (key_of u) t)
 
 -- the problems of these, the first of which has this number
-abbrev pub settle_from : (ℕ → Noted) → ℕ → List (Key × BindingId) → Lowering (Unit {0})
+abbrev pub settle_from : Notes → ℕ → List (Key × BindingId) → Lowering (Unit {0})
 settle_from noted number [] = pure tt
 settle_from noted number (e ∷ es) = do
   set_problem e.1 (noted number).problem
@@ -136,21 +149,23 @@ abbrev pub path_pat_of : Option HirPath → HirPat
 path_pat_of None = pat.Missing
 path_pat_of (Some p) = pat.Path p root_hygiene
 
+abbrev pub path_of_name : Name → HirPat
+path_of_name n = pat.Path (name_path n) root_hygiene
+
 -- a name that stands for something else is a path of one name
 abbrev pub name_pat_of : Use → HirPat
-name_pat_of u = pat.Path (name_path u.name) root_hygiene
+name_pat_of u = path_of_name u.name
 
--- what has no pattern inside
-unfoldable pub plain_pat_form : Pointer → HirPat → PatSteps
-plain_pat_form at form t = do
-  i ← alloc_pat form (Some at)
+-- steps that know of no name
+abbrev pub alone : Lowering PatId → PatSteps
+alone form t = do
+  i ← form
   pure (i, t)
 
-unfoldable pub path_pat_form : Pointer → Lowering (Option HirPath) → PatSteps
-path_pat_form at path t = do
+unfoldable pub path_pat_form : Pointer → Lowering (Option HirPath) → Lowering PatId
+path_pat_form at path = do
   p ← path
-  i ← alloc_pat (path_pat_of p) (Some at)
-  pure (i, t)
+  alloc_pat (path_pat_of p) (Some at)
 
 -- what stands behind `@` comes before the name
 unfoldable pub bind_form : Pointer → Use → (Table → Lowering (Option PatId × Table)) → PatSteps
@@ -166,12 +181,6 @@ over_pat_form at form inner t = do
   r ← inner t
   i ← alloc_pat (stored_pat_unary form r.0) (Some at)
   pure (i, r.1)
-
--- a pattern that is absent
-unfoldable pub absent_pat : PatSteps
-absent_pat t = do
-  i ← missing_pat
-  pure (i, t)
 
 -- ---- parts of a tuple
 
@@ -230,7 +239,7 @@ tuple_pat_form at comma parts t = do
 
 -- where the path is absent or refused it is missing, and nothing else of it is read
 abbrev pub tuple_struct_of : Pointer → Bool → (Table → Lowering (Elements × Table)) → Option HirPath → PatSteps
-tuple_struct_of at comma parts None t = absent_pat t
+tuple_struct_of at comma parts None t = alone missing_pat t
 tuple_struct_of at comma parts (Some p) t = do
   r ← parts t
   es ← elements_form comma r.0
@@ -258,7 +267,7 @@ pat_field_form at n part t = do
   pure (f, r.1)
 
 abbrev pub record_pat_of : Pointer → Bool → (Table → Lowering (List RecordFieldPat × Table)) → Option HirPath → PatSteps
-record_pat_of at dots fields None t = absent_pat t
+record_pat_of at dots fields None t = alone missing_pat t
 record_pat_of at dots fields (Some p) t = do
   r ← fields t
   i ← alloc_pat (pat.Record p r.0 dots) (Some at)
@@ -300,11 +309,10 @@ or_form at first later t = do
 abbrev pub signed_literal : Signed → Literal
 signed_literal s = record { negative = s.minus; kind = s.literal.lit; text = s.literal.t; suffix = s.literal.suffix }
 
-unfoldable pub literal_pat_form : Pointer → Option Pointer → Signed → PatSteps
-literal_pat_form at node s t = do
+unfoldable pub literal_pat_form : Pointer → Option Pointer → Signed → Lowering PatId
+literal_pat_form at node s = do
   e ← alloc_expr (hir.Literal (signed_literal s)) (Some (unwrap_or node at))
-  i ← alloc_pat (pat.Lit e) (Some at)
-  pure (i, t)
+  alloc_pat (pat.Lit e) (Some at)
 
 -- the literal as an expression
 unfoldable pub literal_side_form : Pointer → Signed → Lowering (Option ExprId)
@@ -334,9 +342,8 @@ abbrev pub stored_range : Option RangeOp → Option ExprId → Option ExprId →
 stored_range None s e = pat.Missing
 stored_range (Some op) s e = pat.Range op s e
 
-unfoldable pub range_pat_form : Pointer → Option RangeOp → Lowering (Option ExprId) → Lowering (Option ExprId) → PatSteps
-range_pat_form at op low high t = do
+unfoldable pub range_pat_form : Pointer → Option RangeOp → Lowering (Option ExprId) → Lowering (Option ExprId) → Lowering PatId
+range_pat_form at op low high = do
   s ← low
   e ← high
-  i ← alloc_pat (stored_range op s e) (Some at)
-  pure (i, t)
+  alloc_pat (stored_range op s e) (Some at)
