@@ -55,7 +55,8 @@ pub fn is_small_or_null(value: &Value) -> bool
     }
 }
 
-fn is_alias_word(value: &Value) -> bool
+/// Whether the value is the word that an alias is told by.
+pub fn is_alias_word(value: &Value) -> bool
     ensures { result ≡ spec.is_alias_word (view value.now) }
 {
     match value.as_str() {

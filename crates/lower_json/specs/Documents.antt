@@ -81,12 +81,14 @@ abbrev pub group_of : Root → Group
 group_of root.Fn = group.Fn
 group_of root.Path = group.Path
 group_of root.Type_ = group.Type_
+group_of root.Pat = group.Pat
 
 -- a document may lack it
 abbrev pub is_optional : Root → Bool
 is_optional root.Fn = false
 is_optional root.Path = false
 is_optional root.Type_ = true
+is_optional root.Pat = true
 
 abbrev pub tree_of : Root → Data → Tree
 tree_of want d = tree_at want (kinds_of (nodes d)) (nodes d) (number_or 0 (get (codes "root") d))

@@ -4,6 +4,9 @@
 pub mod document;
 pub mod fault;
 mod heading;
+mod lang;
+mod path_text;
 pub mod read;
+mod resolve;
 mod tables;
 mod tree;

@@ -1,39 +1,49 @@
 //! The trees of a list of nodes.
 
-ghost use Rattle.std.specs.Prelude.{◌≡◌, IfOk, Some, option_and_then};
+ghost use Rattle.std.specs.Prelude.{◌≡◌, IfOk, option_and_then};
 ghost use Rattle.serde_json.specs.View.{view, items_view};
-ghost use Rattle.json_nodes.specs.Groups.{as_type};
 ghost use Rattle.json_nodes.specs.Nodes.{here};
 ghost use Rattle.lower_json.specs.Reads.{Reads};
 ghost use Rattle.lower_json.specs.Reading as spec;
 ghost use Rattle.lower_json.specs.Reading.{of_kind, expr_kind, node_at, tree_of, tree_at};
 
 use crate::document::{Root, Tree};
-use hir_syntax::Boxed;
-use hir_syntax::ast::{Expr, ExprKind, Stmt, Type_};
-use hir_syntax::node::NodeId;
+use hir_syntax::ast::{Expr, ExprKind, Param, ParamList, Pat, Type_};
+use hir_syntax::node::{NodeId, TextRange};
+use hir_syntax::{Boxed, Seq};
 use json_faults::kinds::kind_at;
 use json_faults::value::item_at;
-use json_kinds::kind::Kind;
+use json_kinds::kind::{ExprNode, Kind, PartNode, PathNode};
 use json_nodes::args::of_args;
 use json_nodes::bounds::of_bound;
-use json_nodes::exprs::{flow, plain};
+use json_nodes::branches::{branching, of_branch};
+use json_nodes::code_parts::ExprPart;
+use json_nodes::exprs::{flow, of_if, of_literal, plain};
 use json_nodes::field::{number_or, range};
 use json_nodes::leaving::leaving;
 use json_nodes::members::member;
 use json_nodes::node::{Node, ReadParts};
 use json_nodes::operations::operation;
-use json_nodes::others::{function, other, statement};
+use json_nodes::others::{function, of_block, of_stmt, other};
+use json_nodes::params::of_param;
 use json_nodes::part::{AnyPart, Part};
 use json_nodes::partless::partless;
 use json_nodes::paths::{of_path, path};
+use json_nodes::pats::of_pat;
 use json_nodes::typed::{of_record, typed};
-use json_nodes::types::of_type;
+use json_nodes::types::{of_path_type, of_type};
 use serde_json::Value;
 use std::alloc::{AllocError, Global};
 
 /// The levels below the root.
 const LEVELS_BELOW: u32 = 255;
+
+const LAST_ID: NodeId = NodeId(u32::MAX);
+
+const LAST_RANGE: TextRange = TextRange {
+    start: u32::MAX,
+    end: u32::MAX,
+};
 
 /// A list of nodes with their kinds, read on so many levels at most by a function.
 #[derive_where(Clone, Copy; F)]
@@ -57,7 +67,10 @@ where
     }
 }
 
-fn expr_kind<P: ReadParts>(node: &Node<'_, P>, kind: Kind) -> Result<Option<ExprKind>, AllocError>
+fn expr_kind<P: ReadParts>(
+    node: &Node<'_, P>,
+    kind: ExprNode,
+) -> Result<Option<ExprKind>, AllocError>
     requires { P.can node.now.parts.now }
     ensures { IfOk result (λ expr. expr ≡ expr_kind (here P.parts node.now) kind) }
 {
@@ -65,6 +78,9 @@ fn expr_kind<P: ReadParts>(node: &Node<'_, P>, kind: Kind) -> Result<Option<Expr
         return Ok(Some(expr));
     }
     if let Some(expr) = plain(node, kind)? {
+        return Ok(Some(expr));
+    }
+    if let Some(expr) = branching(node, kind)? {
         return Ok(Some(expr));
     }
     if let Some(expr) = operation(node, kind)? {
@@ -82,67 +98,62 @@ fn expr_kind<P: ReadParts>(node: &Node<'_, P>, kind: Kind) -> Result<Option<Expr
     Ok(partless(node.value, kind))
 }
 
-/// The expression of a kind. An `if` is told from others, since it may follow `else`.
+/// An expression.
 fn of_expr<P: ReadParts>(
     node: &Node<'_, P>,
-    kind: Kind,
-    expr: ExprKind,
-) -> Result<AnyPart, AllocError>
-    ensures { IfOk result (λ part. part ≡ spec.of_expr (here P.parts node.now) kind expr) }
+    kind: ExprNode,
+) -> Result<Option<AnyPart>, AllocError>
+    requires { P.can node.now.parts.now }
+    ensures { IfOk result (λ part. part ≡ spec.of_expr (here P.parts node.now) kind) }
 {
-    let expr = Expr {
-        id: node.id,
-        range: node.range,
-        kind: expr,
-    };
-    let expr = Boxed::new(node.alloc, expr)?;
-    match kind {
-        Kind::IfExpr => Ok(AnyPart::If(expr)),
-        _ => Ok(AnyPart::Expr(expr)),
+    match expr_kind(node, kind)? {
+        Some(kind) => {
+            let expr = Expr {
+                id: node.id,
+                range: node.range,
+                kind,
+            };
+            Ok(Some(AnyPart::Expr(ExprPart::Expr(Boxed::new(node.alloc, expr)?))))
+        }
+        None => Ok(None),
     }
 }
 
-fn other_than_path<P: ReadParts>(
+/// A path, or what stands beside a name.
+fn of_path_part<P: ReadParts>(
     node: &Node<'_, P>,
-    kind: Kind,
+    kind: PathNode,
 ) -> Result<Option<AnyPart>, AllocError>
     requires { P.can node.now.parts.now }
-    ensures { IfOk result (λ part. part ≡ spec.other_than_path (here P.parts node.now) kind) }
+    ensures { IfOk result (λ part. part ≡ spec.of_path_part (here P.parts node.now) kind) }
 {
-    if let Some(part) = of_type(node, kind)? {
+    if let Some(part) = of_path(node, kind)? {
         return Ok(Some(part));
     }
-    if let Some(part) = of_args(node, kind)? {
-        return Ok(Some(part));
-    }
+    of_args(node, kind)
+}
+
+/// A part of anything else.
+fn of_part<P: ReadParts>(
+    node: &Node<'_, P>,
+    kind: PartNode,
+) -> Result<Option<AnyPart>, AllocError>
+    requires { P.can node.now.parts.now }
+    ensures { IfOk result (λ part. part ≡ spec.of_part (here P.parts node.now) kind) }
+{
     if let Some(part) = of_bound(node, kind)? {
+        return Ok(Some(part));
+    }
+    if let Some(part) = of_branch(node, kind)? {
         return Ok(Some(part));
     }
     if let Some(part) = of_record(node, kind)? {
         return Ok(Some(part));
     }
+    if let Some(part) = of_param(node, kind)? {
+        return Ok(Some(part));
+    }
     other(node, kind)
-}
-
-fn other_than_expr<P: ReadParts>(
-    node: &Node<'_, P>,
-    kind: Kind,
-) -> Result<Option<AnyPart>, AllocError>
-    requires { P.can node.now.parts.now }
-    ensures { IfOk result (λ part. part ≡ spec.other_than_expr (here P.parts node.now) kind) }
-{
-    if let Some(kind) = statement(node, kind)? {
-        let stmt = Stmt {
-            id: node.id,
-            range: node.range,
-            kind,
-        };
-        return Ok(Some(AnyPart::Stmt(Boxed::new(node.alloc, stmt)?)));
-    }
-    match of_path(node, kind)? {
-        Some(part) => Ok(Some(part)),
-        None => other_than_path(node, kind),
-    }
 }
 
 /// What stands at a node of a kind.
@@ -151,9 +162,17 @@ fn of_kind<P: ReadParts>(node: &Node<'_, P>, kind: Kind) -> Result<Option<AnyPar
     requires { P.can node.now.parts.now }
     ensures { IfOk result (λ part. part ≡ of_kind (here P.parts node.now) kind) }
 {
-    match expr_kind(node, kind)? {
-        Some(expr) => Ok(Some(of_expr(node, kind, expr)?)),
-        None => other_than_expr(node, kind),
+    match kind {
+        Kind::IfExpr => of_if(node),
+        Kind::BlockExpr => of_block(node),
+        Kind::Literal => of_literal(node),
+        Kind::PathType => of_path_type(node),
+        Kind::Expr(kind) => of_expr(node, kind),
+        Kind::Stmt(kind) => of_stmt(node, kind),
+        Kind::Pat(kind) => of_pat(node, kind),
+        Kind::Type_(kind) => of_type(node, kind),
+        Kind::Path(kind) => of_path_part(node, kind),
+        Kind::Part(kind) => of_part(node, kind),
     }
 }
 
@@ -213,21 +232,45 @@ fn read_part(
     part_at(alloc, &inside, value, at, kind)
 }
 
-/// The type that stands at a node, if one does.
-fn type_of<P: ReadParts>(
+/// What of a group stands at a node, if anything does.
+fn one_of<T: Part, P: ReadParts>(
     node: &Node<'_, P>,
     kind: Option<Kind>,
-) -> Result<Option<Type_>, AllocError>
+) -> Result<Option<T>, AllocError>
     requires { P.can node.now.parts.now }
-    ensures { IfOk result (λ ty. ty ≡ option_and_then as_type (option_and_then (of_kind (here P.parts node.now)) kind)) }
+    ensures { IfOk result (λ part. part ≡ option_and_then T.as_group (option_and_then (of_kind (here P.parts node.now)) kind)) }
 {
     let Some(kind) = kind else {
         return Ok(None);
     };
     match of_kind(node, kind)? {
-        Some(part) => Type_::from_part(node.alloc, part),
+        Some(part) => T::from_part(node.alloc, part),
         None => Ok(None),
     }
+}
+
+/// A pattern as the only parameter of a function.
+fn only_param(alloc: Global, pat: Option<Pat>) -> Result<ParamList, AllocError>
+    ensures { IfOk result (λ params. params ≡ spec.only_param pat) }
+{
+    let pat = match pat {
+        Some(pat) => Some(Boxed::new(alloc, pat)?),
+        None => None,
+    };
+    let mut params = Seq::new(alloc);
+    params.push(Param {
+        id: LAST_ID,
+        range: LAST_RANGE,
+        pat,
+        ty: None,
+        variadic: false,
+    })?;
+    Ok(ParamList {
+        id: LAST_ID,
+        range: LAST_RANGE,
+        self_: None,
+        params,
+    })
 }
 
 fn tree_of<P: ReadParts>(
@@ -245,7 +288,11 @@ fn tree_of<P: ReadParts>(
     match want {
         Root::Fn => Ok(Tree::Fn(function(&node)?)),
         Root::Path => Ok(Tree::Path(path(&node)?)),
-        Root::Type_ => Ok(Tree::Type_(type_of(&node, kind)?)),
+        Root::Type_ => Ok(Tree::Type_(one_of::<Type_, P>(&node, kind)?)),
+        Root::Pat => {
+            let pat = one_of::<Pat, P>(&node, kind)?;
+            Ok(Tree::Pat(only_param(alloc, pat)?))
+        }
     }
 }
 
