@@ -70,9 +70,12 @@ dots_among tree.no_pats = None
 dots_among (tree.more_pats p ps) = if is_dots p then Some 0 else option_map suc (dots_among ps)
 
 -- a comma in front of all parts stands behind one that is missing
+abbrev pub moved_by : Bool → Option ℕ → Option ℕ
+moved_by false place = place
+moved_by true place = option_map suc place
+
 abbrev pub ellipsis_of : Bool → Pats → Option ℕ
-ellipsis_of false ps = dots_among ps
-ellipsis_of true ps = option_map suc (dots_among ps)
+ellipsis_of comma ps = moved_by comma (dots_among ps)
 
 abbrev pub behind_comma : Bool → PatsData → PatsData
 behind_comma false ps = ps
