@@ -113,7 +113,7 @@ fn roots_in_text(alloc: Global, text: &str) -> Result<Option<Recorded>, ReadErro
     let document = read_tree(alloc, Root::Path, text.as_bytes())?;
     let roots = match &document.tree {
         Tree::Path(path) => roots_of(alloc, path),
-        Tree::Fn(_) | Tree::Type_(_) => None,
+        Tree::Fn(_) | Tree::Type_(_) | Tree::Pat(_) => None,
     };
     drop(document);
     Ok(roots)
@@ -145,7 +145,7 @@ fn lowered_twice(alloc: Global, path: &Path, limit: u32) -> Answers {
 fn in_one_and_two(alloc: Global, document: &Document) -> Option<(Answers, Answers)> {
     match &document.tree {
         Tree::Path(path) => Some((lowered_twice(alloc, path, 1), lowered_twice(alloc, path, 2))),
-        Tree::Fn(_) | Tree::Type_(_) => None,
+        Tree::Fn(_) | Tree::Type_(_) | Tree::Pat(_) => None,
     }
 }
 

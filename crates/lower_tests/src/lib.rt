@@ -8,6 +8,8 @@ mod blocks;
 #[cfg(test)]
 mod constants;
 #[cfg(test)]
+mod definitions;
+#[cfg(test)]
 mod errors;
 #[cfg(test)]
 mod limits;

@@ -1,6 +1,7 @@
 //! Listings that no document leads to yet: a minus, generated names, nodes of other files, faults behind a border or
 //! outside of a body.
 
+use hir_env::lang::LangItems;
 use hir_env::place::LoweringMode;
 use hir_env::table::TableEnv;
 use hir_lower::{ExprCollector, LowerError};
@@ -14,7 +15,7 @@ use hir_store::path::{ModPath, Path, PathKind};
 use hir_syntax::ast::{self, ConstArg, ExprKind, LiteralKind};
 use hir_syntax::node::{AstPtr, HirFileId, InFile, NodeId, TextRange};
 use hir_syntax::{Boxed, Seq, Text};
-use lower_run::listing::body_listing;
+use lower_run::listing::{Listed, body_listing};
 use std::alloc::{AllocError, Global};
 use std::test::Fail;
 
@@ -29,7 +30,14 @@ const OTHER_FILE: InFile<AstPtr> = InFile {
 /// The listing of what a builder holds, with sources.
 fn listing(alloc: Global, builder: ExpressionStoreBuilder) -> Result<String, AllocError> {
     let (store, source_map) = builder.finish();
-    let text = body_listing(alloc, &store, &source_map, true);
+    let items = LangItems::numbered();
+    let listed = Listed {
+        store: &store,
+        source_map: &source_map,
+        lang_items: &items,
+        sources: true,
+    };
+    let text = body_listing(alloc, listed, None, &[]);
     drop(store);
     drop(source_map);
     text
@@ -141,7 +149,14 @@ fn awaiting(alloc: Global) -> Result<ConstArg, AllocError> {
 fn collected(alloc: Global, collector: ExprCollector<'_, TableEnv>) -> Result<String, LowerError> {
     match collector.into_store() {
         Ok((store, source_map)) => {
-            let text = body_listing(alloc, &store, &source_map, true);
+            let items = LangItems::numbered();
+            let listed = Listed {
+                store: &store,
+                source_map: &source_map,
+                lang_items: &items,
+                sources: true,
+            };
+            let text = body_listing(alloc, listed, None, &[]);
             drop(store);
             drop(source_map);
             text.map_err(|_| LowerError::Memory)

@@ -34,7 +34,7 @@ fn nodes_of(document: &Document) -> Option<[Option<NodeId>; 4]> {
             node_of(path, 2),
             node_of(path, 3),
         ]),
-        Tree::Fn(_) | Tree::Type_(_) => None,
+        Tree::Fn(_) | Tree::Type_(_) | Tree::Pat(_) => None,
     }
 }
 
@@ -100,7 +100,7 @@ fn without_room_in_text(alloc: Global, text: &str) -> Result<Option<Answers>, Re
     let document = read_tree(alloc, Root::Path, text.as_bytes())?;
     let answers = match &document.tree {
         Tree::Path(path) => Some(without_room(alloc, path)),
-        Tree::Fn(_) | Tree::Type_(_) => None,
+        Tree::Fn(_) | Tree::Type_(_) | Tree::Pat(_) => None,
     };
     drop(document);
     Ok(answers)

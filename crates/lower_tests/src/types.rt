@@ -1,5 +1,6 @@
 //! What an `impl` becomes where the caller chooses, and types for which there is no room.
 
+use hir_env::lang::LangItems;
 use hir_env::place::LoweringMode;
 use hir_env::table::TableEnv;
 use hir_lower::{
@@ -7,13 +8,15 @@ use hir_lower::{
     impl_trait_error_allocator,
 };
 use hir_store::ids::{ItemContainerId, ModuleId, TypeRefId};
+use hir_store::source_map::ExpressionStoreSourceMap;
+use hir_store::store::ExpressionStore;
 use hir_syntax::Seq;
 use hir_syntax::ast::Path;
 use hir_syntax::node::{AstPtr, HirFileId, NodeId, TextRange};
 use lower_json::document::{Document, Root, Tree};
 use lower_json::fault::ReadError;
 use lower_json::read::read_tree;
-use lower_run::listing::{path_listing, type_listing};
+use lower_run::listing::{Listed, path_listing, type_listing};
 use std::alloc::Global;
 use std::test::Fail;
 
@@ -50,15 +53,30 @@ fn collector(alloc: Global, env: &TableEnv, limit: u32) -> ExprCollector<'_, Tab
     )
 }
 
+/// What is listed without sources.
+fn listed_in<'a>(
+    store: &'a ExpressionStore,
+    source_map: &'a ExpressionStoreSourceMap,
+    lang_items: &'a LangItems,
+) -> Listed<'a> {
+    Listed {
+        store,
+        source_map,
+        lang_items,
+        sources: false,
+    }
+}
+
 /// The listing of a type in a collector.
 fn listed(
     alloc: Global,
     collector: ExprCollector<'_, TableEnv>,
     ty: TypeRefId,
 ) -> Result<String, LowerError> {
+    let items = LangItems::numbered();
     match collector.into_store() {
         Ok((store, source_map)) => {
-            let text = type_listing(alloc, ty, &store, &source_map, false);
+            let text = type_listing(alloc, listed_in(&store, &source_map, &items), ty);
             drop(store);
             drop(source_map);
             text.map_err(|_| LowerError::Memory)
@@ -118,18 +136,13 @@ fn an_impl_becomes_what_the_caller_chooses(rt: HostRuntime) -> Result<(), Fail> 
 fn opaque_listed(alloc: Global, path: &Path, limit: u32) -> Result<String, LowerError> {
     let env = table(alloc);
     let mut collector = collector(alloc, &env, limit);
+    let items = LangItems::numbered();
     let text = match collector.lower_path(path, &mut OpaqueImplTrait) {
         Ok(lowered) => {
             let text = match collector.into_store() {
                 Ok((store, source_map)) => {
-                    let text = path_listing(
-                        alloc,
-                        lowered.as_ref(),
-                        path,
-                        &store,
-                        &source_map,
-                        false,
-                    );
+                    let listed = listed_in(&store, &source_map, &items);
+                    let text = path_listing(alloc, listed, lowered.as_ref(), path);
                     drop(store);
                     drop(source_map);
                     text.map_err(|_| LowerError::Memory)
@@ -151,7 +164,7 @@ fn opaque_listed(alloc: Global, path: &Path, limit: u32) -> Result<String, Lower
 fn opaque_in(alloc: Global, document: &Document, limit: u32) -> Option<Result<String, LowerError>> {
     match &document.tree {
         Tree::Path(path) => Some(opaque_listed(alloc, path, limit)),
-        Tree::Fn(_) | Tree::Type_(_) => None,
+        Tree::Fn(_) | Tree::Type_(_) | Tree::Pat(_) => None,
     }
 }
 

@@ -74,7 +74,7 @@ fn lent_in_text(alloc: Global, text: &str) -> Result<Option<Lent>, ReadError> {
     let document = read_tree(alloc, Root::Path, text.as_bytes())?;
     let lent = match &document.tree {
         Tree::Path(path) => lent_in(path),
-        Tree::Fn(_) | Tree::Type_(_) => None,
+        Tree::Fn(_) | Tree::Type_(_) | Tree::Pat(_) => None,
     };
     drop(document);
     Ok(lent)
@@ -148,7 +148,7 @@ fn field_node_in_text(alloc: Global, text: &str) -> Result<Option<NodeId>, ReadE
     let document = read_tree(alloc, Root::Fn, text.as_bytes())?;
     let node = match &document.tree {
         Tree::Fn(item) => field_node_in(alloc, &document, item),
-        Tree::Path(_) | Tree::Type_(_) => None,
+        Tree::Path(_) | Tree::Type_(_) | Tree::Pat(_) => None,
     };
     drop(document);
     Ok(node)
