@@ -212,9 +212,16 @@ abbrev pub moved_dots : Bool → ℕ → ℕ
 moved_dots false n = n
 moved_dots true n = suc n
 
+abbrev pub small_place : Bool → ℕ → Option ℕ
+small_place comma n = if nat_lt (moved_dots comma n) (2 ^ 32) then Some (moved_dots comma n) else None
+
+abbrev pub counted_place : Option ℕ → Lowering (Option ℕ)
+counted_place (Some n) = pure (Some n)
+counted_place None = count_out
+
 abbrev pub counted_dots : Bool → Option ℕ → Lowering (Option ℕ)
 counted_dots comma None = pure None
-counted_dots comma (Some n) = if nat_lt (moved_dots comma n) (2 ^ 32) then pure (Some (moved_dots comma n)) else count_out
+counted_dots comma (Some n) = counted_place (small_place comma n)
 
 -- a comma in front stands for a missing part, which is made last
 abbrev pub with_first_missing : Bool → List PatId → Lowering (List PatId)

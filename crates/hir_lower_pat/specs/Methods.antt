@@ -1,5 +1,5 @@
 -- What each kind of method does: the steps of one part, and what it answers.
-use Rattle.std.specs.Prelude.{ℕ, Bool, true, false, List, [], Option, Some}
+use Rattle.std.specs.Prelude.{ℕ, Bool, true, false, List, [], Option, Some, option_map}
 use Rattle.hir_syntax.specs.declared.ast.ElseBranch.TheOpen.{PatKind-F}
 use Rattle.hir_syntax.specs.declared.ast.Name.{Name as AstName}
 use Rattle.hir_syntax.specs.declared.pats.PatKind.{PatKind as AstPatKind, out-PatKind}
@@ -9,12 +9,14 @@ use Rattle.hir_store.specs.Stored.{Stored}
 use Rattle.hir_store.specs.Past.{past_pat_field, past_present}
 use Rattle.hir_store.specs.Range.{Has, HasPat, HasPatFields, HasPatOption, HasPats}
 use Rattle.hir_store.specs.declared.ids.PatId.{PatId}
+use Rattle.hir_store.specs.declared.name.Name.{Name}
+use Rattle.hir_store.specs.declared.name.Name.TheVariants as name
 use Rattle.hir_store.specs.declared.pat.RecordFieldPat.{RecordFieldPat}
 use Rattle.hir_env.specs.Spot.{Spot}
-use Rattle.hir_env.specs.Answering.{name_or_missing}
+use Rattle.hir_env.specs.Answering.{name_or_missing, truth}
 use Rattle.hir_env.specs.Pats.{name_hygiene, pat_at}
 use Rattle.hir_env.specs.Answered as tree
-use Rattle.hir_env.specs.Answered.{Pat, OptionPat, Pats, PatFields, PatField, Use}
+use Rattle.hir_env.specs.Answered.{Pat, OptionPat, Pats, PatFields, PatField, Signed, Use}
 use Rattle.hir_env.specs.PatLayers.{PatKindLayer}
 use Rattle.hir_env.specs.Whole.{reader, written}
 use Rattle.hir_lower_form.specs.Builder.{Builder}
@@ -51,7 +53,10 @@ HasElements s es = HasPats s es.0
 abbrev pub LowersElements : Pats → Bindings → Builder → Checked Elements → Bindings → Builder → Type 0
 LowersElements ps was old result is new = LowersNamed HasElements (spec.lower_elements no_elements ps) was old result is new
 
--- where the dots stand, and the parts
+-- where the dots stand, which names nothing, and the parts
+abbrev pub HasDots : Stored → Option ℕ → Type 0
+HasDots s dots = Unit {0}
+
 abbrev pub HasCounted : Stored → Option ℕ × List PatId → Type 0
 HasCounted s es = HasPats s es.1
 
@@ -59,6 +64,10 @@ HasCounted s es = HasPats s es.1
 
 abbrev pub HasPatField : Stored → Option RecordFieldPat → Type 0
 HasPatField s f = Has s (past_present past_pat_field f)
+
+-- the name of a field, where it has one
+abbrev pub field_name : Option AstName → Option Name
+field_name n = option_map (λ m. name.Text m.t) n
 
 abbrev pub LowersPatField : PatField → Bindings → Builder → Checked (Option RecordFieldPat) → Bindings → Builder → Type 0
 LowersPatField f was old result is new = LowersNamed HasPatField (spec.lower_pat_field f) was old result is new
@@ -93,6 +102,10 @@ lower_plain (tree.path_pat at p) = path_pat_form at (spec.lower_path p)
 lower_plain (tree.literal_pat at node l) = literal_pat_form at node l
 lower_plain (tree.range_pat at op low high) = range_pat_form at op (spec.lower_side low) (spec.lower_side high)
 lower_plain _ = missing_pat
+
+-- the literal of a predicate
+abbrev pub plain_truth : Option Bool → Signed
+plain_truth holds = record { minus = false; literal = truth holds }
 
 -- a pattern of this kind, at this node
 abbrev pub kind_at : Spot → Pointer → AstPatKind → Pat

@@ -41,7 +41,8 @@ pub(crate) fn mode_of(is_ref: bool, is_mut: bool) -> BindingAnnotation
     }
 }
 
-fn is_without_words(mode: BindingAnnotation) -> bool
+/// Whether a name stands without `ref` and `mut`.
+pub(crate) fn is_without_words(mode: BindingAnnotation) -> bool
     ensures { result ≡ is_unannotated mode }
 {
     match mode {
