@@ -50,9 +50,9 @@ side_data (tree.path_side at p) = path_side_of (path_of p)
 side_data tree.other_side = datum.no_side
 
 -- a range without its operator is missing
-abbrev pub range_pattern_of : Option RangeOp → Side → Side → PatShape
-range_pattern_of None start end = datum.missing_pattern
-range_pattern_of (Some op) start end = datum.range_pattern op (side_data start) (side_data end)
+abbrev pub range_shape : Option RangeOp → OptionSideData → OptionSideData → PatShape
+range_shape None start end = datum.missing_pattern
+range_shape (Some op) start end = datum.range_pattern op start end
 
 -- a name is bound as by its first use
 abbrev pub bind_as : Use → OptionPatData → PatShape
@@ -159,7 +159,7 @@ abbrev mutual
       (datum.slice_pattern (patterns_data before us) (subpattern_data middle between) (patterns_data behind past))
   pattern_data (tree.over_pat at form p) us = pat_at (Some at) (unary_pattern form (pattern_part_data p us))
   pattern_data (tree.literal_pat at own l) us = pat_at (Some at) (datum.literal_pattern (signed_data l))
-  pattern_data (tree.range_pat at op start end) us = pat_at (Some at) (range_pattern_of op start end)
+  pattern_data (tree.range_pat at op start end) us = pat_at (Some at) (range_shape op (side_data start) (side_data end))
 
   -- an absent pattern is missing, from no node
   pub pattern_part_data : OptionPat → FirstUses → PatData

@@ -111,6 +111,7 @@ answers_later final n n' None None le h = h
 answers_later final n n' None (Some p) le h = absurd h
 answers_later final n n' (Some x) None le h = absurd h
 answers_later final n n' (Some x) (Some p) le h = record {
+  named = h.named;
   kind = h.kind;
   names = h.names;
   args = λ d ge. h.args d (omega (le, ge, arith));

@@ -39,7 +39,7 @@ use Rattle.hir_read_back.proofs.Walk.{Answers, matches_read}
 -- ---- parts of a tuple
 
 -- where so many parts stand in front, with the place of two dots among them, where some are there
-abbrev dots_behind : ℕ → Option ℕ → Option ℕ → Option ℕ
+abbrev pub dots_behind : ℕ → Option ℕ → Option ℕ → Option ℕ
 dots_behind n (Some k) dots = Some k
 dots_behind n None dots = option_map (λ k. k + n) dots
 
@@ -51,11 +51,12 @@ pub record ElementsAre (done : Elements) (x : FirstUses → PatsData) (dots : Op
   pub place : r.0.1 ≡ dots_behind (length done.0) done.1 dots
   pub rel : PatIs many_pats x f t final ps m m' (new, r.1)
 
-no_dots : (n : ℕ) (k : Option ℕ) → k ≡ dots_behind n k None
+pub no_dots : (n : ℕ) (k : Option ℕ) → k ≡ dots_behind n k None
 no_dots n None = refl
 no_dots n (Some k) = refl
 
-pub no_elements_are : (done : Elements) (t : Table) → Correct (pure (done, t)) (ElementsAre done (λ us. datum.no_patterns) None (λ us. us) t)
+pub no_elements_are : (done : Elements) (t : Table)
+    → Correct (pure (done, t)) (ElementsAre done (λ us. datum.no_patterns) None (λ us. us) t)
 no_elements_are done t = correct_as (correct_pure (done, t)) (λ final ps m m' r g row. rw row.is (record {
   new = [];
   ids = sym (append-nil done.0);
@@ -63,7 +64,7 @@ no_elements_are done t = correct_as (correct_pure (done, t)) (λ final ps m m' r
   rel = record { uses = λ us named. named; reads = λ us named d le. refl };
 }))
 
-dots_here : (ids : List PatId) (k d : Option ℕ) → dots_behind (length ids) (forms.dots_after ids k) d ≡ dots_behind (length ids) k (Some 0)
+pub dots_here : (ids : List PatId) (k d : Option ℕ) → dots_behind (length ids) (forms.dots_after ids k) d ≡ dots_behind (length ids) k (Some 0)
 dots_here ids None d = refl
 dots_here ids (Some k) d = refl
 
@@ -87,7 +88,7 @@ dots_are {d = d} part h done t =
           rel = record { uses = k.rel.uses; reads = k.rel.reads };
         }
 
-one_further : (ids : List PatId) (i : PatId) (k d : Option ℕ)
+pub one_further : (ids : List PatId) (i : PatId) (k d : Option ℕ)
     → dots_behind (length (ids ++ i ∷ [])) k d ≡ dots_behind (length ids) k (option_map suc d)
 one_further ids i (Some k) d = refl
 one_further ids i None None = refl
@@ -169,9 +170,9 @@ counted_is comma (Some n) = by comma (nat_lt (forms.moved_dots comma n) (2 ^ 32)
     by comma false = correct_count_out _
 
 -- the parts as they are stored
-record ListIs (comma : Bool) (es : Elements) (final : Stored) (ps : List Frame) (m m' : Mark) (r : Option ℕ × List PatId) : Type 0 where
-  place : r.0 ≡ written.moved_by comma es.1
-  reads : (d : ℕ) → m'.entries ≤ d
+pub record ListIs (comma : Bool) (es : Elements) (final : Stored) (ps : List Frame) (m m' : Mark) (r : Option ℕ × List PatId) : Type 0 where
+  pub place : r.0 ≡ written.moved_by comma es.1
+  pub reads : (d : ℕ) → m'.entries ≤ d
       → many_pats final (within final d) r.1 ≡ written.behind_comma comma (many_pats final (within final d) es.0)
 
 record FrontIs (comma : Bool) (ids : List PatId) (final : Stored) (ps : List Frame) (m m' : Mark) (r : List PatId) : Type 0 where
@@ -188,7 +189,7 @@ front_is true ids = correct_as (correct_bind (correct_alloc_pat pat.Missing None
           (pat_stored {x = datum.missing_pattern} row.first (λ n ge. refl) d le);
     }))
 
-list_is : (comma : Bool) (es : Elements) → Correct (forms.elements_form comma es) (ListIs comma es)
+pub list_is : (comma : Bool) (es : Elements) → Correct (forms.elements_form comma es) (ListIs comma es)
 unfolding forms.elements_form
 list_is comma es = correct_as
     (correct_bind (counted_is comma es.1) (λ place. correct_bind (front_is comma es.0) (λ ids. correct_pure (place, ids))))
@@ -197,7 +198,7 @@ list_is comma es = correct_as
       reads = λ d le. s.first.reads d le;
     }))
 
-plus_none : (n : Option ℕ) → option_map (λ k. k + 0) n ≡ n
+pub plus_none : (n : Option ℕ) → option_map (λ k. k + 0) n ≡ n
 plus_none None = refl
 plus_none (Some n) = ap Some (omega arith)
 
@@ -465,16 +466,13 @@ path_side_reads y at h = correct_as (correct_bind h side)
     go final ps m n m' None (Some p) r a h le = absurd a
     go final ps m n m' (Some z) None r a h le = absurd a
     go final ps m n m' (Some z) (Some p) r a h le = record {
-      is = λ d ge. h d ge ∙ ap (λ q. datum.some_side (datum.path_side q root_hygiene)) (matches_read final n.entries z p a d (omega (ge, le, arith)));
+      is = λ d ge. h d ge
+          ∙ ap (λ q. datum.some_side (datum.path_side q root_hygiene)) (matches_read final n.entries z p a d (omega (ge, le, arith)));
     }
-
-abbrev range_of : Option RangeOp → OptionSideData → OptionSideData → datum.PatShape
-range_of None x y = datum.missing_pattern
-range_of (Some op) x y = datum.range_pattern op x y
 
 pub range_reads : {x y : OptionSideData} {p q : Lowering (Option ExprId)} (at : Pointer) (op : Option RangeOp)
     → Correct p (Reads maybe_side x) → Correct q (Reads maybe_side y)
-    → PatFine a_pat (forms.range_pat_form at op p q) (λ us. pat_at (Some at) (range_of op x y)) (λ us. us)
+    → PatFine a_pat (forms.range_pat_form at op p q) (λ us. pat_at (Some at) (written.range_shape op x y)) (λ us. us)
 unfolding forms.range_pat_form
 range_reads {x = x} {y = y} at op hp hq t =
     correct_as (correct_bind hp (λ s. correct_bind hq (λ e. correct_bind (correct_alloc_pat (forms.stored_range op s e) (Some at))
@@ -486,6 +484,7 @@ range_reads {x = x} {y = y} at op hp hq t =
     }))
   where
     go : (final : Stored) (d : ℕ) (op : Option RangeOp) (s e : Option ExprId) → maybe_side final (within final d) s ≡ x
-        → maybe_side final (within final d) e ≡ y → a_pattern final (within final d) (forms.stored_range op s e) ≡ range_of op x y
+        → maybe_side final (within final d) e ≡ y
+        → a_pattern final (within final d) (forms.stored_range op s e) ≡ written.range_shape op x y
     go final d None s e h k = refl
     go final d (Some op) s e h k = λ j. datum.range_pattern op (h j) (k j)
