@@ -30,7 +30,7 @@ use hir_syntax::{Boxed, ast};
 use std::alloc::{AllocError, Global};
 
 /// The literal as it is written, with its minus.
-fn signed(written: &ast::Literal, minus: bool) -> Result<Literal, AllocError>
+pub(crate) fn signed(written: &ast::Literal, minus: bool) -> Result<Literal, AllocError>
     ensures { IfOk result (λ l. l ≡ spec.signed_literal (record { minus = minus; literal = written.now })) }
 {
     let plain = literal(written)?;

@@ -75,10 +75,10 @@ pub fn bare_name<P: LowerParts>(
 {
     let hygiene = hygiene_of(lowerer, name);
     let name = name_of(name)?;
-    let mut bindings = Bindings::new(lowerer.alloc);
-    let id = bindings.use_name(state, name, hygiene, BindingAnnotation::Unannotated)?;
+    let mut names = Bindings::new(lowerer.alloc);
+    let id = names.use_name(state, name, hygiene, BindingAnnotation::Unannotated)?;
     let pat = state.alloc_pat(Pat::Bind { id, subpat: None }, Some(at))?;
     state.define(id, pat)?;
-    bindings.settle(state);
+    names.settle(state);
     Ok(pat)
 }
