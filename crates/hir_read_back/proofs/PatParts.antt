@@ -64,7 +64,8 @@ no_elements_are done t = correct_as (correct_pure (done, t)) (λ final ps m m' r
   rel = record { uses = λ us named. named; reads = λ us named d le. refl };
 }))
 
-pub dots_here : (ids : List PatId) (k d : Option ℕ) → dots_behind (length ids) (forms.dots_after ids k) d ≡ dots_behind (length ids) k (Some 0)
+pub dots_here : (ids : List PatId) (k d : Option ℕ)
+    → dots_behind (length ids) (forms.dots_after ids k) d ≡ dots_behind (length ids) k (Some 0)
 dots_here ids None d = refl
 dots_here ids (Some k) d = refl
 

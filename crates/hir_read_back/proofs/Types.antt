@@ -229,7 +229,8 @@ binding_reads {x = x} {y = y} {z = z} n dots hp hq hs =
       is = λ d le. binding_roll (store_of final) (map_of final) (within final d) n (or_notation row.one dots) s.one u.one
           ∙ (λ j. datum.binding_data n
           ((or_notation_read final (within final d) row.one dots
-          ∙ ap (λ v. written.first_list v (written.notation dots)) (row.first.is d (omega (le, s.before.entries, u.before.entries, arith)))) j)
+          ∙ ap (λ v. written.first_list v (written.notation dots))
+          (row.first.is d (omega (le, s.before.entries, u.before.entries, arith)))) j)
           (s.first.is d (omega (le, u.before.entries, arith)) j) (u.first.is d le j));
     }))
 
