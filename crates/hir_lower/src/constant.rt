@@ -1,8 +1,6 @@
 //! Constants: the lengths of arrays, and arguments.
 
-ghost use Rattle.std.specs.Prelude.{◌≡◌};
 ghost use Rattle.hir_env.specs.Answered as tree;
-ghost use Rattle.hir_env.specs.Paths.{inside_constant as place_inside_constant};
 ghost use Rattle.hir_env.specs.Whole.{answered, expr_part};
 ghost use Rattle.hir_lower_form.specs.Methods.{LowersConstant, LowersExpr, LowersExprOpt};
 ghost use Rattle.hir_lower_form.specs.Nests.{IfPresent};
@@ -10,23 +8,13 @@ ghost use Rattle.hir_lower.specs.Nests.{HandlesExpr};
 ghost use Rattle.hir_lower.specs.Roots.{spot_at};
 
 use hir_env::env::LowerEnv;
-use hir_env::place::{ImplTrait, Place};
+use hir_env::place::Place;
 use hir_lower_form::builder::BodyBuilder;
 use hir_store::fault::StoreFault;
 use hir_store::ids::ExprId;
 use hir_store::type_ref::ConstRef;
 use hir_syntax::{Boxed, ast};
 use std::alloc::Global;
-
-/// Where the expression of a constant is read that is written at this place.
-pub fn inside_constant(place: Place) -> Place
-    ensures { result ≡ place_inside_constant place }
-{
-    Place {
-        impl_trait: ImplTrait::Error,
-        ..place
-    }
-}
 
 /// The expression, missing where a condition disables it.
 #[tactic(auto, using(hir_lower_form::proofs::Kept::lower_on))]

@@ -10,7 +10,7 @@ ghost use Rattle.hir_lower_form.specs.Methods.{MaybeLowersExpr, ReadsPath};
 ghost use Rattle.hir_lower.specs.Nests.{HandlesArgs, HandlesBlock, HandlesConstant, HandlesExpr, HandlesPath, HandlesType};
 ghost use Rattle.hir_lower.specs.Roots.{spot_at};
 
-use crate::constant::{constant_form, inside_constant};
+use crate::constant::constant_form;
 use hir_env::env::LowerEnv;
 use hir_env::place::{LoweringMode, Place};
 use hir_lower_expr::blocks::block_node;
@@ -21,6 +21,7 @@ use hir_lower_form::walk::{PathWalk, Reading, path_read};
 use hir_lower_path::path::path_node;
 use hir_lower_scope::labels::{LabelScopes, NoTarget};
 use hir_lower_type::args::args_node;
+use hir_lower_type::places::inside_constant;
 use hir_lower_type::types::type_node;
 use hir_store::fault::StoreFault;
 use hir_store::ids::{BlockId, CfgId, CrateId, ExprId, HygieneId, LabelId, ModuleId, TypeRefId};

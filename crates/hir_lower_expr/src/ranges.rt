@@ -15,9 +15,10 @@ ghost use Rattle.hir_lower_expr.specs.Ranges.{made_form, name_of_end};
 use hir_env::lang::LangItems;
 use hir_lower_form::builder::BodyBuilder;
 use hir_lower_form::parts::{LowerParts, Lowerer};
+use hir_lower_pat::items::item_expr;
 use hir_store::fault::StoreFault;
 use hir_store::hir::{Expr, RecordLitField, RecordSpread};
-use hir_store::ids::{ExprId, HygieneId, LangItemId};
+use hir_store::ids::{ExprId, LangItemId};
 use hir_store::lists::{push_field, push_id};
 use hir_store::name::Name;
 use hir_store::path::Path;
@@ -150,19 +151,6 @@ fn operands(
         push_id(&mut operands, expr)?;
     }
     Ok(operands)
-}
-
-/// An item that isn't there is missing.
-fn item_expr(item: Option<LangItemId>) -> Expr
-    ensures { result ≡ spec.item_expr item }
-{
-    match item {
-        None => Expr::Missing,
-        Some(item) => Expr::Path {
-            path: Path::LangItem(item),
-            hygiene: HygieneId::ROOT,
-        },
-    }
 }
 
 /// What is called comes from no node.

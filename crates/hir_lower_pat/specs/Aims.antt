@@ -1,6 +1,13 @@
 -- What comes of an expression that is assigned to, before it is known which parentheses stand around it.
-use Rattle.std.specs.Prelude.{Bool, true, false, List, Option, Some, None, option_map}
+use Rattle.std.specs.Prelude.{◌≡◌, Bool, true, false, List, Option, Some, None, option_map}
+use denote.Ref.{Bor, MutBor}
+use Rattle.hir_syntax.specs.declared.ast.Expr.{Expr as AstExpr}
+use Rattle.hir_syntax.specs.declared.ast.ExprKind.{out-ExprKind}
+use Rattle.hir_syntax.specs.declared.ast.ElseBranch.TheOpen.{ExprKind-F}
 use Rattle.hir_syntax.specs.declared.ast.Name.{Name as AstName}
+use Rattle.hir_syntax.specs.declared.ast.Path.{Path as AstPath}
+use Rattle.hir_syntax.specs.declared.ast.RecordExprField.{RecordExprField as AstField, out-RecordExprField}
+use Rattle.hir_syntax.specs.declared.ast.RecordExprFieldList.{out-RecordExprFieldList}
 use Rattle.hir_store.specs.Pointers.{Pointer}
 use Rattle.hir_store.specs.Stored.{Stored}
 use Rattle.hir_store.specs.Range.{HasExpr, HasPat, HasPats}
@@ -14,15 +21,18 @@ use Rattle.hir_store.specs.declared.path.Path.{Path as HirPath}
 use Rattle.hir_store.specs.declared.path.Path.TheVariants.{BarePath, Normal, LangItem}
 use Rattle.hir_store.specs.declared.pat.Pat.TheVariants as pat
 use Rattle.hir_env.specs.Spot.{Spot}
+use Rattle.hir_env.specs.Layers.{ExprKindLayer}
+use Rattle.hir_env.specs.Whole.{written, answered}
 use Rattle.hir_env.specs.Answered as tree
 use Rattle.hir_env.specs.Answered.{Expr, Exprs, Path, Target}
 use Rattle.hir_env.specs.Targets.{before_dots, behind_dots, dots_pointer, each_target, names_target, resolves, target_or}
 use Rattle.hir_lower_form.specs.Builder.{Builder}
 use Rattle.hir_lower_form.specs.Lowering.{Checked, Lowering, Lowers, ◌>>=◌, ◌>>◌, pure, alloc_expr, alloc_pat, point}
 use Rattle.hir_lower_form.specs.Lower.{lower, lower_target, lower_targets, path_hygiene}
-use Rattle.hir_lower_form.specs.Pats.{no_elements}
-use Rattle.hir_lower_pat.specs.declared.targets.Aim.{Aim}
-use Rattle.hir_lower_pat.specs.declared.targets.Aim.TheVariants as aim
+use Rattle.hir_lower_form.specs.Nests.{Each, IfPresent}
+use Rattle.hir_lower_form.specs.declared.parts.Lowerer.{Lowerer}
+use Rattle.hir_lower_pat.specs.declared.aims.Aim.{Aim}
+use Rattle.hir_lower_pat.specs.declared.aims.Aim.TheVariants as aim
 
 abbrev pub HasAim : Stored → Aim → Type 0
 HasAim s (aim.Pat i) = HasPat s i
@@ -73,6 +83,10 @@ names_in (BarePath p) = Some p
 names_in (Normal p) = Some p.mod_path
 names_in (LangItem item) = None
 
+abbrev pub names_read : Option HirPath → Option ModPath
+names_read None = None
+names_read (Some p) = names_in p
+
 abbrev pub is_no_place : Spot → HirPath → Bool
 is_no_place at p = names_target at.answers at.place (names_in p)
 
@@ -110,8 +124,60 @@ HasArrayParts s r = HasPats s r.0 × HasPats s r.2
 abbrev pub array_rest : (Path → Bool) → List PatId → Option Pointer → List PatId → Exprs → Lowering ArrayParts
 array_rest is_found before None behind es = do
   b ← lower_targets (before, None) (before_dots is_found es)
-  a ← lower_targets no_elements (behind_dots is_found es)
+  a ← lower_targets (behind, None) (behind_dots is_found es)
   pure (b.0, dots_pointer es, a.0)
 array_rest is_found before (Some at) behind es = do
   a ← lower_targets (behind, None) (each_target is_found es)
   pure (before, Some at, a.0)
+
+-- ---- what may be handed in
+
+-- of the parts of what is assigned to, of what is claimed of targets and of paths
+module _ (target : AstExpr → Type 0) (path : AstPath → Type 0) where
+  -- a callee has a path at most
+  abbrev pub KidsOfCallee : ExprKindLayer written → Type 0
+  KidsOfCallee (ExprKind-F.PathExpr x) = IfPresent path x
+  KidsOfCallee _ = Unit {0}
+
+  abbrev pub KidsOfFields : List AstField → Type 0
+  KidsOfFields fs = Each (λ f. IfPresent target (out-RecordExprField f).expr) fs
+
+  abbrev pub KidsOfTarget : ExprKindLayer written → Type 0
+  KidsOfTarget (ExprKind-F.ParenExpr e) = IfPresent target e
+  KidsOfTarget (ExprKind-F.TupleExpr comma es) = Each target es
+  KidsOfTarget (ExprKind-F.ArrayExpr es) = Each target es
+  KidsOfTarget (ExprKind-F.CallExpr f es) = IfPresent (λ x. KidsOfCallee (out-ExprKind x.kind)) f × IfPresent (Each target) es
+  KidsOfTarget (ExprKind-F.PathExpr x) = IfPresent path x
+  KidsOfTarget (ExprKind-F.RecordExpr x l) = IfPresent path x × IfPresent (λ r. KidsOfFields (out-RecordExprFieldList r).fields) l
+  KidsOfTarget _ = Unit {0}
+
+-- the path of a callee that is a path as it stands
+abbrev pub path_of_callee : ExprKindLayer written → Option (Option AstPath)
+path_of_callee (ExprKind-F.PathExpr x) = Some x
+path_of_callee _ = None
+
+-- a kind that is always a place
+abbrev pub IsPlace : ExprKindLayer written → Type 0
+IsPlace ExprKind-F.UnderscoreExpr = ⊥
+IsPlace (ExprKind-F.PathExpr x) = ⊥
+IsPlace (ExprKind-F.ParenExpr e) = ⊥
+IsPlace (ExprKind-F.TupleExpr comma es) = ⊥
+IsPlace (ExprKind-F.ArrayExpr es) = ⊥
+IsPlace (ExprKind-F.CallExpr f es) = ⊥
+IsPlace (ExprKind-F.RecordExpr x l) = ⊥
+IsPlace _ = Unit {0}
+
+-- ---- a function value that aims at a given expression
+
+abbrev pub Pre : Type 0 → Type 1
+Pre P = Bor (Lowerer P) → MutBor Builder → Bor AstExpr → Type 0
+
+abbrev pub Post : Type 0 → Type 1
+Post P = Bor (Lowerer P) → MutBor Builder → Bor AstExpr → Checked Aim → MutBor Builder → Type 0
+
+-- the function may be called on the expression, and then does what the description says
+pub record HandlesTarget {P : Type 0} (spot : P → Spot) (pre : Pre P) (post : Post P) (lowerer : Lowerer P) (e : AstExpr) : Type 0 where
+  pub callable : (v : Bor (Lowerer P)) (old : MutBor Builder) (b : Bor AstExpr) → v.now ≡ lowerer → b.now ≡ e → pre v old b
+  pub aims : (v : Bor (Lowerer P)) (old new : MutBor Builder) (b : Bor AstExpr) (r : Checked Aim)
+      → v.now ≡ lowerer → b.now ≡ e → post v old b r new
+      → Aims (spot lowerer.parts) (answered (spot lowerer.parts) e) old.now r new.now

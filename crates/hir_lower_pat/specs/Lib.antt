@@ -1,3 +1,5 @@
 pub mod Bindings
 pub mod Methods
 pub mod Handlers
+pub mod Aims
+pub mod TypePats

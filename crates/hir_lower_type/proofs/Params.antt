@@ -1,21 +1,30 @@
--- The parameters of a function pointer one after another: what a loop over them does.
+-- The parameters of a function pointer one after another: what a loop over them does, and their names.
 use Rattle.std.proofs.Common.{◌≡◌, ◌∙◌, ap, refl, Bool, true, false, List, [], ◌∷◌, Some, None, Ok, Err}
 use Rattle.std.specs.Prelude.{if◌then◌else◌}
+use Rattle.hir_syntax.specs.declared.ast.ElseBranch.TheOpen.{PatKind-F}
+use Rattle.hir_syntax.specs.declared.pats.Pat.{Pat as AstPat}
+use Rattle.hir_syntax.specs.declared.pats.PatKind.{out-PatKind}
 use Rattle.hir_syntax.specs.declared.types.Param.{Param as AstParam, out-Param}
+use Rattle.hir_store.specs.Pointers.{Pointer}
+use Rattle.hir_store.specs.declared.name.Name.{Name}
 use Rattle.hir_store.specs.declared.ids.TypeRefId.{TypeRefId}
 use Rattle.hir_env.specs.Spot.{Spot}
 use Rattle.hir_env.specs.Answers.{Answers}
 use Rattle.hir_env.proofs.PathLevels.{param_is_level}
 use Rattle.hir_env.specs.declared.place.Place.{Place}
 use Rattle.hir_env.specs.Answered as tree
-use Rattle.hir_env.specs.Answered.{Parts, OptionType}
+use Rattle.hir_env.specs.Answered.{Parts, OptionPat, OptionType, Use}
 use Rattle.hir_env.specs.TypeLayers.{ParamReading}
-use Rattle.hir_env.specs.Paths.{last_variadic, params_of}
-use Rattle.hir_env.specs.Whole.{read_param}
+use Rattle.hir_env.specs.PatLayers.{PatKindLayer}
+use Rattle.hir_env.specs.Paths.{last_variadic, names_given, params_of}
+use Rattle.hir_env.specs.Pats.{name_or_bind, pat_at}
+use Rattle.hir_env.specs.TypePats.{name_given}
+use Rattle.hir_env.specs.Whole.{pat_part, pointer_at, read_param, reader, written}
+use Rattle.hir_env.proofs.PatLevels.{pat_is_level}
 use Rattle.hir_lower_form.specs.Builder.{Builder}
 use Rattle.hir_lower_form.specs.Lowering.{Checked, go_on, pure}
 use Rattle.hir_lower_form.specs.Lower.{lower_parts, push_some, some, type_part}
-use Rattle.hir_lower_type.specs.Params.{lower_param, variadic_last}
+use Rattle.hir_lower_type.specs.Params.{lower_param, name_of_kind, name_of_pat, name_written, names_written, variadic_last}
 
 -- no answer decides whether the last is variadic
 pub variadic_is : (env : Answers) (p : Place) (b : Bool) (xs : List AstParam) → last_variadic (read_param env) b xs p ≡ variadic_last b xs
@@ -41,3 +50,44 @@ pub params_more : {A : Type 0} (read : A → Place → ParamReading) (p : Place)
     → lower_parts done (params_of read (x ∷ xs) p) b
     ≡ go_on (lower_param (read x p) b).0 (lower_param (read x p) b).1 (λ o. lower_parts (push_some done o) (params_of read xs p))
 params_more read p done x xs b = one done (params_of read xs p) (read x p).ty (read x p).variadic b
+
+-- ---- names
+
+one_name : (b : Bool) (s : Pointer) (u : Use) (q : OptionPat) → name_given (tree.some_pat (name_or_bind b s u q)) ≡ Some u.name
+one_name true s u q = refl
+one_name false s u q = refl
+
+kind_name : (at : Spot) (k : PatKindLayer written) (s : Pointer)
+    → name_given (tree.some_pat (pat_at at.answers (reader at.answers) k at.place s)) ≡ name_of_kind k
+kind_name at (PatKind-F.IdentPat n is_ref is_mut x) s = one_name _ s _ _
+kind_name at (PatKind-F.TupleStructPat x comma ps) s = refl
+kind_name at (PatKind-F.TuplePat comma ps) s = refl
+kind_name at (PatKind-F.RefPat is_mut x) s = refl
+kind_name at (PatKind-F.PathPat x) s = refl
+kind_name at (PatKind-F.OrPat ps) s = refl
+kind_name at (PatKind-F.ParenPat x) s = refl
+kind_name at (PatKind-F.BoxPat x) s = refl
+kind_name at (PatKind-F.DerefPat x) s = refl
+kind_name at (PatKind-F.RecordPat x fs dots) s = refl
+kind_name at (PatKind-F.SlicePat before x after) s = refl
+kind_name at (PatKind-F.LiteralPat None minus) s = refl
+kind_name at (PatKind-F.LiteralPat (Some l) minus) s = refl
+kind_name at (PatKind-F.RangePat op low high) s = refl
+kind_name at (PatKind-F.CfgPredPat pred) s = refl
+kind_name at PatKind-F.WildcardPat s = refl
+kind_name at PatKind-F.RestPat s = refl
+kind_name at PatKind-F.NotNullPat s = refl
+kind_name at PatKind-F.ConstBlockPat s = refl
+
+pat_name : (at : Spot) (x : Option AstPat) → name_given (pat_part at x) ≡ name_of_pat x
+pat_name at None = refl
+pat_name at (Some p) =
+    ap (λ q. name_given (tree.some_pat q)) (pat_is_level at p) ∙ kind_name at (out-PatKind p.kind) (pointer_at at p.id p.range)
+
+-- no answer decides on the names
+pub names_are : (env : Answers) (p : Place) (xs : List AstParam) → names_given (read_param env) xs p ≡ names_written xs
+names_are env p [] = refl
+names_are env p (x ∷ xs) =
+    let at : Spot = record { answers = env; place = p } in
+    let one = param_is_level at x in
+    λ j. if (one j).variadic then names_are env p xs j else ((ap (λ r. r.name) one ∙ pat_name at (out-Param x).pat) j ∷ names_are env p xs j)

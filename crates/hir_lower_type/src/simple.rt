@@ -5,7 +5,7 @@ ghost use Rattle.hir_store.specs.Range.{HasConst, HasType};
 ghost use Rattle.hir_env.specs.Answered as tree;
 ghost use Rattle.hir_env.specs.Paths.{binder_of, impl_at, lifetime_of, mutability};
 ghost use Rattle.hir_env.specs.Paths as of;
-ghost use Rattle.hir_env.specs.Whole.{bounds_part, constant_part, path_part, type_part, types_part};
+ghost use Rattle.hir_env.specs.Whole.{bounds_part, constant_part, pat_part, path_part, type_part, type_pat_part, types_part};
 ghost use Rattle.hir_lower_form.specs.Lower as steps;
 ghost use Rattle.hir_lower_form.specs.Lowering.{Lowers};
 ghost use Rattle.hir_lower_form.specs.Methods.{LowersParts, LowersType, LowersTypeOpt, at_place};
@@ -14,10 +14,11 @@ ghost use Rattle.hir_lower_form.specs.Nests.{Each, IfPresent, KidsBounds, KidsIm
 
 use crate::bounds::bounds;
 use crate::lifetimes::{binder, lifetime_if_present};
-use crate::places::inside_impl;
+use crate::places::{inside_constant, inside_impl};
 use hir_env::place::ImplTrait;
 use hir_lower_form::builder::BodyBuilder;
 use hir_lower_form::parts::{LowerParts, Lowerer};
+use hir_lower_pat::type_pats::lower_type_pat;
 use hir_store::fault::StoreFault;
 use hir_store::hir::Mutability;
 use hir_store::ids::TypeRefId;
@@ -227,4 +228,28 @@ pub(crate) fn dyn_form<P: LowerParts>(
 {
     let read = bounds(lowerer, state, lowerer.parts.place(), written)?;
     state.alloc_type(TypeRef::DynTrait(read), Some(at))
+}
+
+/// The type before its pattern, the ends of whose ranges are constants.
+#[tactic(auto, unfolding(hir_lower_form::specs::Types::pattern_type_form))]
+pub(crate) fn pattern_form<P: LowerParts>(
+    lowerer: &Lowerer<P>,
+    state: &mut BodyBuilder,
+    at: InFile<AstPtr>,
+    ty: &Option<Boxed<ast::Type_>>,
+    pat: &Option<Boxed<ast::Pat>>,
+) -> Result<TypeRefId, StoreFault>
+    requires ty { IfPresent ((P.can lowerer.now.parts).type_ (P.spot lowerer.now.parts).place) ty.now }
+    requires pat { IfPresent ((P.can lowerer.now.parts).pat (of.inside_constant (P.spot lowerer.now.parts).place)) pat.now }
+    ensures { let spot = P.spot lowerer.now.parts in
+        let inner = at_place spot (of.inside_constant spot.place) in
+        LowersType None (tree.pattern_type at
+        (type_part spot ty.now)
+        (pat_part inner pat.now)
+        (type_pat_part inner pat.now)) state.old result state.new }
+{
+    let place = lowerer.parts.place();
+    let ty = lowerer.type_or_error(state, place, &None, ty)?;
+    let pat = lower_type_pat(lowerer, state, inside_constant(place), pat)?;
+    state.alloc_type(TypeRef::Pattern(ty, pat), Some(at))
 }

@@ -1,0 +1,247 @@
+//! Tuples, calls and arrays that are assigned to.
+
+ghost use Rattle.std.specs.Prelude.{◌≡◌, None, [], is_some, option_copied};
+ghost use Rattle.hir_syntax.specs.declared.ast.ExprKind.{out-ExprKind};
+ghost use Rattle.hir_store.specs.Range.{HasPatOption};
+ghost use Rattle.hir_env.specs.Answered as tree;
+ghost use Rattle.hir_env.specs.Targets as of;
+ghost use Rattle.hir_env.specs.Whole.{answered, args_part, expr_part, exprs_part, path_part};
+ghost use Rattle.hir_lower_form.specs.Lowering.{Lowers};
+ghost use Rattle.hir_lower_form.specs.Lower as spec;
+ghost use Rattle.hir_lower_form.specs.Methods.{LowersTarget};
+ghost use Rattle.hir_lower_form.specs.Nests.{Each, IfPresent};
+ghost use Rattle.hir_lower_form.specs.Pats.{no_elements};
+ghost use Rattle.hir_lower_form.specs.Targets as steps;
+ghost use Rattle.hir_lower_pat.specs.Aims.{Aims, HasArrayParts, KidsOfCallee, array_rest, found_at, path_of_callee};
+ghost use Rattle.hir_lower_pat.specs.Methods.{HasElements};
+
+use crate::aims::{Aim, TargetParts, is_dots, place, pointer_of, target};
+use crate::tuples::stored_elements;
+use hir_lower_form::builder::BodyBuilder;
+use hir_store::fault::StoreFault;
+use hir_store::hir::Pat;
+use hir_store::ids::PatId;
+use hir_store::lists::push_pat;
+use hir_syntax::node::{AstPtr, InFile};
+use hir_syntax::{Boxed, Seq, ast};
+use std::alloc::Global;
+
+/// The parts, and how many stand in front of the first two dots. Two dots are no part.
+fn elements<T: TargetParts>(
+    parts: &T,
+    state: &mut BodyBuilder,
+    mut left: &[ast::Expr],
+) -> Result<(Seq<PatId>, Option<usize>), StoreFault>
+    requires { Each (T.can_target parts.now) left.now }
+    ensures { let spot = T.spot parts.now in
+        let read = of.elements (found_at spot) (exprs_part spot left.entry.now) in
+        Lowers HasElements (spec.lower_targets no_elements read) state.old result state.new }
+{
+    let mut done = Seq::new(parts.alloc());
+    let mut dots = None;
+    while let [one, rest @ ..] = left {
+        if is_dots(parts, one) {
+            dots = match dots {
+                None => Some(done.len()),
+                Some(place) => Some(place),
+            };
+        } else {
+            let pat = target(parts, state, one)?;
+            push_pat(&mut done, pat)?;
+        }
+        left = rest;
+    }
+    Ok((done, dots))
+}
+
+/// A leading comma adds nothing.
+#[tactic(auto, unfolding(hir_lower_form::specs::Targets::tuple_target_form))]
+fn tuple_form<T: TargetParts>(
+    parts: &T,
+    state: &mut BodyBuilder,
+    at: InFile<AstPtr>,
+    fields: &Seq<ast::Expr>,
+) -> Result<PatId, StoreFault>
+    requires { Each (T.can_target parts.now) fields.now }
+    ensures { let spot = T.spot parts.now in
+        let read = of.elements (found_at spot) (exprs_part spot fields.now) in
+        LowersTarget (tree.tuple_target at read) state.old result state.new }
+{
+    let read = elements(parts, state, fields.as_slice())?;
+    let (ellipsis, args) = stored_elements(parts.alloc(), state, false, read)?;
+    state.alloc_pat(Pat::Tuple { ellipsis, args }, Some(at))
+}
+
+/// Where the path is absent or refused the call is missing, and nothing else of it is read.
+#[tactic(auto, unfolding(hir_lower_form::specs::Targets::call_target_form))]
+fn call_form<T: TargetParts>(
+    parts: &T,
+    state: &mut BodyBuilder,
+    at: InFile<AstPtr>,
+    path: &Option<Boxed<ast::Path>>,
+    args: &Seq<ast::Expr>,
+) -> Result<PatId, StoreFault>
+    requires path { IfPresent (T.can_path parts.now) path.now }
+    requires args { Each (T.can_target parts.now) args.now }
+    ensures { let spot = T.spot parts.now in
+        let read = of.elements (found_at spot) (exprs_part spot args.now) in
+        LowersTarget (tree.call_target at (path_part spot path.now) read) state.old result state.new }
+{
+    let Some(path) = parts.path(state, path)? else {
+        return state.missing_pat();
+    };
+    let read = elements(parts, state, args.as_slice())?;
+    let (ellipsis, args) = stored_elements(parts.alloc(), state, false, read)?;
+    let pat = Pat::TupleStruct {
+        path,
+        ellipsis,
+        args,
+    };
+    state.alloc_pat(pat, Some(at))
+}
+
+/// `(..)`, the tuple without parts.
+#[tactic(auto, unfolding(hir_lower_form::specs::Targets::tuple_target_form, hir_lower_form::specs::Pats::elements_form))]
+pub(crate) fn dots_alone(
+    alloc: Global,
+    state: &mut BodyBuilder,
+    at: InFile<AstPtr>,
+) -> Result<PatId, StoreFault>
+    ensures { LowersTarget (tree.tuple_target at (tree.dots_targets tree.no_targets)) state.old result state.new }
+{
+    let pat = Pat::Tuple {
+        ellipsis: Some(0),
+        args: Seq::new(alloc),
+    };
+    state.alloc_pat(pat, Some(at))
+}
+
+/// The parts in front of the first two dots, the node of these, and the parts behind them.
+fn array_parts<T: TargetParts>(
+    parts: &T,
+    state: &mut BodyBuilder,
+    mut left: &[ast::Expr],
+) -> Result<(Seq<PatId>, Option<InFile<AstPtr>>, Seq<PatId>), StoreFault>
+    requires { Each (T.can_target parts.now) left.now }
+    ensures { let spot = T.spot parts.now in
+        let read = exprs_part spot left.entry.now in
+        Lowers HasArrayParts (array_rest (found_at spot) [] None [] read) state.old result state.new }
+{
+    let mut prefix = Seq::new(parts.alloc());
+    let mut dots = None;
+    let mut suffix = Seq::new(parts.alloc());
+    while let [one, rest @ ..] = left {
+        if dots.is_none() && is_dots(parts, one) {
+            dots = Some(pointer_of(parts, one));
+        } else {
+            let pat = target(parts, state, one)?;
+            if dots.is_none() {
+                push_pat(&mut prefix, pat)?;
+            } else {
+                push_pat(&mut suffix, pat)?;
+            }
+        }
+        left = rest;
+    }
+    Ok((prefix, dots, suffix))
+}
+
+/// The two dots, where it has such.
+fn rest(
+    state: &mut BodyBuilder,
+    dots: Option<InFile<AstPtr>>,
+) -> Result<Option<PatId>, StoreFault>
+    ensures { Lowers HasPatOption (steps.rest_target dots) state.old result state.new }
+{
+    match dots {
+        None => Ok(None),
+        Some(at) => Ok(Some(state.alloc_pat(Pat::Rest, Some(at))?)),
+    }
+}
+
+/// The dots come behind the parts on both sides of them.
+#[tactic(auto, using(crate::proofs::Aims::array_is))]
+fn array_form<T: TargetParts>(
+    parts: &T,
+    state: &mut BodyBuilder,
+    at: InFile<AstPtr>,
+    elems: &Seq<ast::Expr>,
+) -> Result<PatId, StoreFault>
+    requires { Each (T.can_target parts.now) elems.now }
+    ensures { let spot = T.spot parts.now in
+        let read = exprs_part spot elems.now in
+        let before = of.before_dots (found_at spot) read in
+        LowersTarget (tree.array_target at before (of.dots_pointer read) (of.behind_dots (found_at spot) read)) state.old result state.new }
+{
+    let (prefix, dots, suffix) = array_parts(parts, state, elems.as_slice())?;
+    let slice = rest(state, dots)?;
+    let pat = Pat::Slice {
+        prefix,
+        slice,
+        suffix,
+    };
+    state.alloc_pat(pat, Some(at))
+}
+
+pub(crate) fn tuple_aim<T: TargetParts>(
+    parts: &T,
+    state: &mut BodyBuilder,
+    at: InFile<AstPtr>,
+    leading_comma: bool,
+    fields: &Seq<ast::Expr>,
+) -> Result<Aim, StoreFault>
+    requires { Each (T.can_target parts.now) fields.now }
+    ensures { let spot = T.spot parts.now in
+        Aims spot (tree.list_expr at (tree.tuple_of leading_comma) (exprs_part spot fields.now)) state.old result state.new }
+{
+    Ok(Aim::Pat(tuple_form(parts, state, at, fields)?))
+}
+
+pub(crate) fn array_aim<T: TargetParts>(
+    parts: &T,
+    state: &mut BodyBuilder,
+    at: InFile<AstPtr>,
+    elems: &Seq<ast::Expr>,
+) -> Result<Aim, StoreFault>
+    requires { Each (T.can_target parts.now) elems.now }
+    ensures { let spot = T.spot parts.now in
+        Aims spot (tree.list_expr at tree.array_of (exprs_part spot elems.now)) state.old result state.new }
+{
+    Ok(Aim::Pat(array_form(parts, state, at, elems)?))
+}
+
+/// The path of a callee that is a path as it stands.
+fn callee_path(callee: &ast::Expr) -> Option<&Option<Boxed<ast::Path>>>
+    ensures { option_copied result ≡ path_of_callee (out-ExprKind callee.now.kind) }
+{
+    match &callee.kind {
+        ast::ExprKind::PathExpr { path } => Some(path),
+        _ => None,
+    }
+}
+
+/// A call without a list of arguments, and one whose callee is no path, is a place.
+#[tactic(auto, using(crate::proofs::Aims::callee_is))]
+pub(crate) fn call_aim<T: TargetParts>(
+    parts: &T,
+    state: &mut BodyBuilder,
+    at: InFile<AstPtr>,
+    node: &ast::Expr,
+    callee: &Option<Boxed<ast::Expr>>,
+    args: &Option<Seq<ast::Expr>>,
+) -> Result<Aim, StoreFault>
+    requires callee { IfPresent (λ f. KidsOfCallee (T.can_path parts.now) (out-ExprKind f.kind)) callee.now }
+    requires args { IfPresent (Each (T.can_target parts.now)) args.now }
+    requires place { T.can_place parts.now node.now }
+    requires is { let spot = T.spot parts.now in
+        answered spot node.now ≡ tree.call_expr at (expr_part spot callee.now) (is_some args.now) (args_part spot args.now) }
+    ensures { let spot = T.spot parts.now in Aims spot (answered spot node.now) state.old result state.new }
+{
+    let (Some(callee), Some(args)) = (callee, args) else {
+        return place(parts, state, node);
+    };
+    match callee_path(callee.get()) {
+        None => place(parts, state, node),
+        Some(path) => Ok(Aim::Pat(call_form(parts, state, at, path, args)?)),
+    }
+}
