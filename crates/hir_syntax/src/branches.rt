@@ -1,8 +1,8 @@
 //! What stands in a `match` and behind a `let`.
 
 use crate::ast::{BlockExpr, Expr};
-use crate::boxed::Boxed;
-use crate::node::{NodeId, TextRange};
+use hir_base::Boxed;
+use hir_base::node::{NodeId, TextRange};
 use crate::pats::Pat;
 
 /// An arm of a `match`.

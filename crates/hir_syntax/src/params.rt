@@ -1,9 +1,9 @@
 //! Parameters of functions.
 
 use crate::ast::{Lifetime, Name};
-use crate::boxed::Boxed;
-use crate::node::{NodeId, TextRange};
-use crate::seq::Seq;
+use hir_base::Boxed;
+use hir_base::node::{NodeId, TextRange};
+use hir_base::Seq;
 use crate::types::{Param, Type_};
 
 /// A `self` among the parameters.

@@ -1,9 +1,9 @@
 //! Patterns.
 
 use crate::ast::{Literal, Name, Path};
-use crate::boxed::Boxed;
-use crate::node::{NodeId, PredId, TextRange};
-use crate::seq::Seq;
+use hir_base::Boxed;
+use hir_base::node::{NodeId, PredId, TextRange};
+use hir_base::Seq;
 
 /// The operator of a range.
 #[derive(Clone, Copy, Debug, PartialEq, Eq)]

@@ -1,11 +1,11 @@
 //! Types, and the arguments and bounds in them.
 
 use crate::ast::{ConstArg, Lifetime, Name, Path};
-use crate::boxed::Boxed;
-use crate::node::{NodeId, TextRange};
+use hir_base::Boxed;
+use hir_base::node::{NodeId, TextRange};
 use crate::pats::Pat;
-use crate::seq::Seq;
-use crate::text::Text;
+use hir_base::Seq;
+use hir_base::Text;
 
 /// A type.
 #[cycle(ast)]
