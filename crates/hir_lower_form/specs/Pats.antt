@@ -1,5 +1,5 @@
 -- What is done with the names and the parts of a pattern.
-use Rattle.std.specs.Prelude.{ℕ, suc, nat_eq, nat_lt, ◌^◌, if◌then◌else◌, Bool, true, false, ◌&&◌}
+use Rattle.std.specs.Prelude.{ℕ, suc, ◌+◌, nat_eq, nat_lt, ◌^◌, if◌then◌else◌, Bool, true, false, ◌&&◌}
 use Rattle.std.specs.Prelude.{List, [], ◌∷◌, ◌++◌, length, Option, Some, None, unwrap_or}
 use Rattle.std.specs.List.{position_or_len}
 use Rattle.std.specs.Map.{keys_of, lookup}
@@ -210,7 +210,7 @@ element_form false done part t = do
 -- the place of the dots, behind a comma one further, unless there are more parts in front than are counted
 abbrev pub moved_dots : Bool → ℕ → ℕ
 moved_dots false n = n
-moved_dots true n = suc n
+moved_dots true n = n + 1
 
 abbrev pub small_place : Bool → ℕ → Option ℕ
 small_place comma n = if nat_lt (moved_dots comma n) (2 ^ 32) then Some (moved_dots comma n) else None

@@ -24,7 +24,7 @@ use hir_store::ids::{
 use hir_store::name::Name;
 use hir_store::type_ref::{LifetimeRef, TypeRef};
 use hir_syntax::Seq;
-use hir_syntax::node::{AstPtr, InFile};
+use hir_base::node::{AstPtr, InFile};
 use std::alloc::Global;
 use std::marker::Model;
 
@@ -130,7 +130,7 @@ impl BodyBuilder {
     }
 
     /// Notes what is wrong with a binding, where something is.
-    #[tactic(auto, using(hir_store::proofs::Bindings::length_at), unfolding(crate::specs::Lowering::set_problem))]
+    #[tactic(auto, using(hir_store::proofs::BindingLemmas::length_at), unfolding(crate::specs::Lowering::set_problem))]
     pub fn set_problem(&mut self, binding: BindingId, problem: Option<BindingProblems>)
         requires { HasBindingId self.old.stored binding }
         ensures { Lowers HasNone (spec.set_problem binding problem) self.old (Ok tt) self.new }

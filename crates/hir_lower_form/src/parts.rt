@@ -25,7 +25,7 @@ use hir_store::ids::{CfgId, CrateId, ExprId, HygieneId, LabelId, TypeRefId};
 use hir_store::name::Name;
 use hir_store::path::{GenericArgs, ModPath};
 use hir_store::type_ref::ConstRef;
-use hir_syntax::node::{AstPtr, InFile, NodeId, PredId, TextRange};
+use hir_base::node::{AstPtr, InFile, NodeId, PredId, TextRange};
 use hir_syntax::{Boxed, Seq, ast};
 use std::alloc::Global;
 

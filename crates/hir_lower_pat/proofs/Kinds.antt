@@ -3,7 +3,7 @@ use Rattle.std.proofs.Common.{◌≡◌, ◌∙◌, absurd, ap, refl, sym, Bool,
 use Rattle.hir_syntax.specs.declared.ast.ElseBranch.TheOpen.{PatKind-F}
 use Rattle.hir_syntax.specs.declared.pats.Pat.{Pat as AstPat}
 use Rattle.hir_syntax.specs.declared.ast.Path.{Path as AstPath}
-use Rattle.hir_syntax.specs.declared.node.PredId.{PredId}
+use Rattle.hir_base.specs.declared.node.PredId.{PredId}
 use Rattle.hir_syntax.specs.declared.pats.PatKind.{PatKind as AstPatKind, out-PatKind, roll-PatKind, roll-out-PatKind}
 use Rattle.hir_syntax.specs.declared.pats.PatKind.TheVariants as kind
 use Rattle.hir_syntax.specs.declared.pats.PatLiteral.{PatLiteral}

@@ -5,11 +5,12 @@ use Rattle.std.specs.Prelude.{drop, nat_eq, nat_lt, slice_get, position, if◌th
 use Rattle.std.specs.List.{position_or_len}
 use Rattle.std.specs.Map.{lookup}
 use Rattle.std.proofs.lemmas.Option.{same_Some}
+use Rattle.indexmap.specs.IndexMap.{IndexMap, insert_entry}
+use Rattle.indexmap.proofs.CallerLemmas.{insert_entry-new}
 use Rattle.hir_store.specs.Arenas.{past}
 use Rattle.hir_store.specs.declared.ids.BindingId.{BindingId}
 use Rattle.hir_binding.specs.Bindings.{count_with}
-use Rattle.hir_lower_form.specs.Builder.{Builder}
-use Rattle.hir_lower_form.specs.Pats.{Key, Notes, settle_from}
+use Rattle.hir_lower_form.specs.Pats.{Key, Notes, same_key}
 
 -- what is noted of each is noted of all
 pub all_noted : (f g : Notes) → ((n : ℕ) → f n ≡ g n) → f ≡ g
@@ -53,6 +54,11 @@ pub past_more : (es : List (Key × BindingId)) (k : Key) (b : BindingId) (m : �
     → past_ids (es ++ (k, b) ∷ []) ≤ m
 past_more [] k b m h j = omega (arith, j)
 past_more (e ∷ es) k b m h j = let rest = past_more es k b m (omega (arith, h)) j in omega (arith, h, rest)
+
+-- a name that has no binding goes last
+pub new_name : {S : Type 0} (m : IndexMap Key BindingId S) (k : Key) (b : BindingId) → lookup (same_key k) m.entries ≡ None
+    → insert_entry same_key m.entries k b ≡ m.entries ++ (k, b) ∷ []
+new_name m k b h = insert_entry-new same_key m k b h
 
 -- ---- counts
 

@@ -23,7 +23,7 @@ use hir_store::fault::StoreFault;
 use hir_store::hir::{Expr, Pat};
 use hir_store::ids::{CfgId, ExprId, HygieneId, PatId};
 use hir_store::path::{ModPath, Path};
-use hir_syntax::node::{AstPtr, InFile, NodeId, TextRange};
+use hir_base::node::{AstPtr, InFile, NodeId, TextRange};
 use hir_syntax::{Boxed, ast};
 use std::alloc::Global;
 

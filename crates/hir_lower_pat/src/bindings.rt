@@ -75,7 +75,7 @@ impl Bindings {
     }
 
     /// The first use of a name makes its binding.
-    #[tactic(auto, using(crate::proofs::Names::next_counted))]
+    #[tactic(auto, using(crate::proofs::Names::next_counted, crate::proofs::Names::past_more))]
     fn first_use(
         &mut self,
         state: &mut BodyBuilder,
@@ -160,16 +160,16 @@ impl Bindings {
 
     /// Writes the problem that each binding shows. It takes no memory.
     #[tactic(auto,
-        using(crate::proofs::Names::entry_exists),
+        using(crate::proofs::Names::entry_exists, crate::proofs::Names::drop_entry, crate::proofs::Names::drop_none),
         unfolding(hir_lower_form::specs::Pats::settle))]
     pub fn settle(&self, state: &mut BodyBuilder)
         requires { HasNames state.old.stored self.now }
         ensures { Lowers HasNone (spec.settle (table_of self.now)) state.old (Ok tt) state.new }
     {
-        let mut number = 0;
-        while let Some((_, id)) = self.ids.get_index(number) {
-            state.set_problem(*id, self.list.problem(number));
-            number += 1;
+        for number in 0..self.ids.len() {
+            if let Some((_, id)) = self.ids.get_index(number) {
+                state.set_problem(*id, self.list.problem(number));
+            }
         }
     }
 }

@@ -27,7 +27,7 @@ use hir_store::hir::Expr;
 use hir_store::ids::{ExprId, HygieneId, LangItemId};
 use hir_store::path::Path;
 use hir_syntax::ast::RangeOp;
-use hir_syntax::node::{AstPtr, InFile};
+use hir_base::node::{AstPtr, InFile};
 use hir_syntax::{Boxed, Seq, ast};
 use std::alloc::{AllocError, Global};
 

@@ -25,7 +25,7 @@ use hir_store::hir::Pat;
 use hir_store::ids::{HygieneId, PatId};
 use hir_store::name::Name;
 use hir_store::path::{ModPath, Path, PathKind};
-use hir_syntax::node::{AstPtr, InFile};
+use hir_base::node::{AstPtr, InFile};
 use hir_syntax::{Boxed, Seq, ast};
 use std::alloc::{AllocError, Global};
 

@@ -19,7 +19,7 @@ use hir_lower_form::parts::{LowerParts, Lowerer};
 use hir_store::fault::StoreFault;
 use hir_store::ids::{CfgId, HygieneId, PatId};
 use hir_store::path::{ModPath, Path};
-use hir_syntax::node::{AstPtr, InFile, NodeId, PredId, TextRange};
+use hir_base::node::{AstPtr, InFile, NodeId, PredId, TextRange};
 use hir_syntax::{Boxed, ast};
 use std::alloc::Global;
 
@@ -74,7 +74,7 @@ pub trait PatParts {
 }
 
 /// The parts of a pattern are lowered by a function.
-pub(crate) struct Inside<'l, P, F> {
+pub struct Inside<'l, P, F> {
     pub lowerer: &'l Lowerer<P>,
     pub pat: F,
 }

@@ -20,7 +20,7 @@ use hir_lower_form::parts::{LowerParts, Lowerer};
 use hir_store::fault::StoreFault;
 use hir_store::hir::{Mutability, Pat};
 use hir_store::ids::PatId;
-use hir_syntax::node::{AstPtr, InFile};
+use hir_base::node::{AstPtr, InFile};
 use hir_syntax::{Boxed, ast};
 
 #[tactic(auto, unfolding(hir_lower_form::specs::Pats::over_pat_form))]

@@ -15,7 +15,7 @@ use hir_lower_form::builder::BodyBuilder;
 use hir_store::fault::StoreFault;
 use hir_store::hir::Pat;
 use hir_store::ids::{HygieneId, PatId};
-use hir_syntax::node::{AstPtr, InFile};
+use hir_base::node::{AstPtr, InFile};
 use hir_syntax::{Boxed, ast};
 
 /// A path that is absent or refused is missing.

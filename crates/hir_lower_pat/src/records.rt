@@ -23,7 +23,7 @@ use hir_store::ids::PatId;
 use hir_store::lists::push_pat_field;
 use hir_store::name::Name;
 use hir_store::path::Path;
-use hir_syntax::node::{AstPtr, InFile};
+use hir_base::node::{AstPtr, InFile};
 use hir_syntax::{Boxed, Seq, ast};
 
 /// A field with a name, whose part leads to it. One without is no part of the record.

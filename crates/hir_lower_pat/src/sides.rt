@@ -25,7 +25,7 @@ use hir_store::ids::{ExprId, HygieneId, PatId};
 use hir_store::name::Name;
 use hir_store::path::Path;
 use hir_syntax::ast::RangeOp;
-use hir_syntax::node::{AstPtr, InFile, PredId};
+use hir_base::node::{AstPtr, InFile, PredId};
 use hir_syntax::{Boxed, ast};
 use std::alloc::{AllocError, Global};
 

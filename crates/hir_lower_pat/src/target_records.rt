@@ -25,7 +25,7 @@ use hir_store::hir::{Pat, RecordFieldPat};
 use hir_store::ids::PatId;
 use hir_store::lists::push_pat_field;
 use hir_store::name::Name;
-use hir_syntax::node::{AstPtr, InFile};
+use hir_base::node::{AstPtr, InFile};
 use hir_syntax::{Boxed, Seq, ast};
 
 /// The part of a field, which leads to the field where that has a name.

@@ -18,7 +18,7 @@ use hir_lower_form::parts::{LowerParts, Lowerer, site};
 use hir_store::fault::StoreFault;
 use hir_store::hir::Pat;
 use hir_store::ids::{HygieneId, PatId};
-use hir_syntax::node::{AstPtr, InFile};
+use hir_base::node::{AstPtr, InFile};
 use hir_syntax::{Boxed, ast};
 
 fn whole_pat<P: LowerParts>(

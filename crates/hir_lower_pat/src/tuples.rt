@@ -21,7 +21,7 @@ use hir_store::hir::Pat;
 use hir_store::ids::PatId;
 use hir_store::lists::push_pat;
 use hir_store::path::Path;
-use hir_syntax::node::{AstPtr, InFile};
+use hir_base::node::{AstPtr, InFile};
 use hir_syntax::{Boxed, Seq, ast};
 use std::alloc::{AllocError, Global};
 
@@ -29,7 +29,7 @@ use std::alloc::{AllocError, Global};
 fn stands_for_rest(node: &ast::Pat) -> bool
     ensures { result ≡ is_rest (out-PatKind node.now.kind) }
 {
-    matches!(node.kind, ast::PatKind::RestPat)
+    matches!(&node.kind, ast::PatKind::RestPat)
 }
 
 /// One part more. Two dots are none, and of several the first count.

@@ -1,4 +1,4 @@
-use Rattle.std.proofs.Common.{◌≡◌, ◌-◌, length}
+use Rattle.std.proofs.Common.{◌≡◌}
 use Rattle.std.specs.Prelude.{drop}
 use Rattle.hir_binding.specs.Bindings.{noted}
 use Rattle.hir_store.specs.Range.{Grows}
@@ -11,6 +11,3 @@ invariant-loop-number l = let names = noted l.self.list in let all = l.self.ids.
   so_far : settle_from names 0 all l.fn.state ≡ settle_from names l.number (drop l.number all) l.state;
   placed : Grows l.fn.state.stored l.state.stored × HasNames l.state.stored l.self;
 }
-
-abbrev pub decreases-loop-number : goal.decreases-loop-number
-decreases-loop-number l = length l.self.ids.entries - l.number

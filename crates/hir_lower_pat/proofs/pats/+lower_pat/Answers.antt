@@ -5,7 +5,7 @@ use Rattle.hir_env.specs.Whole.{pointer_at}
 use Rattle.hir_env.proofs.PatLevels.{pat_is_level}
 use Rattle.hir_lower_pat.specs.Handlers.{HandlesPat}
 use Rattle.hir_lower_pat.proofs.Kids.{kids}
-use Rattle.hir_lower_pat.proofs.pats.lower_pat.Goals as goal
+use Rattle.hir_lower_pat.proofs.pats.+lower_pat.Goals as goal
 
 pub returns : goal.returns
 returns g t c = rw (pat_is_level (g.P.LowerParts.spot c.args.lowerer.now.parts) c.args.node.now) c.pat_form.ensures
@@ -21,7 +21,7 @@ pat_form-requires-clause-parts g t c =
     kids at (can.pat at.place) (HandlesPat g.P.LowerParts.spot _ _ c.args.lowerer.now) (can.path at.place) t
     (λ x may h. record {
       callable = λ v old was b same is named. (rw same (rw is h), ((λ a m. m), (rw same (rw is may), named)));
-      lowers = λ v old new was is b r same it q. rw (← it) (rw (← same) q.3);
+      lowers = λ v old new was is b r same it q. rw (← it) (rw (← same) q);
     })
     (pointer_at at node.id node.range) (out-PatKind node.kind)
     (g.met.P.LowerParts.pat_kids parts at.place node c.requires.part) (omega (arith, d, size))
