@@ -6,7 +6,7 @@ use Rattle.hir_binding.specs.declared.binding.Mark.{Mark}
 use Rattle.hir_binding.specs.declared.binding.Mark.TheVariants.{Unseen, Missing, Unmarked, Marked}
 use Rattle.hir_binding.specs.declared.list.Entry.{Entry}
 use Rattle.hir_binding.specs.declared.list.BindingList.{BindingList}
-use Rattle.hir_binding.specs.Steps.{Noted, seen, moded}
+use Rattle.hir_binding.specs.Steps.{Noted, problem_of_mark, seen, moded}
 use Rattle.hir_binding.specs.Seen.{set_of}
 
 abbrev pub mode_of : Option Entry → Option BindingAnnotation
@@ -41,6 +41,10 @@ is_seen Unseen = false
 is_seen Missing = true
 is_seen Unmarked = true
 is_seen Marked = true
+
+-- what a use in the set at hand shows, before it is marked
+abbrev pub problem_seen_at : Bool → Noted → Noted
+problem_seen_at b s = if b then record s { problem = problem_of_mark s.here.mark s.here.later s.problem } else s
 
 abbrev pub seen_at : Bool → Noted → Noted
 seen_at b s = if b then seen s else s

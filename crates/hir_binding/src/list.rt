@@ -20,7 +20,6 @@ pub struct Entry {
 
 /// The bindings of one top pattern. A name with its hygiene is the number that the caller's table gives it, in the order of first
 /// use. A call answers an error where memory is refused: then nothing is said of what the list notes, and it may be dropped.
-#[derive(Drop)]
 pub struct BindingList {
     entries: Vec<Entry>,
     /// The set of the innermost or-pattern that is open, else that of the top pattern.
@@ -33,11 +32,21 @@ pub struct BindingList {
     },
 }
 
+impl Drop for BindingList {
+    fn drop(self) {
+        let BindingList {
+            entries: _,
+            here: _,
+            outer: _,
+        } = self;
+    }
+}
+
 impl BindingList {
     ghost use Rattle.hir_binding.specs.Uses.{Uses, name_use};
     ghost use Rattle.hir_binding.specs.Rule.{Shows};
     ghost use Rattle.hir_binding.specs.Steps.{over_all, over_recent, fresh, entered, next, left, after, shown};
-    ghost use Rattle.hir_binding.specs.Bindings.{noted, name_count, count_with, depth, is_seen, seen_at, moded_at};
+    ghost use Rattle.hir_binding.specs.Bindings.{noted, name_count, count_with, depth, is_seen, problem_seen_at, seen_at, moded_at};
 
     /// No name has a use, and no or-pattern is open.
     pub fn new(alloc: Global) -> BindingList
@@ -71,10 +80,10 @@ impl BindingList {
         Ok(())
     }
 
-    /// Notes a use in the set at hand, whatever its mode.
-    fn see(&mut self, name: usize) -> Result<(), AllocError>
+    /// Notes what a use in the set at hand shows, whatever its mode.
+    fn note_problem(&mut self, name: usize)
         requires { name < name_count self.old }
-        ensures noted { OnOk result ((k : ℕ) → noted self.new k ≡ seen_at (nat_eq name k) (noted self.old k)) }
+        ensures noted { (k : ℕ) → noted self.new k ≡ problem_seen_at (nat_eq name k) (noted self.old k) }
         ensures count { name_count self.new ≡ name_count self.old }
         ensures depth { depth self.new ≡ depth self.old }
     {
@@ -87,8 +96,19 @@ impl BindingList {
                     self.entries[name].problem = Some(BindingProblems::NotBoundAcrossAll);
                 }
             }
-            Mark::Missing | Mark::Unmarked => {}
+            Mark::Missing => {}
+            Mark::Unmarked => {}
         }
+    }
+
+    /// Notes a use in the set at hand, whatever its mode.
+    fn see(&mut self, name: usize) -> Result<(), AllocError>
+        requires { name < name_count self.old }
+        ensures noted { OnOk result ((k : ℕ) → noted self.new k ≡ seen_at (nat_eq name k) (noted self.old k)) }
+        ensures count { name_count self.new ≡ name_count self.old }
+        ensures depth { depth self.new ≡ depth self.old }
+    {
+        self.note_problem(name);
         self.here.mark(name)
     }
 

@@ -8,7 +8,6 @@ use std::alloc::{AllocError, Global};
 use std::collections::HashMap;
 
 /// The names that a top pattern or an or-pattern has used so far. Those of the alternative at hand are marked.
-#[derive(Drop)]
 pub struct SeenNames {
     /// The names as they were marked, in order.
     marked: Vec<usize>,
@@ -23,6 +22,18 @@ pub struct SeenNames {
     ghost in_turn: { previous ≤ start },
     ghost begun: { start ≤ vec_len marked },
     ghost placed: { (k p : ℕ) → get nat_eq last k ≡ Some p → slice_get marked.items p ≡ Some k },
+}
+
+impl Drop for SeenNames {
+    fn drop(self) {
+        let SeenNames {
+            marked: _,
+            previous: _,
+            start: _,
+            later: _,
+            last: _,
+        } = self;
+    }
 }
 
 impl SeenNames {
