@@ -9,7 +9,6 @@ use Rattle.hir_binding.specs.Uses.{name_use}
 use Rattle.hir_binding.specs.Steps.{Noted, over_recent, fresh, after, entered, next, left}
 use Rattle.hir_store.specs.Names.{same_name}
 use Rattle.hir_store.specs.Pointers.{Pointer}
-use Rattle.hir_store.specs.declared.hir.Expr.{Expr as HirExpr}
 use Rattle.hir_store.specs.declared.hir.Expr.TheVariants as hir
 use Rattle.hir_store.specs.declared.hir.Literal.{Literal}
 use Rattle.hir_store.specs.declared.ids.BindingId.{BindingId}

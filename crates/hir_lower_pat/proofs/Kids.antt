@@ -1,5 +1,5 @@
 -- The parts of a level are smaller than the whole, as they are answered.
-use Rattle.std.proofs.Common.{arith, ◌≡◌, ◌∙◌, ap, refl, ℕ, suc, ◌+◌, ◌<◌, ◌≤◌, Bool, true, false, ◌&&◌}
+use Rattle.std.proofs.Common.{arith, ◌≡◌, ◌∙◌, ap, refl, ℕ, ◌+◌, ◌<◌, ◌≤◌, Bool, ◌&&◌}
 use Rattle.std.proofs.Common.{List, [], ◌∷◌, Option, Some, None}
 use Rattle.std.specs.Prelude.{Result, Ok, Err}
 use Rattle.hir_syntax.specs.declared.ast.ElseBranch.TheOpen.{PatKind-F}
@@ -10,10 +10,10 @@ use Rattle.hir_syntax.specs.declared.pats.RecordPatField.{RecordPatField as AstP
 use Rattle.hir_store.specs.Pointers.{Pointer}
 use Rattle.hir_store.specs.declared.ids.CfgId.{CfgId}
 use Rattle.hir_env.specs.Spot.{Spot, site_of}
-use Rattle.hir_env.specs.Answered.{OptionPat, PatField, Use}
+use Rattle.hir_env.specs.Answered.{PatField, Use}
 use Rattle.hir_env.specs.Count.{count_option_pat, count_pat, count_pat_field, count_pat_fields, count_pats}
 use Rattle.hir_env.specs.PatLayers.{PatKindLayer}
-use Rattle.hir_env.specs.Pats.{asked_pat_field, is_found, name_or_bind, pat_at, pat_field_of, use_at}
+use Rattle.hir_env.specs.Pats.{asked_pat_field, name_or_bind, pat_at, pat_field_of, use_at}
 use Rattle.hir_env.specs.TypePats.{is_plain}
 use Rattle.hir_env.specs.Whole.{answered_pat, answered_pat_field, pat_fields_part, pat_part, pats_part, pointer_at, reader, written}
 use Rattle.hir_env.proofs.PatLevels.{pat_field_is_level}

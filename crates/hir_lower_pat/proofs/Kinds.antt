@@ -13,9 +13,9 @@ use Rattle.hir_env.specs.Spot.{Spot}
 use Rattle.hir_env.specs.Answered as tree
 use Rattle.hir_env.specs.Answered.{OptionPat, Pat, Use}
 use Rattle.hir_env.specs.PatLayers.{PatKindLayer}
-use Rattle.hir_env.specs.Pats.{ident_pat, is_found, name_or_bind, pat_at, plain_side, side_of}
+use Rattle.hir_env.specs.Pats.{name_or_bind, pat_at, plain_side, side_of}
 use Rattle.hir_env.specs.TypePats.{is_plain}
-use Rattle.hir_env.specs.Whole.{answered_pat, pat_level, pointer_at, reader, written}
+use Rattle.hir_env.specs.Whole.{answered_pat, pointer_at, reader, written}
 use Rattle.hir_env.proofs.PatLevels.{pat_is_level}
 use Rattle.hir_lower_form.specs.Lower.{lower_pat}
 use Rattle.hir_lower_form.specs.Pats.{Table, alone, is_dots}

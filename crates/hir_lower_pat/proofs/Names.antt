@@ -1,5 +1,5 @@
 -- What the bindings of a top pattern know of its names.
-use Rattle.std.proofs.Common.{arith, ◌≡◌, ◌≤◌, ◌<◌, ◌+◌, ℕ, zero, suc, Bool, true, false, cond, refl, sym, ap, subst, ◌∙◌, absurd}
+use Rattle.std.proofs.Common.{arith, ◌≡◌, ◌≤◌, ◌<◌, ◌+◌, ℕ, zero, suc, Bool, true, false, cond, refl, sym, ap, ◌∙◌}
 use Rattle.std.proofs.Common.{List, [], ◌∷◌, ◌++◌, length, Option, None, Some}
 use Rattle.std.specs.Prelude.{drop, nat_eq, nat_lt, slice_get, position, if◌then◌else◌, Result, Ok, Err, OnOk}
 use Rattle.std.specs.List.{position_or_len}

@@ -1,5 +1,5 @@
 -- What the bindings of a top pattern stand for in the description of lowering.
-use Rattle.std.specs.Prelude.{◌≡◌, ◌≢◌, ◌≤◌, ℕ, suc, length, Ok, Err}
+use Rattle.std.specs.Prelude.{◌≡◌, ◌≢◌, ◌≤◌, suc, length, Ok, Err}
 use Rattle.hir_binding.specs.Bindings.{noted, name_count, depth}
 use Rattle.hir_store.specs.Arenas.{past}
 use Rattle.hir_store.specs.Range.{Grows}
