@@ -23,7 +23,7 @@ use Rattle.hir_env.specs.TypeLayers.{GenericArgListLayer, ParamLayer, ParenArgsL
 use Rattle.hir_env.specs.TypeLayers.{TypeBoundLayer}
 use Rattle.hir_env.specs.Paths as of
 use Rattle.hir_env.specs.Answered as tree
-use Rattle.hir_env.specs.Answered.{Type_, OptionType, Parts, Segment, SegmentArgs, Arg}
+use Rattle.hir_env.specs.Answered.{FnHead, Type_, OptionType, Parts, Segment, SegmentArgs, Arg}
 use Rattle.hir_env.specs.Whole.{written, reader}
 use Rattle.hir_env.specs.Whole.{answered_type, answered_param, answered_ret, answered_path, answered_segment, answered_path_type}
 use Rattle.hir_env.specs.Whole.{answered_paren_args, answered_arg_list, answered_arg, answered_type_arg, answered_assoc_arg}
@@ -216,21 +216,26 @@ reads_abis at = (
   abi_is at (Some (codes "x")),
 )
 
--- a function pointer of two parameters that are read
+-- the head of a function pointer of two parameters that are read, and the function pointer
+abbrev head_of_two : ParamReading → ParamReading → FnHead
+head_of_two r q =
+    let last = if q.variadic then [] else q.name ∷ [] in
+    let names = if r.variadic then last else r.name ∷ last in
+    record { is_unsafe = false; abi = of.abi_of None; is_varargs = q.variadic; names = names }
+
 abbrev of_two : Spot → ParamReading → ParamReading → Type_
 of_two at r q =
     let rest = if q.variadic then tree.no_parts else only_part q.ty in
-    tree.fn_type (pointer at 0) (record { is_unsafe = false; abi = of.abi_of None; is_varargs = q.variadic })
-    (if r.variadic then rest else tree.more_parts r.ty rest) tree.no_type
+    tree.fn_type (pointer at 0) (head_of_two r q) (if r.variadic then rest else tree.more_parts r.ty rest) tree.no_type
 
 abbrev of_type : Type_ → ParamReading
-of_type t = record { variadic = false; ty = tree.some_type t }
+of_type t = record { variadic = false; name = None; ty = tree.some_type t }
 
 abbrev plain_reading : Spot → ParamReading
 plain_reading at = of_type (tree.leaf_type (pointer at 1) tree.never_leaf)
 
 abbrev dots_reading : ParamReading
-dots_reading = record { variadic = true; ty = tree.no_type }
+dots_reading = record { variadic = true; name = None; ty = tree.no_type }
 
 module _ (at : Spot) where
   of_two_is : (x y : AstParam) (r q : ParamReading) → answered_param at x ≡ r → answered_param at y ≡ q

@@ -16,7 +16,7 @@ use Rattle.hir_store.specs.declared.path.Path.{Path as HirPath}
 use Rattle.hir_env.specs.Answered as tree
 use Rattle.hir_env.specs.Answered.{Pat, Pats, Signed}
 use Rattle.hir_lower_form.specs.Forms.{push_some, root_hygiene}
-use Rattle.hir_lower_form.specs.Lowering.{Lowering, ◌>>=◌, ◌>>◌, pure, alloc_pat, alloc_expr, count_out}
+use Rattle.hir_lower_form.specs.Lowering.{Lowering, ◌>>=◌, ◌>>◌, pure, alloc_pat, alloc_expr}
 use Rattle.hir_lower_form.specs.Pats as forms
 use Rattle.hir_lower_form.specs.Pats.{Table, enter_or, leave_or, next_alternative, Elements, no_elements, name_path}
 use Rattle.hir_steps.proofs.Frames.{Frame}
@@ -164,7 +164,7 @@ counted_is comma (Some n) = by comma (nat_lt (forms.moved_dots comma n) (2 ^ 32)
     moved false = refl
     moved true = refl
 
-    by : (comma room : Bool) → Correct (if room then pure (Some (forms.moved_dots comma n)) else count_out)
+    by : (comma room : Bool) → Correct (forms.counted_place (if room then Some (forms.moved_dots comma n) else None))
         (λ final ps m m' r. (r ≡ written.moved_by comma (Some n)) × (m'.entries ≡ m.entries))
     by comma true = correct_as (correct_pure _)
         (λ final ps m m' r g row. (row.is ∙ moved comma, ap (λ v. v.entries) row.still))
