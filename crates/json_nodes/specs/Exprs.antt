@@ -4,7 +4,7 @@ use Rattle.serde_json.specs.Data.{Data}
 use Rattle.serde_json.specs.Find.{get}
 use Rattle.hir_syntax.specs.declared.ast.ExprKind.{ExprKind}
 use Rattle.hir_syntax.specs.declared.ast.ExprKind.TheVariants as expr
-use Rattle.hir_syntax.specs.declared.node.PredId.{PredId}
+use Rattle.hir_base.specs.declared.node.PredId.{PredId}
 use Rattle.json_faults.specs.Values.{small_of}
 use Rattle.json_kinds.specs.declared.kind.ExprNode.{ExprNode}
 use Rattle.json_kinds.specs.declared.kind.ExprNode.TheVariants as kind

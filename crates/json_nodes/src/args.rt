@@ -8,7 +8,7 @@ use crate::field::flag;
 use crate::node::{Node, ReadParts};
 use crate::part::AnyPart;
 use crate::path_parts::PathPart;
-use hir_syntax::Boxed;
+use hir_base::Boxed;
 use hir_syntax::ast::{
     AssocTypeArg, ConstArg, Expr, GenericArg, GenericArgList, Lifetime, LifetimeArg, Name,
     ParenArgs, Type_, TypeArg, TypeBound,

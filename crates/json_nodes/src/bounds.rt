@@ -10,7 +10,7 @@ use crate::field::{flag, text};
 use crate::node::{Node, ReadParts};
 use crate::part::AnyPart;
 use crate::type_parts::TypePart;
-use hir_syntax::Boxed;
+use hir_base::Boxed;
 use hir_syntax::ast::{
     BoundKind, ForBinder, Lifetime, PathType, RetType, Type_, TypeBound, UseArg,
 };

@@ -7,7 +7,7 @@ ghost use Rattle.json_nodes.specs.Nodes.{here};
 use crate::code_parts::CodePart;
 use crate::node::{Node, ReadParts};
 use crate::part::AnyPart;
-use hir_syntax::Boxed;
+use hir_base::Boxed;
 use hir_syntax::ast::{BlockExpr, Expr, ExprKind, Guard, LetElse, MatchArm, Pat};
 use json_kinds::kind::{ExprNode, PartNode};
 use std::alloc::AllocError;

@@ -9,7 +9,7 @@ use crate::literal::literal;
 use crate::node::{Node, ReadParts};
 use crate::operators::range_op;
 use crate::part::AnyPart;
-use hir_syntax::Boxed;
+use hir_base::Boxed;
 use hir_syntax::ast::{BlockExpr, ElseBranch, Expr, ExprKind, Label, Lifetime, Path};
 use json_kinds::kind::ExprNode;
 use std::alloc::AllocError;

@@ -5,9 +5,9 @@ ghost use Rattle.json_nodes.specs.Groups.{as_label, as_lifetime, as_name, as_use
 ghost use Rattle.json_nodes.specs.Groups.{lifetime_of, name_of, use_arg_of};
 
 use crate::part::{AnyPart, Part};
+use hir_base::node::{NodeId, TextRange};
+use hir_base::{Boxed, Text};
 use hir_syntax::ast::{Label, Lifetime, Name, UseArg};
-use hir_syntax::node::{NodeId, TextRange};
-use hir_syntax::{Boxed, Text};
 use std::alloc::{AllocError, Global};
 
 /// A name, a lifetime or a label.

@@ -9,8 +9,8 @@ ghost use Rattle.json_nodes.specs.declared.part.AnyPart.{AnyPart};
 
 use crate::name_parts::NamePart;
 use crate::part::{AnyPart, Part};
-use hir_syntax::node::{NodeId, TextRange};
-use hir_syntax::{Boxed, Seq, Text};
+use hir_base::node::{NodeId, TextRange};
+use hir_base::{Boxed, Seq, Text};
 use json_faults::value::small;
 use serde_json::Value;
 use std::alloc::{AllocError, Global};

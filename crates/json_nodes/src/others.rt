@@ -11,7 +11,7 @@ use crate::field::{flag, own_text, text};
 use crate::name_parts::NamePart;
 use crate::node::{Node, ReadParts};
 use crate::part::AnyPart;
-use hir_syntax::Boxed;
+use hir_base::Boxed;
 use hir_syntax::ast::{
     BlockExpr, BlockModifier, Expr, Fn, Label, LetElse, Lifetime, Name, ParamList, Pat, Stmt,
     StmtKind, Type_,

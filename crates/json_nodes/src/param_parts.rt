@@ -5,7 +5,7 @@ ghost use Rattle.json_nodes.specs.Groups.{as_param, as_param_list, as_pat, as_pa
 ghost use Rattle.json_nodes.specs.Groups.{param_list_of, param_of, pat_field_of, pat_of, self_param_of};
 
 use crate::part::{AnyPart, Part};
-use hir_syntax::Boxed;
+use hir_base::Boxed;
 use hir_syntax::ast::{Param, ParamList, Pat, RecordPatField, SelfParam};
 use std::alloc::{AllocError, Global};
 

@@ -8,7 +8,7 @@ use crate::field::flag;
 use crate::node::{Node, ReadParts};
 use crate::param_parts::ParamPart;
 use crate::part::AnyPart;
-use hir_syntax::Boxed;
+use hir_base::Boxed;
 use hir_syntax::ast::{Lifetime, Name, Param, ParamList, Pat, SelfParam, Type_};
 use json_kinds::kind::PartNode;
 use std::alloc::AllocError;

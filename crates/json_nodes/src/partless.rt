@@ -5,8 +5,8 @@ ghost use Rattle.serde_json.specs.View.{view};
 ghost use Rattle.serde_json.specs.Find.{get};
 ghost use Rattle.json_nodes.specs.Exprs as spec;
 
+use hir_base::node::PredId;
 use hir_syntax::ast::ExprKind;
-use hir_syntax::node::PredId;
 use json_faults::value::small;
 use json_kinds::kind::ExprNode;
 use serde_json::Value;

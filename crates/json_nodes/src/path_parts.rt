@@ -6,7 +6,7 @@ ghost use Rattle.json_nodes.specs.Groups.{as_segment, as_type_arg, const_arg_of,
 ghost use Rattle.json_nodes.specs.Groups.{paren_args_of, path_of, segment_of, type_arg_of};
 
 use crate::part::{AnyPart, Part};
-use hir_syntax::Boxed;
+use hir_base::Boxed;
 use hir_syntax::ast::{
     ConstArg, GenericArg, GenericArgList, ParenArgs, Path, PathSegment, TypeArg,
 };

@@ -10,7 +10,7 @@ use crate::field::{flag, text};
 use crate::node::{Node, ReadParts};
 use crate::part::AnyPart;
 use crate::path_parts::PathPart;
-use hir_syntax::Boxed;
+use hir_base::Boxed;
 use hir_syntax::ast::{
     GenericArgList, Name, ParenArgs, Path, PathSegment, PathType, RetType, SegmentKind, Type_,
 };

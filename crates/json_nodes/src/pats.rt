@@ -11,7 +11,7 @@ use crate::operators::range_op;
 use crate::param_parts::PatPart;
 use crate::part::AnyPart;
 use crate::partless::pred;
-use hir_syntax::Boxed;
+use hir_base::Boxed;
 use hir_syntax::ast::{Name, Pat, PatKind, PatLiteral, Path, RecordPatField};
 use json_kinds::kind::PatNode;
 use serde_json::Value;

@@ -6,7 +6,7 @@ ghost use Rattle.json_nodes.specs.Groups.{path_type_of, ret_of, type_of};
 ghost use Rattle.json_nodes.specs.declared.type_parts.TypePart.TheVariants as type_part;
 
 use crate::part::{AnyPart, Part};
-use hir_syntax::Boxed;
+use hir_base::Boxed;
 use hir_syntax::ast::{ForBinder, PathType, RetType, Type_, TypeBound, TypeKind};
 use std::alloc::{AllocError, Global};
 

@@ -9,7 +9,7 @@ use crate::field::flag;
 use crate::node::{Node, ReadParts};
 use crate::param_parts::PatPart;
 use crate::part::AnyPart;
-use hir_syntax::Boxed;
+use hir_base::Boxed;
 use hir_syntax::ast::{
     Expr, ExprKind, Name, Pat, Path, RecordExprField, RecordExprFieldList, RecordPatField, Type_,
 };

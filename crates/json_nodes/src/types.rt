@@ -8,7 +8,7 @@ use crate::field::{flag, own_text};
 use crate::node::{Node, ReadParts};
 use crate::part::AnyPart;
 use crate::type_parts::TypePart;
-use hir_syntax::Boxed;
+use hir_base::Boxed;
 use hir_syntax::ast::{
     ConstArg, ForBinder, Lifetime, Param, Pat, Path, PathType, RetType, Type_, TypeBound, TypeKind,
 };

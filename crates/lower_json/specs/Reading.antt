@@ -3,8 +3,8 @@ use Rattle.std.specs.Prelude.{ℕ, suc, zero, codes, List, [], ◌∷◌, false,
 use Rattle.serde_json.specs.Data.{Data, null, Items}
 use Rattle.serde_json.specs.Find.{get, get_item}
 use Rattle.hir_syntax.specs.declared.ast.ExprKind.{ExprKind}
-use Rattle.hir_syntax.specs.declared.node.NodeId.{NodeId}
-use Rattle.hir_syntax.specs.declared.node.TextRange.{TextRange}
+use Rattle.hir_base.specs.declared.node.NodeId.{NodeId}
+use Rattle.hir_base.specs.declared.node.TextRange.{TextRange}
 use Rattle.hir_syntax.specs.declared.params.ParamList.{ParamList}
 use Rattle.hir_syntax.specs.declared.pats.Pat.{Pat}
 use Rattle.hir_syntax.specs.declared.types.Param.{roll-Param}

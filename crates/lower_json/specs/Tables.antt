@@ -21,7 +21,7 @@ use Rattle.hir_store.specs.declared.ids.LangItemId.{LangItemId}
 use Rattle.hir_store.specs.declared.path.ModPath.{ModPath}
 use Rattle.hir_store.specs.declared.ids.ModuleId.{ModuleId}
 use Rattle.hir_store.specs.declared.ids.ItemContainerId.{ItemContainerId}
-use Rattle.hir_syntax.specs.declared.node.PredId.{PredId}
+use Rattle.hir_base.specs.declared.node.PredId.{PredId}
 use Rattle.json_faults.specs.Values.{is_alias_word, small_of}
 use Rattle.json_kinds.specs.ByWord.{with_word}
 use Rattle.json_nodes.specs.Fields.{flag_of}

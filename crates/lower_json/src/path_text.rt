@@ -3,10 +3,10 @@
 ghost use Rattle.std.specs.Prelude.{◌≡◌, None, IfOk, map, option_map, true};
 ghost use Rattle.lower_json.specs.PathTexts as spec;
 
+use hir_base::{Seq, Text};
 use hir_store::ids::CrateId;
 use hir_store::name::Name;
 use hir_store::path::{ModPath, PathKind};
-use hir_syntax::{Seq, Text};
 use std::alloc::{AllocError, Global};
 
 /// What stands between colons.

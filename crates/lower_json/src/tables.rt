@@ -11,11 +11,11 @@ ghost use Rattle.lower_json.specs.Tables.{context_id_of, outer_macro_of, crate_r
 
 use crate::lang::lang_items;
 use crate::resolve::resolve_all;
+use hir_base::node::{HirFileId, InFile, NodeId, PredId};
 use hir_env::table::{Context, TableEnv};
 use hir_store::ids::{
     BlockId, CfgId, CrateId, CtxId, HygieneId, ItemContainerId, MacroDefId, ModuleId,
 };
-use hir_syntax::node::{HirFileId, InFile, NodeId, PredId};
 use json_faults::value::small;
 use json_nodes::field::flag;
 use serde_json::Value;

@@ -8,9 +8,9 @@ ghost use Rattle.lower_json.specs.Reading as spec;
 ghost use Rattle.lower_json.specs.Reading.{of_kind, expr_kind, node_at, tree_of, tree_at};
 
 use crate::document::{Root, Tree};
+use hir_base::node::{NodeId, TextRange};
+use hir_base::{Boxed, Seq};
 use hir_syntax::ast::{Expr, ExprKind, Param, ParamList, Pat, Type_};
-use hir_syntax::node::{NodeId, TextRange};
-use hir_syntax::{Boxed, Seq};
 use json_faults::kinds::kind_at;
 use json_faults::value::item_at;
 use json_kinds::kind::{ExprNode, Kind, PartNode, PathNode};

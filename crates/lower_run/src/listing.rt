@@ -10,8 +10,7 @@ mod words;
 mod writer;
 
 use hir_env::lang::LangItems;
-use hir_lower::Param;
-use hir_store::ids::{BindingId, TypeRefId};
+use hir_store::ids::{BindingId, PatId, TypeRefId};
 use hir_store::path::Path;
 use hir_store::source_map::ExpressionStoreSourceMap;
 use hir_store::store::ExpressionStore;
@@ -35,7 +34,7 @@ pub fn body_listing(
     alloc: Global,
     listed: Listed<'_>,
     self_param: Option<BindingId>,
-    params: &[Param],
+    params: &[PatId],
 ) -> Result<String, AllocError> {
     let mut printer = Printer::new(alloc, listed);
     let printed = printer.listing(self_param, params);
@@ -48,7 +47,7 @@ pub fn body_listing(
 pub fn params_listing(
     alloc: Global,
     listed: Listed<'_>,
-    params: &[Param],
+    params: &[PatId],
 ) -> Result<String, AllocError> {
     let mut printer = Printer::new(alloc, listed);
     let printed = printer.params_listing(params);

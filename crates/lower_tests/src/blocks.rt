@@ -1,9 +1,9 @@
 //! The numbers of blocks, which no listing prints in order.
 
+use hir_base::node::{AstPtr, HirFileId, NodeId, TextRange};
 use hir_env::env::LowerEnv;
 use hir_lower::{BodySourceMap, lower_body};
 use hir_store::ids::{BlockId, DefWithBodyId, FunctionId, ModuleId};
-use hir_syntax::node::{AstPtr, HirFileId, NodeId, TextRange};
 use lower_json::document::{Document, Root, Tree};
 use lower_json::fault::ReadError;
 use lower_json::read::read_tree;

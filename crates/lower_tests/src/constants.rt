@@ -1,5 +1,6 @@
 //! The roots of constants in a collector, and a path with constants for which there is no room.
 
+use hir_base::node::HirFileId;
 use hir_env::place::LoweringMode;
 use hir_env::table::TableEnv;
 use hir_lower::{ErrorImplTrait, ExprCollector, LowerError};
@@ -7,7 +8,6 @@ use hir_store::ids::{ExprId, ItemContainerId, ModuleId};
 use hir_store::roots::ExprRoot;
 use hir_store::store::ExpressionStore;
 use hir_syntax::ast::{ConstArg, GenericArg, Path};
-use hir_syntax::node::HirFileId;
 use lower_json::document::{Document, Root, Tree};
 use lower_json::fault::ReadError;
 use lower_json::read::read_tree;

@@ -1,9 +1,9 @@
 //! The patterns that make a binding, which no listing prints by number.
 
+use hir_base::node::{AstPtr, HirFileId};
 use hir_lower::{BodySourceMap, lower_body};
 use hir_store::ids::{BindingId, DefWithBodyId, FunctionId, ModuleId, PatId};
 use hir_syntax::ast::Fn;
-use hir_syntax::node::{AstPtr, HirFileId};
 use lower_json::document::{Document, Root, Tree};
 use lower_json::fault::ReadError;
 use lower_json::read::read_tree;

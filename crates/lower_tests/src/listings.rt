@@ -1,6 +1,8 @@
 //! Listings that no document leads to yet: a minus, generated names, nodes of other files, faults behind a border or
 //! outside of a body.
 
+use hir_base::node::{AstPtr, HirFileId, InFile, NodeId, TextRange};
+use hir_base::{Boxed, Seq, Text};
 use hir_env::lang::LangItems;
 use hir_env::place::LoweringMode;
 use hir_env::table::TableEnv;
@@ -13,8 +15,6 @@ use hir_store::ids::{HygieneId, ItemContainerId, ModuleId};
 use hir_store::name::Name;
 use hir_store::path::{ModPath, Path, PathKind};
 use hir_syntax::ast::{self, ConstArg, ExprKind, LiteralKind};
-use hir_syntax::node::{AstPtr, HirFileId, InFile, NodeId, TextRange};
-use hir_syntax::{Boxed, Seq, Text};
 use lower_run::listing::{Listed, body_listing};
 use std::alloc::{AllocError, Global};
 use std::test::Fail;

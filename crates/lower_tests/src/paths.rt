@@ -1,11 +1,11 @@
 //! Paths in collectors, and the way back to their segments.
 
+use hir_base::node::{HirFileId, NodeId, TextRange};
 use hir_env::place::LoweringMode;
 use hir_env::table::TableEnv;
 use hir_lower::{ErrorImplTrait, ExprCollector, LowerError, hir_segment_to_ast_segment};
 use hir_store::ids::{ItemContainerId, ModuleId};
 use hir_syntax::ast::{ConstArg, Path};
-use hir_syntax::node::{HirFileId, NodeId, TextRange};
 use lower_json::document::{Document, Root, Tree};
 use lower_json::fault::ReadError;
 use lower_json::read::read_tree;

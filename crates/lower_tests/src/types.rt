@@ -1,5 +1,7 @@
 //! What an `impl` becomes where the caller chooses, and types for which there is no room.
 
+use hir_base::node::{AstPtr, HirFileId, NodeId, TextRange};
+use hir_base::Seq;
 use hir_env::lang::LangItems;
 use hir_env::place::LoweringMode;
 use hir_env::table::TableEnv;
@@ -10,9 +12,7 @@ use hir_lower::{
 use hir_store::ids::{ItemContainerId, ModuleId, TypeRefId};
 use hir_store::source_map::ExpressionStoreSourceMap;
 use hir_store::store::ExpressionStore;
-use hir_syntax::Seq;
 use hir_syntax::ast::Path;
-use hir_syntax::node::{AstPtr, HirFileId, NodeId, TextRange};
 use lower_json::document::{Document, Root, Tree};
 use lower_json::fault::ReadError;
 use lower_json::read::read_tree;

@@ -1,5 +1,6 @@
 //! The ways back from the parts of what is stored to the written nodes.
 
+use hir_base::node::{AstPtr, HirFileId, NodeId};
 use hir_lower::{
     Body, BodySourceMap, hir_assoc_type_binding_to_ast, hir_generic_arg_to_ast, lower_body,
 };
@@ -7,7 +8,6 @@ use hir_store::hir::Expr;
 use hir_store::ids::{ConstId, DefWithBodyId, ExprId, ModuleId};
 use hir_store::store::ExpressionStore;
 use hir_syntax::ast::{Fn, GenericArg, GenericArgList, Path};
-use hir_syntax::node::{AstPtr, HirFileId, NodeId};
 use lower_json::document::{Document, Root, Tree};
 use lower_json::fault::ReadError;
 use lower_json::read::read_tree;

@@ -2,13 +2,13 @@
 
 use super::words::{await_word, missing_body_word, mode_word, problem_word};
 use super::writer::Writer;
+use hir_base::node::{AstPtr, InFile};
 use hir_lower::{named_parts, segment_name};
 use hir_store::diagnostics::ExpressionStoreDiagnostics;
 use hir_store::ids::{BindingId, LabelId};
 use hir_store::source_map::ExpressionStoreSourceMap;
 use hir_store::store::ExpressionStore;
 use hir_syntax::ast::{Path, PathSegment};
-use hir_syntax::node::{AstPtr, InFile};
 use std::alloc::AllocError;
 
 fn segment_line(writer: &mut Writer, number: u32, name: &str) -> Result<(), AllocError> {

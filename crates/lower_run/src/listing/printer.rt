@@ -1,12 +1,11 @@
 //! Printing of expressions, patterns and types.
 
-use super::Listed;
 use super::lines;
 use super::numbering::Numbering;
 use super::waiting::{Piece, Waiting, arg_piece};
 use super::words::{expr_word, lang_word, pat_word, statement_word};
 use super::writer::Writer;
-use hir_lower::Param;
+use super::Listed;
 use hir_store::hir::{MatchArm, RecordFieldPat, RecordLitField, Statement};
 use hir_store::ids::{BindingId, ExprId, HygieneId, LabelId, LifetimeRefId, PatId, TypeRefId};
 use hir_store::name::Name;
@@ -68,7 +67,7 @@ impl<'a> Printer<'a> {
     pub fn listing(
         &mut self,
         self_param: Option<BindingId>,
-        params: &[Param],
+        params: &[PatId],
     ) -> Result<(), AllocError> {
         if let Some(id) = self_param {
             self.writer.word("self ")?;
@@ -80,7 +79,7 @@ impl<'a> Printer<'a> {
     }
 
     /// Prints the whole listing of parameters alone, then as for a body.
-    pub fn params_listing(&mut self, params: &[Param]) -> Result<(), AllocError> {
+    pub fn params_listing(&mut self, params: &[PatId]) -> Result<(), AllocError> {
         self.params(params)?;
         self.others()
     }
@@ -116,10 +115,10 @@ impl<'a> Printer<'a> {
     }
 
     /// Prints a line for each parameter.
-    fn params(&mut self, params: &[Param]) -> Result<(), AllocError> {
+    fn params(&mut self, params: &[PatId]) -> Result<(), AllocError> {
         for param in params {
             self.writer.word("param ")?;
-            self.line(Piece::Pat(param.formal))?;
+            self.line(Piece::Pat(*param))?;
         }
         Ok(())
     }
