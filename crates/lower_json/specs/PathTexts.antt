@@ -36,7 +36,7 @@ abbrev pub with_digit : ℕ → ℕ → Option ℕ
 with_digit n b = if is_ascii_digit b then small (Some (n * 10 + (b - 48))) else None
 
 -- the number so far, where nothing follows
-abbrev ended : Option ℕ → List ℕ → Option ℕ
+abbrev pub ended : Option ℕ → List ℕ → Option ℕ
 ended n [] = n
 ended n (b ∷ bs) = None
 
@@ -51,7 +51,7 @@ crate_in text = option_and_then (closed None) (behind (codes "$crate(") text)
 
 -- where a path begins whose first name is a word of its own
 abbrev pub begun_by : List ℕ → Option PathKind
-begun_by word = if bytes_eq word [] then Some kind.Abs else (if bytes_eq word (codes "crate") then Some kind.Crate
+begun_by word = if bytes_eq word (codes "") then Some kind.Abs else (if bytes_eq word (codes "crate") then Some kind.Crate
     else (if bytes_eq word (codes "self") then Some (kind.Super 0) else None))
 
 -- where a path begins, by its first name, none where it begins with that name

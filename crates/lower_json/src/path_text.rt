@@ -106,7 +106,7 @@ fn crate_in(text: &str) -> Option<u32>
 fn begun_by(word: &str) -> Option<PathKind>
     ensures { result ≡ spec.begun_by word.now }
 {
-    if word.is_empty() {
+    if word == "" {
         Some(PathKind::Abs)
     } else if word == "crate" {
         Some(PathKind::Crate)
@@ -135,11 +135,12 @@ fn above(names: &[Text]) -> (PathKind, &[Text])
     let mut levels: u32 = 1;
     let mut rest = names;
     while let Some((name, more)) = rest.split_first() {
-        if name.as_str() != "super" {
+        if name.as_str() == "super" {
+            levels = levels.saturating_add(1);
+            rest = more;
+        } else {
             return (PathKind::Super(levels), rest);
         }
-        levels = levels.saturating_add(1);
-        rest = more;
     }
     (PathKind::Super(levels), rest)
 }

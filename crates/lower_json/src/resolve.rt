@@ -109,11 +109,11 @@ fn said_with(
 ) -> Result<Option<(ModPath, (ModuleId, Resolved))>, AllocError>
     ensures { IfOk result (λ said. said ≡ spec.both (spec.path_in (view text.now)) meaning) }
 {
-    let Some(meaning) = meaning else {
+    let Some(path) = path(alloc, text)? else {
         return Ok(None);
     };
-    match path(alloc, text)? {
-        Some(path) => Ok(Some((path, meaning))),
+    match meaning {
+        Some(meaning) => Ok(Some((path, meaning))),
         None => Ok(None),
     }
 }
