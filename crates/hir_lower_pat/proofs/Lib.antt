@@ -1,6 +1,6 @@
-pub mod Names
+pub mod NameLemmas
 pub mod Kinds
 pub mod Kids
 pub mod PathNames
-pub mod Aims
+pub mod AimLemmas
 pub mod TypePats

@@ -214,7 +214,7 @@ fn path_form<T: TargetParts>(
 }
 
 /// A path that is absent or refused is a place.
-#[tactic(auto, using(crate::proofs::Aims::path_aims))]
+#[tactic(auto, using(crate::proofs::AimLemmas::path_aims))]
 pub(crate) fn path_aim<T: TargetParts>(
     parts: &T,
     state: &mut BodyBuilder,
@@ -283,7 +283,7 @@ pub(crate) fn pointer_of<T: TargetParts>(parts: &T, node: &ast::Expr) -> InFile<
 }
 
 /// Whether it is `..`, whatever disables it.
-#[tactic(auto, using(crate::proofs::Aims::dots_are))]
+#[tactic(auto, using(crate::proofs::AimLemmas::dots_are))]
 pub(crate) fn is_dots<T: TargetParts>(parts: &T, node: &ast::Expr) -> bool
     ensures { result ≡ of.is_dots (answered (T.spot parts.now) node.now) }
 {
@@ -294,7 +294,7 @@ pub(crate) fn is_dots<T: TargetParts>(parts: &T, node: &ast::Expr) -> bool
 }
 
 /// The pattern of an expression, around which nothing else stands.
-#[tactic(auto, using(crate::proofs::Aims::lands, hir_env::proofs::Pointers::pointer_is_own))]
+#[tactic(auto, using(crate::proofs::AimLemmas::lands, hir_env::proofs::Pointers::pointer_is_own))]
 pub(crate) fn target<T: TargetParts>(
     parts: &T,
     state: &mut BodyBuilder,

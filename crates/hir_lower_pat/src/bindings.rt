@@ -29,7 +29,7 @@ pub struct Bindings {
 
 impl Bindings {
     /// No name has a use. It takes no memory.
-    #[tactic(auto, using(crate::proofs::Names::all_noted))]
+    #[tactic(auto, using(crate::proofs::NameLemmas::all_noted))]
     pub fn new(alloc: Global) -> Bindings
         ensures table { table_of result ≡ no_names }
         ensures names { (s : Stored) → HasNames s result }
@@ -41,7 +41,7 @@ impl Bindings {
     }
 
     /// The number of a name and its binding, where it has a use.
-    #[tactic(auto, using(crate::proofs::Names::found_place))]
+    #[tactic(auto, using(crate::proofs::NameLemmas::found_place))]
     fn find(&self, key: &(Name, HygieneId)) -> Option<(usize, BindingId)>
         ensures binding { option_map (λ found. found.1) result ≡ binding_of key.now (table_of self.now) }
         ensures number { IfSome result (λ found. found.0 ≡ number_of key.now (table_of self.now)) }
@@ -52,7 +52,7 @@ impl Bindings {
     }
 
     /// Notes a use of the name with this number.
-    #[tactic(auto, using(crate::proofs::Names::all_noted_on))]
+    #[tactic(auto, using(crate::proofs::NameLemmas::all_noted_on))]
     fn note(&mut self, number: usize, mode: BindingAnnotation) -> Result<(), AllocError>
         requires { number ≤ name_count self.old.list }
         ensures ids { self.new.ids ≡ self.old.ids }
@@ -64,7 +64,7 @@ impl Bindings {
     }
 
     /// The binding of a name that has none is this one from now on.
-    #[tactic(auto, using(crate::proofs::Names::new_name))]
+    #[tactic(auto, using(crate::proofs::NameLemmas::new_name))]
     fn insert(&mut self, key: (Name, HygieneId), id: BindingId) -> Result<(), AllocError>
         requires { binding_of key (table_of self.old) ≡ None }
         ensures ids { OnOk result (self.new.ids.entries ≡ self.old.ids.entries ++ (key, id) ∷ []) }
@@ -75,7 +75,7 @@ impl Bindings {
     }
 
     /// The first use of a name makes its binding.
-    #[tactic(auto, using(crate::proofs::Names::next_counted, crate::proofs::Names::past_more))]
+    #[tactic(auto, using(crate::proofs::NameLemmas::next_counted, crate::proofs::NameLemmas::past_more))]
     fn first_use(
         &mut self,
         state: &mut BodyBuilder,
@@ -101,7 +101,7 @@ impl Bindings {
 
     /// The binding of a name, made where this is its first use.
     #[tactic(auto,
-        using(crate::proofs::Names::found_exists, crate::proofs::Names::known_counted),
+        using(crate::proofs::NameLemmas::found_exists, crate::proofs::NameLemmas::known_counted),
         unfolding(hir_lower_form::specs::Pats::use_name))]
     pub fn use_name(
         &mut self,
@@ -125,7 +125,7 @@ impl Bindings {
     }
 
     /// Into the first alternative of an or-pattern.
-    #[tactic(auto, using(crate::proofs::Names::all_noted_on))]
+    #[tactic(auto, using(crate::proofs::NameLemmas::all_noted_on))]
     pub fn enter_or(&mut self) -> Result<(), AllocError>
         ensures ids { self.new.ids ≡ self.old.ids }
         ensures noted { OnOk result (noted self.new.list ≡ note_entered (noted self.old.list)) }
@@ -136,7 +136,7 @@ impl Bindings {
     }
 
     /// From one alternative to the next.
-    #[tactic(auto, using(crate::proofs::Names::all_noted))]
+    #[tactic(auto, using(crate::proofs::NameLemmas::all_noted))]
     pub fn next_alternative(&mut self)
         ensures ids { self.new.ids ≡ self.old.ids }
         ensures noted { noted self.new.list ≡ note_next (noted self.old.list) }
@@ -147,7 +147,7 @@ impl Bindings {
     }
 
     /// Out of the last alternative of an or-pattern.
-    #[tactic(auto, using(crate::proofs::Names::all_noted_on))]
+    #[tactic(auto, using(crate::proofs::NameLemmas::all_noted_on))]
     pub fn leave_or(&mut self) -> Result<(), AllocError>
         requires { 0 < depth self.old.list }
         ensures ids { self.new.ids ≡ self.old.ids }
@@ -160,7 +160,7 @@ impl Bindings {
 
     /// Writes the problem that each binding shows. It takes no memory.
     #[tactic(auto,
-        using(crate::proofs::Names::entry_exists, crate::proofs::Names::drop_entry, crate::proofs::Names::drop_none),
+        using(crate::proofs::NameLemmas::entry_exists, crate::proofs::NameLemmas::drop_entry, crate::proofs::NameLemmas::drop_none),
         unfolding(hir_lower_form::specs::Pats::settle))]
     pub fn settle(&self, state: &mut BodyBuilder)
         requires { HasNames state.old.stored self.now }

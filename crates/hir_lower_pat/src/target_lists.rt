@@ -160,7 +160,7 @@ fn rest(
 }
 
 /// The dots come behind the parts on both sides of them.
-#[tactic(auto, using(crate::proofs::Aims::array_is))]
+#[tactic(auto, using(crate::proofs::AimLemmas::array_is))]
 fn array_form<T: TargetParts>(
     parts: &T,
     state: &mut BodyBuilder,
@@ -221,7 +221,7 @@ fn callee_path(callee: &ast::Expr) -> Option<&Option<Boxed<ast::Path>>>
 }
 
 /// A call without a list of arguments, and one whose callee is no path, is a place.
-#[tactic(auto, using(crate::proofs::Aims::callee_is))]
+#[tactic(auto, using(crate::proofs::AimLemmas::callee_is))]
 pub(crate) fn call_aim<T: TargetParts>(
     parts: &T,
     state: &mut BodyBuilder,

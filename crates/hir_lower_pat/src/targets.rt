@@ -28,7 +28,7 @@ fn wild(state: &mut BodyBuilder, at: InFile<AstPtr>) -> Result<Aim, StoreFault>
 }
 
 /// What stands in parentheses, which lead to the expression of a place.
-#[tactic(auto, using(crate::proofs::Aims::paren_aims))]
+#[tactic(auto, using(crate::proofs::AimLemmas::paren_aims))]
 fn paren_around<T: TargetParts>(
     parts: &T,
     state: &mut BodyBuilder,
@@ -69,7 +69,7 @@ fn paren_aim<T: TargetParts>(
 }
 
 /// An expression of any other kind.
-#[tactic(auto, using(crate::proofs::Aims::other_is))]
+#[tactic(auto, using(crate::proofs::AimLemmas::other_is))]
 fn other_aim<T: TargetParts>(
     parts: &T,
     state: &mut BodyBuilder,
@@ -83,7 +83,7 @@ fn other_aim<T: TargetParts>(
 }
 
 /// An expression that no condition disables.
-#[tactic(auto, using(crate::proofs::Aims::only_places))]
+#[tactic(auto, using(crate::proofs::AimLemmas::only_places))]
 fn kept_aim<T: TargetParts>(
     parts: &T,
     state: &mut BodyBuilder,
@@ -114,7 +114,7 @@ fn kept_aim<T: TargetParts>(
 }
 
 /// What comes of an expression. One that a condition disables is a place.
-#[tactic(auto, using(crate::proofs::Aims::enabled_is, crate::proofs::Aims::disabled_is))]
+#[tactic(auto, using(crate::proofs::AimLemmas::enabled_is, crate::proofs::AimLemmas::disabled_is))]
 fn aim_node<T: TargetParts>(
     parts: &T,
     state: &mut BodyBuilder,
@@ -148,7 +148,7 @@ pub(crate) fn aim<P: LowerParts>(
 }
 
 /// What is assigned to, missing where it is absent.
-#[tactic(auto, using(crate::proofs::Aims::lands, hir_env::proofs::Pointers::pointer_is_own))]
+#[tactic(auto, using(crate::proofs::AimLemmas::lands, hir_env::proofs::Pointers::pointer_is_own))]
 pub fn lower_target<P: LowerParts>(
     lowerer: &Lowerer<P>,
     state: &mut BodyBuilder,
