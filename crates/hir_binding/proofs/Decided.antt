@@ -125,15 +125,15 @@ across_first false false k p ps false h g f = (inr (elim [ inl x ↦ g x | inr x
 across_later : (some b : Bool) (k : ℕ) (p : Uses) (ps : Parts) (x : Bool) → Denies x (BindsAcrossAll k p) → Tells b (Binds k p) →
     Denies (partly_later k some ps) (Alike some k ps × BindsAcrossAllInEach k ps) →
     Denies ((x || differ some b) || partly_later k (some || b) ps)
-        (Alike some k (more_parts p ps) × BindsAcrossAllInEach k (more_parts p ps))
+    (Alike some k (more_parts p ps) × BindsAcrossAllInEach k (more_parts p ps))
 across_later some b k p ps x h g f = denies_like ((Tells some (Binds k p) × Alike some k ps) ×
     (BindsAcrossAll k p × BindsAcrossAllInEach k ps)) (Alike some k (more_parts p ps) × BindsAcrossAllInEach k (more_parts p ps))
     ((x || differ some b) || partly_later k (some || b) ps)
     (λ r. (alike_more some k p ps r.0.0 r.0.1, (r.1.0, r.1.1)))
     (λ r. ((alike_first some k p ps r.0, alike_rest some k p ps r.0), (r.1.0, r.1.1)))
     (later_more (BindsAcrossAll k p) (BindsAcrossAllInEach k ps) (Alike some k ps) (Tells some (Binds k p)) x (differ some b)
-        (partly_later k some ps) (partly_later k (some || b) ps) h (denies_alike (Binds k p) some b g)
-        (λ e. ap (λ c. partly_later k c ps) (some_as_before some b e)) f)
+    (partly_later k some ps) (partly_later k (some || b) ps) h (denies_alike (Binds k p) some b g)
+    (λ e. ap (λ c. partly_later k c ps) (some_as_before some b e)) f)
 
 mutual
   pub denies_across : (k : ℕ) (t : Uses) → Denies (partly k t) (BindsAcrossAll k t)

@@ -61,7 +61,7 @@ before_end xs n previous start k (Some p) e h = rw (e, lt-ltb p (length xs) (h p
 -- out of an or-pattern, but for the use of its name
 pub closed : (old : Noted) (m : Option BindingAnnotation) (p : Option BindingProblems) (around : Set) (outer : List Set) →
     m ≡ old.mode → p ≡ problem_at_end old.here.mark over_recent old.problem → old.outer ≡ around ∷ outer →
-        left over_recent old ≡ seen_at (is_seen old.here.mark) (Parts m p around outer)
+    left over_recent old ≡ seen_at (is_seen old.here.mark) (Parts m p around outer)
 closed old m p around outer e f g = ap (λ l. left_to over_recent l old) g ∙ rw (e, f) (sym (left_back old.here.mark _))
 
 -- one turn sees the name whose last place it is

@@ -36,7 +36,7 @@ pub pushed_before : {X : Type 0} (xs : List X) (y : X) (p : ℕ) (q : X) → sli
 pushed_before xs y p q e =
     let h : p < length xs = slice_get_within xs p q e in
     slice_get_read (xs ++ y ∷ []) (length (xs ++ y ∷ [])) p q refl (omega (arith, length-append xs (y ∷ [])))
-        (sym (get_or-append xs (y ∷ []) q p h ∙ get_or_from_slice_get xs p q q e))
+    (sym (get_or-append xs (y ∷ []) q p h ∙ get_or_from_slice_get xs p q q e))
 
 -- a name that is marked last at the end of the places
 pub placed_push : (xs : List ℕ) (name q p : ℕ) (old new : Option ℕ) → new ≡ cond (nat_eq name q) (Some (length xs)) old →

@@ -113,10 +113,10 @@ two_walks {b = b} {b' = b'} {ms = ms} {ms' = ms'} {t = t} {p = p} {t' = t'} {p' 
   problem = outcome_at (in_turn v.problem w.problem)
       (ap (λ m. clash s.mode ms || clash m ms') v.mode ∙ sym (clash-append s.mode ms ms'))
       (ap (λ m. (t || (b && is_marked s.here.mark)) || (t' || (b' && m))) (ap is_marked v.mark ∙ is_marked_if b s.here.mark)
-          ∙ twice_in_turn t t' b b' (is_marked s.here.mark))
+      ∙ twice_in_turn t t' b b' (is_marked s.here.mark))
       (ap (λ l. (p || (b && (is_unseen s.here.mark && s.here.later))) || (p' || (b' && (is_unseen s1.here.mark && l)))) v.later
       ∙ (ap (λ m. (p || (b && (is_unseen s.here.mark && s.here.later))) || (p' || (b' && (m && s.here.later))))
-          (ap is_unseen v.mark ∙ is_unseen_if b s.here.mark)
+      (ap is_unseen v.mark ∙ is_unseen_if b s.here.mark)
       ∙ partly_in_turn p p' b b' (is_unseen s.here.mark) s.here.later));
 }
 
@@ -182,13 +182,13 @@ unseen_after {b = b} s some h v = ap is_unseen v.mark ∙ (is_unseen_if b (unmar
 one_later : {b : Bool} {ms : List BindingAnnotation} {t p : Bool} (s s1 : Noted) (some : Bool) → is_unseen s.here.mark ≡ not some →
     Walk b ms t p (next over_all s) s1 →
     Outcome (problem_at_end s.here.mark over_all s.problem) (problem_at_end s1.here.mark over_all s1.problem) (clash s.mode ms) t
-        (p || differ some b)
+    (p || differ some b)
 one_later {b = b} {ms = ms} {t = t} {p = p} s s1 some h v = outcome_at (in_turn v.problem (end_noted s1.here.mark s1.problem))
     (or_false _)
     (ap (λ m. (t || (b && m)) || false) (is_marked_unmark s.here.mark) ∙ twice_at_end t b)
     (ap (λ m. (p || (b && (is_unseen (unmark s.here.mark) && true))) || m)
     (ap is_unmarked v.mark ∙ (is_unmarked_if b (unmark s.here.mark) ∙ ap (λ m. not b && m)
-        (is_unmarked_unmark s.here.mark ∙ (ap not h ∙ not_not some))))
+    (is_unmarked_unmark s.here.mark ∙ (ap not h ∙ not_not some))))
     ∙ (ap (λ m. (p || (b && (m && true))) || (not b && some)) (is_unseen_unmark s.here.mark ∙ h)
     ∙ partly_at_end p b some))
 
@@ -240,7 +240,7 @@ or_pattern {b = b} {b' = b'} {ms = ms} {ms' = ms'} {t = t} {p = p} {t' = t'} {p'
     let l : Walk (b || b') [] false false back (seen_if s2.here.mark back) = seen_if_walk (b || b') s2.here.mark back w.mark in
     let first : Outcome s.problem (problem_at_end s1.here.mark over_all s1.problem) (clash s.mode ms) t p =
     rw (ap (λ m. problem_at_end m over_all s1.problem) v.mark ∙ end_of_first b s1.problem)
-        (outcome_at v.problem refl (once_entered t b) (once_entered p b)) in
+    (outcome_at v.problem refl (once_entered t b) (once_entered p b)) in
     record {
       outer = l.outer;
       later = l.later;
@@ -271,7 +271,7 @@ mutual
   walk_alternatives k (more_parts p ps) s = left_walk (binds k p) (binds_some k ps) s (after over_all k p (entered s))
       (after_later over_all k ps (after over_all k p (entered s))) (walk k p (entered s))
       (walk_later k ps (binds k p) (after over_all k p (entered s))
-          (ap is_unseen (walk k p (entered s)).mark ∙ unseen_after_first (binds k p)))
+      (ap is_unseen (walk k p (entered s)).mark ∙ unseen_after_first (binds k p)))
 
   walk_later : (k : ℕ) (ps : Parts) (some : Bool) (s : Noted) → is_unseen s.here.mark ≡ not some →
       Later some (binds_some k ps) (modes_of k ps) (twice_each k ps) (partly_later k some ps) s (after_later over_all k ps s)

@@ -27,9 +27,7 @@ pub struct BindingList {
     /// The sets around it, the innermost last.
     outer: Vec<SeenNames>,
     ghost known_here: { (k : ℕ) → mark_of here k ≢ Unseen → k < vec_len entries },
-    ghost known_outside: {
-        (i : ℕ) (s : SeenNames) (k : ℕ) → slice_get outer.items i ≡ Some s → mark_of s k ≢ Unseen → k < vec_len entries
-    },
+    ghost known_around: { (i : ℕ) (s : SeenNames) (k : ℕ) → slice_get outer.items i ≡ Some s → mark_of s k ≢ Unseen → k < vec_len entries },
 }
 
 impl Drop for BindingList {

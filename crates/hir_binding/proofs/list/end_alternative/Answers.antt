@@ -20,11 +20,11 @@ loop-place-preserved c = record {
     | in-Some w ↦
         let s = (c.last_marked_at.ensures w.in-Some.name).0 w.in-Some.is in
         let h = c.requires w.in-Some.name (is_seen c.args.names.now.previous c.args.names.now.start c.loop-place.place
-            (get nat_eq c.args.names.now.last w.in-Some.name) s) in
+        (get nat_eq c.args.names.now.last w.in-Some.name) s) in
         entry_step _ _ w.in-Some.name k c.args.names.now.previous c.loop-place.place _ (get nat_eq c.args.names.now.last k)
-            (slice_get c.args.entries.now k) w.entries-is (omega arith) c.loop-place.invariant.from
-            (λ e. rw (← e) s)
-            (λ e. let f = (c.last_marked_at.ensures k).1 e in let g : Some w.in-Some.name ≡ Some k = sym w.in-Some.is ∙ f in cc) i
+        (slice_get c.args.entries.now k) w.entries-is (omega arith) c.loop-place.invariant.from
+        (λ e. rw (← e) s)
+        (λ e. let f = (c.last_marked_at.ensures k).1 e in let g : Some w.in-Some.name ≡ Some k = sym w.in-Some.is ∙ f in cc) i
     | in_default w ↦ rw w.entries-is (entry_other c.args.names.now.previous c.loop-place.place
         (get nat_eq c.args.names.now.last k) (slice_get c.args.entries.now k) _ i
         (λ e. w.in_default.not-Some k ((c.last_marked_at.ensures k).1 e)))

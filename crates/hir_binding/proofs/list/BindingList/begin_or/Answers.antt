@@ -10,11 +10,11 @@ pub invariant_of-self-2-clause-known_here : goal.invariant_of-self-2-clause-know
 invariant_of-self-2-clause-known_here c = λ k h. absurd (h (ap (λ (s : SeenNames). mark_of s k) c.replace-around.ensures.after ∙ ap
     (λ (s : Set). s.mark) (c.new-first.ensures k)))
 
-pub invariant_of-self-2-clause-known_outside : goal.invariant_of-self-2-clause-known_outside
-invariant_of-self-2-clause-known_outside c = λ i s k e h.
+pub invariant_of-self-2-clause-known_around : goal.invariant_of-self-2-clause-known_around
+invariant_of-self-2-clause-known_around c = λ i s k e h.
     let p = rw c.in_ok-reserve.ensures.items at c.push_reserved.ensures.items in
     elim (pushed_cases c.args.self.now.outer.items c.replace-around.result i s (rw p at e)) [
-      | inl old ↦ c.args.self.now.known_outside i s k old h
+      | inl old ↦ c.args.self.now.known_around i s k old h
       | inr new ↦ c.args.self.now.known_here k (λ u. h (ap (λ (x : SeenNames). mark_of x k) (sym new ∙ c.replace-around.ensures.value) ∙ u))
     ]
 
@@ -22,4 +22,4 @@ pub returns-clause-noted : goal.returns-clause-noted
 returns-clause-noted c = λ k. entered_is _ _ (set_of c.args.self.now.here k) _ _ _
     (ap (λ (s : SeenNames). set_of s k) c.replace-around.ensures.after ∙ c.new-first.ensures k)
     (sets_push k c.args.self.now.outer.items c.push_reserved.new.self.items c.args.self.now.here
-        (let p = rw c.in_ok-reserve.ensures.items at c.push_reserved.ensures.items in rw c.replace-around.ensures.value at p))
+    (let p = rw c.in_ok-reserve.ensures.items at c.push_reserved.ensures.items in rw c.replace-around.ensures.value at p))

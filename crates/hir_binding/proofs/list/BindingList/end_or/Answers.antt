@@ -17,7 +17,7 @@ loop-place-preserved c = elim c.match-last_marked_at.branch [
   | in-Some+in_ok-see w ↦ record {
     noted = λ k.
         seen_step c.loop-place.place w.in-Some.name k (get nat_eq c.close-names.result.last k) (noted c.close-names.new.self k)
-            (noted c.loop-place.self k) (noted c.match-last_marked_at.self k)
+        (noted c.loop-place.self k) (noted c.match-last_marked_at.self k)
         (ap (λ (b : BindingList). noted b k) w.self-is ∙ w.in_ok-see.ensures.noted k) (c.loop-place.invariant.noted k)
         (λ e. rw (← e) ((c.last_marked_at.ensures w.in-Some.name).0 w.in-Some.is))
         (λ e. let f = (c.last_marked_at.ensures k).1 e in let g : Some w.in-Some.name ≡ Some k = sym w.in-Some.is ∙ f in cc);
@@ -38,7 +38,7 @@ loop-place-preserved c = elim c.match-last_marked_at.branch [
 pub returns-clause-noted : goal.returns-clause-noted
 returns-clause-noted c = λ k. c.loop-place.invariant.noted k ∙ (ap (λ b. seen_at b (noted c.close-names.new.self k))
     (before_end c.close-names.result.marked.items c.loop-place.place c.close-names.result.previous c.close-names.result.start k
-        (get nat_eq c.close-names.result.last k) (let e = c.place_count-place-end.ensures in let f =
-        c.close-names.result.marked.ok.0 in omega arith) (λ p e. slice_get_within c.close-names.result.marked.items p k
-        (c.close-names.result.placed k p e)))
+    (get nat_eq c.close-names.result.last k) (let e = c.place_count-place-end.ensures in let f =
+    c.close-names.result.marked.ok.0 in omega arith) (λ p e. slice_get_within c.close-names.result.marked.items p k
+    (c.close-names.result.placed k p e)))
     ∙ sym (c.close-names.ensures.noted k))
