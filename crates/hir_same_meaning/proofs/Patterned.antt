@@ -13,9 +13,10 @@ use Rattle.hir_env.specs.NodeMap.{Site}
 use Rattle.hir_env.specs.Answering.{site_of}
 use Rattle.hir_env.specs.Answered as tree
 use Rattle.hir_env.specs.Answered.{OptionPat, OptionType, OptionExpr, OptionBlock, Target}
-use Rattle.hir_lower_form.specs.Forms.{ExprSteps, push_some, let_form, match_form, arm_form, assign_form, let_stmt_form}
+use Rattle.hir_lower_form.specs.Forms.{ExprSteps, push_some, some, let_form, match_form, arm_form, assign_form, let_stmt_form}
 use Rattle.hir_lower_form.specs.Lower.{lower_top, lower_target, present_type}
 use Rattle.hir_lower_form.specs.Lowering.{Lowering}
+use Rattle.hir_lower_form.specs.Lowering.{pure as gives}
 use Rattle.hir_steps.proofs.Frames.{Frame, scopes, Falls, falls_more}
 use Rattle.hir_steps.proofs.Steps.{Mark, Grows, Rel, Correct, Allocated, correct_bind, correct_as, correct_pure, correct_alloc}
 use Rattle.hir_data.specs.Data.{PatData}
@@ -93,6 +94,14 @@ guarded (Some x) site body others turns ss =
 abbrev pub arm_walk : PatData → Option (Walk Value) → Walk Value → ArmsWalk → ArmsWalk
 arm_walk d g x y v site turns ss = tests_pattern d v
     >>= (λ fits. if fits then guarded g site (x turns ss) (y v site turns ss) turns ss else y v site turns ss)
+
+pub no_guard_fine : Correct (gives None) (λ final ps m m' o. GuardIs m.labels m'.nodes final ps None o)
+no_guard_fine = correct_as (correct_pure None) (λ final ps m m' o g row. rw row.is tt)
+
+pub guard_fine : {p : ExprSteps} {x : Walk Value} → Correct p (Runs one x)
+    → Correct (some p) (λ final ps m m' o. GuardIs m.labels m'.nodes final ps (Some x) o)
+guard_fine h = correct_as (correct_bind h (λ i. correct_pure (Some i)))
+    (λ final ps m m' o g row. rw (row.second.is, row.second.still) row.first)
 
 -- what an arm became
 pub record ArmIs (d : PatData) (g : Option (Walk Value)) (x : Walk Value) (final : Stored) (ps : List Frame) (m m' : Mark)

@@ -3,7 +3,9 @@ use Rattle.std.proofs.Common.{◌≡◌, ℕ, zero, suc, ◌≤◌, Bool, false,
 use Rattle.std.proofs.Common.{Option, Some, None, refl, sym, subst, ◌∙◌, arith}
 use Rattle.hir_store.specs.Pointers.{Pointer}
 use Rattle.hir_store.specs.Stored.{Stored, store_of, map_of}
+use Rattle.hir_store.specs.declared.diagnostics.ExpressionStoreDiagnostics.TheVariants.{InactiveCode}
 use Rattle.hir_store.specs.declared.hir.Expr.TheVariants as hir
+use Rattle.hir_store.specs.declared.ids.CfgId.{CfgId}
 use Rattle.hir_store.specs.declared.ids.ExprId.{ExprId}
 use Rattle.hir_store.specs.declared.ids.HygieneId.{HygieneId}
 use Rattle.hir_store.specs.declared.ids.PatId.{PatId}
@@ -16,7 +18,7 @@ use Rattle.hir_env.specs.Answering.{site_of}
 use Rattle.hir_env.specs.Answered.{Target}
 use Rattle.hir_lower_form.specs.Forms.{ExprSteps, push_some, assign_form}
 use Rattle.hir_lower_form.specs.Lower.{lower_target}
-use Rattle.hir_lower_form.specs.Lowering.{Lowering, ◌>>=◌ as ◌then◌, pure, alloc_pat}
+use Rattle.hir_lower_form.specs.Lowering.{Lowering, ◌>>=◌ as ◌then◌, pure, alloc_pat, report}
 use Rattle.hir_lower_form.specs.Pats.{Elements, no_elements, missing_pat, counted_dots, counted_place, small_place, elements_form}
 use Rattle.hir_lower_form.specs.Targets as forms
 use Rattle.hir_steps.proofs.Frames.{Frame, scopes, Falls, falls_more}
@@ -97,7 +99,8 @@ places_at {x = x} {final = final} {ps = ps} {m0 = m0} {m' = m'} {i = i} at h = r
 
 -- ---- without places
 
-without : (p : HirPat) (source : Option Pointer) → ((part : PatId → List ExprId → List ExprId) (is : List ExprId) → places_in part p is ≡ is)
+without : (p : HirPat) (source : Option Pointer)
+    → ((part : PatId → List ExprId → List ExprId) (is : List ExprId) → places_in part p is ≡ is)
     → Correct (alloc_pat p source) (PlacesAre nothing)
 without p source e = correct_as (correct_alloc_pat p source)
     (λ final ps m m' i g at. places_at at (λ c le. record {
@@ -273,6 +276,11 @@ pub record FieldsPlace (x : Placing) (final : Stored) (ps : List Frame) (m m' : 
 
 pub no_field : Correct (pure None) (FieldPlace nothing)
 no_field = correct_as (correct_pure None) (λ final ps m m' o g row. rw row.is (record { put = λ c le. put_nothing }))
+
+-- one that is left out
+pub disabled_place : (at : Pointer) (by : CfgId) → Correct (◌then◌ (report (InactiveCode at by)) (λ u. pure None)) (FieldPlace nothing)
+disabled_place at by = correct_as (correct_bind (correct_report (InactiveCode at by)) (λ u. no_field))
+    (λ final ps m m' o g row. record { put = λ c le. put_within row.before.labels (omega arith) (row.second.put c le) })
 
 pub nameless_place : {p : Lowering PatId} (at : Pointer) → Correct p Any
     → Correct (forms.target_field_form at None p) (FieldPlace nothing)
