@@ -34,7 +34,7 @@ use Rattle.hir_syntax.specs.declared.ast.ElseBranch.TheFolds.{fold-RecordExprFie
 use Rattle.hir_syntax.specs.declared.ast.ElseBranch.TheFolds.{fold-MatchArm, fold-Pat, fold-RecordPatField, fold-AssocTypeArg}
 use Rattle.hir_syntax.specs.declared.ast.ElseBranch.TheFolds.{fold-GenericArgList, fold-Param, fold-ParenArgs, fold-PathType}
 use Rattle.hir_syntax.specs.declared.ast.ElseBranch.TheFolds.{fold-RetType, fold-TypeArg, fold-TypeBound, fold-Type_}
-use Rattle.hir_syntax.specs.declared.node.AstPtr.{AstPtr}
+use Rattle.hir_base.specs.declared.node.AstPtr.{AstPtr}
 use Rattle.hir_env.specs.declared.place.Place.{Place}
 use Rattle.hir_env.specs.Answers.{Answers}
 use Rattle.hir_env.specs.Layers.{BlockReading, StmtReading, RecordReading, ParamReading, PathTypeReading, Sorts, Reader, readings}

@@ -80,13 +80,13 @@ is_anchor _ = false
 
 -- a segment is read in front of others
 abbrev pub with_piece : Bool → Piece → Reading → Reading
-with_piece leading piece r = record {
-  refused = r.refused || refuses piece;
-  ended = ends piece r.names;
-  names = names_of piece ++ r.names;
-  set_kind = kind_or (sets leading piece) r.set_kind;
-  supers = one_more piece (if is_some (sets leading piece) then 0 else r.supers);
-  anchored = r.anchored || is_anchor piece;
+with_piece leading x r = record {
+  refused = r.refused || refuses x;
+  ended = ends x r.names;
+  names = names_of x ++ r.names;
+  set_kind = kind_or (sets leading x) r.set_kind;
+  supers = one_more x (if is_some (sets leading x) then 0 else r.supers);
+  anchored = r.anchored || is_anchor x;
 }
 
 abbrev pub supers_in : PathKind → ℕ
@@ -101,10 +101,10 @@ counted k (suc n) = kind.Super (supers_in k + suc n)
 -- `self` in front of names stands for its module, where no `super` is counted
 abbrev pub own_self : Piece → List Name → Reading → Reading
 own_self self_ (n ∷ ns) r = record r { set_kind = kind.Super (supers_in (counted r.set_kind r.supers)); supers = 0 }
-own_self piece ns r = r
+own_self x ns r = r
 
 abbrev pub read_piece : Bool → Piece → Reading → Reading
-read_piece leading piece r = if r.ended then r else own_self piece r.names (with_piece leading piece r)
+read_piece leading x r = if r.ended then r else own_self x r.names (with_piece leading x r)
 
 abbrev pub is_plain : PathKind → Bool
 is_plain kind.Plain = true

@@ -1,8 +1,8 @@
 -- How the answers are written into paths and types.
 use Rattle.std.specs.Prelude.{ℕ, List, [], ◌∷◌, map, Bool, true, false, ◌||◌, if◌then◌else◌, codes, bytes_eq}
 use Rattle.std.specs.Prelude.{Option, Some, None, option_map}
-use Rattle.hir_syntax.specs.declared.node.NodeId.{NodeId}
-use Rattle.hir_syntax.specs.declared.node.AstPtr.{AstPtr}
+use Rattle.hir_base.specs.declared.node.NodeId.{NodeId}
+use Rattle.hir_base.specs.declared.node.AstPtr.{AstPtr}
 use Rattle.hir_syntax.specs.declared.ast.Name.{Name as AstName}
 use Rattle.hir_syntax.specs.declared.ast.Lifetime.{Lifetime as AstLifetime}
 use Rattle.hir_syntax.specs.declared.ast.SegmentKind.{SegmentKind}

@@ -12,7 +12,7 @@ use Rattle.hir_store.specs.declared.path.ModPath.{ModPath}
 use Rattle.hir_store.specs.declared.path.PathKind.{PathKind}
 use Rattle.hir_store.specs.declared.path.PathKind.TheVariants as kind
 use Rattle.hir_store.specs.declared.ids.ItemContainerId.TheVariants as holder
-use Rattle.hir_syntax.specs.declared.node.PredId.{PredId}
+use Rattle.hir_base.specs.declared.node.PredId.{PredId}
 use Rattle.hir_store.specs.declared.ids.CfgId.{CfgId}
 use Rattle.hir_store.specs.declared.ids.HygieneId.{HygieneId}
 use Rattle.hir_store.specs.declared.ids.CtxId.{CtxId}
