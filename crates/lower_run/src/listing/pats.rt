@@ -28,6 +28,11 @@ fn place_or_absent(ellipsis: Option<u32>) -> Piece<'static> {
     }
 }
 
+/// Whether two dots stand behind the fields.
+fn dots_or_absent(ellipsis: bool) -> Piece<'static> {
+    if ellipsis { Piece::Word("..") } else { ABSENT }
+}
+
 /// What is let wait here waits before all others, and the bracket after it.
 impl<'a> Waiting<'a> {
     /// Lets the parts of a pattern wait.
@@ -81,7 +86,7 @@ impl<'a> Waiting<'a> {
             } => self.push_parts(&[
                 Piece::PlainPath(path),
                 Piece::PatFieldList(args.as_slice()),
-                if *ellipsis { Piece::Word("..") } else { ABSENT },
+                dots_or_absent(*ellipsis),
             ]),
             Pat::Slice {
                 prefix,
