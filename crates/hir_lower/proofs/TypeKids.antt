@@ -8,6 +8,7 @@ use Rattle.hir_syntax.specs.declared.ast.Path.{Path as AstPath}
 use Rattle.hir_syntax.specs.declared.ast.PathSegment.{PathSegment as AstSegment, out-PathSegment}
 use Rattle.hir_syntax.specs.declared.ast.SegmentKind.{SegmentKind}
 use Rattle.hir_syntax.specs.declared.ast.SegmentKind.TheVariants as kind
+use Rattle.hir_syntax.specs.declared.pats.Pat.{Pat as AstPat}
 use Rattle.hir_syntax.specs.declared.types.BoundKind.{BoundKind}
 use Rattle.hir_syntax.specs.declared.types.BoundKind.TheVariants as bound_kind
 use Rattle.hir_syntax.specs.declared.types.Type_.{Type_ as AstType_}
@@ -35,7 +36,8 @@ use Rattle.hir_env.specs.TypeLayers.{GenericArgLayer, TypeKindLayer, AssocTypeAr
 use Rattle.hir_env.specs.TypeLayers.{PathLayer, PathSegmentLayer, TypeBoundLayer}
 use Rattle.hir_env.specs.Count.{count_type, count_option_type, count_parts, count_path, count_option_path, count_segments, count_segment}
 use Rattle.hir_env.specs.Count.{count_segment_args, count_option_parens, count_option_ret, count_option_args, count_args, count_arg}
-use Rattle.hir_env.specs.Count.{count_bounds, count_bound, count_constant, count_expr}
+use Rattle.hir_env.specs.Count.{count_bounds, count_bound, count_constant, count_expr, count_option_pat, count_pat}
+use Rattle.hir_env.specs.Whole.{answered_pat, pat_part}
 use Rattle.hir_env.specs.Whole.{answered, answered_type, answered_path, answered_arg_list, type_part, path_part, arg_list_part, types_part}
 use Rattle.hir_env.specs.Whole.{type_args_part, params_part, answer_part, ret_part, parens_part, path_type_part, segment_part}
 use Rattle.hir_env.specs.Whole.{segments_part, first_part, rest_part, generic_args_part, bounds_part, answered_constant, constant_part}
@@ -55,6 +57,7 @@ pub record Below (env : Answers) (C : Claims) (n : ℕ) : Type 0 where
   -- by the expression, which is read inside of it
   pub constants : (p : Place) (e : AstExpr) → count_expr (answered (spot_at env (inside_constant p)) e) < n → C.constant p (Some e)
   pub no_constant : (p : Place) → C.constant p None
+  pub pats : (p : Place) (x : AstPat) → count_pat (answered_pat (spot_at env (inside_constant p)) x) < n → C.pat (inside_constant p) x
   pub lists : (p : Place) (l : AstGenericArgList) → suc (count_args (answered_arg_list (spot_at env p) l)) < n → C.args p l
 
 module _ (env : Answers) (C : Claims) (n : ℕ) (below : Below env C n) where
@@ -87,6 +90,11 @@ module _ (env : Answers) (C : Claims) (n : ℕ) (below : Below env C n) where
   types : (p : Place) (ts : List AstType_) → count_parts (types_part (spot_at env p) ts) < n → Each (C.type_ p) ts
   types p [] h = tt
   types p (t ∷ ts) h = (below.types p t (omega (arith, h)), types p ts (omega (arith, h)))
+
+  pat : (p : Place) (o : Option AstPat) → count_option_pat (pat_part (spot_at env (inside_constant p)) o) < n
+      → IfPresent (C.pat (inside_constant p)) o
+  pat p None h = tt
+  pat p (Some x) h = below.pats p x h
 
   type_arg : (p : Place) (x : AstTypeArg) → count_option_type (read_type_arg env x p) < n → KidsTypeArg C p x
   type_arg p x h = let s = ap count_option_type (type_arg_is_level (spot_at env p) x) in type_ p (out-TypeArg x).ty (omega (arith, h, s))
@@ -169,6 +177,7 @@ module _ (env : Answers) (C : Claims) (n : ℕ) (below : Below env C n) where
   kids_type p at (TypeKind-F.ForType b t) h = type_ p t (omega (arith, h))
   kids_type p at (TypeKind-F.ImplTraitType bs) h = impl_bounds p at bs h
   kids_type p at (TypeKind-F.DynTraitType bs) h = bounds p bs (omega (arith, h))
+  kids_type p at (TypeKind-F.PatternType t x) h = (type_ p t (omega (arith, h)), pat p x (omega (arith, h)))
   kids_type p at TypeKind-F.NeverType h = tt
   kids_type p at TypeKind-F.InferType h = tt
 

@@ -1,10 +1,11 @@
 -- A function value that lowers a given part.
-use Rattle.std.specs.Prelude.{◌≡◌, Bool, Option}
+use Rattle.std.specs.Prelude.{◌≡◌, ◌<◌, ◌≤◌, Bool, Option}
 use Rattle.std.specs.declared.alloc.Global.{Global}
 use denote.Ref.{Bor, MutBor}
 use Rattle.hir_syntax.specs.declared.ast.Expr.{Expr as AstExpr}
 use Rattle.hir_syntax.specs.declared.ast.BlockExpr.{BlockExpr as AstBlockExpr}
 use Rattle.hir_syntax.specs.declared.ast.Path.{Path as AstPath}
+use Rattle.hir_syntax.specs.declared.pats.Pat.{Pat as AstPat}
 use Rattle.hir_syntax.specs.declared.types.Type_.{Type_ as AstType_}
 use Rattle.hir_syntax.specs.declared.types.GenericArgList.{GenericArgList as AstGenericArgList}
 use Rattle.hir_store.specs.Stored.{Stored}
@@ -18,12 +19,13 @@ use Rattle.hir_env.specs.Answers.{Answers}
 use Rattle.hir_env.specs.Answered as tree
 use Rattle.hir_env.specs.Answered.{Binder}
 use Rattle.hir_env.specs.Paths.{inside_constant}
-use Rattle.hir_env.specs.Whole.{answered, answered_arg_list, answered_path, answered_plain, answered_type}
+use Rattle.hir_env.specs.Count.{count_expr, count_pat, count_path}
+use Rattle.hir_env.specs.Whole.{answered, answered_arg_list, answered_pat, answered_path, answered_plain, answered_type}
 use Rattle.hir_lower_form.specs.Builder.{Builder}
 use Rattle.hir_lower_form.specs.Lowering.{Lowering, Checked, Lowers}
 use Rattle.hir_lower_form.specs.Lower.{lower_kept, lower_inside}
 use Rattle.hir_lower_form.specs.Methods.{HasWalk, LowersArgs, LowersType, ReadsPath}
-use Rattle.hir_lower_form.specs.Nests.{IfPresent}
+use Rattle.hir_lower_form.specs.Nests.{Claims, IfPresent}
 use Rattle.hir_lower_form.specs.declared.walk.PathWalk.{PathWalk}
 use Rattle.hir_lower_form.specs.declared.walk.Reading.{Reading}
 use Rattle.hir_lower.specs.Roots.{spot_at}
@@ -107,3 +109,40 @@ module _ {E : Type 0} (answers : E → Answers) where
   -- the expression of a constant that is written there, where it has one
   abbrev pub HandlesConstant : Pre E → Post E (Option ExprId) → E → Place → Option AstExpr → Type 0
   HandlesConstant pre post env p o = IfPresent (HandlesExpr pre post env (inside_constant p)) o
+
+-- Each path that is smaller than the pattern may be handed in, and so each that the pattern has.
+abbrev pub InPat : Answers → (Place → AstPath → Type 0) → Place → AstPat → Type 0
+InPat env path p x =
+    let at = spot_at env p in
+    (q : AstPath) → count_path (answered_path at q) < count_pat (answered_pat at x) → path p q
+
+-- so may what is assigned to be as an expression
+abbrev pub InTarget : Answers → (Place → AstExpr → Type 0) → (Place → AstPath → Type 0) → Place → AstExpr → Type 0
+InTarget env expr path p e =
+    let at = spot_at env p in
+    ((x : AstExpr) → count_expr (answered at x) ≤ count_expr (answered at e) → expr p x)
+    × ((q : AstPath) → count_path (answered_path at q) < count_expr (answered at e) → path p q)
+
+module _ {E : Type 0} (answers : E → Answers) where
+  abbrev pub HandlesPat : PathPre E → PathPost E → E → Place → AstPat → Type 0
+  HandlesPat pre post env = InPat (answers env) (HandlesPath answers pre post env)
+
+  abbrev pub HandlesTarget : Pre E → Post E (Option ExprId) → PathPre E → PathPost E → E → Place → AstExpr → Type 0
+  HandlesTarget pre post path_pre path_post env =
+      InTarget (answers env) (HandlesExpr answers pre post env) (HandlesPath answers path_pre path_post env)
+
+-- what may be handed in to functions of which this is so, at a place
+module _ {E : Type 0} (answers : E → Answers) (pre : Pre E) (post : Post E (Option ExprId)) (block_pre : BlockPre E)
+    (block_post : BlockPost E) (path_pre : PathPre E) (path_post : PathPost E) (type_pre : TypePre E) (type_post : TypePost E)
+    (args_pre : ArgsPre E) (args_post : ArgsPost E) (env : E) where
+  abbrev pub Handled : Place → Claims
+  Handled p = record {
+    expr = HandlesExpr answers pre post env p;
+    block = HandlesBlock answers block_pre block_post env p;
+    path = HandlesPath answers path_pre path_post env;
+    type_ = HandlesType answers type_pre type_post env;
+    args = HandlesArgs answers args_pre args_post env;
+    constant = HandlesConstant answers pre post env;
+    pat = HandlesPat answers path_pre path_post env;
+    target = HandlesTarget answers pre post path_pre path_post env;
+  }

@@ -1,47 +1,74 @@
 //! Bodies of items.
 
-ghost use Rattle.std.specs.Prelude.{◌≡◌, ◌≢◌, None, false, IfOk, IsErrOf, option_copied};
-ghost use Rattle.hir_store.specs.Range.{HasExpr, InRange};
+ghost use Rattle.std.specs.Prelude.{◌≡◌, ◌≢◌, Bool, false, is_some, map, IfOk, IsErrOf, option_copied, option_map};
+ghost use Rattle.hir_store.specs.Range.{InRange};
 ghost use Rattle.hir_store.specs.Storing.{empty};
-ghost use Rattle.hir_lower_form.specs.Lowering.{Lowers};
+ghost use Rattle.hir_env.specs.Answers.{Answers};
+ghost use Rattle.hir_env.specs.Formals.{answered_formals};
+ghost use Rattle.hir_env.specs.Spot.{Spot};
+ghost use Rattle.hir_env.specs.Whole.{expr_part};
+ghost use Rattle.hir_lower_form.specs.Lowering.{HasNone, Lowers};
 ghost use Rattle.hir_one_result.specs.OneResult.{OneResult};
 ghost use Rattle.hir_one_result.specs.Room.{TooLarge};
-ghost use Rattle.hir_lower.specs.Means.{HasBody, body_owes, body_read, required_body};
-ghost use Rattle.hir_lower.specs.Roots.{RefusedAtEnd, StoresFromNothing, await_location, body_spot, item_of, spot_at};
+ghost use Rattle.hir_lower.specs.Formals.{are_read, item_formals, lower_formals, outside_the_body, self_source};
+ghost use Rattle.hir_lower.specs.Means.{HasBody, body_fault, body_owes, body_read, required_body};
+ghost use Rattle.hir_lower.specs.Roots.{GivenFromNothing, HasBehind, RefusedAtEnd, StoresFromNothing, await_location, behind, body_spot};
+ghost use Rattle.hir_lower.specs.Roots.{given_of, item_of, report_missing, spot_at};
 
-use crate::collector::lower_root;
+use crate::collector::collect_expr_opt;
 use crate::error::LowerError;
+use crate::formals::{formals_form, must_be_bare, self_node};
 use hir_env::env::LowerEnv;
 use hir_env::place::{ImplTrait, LoweringMode, Place};
 use hir_lower_form::builder::BodyBuilder;
 use hir_store::diagnostics::{AwaitLocation, ExpressionStoreDiagnostics, MissingBodyItemKind};
 use hir_store::fault::StoreFault;
-use hir_store::ids::{DefWithBodyId, ExprId, ItemContainerId, ModuleId};
+use hir_store::ids::{BindingId, DefWithBodyId, ExprId, ItemContainerId, ModuleId, PatId};
 use hir_store::source_map::ExpressionStoreSourceMap;
 use hir_store::store::ExpressionStore;
 use hir_syntax::ast;
-use hir_syntax::node::{AstPtr, HirFileId, InFile};
-use std::alloc::Global;
+use hir_base::Seq;
+use hir_base::node::{AstPtr, HirFileId, InFile};
+use std::alloc::{AllocError, Global};
 
-/// A lowered body. Its one recorded root is the body's expression.
+/// A parameter: what the caller hands its argument to, and what was written for it. The two differ where the body begins with
+/// `let`s of its parameters.
+#[derive_where(Clone, Copy; T)]
+pub struct Param<T> {
+    pub formal: T,
+    pub user_written: T,
+}
+
+/// A lowered body. Its one recorded root is the body's expression. The binding of `self` stands apart from the patterns of the
+/// other parameters that no condition disables.
 pub struct Body {
     pub store: ExpressionStore,
+    pub params: Seq<Param<PatId>>,
+    pub self_param: Option<Param<BindingId>>,
 }
 
 impl Drop for Body {
     fn drop(self) {
-        let Body { store: _ } = self;
+        let Body {
+            store: _,
+            params: _,
+            self_param: _,
+        } = self;
     }
 }
 
-/// From the written body to the lowered one, and back.
+/// From the written body to the lowered one, and back, with the node of `self`.
 pub struct BodySourceMap {
+    pub self_param: Option<InFile<AstPtr>>,
     pub store: ExpressionStoreSourceMap,
 }
 
 impl Drop for BodySourceMap {
     fn drop(self) {
-        let BodySourceMap { store: _ } = self;
+        let BodySourceMap {
+            self_param: _,
+            store: _,
+        } = self;
     }
 }
 
@@ -78,8 +105,74 @@ fn await_location_of(owner: DefWithBodyId) -> AwaitLocation
     }
 }
 
-/// Lowers the body of an item, which is absent where the item is skipped.
-#[tactic(auto, unfolding(crate::specs::Roots::body_of, crate::specs::Roots::report_missing))]
+/// Whether the parameters of the item are read, where its body isn't skipped.
+fn is_function(owner: DefWithBodyId) -> bool
+    ensures { result ≡ are_read false owner }
+{
+    match owner {
+        DefWithBodyId::FunctionId(_) => true,
+        DefWithBodyId::StaticId(_) | DefWithBodyId::ConstId(_) | DefWithBodyId::VariantId(_) => {
+            false
+        }
+    }
+}
+
+/// The place around a body: there no `await` stands in what is async.
+fn around(place: Place) -> Place
+    ensures { (env : Answers) → spot_at env result ≡ outside_the_body (spot_at env place) }
+{
+    Place {
+        await_location: Some(AwaitLocation::Unknown),
+        ..place
+    }
+}
+
+/// Lowers parameters, and behind them a body as a root.
+#[tactic(auto, unfolding(crate::specs::Roots::behind))]
+fn behind_formals<E: LowerEnv>(
+    alloc: Global,
+    env: &E,
+    place: Place,
+    state: &mut BodyBuilder,
+    skipped: bool,
+    bare: bool,
+    params: Option<&ast::ParamList>,
+    body: Option<&ast::Expr>,
+) -> Result<((Option<BindingId>, Seq<PatId>), ExprId), StoreFault>
+    ensures { let at = spot_at (E.answers env.now) place in
+        let formals = answered_formals (outside_the_body at) bare (option_copied params.entry) in
+        Lowers HasBehind (behind (lower_formals skipped formals) (expr_part at (option_copied body.entry))) state.old result state.new }
+{
+    state.close_labels(alloc);
+    let _ = state.enter_root();
+    let given = formals_form(alloc, env, around(place), state, skipped, bare, params)?;
+    let root = collect_expr_opt(alloc, env, place, state, body)?;
+    state.record_root(root)?;
+    state.outside_root();
+    Ok((given, root))
+}
+
+/// Reports that a body is missing where it must be there.
+#[tactic(auto, unfolding(crate::specs::Roots::report_missing))]
+fn report_if_missing(
+    state: &mut BodyBuilder,
+    node: InFile<AstPtr>,
+    required: Option<MissingBodyItemKind>,
+    body: Option<&ast::Expr>,
+) -> Result<(), StoreFault>
+    ensures { (at : Spot) → let fault = body_fault required (expr_part at (option_copied body.entry)) in
+        Lowers HasNone (report_missing node fault) state.old result state.new }
+{
+    if body.is_none()
+        && let Some(kind) = required
+    {
+        state.report(ExpressionStoreDiagnostics::MissingBody { node, kind })?;
+    }
+    Ok(())
+}
+
+/// Lowers the parameters and the body of an item. Where the item is skipped, its body is absent and no pattern is read.
+#[tactic(auto, unfolding(crate::specs::Roots::body_of))]
 fn lower_item<E: LowerEnv>(
     alloc: Global,
     env: &E,
@@ -87,25 +180,69 @@ fn lower_item<E: LowerEnv>(
     state: &mut BodyBuilder,
     owner: DefWithBodyId,
     node: AstPtr,
+    params: Option<&ast::ParamList>,
     body: Option<&ast::Expr>,
-) -> Result<ExprId, StoreFault>
-    ensures { let spot = spot_at (E.answers env.now) place in
-        Lowers HasExpr (item_of spot owner node (option_copied body.entry)) state.old result state.new }
+) -> Result<((Option<BindingId>, Seq<PatId>), ExprId), StoreFault>
+    ensures { let at = spot_at (E.answers env.now) place in
+        let item = item_of at owner node (option_copied params.entry) (option_copied body.entry) in
+        Lowers HasBehind item state.old result state.new }
 {
+    let container = env.container(owner);
+    let bare = must_be_bare(container, body.is_some());
     if env.skip(owner) {
-        return lower_root(alloc, env, place, state, None);
+        return behind_formals(alloc, env, place, state, true, bare, params, None);
     }
-    let required = required_body_kind(owner, env.container(owner));
-    if body.is_none()
-        && let Some(kind) = required
-    {
-        let node = InFile {
-            file_id: place.file_id,
-            value: node,
-        };
-        state.report(ExpressionStoreDiagnostics::MissingBody { node, kind })?;
+    let node = InFile {
+        file_id: place.file_id,
+        value: node,
+    };
+    report_if_missing(state, node, required_body_kind(owner, container), body)?;
+    let params = if is_function(owner) { params } else { None };
+    behind_formals(alloc, env, place, state, false, bare, params, body)
+}
+
+/// The node of the `self` that the item's body has.
+fn item_self<E: LowerEnv>(
+    env: &E,
+    place: Place,
+    owner: DefWithBodyId,
+    params: Option<&ast::ParamList>,
+) -> Option<InFile<AstPtr>>
+    ensures { (has_body : Bool) → let at = spot_at (E.answers env.now) place in
+        result ≡ self_source (item_formals at owner (option_copied params.entry) has_body).receiver }
+{
+    if env.skip(owner) || is_function(owner) {
+        self_node(env, place, params)
+    } else {
+        None
     }
-    lower_root(alloc, env, place, state, body)
+}
+
+/// The same as written and as handed in.
+fn as_written(mut left: &[PatId], alloc: Global) -> Result<Seq<Param<PatId>>, AllocError>
+    ensures { IfOk result (λ ps. map (λ p. p.formal) ps ≡ left.entry.now) }
+{
+    let mut params = Seq::new(alloc);
+    while let [one, rest @ ..] = left {
+        params.push(Param {
+            formal: *one,
+            user_written: *one,
+        })?;
+        left = rest;
+    }
+    Ok(params)
+}
+
+fn self_as_written(receiver: Option<BindingId>) -> Option<Param<BindingId>>
+    ensures { option_map (λ p. p.formal) result ≡ receiver }
+{
+    match receiver {
+        None => None,
+        Some(id) => Some(Param {
+            formal: id,
+            user_written: id,
+        }),
+    }
 }
 
 /// The steps of `lower_body`, with what they store.
@@ -116,13 +253,22 @@ fn body_steps<E: LowerEnv>(
     syntax_node: AstPtr,
     current_file_id: HirFileId,
     inside: ModuleId,
+    params: Option<&ast::ParamList>,
     body: Option<&ast::Expr>,
 ) -> Result<(Body, BodySourceMap), LowerError>
     ensures stores { let at = body_spot (E.answers db.now) owner current_file_id inside in
-        IfOk result (λ r. StoresFromNothing (item_of at owner syntax_node (option_copied body.entry)) 4294967295 r.0.store r.1.store) }
+        let item = item_of at owner syntax_node (option_copied params.entry) (option_copied body.entry) in
+        IfOk result (λ r. StoresFromNothing item 4294967295 r.0.store r.1.store) }
+    ensures given { let at = body_spot (E.answers db.now) owner current_file_id inside in
+        let item = item_of at owner syntax_node (option_copied params.entry) (option_copied body.entry) in
+        IfOk result (λ r. GivenFromNothing item 4294967295 (given_of r.0)) }
+    ensures self_source { let at = body_spot (E.answers db.now) owner current_file_id inside in
+        let formals = item_formals at owner (option_copied params.entry) (is_some (option_copied body.entry)) in
+        IfOk result (λ r. r.1.self_param ≡ self_source formals.receiver) }
     ensures in_range { IfOk result (λ r. InRange r.0.store r.1.store) }
     ensures full { let at = body_spot (E.answers db.now) owner current_file_id inside in
-        IsErrOf result LowerError.Full → RefusedAtEnd (item_of at owner syntax_node (option_copied body.entry)) 4294967295 }
+        let item = item_of at owner syntax_node (option_copied params.entry) (option_copied body.entry) in
+        IsErrOf result LowerError.Full → RefusedAtEnd item 4294967295 }
     ensures own { result ≢ Err LowerError.Failed }
 {
     let place = Place {
@@ -134,11 +280,29 @@ fn body_steps<E: LowerEnv>(
         in_impl: false,
     };
     let mut state = BodyBuilder::new(alloc, u32::MAX);
-    match lower_item(alloc, db, place, &mut state, owner, syntax_node, body) {
-        Ok(_root) => {
-            let (store, source_map) = state.into_store().finish();
-            Ok((Body { store }, BodySourceMap { store: source_map }))
-        }
+    match lower_item(
+        alloc, db, place, &mut state, owner, syntax_node, params, body,
+    ) {
+        Ok(((receiver, pats), _root)) => match as_written(pats.as_slice(), alloc) {
+            Ok(written) => {
+                let (store, source_map) = state.into_store().finish();
+                Ok((
+                    Body {
+                        store,
+                        params: written,
+                        self_param: self_as_written(receiver),
+                    },
+                    BodySourceMap {
+                        self_param: item_self(db, place, owner, params),
+                        store: source_map,
+                    },
+                ))
+            }
+            Err(_) => {
+                drop(state);
+                Err(LowerError::Memory)
+            }
+        },
         Err(fault) => {
             drop(state);
             Err(LowerError::from(fault))
@@ -157,7 +321,9 @@ fn body_steps<E: LowerEnv>(
 /// Each number in store and source map is in range. A skipped body is a missing expression and owes no fault. `Memory`
 /// where a growth was refused; `Full` only where the tree becomes more expressions, labels, types or lifetimes than the
 /// arenas have room for, or a path in it has more `super`s than 32 bits count; never `Failed`.
-/// Until patterns come the caller hands in no parameters, and until inner bodies come neither flag.
+/// Parameters are read of functions alone, and of each item that is skipped, `self` first and then those that no condition
+/// disables. In an extern block, and in a trait where the function has no body, a parameter is a plain name or `_`, and any other
+/// is missing and owes a fault. Of a skipped body each is missing. Until inner bodies come the caller hands in neither flag.
 pub fn lower_body<E: LowerEnv>(
     alloc: Global,
     db: &E,
@@ -170,7 +336,6 @@ pub fn lower_body<E: LowerEnv>(
     is_async_fn: bool,
     is_gen_fn: bool,
 ) -> Result<(Body, BodySourceMap), LowerError>
-    requires no_params { option_copied params ≡ None }
     requires no_async { is_async_fn ≡ false }
     requires no_gen { is_gen_fn ≡ false }
     ensures same_meaning { let at = body_spot (E.answers db.now) owner current_file_id inside in
@@ -183,5 +348,14 @@ pub fn lower_body<E: LowerEnv>(
         IsErrOf result LowerError.Full → TooLarge (empty 4294967295) (body_read at owner (option_copied body.entry)) }
     ensures own { result ≢ Err LowerError.Failed }
 {
-    body_steps(alloc, db, owner, syntax_node, current_file_id, inside, body)
+    body_steps(
+        alloc,
+        db,
+        owner,
+        syntax_node,
+        current_file_id,
+        inside,
+        params,
+        body,
+    )
 }

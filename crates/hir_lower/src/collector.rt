@@ -30,7 +30,7 @@ use hir_store::path::Path;
 use hir_store::source_map::ExpressionStoreSourceMap;
 use hir_store::store::ExpressionStore;
 use hir_store::type_ref::{ConstRef, TypeRef};
-use hir_syntax::node::{AstPtr, HirFileId, InFile};
+use hir_base::node::{AstPtr, HirFileId, InFile};
 use hir_syntax::{Boxed, ast};
 use std::alloc::Global;
 
@@ -45,7 +45,7 @@ fn unboxed(expr: &Option<Boxed<ast::Expr>>) -> Option<&ast::Expr>
 }
 
 /// The expression, missing where it is absent or a condition disables it.
-fn collect_expr_opt<E: LowerEnv>(
+pub(crate) fn collect_expr_opt<E: LowerEnv>(
     alloc: Global,
     env: &E,
     place: Place,

@@ -14,7 +14,7 @@ use hir_env::place::ImplTrait;
 use hir_store::ids::TypeRefId;
 use hir_store::type_ref::{TypeBound, TypeRef};
 use hir_syntax::Seq;
-use hir_syntax::node::AstPtr;
+use hir_base::node::AstPtr;
 
 /// What an `impl` becomes, where the caller of `ExprCollector::lower_path` chooses.
 pub trait ImplTraitLower {

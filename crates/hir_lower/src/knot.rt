@@ -4,31 +4,38 @@ ghost use Rattle.std.specs.Prelude.{◌≡◌, option_map};
 ghost use Rattle.hir_store.specs.Range.{HasLabelOption};
 ghost use Rattle.hir_env.specs.Answering.{inside as place_inside, numbered as number_at};
 ghost use Rattle.hir_env.specs.Answered.{some_arg_list, some_path};
-ghost use Rattle.hir_env.specs.Whole.{answered, answered_arg_list, answered_path, answered_plain, answered_type};
+ghost use Rattle.hir_binding.specs.declared.binding.BindingAnnotation.TheVariants.{Unannotated};
+ghost use Rattle.hir_env.specs.Answered as tree;
+ghost use Rattle.hir_env.specs.Whole.{answered, answered_arg_list, answered_path, answered_plain, answered_type, pat_part};
 ghost use Rattle.hir_lower_form.specs.Methods.{HasWalk, LowersArgs, LowersExpr, LowersInside, LowersPath, LowersType};
-ghost use Rattle.hir_lower_form.specs.Methods.{MaybeLowersExpr, ReadsPath};
-ghost use Rattle.hir_lower.specs.Nests.{HandlesArgs, HandlesBlock, HandlesConstant, HandlesExpr, HandlesPath, HandlesType};
+ghost use Rattle.hir_lower_form.specs.Methods.{LowersTop, MaybeLowersExpr, ReadsPath};
+ghost use Rattle.hir_lower_pat.specs.Methods.{use_with};
+ghost use Rattle.hir_lower.specs.Nests.{Handled};
+ghost use Rattle.hir_lower.proofs.PatKids.{pat_kids_of, target_kids_of, target_place_of};
 ghost use Rattle.hir_lower.specs.Roots.{spot_at};
 
 use crate::constant::constant_form;
 use hir_env::env::LowerEnv;
+use hir_env::lang::LangItems;
 use hir_env::place::{LoweringMode, Place};
+use hir_env::resolved::{Resolved, Shadow};
 use hir_lower_expr::blocks::block_node;
 use hir_lower_expr::exprs::expr_node;
 use hir_lower_form::builder::BodyBuilder;
 use hir_lower_form::parts::{LowerParts, Lowerer};
 use hir_lower_form::walk::{PathWalk, Reading, path_read};
+use hir_lower_pat::top as patterns;
 use hir_lower_path::path::path_node;
 use hir_lower_scope::labels::{LabelScopes, NoTarget};
 use hir_lower_type::args::args_node;
 use hir_lower_type::places::inside_constant;
 use hir_lower_type::types::type_node;
 use hir_store::fault::StoreFault;
-use hir_store::ids::{BlockId, CfgId, CrateId, ExprId, HygieneId, LabelId, ModuleId, TypeRefId};
+use hir_store::ids::{BlockId, CfgId, CrateId, ExprId, HygieneId, LabelId, ModuleId, PatId, TypeRefId};
 use hir_store::name::Name;
-use hir_store::path::{GenericArgs, Path};
+use hir_store::path::{GenericArgs, ModPath, Path};
 use hir_store::type_ref::ConstRef;
-use hir_syntax::node::{InFile, NodeId, PredId};
+use hir_base::node::{AstPtr, InFile, NodeId, PredId};
 use hir_syntax::{Boxed, Seq, ast};
 use std::alloc::Global;
 
@@ -75,14 +82,17 @@ impl<
         &ast::GenericArgList,
     ) -> Result<Option<GenericArgs>, StoreFault>,
 > LowerParts for Handlers<'e, E, F, B, Q, T, G> {
-    ghost can = { λ it. record {
-      expr = HandlesExpr E.answers (F.pre it.expr) (F.post it.expr) it.env.now it.place;
-      block = HandlesBlock E.answers (B.pre it.block) (B.post it.block) it.env.now it.place;
-      path = HandlesPath E.answers (Q.pre it.path) (Q.post it.path) it.env.now;
-      type_ = HandlesType E.answers (T.pre it.type_ref) (T.post it.type_ref) it.env.now;
-      args = HandlesArgs E.answers (G.pre it.args) (G.post it.args) it.env.now;
-      constant = HandlesConstant E.answers (F.pre it.expr) (F.post it.expr) it.env.now;
-    } };
+    ghost can = { λ it. Handled E.answers (F.pre it.expr) (F.post it.expr) (B.pre it.block) (B.post it.block)
+        (Q.pre it.path) (Q.post it.path) (T.pre it.type_ref) (T.post it.type_ref) (G.pre it.args) (G.post it.args) it.env.now it.place };
+
+    ghost pat_kids = { λ it. pat_kids_of E.answers (F.pre it.expr) (F.post it.expr) (B.pre it.block) (B.post it.block)
+        (Q.pre it.path) (Q.post it.path) (T.pre it.type_ref) (T.post it.type_ref) (G.pre it.args) (G.post it.args) it.env.now it.place };
+
+    ghost target_kids = { λ it. target_kids_of E.answers (F.pre it.expr) (F.post it.expr) (B.pre it.block) (B.post it.block)
+        (Q.pre it.path) (Q.post it.path) (T.pre it.type_ref) (T.post it.type_ref) (G.pre it.args) (G.post it.args) it.env.now it.place };
+
+    ghost target_place = { λ it. target_place_of E.answers (F.pre it.expr) (F.post it.expr) (B.pre it.block) (B.post it.block)
+        (Q.pre it.path) (Q.post it.path) (T.pre it.type_ref) (T.post it.type_ref) (G.pre it.args) (G.post it.args) it.env.now it.place };
 
     ghost spot = { λ it. spot_at (E.answers it.env.now) it.place };
 
@@ -104,6 +114,18 @@ impl<
 
     fn crate_root(&self, name: InFile<NodeId>) -> Option<CrateId> {
         self.env.crate_root(self.env.context(name))
+    }
+
+    fn resolve(&self, path: &ModPath, shadow: Shadow) -> Resolved {
+        self.env.resolve(self.place.module_id, path, shadow)
+    }
+
+    fn lang_items(&self) -> &LangItems {
+        self.env.lang_items()
+    }
+
+    fn new_range(&self) -> bool {
+        self.env.new_range(self.place.module_id)
     }
 
     fn find_label(
@@ -391,4 +413,58 @@ pub fn collect_expr<E: LowerEnv>(
         Some(id) => Ok(id),
         None => state.missing_expr(),
     }
+}
+
+/// A whole pattern, missing where it is absent.
+pub fn top_pat<E: LowerEnv>(
+    alloc: Global,
+    env: &E,
+    place: Place,
+    state: &mut BodyBuilder,
+    part: &Option<Boxed<ast::Pat>>,
+) -> Result<PatId, StoreFault>
+    ensures { LowersTop (pat_part (spot_at (E.answers env.now) place) part.now) state.old result state.new }
+{
+    let lowerer = Lowerer {
+        alloc,
+        parts: Handlers {
+            alloc,
+            env,
+            place,
+            expr: maybe_collect_expr::<E>,
+            block: collect_block_inside::<E>,
+            path: read_path_segments::<E>,
+            type_ref: lower_type_node::<E>,
+            args: lower_arg_list::<E>,
+        },
+    };
+    patterns::top_pat(&lowerer, state, part)
+}
+
+/// A name that binds, whatever it stands for elsewhere.
+pub fn bare_name<E: LowerEnv>(
+    alloc: Global,
+    env: &E,
+    place: Place,
+    state: &mut BodyBuilder,
+    at: InFile<AstPtr>,
+    name: &Option<ast::Name>,
+) -> Result<PatId, StoreFault>
+    ensures { let use_ = use_with (spot_at (E.answers env.now) place) name.now Unannotated in
+        LowersTop (tree.some_pat (tree.bind_pat at use_ tree.no_pat)) state.old result state.new }
+{
+    let lowerer = Lowerer {
+        alloc,
+        parts: Handlers {
+            alloc,
+            env,
+            place,
+            expr: maybe_collect_expr::<E>,
+            block: collect_block_inside::<E>,
+            path: read_path_segments::<E>,
+            type_ref: lower_type_node::<E>,
+            args: lower_arg_list::<E>,
+        },
+    };
+    patterns::bare_name(&lowerer, state, at, name)
 }

@@ -19,7 +19,7 @@ use hir_store::ids::{ModuleId, TypeRefId};
 use hir_store::source_map::ExpressionStoreSourceMap;
 use hir_store::store::ExpressionStore;
 use hir_syntax::ast;
-use hir_syntax::node::InFile;
+use hir_base::node::InFile;
 use std::alloc::Global;
 
 /// The type, or an error without source where it is absent.

@@ -1,4 +1,4 @@
-use Rattle.std.proofs.Common.{arith, ap, ℕ, suc, sym, ◌∙◌, ◌≡◌, ◌+◌}
+use Rattle.std.proofs.Common.{arith, ap, ℕ, suc, sym, ◌∙◌, ◌≡◌, ◌+◌, ◌<◌}
 use Rattle.hir_syntax.specs.declared.ast.ExprKind.{out-ExprKind}
 use Rattle.hir_syntax.specs.declared.ast.BlockExpr.{out-BlockExpr}
 use Rattle.hir_syntax.specs.declared.ast.Path.{out-Path}
@@ -7,10 +7,11 @@ use Rattle.hir_syntax.specs.declared.types.GenericArgList.{out-GenericArgList}
 use Rattle.hir_env.specs.Answering.{ptr, numbered}
 use Rattle.hir_env.specs.declared.place.Place.{Place}
 use Rattle.hir_env.specs.Count.{count_args, count_block, count_path, count_stmts, count_option_expr, count_type}
-use Rattle.hir_env.specs.Whole.{answered_plain, expr_part, pointer_at, stmts_part}
+use Rattle.hir_env.specs.Paths.{inside_constant}
+use Rattle.hir_env.specs.Whole.{answered_path, answered_plain, expr_part, pointer_at, stmts_part}
 use Rattle.hir_env.proofs.Levels.{expr_is_level, plain_is_level}
 use Rattle.hir_env.proofs.PathLevels.{arg_list_is_level, path_is_level, type_is_level}
-use Rattle.hir_lower.specs.Nests.{HandlesArgs, HandlesBlock, HandlesConstant, HandlesExpr, HandlesPath, HandlesType}
+use Rattle.hir_lower.specs.Nests.{HandlesArgs, HandlesBlock, HandlesConstant, HandlesExpr, HandlesPat, HandlesPath, HandlesType}
 use Rattle.hir_lower.specs.Roots.{spot_at}
 use Rattle.hir_lower.proofs.Kids.{kids_expr, kids_block, expr_below, in_inside}
 use Rattle.hir_lower.proofs.TypeKids.{kids_args, kids_path, kids_type}
@@ -110,6 +111,8 @@ read_path_segments-path_node-requires-clause-parts g t c =
       type_ = HandlesType g.E.LowerEnv.answers _ _ c.args.env.now;
       args = HandlesArgs g.E.LowerEnv.answers _ _ c.args.env.now;
       constant = λ p o. Unit {0};
+      pat = λ p x. Unit {0};
+      target = λ p e. Unit {0};
     }) t
     (record {
       types = λ p x h. record {
@@ -122,6 +125,7 @@ read_path_segments-path_node-requires-clause-parts g t c =
       };
       constants = λ p e h. tt;
       no_constant = λ p. tt;
+      pats = λ p x h. tt;
       lists = λ p x h. record {
         callable = λ alloc v old b same is. (rw same (rw is h), λ a m. m);
         lowers = λ alloc v old new b r same is q. rw (← is) (rw (← same) q.2);
@@ -146,6 +150,8 @@ lower_type_node-type_node-requires g t c =
       type_ = HandlesType g.E.LowerEnv.answers _ _ c.args.env.now;
       args = λ p l. Unit {0};
       constant = HandlesConstant g.E.LowerEnv.answers _ _ c.args.env.now;
+      pat = HandlesPat g.E.LowerEnv.answers _ _ c.args.env.now;
+      target = λ p e. Unit {0};
     }) t
     (record {
       types = λ p x h. record {
@@ -161,6 +167,10 @@ lower_type_node-type_node-requires g t c =
         lowers = λ alloc v old new b r same is q. rw (← is) (rw (← same) q.2);
       };
       no_constant = λ p. tt;
+      pats = λ p x h q less. let m : count_path (answered_path (spot_at env (inside_constant p)) q) < t = omega (arith, h, less) in record {
+        callable = λ alloc v old walk b same is has. (rw same (rw is m), ((λ a m. m), has));
+        reads = λ alloc v old new walk b r same is q. rw (← is) (rw (← same) q.3);
+      };
       lists = λ p x h. tt;
     })
     c.args.place (pointer_at at c.args.node.now.id c.args.node.now.range) (out-TypeKind c.args.node.now.kind) (omega (arith, d, size))
@@ -181,6 +191,8 @@ lower_arg_list-args_node-requires g t c =
       type_ = HandlesType g.E.LowerEnv.answers _ _ c.args.env.now;
       args = HandlesArgs g.E.LowerEnv.answers _ _ c.args.env.now;
       constant = HandlesConstant g.E.LowerEnv.answers _ _ c.args.env.now;
+      pat = λ p x. Unit {0};
+      target = λ p e. Unit {0};
     }) t
     (record {
       types = λ p x h. record {
@@ -196,6 +208,7 @@ lower_arg_list-args_node-requires g t c =
         lowers = λ alloc v old new b r same is q. rw (← is) (rw (← same) q.2);
       };
       no_constant = λ p. tt;
+      pats = λ p x h. tt;
       lists = λ p x h. record {
         callable = λ alloc v old b same is. (rw same (rw is h), λ a m. m);
         lowers = λ alloc v old new b r same is q. rw (← is) (rw (← same) q.2);

@@ -1,0 +1,141 @@
+-- What the parameters of a body become.
+use Rattle.std.specs.Prelude.{Bool, true, false, List, [], ◌∷◌, Option, Some, None}
+use Rattle.hir_syntax.specs.declared.ast.ElseBranch.TheOpen.{PatKind-F}
+use Rattle.hir_syntax.specs.declared.ast.Name.{Name as AstName}
+use Rattle.hir_syntax.specs.declared.params.ParamList.{ParamList as AstParamList}
+use Rattle.hir_syntax.specs.declared.pats.Pat.{Pat as AstPat}
+use Rattle.hir_binding.specs.declared.binding.BindingAnnotation.TheVariants.{Unannotated}
+use Rattle.hir_store.specs.Pointers.{Pointer}
+use Rattle.hir_store.specs.Range.{HasBindingId, HasPatOption, HasPats}
+use Rattle.hir_store.specs.Stored.{Stored}
+use Rattle.hir_store.specs.declared.diagnostics.ExpressionStoreDiagnostics.TheVariants.{InactiveCode, PatternArgInExternFn}
+use Rattle.hir_store.specs.declared.ids.BindingId.{BindingId}
+use Rattle.hir_store.specs.declared.ids.DefWithBodyId.{DefWithBodyId}
+use Rattle.hir_store.specs.declared.ids.DefWithBodyId.TheVariants as owner
+use Rattle.hir_store.specs.declared.ids.PatId.{PatId}
+use Rattle.hir_store.specs.declared.diagnostics.AwaitLocation.TheVariants as location
+use Rattle.hir_env.specs.PatLayers.{PatKindLayer}
+use Rattle.hir_env.specs.Spot.{Spot}
+use Rattle.hir_env.specs.Whole.{answered_pat, pointer_at, written}
+use Rattle.hir_env.specs.Formals.{answered_formals, are_bare}
+use Rattle.hir_env.specs.Answered as tree
+use Rattle.hir_env.specs.Answered.{Formal, Formals, SelfFormal}
+use Rattle.hir_lower_form.specs.Builder.{Builder}
+use Rattle.hir_lower_form.specs.Forms.{push_some, some}
+use Rattle.hir_lower_form.specs.Lower.{lower_top}
+use Rattle.hir_lower_form.specs.Lowering.{Checked, Lowering, Lowers, ◌>>=◌, ◌>>◌, pure, alloc_binding, report}
+use Rattle.hir_lower_form.specs.Pats.{missing_pat, new_binding}
+use Rattle.hir_lower_pat.specs.Methods.{use_with}
+
+-- the binding of `self`, and the patterns of the others that are kept
+abbrev pub Given : Type 0
+Given = Option BindingId × List PatId
+
+abbrev pub HasSelf : Stored → Option BindingId → Type 0
+HasSelf s None = Unit {0}
+HasSelf s (Some b) = HasBindingId s b
+
+abbrev pub HasGiven : Stored → Given → Type 0
+HasGiven s g = HasSelf s g.0 × HasPats s g.1
+
+unfoldable pub lower_self : SelfFormal → Lowering (Option BindingId)
+lower_self tree.no_self = pure None
+lower_self (tree.disabled_self at by) = do
+  report (InactiveCode at by)
+  pure None
+lower_self (tree.self_formal at u) = some (alloc_binding (new_binding u))
+
+-- none where a condition disables it
+unfoldable pub lower_formal : Formal → Lowering (Option PatId)
+lower_formal (tree.disabled_formal at by) = do
+  report (InactiveCode at by)
+  pure None
+lower_formal (tree.formal p) = some (lower_top p)
+lower_formal (tree.fault_formal at) = do
+  report (PatternArgInExternFn at)
+  some missing_pat
+
+-- of a skipped body nothing of a parameter is read
+unfoldable pub skip_formal : Formal → Lowering (Option PatId)
+skip_formal (tree.disabled_formal at by) = do
+  report (InactiveCode at by)
+  pure None
+skip_formal _ = some missing_pat
+
+abbrev pub formal_by : Bool → Formal → Lowering (Option PatId)
+formal_by true f = skip_formal f
+formal_by false f = lower_formal f
+
+unfoldable pub each_formal : Bool → List PatId → List Formal → Lowering (List PatId)
+each_formal skipped done [] = pure done
+each_formal skipped done (f ∷ fs) = do
+  x ← formal_by skipped f
+  each_formal skipped (push_some done x) fs
+
+-- `self` first, then the others in order; whether the body is skipped
+unfoldable pub lower_formals : Bool → Formals → Lowering Given
+lower_formals skipped f = do
+  s ← lower_self f.receiver
+  ps ← each_formal skipped [] f.formals
+  pure (s, ps)
+
+abbrev pub LowersFormal : Formal → Builder → Checked (Option PatId) → Builder → Type 0
+LowersFormal f old result new = Lowers HasPatOption (lower_formal f) old result new
+
+-- the node of `self`, where that is kept
+abbrev pub self_source : SelfFormal → Option Pointer
+self_source (tree.self_formal at u) = Some at
+self_source _ = None
+
+-- ---- which are read
+
+abbrev pub no_formals : Formals
+no_formals = record { receiver = tree.no_self; formals = [] }
+
+-- those of a function, and of each item whose body is skipped
+abbrev pub are_read : Bool → DefWithBodyId → Bool
+are_read true item = true
+are_read false (owner.FunctionId _) = true
+are_read false _ = false
+
+abbrev pub formals_if : Bool → Formals → Formals
+formals_if true f = f
+formals_if false f = no_formals
+
+-- An `await` in a parameter stands outside of the body.
+abbrev pub outside_the_body : Spot → Spot
+outside_the_body at = record at { place = record at.place { await_location = Some location.Unknown } }
+
+abbrev pub item_formals : Spot → DefWithBodyId → Option AstParamList → Bool → Formals
+item_formals at item ps has_body =
+    let bare = are_bare (at.answers.container item) has_body in
+    formals_if (are_read (at.answers.skip item) item) (answered_formals (outside_the_body at) bare ps)
+
+-- ---- where only a plain name or `_` may stand
+
+-- What a written pattern is there: what it is elsewhere, a name that binds, or a fault.
+pub data Bare : Type 0 where
+  as_elsewhere : Bare
+  plain_name : Option AstName → Bare
+  faulty : Bare
+
+-- without `ref`, `mut` and `@`
+abbrev pub is_bare_ident : Bool → Bool → Option AstPat → Bool
+is_bare_ident false false None = true
+is_bare_ident _ _ _ = false
+
+abbrev pub name_if : Bool → Option AstName → Bare
+name_if true n = plain_name n
+name_if false n = faulty
+
+abbrev pub bare_kind : PatKindLayer written → Bare
+bare_kind (PatKind-F.IdentPat n is_ref is_mut p) = name_if (is_bare_ident is_ref is_mut p) n
+bare_kind PatKind-F.WildcardPat = as_elsewhere
+bare_kind _ = faulty
+
+abbrev pub formal_as : Spot → AstPat → Bare → Formal
+formal_as at p as_elsewhere = tree.formal (tree.some_pat (answered_pat at p))
+formal_as at p (plain_name n) =
+    let use_ = use_with at n Unannotated in
+    tree.formal (tree.some_pat (tree.bind_pat (pointer_at at p.id p.range) use_ tree.no_pat))
+formal_as at p faulty = tree.fault_formal (pointer_at at p.id p.range)
