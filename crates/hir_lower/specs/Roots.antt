@@ -51,10 +51,10 @@ behind formals e = do
   close_labels
   enter_root
   given ← formals
-  id ← lower_part e
-  record_root id
+  root ← lower_part e
+  record_root root
   outside_root
-  pure (given, id)
+  pure (given, root)
 
 abbrev pub HasBehind : Stored → Given × ExprId → Type 0
 HasBehind s r = HasGiven s r.0 × HasExpr s r.1

@@ -19,7 +19,7 @@ use Rattle.hir_syntax.specs.declared.ast.UnaryOp.{UnaryOp}
 use Rattle.hir_syntax.specs.declared.branches.MatchArm.{MatchArm as AstMatchArm}
 use Rattle.hir_syntax.specs.declared.pats.Pat.{Pat as AstPat}
 use Rattle.hir_syntax.specs.declared.pats.RangeOp.{RangeOp}
-use Rattle.hir_syntax.specs.declared.node.PredId.{PredId}
+use Rattle.hir_base.specs.declared.node.PredId.{PredId}
 use Rattle.hir_env.specs.Layers.{ExprKindLayer}
 use Rattle.hir_env.specs.Whole.{written}
 use Rattle.hir_lower_form.specs.Families.{IsControl, IsMatching, IsListing, IsAccess, IsOperator, IsLeaving, IsTyped, IsLeaf}

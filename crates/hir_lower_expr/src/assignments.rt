@@ -14,7 +14,7 @@ use hir_lower_pat::targets::lower_target;
 use hir_store::fault::StoreFault;
 use hir_store::hir::Expr;
 use hir_store::ids::ExprId;
-use hir_syntax::node::{AstPtr, InFile};
+use hir_base::node::{AstPtr, InFile};
 use hir_syntax::{Boxed, ast};
 
 /// The target before the value, which is read first where it runs.

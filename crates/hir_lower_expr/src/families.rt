@@ -27,7 +27,7 @@ use hir_lower_form::parts::{LowerParts, Lowerer};
 use hir_store::fault::StoreFault;
 use hir_store::ids::ExprId;
 use hir_syntax::ast;
-use hir_syntax::node::{AstPtr, InFile};
+use hir_base::node::{AstPtr, InFile};
 
 /// Blocks, branches, loops and jumps.
 #[tactic(auto, using(crate::proofs::OfFamily::only_control))]

@@ -11,7 +11,7 @@ use hir_store::fault::StoreFault;
 use hir_store::hir::Expr;
 use hir_store::ids::ExprId;
 use hir_syntax::ast;
-use hir_syntax::node::{AstPtr, InFile, PredId};
+use hir_base::node::{AstPtr, InFile, PredId};
 
 pub(crate) fn literal_form<P: LowerParts>(
     lowerer: &Lowerer<P>,

@@ -14,7 +14,7 @@ use hir_store::diagnostics::ExpressionStoreDiagnostics;
 use hir_store::fault::StoreFault;
 use hir_store::hir::{Expr, Statement};
 use hir_store::ids::ExprId;
-use hir_syntax::node::{AstPtr, InFile};
+use hir_base::node::{AstPtr, InFile};
 use hir_syntax::{Boxed, ast};
 
 /// The pattern before the expression.

@@ -20,7 +20,7 @@ use hir_store::fault::StoreFault;
 use hir_store::hir::{Expr, MatchArm};
 use hir_store::ids::ExprId;
 use hir_store::lists::push_arm;
-use hir_syntax::node::{AstPtr, InFile};
+use hir_base::node::{AstPtr, InFile};
 use hir_syntax::{Boxed, Seq, ast};
 
 /// The condition of a guard, missing where the guard has none.

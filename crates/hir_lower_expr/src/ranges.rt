@@ -23,7 +23,7 @@ use hir_store::lists::{push_field, push_id};
 use hir_store::name::Name;
 use hir_store::path::Path;
 use hir_syntax::ast::RangeOp;
-use hir_syntax::node::{AstPtr, InFile};
+use hir_base::node::{AstPtr, InFile};
 use hir_syntax::{Boxed, Seq, Text, ast};
 use std::alloc::{AllocError, Global};
 

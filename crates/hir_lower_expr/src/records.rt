@@ -22,7 +22,7 @@ use hir_store::hir::{Expr, RecordLitField, RecordSpread};
 use hir_store::ids::ExprId;
 use hir_store::lists::push_field;
 use hir_store::name::Name;
-use hir_syntax::node::{AstPtr, InFile};
+use hir_base::node::{AstPtr, InFile};
 use hir_syntax::{Boxed, Seq, ast};
 
 /// A field with a name, whose value leads to it.

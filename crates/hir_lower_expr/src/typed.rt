@@ -15,7 +15,7 @@ use hir_store::fault::StoreFault;
 use hir_store::hir::Expr;
 use hir_store::ids::ExprId;
 use hir_store::name::Name;
-use hir_syntax::node::{AstPtr, InFile};
+use hir_base::node::{AstPtr, InFile};
 use hir_syntax::{Boxed, Seq, ast};
 use std::alloc::{AllocError, Global};
 

@@ -1,6 +1,6 @@
 -- What comes of targets: what their answered trees say of their kinds.
 use Rattle.std.proofs.Common.{◌≡◌, ◌∙◌, absurd, ap, refl, subst, sym, Bool, true, false, List, [], Option, Some, None, Result, Ok, Err}
-use Rattle.std.proofs.Common.{◌∷◌, ◌++◌}
+use Rattle.std.proofs.Common.{◌∷◌, ◌++◌, arith, ◌≤◌}
 use Rattle.std.specs.Prelude.{if◌then◌else◌, is_some, option_map}
 use Rattle.hir_syntax.specs.declared.ast.BinaryOp.TheVariants as op
 use Rattle.hir_syntax.specs.declared.ast.ElseBranch.TheOpen.{ExprKind-F}
@@ -20,6 +20,7 @@ use Rattle.hir_env.specs.Spot.{Spot, site_of}
 use Rattle.hir_env.specs.Answered as tree
 use Rattle.hir_env.specs.Answered.{Expr, Exprs, OptionExpr, OptionPath, Path, Target, Targets}
 use Rattle.hir_env.specs.Answering.{asked, expr_at}
+use Rattle.hir_env.specs.Count.{count_expr}
 use Rattle.hir_env.specs.Layers.{ExprKindLayer}
 use Rattle.hir_env.specs.PathNames.{mod_path_of}
 use Rattle.hir_env.specs.Targets.{before_dots, behind_dots, call_or, callee_path, called, dots_pointer, elements, is_dots, names_target}
@@ -522,3 +523,13 @@ module _ (spot : Spot) (at : Pointer) (h : HygieneId) where
           ≡ go_on (lower_path (tree.some_path p) b).0 (lower_path (tree.some_path p) b).1 (path_aim spot at h)
       by true e = pat_goes _ _ ∙ all_go (tree.some_path p) true b e
       by false e = placed_goes _ _ ∙ all_go (tree.some_path p) false b e
+
+-- the level of an answered expression is no larger than the expression
+pub kept_below : (at : Spot) (e : AstExpr) → count_expr (kept_expr at e) ≤ count_expr (answered at e)
+kept_below at e = below (at.answers.cfg (site_of (pointer_at at e.id e.range))) (ap count_expr (expr_is_level at e))
+  where
+    below : (r : Result (Unit {0}) CfgId)
+        → count_expr (answered at e) ≡ count_expr (asked (pointer_at at e.id e.range) r (kept_expr at e))
+        → count_expr (kept_expr at e) ≤ count_expr (answered at e)
+    below (Ok _) h = omega (arith, h)
+    below (Err by) h = omega (arith, h)

@@ -4,3 +4,4 @@ pub mod Kids
 pub mod PathNames
 pub mod AimLemmas
 pub mod TypePats
+pub mod TargetKids

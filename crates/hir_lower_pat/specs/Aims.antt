@@ -132,23 +132,23 @@ array_rest is_found before (Some at) behind es = do
 
 -- ---- what may be handed in
 
+-- a callee has a path at most
+abbrev pub KidsOfCallee : (AstPath → Type 0) → ExprKindLayer written → Type 0
+KidsOfCallee path (ExprKind-F.PathExpr x) = IfPresent path x
+KidsOfCallee path _ = Unit {0}
+
+abbrev pub KidsOfFields : (AstExpr → Type 0) → List AstField → Type 0
+KidsOfFields target fs = Each (λ f. IfPresent target (out-RecordExprField f).expr) fs
+
 -- of the parts of what is assigned to, of what is claimed of targets and of paths
 module _ (target : AstExpr → Type 0) (path : AstPath → Type 0) where
-  -- a callee has a path at most
-  abbrev pub KidsOfCallee : ExprKindLayer written → Type 0
-  KidsOfCallee (ExprKind-F.PathExpr x) = IfPresent path x
-  KidsOfCallee _ = Unit {0}
-
-  abbrev pub KidsOfFields : List AstField → Type 0
-  KidsOfFields fs = Each (λ f. IfPresent target (out-RecordExprField f).expr) fs
-
   abbrev pub KidsOfTarget : ExprKindLayer written → Type 0
   KidsOfTarget (ExprKind-F.ParenExpr e) = IfPresent target e
   KidsOfTarget (ExprKind-F.TupleExpr comma es) = Each target es
   KidsOfTarget (ExprKind-F.ArrayExpr es) = Each target es
-  KidsOfTarget (ExprKind-F.CallExpr f es) = IfPresent (λ x. KidsOfCallee (out-ExprKind x.kind)) f × IfPresent (Each target) es
+  KidsOfTarget (ExprKind-F.CallExpr f es) = IfPresent (λ x. KidsOfCallee path (out-ExprKind x.kind)) f × IfPresent (Each target) es
   KidsOfTarget (ExprKind-F.PathExpr x) = IfPresent path x
-  KidsOfTarget (ExprKind-F.RecordExpr x l) = IfPresent path x × IfPresent (λ r. KidsOfFields (out-RecordExprFieldList r).fields) l
+  KidsOfTarget (ExprKind-F.RecordExpr x l) = IfPresent path x × IfPresent (λ r. KidsOfFields target (out-RecordExprFieldList r).fields) l
   KidsOfTarget _ = Unit {0}
 
 -- the path of a callee that is a path as it stands

@@ -109,7 +109,7 @@ fn side_form<P: LowerParts>(
     place: Place,
     node: &ast::Pat,
 ) -> Result<ExprId, StoreFault>
-    requires { KidsSide ((P.can lowerer.now.parts).pat place) ((P.can lowerer.now.parts).path place) (out-PatKind node.now.kind) }
+    requires { KidsSide ((P.can lowerer.now.parts).path place) (out-PatKind node.now.kind) }
     ensures { let here = at_place (P.spot lowerer.now.parts) place in
         Lowers HasExpr (steps.limit_side (side_of (tree.some_pat (pat_level here node.now)))) state.old result state.new }
 {
@@ -136,7 +136,7 @@ fn side<P: LowerParts>(
     place: Place,
     node: &ast::Pat,
 ) -> Result<ExprId, StoreFault>
-    requires { KidsSide ((P.can lowerer.now.parts).pat place) ((P.can lowerer.now.parts).path place) (out-PatKind node.now.kind) }
+    requires { KidsSide ((P.can lowerer.now.parts).path place) (out-PatKind node.now.kind) }
     ensures { let here = at_place (P.spot lowerer.now.parts) place in
         Lowers HasExpr (steps.limit_side (side_of (tree.some_pat (answered_pat here node.now)))) state.old result state.new }
 {
@@ -161,7 +161,7 @@ fn side_limit<P: LowerParts>(
     place: Place,
     node: &ast::Pat,
 ) -> Result<ExprId, StoreFault>
-    requires { KidsSide ((P.can lowerer.now.parts).pat place) ((P.can lowerer.now.parts).path place) (out-PatKind node.now.kind) }
+    requires { KidsSide ((P.can lowerer.now.parts).path place) (out-PatKind node.now.kind) }
     ensures { let here = at_place (P.spot lowerer.now.parts) place in
         LowersLimit (tree.side_limit (side_of (tree.some_pat (answered_pat here node.now)))) state.old result state.new }
 {
@@ -187,7 +187,7 @@ fn before<P: LowerParts>(
     item: Option<LangItemId>,
     node: &ast::Pat,
 ) -> Result<ExprId, StoreFault>
-    requires { KidsSide ((P.can lowerer.now.parts).pat place) ((P.can lowerer.now.parts).path place) (out-PatKind node.now.kind) }
+    requires { KidsSide ((P.can lowerer.now.parts).path place) (out-PatKind node.now.kind) }
     ensures { let here = at_place (P.spot lowerer.now.parts) place in
         let read = steps.limit_side (side_of (tree.some_pat (answered_pat here node.now))) in
         Lowers HasExpr (spec.before_form item read) state.old result state.new }
@@ -207,7 +207,7 @@ fn before_limit<P: LowerParts>(
     item: Option<LangItemId>,
     node: &ast::Pat,
 ) -> Result<ExprId, StoreFault>
-    requires { KidsSide ((P.can lowerer.now.parts).pat place) ((P.can lowerer.now.parts).path place) (out-PatKind node.now.kind) }
+    requires { KidsSide ((P.can lowerer.now.parts).path place) (out-PatKind node.now.kind) }
     ensures { let here = at_place (P.spot lowerer.now.parts) place in
         LowersLimit (tree.before_limit item (side_of (tree.some_pat (answered_pat here node.now)))) state.old result state.new }
 {
@@ -224,7 +224,7 @@ pub(crate) fn start_limit<P: LowerParts>(
     place: Place,
     part: &Option<Boxed<ast::Pat>>,
 ) -> Result<ExprId, StoreFault>
-    requires { KidsSidePart ((P.can lowerer.now.parts).pat place) ((P.can lowerer.now.parts).path place) part.now }
+    requires { KidsSidePart ((P.can lowerer.now.parts).path place) part.now }
     ensures { let here = at_place (P.spot lowerer.now.parts) place in
         LowersLimit (of.start_limit here.answers.lang_items (side_of (pat_part here part.now))) state.old result state.new }
 {
@@ -243,7 +243,7 @@ fn written_end<P: LowerParts>(
     op: Option<RangeOp>,
     node: &ast::Pat,
 ) -> Result<ExprId, StoreFault>
-    requires { KidsSide ((P.can lowerer.now.parts).pat place) ((P.can lowerer.now.parts).path place) (out-PatKind node.now.kind) }
+    requires { KidsSide ((P.can lowerer.now.parts).path place) (out-PatKind node.now.kind) }
     ensures { let here = at_place (P.spot lowerer.now.parts) place in
         let side = side_of (tree.some_pat (answered_pat here node.now)) in
         LowersLimit (of.end_limit here.answers.lang_items op side) state.old result state.new }
@@ -265,7 +265,7 @@ pub(crate) fn end_limit<P: LowerParts>(
     op: Option<RangeOp>,
     part: &Option<Boxed<ast::Pat>>,
 ) -> Result<ExprId, StoreFault>
-    requires { KidsSidePart ((P.can lowerer.now.parts).pat place) ((P.can lowerer.now.parts).path place) part.now }
+    requires { KidsSidePart ((P.can lowerer.now.parts).path place) part.now }
     ensures { let here = at_place (P.spot lowerer.now.parts) place in
         LowersLimit (of.end_limit here.answers.lang_items op (side_of (pat_part here part.now))) state.old result state.new }
 {

@@ -36,8 +36,8 @@ fn range_form<P: LowerParts>(
     start: &Option<Boxed<ast::Pat>>,
     end: &Option<Boxed<ast::Pat>>,
 ) -> Result<PatId, StoreFault>
-    requires start { KidsSidePart ((P.can lowerer.now.parts).pat place) ((P.can lowerer.now.parts).path place) start.now }
-    requires end { KidsSidePart ((P.can lowerer.now.parts).pat place) ((P.can lowerer.now.parts).path place) end.now }
+    requires start { KidsSidePart ((P.can lowerer.now.parts).path place) start.now }
+    requires end { KidsSidePart ((P.can lowerer.now.parts).path place) end.now }
     ensures { let here = at_place (P.spot lowerer.now.parts) place in
         let items = here.answers.lang_items in
         let low = of.start_limit items (side_of (pat_part here start.now)) in
