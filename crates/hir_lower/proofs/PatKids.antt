@@ -23,7 +23,7 @@ use Rattle.hir_env.specs.Count.{count_option_pat, count_pat, count_pat_field, co
 use Rattle.hir_env.specs.Layers.{ExprKindLayer}
 use Rattle.hir_env.specs.PatLayers.{PatKindLayer}
 use Rattle.hir_env.specs.Pats.{asked_pat_field, name_or_bind, pat_at, pat_field_of, side_of, use_at}
-use Rattle.hir_env.specs.Spot.{Spot, site_of}
+use Rattle.hir_env.specs.Spot.{site_of}
 use Rattle.hir_env.specs.TypePats.{is_plain}
 use Rattle.hir_env.specs.Whole.{answered, answered_field, answered_pat, answered_pat_field, answered_path, expr_part, exprs_part}
 use Rattle.hir_env.specs.Whole.{fields_part, pat_fields_part, pat_part, path_part, pats_part, pointer_at, reader}

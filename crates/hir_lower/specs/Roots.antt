@@ -32,6 +32,7 @@ use Rattle.hir_env.specs.Answered.{Formals, OptionExpr}
 use Rattle.hir_lower_form.specs.Lowering.{Lowering, SomeEnd, ◌>>=◌, ◌>>◌, pure, close_labels, report, record_root, enter_root, outside_root}
 use Rattle.hir_lower_form.specs.Lower.{ExprSteps, lower_part}
 use Rattle.hir_lower.specs.declared.body.Body.{Body}
+use Rattle.hir_lower.specs.declared.body.Param.{Param}
 use Rattle.hir_lower.specs.Formals.{Given, HasGiven, item_formals, lower_formals}
 use Rattle.hir_lower.specs.Means.{required_body, body_fault}
 
@@ -78,15 +79,18 @@ pub record StoresFromNothing {A : Type 0} (p : Lowering A) (limit : ℕ) (store 
   pub store_is : store ≡ store_of builder.stored
   pub source_map_is : source_map ≡ map_of builder.stored
 
--- what the steps answer of the parameters, from nothing
-pub record GivenFromNothing (p : Lowering (Given × ExprId)) (limit : ℕ) (given : Given) : Type 0 where
+-- a parameter that is handed in as it is written
+abbrev pub as_written : {A : Type 0} → A → Param A
+as_written x = record { formal = x; user_written = x }
+
+-- the parameters of the body are what the steps answer, from nothing
+pub record GivenFromNothing (p : Lowering (Given × ExprId)) (limit : ℕ) (b : Body) : Type 0 where
+  pub given : Given
   pub root : ExprId
   pub builder : Builder
   pub done : p (fresh limit) ≡ (Ok (given, root), builder)
-
--- the parameters that a body has
-abbrev pub given_of : Body → Given
-given_of b = (option_map (λ p. p.formal) b.self_param, map (λ p. p.formal) b.params)
+  pub receiver : b.self_param ≡ option_map as_written given.0
+  pub params : b.params ≡ map as_written given.1
 
 -- the steps find no room in an arena of this limit, or no number more in a counter
 pub record RefusedAtEnd {A : Type 0} (p : Lowering A) (limit : ℕ) : Type 0 where

@@ -1,19 +1,20 @@
 //! Bodies of items.
 
 ghost use Rattle.std.specs.Prelude.{◌≡◌, ◌≢◌, Bool, false, is_some, map, IfOk, IsErrOf, option_copied, option_map};
-ghost use Rattle.hir_store.specs.Range.{InRange};
+ghost use Rattle.hir_store.specs.Range.{HasNone, InRange};
 ghost use Rattle.hir_store.specs.Storing.{empty};
 ghost use Rattle.hir_env.specs.Answers.{Answers};
 ghost use Rattle.hir_env.specs.Formals.{answered_formals};
 ghost use Rattle.hir_env.specs.Spot.{Spot};
 ghost use Rattle.hir_env.specs.Whole.{expr_part};
-ghost use Rattle.hir_lower_form.specs.Lowering.{HasNone, Lowers};
+ghost use Rattle.hir_lower_form.specs.Lowering.{Lowers};
 ghost use Rattle.hir_one_result.specs.OneResult.{OneResult};
 ghost use Rattle.hir_one_result.specs.Room.{TooLarge};
 ghost use Rattle.hir_lower.specs.Formals.{are_read, item_formals, lower_formals, outside_the_body, self_source};
 ghost use Rattle.hir_lower.specs.Means.{HasBody, body_fault, body_owes, body_read, required_body};
 ghost use Rattle.hir_lower.specs.Roots.{GivenFromNothing, HasBehind, RefusedAtEnd, StoresFromNothing, await_location, behind, body_spot};
-ghost use Rattle.hir_lower.specs.Roots.{given_of, item_of, report_missing, spot_at};
+ghost use Rattle.hir_lower.specs.Roots.{item_of, report_missing, spot_at};
+ghost use Rattle.hir_lower.specs.Roots.{as_written as written};
 
 use crate::collector::collect_expr_opt;
 use crate::error::LowerError;
@@ -220,7 +221,7 @@ fn item_self<E: LowerEnv>(
 
 /// The same as written and as handed in.
 fn as_written(mut left: &[PatId], alloc: Global) -> Result<Seq<Param<PatId>>, AllocError>
-    ensures { IfOk result (λ ps. map (λ p. p.formal) ps ≡ left.entry.now) }
+    ensures { IfOk result (λ ps. ps ≡ map written left.entry.now) }
 {
     let mut params = Seq::new(alloc);
     while let [one, rest @ ..] = left {
@@ -234,7 +235,7 @@ fn as_written(mut left: &[PatId], alloc: Global) -> Result<Seq<Param<PatId>>, Al
 }
 
 fn self_as_written(receiver: Option<BindingId>) -> Option<Param<BindingId>>
-    ensures { option_map (λ p. p.formal) result ≡ receiver }
+    ensures { result ≡ option_map written receiver }
 {
     match receiver {
         None => None,
@@ -261,7 +262,7 @@ fn body_steps<E: LowerEnv>(
         IfOk result (λ r. StoresFromNothing item 4294967295 r.0.store r.1.store) }
     ensures given { let at = body_spot (E.answers db.now) owner current_file_id inside in
         let item = item_of at owner syntax_node (option_copied params.entry) (option_copied body.entry) in
-        IfOk result (λ r. GivenFromNothing item 4294967295 (given_of r.0)) }
+        IfOk result (λ r. GivenFromNothing item 4294967295 r.0) }
     ensures self_source { let at = body_spot (E.answers db.now) owner current_file_id inside in
         let formals = item_formals at owner (option_copied params.entry) (is_some (option_copied body.entry)) in
         IfOk result (λ r. r.1.self_param ≡ self_source formals.receiver) }

@@ -18,7 +18,7 @@ use Rattle.hir_store.specs.declared.pat.Pat.TheVariants as pat
 use Rattle.hir_store.specs.declared.path.Path.{Path as HirPath}
 use Rattle.hir_env.specs.Spot.{Spot, site_of}
 use Rattle.hir_env.specs.Answered as tree
-use Rattle.hir_env.specs.Answered.{Expr, Exprs, OptionExpr, OptionPath, Path, Target, Targets}
+use Rattle.hir_env.specs.Answered.{Expr, Exprs, OptionPath, Path, Target, Targets}
 use Rattle.hir_env.specs.Answering.{asked, expr_at}
 use Rattle.hir_env.specs.Count.{count_expr}
 use Rattle.hir_env.specs.Layers.{ExprKindLayer}

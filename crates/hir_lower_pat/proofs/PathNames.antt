@@ -14,7 +14,7 @@ use Rattle.hir_store.specs.declared.path.GenericArgs.{GenericArgs}
 use Rattle.hir_store.specs.declared.path.Path.{Path as HirPath}
 use Rattle.hir_store.specs.declared.path.Path.TheVariants.{BarePath, Normal, LangItem}
 use Rattle.hir_env.specs.Answered as tree
-use Rattle.hir_env.specs.Answered.{Path, OptionPath, Segments, Segment, Type_, SegmentArgs}
+use Rattle.hir_env.specs.Answered.{Path, OptionPath, Segments, Segment}
 use Rattle.hir_env.specs.PathNames as names
 use Rattle.hir_env.specs.PathNames.{mod_path_of, nothing_read, piece, read_piece, read_outward, read_rest, read_use, counted, supers_in}
 use Rattle.hir_env.specs.PathNames.{with_piece, own_self, refuses, behind_trait, no_names}
@@ -24,7 +24,7 @@ use Rattle.hir_lower_form.specs.Paths as forms
 use Rattle.hir_lower_form.specs.Paths.{proceed, whole, with_trait, read_trait}
 use Rattle.hir_lower_form.specs.Lower.{read_segment, read_each, read_path, read_option, lower_path, lower_type, lower_segment_args}
 use Rattle.hir_lower_form.specs.Walks as walks
-use Rattle.hir_lower_form.specs.Walks.{start, at_first, self_read, super_read, projected, mod_path, one_more_super, missing_name}
+use Rattle.hir_lower_form.specs.Walks.{start, at_first, self_read, super_read, projected, mod_path, missing_name}
 use Rattle.hir_lower_pat.specs.Aims.{names_in, names_read}
 use Rattle.hir_lower_form.specs.declared.walk.PathWalk.{PathWalk}
 use Rattle.hir_lower_form.specs.declared.walk.Reading.{Reading}

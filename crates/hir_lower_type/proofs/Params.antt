@@ -24,7 +24,7 @@ use Rattle.hir_env.proofs.PatLevels.{pat_is_level}
 use Rattle.hir_lower_form.specs.Builder.{Builder}
 use Rattle.hir_lower_form.specs.Lowering.{Checked, go_on, pure}
 use Rattle.hir_lower_form.specs.Lower.{lower_parts, push_some, some, type_part}
-use Rattle.hir_lower_type.specs.Params.{lower_param, name_of_kind, name_of_pat, name_written, names_written, variadic_last}
+use Rattle.hir_lower_type.specs.Params.{lower_param, name_of_kind, name_of_pat, names_written, variadic_last}
 
 -- no answer decides whether the last is variadic
 pub variadic_is : (env : Answers) (p : Place) (b : Bool) (xs : List AstParam) → last_variadic (read_param env) b xs p ≡ variadic_last b xs
