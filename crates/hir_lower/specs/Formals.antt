@@ -38,41 +38,32 @@ HasSelf s (Some b) = HasBindingId s b
 abbrev pub HasGiven : Stored → Given → Type 0
 HasGiven s g = HasSelf s g.0 × HasPats s g.1
 
-unfoldable pub lower_self : SelfFormal → Lowering (Option BindingId)
+abbrev pub lower_self : SelfFormal → Lowering (Option BindingId)
 lower_self tree.no_self = pure None
 lower_self (tree.disabled_self at by) = do
   report (InactiveCode at by)
   pure None
 lower_self (tree.self_formal at u) = some (alloc_binding (new_binding u))
 
--- none where a condition disables it
-unfoldable pub lower_formal : Formal → Lowering (Option PatId)
-lower_formal (tree.disabled_formal at by) = do
+-- none where a condition disables it; whether the body is skipped, and so nothing of the parameter is read
+abbrev pub lower_formal : Bool → Formal → Lowering (Option PatId)
+lower_formal skipped (tree.disabled_formal at by) = do
   report (InactiveCode at by)
   pure None
-lower_formal (tree.formal p) = some (lower_top p)
-lower_formal (tree.fault_formal at) = do
+lower_formal true (tree.formal p) = some missing_pat
+lower_formal true (tree.fault_formal at) = some missing_pat
+lower_formal false (tree.formal p) = some (lower_top p)
+lower_formal false (tree.fault_formal at) = do
   report (PatternArgInExternFn at)
   some missing_pat
 
--- of a skipped body nothing of a parameter is read
-unfoldable pub skip_formal : Formal → Lowering (Option PatId)
-skip_formal (tree.disabled_formal at by) = do
-  report (InactiveCode at by)
-  pure None
-skip_formal _ = some missing_pat
-
-abbrev pub formal_by : Bool → Formal → Lowering (Option PatId)
-formal_by true f = skip_formal f
-formal_by false f = lower_formal f
-
-unfoldable pub each_formal : Bool → List PatId → List Formal → Lowering (List PatId)
+abbrev pub each_formal : Bool → List PatId → List Formal → Lowering (List PatId)
 each_formal skipped done [] = pure done
 each_formal skipped done (f ∷ fs) = do
-  x ← formal_by skipped f
+  x ← lower_formal skipped f
   each_formal skipped (push_some done x) fs
 
--- `self` first, then the others in order; whether the body is skipped
+-- `self` first, then the others in order
 unfoldable pub lower_formals : Bool → Formals → Lowering Given
 lower_formals skipped f = do
   s ← lower_self f.receiver
@@ -80,7 +71,7 @@ lower_formals skipped f = do
   pure (s, ps)
 
 abbrev pub LowersFormal : Formal → Builder → Checked (Option PatId) → Builder → Type 0
-LowersFormal f old result new = Lowers HasPatOption (lower_formal f) old result new
+LowersFormal f old result new = Lowers HasPatOption (lower_formal false f) old result new
 
 -- the node of `self`, where that is kept
 abbrev pub self_source : SelfFormal → Option Pointer

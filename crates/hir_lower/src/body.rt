@@ -285,12 +285,12 @@ fn body_steps<E: LowerEnv>(
         alloc, db, place, &mut state, owner, syntax_node, params, body,
     ) {
         Ok(((receiver, pats), _root)) => match as_written(pats.as_slice(), alloc) {
-            Ok(written) => {
+            Ok(kept) => {
                 let (store, source_map) = state.into_store().finish();
                 Ok((
                     Body {
                         store,
-                        params: written,
+                        params: kept,
                         self_param: self_as_written(receiver),
                     },
                     BodySourceMap {

@@ -12,8 +12,8 @@ ghost use Rattle.hir_env.specs.TypePats.{bare_formal};
 ghost use Rattle.hir_env.specs.Whole.{pat_part};
 ghost use Rattle.hir_lower_form.specs.Lowering.{Lowers, alloc_binding};
 ghost use Rattle.hir_lower_form.specs.Pats.{new_binding};
-ghost use Rattle.hir_lower.specs.Formals.{HasGiven, HasSelf, LowersFormal, bare_kind, each_formal, formal_as, formal_by};
-ghost use Rattle.hir_lower.specs.Formals.{is_bare_ident, lower_formals, lower_self, self_source};
+ghost use Rattle.hir_lower.specs.Formals.{HasGiven, HasSelf, LowersFormal, bare_kind, each_formal, formal_as};
+ghost use Rattle.hir_lower.specs.Formals.{is_bare_ident, lower_formal, lower_formals, lower_self, self_source};
 ghost use Rattle.hir_lower.specs.Roots.{spot_at};
 
 use crate::knot::{bare_name, top_pat};
@@ -92,7 +92,7 @@ fn bare_kind_form<E: LowerEnv>(
 }
 
 /// The pattern of a parameter where only a plain name or `_` may stand.
-#[tactic(auto, using(crate::proofs::Formals::bare_is))]
+#[tactic(auto, using(crate::proofs::BareFormals::bare_is))]
 fn bare_form<E: LowerEnv>(
     alloc: Global,
     env: &E,
@@ -128,6 +128,7 @@ fn kept_form<E: LowerEnv>(
 }
 
 /// A parameter, none where a condition disables it. Of a skipped body its pattern isn't read.
+#[tactic(auto, using(crate::proofs::BareFormals::skip_kept))]
 fn formal<E: LowerEnv>(
     alloc: Global,
     env: &E,
@@ -138,7 +139,7 @@ fn formal<E: LowerEnv>(
     node: &ast::Param,
 ) -> Result<Option<PatId>, StoreFault>
     ensures { let at = spot_at (E.answers env.now) place in
-        Lowers HasPatOption (formal_by skipped (answered_formal at bare node.now)) state.old result state.new }
+        Lowers HasPatOption (lower_formal skipped (answered_formal at bare node.now)) state.old result state.new }
 {
     let at = pointer(place, node.id, node.range);
     match env.cfg(site(at)) {

@@ -6,14 +6,17 @@ use Rattle.hir_syntax.specs.declared.pats.Pat.{Pat as AstPat}
 use Rattle.hir_syntax.specs.declared.pats.PatKind.{out-PatKind}
 use Rattle.hir_store.specs.Pointers.{Pointer}
 use Rattle.hir_env.specs.Answered as tree
-use Rattle.hir_env.specs.Answered.{Formal, Pat, Use}
+use Rattle.hir_env.specs.Answered.{Formal, OptionPat, Pat, PatLeaf, Use}
 use Rattle.hir_env.specs.PatLayers.{PatKindLayer}
 use Rattle.hir_env.specs.Pats.{is_found, name_or_bind, pat_at, use_at}
+use Rattle.hir_env.specs.Formals.{formal_of}
 use Rattle.hir_env.specs.Spot.{Spot}
 use Rattle.hir_env.specs.TypePats.{bare_formal, is_plain, named_formal}
 use Rattle.hir_env.specs.Whole.{answered_pat, pat_level, pointer_at, reader, written}
 use Rattle.hir_env.proofs.PatLevels.{pat_is_level}
-use Rattle.hir_lower.specs.Formals.{Bare, as_elsewhere, bare_kind, faulty, formal_as, plain_name}
+use Rattle.hir_lower_form.specs.Forms.{some}
+use Rattle.hir_lower_form.specs.Pats.{missing_pat}
+use Rattle.hir_lower.specs.Formals.{Bare, as_elsewhere, bare_kind, faulty, formal_as, lower_formal, plain_name}
 
 plain_binds : (b : Bool) (s : Pointer) (u : Use) → is_plain u tree.no_pat ≡ true
     → bare_formal (tree.some_pat (name_or_bind b s u tree.no_pat)) ≡ tree.formal (tree.some_pat (tree.bind_pat s u tree.no_pat))
@@ -80,3 +83,35 @@ bare_is at p =
     as_read at p as_elsewhere = ap (λ q. tree.formal (tree.some_pat q)) (sym (pat_is_level at p))
     as_read at p (plain_name n) = refl
     as_read at p faulty = refl
+
+-- ---- of a skipped body nothing of a parameter is read
+
+skip_named : (b : Bool) (s : Pointer) (u : Use) → lower_formal true (named_formal b s u) ≡ some missing_pat
+skip_named true s u = refl
+skip_named false s u = refl
+
+skip_leaf : (s : Pointer) (l : PatLeaf) → lower_formal true (bare_formal (tree.some_pat (tree.leaf_pat s l))) ≡ some missing_pat
+skip_leaf s tree.wild_leaf = refl
+skip_leaf s tree.rest_leaf = refl
+skip_leaf s tree.not_null_leaf = refl
+skip_leaf s tree.broken_leaf = refl
+
+skip_bare : (p : Pat) → lower_formal true (bare_formal (tree.some_pat p)) ≡ some missing_pat
+skip_bare (tree.leaf_pat s l) = skip_leaf s l
+skip_bare (tree.bind_pat s u q) = skip_named (is_plain u q) s u
+skip_bare (tree.name_pat s u) = refl
+skip_bare (tree.path_pat s x) = refl
+skip_bare (tree.tuple_struct_pat s x comma ps) = refl
+skip_bare (tree.tuple_pat s comma ps) = refl
+skip_bare (tree.record_pat s x fs dots) = refl
+skip_bare (tree.or_pat s ps) = refl
+skip_bare (tree.paren_pat s q) = refl
+skip_bare (tree.slice_pat s ps q qs) = refl
+skip_bare (tree.over_pat s form q) = refl
+skip_bare (tree.literal_pat s from l) = refl
+skip_bare (tree.range_pat s o low high) = refl
+
+pub skip_kept : (bare : Bool) (q : OptionPat) → lower_formal true (formal_of bare q) ≡ some missing_pat
+skip_kept false q = refl
+skip_kept true tree.no_pat = refl
+skip_kept true (tree.some_pat p) = skip_bare p
