@@ -1,7 +1,7 @@
 -- How a fold passes on what stands in one level.
 use Rattle.std.proofs.Common.{false, Option, None, List}
 use Rattle.hir_syntax.specs.declared.ast.ElseBranch.TheFolds as folds
-use Rattle.hir_syntax.specs.formers.seq.Seq as seq
+use Rattle.hir_base.specs.formers.seq.Seq as seq
 use mathlib.Core.Former.{this}
 use Rattle.hir_env.specs.Answers.{Answers}
 use Rattle.hir_env.specs.Layers.{Reader, ElseBranchLayer, ExprKindLayer, StmtKindLayer, BlockExprLayer, ConstArgLayer}

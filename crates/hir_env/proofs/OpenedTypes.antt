@@ -1,6 +1,6 @@
 -- What is read of a type or a path is one step over what is read of its parts.
 use Rattle.std.proofs.Common.{◌≡◌}
-use Rattle.hir_syntax.specs.declared.node.AstPtr.{AstPtr}
+use Rattle.hir_base.specs.declared.node.AstPtr.{AstPtr}
 use Rattle.hir_syntax.specs.declared.types.GenericArg.{GenericArg as AstGenericArg, out-GenericArg}
 use Rattle.hir_syntax.specs.declared.types.TypeKind.{TypeKind as AstTypeKind, out-TypeKind}
 use Rattle.hir_syntax.specs.declared.ast.Path.{Path as AstPath, out-Path}

@@ -1,6 +1,6 @@
 -- An answered pattern is one level of it around its answered parts.
 use Rattle.std.proofs.Common.{◌≡◌, ◌∙◌, refl, Bool, Option, Some, None, List, [], ◌∷◌}
-use Rattle.hir_syntax.specs.declared.node.AstPtr.{AstPtr}
+use Rattle.hir_base.specs.declared.node.AstPtr.{AstPtr}
 use Rattle.hir_syntax.specs.declared.pats.PatKind.{PatKind as AstPatKind, out-PatKind}
 use Rattle.hir_syntax.specs.declared.pats.Pat.{Pat as AstPat}
 use Rattle.hir_syntax.specs.declared.pats.RecordPatField.{RecordPatField as AstRecordPatField, out-RecordPatField}

@@ -1,7 +1,7 @@
 -- An answered type, path, argument or bound is one level of it around its answered parts.
 use Rattle.std.proofs.Common.{◌≡◌, ◌∙◌, refl, Bool, false, Option, Some, None, List, [], ◌∷◌}
 use Rattle.std.specs.Prelude.{option_map, map, if◌then◌else◌}
-use Rattle.hir_syntax.specs.declared.node.AstPtr.{AstPtr}
+use Rattle.hir_base.specs.declared.node.AstPtr.{AstPtr}
 use Rattle.hir_syntax.specs.declared.types.GenericArg.{GenericArg as AstGenericArg, out-GenericArg}
 use Rattle.hir_syntax.specs.declared.types.TypeKind.{TypeKind as AstTypeKind, out-TypeKind}
 use Rattle.hir_syntax.specs.declared.ast.Path.{Path as AstPath, out-Path}

@@ -14,7 +14,7 @@ use hir_store::ids::{
 };
 use hir_store::path::ModPath;
 use hir_syntax::Seq;
-use hir_syntax::node::{InFile, NodeId, PredId};
+use hir_base::node::{InFile, NodeId, PredId};
 use std::alloc::{AllocError, Global};
 use std::marker::Model;
 
