@@ -1,5 +1,5 @@
 -- An answered pattern is one level of it around its answered parts.
-use Rattle.std.proofs.Common.{◌≡◌, ◌∙◌, refl, Bool, Option, Some, None, List, [], ◌∷◌}
+use Rattle.std.proofs.Common.{◌≡◌, ◌∙◌, refl, List, [], ◌∷◌}
 use Rattle.hir_base.specs.declared.node.AstPtr.{AstPtr}
 use Rattle.hir_syntax.specs.declared.pats.PatKind.{PatKind as AstPatKind, out-PatKind}
 use Rattle.hir_syntax.specs.declared.pats.Pat.{Pat as AstPat}
@@ -17,7 +17,7 @@ use Rattle.hir_env.specs.Folds.{written, reader, read_pat_kind, read_pat, read_p
 use Rattle.hir_env.specs.Answered as tree
 use Rattle.hir_env.specs.Answered.{Pat, PatField}
 use Rattle.hir_env.specs.Whole.{answered_pat, answered_pat_field, pat_level, pat_field_level}
-use Rattle.hir_env.proofs.Mapped.{optional, listed, mapped_pat_kind, mapped_pat_field}
+use Rattle.hir_env.proofs.Mapped.{listed, mapped_pat_kind, mapped_pat_field}
 use Rattle.hir_env.proofs.Opened.{opened_pat_kind, opened_pat, opened_pat_field}
 use Rattle.hir_env.proofs.PathLevels.{path_is, pat_is}
 
