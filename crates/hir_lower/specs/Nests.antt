@@ -1,5 +1,5 @@
 -- A function value that lowers a given part.
-use Rattle.std.specs.Prelude.{◌≡◌, ◌<◌, ◌≤◌, Bool, Option}
+use Rattle.std.specs.Prelude.{◌≡◌, Bool, Option}
 use Rattle.std.specs.declared.alloc.Global.{Global}
 use denote.Ref.{Bor, MutBor}
 use Rattle.hir_syntax.specs.declared.ast.Expr.{Expr as AstExpr}
@@ -19,13 +19,13 @@ use Rattle.hir_env.specs.Answers.{Answers}
 use Rattle.hir_env.specs.Answered as tree
 use Rattle.hir_env.specs.Answered.{Binder}
 use Rattle.hir_env.specs.Paths.{inside_constant}
-use Rattle.hir_env.specs.Count.{count_expr, count_pat, count_path}
-use Rattle.hir_env.specs.Whole.{answered, answered_arg_list, answered_pat, answered_path, answered_plain, answered_type}
+use Rattle.hir_env.specs.Whole.{answered, answered_arg_list, answered_path, answered_plain, answered_type}
 use Rattle.hir_lower_form.specs.Builder.{Builder}
 use Rattle.hir_lower_form.specs.Lowering.{Lowering, Checked, Lowers}
 use Rattle.hir_lower_form.specs.Lower.{lower_kept, lower_inside}
 use Rattle.hir_lower_form.specs.Methods.{HasWalk, LowersArgs, LowersType, ReadsPath}
 use Rattle.hir_lower_form.specs.Nests.{Claims, IfPresent}
+use Rattle.hir_lower_pat.specs.Nested.{InPat, InTarget}
 use Rattle.hir_lower_form.specs.declared.walk.PathWalk.{PathWalk}
 use Rattle.hir_lower_form.specs.declared.walk.Reading.{Reading}
 use Rattle.hir_lower.specs.Roots.{spot_at}
@@ -109,19 +109,6 @@ module _ {E : Type 0} (answers : E → Answers) where
   -- the expression of a constant that is written there, where it has one
   abbrev pub HandlesConstant : Pre E → Post E (Option ExprId) → E → Place → Option AstExpr → Type 0
   HandlesConstant pre post env p o = IfPresent (HandlesExpr pre post env (inside_constant p)) o
-
--- Each path that is smaller than the pattern may be handed in, and so each that the pattern has.
-abbrev pub InPat : Answers → (Place → AstPath → Type 0) → Place → AstPat → Type 0
-InPat env path p x =
-    let at = spot_at env p in
-    (q : AstPath) → count_path (answered_path at q) < count_pat (answered_pat at x) → path p q
-
--- so may what is assigned to be as an expression
-abbrev pub InTarget : Answers → (Place → AstExpr → Type 0) → (Place → AstPath → Type 0) → Place → AstExpr → Type 0
-InTarget env expr path p e =
-    let at = spot_at env p in
-    ((x : AstExpr) → count_expr (answered at x) ≤ count_expr (answered at e) → expr p x)
-    × ((q : AstPath) → count_path (answered_path at q) < count_expr (answered at e) → path p q)
 
 module _ {E : Type 0} (answers : E → Answers) where
   abbrev pub HandlesPat : PathPre E → PathPost E → E → Place → AstPat → Type 0

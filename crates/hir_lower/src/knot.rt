@@ -10,8 +10,8 @@ ghost use Rattle.hir_env.specs.Whole.{answered, answered_arg_list, answered_path
 ghost use Rattle.hir_lower_form.specs.Methods.{HasWalk, LowersArgs, LowersExpr, LowersInside, LowersPath, LowersType};
 ghost use Rattle.hir_lower_form.specs.Methods.{LowersTop, MaybeLowersExpr, ReadsPath};
 ghost use Rattle.hir_lower_pat.specs.Methods.{use_with};
-ghost use Rattle.hir_lower.specs.Nests.{Handled};
-ghost use Rattle.hir_lower.proofs.PatKids.{pat_kids_of, target_kids_of, target_place_of};
+ghost use Rattle.hir_lower_pat.proofs.Nested.{pat_nests, target_is_place, target_nests};
+ghost use Rattle.hir_lower.specs.Nests.{Handled, HandlesExpr, HandlesPath};
 ghost use Rattle.hir_lower.specs.Roots.{spot_at};
 
 use crate::constant::constant_form;
@@ -85,14 +85,15 @@ impl<
     ghost can = { λ it. Handled E.answers (F.pre it.expr) (F.post it.expr) (B.pre it.block) (B.post it.block)
         (Q.pre it.path) (Q.post it.path) (T.pre it.type_ref) (T.post it.type_ref) (G.pre it.args) (G.post it.args) it.env.now it.place };
 
-    ghost pat_kids = { λ it. pat_kids_of E.answers (F.pre it.expr) (F.post it.expr) (B.pre it.block) (B.post it.block)
-        (Q.pre it.path) (Q.post it.path) (T.pre it.type_ref) (T.post it.type_ref) (G.pre it.args) (G.post it.args) it.env.now it.place };
+    ghost pat_kids = { λ it. pat_nests (E.answers it.env.now) (HandlesPath E.answers (Q.pre it.path) (Q.post it.path) it.env.now) };
 
-    ghost target_kids = { λ it. target_kids_of E.answers (F.pre it.expr) (F.post it.expr) (B.pre it.block) (B.post it.block)
-        (Q.pre it.path) (Q.post it.path) (T.pre it.type_ref) (T.post it.type_ref) (G.pre it.args) (G.post it.args) it.env.now it.place };
+    ghost target_kids = { λ it. target_nests
+        (Handled E.answers (F.pre it.expr) (F.post it.expr) (B.pre it.block) (B.post it.block)
+        (Q.pre it.path) (Q.post it.path) (T.pre it.type_ref) (T.post it.type_ref) (G.pre it.args) (G.post it.args) it.env.now it.place)
+        (E.answers it.env.now) (HandlesExpr E.answers (F.pre it.expr) (F.post it.expr) it.env.now) (HandlesPath E.answers (Q.pre it.path) (Q.post it.path) it.env.now) };
 
-    ghost target_place = { λ it. target_place_of E.answers (F.pre it.expr) (F.post it.expr) (B.pre it.block) (B.post it.block)
-        (Q.pre it.path) (Q.post it.path) (T.pre it.type_ref) (T.post it.type_ref) (G.pre it.args) (G.post it.args) it.env.now it.place };
+    ghost target_place = { λ it. target_is_place (E.answers it.env.now) (HandlesExpr E.answers (F.pre it.expr) (F.post it.expr) it.env.now)
+        (HandlesPath E.answers (Q.pre it.path) (Q.post it.path) it.env.now) it.place };
 
     ghost spot = { λ it. spot_at (E.answers it.env.now) it.place };
 

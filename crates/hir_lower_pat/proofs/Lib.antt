@@ -5,3 +5,4 @@ pub mod PathNames
 pub mod AimLemmas
 pub mod TypePats
 pub mod TargetKids
+pub mod Nested

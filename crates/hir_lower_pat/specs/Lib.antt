@@ -3,3 +3,4 @@ pub mod Methods
 pub mod Handlers
 pub mod Aims
 pub mod TypePats
+pub mod Nested

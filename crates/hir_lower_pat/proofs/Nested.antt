@@ -16,8 +16,8 @@ use Rattle.hir_store.specs.Pointers.{Pointer}
 use Rattle.hir_store.specs.declared.ids.CfgId.{CfgId}
 use Rattle.hir_env.specs.Answers.{Answers}
 use Rattle.hir_env.specs.Answered as tree
-use Rattle.hir_env.specs.Answered.{PatField, Use}
-use Rattle.hir_env.specs.Answering.{expr_at, field_of}
+use Rattle.hir_env.specs.Answered.{Field, PatField, Use}
+use Rattle.hir_env.specs.Answering.{asked_field, expr_at, field_of}
 use Rattle.hir_env.specs.Count.{count_expr, count_exprs, count_field, count_fields, count_option_expr, count_option_path, count_path}
 use Rattle.hir_env.specs.Count.{count_option_pat, count_pat, count_pat_field, count_pat_fields, count_pats, count_side, count_spread}
 use Rattle.hir_env.specs.Layers.{ExprKindLayer}
@@ -32,14 +32,15 @@ use Rattle.hir_env.specs.declared.place.Place.{Place}
 use Rattle.hir_env.proofs.Levels.{field_is_level, record_is_level}
 use Rattle.hir_env.proofs.PatLevels.{pat_field_is_level, pat_is_level}
 use Rattle.hir_lower_form.specs.Nests.{Claims, Each, IfPresent, KidsCallee, KidsOfPat, KidsPatFields, KidsSide, KidsSidePart}
-use Rattle.hir_lower_form.specs.Nests.{KidsPat, KidsTarget, KidsTargetFields}
-use Rattle.hir_store.specs.declared.ids.ExprId.{ExprId}
-use Rattle.hir_lower.specs.Nests.{Handled, HandlesExpr, HandlesPath, InPat, InTarget}
-use Rattle.hir_lower.specs.Nests.{ArgsPost, ArgsPre, BlockPost, BlockPre, PathPost, PathPre, Post, Pre, TypePost, TypePre}
-use Rattle.hir_lower.specs.Roots.{spot_at}
-use Rattle.hir_lower.proofs.Kids.{count_kept, expr_below}
+use Rattle.hir_lower_form.specs.Nests.{KidsTarget, KidsTargetFields}
+use Rattle.hir_lower_pat.specs.Nested.{InPat, InTarget, read_at}
+use Rattle.hir_lower_pat.proofs.AimLemmas.{kept_below}
 
 -- a condition counts for nothing
+count_kept : (s : Pointer) (r : Result (Unit {0}) CfgId) (f : Field) → count_field (asked_field s r f) ≡ count_field f
+count_kept s (Ok _) f = refl
+count_kept s (Err by) f = refl
+
 count_kept_part : (s : Pointer) (r : Result (Unit {0}) CfgId) (f : PatField) → count_pat_field (asked_pat_field s r f) ≡ count_pat_field f
 count_kept_part s (Ok _) f = refl
 count_kept_part s (Err by) f = refl
@@ -47,32 +48,32 @@ count_kept_part s (Err by) f = refl
 -- ---- patterns
 
 module _ (env : Answers) (Q : Place → AstPath → Type 0) (p : Place) (n : ℕ)
-    (paths : (x : AstPath) → count_path (answered_path (spot_at env p) x) < n → Q p x) where
-  path : (o : Option AstPath) → count_option_path (path_part (spot_at env p) o) < n → IfPresent (Q p) o
+    (paths : (x : AstPath) → count_path (answered_path (read_at env p) x) < n → Q p x) where
+  path : (o : Option AstPath) → count_option_path (path_part (read_at env p) o) < n → IfPresent (Q p) o
   path None h = tt
   path (Some x) h = paths x h
 
-  whole : (x : AstPat) → count_pat (answered_pat (spot_at env p) x) ≤ n → InPat env Q p x
+  whole : (x : AstPat) → count_pat (answered_pat (read_at env p) x) ≤ n → InPat env Q p x
   whole x h q less = paths q (omega (arith, h, less))
 
-  part : (o : Option AstPat) → count_option_pat (pat_part (spot_at env p) o) ≤ n → IfPresent (InPat env Q p) o
+  part : (o : Option AstPat) → count_option_pat (pat_part (read_at env p) o) ≤ n → IfPresent (InPat env Q p) o
   part None h = tt
   part (Some x) h = whole x h
 
-  each : (xs : List AstPat) → count_pats (pats_part (spot_at env p) xs) ≤ n → Each (InPat env Q p) xs
+  each : (xs : List AstPat) → count_pats (pats_part (read_at env p) xs) ≤ n → Each (InPat env Q p) xs
   each [] h = tt
   each (x ∷ xs) h = (whole x (omega (arith, h)), each xs (omega (arith, h)))
 
   -- a field without its part counts for nothing
   own : (s : Pointer) (m : Option AstName) (o : Option AstPat)
-      → count_pat_field (pat_field_of s m (pat_part (spot_at env p) o)) ≤ n → IfPresent (InPat env Q p) o
+      → count_pat_field (pat_field_of s m (pat_part (read_at env p) o)) ≤ n → IfPresent (InPat env Q p) o
   own s m None h = tt
   own s m (Some x) h = whole x h
 
-  field : (f : AstPatField) → count_pat_field (answered_pat_field (spot_at env p) f) ≤ n
+  field : (f : AstPatField) → count_pat_field (answered_pat_field (read_at env p) f) ≤ n
       → IfPresent (InPat env Q p) (out-RecordPatField f).pat
   field f h =
-      let at = spot_at env p in
+      let at = read_at env p in
       let y = out-RecordPatField f in
       let s = pointer_at at y.id y.range in
       let read = pat_field_of s y.name (pat_part at y.pat) in
@@ -80,13 +81,13 @@ module _ (env : Answers) (Q : Place → AstPath → Type 0) (p : Place) (n : ℕ
       ap count_pat_field (pat_field_is_level at f) ∙ count_kept_part s (env.cfg (site_of s)) read in
       own s y.name y.pat (omega (arith, h, same))
 
-  fields : (fs : List AstPatField) → count_pat_fields (pat_fields_part (spot_at env p) fs) ≤ n → KidsPatFields (InPat env Q p) fs
+  fields : (fs : List AstPatField) → count_pat_fields (pat_fields_part (read_at env p) fs) ≤ n → KidsPatFields (InPat env Q p) fs
   fields [] h = tt
   fields (f ∷ fs) h = (field f (omega (arith, h)), fields fs (omega (arith, h)))
 
   -- a name with something behind `@` binds
   ident : (s : Pointer) (u : Use) (found : Bool) (o : Option AstPat)
-      → count_pat (name_or_bind (is_plain u (pat_part (spot_at env p) o) && found) s u (pat_part (spot_at env p) o)) ≤ n
+      → count_pat (name_or_bind (is_plain u (pat_part (read_at env p) o) && found) s u (pat_part (read_at env p) o)) ≤ n
       → IfPresent (InPat env Q p) o
   ident s u found None h = tt
   ident s u found (Some x) h = whole x (omega (arith, h))
@@ -112,10 +113,10 @@ module _ (env : Answers) (Q : Place → AstPath → Type 0) (p : Place) (n : ℕ
   in_side s PatKind-F.NotNullPat h = tt
   in_side s PatKind-F.ConstBlockPat h = tt
 
-  side : (o : Option AstPat) → count_side (side_of (pat_part (spot_at env p) o)) < n → KidsSidePart (Q p) o
+  side : (o : Option AstPat) → count_side (side_of (pat_part (read_at env p) o)) < n → KidsSidePart (Q p) o
   side None h = tt
   side (Some x) h =
-      let at = spot_at env p in
+      let at = read_at env p in
       let same = ap (λ q. count_side (side_of (tree.some_pat q))) (pat_is_level at x) in
       in_side (pointer_at at x.id x.range) (out-PatKind x.kind) (omega (arith, h, same))
 
@@ -145,7 +146,7 @@ module _ (env : Answers) (Q : Place → AstPath → Type 0) (p : Place) (n : ℕ
 pub pat_nests : (env : Answers) (Q : Place → AstPath → Type 0) (p : Place) (x : AstPat) → InPat env Q p x
     → KidsOfPat (InPat env Q p) (Q p) (out-PatKind x.kind)
 pat_nests env Q p x c =
-    let at = spot_at env p in
+    let at = read_at env p in
     let same = ap count_pat (pat_is_level at x) in
     kids env Q p (count_pat (answered_pat at x)) c (pointer_at at x.id x.range) (out-PatKind x.kind) (omega (arith, same))
 
@@ -156,33 +157,33 @@ abbrev claims : Claims → Answers → (Place → AstExpr → Type 0) → (Place
 claims C env P Q = record C { path = Q; target = InTarget env P Q }
 
 module _ (C : Claims) (env : Answers) (P : Place → AstExpr → Type 0) (Q : Place → AstPath → Type 0) (p : Place) (n : ℕ)
-    (exprs : (x : AstExpr) → count_expr (answered (spot_at env p) x) ≤ n → P p x)
-    (paths : (x : AstPath) → count_path (answered_path (spot_at env p) x) < n → Q p x) where
-  target_path : (o : Option AstPath) → count_option_path (path_part (spot_at env p) o) < n → IfPresent (Q p) o
+    (exprs : (x : AstExpr) → count_expr (answered (read_at env p) x) ≤ n → P p x)
+    (paths : (x : AstPath) → count_path (answered_path (read_at env p) x) < n → Q p x) where
+  target_path : (o : Option AstPath) → count_option_path (path_part (read_at env p) o) < n → IfPresent (Q p) o
   target_path None h = tt
   target_path (Some x) h = paths x h
 
-  target : (e : AstExpr) → count_expr (answered (spot_at env p) e) ≤ n → InTarget env P Q p e
+  target : (e : AstExpr) → count_expr (answered (read_at env p) e) ≤ n → InTarget env P Q p e
   target e h = (λ x less. exprs x (omega (arith, h, less)), λ x less. paths x (omega (arith, h, less)))
 
-  target_part : (o : Option AstExpr) → count_option_expr (expr_part (spot_at env p) o) ≤ n → IfPresent (InTarget env P Q p) o
+  target_part : (o : Option AstExpr) → count_option_expr (expr_part (read_at env p) o) ≤ n → IfPresent (InTarget env P Q p) o
   target_part None h = tt
   target_part (Some e) h = target e h
 
-  targets : (es : List AstExpr) → count_exprs (exprs_part (spot_at env p) es) ≤ n → Each (InTarget env P Q p) es
+  targets : (es : List AstExpr) → count_exprs (exprs_part (read_at env p) es) ≤ n → Each (InTarget env P Q p) es
   targets [] h = tt
   targets (e ∷ es) h = (target e (omega (arith, h)), targets es (omega (arith, h)))
 
   -- the expression of a field counts, be it without a name
   named : (s : Pointer) (m : Option AstName) (o : Option AstExpr)
-      → count_field (field_of s m (expr_part (spot_at env p) o)) ≤ n → IfPresent (InTarget env P Q p) o
+      → count_field (field_of s m (expr_part (read_at env p) o)) ≤ n → IfPresent (InTarget env P Q p) o
   named s None o h = target_part o h
   named s (Some m) o h = target_part o h
 
-  target_field : (f : AstField) → count_field (answered_field (spot_at env p) f) ≤ n
+  target_field : (f : AstField) → count_field (answered_field (read_at env p) f) ≤ n
       → IfPresent (InTarget env P Q p) (out-RecordExprField f).expr
   target_field f h =
-      let at = spot_at env p in
+      let at = read_at env p in
       let y = out-RecordExprField f in
       let s = pointer_at at y.id y.range in
       let read = field_of s y.name (expr_part at y.expr) in
@@ -190,17 +191,17 @@ module _ (C : Claims) (env : Answers) (P : Place → AstExpr → Type 0) (Q : Pl
       ap count_field (field_is_level at f) ∙ count_kept s (env.cfg (site_of s)) read in
       named s y.name y.expr (omega (arith, h, same))
 
-  target_fields : (fs : List AstField) → count_fields (fields_part (spot_at env p) fs) ≤ n
+  target_fields : (fs : List AstField) → count_fields (fields_part (read_at env p) fs) ≤ n
       → Each (λ f. IfPresent (InTarget env P Q p) (out-RecordExprField f).expr) fs
   target_fields [] h = tt
   target_fields (f ∷ fs) h = (target_field f (omega (arith, h)), target_fields fs (omega (arith, h)))
 
   target_record : (o : Option AstFieldList)
-      → count_fields (record_part (spot_at env p) o).fields + count_spread (record_part (spot_at env p) o).spread ≤ n
+      → count_fields (record_part (read_at env p) o).fields + count_spread (record_part (read_at env p) o).spread ≤ n
       → IfPresent (λ r. KidsTargetFields (claims C env P Q) p (out-RecordExprFieldList r)) o
   target_record None h = tt
   target_record (Some x) h =
-      let s = ap (λ r. count_fields r.fields + count_spread r.spread) (record_is_level (spot_at env p) x) in
+      let s = ap (λ r. count_fields r.fields + count_spread r.spread) (record_is_level (read_at env p) x) in
       target_fields (out-RecordExprFieldList x).fields (omega (arith, h, s))
 
   in_callee : (s : Pointer) (k : ExprKindLayer written) → count_expr (expr_at env (reader env) k p s) ≤ n
@@ -239,12 +240,12 @@ module _ (C : Claims) (env : Answers) (P : Place → AstExpr → Type 0) (Q : Pl
   in_callee s ExprKind-F.AsmExpr h = tt
   in_callee s ExprKind-F.FormatArgsExpr h = tt
 
-  callee : (o : Option AstExpr) → count_option_expr (expr_part (spot_at env p) o) ≤ n
+  callee : (o : Option AstExpr) → count_option_expr (expr_part (read_at env p) o) ≤ n
       → IfPresent (λ x. KidsCallee (claims C env P Q) p (out-ExprKind x.kind)) o
   callee None h = tt
   callee (Some x) h =
-      let at = spot_at env p in
-      let size = expr_below at x in
+      let at = read_at env p in
+      let size = kept_below at x in
       in_callee (pointer_at at x.id x.range) (out-ExprKind x.kind) (omega (arith, h, size))
 
   target_kids : (s : Pointer) (k : ExprKindLayer written) → count_expr (expr_at env (reader env) k p s) ≤ n
@@ -288,23 +289,10 @@ module _ (C : Claims) (env : Answers) (P : Place → AstExpr → Type 0) (Q : Pl
 pub target_nests : (C : Claims) (env : Answers) (P : Place → AstExpr → Type 0) (Q : Place → AstPath → Type 0) (p : Place) (e : AstExpr)
     → InTarget env P Q p e → KidsTarget (claims C env P Q) p (out-ExprKind e.kind)
 target_nests C env P Q p e c =
-    let at = spot_at env p in
-    target_kids C env P Q p (count_expr (answered at e)) c.0 c.1 (pointer_at at e.id e.range) (out-ExprKind e.kind) (expr_below at e)
+    let at = read_at env p in
+    target_kids C env P Q p (count_expr (answered at e)) c.0 c.1 (pointer_at at e.id e.range) (out-ExprKind e.kind) (kept_below at e)
 
--- ---- of the functions that lower parts
-
-module _ {E : Type 0} (answers : E → Answers) (pre : Pre E) (post : Post E (Option ExprId)) (block_pre : BlockPre E)
-    (block_post : BlockPost E) (path_pre : PathPre E) (path_post : PathPost E) (type_pre : TypePre E) (type_post : TypePost E)
-    (args_pre : ArgsPre E) (args_post : ArgsPost E) (env : E) where
-  abbrev handled : Place → Claims
-  handled = Handled answers pre post block_pre block_post path_pre path_post type_pre type_post args_pre args_post env
-
-  pub target_kids_of : (p at : Place) (e : AstExpr) → (handled p).target at e → KidsTarget (handled p) at (out-ExprKind e.kind)
-  target_kids_of p at e c = target_nests (handled p) (answers env) (HandlesExpr answers pre post env)
-      (HandlesPath answers path_pre path_post env) at e c
-
-  pub pat_kids_of : (p at : Place) (x : AstPat) → (handled p).pat at x → KidsPat (handled p) at (out-PatKind x.kind)
-  pat_kids_of p at x c = pat_nests (answers env) (HandlesPath answers path_pre path_post env) at x c
-
-  pub target_place_of : (p : Place) (e : AstExpr) → (handled p).target p e → (handled p).expr e
-  target_place_of p e c = c.0 e (omega (arith))
+-- what is assigned to may be a place
+pub target_is_place : (env : Answers) (P : Place → AstExpr → Type 0) (Q : Place → AstPath → Type 0) (p : Place) (e : AstExpr)
+    → InTarget env P Q p e → P p e
+target_is_place env P Q p e c = c.0 e (omega (arith))
