@@ -185,10 +185,10 @@ dots_any (Some n) = by (small_place false n)
     by (Some k) = pure_any (Some k)
 
 -- the parts as they are stored, with no comma in front
-abbrev PartsOf : Elements → Rel (Option ℕ × List PatId)
+abbrev pub PartsOf : Elements → Rel (Option ℕ × List PatId)
 PartsOf es final ps m m' r = r.1 ≡ es.0
 
-parts_of : (es : Elements) → Correct (elements_form false es) (PartsOf es)
+pub parts_of : (es : Elements) → Correct (elements_form false es) (PartsOf es)
 unfolding elements_form
 parts_of es = correct_as (correct_bind (dots_any es.1) (λ place. correct_bind (correct_pure es.0) (λ ids. correct_pure (place, ids))))
     (λ final ps m m' r g row. let s = row.second in rw s.second.is s.first.is)
@@ -324,7 +324,7 @@ field_before {x = x} {y = y} h hs done = correct_as (correct_bind h (λ o. hs (p
       };
     }
 
-spread_any : (spread : Option Pointer) → Correct (forms.report_spread spread) Any
+pub spread_any : (spread : Option Pointer) → Correct (forms.report_spread spread) Any
 spread_any None = pure_any tt
 spread_any (Some at) = any (correct_report _)
 

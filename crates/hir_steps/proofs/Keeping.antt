@@ -194,7 +194,7 @@ mutual
   type_any b tree.no_type = error_any
   type_any b (tree.some_type t) = one_type_any b t
 
-  present_type_any : (t : OptionType) → Correct (present_type t) Any
+  pub present_type_any : (t : OptionType) → Correct (present_type t) Any
   present_type_any tree.no_type = pure_any None
   present_type_any (tree.some_type t) = then_any (one_type_any None t) (λ i. pure_any (Some i))
 
