@@ -90,7 +90,8 @@ impl<
     ghost target_kids = { λ it. target_nests
         (Handled E.answers (F.pre it.expr) (F.post it.expr) (B.pre it.block) (B.post it.block)
         (Q.pre it.path) (Q.post it.path) (T.pre it.type_ref) (T.post it.type_ref) (G.pre it.args) (G.post it.args) it.env.now it.place)
-        (E.answers it.env.now) (HandlesExpr E.answers (F.pre it.expr) (F.post it.expr) it.env.now) (HandlesPath E.answers (Q.pre it.path) (Q.post it.path) it.env.now) };
+        (E.answers it.env.now) (HandlesExpr E.answers (F.pre it.expr) (F.post it.expr) it.env.now)
+        (HandlesPath E.answers (Q.pre it.path) (Q.post it.path) it.env.now) };
 
     ghost target_place = { λ it. target_is_place (E.answers it.env.now) (HandlesExpr E.answers (F.pre it.expr) (F.post it.expr) it.env.now)
         (HandlesPath E.answers (Q.pre it.path) (Q.post it.path) it.env.now) it.place };

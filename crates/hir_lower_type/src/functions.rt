@@ -21,7 +21,7 @@ use hir_store::ids::TypeRefId;
 use hir_store::lists::push_type;
 use hir_store::name::{Name, copy_names};
 use hir_store::type_ref::{ExternAbi, FnType, TypeRef};
-use hir_syntax::node::{AstPtr, InFile};
+use hir_base::node::{AstPtr, InFile};
 use hir_syntax::{Seq, Text, ast};
 use std::alloc::{AllocError, Global};
 

@@ -24,7 +24,7 @@ use hir_store::hir::Mutability;
 use hir_store::ids::TypeRefId;
 use hir_store::lists::push_type;
 use hir_store::type_ref::{ArrayType, ConstRef, RefType, TypeRef};
-use hir_syntax::node::{AstPtr, InFile};
+use hir_base::node::{AstPtr, InFile};
 use hir_syntax::{Boxed, Seq, ast};
 
 fn written_mutability(mut_: bool) -> Mutability
