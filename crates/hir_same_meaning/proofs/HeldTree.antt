@@ -21,7 +21,7 @@ use Rattle.hir_lower_form.specs.Lowering.{Lowering}
 use Rattle.hir_lower_form.specs.Types.{no_lists}
 use Rattle.hir_lower_form.specs.Lower as lower
 use Rattle.hir_meaning.specs.Inner as inner
-use Rattle.hir_meaning.specs.Inner.{Bodies, bodies_in}
+use Rattle.hir_meaning.specs.Inner.{Bodies, bodies_in, constant_body}
 use Rattle.hir_read_back.proofs.Layers.{Pushed, pushed_all}
 use Rattle.hir_read_back.proofs.Tree.{path_reads, list_reads}
 use Rattle.hir_steps.proofs.Constants.{correct_constant}
@@ -40,12 +40,12 @@ use Rattle.hir_same_meaning.proofs.HeldForms.{a_field, a_spread, a_statement, Fi
 
 -- a constant runs as written: nothing that is open around its barrier is in its frames
 constant_held : (e : OptionExpr) → Correct (lower.lower_part e) (Holds an_expr (bodies_in e))
-    → Correct (lower.constant_form (lower.lower_part e)) (Holds a_constant (e ∷ bodies_in e))
+    → Correct (lower.constant_form (lower.lower_part e)) (Holds a_constant (constant_body e ∷ bodies_in e))
 constant_held e h = correct_as (correct_constant (correct_both (correct_in_store (part_fine e)) h))
     (λ final ps m m' c g row. let x = row.first.one in record {
       same = λ d le. (
         body_is (barrier_at ∷ ps) x.rel x.nodes tt refl,
-        row.first.other.same d (omega (le, row.nodes, row.types, arith)),
+        row.first.other.same d (omega (le, row.nodes, row.entries, arith)),
       );
     })
 
@@ -163,7 +163,7 @@ mutual
   expr_holds (tree.if_expr at c t e) = forms.if_held at (body_holds c) (block_part_holds t) (present_holds e)
   expr_holds (tree.block_expr b) = block_holds b
   expr_holds (tree.loop_expr at label b) = forms.loop_held at label (block_part_holds b)
-  expr_holds (tree.call_expr at f es) = forms.call_held at (body_holds f) (pushed_all (each_holds es []))
+  expr_holds (tree.call_expr at f has_list es) = forms.call_held at (body_holds f) (pushed_all (each_holds es []))
   expr_holds (tree.path_expr at p h) = forms.path_held at h (paths.path_held p (outer_holds p))
   expr_holds (tree.continue_expr at jump) = forms.continue_held at jump
   expr_holds (tree.break_expr at jump e) = forms.break_held at jump (present_holds e)
@@ -177,7 +177,7 @@ mutual
   expr_holds (tree.method_call_expr at e name es generics) =
       forms.method_call_held at name (body_holds e) (list_holds generics) (pushed_all (each_holds es []))
   expr_holds (tree.cast_expr at e t) = forms.cast_held at (body_holds e) (part_holds None t)
-  expr_holds (tree.record_expr at p fs s) = forms.record_held at (path_of p) (path_reads p) (paths.path_held p (outer_holds p))
+  expr_holds (tree.record_expr at p head fs s) = forms.record_held at (path_of p) (path_reads p) (paths.path_held p (outer_holds p))
       (forms.contents_held (pushed_all (fields_hold fs [])) (spread_holds s))
   expr_holds (tree.offset_of_expr at t names) = forms.offset_of_held at names (part_holds None t)
   expr_holds (tree.leaving_expr at form e) = forms.leaving_held at form (present_holds e)
@@ -211,7 +211,7 @@ mutual
 
   field_holds : (f : Field) → Correct (lower.lower_field f) (Holds (maybe a_field) (inner.field_bodies f))
   field_holds (tree.disabled_field at by f) = holds_behind (correct_report (InactiveCode at by)) (λ u. holds_none None (λ r. refl))
-  field_holds tree.nameless_field = holds_none None (λ r. refl)
+  field_holds (tree.nameless_field at e) = holds_none None (λ r. refl)
   field_holds (tree.named_field at name e) = forms.field_held at name (body_holds e)
 
   spread_holds : (s : Spread) → Correct (lower.lower_spread s) (Holds a_spread (inner.spread_bodies s))
@@ -235,6 +235,7 @@ mutual
   stmt_holds : (s : Stmt) → Correct (lower.lower_stmt s) (Holds (maybe a_statement) (inner.stmt_bodies s))
   stmt_holds (tree.expr_stmt e semi) = forms.statement_held semi (kept_part_holds e)
   stmt_holds tree.item_stmt = holds_none (Some statement.Item) (λ r. refl)
+  stmt_holds (tree.disabled_stmt at by s) = holds_behind (correct_report (InactiveCode at by)) (λ u. holds_none None (λ r. refl))
 
 pub path_holds : (p : OptionPath) → Correct (lower.lower_path p) (Holds a_path (inner.path_bodies p))
 path_holds p = paths.path_held p (outer_holds p)

@@ -87,7 +87,7 @@ all_read (p ∷ ps) h = by (rule.ends p.item.what (rule.names (items_of ps))) h
     by false h = rw h refl
     by true h = absurd (clash h)
 
--- ---- what a walk that has read these parts keeps, when so many expressions and types are stored
+-- ---- what a walk that has read these parts keeps, when so many expressions, types and patterns are stored
 
 pub record Kept (final : Stored) (n : ℕ) (ps : List Part) (w : PathWalk) : Type 0 where
   pub anchor : (d : ℕ) → n ≤ d → SameIn final (of_present (inners_in final d).type w.type_anchor) (in_anchor ps)

@@ -120,6 +120,7 @@ pub record Constant (R : Rel ExprId) (final : Stored) (ps : List Frame) (m m' : 
   pub labels : m'.labels ≡ left.labels
   pub types : m'.types ≡ left.types
   pub lifetimes : m'.lifetimes ≡ left.lifetimes
+  pub entries : m'.entries ≡ left.entries
   pub first : R final (barrier_at ∷ ps) m left c.expr
   pub stored : (m'.stored ≡ left.stored) ⊎ (m'.stored ≡ with_root c.expr left.stored)
 
@@ -134,6 +135,7 @@ correct_constant {R = R} h = correct_as (correct_behind (λ i. record { expr = i
       labels = ap (λ k. k.1.0) n.counts_are;
       types = ap (λ k. k.1.1.1.1.0) n.counts_are;
       lifetimes = ap (λ k. k.1.1.1.1.1.0) n.counts_are;
+      entries = ap (λ k. k.1.1.1.1.1.1) n.counts_are;
       first = n.first;
       stored = n.stored;
     }))
