@@ -1,6 +1,6 @@
 -- What a lowered constant and a lowered body are, in words of meaning.
 use Rattle.std.specs.Prelude.{◌≡◌, ◌≤◌, ◌+◌, ℕ, Bool, true, false, List, [], ◌∷◌, ◌++◌, length, map, option_map, Option}
-use Rattle.std.specs.Prelude.{Some, None, IsPermutation}
+use Rattle.std.specs.Prelude.{Some, None, IsPermutation, option_and_then, slice_get}
 use Rattle.hir_base.specs.declared.node.AstPtr.{AstPtr}
 use Rattle.hir_syntax.specs.declared.ast.Expr.{Expr as AstExpr}
 use Rattle.hir_syntax.specs.declared.ast.Path.{Path as AstPath, out-Path}
@@ -14,7 +14,10 @@ use Rattle.hir_store.specs.declared.type_ref.TypeBound.{TypeBound}
 use Rattle.hir_store.specs.declared.type_ref.TypeRef.{TypeRef}
 use Rattle.hir_store.specs.declared.type_ref.TypeRef.TheVariants as ty
 use Rattle.hir_store.specs.declared.hir.Expr.{Expr as HirExpr}
+use Rattle.hir_store.specs.declared.ids.BindingId.{BindingId}
 use Rattle.hir_store.specs.declared.ids.ExprId.{ExprId}
+use Rattle.hir_store.specs.declared.ids.PatId.{PatId}
+use Rattle.hir_store.specs.declared.pat.Binding.{Binding}
 use Rattle.hir_store.specs.declared.roots.ExprRoot.{ExprRoot}
 use Rattle.hir_store.specs.declared.path.Path.{Path}
 use Rattle.hir_store.specs.declared.ids.DefWithBodyId.{DefWithBodyId}
@@ -29,10 +32,12 @@ use Rattle.hir_env.specs.declared.place.ImplTrait.{ImplTrait}
 use Rattle.hir_env.specs.declared.place.ImplTrait.TheVariants as mode
 use Rattle.hir_env.specs.Answering.{in_file}
 use Rattle.hir_env.specs.Answered as tree
-use Rattle.hir_env.specs.Answered.{OptionExpr, OptionPath, OptionType}
+use Rattle.hir_env.specs.Answered.{Formal, Formals, OptionExpr, OptionPath, OptionType, SelfFormal}
 use Rattle.hir_env.specs.Whole.{answered_path, expr_part, type_part}
 use Rattle.hir_data.specs.Data.{path_names}
-use Rattle.hir_data.specs.Reading.{stored_path}
+use Rattle.hir_data.specs.Patterns.{written_pat}
+use Rattle.hir_data.specs.Reading.{stored_pat, stored_path}
+use Rattle.hir_data.specs.Tops.{Tops}
 use Rattle.hir_data.specs.Written.{written_path}
 use Rattle.hir_data.specs.Segments.{PlainTrait, Whole, first_trait, named_segments, segment_name}
 use Rattle.hir_meaning.specs.Inner.{inner_bodies, path_bodies, path_inner_bodies}
@@ -47,6 +52,7 @@ use Rattle.hir_one_result.specs.Room.{whole_size}
 use Rattle.hir_one_result.specs.Room.{count_of_exprs, count_of_lifetimes, count_of_types, lifetime_sources_of, type_sources_of}
 use Rattle.hir_one_result.specs.Leads.{Way, label_ways, Covers, CoversLabels, Led}
 use Rattle.hir_one_result.specs.Stands.{StandsPart, WholeWays}
+use Rattle.hir_lower.specs.declared.body.Param.{Param}
 use Rattle.hir_type_result.specs.Named.{of_exprs}
 use Rattle.hir_type_result.specs.Roots.{RootsOf}
 use Rattle.hir_type_result.specs.Reached.{of_path, of_present, types_reached}
@@ -197,3 +203,26 @@ owed_faults false node k e = missing_fault node (body_fault k e)
 abbrev pub body_owes : Spot → DefWithBodyId → AstPtr → Option AstExpr → Faults
 body_owes at owner node body =
     owed_faults (at.answers.skip owner) (in_file at.place node) (required_body owner (at.answers.container owner)) (expr_part at body)
+
+-- parameters of items
+
+-- what is read of the parameters that no condition disables: nothing where the body is skipped, and nothing of one at fault
+abbrev pub formals_read : Bool → List Formal → Tops
+formals_read skipped [] = []
+formals_read skipped (tree.disabled_formal at by ∷ fs) = formals_read skipped fs
+formals_read true (f ∷ fs) = tree.no_pat ∷ formals_read true fs
+formals_read false (tree.formal p ∷ fs) = p ∷ formals_read false fs
+formals_read false (tree.fault_formal at ∷ fs) = tree.no_pat ∷ formals_read false fs
+
+-- the binding of a `self` that no condition disables
+abbrev pub receiver_read : SelfFormal → Option Binding
+receiver_read (tree.self_formal at u) = Some (record { name = u.name; mode = u.mode; hygiene = u.hygiene; problems = None })
+receiver_read _ = None
+
+-- Each parameter is read back as the written pattern, in order, and `self` is its binding. Each is handed in as it was written.
+pub record HasParams (store : Store) (source_map : SourceMap) (params : List (Param PatId)) (receiver : Option (Param BindingId))
+    (skipped : Bool) (formals : Formals) : Type 0 where
+  pub patterns : map (λ p. stored_pat store source_map p.user_written) params ≡ map written_pat (formals_read skipped formals.formals)
+  pub binding : option_and_then (λ p. slice_get store.bindings p.user_written.0) receiver ≡ receiver_read formals.receiver
+  pub handed_in : map (λ p. p.formal) params ≡ map (λ p. p.user_written) params
+  pub handed_self : option_map (λ p. p.formal) receiver ≡ option_map (λ p. p.user_written) receiver

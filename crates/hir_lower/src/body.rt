@@ -11,7 +11,7 @@ ghost use Rattle.hir_lower_form.specs.Lowering.{Lowers};
 ghost use Rattle.hir_one_result.specs.OneResult.{OneResult};
 ghost use Rattle.hir_one_result.specs.Room.{TooLarge};
 ghost use Rattle.hir_lower.specs.Formals.{are_read, item_formals, lower_formals, outside_the_body, self_source};
-ghost use Rattle.hir_lower.specs.Means.{HasBody, body_fault, body_owes, body_read, required_body};
+ghost use Rattle.hir_lower.specs.Means.{HasBody, HasParams, body_fault, body_owes, body_read, required_body};
 ghost use Rattle.hir_lower.specs.Roots.{GivenFromNothing, HasBehind, RefusedAtEnd, StoresFromNothing, await_location, behind, body_spot};
 ghost use Rattle.hir_lower.specs.Roots.{item_of, report_missing, spot_at};
 ghost use Rattle.hir_lower.specs.Roots.{as_written as written};
@@ -344,6 +344,13 @@ pub fn lower_body<E: LowerEnv>(
     ensures one_result { let at = body_spot (E.answers db.now) owner current_file_id inside in
         let owed = body_owes at owner syntax_node (option_copied body.entry) in
         IfOk result (λ r. OneResult r.0.store r.1.store owed (body_read at owner (option_copied body.entry))) }
+    ensures params { let at = body_spot (E.answers db.now) owner current_file_id inside in
+        let formals = item_formals at owner (option_copied params.entry) (is_some (option_copied body.entry)) in
+        let skipped = at.answers.skip owner in
+        IfOk result (λ r. HasParams r.0.store r.1.store r.0.params r.0.self_param skipped formals) }
+    ensures self_source { let at = body_spot (E.answers db.now) owner current_file_id inside in
+        let formals = item_formals at owner (option_copied params.entry) (is_some (option_copied body.entry)) in
+        IfOk result (λ r. r.1.self_param ≡ self_source formals.receiver) }
     ensures in_range { IfOk result (λ r. InRange r.0.store r.1.store) }
     ensures too_large { let at = body_spot (E.answers db.now) owner current_file_id inside in
         IsErrOf result LowerError.Full → TooLarge (empty 4294967295) (body_read at owner (option_copied body.entry)) }
