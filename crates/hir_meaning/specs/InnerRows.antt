@@ -1,5 +1,5 @@
 -- Worked lists of the bodies inside types, paths and expressions.
-use Rattle.std.specs.Prelude.{◌≡◌, codes, true, false, List, [], ◌∷◌, map, Some}
+use Rattle.std.specs.Prelude.{◌≡◌, codes, true, false, List, [], ◌∷◌, map, Some, None}
 use Rattle.hir_syntax.specs.declared.ast.Literal.{Literal}
 use Rattle.hir_store.specs.Generics.{of_args}
 use Rattle.hir_store.specs.Pointers.{Pointer}

@@ -1,5 +1,5 @@
 -- What is stored for tuples, records, alternatives and ranges reads back.
-use Rattle.std.proofs.Common.{◌≡◌, ◌∙◌, ◌⊎◌, inl, inr, refl, sym, ap, subst, ℕ, zero, suc, ◌+◌, ◌≤◌, Bool, true, false, if◌then◌else◌}
+use Rattle.std.proofs.Common.{◌≡◌, ◌∙◌, ◌⊎◌, inl, inr, refl, sym, ap, subst, ℕ, suc, ◌+◌, ◌≤◌, Bool, true, false, if◌then◌else◌}
 use Rattle.std.proofs.Common.{List, [], ◌∷◌, ◌++◌, append-nil, append_assoc, length, length-append, nat_lt, arith}
 use Rattle.std.specs.Prelude.{◌^◌, Option, Some, None, option_map, unwrap_or}
 use Rattle.hir_syntax.specs.declared.pats.RangeOp.{RangeOp}
@@ -14,16 +14,16 @@ use Rattle.hir_store.specs.declared.pat.Pat.TheVariants as pat
 use Rattle.hir_store.specs.declared.pat.RecordFieldPat.{RecordFieldPat}
 use Rattle.hir_store.specs.declared.path.Path.{Path as HirPath}
 use Rattle.hir_env.specs.Answered as tree
-use Rattle.hir_env.specs.Answered.{Pat, Pats, Signed}
+use Rattle.hir_env.specs.Answered.{Pat, Signed}
 use Rattle.hir_lower_form.specs.Forms.{push_some, root_hygiene}
-use Rattle.hir_lower_form.specs.Lowering.{Lowering, ◌>>=◌, ◌>>◌, pure, alloc_pat, alloc_expr}
+use Rattle.hir_lower_form.specs.Lowering.{Lowering, ◌>>=◌, ◌>>◌, pure}
 use Rattle.hir_lower_form.specs.Pats as forms
 use Rattle.hir_lower_form.specs.Pats.{Table, enter_or, leave_or, next_alternative, Elements, no_elements, name_path}
 use Rattle.hir_steps.proofs.Frames.{Frame}
 use Rattle.hir_steps.proofs.Steps.{Mark, Rel, Correct, correct_bind, correct_as, correct_pure, correct_alloc, correct_count_out}
 use Rattle.hir_steps.proofs.PatSteps.{correct_alloc_pat, correct_point_pat_field}
 use Rattle.hir_data.specs.Data as datum
-use Rattle.hir_data.specs.Data.{PathData, bare_path, PatData, pat_at, absent_pattern, PatsData, PatFieldsData, SideData, OptionSideData}
+use Rattle.hir_data.specs.Data.{PatData, pat_at, absent_pattern, PatsData, PatFieldsData, OptionSideData}
 use Rattle.hir_data.specs.Patterns as written
 use Rattle.hir_data.specs.Reading as reading
 use Rattle.hir_data.specs.Rule.{PathRead}
@@ -31,9 +31,8 @@ use Rattle.hir_data.specs.Uses.{FirstUses}
 use Rattle.hir_data.specs.Written.{signed_data}
 use Rattle.hir_read_back.proofs.Going.{PathIs}
 use Rattle.hir_read_back.proofs.Layers.{Layer, Reads, within}
-use Rattle.hir_read_back.proofs.Names.{Named}
 use Rattle.hir_read_back.proofs.Pats.{a_pat, maybe_pat, many_pats, a_pattern, many_fields, maybe_side, PatIs, PatFine, pat_stored}
-use Rattle.hir_read_back.proofs.Pats.{plain_reads, WithPath, found_reads, PushedNamed, none_named, more_named}
+use Rattle.hir_read_back.proofs.Pats.{WithPath, found_reads, PushedNamed, more_named}
 use Rattle.hir_read_back.proofs.Walk.{Answers, matches_read}
 
 -- ---- parts of a tuple

@@ -1,9 +1,8 @@
 -- What lowering stores for a pattern reads back as what is written: by induction, a line for each kind.
-use Rattle.std.proofs.Common.{◌≡◌, ◌∙◌, ◌⊎◌, inl, inr, refl, ap, ℕ, ◌≤◌, Bool, true, false, List, [], ◌∷◌, Option, Some, None, arith}
-use Rattle.std.specs.Prelude.{option_map, suc, if◌then◌else◌, length, ◌+◌}
+use Rattle.std.proofs.Common.{◌≡◌, ◌∙◌, ◌⊎◌, inl, inr, refl, ℕ, ◌≤◌, List, [], ◌∷◌, None, arith}
+use Rattle.std.specs.Prelude.{suc, if◌then◌else◌, length, ◌+◌}
 use Rattle.hir_store.specs.Pointers.{Pointer}
 use Rattle.hir_store.specs.Stored.{Stored, store_of, map_of}
-use Rattle.hir_store.specs.declared.ids.ExprId.{ExprId}
 use Rattle.hir_store.specs.declared.ids.PatId.{PatId}
 use Rattle.hir_store.specs.declared.ids.BindingId.{BindingId}
 use Rattle.hir_store.specs.declared.ids.CfgId.{CfgId}
@@ -11,8 +10,7 @@ use Rattle.hir_store.specs.declared.pat.Pat.TheVariants as pat
 use Rattle.hir_store.specs.declared.pat.RecordFieldPat.{RecordFieldPat}
 use Rattle.hir_env.specs.Answered as tree
 use Rattle.hir_env.specs.Answered.{Pat, OptionPat, Pats, PatFields, PatField, Side}
-use Rattle.hir_lower_form.specs.Forms.{push_some}
-use Rattle.hir_lower_form.specs.Lowering.{Lowering, ◌>>=◌, ◌>>◌, pure}
+use Rattle.hir_lower_form.specs.Lowering.{◌>>=◌, ◌>>◌}
 use Rattle.hir_lower_form.specs.Lower as lower
 use Rattle.hir_lower_form.specs.Pats as forms
 use Rattle.hir_lower_form.specs.Pats.{Key, Notes, Table, no_names, Elements, no_elements, settle}
@@ -21,16 +19,15 @@ use Rattle.hir_steps.proofs.Steps.{Mark, Correct, correct_bind, correct_as, corr
 use Rattle.hir_steps.proofs.PatSteps.{correct_alloc_pat, correct_set_problem}
 use Rattle.hir_steps.proofs.TypeAny.{Any, any, then_any, pure_any}
 use Rattle.hir_data.specs.Data as datum
-use Rattle.hir_data.specs.Data.{PatData, absent_pattern}
+use Rattle.hir_data.specs.Data.{PatData}
 use Rattle.hir_data.specs.Patterns as written
 use Rattle.hir_data.specs.Patterns.{written_pat}
 use Rattle.hir_data.specs.Reading.{stored_pat}
-use Rattle.hir_data.specs.Uses.{FirstUses}
 use Rattle.hir_data.specs.Written.{path_of}
-use Rattle.hir_read_back.proofs.Layers.{Reads, within}
-use Rattle.hir_read_back.proofs.Names.{Named, none_named as nothing_named}
+use Rattle.hir_read_back.proofs.Layers.{Reads}
+use Rattle.hir_read_back.proofs.Names.{none_named as nothing_named}
 use Rattle.hir_read_back.proofs.Pats as kinds
-use Rattle.hir_read_back.proofs.Pats.{a_pat, maybe_pat, many_pats, many_fields, maybe_side, PatIs, PatFine, PushedNamed, pat_stored}
+use Rattle.hir_read_back.proofs.Pats.{a_pat, maybe_pat, many_pats, many_fields, maybe_side, PatFine, PushedNamed, pat_stored}
 use Rattle.hir_read_back.proofs.Pats.{none_named, all_named}
 use Rattle.hir_read_back.proofs.PatParts as parts
 use Rattle.hir_read_back.proofs.PatParts.{ElementsAre, IsDots, IsPart, dots_or_part, maybe_field}

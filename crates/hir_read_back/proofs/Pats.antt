@@ -1,41 +1,35 @@
 -- What is stored for patterns reads back, with the first uses of their names: a line for each kind, of what its parts read back as.
-use Rattle.std.proofs.Common.{◌≡◌, ◌∙◌, refl, sym, ap, ℕ, zero, suc, ◌+◌, ◌≤◌, Bool, true, false, if◌then◌else◌, List, [], ◌∷◌}
-use Rattle.std.proofs.Common.{◌++◌, append-nil, append_assoc, length, length-append, nat_lt, arith}
-use Rattle.std.specs.Prelude.{◌^◌, Option, Some, None, option_map, unwrap_or}
-use Rattle.hir_syntax.specs.declared.pats.RangeOp.{RangeOp}
-use Rattle.hir_store.specs.Pointers.{Pointer, flattened}
+use Rattle.std.proofs.Common.{◌≡◌, ◌∙◌, refl, sym, ap, ℕ, zero, suc, ◌+◌, ◌≤◌, if◌then◌else◌, List, [], ◌∷◌}
+use Rattle.std.proofs.Common.{◌++◌, append-nil, append_assoc, arith}
+use Rattle.std.specs.Prelude.{◌^◌, Option, Some, None}
+use Rattle.hir_store.specs.Pointers.{Pointer}
 use Rattle.hir_store.specs.Stored.{Stored, store_of, map_of}
-use Rattle.hir_store.specs.declared.hir.Expr.{Expr as HirExpr}
-use Rattle.hir_store.specs.declared.hir.Expr.TheVariants as hir
 use Rattle.hir_store.specs.declared.ids.ExprId.{ExprId}
 use Rattle.hir_store.specs.declared.ids.PatId.{PatId}
-use Rattle.hir_store.specs.declared.name.Name.{Name}
-use Rattle.hir_store.specs.declared.name.Name.TheVariants as name
 use Rattle.hir_store.specs.declared.pat.Pat.{Pat as HirPat}
 use Rattle.hir_store.specs.declared.pat.Pat.TheVariants as pat
 use Rattle.hir_store.specs.declared.pat.RecordFieldPat.{RecordFieldPat}
 use Rattle.hir_store.specs.declared.path.Path.{Path as HirPath}
 use Rattle.hir_env.specs.Answered as tree
-use Rattle.hir_env.specs.Answered.{PatLeaf, PatUnary, Pat, Pats, Signed, Side, Use}
+use Rattle.hir_env.specs.Answered.{PatLeaf, PatUnary, Use}
 use Rattle.hir_lower_form.specs.Forms.{root_hygiene}
-use Rattle.hir_lower_form.specs.Lowering.{Lowering, ◌>>=◌, ◌>>◌, pure, alloc_pat, alloc_expr, count_out, define}
+use Rattle.hir_lower_form.specs.Lowering.{Lowering, ◌>>=◌, ◌>>◌, pure, alloc_pat}
 use Rattle.hir_lower_form.specs.Pats as forms
-use Rattle.hir_lower_form.specs.Pats.{Table, enter_or, leave_or, Elements, no_elements, name_path}
+use Rattle.hir_lower_form.specs.Pats.{Table}
 use Rattle.hir_steps.proofs.Frames.{Frame}
-use Rattle.hir_steps.proofs.Steps.{Mark, Grows, Rel, Correct, correct_bind, correct_as, correct_pure, correct_alloc, correct_count_out}
-use Rattle.hir_steps.proofs.PatSteps.{AllocatedPat, correct_alloc_pat, correct_define, correct_point_pat_field}
+use Rattle.hir_steps.proofs.Steps.{Mark, Rel, Correct, correct_bind, correct_as, correct_pure}
+use Rattle.hir_steps.proofs.PatSteps.{AllocatedPat, correct_alloc_pat, correct_define}
 use Rattle.hir_data.specs.Data as datum
 use Rattle.hir_data.specs.Data.{PathData, PatData, pat_at, absent_pattern, PatShape, PatsData, OptionPatData, PatFieldsData}
-use Rattle.hir_data.specs.Data.{SideData, OptionSideData}
+use Rattle.hir_data.specs.Data.{OptionSideData}
 use Rattle.hir_data.specs.Patterns as written
 use Rattle.hir_data.specs.Reading as reading
 use Rattle.hir_data.specs.Reading.{Readers, readers}
 use Rattle.hir_data.specs.Rule.{PathRead, data_of}
 use Rattle.hir_data.specs.Uses.{FirstUses, first_use, with_use}
-use Rattle.hir_data.specs.Written.{signed_data}
 use Rattle.hir_read_back.proofs.Going.{PathIs}
-use Rattle.hir_read_back.proofs.Layers.{Layer, Reads, within, a_path}
-use Rattle.hir_read_back.proofs.Names.{Named, found_in, correct_use_name}
+use Rattle.hir_read_back.proofs.Layers.{Layer, within, a_path}
+use Rattle.hir_read_back.proofs.Names.{Named, correct_use_name}
 use Rattle.hir_read_back.proofs.Walk.{Answers, matches_read}
 
 -- ---- what is read at a pattern

@@ -4,7 +4,6 @@ use Rattle.std.proofs.Common.{length, arith}
 use Rattle.std.specs.Prelude.{Option, Some, None, option_map}
 use Rattle.hir_store.specs.Pointers.{Pointer}
 use Rattle.hir_store.specs.Stored.{Stored, store_of, map_of}
-use Rattle.hir_store.specs.declared.ids.CfgId.{CfgId}
 use Rattle.hir_store.specs.declared.ids.HygieneId.{HygieneId}
 use Rattle.hir_store.specs.declared.ids.PatId.{PatId}
 use Rattle.hir_store.specs.declared.name.Name.{Name}
@@ -12,11 +11,11 @@ use Rattle.hir_store.specs.declared.pat.Pat.TheVariants as pat
 use Rattle.hir_store.specs.declared.pat.RecordFieldPat.{RecordFieldPat}
 use Rattle.hir_store.specs.declared.path.Path.{Path as HirPath}
 use Rattle.hir_env.specs.Answered as tree
-use Rattle.hir_env.specs.Answered.{Target, Targets, TargetFields, TargetField}
-use Rattle.hir_lower_form.specs.Forms.{ExprSteps, path_hygiene, push_some}
+use Rattle.hir_env.specs.Answered.{Target, Targets, TargetFields}
+use Rattle.hir_lower_form.specs.Forms.{ExprSteps, push_some}
 use Rattle.hir_lower_form.specs.Lower as lower
-use Rattle.hir_lower_form.specs.Lowering.{Lowering, ◌>>=◌, ◌>>◌, pure, alloc_pat}
-use Rattle.hir_lower_form.specs.Pats.{Elements, no_elements, dots_after}
+use Rattle.hir_lower_form.specs.Lowering.{Lowering, ◌>>=◌, ◌>>◌, pure}
+use Rattle.hir_lower_form.specs.Pats.{Elements, no_elements}
 use Rattle.hir_lower_form.specs.Targets as forms
 use Rattle.hir_steps.proofs.Frames.{Frame}
 use Rattle.hir_steps.proofs.Keeping.{part_any}
@@ -24,7 +23,7 @@ use Rattle.hir_steps.proofs.PatSteps.{correct_alloc_pat, correct_point_pat_field
 use Rattle.hir_steps.proofs.Steps.{Mark, Rel, Correct, correct_bind, correct_as, correct_in_store, correct_pure, correct_report}
 use Rattle.hir_steps.proofs.TypeAny.{Any, any, pure_any}
 use Rattle.hir_data.specs.Data as datum
-use Rattle.hir_data.specs.Data.{PathData, PatData, pat_at, absent_pattern, PatShape, PatsData, PatFieldsData, OptionPatData}
+use Rattle.hir_data.specs.Data.{PathData, PatData, pat_at, absent_pattern, PatsData, PatFieldsData}
 use Rattle.hir_data.specs.Lookup.{lookup_hygiene}
 use Rattle.hir_data.specs.Patterns.{if_path, put_field}
 use Rattle.hir_data.specs.Reading as reading
@@ -33,9 +32,9 @@ use Rattle.hir_data.specs.Rule.{PathRead, data_of}
 use Rattle.hir_data.specs.Targets as written
 use Rattle.hir_data.specs.Written.{path_of}
 use Rattle.hir_read_back.proofs.Going.{PathIs}
-use Rattle.hir_read_back.proofs.Layers.{Layer, Reads, Pushed, pushed_all, within, a_path}
+use Rattle.hir_read_back.proofs.Layers.{Reads, Pushed, pushed_all, within, a_path}
 use Rattle.hir_read_back.proofs.Lookup.{looked_up_by}
-use Rattle.hir_read_back.proofs.PatParts.{dots_behind, no_dots, dots_here, one_further, plus_none, ListIs, list_is, maybe_field}
+use Rattle.hir_read_back.proofs.PatParts.{dots_behind, no_dots, dots_here, one_further, plus_none, list_is, maybe_field}
 use Rattle.hir_read_back.proofs.PatTree.{PatNow}
 use Rattle.hir_read_back.proofs.Pats.{a_pat, maybe_pat, many_pats, a_pattern, many_fields, pat_stored}
 use Rattle.hir_read_back.proofs.Tree.{path_reads}

@@ -22,7 +22,7 @@ use Rattle.hir_lower_form.specs.Ranges as forms
 use Rattle.hir_lower_form.specs.Types.{pattern_type_form}
 use Rattle.hir_steps.proofs.Constants.{correct_inner}
 use Rattle.hir_steps.proofs.Frames.{Frame}
-use Rattle.hir_steps.proofs.Steps.{Mark, Rel, Correct, correct_bind, correct_as, correct_alloc}
+use Rattle.hir_steps.proofs.Steps.{Mark, Correct, correct_bind, correct_as, correct_alloc}
 use Rattle.hir_steps.proofs.PatSteps.{correct_alloc_pat}
 use Rattle.hir_data.specs.Data as datum
 use Rattle.hir_data.specs.Data.{TypeData, typed, PatData, pat_at, absent_pattern, PatShape, PatsData, SideData}

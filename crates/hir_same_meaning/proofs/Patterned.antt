@@ -1,5 +1,5 @@
 -- What forms with patterns become runs as they are written: `let` as a condition, `match`, `let` statements and assignments.
-use Rattle.std.proofs.Common.{◌≡◌, ℕ, ◌≤◌, Bool, true, false, if◌then◌else◌, List, [], ◌∷◌, ◌++◌, Option, Some, None, refl, sym, subst}
+use Rattle.std.proofs.Common.{◌≡◌, ℕ, ◌≤◌, if◌then◌else◌, List, [], ◌∷◌, ◌++◌, Option, Some, None, refl, subst}
 use Rattle.std.proofs.Common.{arith}
 use Rattle.hir_store.specs.Pointers.{Pointer}
 use Rattle.hir_store.specs.Stored.{Stored, store_of, map_of}
@@ -12,9 +12,9 @@ use Rattle.hir_store.specs.declared.ids.PatId.{PatId}
 use Rattle.hir_env.specs.NodeMap.{Site}
 use Rattle.hir_env.specs.Answering.{site_of}
 use Rattle.hir_env.specs.Answered as tree
-use Rattle.hir_env.specs.Answered.{OptionPat, OptionType, OptionExpr, OptionBlock, Target}
-use Rattle.hir_lower_form.specs.Forms.{ExprSteps, push_some, some, let_form, match_form, arm_form, assign_form, let_stmt_form}
-use Rattle.hir_lower_form.specs.Lower.{lower_top, lower_target, present_type}
+use Rattle.hir_env.specs.Answered.{OptionPat, OptionType, OptionExpr, OptionBlock}
+use Rattle.hir_lower_form.specs.Forms.{ExprSteps, push_some, some, let_form, match_form, arm_form, let_stmt_form}
+use Rattle.hir_lower_form.specs.Lower.{lower_top, present_type}
 use Rattle.hir_lower_form.specs.Lowering.{Lowering}
 use Rattle.hir_lower_form.specs.Lowering.{pure as gives}
 use Rattle.hir_steps.proofs.Frames.{Frame, scopes, Falls, falls_more}
@@ -22,21 +22,17 @@ use Rattle.hir_steps.proofs.Steps.{Mark, Grows, Rel, Correct, Allocated, correct
 use Rattle.hir_data.specs.Data.{PatData}
 use Rattle.hir_data.specs.Patterns.{written_pat}
 use Rattle.hir_data.specs.Reading.{stored_pat}
-use Rattle.hir_data.specs.Targets.{target_data}
 use Rattle.hir_read_back.proofs.Now.{option_type_now}
 use Rattle.hir_read_back.proofs.PatTree.{top_now}
-use Rattle.hir_read_back.proofs.Targets.{target_now}
-use Rattle.hir_meaning.specs.Run.{Value, truth, is_true, leave, unmatched, ends, pure, ◌>>=◌, tests, tests_pattern, assigns}
+use Rattle.hir_meaning.specs.Run.{Value, truth, is_true, leave, unmatched, ends, pure, ◌>>=◌, tests, tests_pattern}
 use Rattle.hir_meaning.specs.Jumps.{EachArm, EnclosedTo}
-use Rattle.hir_meaning.specs.Places.{places}
 use Rattle.hir_meaning.specs.Store.{StoreRun, run_arms, run_guarded}
 use Rattle.hir_meaning.specs.Syntax.{SyntaxRun, run_present}
 use Rattle.hir_scope.specs.Each.{IfPresent}
 use Rattle.hir_scope.specs.Scopes.{Scope}
 use Rattle.hir_same_meaning.proofs.Views.{numbers}
 use Rattle.hir_same_meaning.proofs.Relation.{SameWhere, same_ends, same_pure, same_bind, same_tests, same_if, same_tests_pattern}
-use Rattle.hir_same_meaning.proofs.Relation.{same_assigns}
-use Rattle.hir_same_meaning.proofs.Senses.{Walk, run_in, one, many, present, Goes, Runs, goes_within, goes_at}
+use Rattle.hir_same_meaning.proofs.Senses.{Walk, run_in, one, present, Goes, Runs, goes_within, goes_at}
 use Rattle.hir_same_meaning.proofs.Blocks.{StoredLet, let_of, LetIs, ElseIs}
 use Rattle.hir_same_meaning.proofs.Forms.{Pushed, pushed_one}
 

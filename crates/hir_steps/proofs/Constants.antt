@@ -13,8 +13,8 @@ use Rattle.hir_lower_form.specs.Lowering.{Checked, go_on, Lowering, ◌>>=◌, �
 use Rattle.hir_lower_form.specs.Lowering.{outside_root, record_root}
 use Rattle.hir_lower_form.specs.Lower.{ExprSteps, constant_form}
 use Rattle.hir_lower_form.specs.Ranges.{inner_form}
-use Rattle.hir_steps.proofs.Frames.{Frame, barrier_at, ribs}
-use Rattle.hir_steps.proofs.Logic.{Mark, mark, counts, Grows, Rel, Answers, Holds, Correct, correct_as, grows_refl, grows_trans}
+use Rattle.hir_steps.proofs.Frames.{Frame, barrier_at}
+use Rattle.hir_steps.proofs.Logic.{Mark, mark, counts, Grows, Rel, Holds, Correct, correct_as, grows_refl, grows_trans}
 use Rattle.hir_steps.proofs.Logic.{grows_still}
 
 abbrev pub with_root : ExprId → Stored → Stored

@@ -4,7 +4,6 @@ use Rattle.hir_syntax.specs.declared.pats.RangeOp.{RangeOp}
 use Rattle.hir_store.specs.Pointers.{Pointer}
 use Rattle.hir_store.specs.declared.hir.Expr.{Expr as HirExpr}
 use Rattle.hir_store.specs.declared.hir.MatchArm.{MatchArm}
-use Rattle.hir_store.specs.declared.hir.Statement.{Statement}
 use Rattle.hir_store.specs.declared.ids.BindingId.{BindingId}
 use Rattle.hir_store.specs.declared.ids.ExprId.{ExprId}
 use Rattle.hir_store.specs.declared.ids.HygieneId.{HygieneId}
@@ -19,7 +18,7 @@ use Rattle.hir_store.specs.declared.path.Path.{Path as HirPath}
 use Rattle.hir_env.specs.Answered as tree
 use Rattle.hir_env.specs.Answered.{PatUnary, RangeForm, Signed, Use}
 use Rattle.hir_lower_form.specs.Forms.{ExprSteps, let_form, match_form, arm_form, assign_form, let_stmt_form}
-use Rattle.hir_lower_form.specs.Lowering.{Lowering, ◌>>=◌, pure, alloc_expr, alloc_pat}
+use Rattle.hir_lower_form.specs.Lowering.{Lowering, ◌>>=◌, alloc_expr, alloc_pat}
 use Rattle.hir_lower_form.specs.Pats as forms
 use Rattle.hir_lower_form.specs.Pats.{Key, Table, Notes, Elements, PatSteps, missing_pat}
 use Rattle.hir_lower_form.specs.Ranges as ranges
