@@ -32,7 +32,7 @@ use Rattle.hir_data.specs.Written.{signed_data}
 use Rattle.hir_read_back.proofs.Going.{PathIs}
 use Rattle.hir_read_back.proofs.Layers.{Layer, Reads, within}
 use Rattle.hir_read_back.proofs.Pats.{a_pat, maybe_pat, many_pats, a_pattern, many_fields, maybe_side, PatIs, PatFine, pat_stored}
-use Rattle.hir_read_back.proofs.Pats.{WithPath, found_reads, PushedNamed, more_named}
+use Rattle.hir_read_back.proofs.Pats.{alone_reads, WithPath, found_reads, PushedNamed, more_named}
 use Rattle.hir_read_back.proofs.Walk.{Answers, matches_read}
 
 -- ---- parts of a tuple
@@ -409,16 +409,18 @@ or_reads {f = f} at h hs t =
 
 -- ---- literals and ranges
 
-pub literal_reads : (at : Pointer) (node : Option Pointer) (l : Signed)
-    → PatFine a_pat (forms.literal_pat_form at node l) (λ us. pat_at (Some at) (datum.literal_pattern (signed_data l))) (λ us. us)
+literal_pattern_reads : (at : Pointer) (own : Option Pointer) (l : Signed)
+    → Correct (forms.literal_pat_form at own l) (Reads a_pat (pat_at (Some at) (datum.literal_pattern (signed_data l))))
 unfolding forms.literal_pat_form
-literal_reads at node l t =
-    correct_as (correct_bind (correct_alloc (hir.Literal (forms.signed_literal l)) (Some (unwrap_or node at)))
-    (λ e. correct_bind (correct_alloc_pat (pat.Lit e) (Some at)) (λ i. correct_pure (i, t))))
-    (λ final ps m m' r g row. let s = row.second in rw (s.second.is, s.second.still) (record {
-      uses = λ us named. named;
-      reads = λ us named. pat_stored s.first (λ d le. rw (row.first.number, row.first.here) refl);
-    }))
+literal_pattern_reads at own l =
+    correct_as (correct_bind (correct_alloc (hir.Literal (forms.signed_literal l)) (Some (unwrap_or own at)))
+    (λ e. correct_alloc_pat (pat.Lit e) (Some at)))
+    (λ final ps m m' i g row. record { is = pat_stored row.second (λ d le. rw (row.first.number, row.first.here) refl) })
+
+pub literal_reads : (at : Pointer) (own : Option Pointer) (l : Signed)
+    → PatFine a_pat (forms.alone (forms.literal_pat_form at own l)) (λ us. pat_at (Some at) (datum.literal_pattern (signed_data l)))
+    (λ us. us)
+literal_reads at own l = alone_reads (literal_pattern_reads at own l)
 
 pub literal_side_reads : (at : Pointer) (l : Signed)
     → Correct (forms.literal_side_form at l) (Reads maybe_side (datum.some_side (datum.literal_side (signed_data l))))
@@ -470,21 +472,24 @@ path_side_reads y at h = correct_as (correct_bind h side)
           ∙ ap (λ q. datum.some_side (datum.path_side q root_hygiene)) (matches_read final n.entries z p a d (omega (ge, le, arith)));
     }
 
-pub range_reads : {x y : OptionSideData} {p q : Lowering (Option ExprId)} (at : Pointer) (op : Option RangeOp)
+range_pattern_reads : {x y : OptionSideData} {p q : Lowering (Option ExprId)} (at : Pointer) (op : Option RangeOp)
     → Correct p (Reads maybe_side x) → Correct q (Reads maybe_side y)
-    → PatFine a_pat (forms.range_pat_form at op p q) (λ us. pat_at (Some at) (written.range_shape op x y)) (λ us. us)
+    → Correct (forms.range_pat_form at op p q) (Reads a_pat (pat_at (Some at) (written.range_shape op x y)))
 unfolding forms.range_pat_form
-range_reads {x = x} {y = y} at op hp hq t =
-    correct_as (correct_bind hp (λ s. correct_bind hq (λ e. correct_bind (correct_alloc_pat (forms.stored_range op s e) (Some at))
-    (λ i. correct_pure (i, t)))))
-    (λ final ps m m' r g row. let s = row.second in let u = s.second in rw (u.second.is, u.second.still) (record {
-      uses = λ us named. named;
-      reads = λ us named. pat_stored u.first (λ d le. go final d op row.one s.one
+range_pattern_reads {x = x} {y = y} at op hp hq =
+    correct_as (correct_bind hp (λ s. correct_bind hq (λ e. correct_alloc_pat (forms.stored_range op s e) (Some at))))
+    (λ final ps m m' i g row. let s = row.second in record {
+      is = pat_stored s.second (λ d le. go final d op row.one s.one
           (row.first.is d (omega (le, s.before.entries, arith))) (s.first.is d le));
-    }))
+    })
   where
     go : (final : Stored) (d : ℕ) (op : Option RangeOp) (s e : Option ExprId) → maybe_side final (within final d) s ≡ x
         → maybe_side final (within final d) e ≡ y
         → a_pattern final (within final d) (forms.stored_range op s e) ≡ written.range_shape op x y
     go final d None s e h k = refl
     go final d (Some op) s e h k = λ j. datum.range_pattern op (h j) (k j)
+
+pub range_reads : {x y : OptionSideData} {p q : Lowering (Option ExprId)} (at : Pointer) (op : Option RangeOp)
+    → Correct p (Reads maybe_side x) → Correct q (Reads maybe_side y)
+    → PatFine a_pat (forms.alone (forms.range_pat_form at op p q)) (λ us. pat_at (Some at) (written.range_shape op x y)) (λ us. us)
+range_reads at op hp hq = alone_reads (range_pattern_reads at op hp hq)

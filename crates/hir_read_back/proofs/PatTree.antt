@@ -1,10 +1,9 @@
 -- What lowering stores for a pattern reads back as what is written: by induction, a line for each kind.
-use Rattle.std.proofs.Common.{◌≡◌, ◌∙◌, ◌⊎◌, inl, inr, refl, ℕ, ◌≤◌, List, [], ◌∷◌, None, arith}
-use Rattle.std.specs.Prelude.{suc, if◌then◌else◌, length, ◌+◌}
+use Rattle.std.proofs.Common.{◌≡◌, ◌∙◌, ◌⊎◌, inl, inr, refl, ◌≤◌, List, [], ◌∷◌, None, arith}
+use Rattle.std.specs.Prelude.{if◌then◌else◌, length, ◌+◌}
 use Rattle.hir_store.specs.Pointers.{Pointer}
 use Rattle.hir_store.specs.Stored.{Stored, store_of, map_of}
 use Rattle.hir_store.specs.declared.ids.PatId.{PatId}
-use Rattle.hir_store.specs.declared.ids.BindingId.{BindingId}
 use Rattle.hir_store.specs.declared.ids.CfgId.{CfgId}
 use Rattle.hir_store.specs.declared.pat.Pat.TheVariants as pat
 use Rattle.hir_store.specs.declared.pat.RecordFieldPat.{RecordFieldPat}
@@ -13,11 +12,11 @@ use Rattle.hir_env.specs.Answered.{Pat, OptionPat, Pats, PatFields, PatField, Si
 use Rattle.hir_lower_form.specs.Lowering.{◌>>=◌, ◌>>◌}
 use Rattle.hir_lower_form.specs.Lower as lower
 use Rattle.hir_lower_form.specs.Pats as forms
-use Rattle.hir_lower_form.specs.Pats.{Key, Notes, Table, no_names, Elements, no_elements, settle}
+use Rattle.hir_lower_form.specs.Pats.{Table, no_names, Elements, no_elements}
 use Rattle.hir_steps.proofs.Frames.{Frame}
 use Rattle.hir_steps.proofs.Steps.{Mark, Correct, correct_bind, correct_as, correct_pure, correct_in_store, correct_report}
-use Rattle.hir_steps.proofs.PatSteps.{correct_alloc_pat, correct_set_problem}
-use Rattle.hir_steps.proofs.TypeAny.{Any, any, then_any, pure_any}
+use Rattle.hir_steps.proofs.PatAny.{settle_any}
+use Rattle.hir_steps.proofs.PatSteps.{correct_alloc_pat}
 use Rattle.hir_data.specs.Data as datum
 use Rattle.hir_data.specs.Data.{PatData}
 use Rattle.hir_data.specs.Patterns as written
@@ -121,21 +120,13 @@ mutual
 
 -- ---- whole patterns
 
-settle_any : (notes : Notes) (number : ℕ) (es : List (Key × BindingId)) → Correct (forms.settle_from notes number es) Any
-settle_any notes number [] = pure_any tt
-settle_any notes number (e ∷ es) = then_any (any (correct_set_problem _ _)) (λ u. settle_any notes (suc number) es)
-
-settled_any : (t : Table) → Correct (settle t) Any
-unfolding settle
-settled_any t = settle_any t.noted 0 t.bindings
-
 -- before a top pattern no name has a use
 pub top_reads : (p : OptionPat) → Correct (lower.lower_top p) (Reads a_pat (written_pat p))
 unfolding forms.missing_pat
 top_reads tree.no_pat = correct_as (correct_alloc_pat pat.Missing None)
     (λ final ps m m' i g row. record { is = pat_stored row (λ d le. refl) })
 top_reads (tree.some_pat p) =
-    correct_as (correct_bind (pat_reads p no_names) (λ r. correct_bind (settled_any r.1) (λ u. correct_pure r.0)))
+    correct_as (correct_bind (pat_reads p no_names) (λ r. correct_bind (settle_any r.1) (λ u. correct_pure r.0)))
     (λ final ps m m' i g row. let s = row.second in rw s.second.is (record {
       is = λ d le. row.first.reads [] (nothing_named final) d (omega (le, row.after.entries, arith));
     }))

@@ -28,7 +28,7 @@ use Rattle.hir_data.specs.Reading.{Readers, readers}
 use Rattle.hir_data.specs.Rule.{PathRead, data_of}
 use Rattle.hir_data.specs.Uses.{FirstUses, first_use, with_use}
 use Rattle.hir_read_back.proofs.Going.{PathIs}
-use Rattle.hir_read_back.proofs.Layers.{Layer, within, a_path}
+use Rattle.hir_read_back.proofs.Layers.{Layer, Reads, within, a_path}
 use Rattle.hir_read_back.proofs.Names.{Named, correct_use_name}
 use Rattle.hir_read_back.proofs.Walk.{Answers, matches_read}
 
@@ -72,31 +72,32 @@ pat_stored {source = source} at h (suc d) le = rw (at.number, at.here, at.from) 
 
 -- ---- patterns that hand the table on
 
--- without patterns in them
-pub plain_reads : {x : PatShape} (at : Pointer) (form : HirPat) → ((final : Stored) (r : Readers) → a_pattern final r form ≡ x)
-    → PatFine a_pat (forms.plain_pat_form at form) (λ us. pat_at (Some at) x) (λ us. us)
-unfolding forms.plain_pat_form
-plain_reads at form e t = correct_as (correct_bind (correct_alloc_pat form (Some at)) (λ i. correct_pure (i, t)))
+-- those that know of no name
+pub alone_reads : {x : PatData} {p : Lowering PatId} → Correct p (Reads a_pat x) → PatFine a_pat (forms.alone p) (λ us. x) (λ us. us)
+alone_reads h t = correct_as (correct_bind h (λ i. correct_pure (i, t)))
     (λ final ps m m' r g row. rw (row.second.is, row.second.still) (record {
       uses = λ us named. named;
-      reads = λ us named. pat_stored row.first (λ d le. e final (within final d));
+      reads = λ us named d le. row.first.is d le;
     }))
 
+pub plain_reads : {x : PatShape} (at : Pointer) (form : HirPat) → ((final : Stored) (r : Readers) → a_pattern final r form ≡ x)
+    → PatFine a_pat (forms.alone (alloc_pat form (Some at))) (λ us. pat_at (Some at) x) (λ us. us)
+plain_reads at form e = alone_reads (correct_as (correct_alloc_pat form (Some at))
+    (λ final ps m m' i g row. record { is = pat_stored row (λ d le. e final (within final d)) }))
+
 pub leaf_reads : (at : Pointer) (l : PatLeaf)
-    → PatFine a_pat (forms.plain_pat_form at (forms.stored_pat_leaf l)) (λ us. pat_at (Some at) (written.leaf_pattern l)) (λ us. us)
+    → PatFine a_pat (forms.alone (alloc_pat (forms.stored_pat_leaf l) (Some at))) (λ us. pat_at (Some at) (written.leaf_pattern l))
+    (λ us. us)
 leaf_reads at tree.wild_leaf = plain_reads at pat.Wild (λ final r. refl)
 leaf_reads at tree.rest_leaf = plain_reads at pat.Rest (λ final r. refl)
 leaf_reads at tree.not_null_leaf = plain_reads at pat.NotNull (λ final r. refl)
 leaf_reads at tree.broken_leaf = plain_reads at pat.Missing (λ final r. refl)
 
 -- what is absent comes from no node
-pub absent_reads : PatFine a_pat forms.absent_pat (λ us. absent_pattern) (λ us. us)
-unfolding forms.absent_pat forms.missing_pat
-absent_reads t = correct_as (correct_bind (correct_alloc_pat pat.Missing None) (λ i. correct_pure (i, t)))
-    (λ final ps m m' r g row. rw (row.second.is, row.second.still) (record {
-      uses = λ us named. named;
-      reads = λ us named. pat_stored row.first (λ d le. refl);
-    }))
+pub absent_reads : PatFine a_pat (forms.alone forms.missing_pat) (λ us. absent_pattern) (λ us. us)
+unfolding forms.missing_pat
+absent_reads = alone_reads (correct_as (correct_alloc_pat pat.Missing None)
+    (λ final ps m m' i g row. record { is = pat_stored row (λ d le. refl) }))
 
 -- of parts that are one value
 pub pat1 : {A D : Type 0} {l : Layer A D} {x : FirstUses → D} {f : FirstUses → FirstUses} {p : Table → Lowering (A × Table)}
@@ -158,15 +159,11 @@ bind_reads {x = x} {f = f} at u h t =
 -- ---- what may be refused
 
 -- a path that is absent or refused is missing
-pub path_reads : (y : Option PathRead) {p : Lowering (Option HirPath)} (at : Pointer) → Correct p (PathIs y)
-    → PatFine a_pat (forms.path_pat_form at p) (λ us. pat_at (Some at) (written.path_pattern_of y)) (λ us. us)
+path_pattern_reads : (y : Option PathRead) {p : Lowering (Option HirPath)} (at : Pointer) → Correct p (PathIs y)
+    → Correct (forms.path_pat_form at p) (Reads a_pat (pat_at (Some at) (written.path_pattern_of y)))
 unfolding forms.path_pat_form
-path_reads y at h t =
-    correct_as (correct_bind h (λ o. correct_bind (correct_alloc_pat (forms.path_pat_of o) (Some at)) (λ i. correct_pure (i, t))))
-    (λ final ps m m' r g row. let s = row.second in rw (s.second.is, s.second.still) (record {
-      uses = λ us named. named;
-      reads = λ us named. pat_stored s.first (λ d le. go final row.middle.entries y row.one row.first.is d le);
-    }))
+path_pattern_reads y at h = correct_as (correct_bind h (λ o. correct_alloc_pat (forms.path_pat_of o) (Some at)))
+    (λ final ps m m' i g row. record { is = pat_stored row.second (λ d le. go final row.middle.entries y row.one row.first.is d le) })
   where
     go : (final : Stored) (n : ℕ) (y : Option PathRead) (o : Option HirPath) → Answers final n y o → (d : ℕ) → n ≤ d
         → a_pattern final (within final d) (forms.path_pat_of o) ≡ written.path_pattern_of y
@@ -174,6 +171,10 @@ path_reads y at h t =
     go final n None (Some p) h d le = absurd h
     go final n (Some x) None h d le = absurd h
     go final n (Some x) (Some p) h d le = ap (λ q. datum.path_pattern q root_hygiene) (matches_read final n x p h d le)
+
+pub path_reads : (y : Option PathRead) {p : Lowering (Option HirPath)} (at : Pointer) → Correct p (PathIs y)
+    → PatFine a_pat (forms.alone (forms.path_pat_form at p)) (λ us. pat_at (Some at) (written.path_pattern_of y)) (λ us. us)
+path_reads y at h = alone_reads (path_pattern_reads y at h)
 
 -- with a path that is read so
 abbrev pub WithPath : HirPath → (PathData → FirstUses → PatData) → (FirstUses → FirstUses) → Table → Rel (PatId × Table)
@@ -183,7 +184,7 @@ WithPath o x f t final ps m m' r =
 -- Where the path is absent or refused the parts aren't read, and the pattern is missing.
 pub found_reads : (y : Option PathRead) {x : PathData → FirstUses → PatData} {f : FirstUses → FirstUses}
     {q : Lowering (Option HirPath)} → Correct q (PathIs y)
-    → (g : Option HirPath → Table → Lowering (PatId × Table)) → ((t : Table) → g None t ≡ forms.absent_pat t)
+    → (g : Option HirPath → Table → Lowering (PatId × Table)) → ((t : Table) → g None t ≡ forms.alone forms.missing_pat t)
     → ((o : HirPath) (t : Table) → Correct (g (Some o) t) (WithPath o x f t))
     → PatFine a_pat (λ t. q >>= (λ o. g o t)) (λ us. written.if_path y (λ z. x z us) absent_pattern)
     (λ us. written.if_path y (λ z. f us) us)

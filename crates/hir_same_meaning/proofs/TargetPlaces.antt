@@ -64,7 +64,7 @@ nothing turns ss m = m
 abbrev both : Placing → Placing → Placing
 both x y turns ss m = x turns ss (y turns ss m)
 
-put_nothing : {labels nodes : ℕ} {final : Stored} {ps : List Frame} → Put labels nodes nothing final ps (λ is. is)
+pub put_nothing : {labels nodes : ℕ} {final : Stored} {ps : List Frame} → Put labels nodes nothing final ps (λ is. is)
 put_nothing = record { same = λ turns d le f is m h. h; jumps = λ d le is h. h }
 
 put_both : {labels nodes : ℕ} {final : Stored} {ps : List Frame} {x y : Placing} {f g : List ExprId → List ExprId}
