@@ -57,16 +57,16 @@ kept_held (tree.disabled_expr at by e) h = holds_behind (correct_report (Inactiv
 kept_held e h = some_held h
 
 -- what is pushed where something is left
-newly : {A : Type 0} → Option A → List A → List A
+pub newly : {A : Type 0} → Option A → List A → List A
 newly None xs = xs
 newly (Some x) xs = x ∷ xs
 
-newly_pushed : {A : Type 0} (done : List A) (o : Option A) (new : List A) → push_some done o ++ new ≡ done ++ newly o new
+pub newly_pushed : {A : Type 0} (done : List A) (o : Option A) (new : List A) → push_some done o ++ new ≡ done ++ newly o new
 unfolding newly
 newly_pushed done None new = refl
 newly_pushed done (Some x) new = append_assoc done (x ∷ []) new
 
-newly_holds : {A : Type 0} (f : A → List ExprId) (o : Option A) (new : List A) → all_of f (newly o new) ≡ of_present f o ++ all_of f new
+pub newly_holds : {A : Type 0} (f : A → List ExprId) (o : Option A) (new : List A) → all_of f (newly o new) ≡ of_present f o ++ all_of f new
 unfolding newly
 newly_holds f None new = refl
 newly_holds f (Some x) new = refl

@@ -24,6 +24,7 @@ pub mod HeldTypes
 pub mod HeldWalk
 pub mod HeldPaths
 pub mod HeldForms
+pub mod HeldPats
 pub mod HeldTree
 pub mod Whole
 pub mod Computed

@@ -19,12 +19,13 @@ use Rattle.hir_env.specs.Answered.{Target}
 use Rattle.hir_lower_form.specs.Forms.{ExprSteps, push_some, assign_form}
 use Rattle.hir_lower_form.specs.Lower.{lower_target}
 use Rattle.hir_lower_form.specs.Lowering.{Lowering, ◌>>=◌ as ◌then◌, pure, alloc_pat, report}
-use Rattle.hir_lower_form.specs.Pats.{Elements, no_elements, missing_pat, counted_dots, counted_place, small_place, elements_form}
+use Rattle.hir_lower_form.specs.Pats.{Elements, no_elements, missing_pat, elements_form}
 use Rattle.hir_lower_form.specs.Targets as forms
 use Rattle.hir_steps.proofs.Frames.{Frame, scopes, Falls, falls_more}
+use Rattle.hir_steps.proofs.PatAny.{dots_any}
 use Rattle.hir_steps.proofs.PatSteps.{AllocatedPat, correct_alloc_pat, correct_point_pat_field}
 use Rattle.hir_steps.proofs.Steps.{Mark, Grows, Rel, Correct, Allocated, correct_bind, correct_as, correct_both, correct_in_store}
-use Rattle.hir_steps.proofs.Steps.{correct_pure, correct_alloc, correct_count_out, correct_report}
+use Rattle.hir_steps.proofs.Steps.{correct_pure, correct_alloc, correct_report}
 use Rattle.hir_steps.proofs.TypeAny.{Any, any, pure_any}
 use Rattle.hir_data.specs.Data.{PatData}
 use Rattle.hir_data.specs.Reading.{stored_pat}
@@ -176,21 +177,13 @@ dots_place hs done = correct_as (hs (forms.add_target_dots done)) (λ final ps m
 
 -- ---- forms of lists
 
-dots_any : (place : Option ℕ) → Correct (counted_dots false place) Any
-dots_any None = pure_any None
-dots_any (Some n) = by (small_place false n)
-  where
-    by : (o : Option ℕ) → Correct (counted_place o) Any
-    by None = correct_count_out Any
-    by (Some k) = pure_any (Some k)
-
 -- the parts as they are stored, with no comma in front
 abbrev pub PartsOf : Elements → Rel (Option ℕ × List PatId)
 PartsOf es final ps m m' r = r.1 ≡ es.0
 
 pub parts_of : (es : Elements) → Correct (elements_form false es) (PartsOf es)
 unfolding elements_form
-parts_of es = correct_as (correct_bind (dots_any es.1) (λ place. correct_bind (correct_pure es.0) (λ ids. correct_pure (place, ids))))
+parts_of es = correct_as (correct_bind (dots_any false es.1) (λ place. correct_bind (correct_pure es.0) (λ ids. correct_pure (place, ids))))
     (λ final ps m m' r g row. let s = row.second in rw s.second.is s.first.is)
 
 pub tuple_places : {x : Placing} {p : Lowering Elements} (at : Pointer) → Correct p (ElementsPlace no_elements x)

@@ -41,7 +41,7 @@ unfolding missing_pat
 missing_pat_any = stored_pat_any _ None
 
 -- steps that hand a table on
-abbrev pub Each : {A : Type 0} → (Table → Lowering A) → Type 1
+abbrev pub Each : {A : Type 0} → (Table → Lowering A) → Type 0
 Each p = (t : Table) → Correct (p t) Any
 
 pub alone_any : {p : Lowering PatId} → Correct p Any → Each (forms.alone p)
@@ -53,7 +53,7 @@ known_any : (u : Use) (t : Table) (b : Option BindingId) → Correct (forms.use_
 known_any u t (Some b) = pure_any _
 known_any u t None = then_any (any (correct_alloc_binding _)) (λ b. pure_any _)
 
-name_any : (u : Use) → Each (forms.use_name u)
+pub name_any : (u : Use) → Each (forms.use_name u)
 unfolding forms.use_name
 name_any u t = known_any u t (forms.binding_of (forms.key_of u) t)
 
@@ -75,7 +75,7 @@ place_any : (place : Option ℕ) → Correct (forms.counted_place place) Any
 place_any None = correct_count_out Any
 place_any (Some n) = pure_any (Some n)
 
-dots_any : (comma : Bool) (place : Option ℕ) → Correct (forms.counted_dots comma place) Any
+pub dots_any : (comma : Bool) (place : Option ℕ) → Correct (forms.counted_dots comma place) Any
 dots_any comma None = pure_any None
 dots_any comma (Some n) = place_any (forms.small_place comma n)
 
