@@ -8,7 +8,7 @@ use Rattle.hir_store.specs.declared.ids.BindingId.{BindingId}
 use Rattle.hir_store.specs.declared.ids.PatId.{PatId}
 use Rattle.hir_store.specs.declared.pat.Binding.{Binding}
 use Rattle.hir_binding.specs.declared.binding.BindingProblems.{BindingProblems}
-use Rattle.hir_store.specs.Arenas.{Prefix, past}
+use Rattle.hir_store.specs.Arenas.{past}
 use Rattle.hir_store.specs.Bindings.{Bindings, BindingsContinue, EachGoesOn, AddsBinding, KeptBindings}
 use Rattle.hir_store.specs.Bindings.{at_place, pattern_added, problem_set, without_problem}
 use Rattle.hir_store.specs.Bindings.{binding_id, with_binding, with_definition, with_problem}
