@@ -100,9 +100,7 @@ impl Bindings {
     }
 
     /// The binding of a name, made where this is its first use.
-    #[tactic(auto,
-        using(crate::proofs::NameLemmas::found_exists, crate::proofs::NameLemmas::known_counted),
-        unfolding(hir_lower_form::specs::Pats::use_name))]
+    #[tactic(auto, using(crate::proofs::NameLemmas::found_exists, crate::proofs::NameLemmas::known_counted), unfolding(hir_lower_form::specs::Pats::use_name))]
     pub fn use_name(
         &mut self,
         state: &mut BodyBuilder,
@@ -159,9 +157,7 @@ impl Bindings {
     }
 
     /// Writes the problem that each binding shows. It takes no memory.
-    #[tactic(auto,
-        using(crate::proofs::NameLemmas::entry_exists, crate::proofs::NameLemmas::drop_entry, crate::proofs::NameLemmas::drop_none),
-        unfolding(hir_lower_form::specs::Pats::settle))]
+    #[tactic(auto, using(crate::proofs::NameLemmas::entry_exists, crate::proofs::NameLemmas::drop_entry, crate::proofs::NameLemmas::drop_none), unfolding(hir_lower_form::specs::Pats::settle))]
     pub fn settle(&self, state: &mut BodyBuilder)
         requires { HasNames state.old.stored self.now }
         ensures { Lowers HasNone (spec.settle (table_of self.now)) state.old (Ok tt) state.new }

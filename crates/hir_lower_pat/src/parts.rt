@@ -13,13 +13,13 @@ ghost use Rattle.hir_lower_pat.specs.Handlers.{HandlesPat};
 ghost use Rattle.hir_lower_pat.specs.Methods.{LowersPat, LowersPatIfPresent, LowersPatOpt};
 
 use crate::bindings::Bindings;
+use hir_base::node::{AstPtr, InFile, NodeId, PredId, TextRange};
 use hir_env::resolved::{Resolved, Shadow};
 use hir_lower_form::builder::BodyBuilder;
 use hir_lower_form::parts::{LowerParts, Lowerer};
 use hir_store::fault::StoreFault;
 use hir_store::ids::{CfgId, HygieneId, PatId};
 use hir_store::path::{ModPath, Path};
-use hir_base::node::{AstPtr, InFile, NodeId, PredId, TextRange};
 use hir_syntax::{Boxed, ast};
 use std::alloc::Global;
 
@@ -27,6 +27,7 @@ use std::alloc::Global;
 pub trait PatParts {
     /// The patterns and the paths that may be handed in.
     ghost can_pat: { Self → AstPat → Type 0 };
+
     ghost can_path: { Self → AstPath → Type 0 };
     /// Where the parts are read.
     ghost spot: { Self → Spot };
@@ -74,6 +75,7 @@ pub trait PatParts {
 }
 
 /// The parts of a pattern are lowered by a function.
+#[derive_where(Clone, Copy; F)]
 pub struct Inside<'l, P, F> {
     pub lowerer: &'l Lowerer<P>,
     pub pat: F,
