@@ -13,12 +13,12 @@ ghost use Rattle.hir_lower_pat.specs.Methods.{LowersLater, LowersPat, LowersPats
 
 use crate::bindings::Bindings;
 use crate::parts::{PatParts, pat_if_present};
+use hir_base::node::{AstPtr, InFile};
 use hir_lower_form::builder::BodyBuilder;
 use hir_store::fault::StoreFault;
 use hir_store::hir::Pat;
 use hir_store::ids::PatId;
 use hir_store::lists::push_pat;
-use hir_base::node::{AstPtr, InFile};
 use hir_syntax::{Boxed, Seq, ast};
 
 fn pats<S: PatParts>(

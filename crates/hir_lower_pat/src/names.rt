@@ -15,6 +15,7 @@ ghost use Rattle.hir_lower_pat.specs.Methods.{LowersPat, use_with};
 
 use crate::bindings::Bindings;
 use crate::parts::{PatParts, pat_if_present};
+use hir_base::node::{AstPtr, InFile};
 use hir_binding::binding::BindingAnnotation;
 use hir_env::resolved::{Resolution, Shadow};
 use hir_lower_form::builder::BodyBuilder;
@@ -25,7 +26,6 @@ use hir_store::hir::Pat;
 use hir_store::ids::{HygieneId, PatId};
 use hir_store::name::Name;
 use hir_store::path::{ModPath, Path, PathKind};
-use hir_base::node::{AstPtr, InFile};
 use hir_syntax::{Boxed, Seq, ast};
 use std::alloc::{AllocError, Global};
 

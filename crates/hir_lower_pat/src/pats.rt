@@ -15,12 +15,12 @@ use crate::parts::{Inside, PatParts, pat_or_missing};
 use crate::plain::plain_kind;
 use crate::records::record_form;
 use crate::tuples::{tuple_form, tuple_struct_form};
+use hir_base::node::{AstPtr, InFile};
 use hir_lower_form::builder::BodyBuilder;
 use hir_lower_form::parts::{LowerParts, Lowerer};
 use hir_store::fault::StoreFault;
 use hir_store::hir::{Mutability, Pat};
 use hir_store::ids::PatId;
-use hir_base::node::{AstPtr, InFile};
 use hir_syntax::{Boxed, ast};
 
 #[tactic(auto, unfolding(hir_lower_form::specs::Pats::over_pat_form))]

@@ -11,11 +11,11 @@ ghost use Rattle.hir_lower_pat.specs.Methods.{IsPlain, kind_at, lower_plain};
 
 use crate::parts::PatParts;
 use crate::sides::{literal_form, predicate_form, range_form};
+use hir_base::node::{AstPtr, InFile};
 use hir_lower_form::builder::BodyBuilder;
 use hir_store::fault::StoreFault;
 use hir_store::hir::Pat;
 use hir_store::ids::{HygieneId, PatId};
-use hir_base::node::{AstPtr, InFile};
 use hir_syntax::{Boxed, ast};
 
 /// A path that is absent or refused is missing.

@@ -14,6 +14,7 @@ ghost use Rattle.hir_lower_pat.specs.Methods.{HasPatField, LowersPat, LowersPatF
 
 use crate::bindings::Bindings;
 use crate::parts::PatParts;
+use hir_base::node::{AstPtr, InFile};
 use hir_lower_form::builder::BodyBuilder;
 use hir_lower_form::parts::site;
 use hir_store::diagnostics::ExpressionStoreDiagnostics;
@@ -23,7 +24,6 @@ use hir_store::ids::PatId;
 use hir_store::lists::push_pat_field;
 use hir_store::name::Name;
 use hir_store::path::Path;
-use hir_base::node::{AstPtr, InFile};
 use hir_syntax::{Boxed, Seq, ast};
 
 /// A field with a name, whose part leads to it. One without is no part of the record.

@@ -16,6 +16,7 @@ ghost use Rattle.hir_lower_pat.specs.Methods.{lower_plain, plain_truth, use_with
 
 use crate::names::{is_without_words, mode_of, path_of_name};
 use crate::parts::PatParts;
+use hir_base::node::{AstPtr, InFile, PredId};
 use hir_binding::binding::BindingAnnotation;
 use hir_lower_form::builder::BodyBuilder;
 use hir_lower_form::names::{literal, truth_literal};
@@ -25,7 +26,6 @@ use hir_store::ids::{ExprId, HygieneId, PatId};
 use hir_store::name::Name;
 use hir_store::path::Path;
 use hir_syntax::ast::RangeOp;
-use hir_base::node::{AstPtr, InFile, PredId};
 use hir_syntax::{Boxed, ast};
 use std::alloc::{AllocError, Global};
 

@@ -11,6 +11,7 @@ ghost use Rattle.hir_lower_pat.specs.Methods.{use_with};
 
 use crate::bindings::Bindings;
 use crate::pats::lower_pat;
+use hir_base::node::{AstPtr, InFile};
 use hir_binding::binding::BindingAnnotation;
 use hir_lower_form::builder::BodyBuilder;
 use hir_lower_form::names::name_of;
@@ -18,7 +19,6 @@ use hir_lower_form::parts::{LowerParts, Lowerer, site};
 use hir_store::fault::StoreFault;
 use hir_store::hir::Pat;
 use hir_store::ids::{HygieneId, PatId};
-use hir_base::node::{AstPtr, InFile};
 use hir_syntax::{Boxed, ast};
 
 fn whole_pat<P: LowerParts>(

@@ -15,13 +15,13 @@ ghost use Rattle.hir_lower_pat.specs.Methods.{HasCounted, HasDots, HasElements, 
 
 use crate::bindings::Bindings;
 use crate::parts::PatParts;
+use hir_base::node::{AstPtr, InFile};
 use hir_lower_form::builder::BodyBuilder;
 use hir_store::fault::StoreFault;
 use hir_store::hir::Pat;
 use hir_store::ids::PatId;
 use hir_store::lists::push_pat;
 use hir_store::path::Path;
-use hir_base::node::{AstPtr, InFile};
 use hir_syntax::{Boxed, Seq, ast};
 use std::alloc::{AllocError, Global};
 
