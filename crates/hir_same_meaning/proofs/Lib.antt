@@ -25,6 +25,7 @@ pub mod HeldWalk
 pub mod HeldPaths
 pub mod HeldForms
 pub mod HeldPats
+pub mod HeldLimits
 pub mod HeldTree
 pub mod Whole
 pub mod Computed

@@ -33,7 +33,7 @@ use Rattle.hir_same_meaning.proofs.Views.{numbers}
 -- ---- steps in a row, however they are grouped
 
 module _ {A B C : Type 0} {ps : List Frame} where
-  stored_row : {m : StoreRun A} {f : A → StoreRun B} {g : B → StoreRun C} {n : SyntaxRun C}
+  pub stored_row : {m : StoreRun A} {f : A → StoreRun B} {g : B → StoreRun C} {n : SyntaxRun C}
       → SameWhere ps (m >>= (λ a. f a >>= g)) n → SameWhere ps ((m >>= f) >>= g) n
   unfolding ◌>>=◌
   stored_row {m = m} {f = f} {g = g} {n = n} h = record { same = λ w. by (m w).0 (m w).1 (n w) (h.same w) }
@@ -60,7 +60,7 @@ module _ {A B C : Type 0} {ps : List Frame} where
       by (leave x) w r h = h
 
 module _ {A B : Type 0} {ps : List Frame} where
-  stored_pure : {a : A} {f : A → StoreRun B} {n : SyntaxRun B} → SameWhere ps (f a) n → SameWhere ps (pure a >>= f) n
+  pub stored_pure : {a : A} {f : A → StoreRun B} {n : SyntaxRun B} → SameWhere ps (f a) n → SameWhere ps (pure a >>= f) n
   unfolding ends, ◌>>=◌
   stored_pure h = record { same = λ w. h.same w }
 
@@ -154,6 +154,11 @@ item_is : (final : Stored) (i : LangItemId) → stored_path (store_of final) (ma
 unfolding stored_path
 item_is final i = refl
 
+pub goes_item : {labels : ℕ} {m m' : Mark} {final : Stored} {ps qs : List Frame} {i : ExprId} (item' : LangItemId)
+    → Allocated (item_expr (Some item')) None final qs m m' i
+    → Goes labels m'.nodes one (λ turns ss. pure (item item')) final ps i
+goes_item {final = final} item' a = goes_at a (λ turns d le f. rw (item_is final item') (same_pure (item item'))) (λ d le. tt)
+
 module _ (at : Pointer) (start end : OptionExpr) where
   abbrev range_walk : RangeForm → Walk Value
   range_walk form turns ss = run_range form start end (run_present turns start ss) (run_present turns end ss) (Some (site_of at))
@@ -171,11 +176,6 @@ module _ (at : Pointer) (start end : OptionExpr) where
           → SameWhere ps (ask (made_record (item_path item) names no_spread) (vs ++ []) (Some (site_of at)))
           (ask (made_record (item_path item) names no_spread) vs (Some (site_of at)))
       of_all names vs = rw (append-nil vs) (same_ask (made_record (item_path item) names no_spread) vs (Some (site_of at)))
-
-  goes_item : {labels : ℕ} {m m' : Mark} {final : Stored} {ps qs : List Frame} {i : ExprId} (item' : LangItemId)
-      → Allocated (item_expr (Some item')) None final qs m m' i
-      → Goes labels m'.nodes one (λ turns ss. pure (item item')) final ps i
-  goes_item {final = final} item' a = goes_at a (λ turns d le f. rw (item_is final item') (same_pure (item item'))) (λ d le. tt)
 
   goes_call_range : {labels : ℕ} {m m1 m' : Mark} {final : Stored} {ps qs : List Frame} {c i : ExprId} (called : Option LangItemId)
       (s e : Option ExprId) → EndIs labels m1.nodes final ps start s → EndIs labels m1.nodes final ps end e
