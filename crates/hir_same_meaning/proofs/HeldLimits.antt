@@ -20,7 +20,7 @@ use Rattle.hir_data.specs.Written.{root_hygiene, signed_data, written_path}
 use Rattle.hir_lower_form.specs.Forms.{ExprSteps}
 use Rattle.hir_lower_form.specs.Lower.{lower_path, limit_side, lower_limit}
 use Rattle.hir_lower_form.specs.Lowering.{Lowering, alloc_pat}
-use Rattle.hir_lower_form.specs.Pats.{name_path}
+use Rattle.hir_lower_form.specs.Pats.{name_path, missing_pat}
 use Rattle.hir_lower_form.specs.Ranges as forms
 use Rattle.hir_meaning.specs.Inner.{Bodies, Inners, all_of, of_expr, of_limit, of_type_pat, limit_body, side_bodies, limit_bodies}
 use Rattle.hir_meaning.specs.Limits.{run_item, run_side_path, run_side, run_limit}
@@ -194,6 +194,10 @@ pub type_pat0 : (p : HirPat) (source : Option Pointer) → ((r : Inners) → of_
     → Correct (alloc_pat p source) (Holds a_type_pat [])
 type_pat0 p source e = correct_as (correct_alloc_pat p source)
     (λ final ps m m' i g at. type_pat_held {ps = ps} {n = m} at (λ d le. same_ids final [] (e (inners_in final d)) tt))
+
+pub missing_type_pat_held : Correct missing_pat (Holds a_type_pat [])
+unfolding missing_pat
+missing_type_pat_held = type_pat0 pat.Missing None (λ r. refl)
 
 pub alternatives_held : {es : Bodies} (at : Pointer) {q : Lowering (List PatId)}
     → Correct q (Holds (λ r is. all_of r.type_pat is) es) → Correct (forms.type_alternatives_form at q) (Holds a_type_pat es)

@@ -5,6 +5,7 @@ use Rattle.hir_store.specs.Pointers.{Pointer}
 use Rattle.hir_store.specs.Stored.{Stored}
 use Rattle.hir_store.specs.Generics.{of_binding as binding_of_parts}
 use Rattle.hir_store.specs.declared.hir.Mutability.{Mutability}
+use Rattle.hir_store.specs.declared.ids.PatId.{PatId}
 use Rattle.hir_store.specs.declared.ids.TypeRefId.{TypeRefId}
 use Rattle.hir_store.specs.declared.name.Name.{Name}
 use Rattle.hir_store.specs.declared.path.AssociatedTypeBinding.{AssociatedTypeBinding}
@@ -29,6 +30,7 @@ use Rattle.hir_lower_form.specs.Paths.{parens_form, segment_args_form, or_else, 
 use Rattle.hir_lower_form.specs.Types.{TypeSteps, error_type, unit_type, lower_lifetime, lower_lifetime_option}
 use Rattle.hir_lower_form.specs.Types.{stored_leaf_type, stored_over_type, over_form, tuple_type_form, array_type_form, ref_type_form}
 use Rattle.hir_lower_form.specs.Types.{path_or_error, path_type_form, stored_fn, fn_type_form, impl_type_form, dyn_type_form}
+use Rattle.hir_lower_form.specs.Types.{pattern_type_form}
 use Rattle.hir_lower_form.specs.Types.{yielded, binding_form, add_arg, add_binding, no_lists, stored_path_bound, path_bound_of}
 use Rattle.hir_lower_form.specs.Types.{path_bound_form}
 use Rattle.hir_meaning.specs.Inner.{Bodies, Inners, all_of, of_present, of_constant, of_arg, of_bound, of_list, of_path, of_type, if_opaque}
@@ -38,6 +40,7 @@ use Rattle.hir_steps.proofs.Steps.{Mark, Grows, Rel, Correct, correct_bind, corr
 use Rattle.hir_steps.proofs.Steps.{correct_alloc_type}
 use Rattle.hir_steps.proofs.TypeAny.{lifetime_any, lifetime_option_any}
 use Rattle.hir_same_meaning.proofs.Holding.{SameIn, inners_in, same_append, same_ids, same_bodies, Ids, nothing, a_type, each, maybe, Holds}
+use Rattle.hir_same_meaning.proofs.Holding.{a_type_pat}
 use Rattle.hir_same_meaning.proofs.Holding.{holds_behind, type_held, type0, type1}
 use Rattle.hir_same_meaning.proofs.HeldArgs.{all_append, of_binding, args_roll, binding_roll}
 
@@ -105,6 +108,16 @@ module _ (at : Pointer) {es : Bodies} where
       (λ final ps m m' i g row. let s = row.second in type_held s.second (λ d le.
       let r = inners_in final d in same_append final (r.type s.one) (of_constant r row.one) es fs (s.first.same d le)
       (row.first.same d (omega (le, s.before.nodes, s.before.entries, arith)))))
+
+  -- what stands behind it is a pattern of the type
+  pub pattern_type_held : {fs : Bodies} {t : TypeSteps} {p : Lowering PatId} → Correct t (Holds a_type es)
+      → Correct p (Holds a_type_pat fs) → Correct (pattern_type_form at t p) (Holds a_type (es ++ fs))
+  unfolding pattern_type_form
+  pattern_type_held {fs = fs} h k = correct_as
+      (correct_bind h (λ t. correct_bind k (λ p. correct_alloc_type (ty.Pattern t p) (Some at))))
+      (λ final ps m m' i g row. let s = row.second in type_held s.second (λ d le. let r = inners_in final d in
+      same_append final (r.type row.one) (r.type_pat s.one) es fs
+      (row.first.same d (omega (le, s.before.nodes, s.before.entries, arith))) (s.first.same d le)))
 
   pub path_type_held : {p : Lowering (Option HirPath)} → Correct p (Holds a_path es) → Correct (path_type_form at p) (Holds a_type es)
   unfolding path_type_form

@@ -26,6 +26,7 @@ pub mod HeldPaths
 pub mod HeldForms
 pub mod HeldPats
 pub mod HeldLimits
+pub mod HeldPatterned
 pub mod HeldTree
 pub mod Whole
 pub mod Computed
