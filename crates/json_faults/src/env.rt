@@ -11,9 +11,7 @@ ghost use Rattle.json_faults.specs.Tables.{table_of};
 use crate::fault::Fault;
 use crate::path_text::is_path_text;
 use crate::table::{Cell, Table, tables};
-use crate::value::{
-    flag_if_there, is_decision, is_resolution, is_small_or_null, item_at, small,
-};
+use crate::value::{flag_if_there, is_decision, is_resolution, is_small_or_null, item_at, small};
 use json_kinds::words::Words;
 use serde_json::Value;
 

@@ -3,6 +3,8 @@
 ghost use Rattle.std.specs.Prelude.{◌≡◌, map};
 ghost use Rattle.json_faults.specs.Tables.{table_of, tables};
 
+use crate::table::Cell::{Decision, PathText, Resolution, Small, SmallOrNull, Truth};
+
 /// What stands at one place of an entry.
 #[derive(Clone, Copy)]
 pub enum Cell {
@@ -34,40 +36,27 @@ pub fn tables() -> &'static [Table]
     &[
         Table {
             name: "disabled",
-            cells: &[Cell::Small, Cell::Small, Cell::Small],
+            cells: &[Small, Small, Small],
         },
         Table {
             name: "preds",
-            cells: &[Cell::Small, Cell::Decision],
+            cells: &[Small, Decision],
         },
         Table {
             name: "hygiene",
-            cells: &[Cell::Small, Cell::Small, Cell::Small],
+            cells: &[Small, Small, Small],
         },
         Table {
             name: "contexts",
-            cells: &[
-                Cell::Small,
-                Cell::Small,
-                Cell::Small,
-                Cell::SmallOrNull,
-                Cell::Truth,
-                Cell::SmallOrNull,
-            ],
+            cells: &[Small, Small, Small, SmallOrNull, Truth, SmallOrNull],
         },
         Table {
             name: "blocks",
-            cells: &[Cell::Small, Cell::Small, Cell::Small, Cell::Small],
+            cells: &[Small, Small, Small, Small],
         },
         Table {
             name: "resolve",
-            cells: &[
-                Cell::Small,
-                Cell::PathText,
-                Cell::Resolution,
-                Cell::Resolution,
-                Cell::SmallOrNull,
-            ],
+            cells: &[Small, PathText, Resolution, Resolution, SmallOrNull],
         },
     ]
 }

@@ -20,7 +20,7 @@ abbrev binary_ops : List (List ℕ)
 binary_ops = codes "||" ∷ codes "&&" ∷ (comparisons ++ (ariths ++ codes "=" ∷ map (λ w. w ++ codes "=") ariths))
 
 -- what a path may stand for, but for aliases
-abbrev resolutions : List (List ℕ)
+abbrev pub resolutions : List (List ℕ)
 resolutions = codes "module" ∷ codes "function" ∷ codes "struct" ∷ codes "union" ∷ codes "enum" ∷ codes "variant"
     ∷ codes "const" ∷ codes "static" ∷ codes "trait" ∷ codes "builtin" ∷ []
 

@@ -294,12 +294,14 @@ impl Kind {
         ensures { map named_sort result.now ≡ (row self).fields }
     {
         match self {
-            Kind::IfExpr => listed!("condition": Part(Expr), "then": Part(Block), "else": Part(Else)),
+            Kind::IfExpr =>
+                listed!("condition": Part(Expr), "then": Part(Block), "else": Part(Else)),
             Kind::BlockExpr => listed!(
                 "mod": WordIfThere(Words::Modifiers), "label": PlainLabel, "move": NotYet, "ty": NotYet,
                 "stmts": List(Stmt), "tail": Part(Expr)
             ),
-            Kind::Literal => listed!("lit": Word(Words::Literals), "t": LiteralText, "suffix": TextIfThere),
+            Kind::Literal =>
+                listed!("lit": Word(Words::Literals), "t": LiteralText, "suffix": TextIfThere),
             Kind::PathType => listed!("path": Part(Path)),
             Kind::Expr(kind) => kind.fields(),
             Kind::Stmt(kind) => kind.fields(),

@@ -1,7 +1,7 @@
 //! The words that fields hold.
 
 ghost use Rattle.std.specs.Prelude.{◌≡◌, map};
-ghost use Rattle.json_kinds.specs.Words.{words};
+ghost use Rattle.json_kinds.specs.Words.{lang_names, resolutions, words};
 
 /// A set of words.
 #[derive(Clone, Copy)]
@@ -39,18 +39,47 @@ impl Words {
             Words::RangeOps => &["..", "..="],
             Words::Owners => &["fn", "static", "const", "variant"],
             Words::Containers => &["module", "extern", "impl", "trait"],
-            Words::Resolutions => &[
-                "module", "function", "struct", "union", "enum", "variant", "const", "static",
-                "trait", "builtin",
-            ],
-            Words::LangItems => &[
-                "RangeFull", "RangeFrom", "RangeFromCopy", "RangeTo", "RangeCopy", "Range",
-                "RangeToInclusiveCopy", "RangeToInclusive", "RangeInclusiveCopy",
-                "RangeInclusiveNew", "TryTraitFromOutput", "TryTraitBranch", "ControlFlowContinue",
-                "ControlFlowBreak", "ResidualIntoTryType", "TryTraitFromResidual",
-                "IntoIterIntoIter", "IteratorNext", "OptionSome", "OptionNone", "RangeMin",
-                "RangeMax", "RangeSub",
-            ],
+            Words::Resolutions => resolutions(),
+            Words::LangItems => lang_items(),
         }
     }
+}
+
+fn resolutions() -> &'static [&'static str]
+    ensures { map (λ w. w.now) result.now ≡ resolutions }
+{
+    &[
+        "module", "function", "struct", "union", "enum", "variant", "const", "static",
+        "trait", "builtin",
+    ]
+}
+
+fn lang_items() -> &'static [&'static str]
+    ensures { map (λ w. w.now) result.now ≡ lang_names }
+{
+    &[
+        "RangeFull",
+        "RangeFrom",
+        "RangeFromCopy",
+        "RangeTo",
+        "RangeCopy",
+        "Range",
+        "RangeToInclusiveCopy",
+        "RangeToInclusive",
+        "RangeInclusiveCopy",
+        "RangeInclusiveNew",
+        "TryTraitFromOutput",
+        "TryTraitBranch",
+        "ControlFlowContinue",
+        "ControlFlowBreak",
+        "ResidualIntoTryType",
+        "TryTraitFromResidual",
+        "IntoIterIntoIter",
+        "IteratorNext",
+        "OptionSome",
+        "OptionNone",
+        "RangeMin",
+        "RangeMax",
+        "RangeSub",
+    ]
 }

@@ -98,7 +98,10 @@ fn arg_list<P: ReadParts>(node: &Node<'_, P>, kind: PathNode) -> Result<Option<A
 }
 
 /// An argument, or a list of some.
-pub fn of_args<P: ReadParts>(node: &Node<'_, P>, kind: PathNode) -> Result<Option<AnyPart>, AllocError>
+pub fn of_args<P: ReadParts>(
+    node: &Node<'_, P>,
+    kind: PathNode,
+) -> Result<Option<AnyPart>, AllocError>
     requires { P.can node.now.parts.now }
     ensures { IfOk result (λ part. part ≡ spec.of_args (here P.parts node.now) kind) }
 {

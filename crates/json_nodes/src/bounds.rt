@@ -55,12 +55,18 @@ fn bound<P: ReadParts>(node: &Node<'_, P>) -> Result<TypeBound, AllocError>
 
 /// A bound, or what else stands beside types.
 #[tactic(auto, unfolding(crate::specs::Bounds::of_bound))]
-pub fn of_bound<P: ReadParts>(node: &Node<'_, P>, kind: PartNode) -> Result<Option<AnyPart>, AllocError>
+pub fn of_bound<P: ReadParts>(
+    node: &Node<'_, P>,
+    kind: PartNode,
+) -> Result<Option<AnyPart>, AllocError>
     requires { P.can node.now.parts.now }
     ensures { IfOk result (λ part. part ≡ spec.of_bound (here P.parts node.now) kind) }
 {
     match kind {
-        PartNode::TypeBound => Ok(Some(AnyPart::Type_(TypePart::Bound(Boxed::new(node.alloc, bound(node)?)?)))),
+        PartNode::TypeBound => Ok(Some(AnyPart::Type_(TypePart::Bound(Boxed::new(
+            node.alloc,
+            bound(node)?,
+        )?)))),
         PartNode::ForBinder => {
             let binder = ForBinder {
                 id: node.id,

@@ -7,8 +7,8 @@ ghost use Rattle.json_nodes.specs.Groups.{else_of, expr_of, guard_of, let_else_o
 ghost use Rattle.json_nodes.specs.Groups.{record_list_of, stmt_of};
 
 use crate::part::{AnyPart, Part};
-use hir_base::node::{NodeId, TextRange};
 use hir_base::Boxed;
+use hir_base::node::{NodeId, TextRange};
 use hir_syntax::ast::{
     BlockExpr, ElseBranch, Expr, ExprKind, Guard, LetElse, Literal, MatchArm, PatLiteral,
     RecordExprField, RecordExprFieldList, Stmt,

@@ -44,11 +44,7 @@ pub fn of_literal<P: ReadParts>(node: &Node<'_, P>) -> Result<Option<AnyPart>, A
     ensures { IfOk result (λ part. part ≡ spec.of_literal (here P.parts node.now)) }
 {
     match literal(node.alloc, node.value)? {
-        Some(literal) => Ok(Some(AnyPart::Expr(ExprPart::Literal(
-            node.id,
-            node.range,
-            literal,
-        )))),
+        Some(literal) => Ok(Some(AnyPart::Expr(ExprPart::Literal(node.id, node.range, literal)))),
         None => Ok(None),
     }
 }

@@ -11,7 +11,10 @@ use std::alloc::AllocError;
 
 /// `return`, `become`, `yield`, `do yeet` and `.await`.
 #[tactic(auto, unfolding(crate::specs::Exprs::leaving))]
-pub fn leaving<P: ReadParts>(node: &Node<'_, P>, kind: ExprNode) -> Result<Option<ExprKind>, AllocError>
+pub fn leaving<P: ReadParts>(
+    node: &Node<'_, P>,
+    kind: ExprNode,
+) -> Result<Option<ExprKind>, AllocError>
     requires { P.can node.now.parts.now }
     ensures { IfOk result (λ expr. expr ≡ spec.leaving (here P.parts node.now) kind) }
 {

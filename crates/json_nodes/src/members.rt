@@ -12,7 +12,10 @@ use std::alloc::AllocError;
 
 /// Methods and fields, tuples and arrays.
 #[tactic(auto, unfolding(crate::specs::Exprs::member))]
-pub fn member<P: ReadParts>(node: &Node<'_, P>, kind: ExprNode) -> Result<Option<ExprKind>, AllocError>
+pub fn member<P: ReadParts>(
+    node: &Node<'_, P>,
+    kind: ExprNode,
+) -> Result<Option<ExprKind>, AllocError>
     requires { P.can node.now.parts.now }
     ensures { IfOk result (λ expr. expr ≡ spec.member (here P.parts node.now) kind) }
 {

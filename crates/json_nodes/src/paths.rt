@@ -81,13 +81,22 @@ pub fn path<P: ReadParts>(node: &Node<'_, P>) -> Result<Path, AllocError>
 }
 
 /// A path or a segment.
-pub fn of_path<P: ReadParts>(node: &Node<'_, P>, kind: PathNode) -> Result<Option<AnyPart>, AllocError>
+pub fn of_path<P: ReadParts>(
+    node: &Node<'_, P>,
+    kind: PathNode,
+) -> Result<Option<AnyPart>, AllocError>
     requires { P.can node.now.parts.now }
     ensures { IfOk result (λ part. part ≡ spec.of_path (here P.parts node.now) kind) }
 {
     match kind {
-        PathNode::Path => Ok(Some(AnyPart::Path(PathPart::Path(Boxed::new(node.alloc, path(node)?)?)))),
-        PathNode::PathSegment => Ok(Some(AnyPart::Path(PathPart::Segment(Boxed::new(node.alloc, segment(node)?)?)))),
+        PathNode::Path => Ok(Some(AnyPart::Path(PathPart::Path(Boxed::new(
+            node.alloc,
+            path(node)?,
+        )?)))),
+        PathNode::PathSegment => Ok(Some(AnyPart::Path(PathPart::Segment(Boxed::new(
+            node.alloc,
+            segment(node)?,
+        )?)))),
         _ => Ok(None),
     }
 }

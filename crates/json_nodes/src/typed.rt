@@ -18,7 +18,10 @@ use std::alloc::AllocError;
 
 /// Casts, records and offsets of fields.
 #[tactic(auto, unfolding(crate::specs::Typed::typed))]
-pub fn typed<P: ReadParts>(node: &Node<'_, P>, kind: ExprNode) -> Result<Option<ExprKind>, AllocError>
+pub fn typed<P: ReadParts>(
+    node: &Node<'_, P>,
+    kind: ExprNode,
+) -> Result<Option<ExprKind>, AllocError>
     requires { P.can node.now.parts.now }
     ensures { IfOk result (λ expr. expr ≡ spec.typed (here P.parts node.now) kind) }
 {

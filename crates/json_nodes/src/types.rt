@@ -16,7 +16,10 @@ use json_kinds::kind::TypeNode;
 use std::alloc::AllocError;
 
 #[tactic(auto, unfolding(crate::specs::Types::over_types))]
-fn over_types<P: ReadParts>(node: &Node<'_, P>, kind: TypeNode) -> Result<Option<TypeKind>, AllocError>
+fn over_types<P: ReadParts>(
+    node: &Node<'_, P>,
+    kind: TypeNode,
+) -> Result<Option<TypeKind>, AllocError>
     requires { P.can node.now.parts.now }
     ensures { IfOk result (λ part. part ≡ spec.over_types (here P.parts node.now) kind) }
 {
@@ -132,7 +135,10 @@ fn bounded<P: ReadParts>(node: &Node<'_, P>, kind: TypeNode) -> Result<Option<Ty
     }
 }
 
-fn type_kind<P: ReadParts>(node: &Node<'_, P>, kind: TypeNode) -> Result<Option<TypeKind>, AllocError>
+fn type_kind<P: ReadParts>(
+    node: &Node<'_, P>,
+    kind: TypeNode,
+) -> Result<Option<TypeKind>, AllocError>
     requires { P.can node.now.parts.now }
     ensures { IfOk result (λ part. part ≡ spec.type_kind (here P.parts node.now) kind) }
 {

@@ -85,7 +85,12 @@ fn module(value: &Value) -> Option<ModuleId>
 }
 
 /// What is said, behind a path, of it.
-fn meaning(inside: &Value, types: &Value, values: &Value, rest: &Value) -> Option<(ModuleId, Resolved)>
+fn meaning(
+    inside: &Value,
+    types: &Value,
+    values: &Value,
+    rest: &Value,
+) -> Option<(ModuleId, Resolved)>
     ensures { result ≡ spec.both (spec.module_of (small_of (view inside.now)))
         (resolved_of (resolution_of (view types.now)) (resolution_of (view values.now)) (number_or_null (view rest.now))) }
 {
@@ -134,10 +139,7 @@ fn said_in(
     }
 }
 
-fn said(
-    alloc: Global,
-    entry: &Value,
-) -> Result<Option<(ModPath, (ModuleId, Resolved))>, AllocError>
+fn said(alloc: Global, entry: &Value) -> Result<Option<(ModPath, (ModuleId, Resolved))>, AllocError>
     ensures { IfOk result (λ said. said ≡ spec.said_of (as_array (view entry.now))) }
 {
     match entry.as_array() {

@@ -99,10 +99,7 @@ fn expr_kind<P: ReadParts>(
 }
 
 /// An expression.
-fn of_expr<P: ReadParts>(
-    node: &Node<'_, P>,
-    kind: ExprNode,
-) -> Result<Option<AnyPart>, AllocError>
+fn of_expr<P: ReadParts>(node: &Node<'_, P>, kind: ExprNode) -> Result<Option<AnyPart>, AllocError>
     requires { P.can node.now.parts.now }
     ensures { IfOk result (λ part. part ≡ spec.of_expr (here P.parts node.now) kind) }
 {
@@ -134,10 +131,7 @@ fn of_path_part<P: ReadParts>(
 }
 
 /// A part of anything else.
-fn of_part<P: ReadParts>(
-    node: &Node<'_, P>,
-    kind: PartNode,
-) -> Result<Option<AnyPart>, AllocError>
+fn of_part<P: ReadParts>(node: &Node<'_, P>, kind: PartNode) -> Result<Option<AnyPart>, AllocError>
     requires { P.can node.now.parts.now }
     ensures { IfOk result (λ part. part ≡ spec.of_part (here P.parts node.now) kind) }
 {

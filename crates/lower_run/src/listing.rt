@@ -10,6 +10,7 @@ mod words;
 mod writer;
 
 use hir_env::lang::LangItems;
+use hir_lower::Param;
 use hir_store::ids::{BindingId, PatId, TypeRefId};
 use hir_store::path::Path;
 use hir_store::source_map::ExpressionStoreSourceMap;
@@ -34,7 +35,7 @@ pub fn body_listing(
     alloc: Global,
     listed: Listed<'_>,
     self_param: Option<BindingId>,
-    params: &[PatId],
+    params: &[Param<PatId>],
 ) -> Result<String, AllocError> {
     let mut printer = Printer::new(alloc, listed);
     let printed = printer.listing(self_param, params);
@@ -47,7 +48,7 @@ pub fn body_listing(
 pub fn params_listing(
     alloc: Global,
     listed: Listed<'_>,
-    params: &[PatId],
+    params: &[Param<PatId>],
 ) -> Result<String, AllocError> {
     let mut printer = Printer::new(alloc, listed);
     let printed = printer.params_listing(params);

@@ -58,7 +58,11 @@ fn listed_body(alloc: Global, document: &Document, item: &ast::Fn) -> Result<Str
         false,
     )?;
     let listed = listed_in(document, &body.store, &source_map.store);
-    let text = body_listing(alloc, listed, body.self_param, body.params.as_slice());
+    let self_param = match body.self_param {
+        Some(param) => Some(param.formal),
+        None => None,
+    };
+    let text = body_listing(alloc, listed, self_param, body.params.as_slice());
     drop(body);
     drop(source_map);
     text.map_err(|_| Failure::Memory)

@@ -1,7 +1,7 @@
 //! What an `impl` becomes where the caller chooses, and types for which there is no room.
 
-use hir_base::node::{AstPtr, HirFileId, NodeId, TextRange};
 use hir_base::Seq;
+use hir_base::node::{AstPtr, HirFileId, NodeId, TextRange};
 use hir_env::lang::LangItems;
 use hir_env::place::LoweringMode;
 use hir_env::table::TableEnv;

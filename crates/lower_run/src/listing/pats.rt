@@ -56,10 +56,8 @@ impl<'a> Waiting<'a> {
                 expr_or_absent(*start),
                 expr_or_absent(*end),
             ]),
-            Pat::TupleStruct { .. }
-            | Pat::Tuple { .. }
-            | Pat::Record { .. }
-            | Pat::Slice { .. } => self.push_piece_parts(pat),
+            Pat::TupleStruct { .. } | Pat::Tuple { .. } | Pat::Record { .. } | Pat::Slice { .. } =>
+                self.push_piece_parts(pat),
         }
     }
 

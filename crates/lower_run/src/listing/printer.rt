@@ -1,11 +1,11 @@
 //! Printing of expressions, patterns and types.
 
-use super::lines;
 use super::numbering::Numbering;
 use super::waiting::{Piece, Waiting, arg_piece};
 use super::words::{expr_word, lang_word, pat_word, statement_word};
 use super::writer::Writer;
-use super::Listed;
+use super::{Listed, lines};
+use hir_lower::Param;
 use hir_store::hir::{MatchArm, RecordFieldPat, RecordLitField, Statement};
 use hir_store::ids::{BindingId, ExprId, HygieneId, LabelId, LifetimeRefId, PatId, TypeRefId};
 use hir_store::name::Name;
@@ -67,7 +67,7 @@ impl<'a> Printer<'a> {
     pub fn listing(
         &mut self,
         self_param: Option<BindingId>,
-        params: &[PatId],
+        params: &[Param<PatId>],
     ) -> Result<(), AllocError> {
         if let Some(id) = self_param {
             self.writer.word("self ")?;
@@ -79,7 +79,7 @@ impl<'a> Printer<'a> {
     }
 
     /// Prints the whole listing of parameters alone, then as for a body.
-    pub fn params_listing(&mut self, params: &[PatId]) -> Result<(), AllocError> {
+    pub fn params_listing(&mut self, params: &[Param<PatId>]) -> Result<(), AllocError> {
         self.params(params)?;
         self.others()
     }
@@ -115,17 +115,21 @@ impl<'a> Printer<'a> {
     }
 
     /// Prints a line for each parameter.
-    fn params(&mut self, params: &[PatId]) -> Result<(), AllocError> {
+    fn params(&mut self, params: &[Param<PatId>]) -> Result<(), AllocError> {
         for param in params {
             self.writer.word("param ")?;
-            self.line(Piece::Pat(*param))?;
+            self.line(Piece::Pat(param.formal))?;
         }
         Ok(())
     }
 
     /// Prints the bindings and the labels by number, then the diagnostics.
     fn others(&mut self) -> Result<(), AllocError> {
-        lines::bindings(&mut self.writer, self.bindings.as_slice(), self.listed.store)?;
+        lines::bindings(
+            &mut self.writer,
+            self.bindings.as_slice(),
+            self.listed.store,
+        )?;
         lines::labels(
             &mut self.writer,
             self.labels.as_slice(),
@@ -498,6 +502,7 @@ impl<'a> Printer<'a> {
     /// What a root reaches is stored behind all of the root before it, so that the numbers of the roots grow.
     fn root_mark(&mut self, id: ExprId) -> Result<(), AllocError> {
         let number = self
+            .listed
             .store
             .expr_roots()
             .binary_search_by_key(&id.0, |root| root.root.0);
