@@ -1,5 +1,5 @@
 pub mod NameLemmas
-pub mod Kinds
+pub mod KindLemmas
 pub mod Kids
 pub mod PathNames
 pub mod AimLemmas

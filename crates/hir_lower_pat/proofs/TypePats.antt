@@ -20,7 +20,7 @@ use Rattle.hir_env.specs.Whole.{pat_level, pat_part, pointer_at, reader, written
 use Rattle.hir_env.specs.declared.lang.LangItems.{LangItems}
 use Rattle.hir_lower_form.specs.Lower.{limit_side, missing}
 use Rattle.hir_lower_pat.specs.TypePats.{IsOther}
-use Rattle.hir_lower_pat.proofs.Kinds.{named_side}
+use Rattle.hir_lower_pat.proofs.KindLemmas.{named_side}
 
 abbrev level : Spot → PatKindLayer written → Pointer → Pat
 level at k s = pat_at at.answers (reader at.answers) k at.place s

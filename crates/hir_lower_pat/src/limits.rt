@@ -18,6 +18,7 @@ ghost use Rattle.hir_lower_pat.specs.TypePats as bodies;
 use crate::items::item_expr;
 use crate::names::path_of_name;
 use crate::sides::signed;
+use hir_base::node::{AstPtr, InFile};
 use hir_env::place::Place;
 use hir_lower_form::builder::BodyBuilder;
 use hir_lower_form::names::name_of;
@@ -27,7 +28,6 @@ use hir_store::hir::Expr;
 use hir_store::ids::{ExprId, HygieneId, LangItemId};
 use hir_store::path::Path;
 use hir_syntax::ast::RangeOp;
-use hir_base::node::{AstPtr, InFile};
 use hir_syntax::{Boxed, Seq, ast};
 use std::alloc::{AllocError, Global};
 
@@ -102,7 +102,7 @@ fn path_side<P: LowerParts>(
 }
 
 /// What a pattern is as a side, missing where it is another pattern.
-#[tactic(auto, using(crate::proofs::Kinds::named_side, crate::proofs::TypePats::no_limit_left))]
+#[tactic(auto, using(crate::proofs::KindLemmas::named_side, crate::proofs::TypePats::no_limit_left))]
 fn side_form<P: LowerParts>(
     lowerer: &Lowerer<P>,
     state: &mut BodyBuilder,

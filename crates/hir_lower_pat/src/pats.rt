@@ -81,7 +81,7 @@ fn deref_form<S: PatParts>(
 }
 
 /// The form of a pattern. One whose parts know of no name is made by itself.
-#[tactic(auto, using(crate::proofs::Kinds::plain_is_alone))]
+#[tactic(auto, using(crate::proofs::KindLemmas::plain_is_alone))]
 fn pat_form<S: PatParts>(
     parts: &S,
     state: &mut BodyBuilder,

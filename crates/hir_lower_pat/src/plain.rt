@@ -39,7 +39,7 @@ fn path_form<S: PatParts>(
 }
 
 /// A pattern that knows of no name.
-#[tactic(auto, using(crate::proofs::Kinds::only_plain))]
+#[tactic(auto, using(crate::proofs::KindLemmas::only_plain))]
 pub(crate) fn plain_kind<S: PatParts>(
     parts: &S,
     state: &mut BodyBuilder,

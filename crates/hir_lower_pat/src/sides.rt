@@ -132,7 +132,7 @@ fn path_side<S: PatParts>(
 }
 
 /// A name as a side, none where it isn't plain.
-#[tactic(auto, using(crate::proofs::Kinds::named_side))]
+#[tactic(auto, using(crate::proofs::KindLemmas::named_side))]
 fn plain_side<S: PatParts>(
     parts: &S,
     state: &mut BodyBuilder,

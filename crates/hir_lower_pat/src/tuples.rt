@@ -33,7 +33,7 @@ fn stands_for_rest(node: &ast::Pat) -> bool
 }
 
 /// One part more. Two dots are none, and of several the first count.
-#[tactic(auto, using(crate::proofs::Kinds::dots_are))]
+#[tactic(auto, using(crate::proofs::KindLemmas::dots_are))]
 fn element<S: PatParts>(
     parts: &S,
     state: &mut BodyBuilder,
