@@ -19,6 +19,8 @@ ghost use Rattle.hir_lower.specs.Roots.{as_written as written};
 use crate::collector::collect_expr_opt;
 use crate::error::LowerError;
 use crate::formals::{formals_form, must_be_bare, self_node};
+use hir_base::Seq;
+use hir_base::node::{AstPtr, HirFileId, InFile};
 use hir_env::env::LowerEnv;
 use hir_env::place::{ImplTrait, LoweringMode, Place};
 use hir_lower_form::builder::BodyBuilder;
@@ -28,8 +30,6 @@ use hir_store::ids::{BindingId, DefWithBodyId, ExprId, ItemContainerId, ModuleId
 use hir_store::source_map::ExpressionStoreSourceMap;
 use hir_store::store::ExpressionStore;
 use hir_syntax::ast;
-use hir_base::Seq;
-use hir_base::node::{AstPtr, HirFileId, InFile};
 use std::alloc::{AllocError, Global};
 
 /// A parameter: what the caller hands its argument to, and what was written for it. The two differ where the body begins with
@@ -282,7 +282,14 @@ fn body_steps<E: LowerEnv>(
     };
     let mut state = BodyBuilder::new(alloc, u32::MAX);
     match lower_item(
-        alloc, db, place, &mut state, owner, syntax_node, params, body,
+        alloc,
+        db,
+        place,
+        &mut state,
+        owner,
+        syntax_node,
+        params,
+        body,
     ) {
         Ok(((receiver, pats), _root)) => match as_written(pats.as_slice(), alloc) {
             Ok(kept) => {

@@ -19,6 +19,7 @@ ghost use Rattle.hir_lower.specs.Stays.{Stays};
 use crate::error::LowerError;
 use crate::impl_trait::ImplTraitLower;
 use crate::knot::{collect_expr, lower_path};
+use hir_base::node::{AstPtr, HirFileId, InFile};
 use hir_env::env::LowerEnv;
 use hir_env::place::{ImplTrait, LoweringMode, Place};
 use hir_lower_form::builder::BodyBuilder;
@@ -30,7 +31,6 @@ use hir_store::path::Path;
 use hir_store::source_map::ExpressionStoreSourceMap;
 use hir_store::store::ExpressionStore;
 use hir_store::type_ref::{ConstRef, TypeRef};
-use hir_base::node::{AstPtr, HirFileId, InFile};
 use hir_syntax::{Boxed, ast};
 use std::alloc::Global;
 

@@ -15,6 +15,7 @@ ghost use Rattle.hir_lower.specs.Nests.{Handled, HandlesExpr, HandlesPath};
 ghost use Rattle.hir_lower.specs.Roots.{spot_at};
 
 use crate::constant::constant_form;
+use hir_base::node::{AstPtr, InFile, NodeId, PredId};
 use hir_env::env::LowerEnv;
 use hir_env::lang::LangItems;
 use hir_env::place::{LoweringMode, Place};
@@ -31,11 +32,12 @@ use hir_lower_type::args::args_node;
 use hir_lower_type::places::inside_constant;
 use hir_lower_type::types::type_node;
 use hir_store::fault::StoreFault;
-use hir_store::ids::{BlockId, CfgId, CrateId, ExprId, HygieneId, LabelId, ModuleId, PatId, TypeRefId};
+use hir_store::ids::{
+    BlockId, CfgId, CrateId, ExprId, HygieneId, LabelId, ModuleId, PatId, TypeRefId,
+};
 use hir_store::name::Name;
 use hir_store::path::{GenericArgs, ModPath, Path};
 use hir_store::type_ref::ConstRef;
-use hir_base::node::{AstPtr, InFile, NodeId, PredId};
 use hir_syntax::{Boxed, Seq, ast};
 use std::alloc::Global;
 

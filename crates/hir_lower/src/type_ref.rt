@@ -10,6 +10,7 @@ ghost use Rattle.hir_lower.specs.Roots.{AnswersFromNothing, RefusedAtEnd, spot_a
 
 use crate::error::LowerError;
 use crate::knot::lower_type_node;
+use hir_base::node::InFile;
 use hir_env::env::LowerEnv;
 use hir_env::place::{ImplTrait, LoweringMode, Place};
 use hir_lower_form::builder::BodyBuilder;
@@ -19,7 +20,6 @@ use hir_store::ids::{ModuleId, TypeRefId};
 use hir_store::source_map::ExpressionStoreSourceMap;
 use hir_store::store::ExpressionStore;
 use hir_syntax::ast;
-use hir_base::node::InFile;
 use std::alloc::Global;
 
 /// The type, or an error without source where it is absent.

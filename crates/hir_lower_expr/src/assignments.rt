@@ -8,13 +8,13 @@ ghost use Rattle.hir_lower_form.specs.Nests.{IfPresent};
 ghost use Rattle.hir_lower_form.specs.Methods.{LowersExpr};
 
 use crate::operators::binary_form;
+use hir_base::node::{AstPtr, InFile};
 use hir_lower_form::builder::BodyBuilder;
 use hir_lower_form::parts::{LowerParts, Lowerer};
 use hir_lower_pat::targets::lower_target;
 use hir_store::fault::StoreFault;
 use hir_store::hir::Expr;
 use hir_store::ids::ExprId;
-use hir_base::node::{AstPtr, InFile};
 use hir_syntax::{Boxed, ast};
 
 /// The target before the value, which is read first where it runs.

@@ -8,13 +8,13 @@ ghost use Rattle.hir_lower_form.specs.Nests.{Each, IfPresent};
 ghost use Rattle.hir_lower_form.specs.Methods.{LowersExpr};
 
 use crate::here::args_here;
+use hir_base::node::{AstPtr, InFile};
 use hir_lower_form::builder::BodyBuilder;
 use hir_lower_form::names::name_of;
 use hir_lower_form::parts::{LowerParts, Lowerer};
 use hir_store::fault::StoreFault;
 use hir_store::hir::Expr;
 use hir_store::ids::ExprId;
-use hir_base::node::{AstPtr, InFile};
 use hir_syntax::{Boxed, Seq, ast};
 
 #[tactic(auto, unfolding(hir_lower_form::specs::Forms::call_form))]

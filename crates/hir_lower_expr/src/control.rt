@@ -6,12 +6,12 @@ ghost use Rattle.hir_env.specs.Whole.{answered_else, block_part, else_level, els
 ghost use Rattle.hir_lower_form.specs.Nests.{IfPresent, KidsElse};
 ghost use Rattle.hir_lower_form.specs.Methods.{LowersExpr, LowersIfPresent};
 
+use hir_base::node::{AstPtr, InFile};
 use hir_lower_form::builder::BodyBuilder;
 use hir_lower_form::parts::{LowerParts, Lowerer};
 use hir_store::fault::StoreFault;
 use hir_store::hir::{Expr, LoopSource};
 use hir_store::ids::ExprId;
-use hir_base::node::{AstPtr, InFile};
 use hir_syntax::{Boxed, ast};
 
 fn else_node<P: LowerParts>(

@@ -22,12 +22,12 @@ use crate::operators::{await_form, field_form, index_form, prefix_form, referenc
 use crate::ranges::range_form;
 use crate::records::record_form;
 use crate::typed::{cast_form, offset_of_form, path_form};
+use hir_base::node::{AstPtr, InFile};
 use hir_lower_form::builder::BodyBuilder;
 use hir_lower_form::parts::{LowerParts, Lowerer};
 use hir_store::fault::StoreFault;
 use hir_store::ids::ExprId;
 use hir_syntax::ast;
-use hir_base::node::{AstPtr, InFile};
 
 /// Blocks, branches, loops and jumps.
 #[tactic(auto, using(crate::proofs::OfFamily::only_control))]

@@ -7,6 +7,7 @@ ghost use Rattle.hir_env.specs.Whole.{answered_let_else, expr_part, let_else_lev
 ghost use Rattle.hir_lower_form.specs.Nests.{IfPresent, KidsLetElse};
 ghost use Rattle.hir_lower_form.specs.Methods.{LowersBlockIfPresent, LowersExpr, LowersStmt};
 
+use hir_base::node::{AstPtr, InFile};
 use hir_lower_form::builder::BodyBuilder;
 use hir_lower_form::parts::{LowerParts, Lowerer, site};
 use hir_lower_pat::top::top_pat;
@@ -14,7 +15,6 @@ use hir_store::diagnostics::ExpressionStoreDiagnostics;
 use hir_store::fault::StoreFault;
 use hir_store::hir::{Expr, Statement};
 use hir_store::ids::ExprId;
-use hir_base::node::{AstPtr, InFile};
 use hir_syntax::{Boxed, ast};
 
 /// The pattern before the expression.

@@ -12,6 +12,7 @@ ghost use Rattle.hir_lower_form.specs.Lower as spec;
 ghost use Rattle.hir_lower_form.specs.Methods.{HasArmOption, LowersExpr, LowersExprOpt};
 ghost use Rattle.hir_lower_form.specs.Nests.{IfPresent, KidsArm, KidsArms, KidsGuard};
 
+use hir_base::node::{AstPtr, InFile};
 use hir_lower_form::builder::BodyBuilder;
 use hir_lower_form::parts::{LowerParts, Lowerer, site};
 use hir_lower_pat::top::top_pat;
@@ -20,7 +21,6 @@ use hir_store::fault::StoreFault;
 use hir_store::hir::{Expr, MatchArm};
 use hir_store::ids::ExprId;
 use hir_store::lists::push_arm;
-use hir_base::node::{AstPtr, InFile};
 use hir_syntax::{Boxed, Seq, ast};
 
 /// The condition of a guard, missing where the guard has none.

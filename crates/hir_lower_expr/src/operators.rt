@@ -8,13 +8,13 @@ ghost use Rattle.hir_env.specs.Whole.{expr_part};
 ghost use Rattle.hir_lower_form.specs.Nests.{IfPresent};
 ghost use Rattle.hir_lower_form.specs.Methods.{LowersExpr};
 
+use hir_base::node::{AstPtr, InFile};
 use hir_lower_form::builder::BodyBuilder;
 use hir_lower_form::names::name_of;
 use hir_lower_form::parts::{LowerParts, Lowerer};
 use hir_store::fault::StoreFault;
 use hir_store::hir::{Expr, Mutability, Rawness};
 use hir_store::ids::ExprId;
-use hir_base::node::{AstPtr, InFile};
 use hir_syntax::{Boxed, ast};
 
 /// What a reference makes.

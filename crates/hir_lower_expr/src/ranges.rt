@@ -12,6 +12,7 @@ ghost use Rattle.hir_lower_form.specs.Nests.{IfPresent};
 ghost use Rattle.hir_lower_form.specs.Methods.{LowersExpr};
 ghost use Rattle.hir_lower_expr.specs.Ranges.{made_form, name_of_end};
 
+use hir_base::node::{AstPtr, InFile};
 use hir_env::lang::LangItems;
 use hir_lower_form::builder::BodyBuilder;
 use hir_lower_form::parts::{LowerParts, Lowerer};
@@ -23,7 +24,6 @@ use hir_store::lists::{push_field, push_id};
 use hir_store::name::Name;
 use hir_store::path::Path;
 use hir_syntax::ast::RangeOp;
-use hir_base::node::{AstPtr, InFile};
 use hir_syntax::{Boxed, Seq, Text, ast};
 use std::alloc::{AllocError, Global};
 
@@ -94,7 +94,8 @@ fn made_as(items: &LangItems, is_new: bool, op: Option<RangeOp>, start: bool, en
     match (start, end) {
         (false, false) => record_of(items.range_full, false),
         (true, false) => record_of(
-            newer(is_new, items.range_from_copy, items.range_from), false,
+            newer(is_new, items.range_from_copy, items.range_from),
+            false,
         ),
         (false, true) => to_end(items, is_new, is_inclusive(op)),
         (true, true) => between(items, is_new, is_inclusive(op)),
@@ -172,7 +173,7 @@ fn called(
 }
 
 /// Without an item for its record a range is missing.
-fn made(
+fn made_of(
     alloc: Global,
     state: &mut BodyBuilder,
     at: InFile<AstPtr>,
@@ -218,6 +219,12 @@ pub(crate) fn range_form<P: LowerParts>(
     let low = lowerer.collect_expr_if_present(state, start)?;
     let high = lowerer.collect_expr_if_present(state, end)?;
     let is_new = lowerer.parts.new_range();
-    let form = made_as(lowerer.parts.lang_items(), is_new, op, start.is_some(), end.is_some());
-    made(lowerer.alloc, state, at, form, low, high)
+    let form = made_as(
+        lowerer.parts.lang_items(),
+        is_new,
+        op,
+        start.is_some(),
+        end.is_some(),
+    );
+    made_of(lowerer.alloc, state, at, form, low, high)
 }

@@ -14,6 +14,7 @@ ghost use Rattle.hir_lower_form.specs.Methods.{HasField, HasRecord, LowersExpr, 
 ghost use Rattle.hir_lower_form.specs.Nests.{IfPresent, KidsField, KidsFields, KidsRecord};
 
 use crate::here::path_here;
+use hir_base::node::{AstPtr, InFile};
 use hir_lower_form::builder::BodyBuilder;
 use hir_lower_form::parts::{LowerParts, Lowerer, site};
 use hir_store::diagnostics::ExpressionStoreDiagnostics;
@@ -22,7 +23,6 @@ use hir_store::hir::{Expr, RecordLitField, RecordSpread};
 use hir_store::ids::ExprId;
 use hir_store::lists::push_field;
 use hir_store::name::Name;
-use hir_base::node::{AstPtr, InFile};
 use hir_syntax::{Boxed, Seq, ast};
 
 /// A field with a name, whose value leads to it.

@@ -8,6 +8,7 @@ ghost use Rattle.hir_lower_form.specs.Nests.{IfPresent};
 ghost use Rattle.hir_lower_form.specs.Methods.{LowersExpr};
 
 use crate::here::{path_here, type_here};
+use hir_base::node::{AstPtr, InFile};
 use hir_lower_form::builder::BodyBuilder;
 use hir_lower_form::names::{names_of, path_expr};
 use hir_lower_form::parts::{LowerParts, Lowerer, site};
@@ -15,7 +16,6 @@ use hir_store::fault::StoreFault;
 use hir_store::hir::Expr;
 use hir_store::ids::ExprId;
 use hir_store::name::Name;
-use hir_base::node::{AstPtr, InFile};
 use hir_syntax::{Boxed, Seq, ast};
 use std::alloc::{AllocError, Global};
 

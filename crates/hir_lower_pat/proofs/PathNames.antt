@@ -217,7 +217,7 @@ module _ (leading : Bool) (w : PathWalk) (r : names.Reading) (open_ : r.ended �
       same_empty (at_first leading w).names ∙ (sym (empty_reversed (at_first leading w).names) ∙ ap no_names (still_names ∙ e)) in
       let ends : not (no_names r.names) ≡ true = ap (λ ms. not (no_names ms)) e in
       let own : kind.Super (walks.supers (at_first leading w).kind)
-          ≡ kind.Super (supers_in (counted (start_kind leading r) (start_supers leading r))) =
+      ≡ kind.Super (supers_in (counted (start_kind leading r) (start_supers leading r))) =
       ap (λ k. kind.Super (walks.supers k)) (first_kind leading w r h.kind)
       ∙ ap kind.Super (same_supers (counted (start_kind leading r) (start_supers leading r))) in
       rw some (ends, record { going = still_going; kind = own; names = still_names; anchor = still_anchor })

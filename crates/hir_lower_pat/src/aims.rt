@@ -15,6 +15,7 @@ ghost use Rattle.hir_lower_form.specs.Methods.{LowersExpr, LowersPath, LowersTar
 ghost use Rattle.hir_lower_form.specs.Nests.{IfPresent};
 ghost use Rattle.hir_lower_pat.specs.Aims.{Aims, HandlesTarget, HasAim, is_no_place, landed, path_aimed, placed, through};
 
+use hir_base::node::{AstPtr, InFile, NodeId, TextRange};
 use hir_env::resolved::{Resolution, Resolved, Shadow};
 use hir_lower_form::builder::BodyBuilder;
 use hir_lower_form::names::path_expr;
@@ -23,7 +24,6 @@ use hir_store::fault::StoreFault;
 use hir_store::hir::{Expr, Pat};
 use hir_store::ids::{CfgId, ExprId, HygieneId, PatId};
 use hir_store::path::{ModPath, Path};
-use hir_base::node::{AstPtr, InFile, NodeId, TextRange};
 use hir_syntax::{Boxed, ast};
 use std::alloc::Global;
 
@@ -39,7 +39,9 @@ pub enum Aim {
 pub trait TargetParts {
     /// What may be handed in as a target, as a path and as a place.
     ghost can_target: { Self → AstExpr → Type 0 };
+
     ghost can_path: { Self → AstPath → Type 0 };
+
     ghost can_place: { Self → AstExpr → Type 0 };
     /// Where the parts are read.
     ghost spot: { Self → Spot };
@@ -82,6 +84,7 @@ pub trait TargetParts {
 }
 
 /// The parts of a target are lowered by a function.
+#[derive_where(Clone, Copy; F)]
 pub(crate) struct Aiming<'l, P, F> {
     pub lowerer: &'l Lowerer<P>,
     pub aim: F,
@@ -146,10 +149,10 @@ fn is_pattern(values: Option<Resolution>) -> bool
         values,
         Some(
             Resolution::Const
-            | Resolution::Variant
-            | Resolution::Struct
-            | Resolution::Union
-            | Resolution::Enum
+                | Resolution::Variant
+                | Resolution::Struct
+                | Resolution::Union
+                | Resolution::Enum
         )
     )
 }
@@ -248,7 +251,11 @@ pub(crate) fn place<T: TargetParts>(
 }
 
 /// Parentheses lead to the expression of a place.
-pub(crate) fn parens(state: &mut BodyBuilder, at: InFile<AstPtr>, inner: Aim) -> Result<Aim, StoreFault>
+pub(crate) fn parens(
+    state: &mut BodyBuilder,
+    at: InFile<AstPtr>,
+    inner: Aim,
+) -> Result<Aim, StoreFault>
     requires { HasAim state.old.stored inner }
     ensures { Lowers HasAim (through at inner) state.old result state.new }
 {
@@ -259,7 +266,11 @@ pub(crate) fn parens(state: &mut BodyBuilder, at: InFile<AstPtr>, inner: Aim) ->
 }
 
 /// The pattern, which a place becomes with the node of its outermost parentheses.
-pub(crate) fn land(state: &mut BodyBuilder, at: InFile<AstPtr>, aim: Aim) -> Result<PatId, StoreFault>
+pub(crate) fn land(
+    state: &mut BodyBuilder,
+    at: InFile<AstPtr>,
+    aim: Aim,
+) -> Result<PatId, StoreFault>
     requires { HasAim state.old.stored aim }
     ensures { Lowers HasPat (landed at aim) state.old result state.new }
 {

@@ -17,12 +17,12 @@ ghost use Rattle.hir_lower_pat.specs.Methods.{HasElements};
 
 use crate::aims::{Aim, TargetParts, is_dots, place, pointer_of, target};
 use crate::tuples::stored_elements;
+use hir_base::node::{AstPtr, InFile};
 use hir_lower_form::builder::BodyBuilder;
 use hir_store::fault::StoreFault;
 use hir_store::hir::Pat;
 use hir_store::ids::PatId;
 use hir_store::lists::push_pat;
-use hir_base::node::{AstPtr, InFile};
 use hir_syntax::{Boxed, Seq, ast};
 use std::alloc::Global;
 
@@ -147,10 +147,7 @@ fn array_parts<T: TargetParts>(
 }
 
 /// The two dots, where it has such.
-fn rest(
-    state: &mut BodyBuilder,
-    dots: Option<InFile<AstPtr>>,
-) -> Result<Option<PatId>, StoreFault>
+fn rest(state: &mut BodyBuilder, dots: Option<InFile<AstPtr>>) -> Result<Option<PatId>, StoreFault>
     ensures { Lowers HasPatOption (steps.rest_target dots) state.old result state.new }
 {
     match dots {

@@ -17,6 +17,7 @@ ghost use Rattle.hir_lower_pat.specs.Aims.{Aims, KidsOfFields, found_at, name_wr
 ghost use Rattle.hir_lower_pat.specs.Methods.{HasPatField};
 
 use crate::aims::{Aim, TargetParts, place, pointer_of, target};
+use hir_base::node::{AstPtr, InFile};
 use hir_lower_form::builder::BodyBuilder;
 use hir_lower_form::parts::site;
 use hir_store::diagnostics::ExpressionStoreDiagnostics;
@@ -25,7 +26,6 @@ use hir_store::hir::{Pat, RecordFieldPat};
 use hir_store::ids::PatId;
 use hir_store::lists::push_pat_field;
 use hir_store::name::Name;
-use hir_base::node::{AstPtr, InFile};
 use hir_syntax::{Boxed, Seq, ast};
 
 /// The part of a field, which leads to the field where that has a name.

@@ -12,12 +12,12 @@ ghost use Rattle.hir_lower_pat.specs.Aims.{Aims, HasAim, IsPlace, KidsOfTarget, 
 use crate::aims::{Aim, Aiming, TargetParts, is_dots, land, parens, path_aim, place, pointer_of};
 use crate::target_lists::{array_aim, call_aim, dots_alone, tuple_aim};
 use crate::target_records::record_aim;
+use hir_base::node::{AstPtr, InFile};
 use hir_lower_form::builder::BodyBuilder;
 use hir_lower_form::parts::{LowerParts, Lowerer, site};
 use hir_store::fault::StoreFault;
 use hir_store::hir::Pat;
 use hir_store::ids::PatId;
-use hir_base::node::{AstPtr, InFile};
 use hir_syntax::{Boxed, ast};
 
 /// `_`.

@@ -14,6 +14,7 @@ ghost use Rattle.hir_lower_form.specs.Nests.{Each, IfPresent, KidsSidePart};
 ghost use Rattle.hir_lower_pat.specs.TypePats.{IsOther};
 
 use crate::limits::{end_limit, start_limit};
+use hir_base::node::{AstPtr, InFile};
 use hir_env::place::Place;
 use hir_lower_form::builder::BodyBuilder;
 use hir_lower_form::parts::{LowerParts, Lowerer, pointer_in};
@@ -22,7 +23,6 @@ use hir_store::hir::Pat;
 use hir_store::ids::PatId;
 use hir_store::lists::push_pat;
 use hir_syntax::ast::RangeOp;
-use hir_base::node::{AstPtr, InFile};
 use hir_syntax::{Boxed, Seq, ast};
 
 /// Both ends are part of the range as it is stored.

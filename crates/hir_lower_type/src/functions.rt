@@ -13,6 +13,7 @@ ghost use Rattle.hir_lower_form.specs.Nests.{Each, IfPresent, KidsParam, KidsRet
 ghost use Rattle.hir_lower_type.specs.Abis.{abi_later};
 ghost use Rattle.hir_lower_type.specs.Params.{lower_param, name_written, names_written, params_at, variadic_last};
 
+use hir_base::node::{AstPtr, InFile};
 use hir_lower_form::builder::BodyBuilder;
 use hir_lower_form::names::name_of;
 use hir_lower_form::parts::{LowerParts, Lowerer};
@@ -21,7 +22,6 @@ use hir_store::ids::TypeRefId;
 use hir_store::lists::push_type;
 use hir_store::name::{Name, copy_names};
 use hir_store::type_ref::{ExternAbi, FnType, TypeRef};
-use hir_base::node::{AstPtr, InFile};
 use hir_syntax::{Seq, Text, ast};
 use std::alloc::{AllocError, Global};
 

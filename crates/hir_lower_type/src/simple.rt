@@ -15,6 +15,7 @@ ghost use Rattle.hir_lower_form.specs.Nests.{Each, IfPresent, KidsBounds, KidsIm
 use crate::bounds::bounds;
 use crate::lifetimes::{binder, lifetime_if_present};
 use crate::places::{inside_constant, inside_impl};
+use hir_base::node::{AstPtr, InFile};
 use hir_env::place::ImplTrait;
 use hir_lower_form::builder::BodyBuilder;
 use hir_lower_form::parts::{LowerParts, Lowerer};
@@ -24,7 +25,6 @@ use hir_store::hir::Mutability;
 use hir_store::ids::TypeRefId;
 use hir_store::lists::push_type;
 use hir_store::type_ref::{ArrayType, ConstRef, RefType, TypeRef};
-use hir_base::node::{AstPtr, InFile};
 use hir_syntax::{Boxed, Seq, ast};
 
 fn written_mutability(mut_: bool) -> Mutability
