@@ -1,9 +1,9 @@
 //! What stands in a `match` and behind a `let`.
 
 use crate::ast::{BlockExpr, Expr};
+use crate::pats::Pat;
 use hir_base::Boxed;
 use hir_base::node::{NodeId, TextRange};
-use crate::pats::Pat;
 
 /// An arm of a `match`.
 #[cycle(ast)]
@@ -29,6 +29,7 @@ impl Drop for MatchArm {
 }
 
 /// `if` behind the pattern of an arm.
+#[derive(Drop)]
 #[cycle(ast)]
 pub struct Guard {
     pub id: NodeId,
@@ -36,32 +37,11 @@ pub struct Guard {
     pub condition: Option<Boxed<Expr>>,
 }
 
-impl Drop for Guard {
-    #[cycle(ast_drop)]
-    fn drop(self) {
-        let Guard {
-            id: _,
-            range: _,
-            condition: _,
-        } = self;
-    }
-}
-
 /// `else` behind a `let`.
+#[derive(Drop)]
 #[cycle(ast)]
 pub struct LetElse {
     pub id: NodeId,
     pub range: TextRange,
     pub block: Option<Boxed<BlockExpr>>,
-}
-
-impl Drop for LetElse {
-    #[cycle(ast_drop)]
-    fn drop(self) {
-        let LetElse {
-            id: _,
-            range: _,
-            block: _,
-        } = self;
-    }
 }

@@ -1,10 +1,9 @@
 //! Parameters of functions.
 
 use crate::ast::{Lifetime, Name};
-use hir_base::Boxed;
-use hir_base::node::{NodeId, TextRange};
-use hir_base::Seq;
 use crate::types::{Param, Type_};
+use hir_base::node::{NodeId, TextRange};
+use hir_base::{Boxed, Seq};
 
 /// A `self` among the parameters.
 pub struct SelfParam {

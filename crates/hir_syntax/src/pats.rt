@@ -1,9 +1,8 @@
 //! Patterns.
 
 use crate::ast::{Literal, Name, Path};
-use hir_base::Boxed;
 use hir_base::node::{NodeId, PredId, TextRange};
-use hir_base::Seq;
+use hir_base::{Boxed, Seq};
 
 /// The operator of a range.
 #[derive(Clone, Copy, Debug, PartialEq, Eq)]

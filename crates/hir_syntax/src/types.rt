@@ -1,11 +1,9 @@
 //! Types, and the arguments and bounds in them.
 
 use crate::ast::{ConstArg, Lifetime, Name, Path};
-use hir_base::Boxed;
-use hir_base::node::{NodeId, TextRange};
 use crate::pats::Pat;
-use hir_base::Seq;
-use hir_base::Text;
+use hir_base::node::{NodeId, TextRange};
+use hir_base::{Boxed, Seq, Text};
 
 /// A type.
 #[cycle(ast)]
@@ -134,22 +132,12 @@ impl Drop for Param {
 }
 
 /// `-> T`.
+#[derive(Drop)]
 #[cycle(ast)]
 pub struct RetType {
     pub id: NodeId,
     pub range: TextRange,
     pub ty: Option<Boxed<Type_>>,
-}
-
-impl Drop for RetType {
-    #[cycle(ast_drop)]
-    fn drop(self) {
-        let RetType {
-            id: _,
-            range: _,
-            ty: _,
-        } = self;
-    }
 }
 
 /// A bound of a type. One without a kind, a path without `ty` and a lifetime without `lifetime` are errors.
@@ -226,6 +214,7 @@ impl Drop for UseArg {
 }
 
 /// The path of a trait.
+#[derive(Drop)]
 #[cycle(ast)]
 pub struct PathType {
     pub id: NodeId,
@@ -233,34 +222,13 @@ pub struct PathType {
     pub path: Option<Boxed<Path>>,
 }
 
-impl Drop for PathType {
-    #[cycle(ast_drop)]
-    fn drop(self) {
-        let PathType {
-            id: _,
-            range: _,
-            path: _,
-        } = self;
-    }
-}
-
 /// `<..>` behind a name.
+#[derive(Drop)]
 #[cycle(ast)]
 pub struct GenericArgList {
     pub id: NodeId,
     pub range: TextRange,
     pub args: Seq<GenericArg>,
-}
-
-impl Drop for GenericArgList {
-    #[cycle(ast_drop)]
-    fn drop(self) {
-        let GenericArgList {
-            id: _,
-            range: _,
-            args: _,
-        } = self;
-    }
 }
 
 #[cycle(ast)]
@@ -303,6 +271,7 @@ impl Drop for TypeArg {
 }
 
 /// `N = T` or `N: B` as an argument.
+#[derive(Drop)]
 #[cycle(ast)]
 pub struct AssocTypeArg {
     pub id: NodeId,
@@ -316,22 +285,6 @@ pub struct AssocTypeArg {
     pub rtn: bool,
     pub ty: Option<Boxed<Type_>>,
     pub bounds: Seq<TypeBound>,
-}
-
-impl Drop for AssocTypeArg {
-    #[cycle(ast_drop)]
-    fn drop(self) {
-        let AssocTypeArg {
-            id: _,
-            range: _,
-            name: _,
-            params: _,
-            generics: _,
-            rtn: _,
-            ty: _,
-            bounds: _,
-        } = self;
-    }
 }
 
 /// A lifetime as an argument.
@@ -352,20 +305,10 @@ impl Drop for LifetimeArg {
 }
 
 /// `(A, B)` behind a name.
+#[derive(Drop)]
 #[cycle(ast)]
 pub struct ParenArgs {
     pub id: NodeId,
     pub range: TextRange,
     pub args: Seq<TypeArg>,
-}
-
-impl Drop for ParenArgs {
-    #[cycle(ast_drop)]
-    fn drop(self) {
-        let ParenArgs {
-            id: _,
-            range: _,
-            args: _,
-        } = self;
-    }
 }
