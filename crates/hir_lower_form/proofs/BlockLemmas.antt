@@ -14,7 +14,8 @@ use Rattle.hir_env.specs.Answered as tree
 use Rattle.hir_env.specs.Answered.{Block, Expr}
 use Rattle.hir_env.specs.Whole.{answered_block, answered_plain, block_head, block_level}
 use Rattle.hir_env.proofs.Levels.{block_is_level, plain_is_level}
-use Rattle.hir_lower_form.specs.Lower.{lower, lower_block, lower_inside, labelled, settled, value_of}
+use Rattle.hir_lower_form.specs.Forms.{labelled}
+use Rattle.hir_lower_form.specs.Lower.{lower, lower_block, lower_inside, settled, value_of}
 
 pub plain_inside : (at : Spot) (b : AstBlockExpr) → lower_block (answered_plain at b) ≡ lower_inside false None (answered_plain at b)
 unfolding labelled
