@@ -1,6 +1,8 @@
 -- How the answers are written into patterns.
-use Rattle.std.specs.Prelude.{List, [], ◌∷◌, Bool, true, false, ◌&&◌, Option, Some, None, Result, Ok, Err, option_map}
+use Rattle.std.specs.Prelude.{List, [], ◌∷◌, Bool, true, false, ◌&&◌, if◌then◌else◌, Option, Some, None, Result, Ok, Err, option_map}
 use Rattle.hir_base.specs.declared.node.AstPtr.{AstPtr}
+use Rattle.hir_syntax.specs.declared.ast.LiteralKind.{LiteralKind}
+use Rattle.hir_syntax.specs.declared.ast.LiteralKind.TheVariants as literal
 use Rattle.hir_syntax.specs.declared.ast.Name.{Name as AstName}
 use Rattle.hir_syntax.specs.declared.pats.PatLiteral.{PatLiteral}
 use Rattle.hir_syntax.specs.declared.ast.ElseBranch.TheOpen.{PatKind-F}
@@ -66,10 +68,22 @@ ident_pat env p s u q = name_or_bind (is_plain u q && is_found env p u.name) s u
 
 -- literals and sides
 
+-- a minus stands in front of numbers alone
+abbrev pub is_number : LiteralKind → Bool
+is_number literal.Int = true
+is_number literal.Float = true
+is_number _ = false
+
+abbrev pub minus_fits : Bool → LiteralKind → Bool
+minus_fits false k = true
+minus_fits true k = is_number k
+
 abbrev pub literal_or_broken : Place → Pointer → Option PatLiteral → Bool → Pat
 literal_or_broken p s None minus = tree.leaf_pat s tree.broken_leaf
 literal_or_broken p s (Some l) minus =
-    tree.literal_pat s (Some (in_file p (ptr l.id l.range))) (record { minus = minus; literal = l.literal })
+    if minus_fits minus l.literal.lit
+    then tree.literal_pat s (Some (in_file p (ptr l.id l.range))) (record { minus = minus; literal = l.literal })
+    else tree.leaf_pat s tree.broken_leaf
 
 abbrev pub plain_side : Bool → Pointer → Name → Side
 plain_side true s n = tree.name_side s n

@@ -17,7 +17,7 @@ ghost use Rattle.hir_lower_pat.specs.TypePats as bodies;
 
 use crate::items::item_expr;
 use crate::names::path_of_name;
-use crate::sides::signed;
+use crate::sides::{minus_fits, signed};
 use hir_base::node::{AstPtr, InFile};
 use hir_env::place::Place;
 use hir_lower_form::builder::BodyBuilder;
@@ -118,7 +118,13 @@ fn side_form<P: LowerParts>(
         ast::PatKind::LiteralPat {
             lit: Some(lit),
             minus,
-        } => literal_side(state, at, &lit.literal, *minus),
+        } => {
+            if minus_fits(*minus, &lit.literal) {
+                literal_side(state, at, &lit.literal, *minus)
+            } else {
+                state.missing_expr()
+            }
+        }
         ast::PatKind::IdentPat {
             name,
             ref_: false,

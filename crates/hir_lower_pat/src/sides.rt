@@ -5,7 +5,7 @@ ghost use Rattle.hir_syntax.specs.declared.pats.PatKind.{out-PatKind};
 ghost use Rattle.hir_store.specs.Range.{HasExprOption, HasPat};
 ghost use Rattle.hir_env.specs.Answered as tree;
 ghost use Rattle.hir_env.specs.Answering.{name_or_missing};
-ghost use Rattle.hir_env.specs.Pats.{ident_pat, literal_or_broken, side_of};
+ghost use Rattle.hir_env.specs.Pats.{ident_pat, literal_or_broken, minus_fits, side_of};
 ghost use Rattle.hir_env.specs.Whole.{answered_pat, pat_level, pat_part, path_part};
 ghost use Rattle.hir_lower_form.specs.Lower.{lower_side};
 ghost use Rattle.hir_lower_form.specs.Lowering.{Lowers};
@@ -25,9 +25,19 @@ use hir_store::hir::{Expr, Literal, Pat};
 use hir_store::ids::{ExprId, HygieneId, PatId};
 use hir_store::name::Name;
 use hir_store::path::Path;
-use hir_syntax::ast::RangeOp;
+use hir_syntax::ast::{LiteralKind, RangeOp};
 use hir_syntax::{Boxed, ast};
 use std::alloc::{AllocError, Global};
+
+/// Whether what stands in front of the literal may stand there: a minus takes a number.
+pub(crate) fn minus_fits(minus: bool, literal: &ast::Literal) -> bool
+    ensures { result ≡ minus_fits minus literal.now.lit }
+{
+    match literal.lit {
+        LiteralKind::Int | LiteralKind::Float => true,
+        _ => !minus,
+    }
+}
 
 /// The literal as it is written, with its minus.
 pub(crate) fn signed(written: &ast::Literal, minus: bool) -> Result<Literal, AllocError>
@@ -40,7 +50,7 @@ pub(crate) fn signed(written: &ast::Literal, minus: bool) -> Result<Literal, All
     })
 }
 
-/// A literal pattern, missing where its literal is absent.
+/// A literal pattern, missing where its literal is absent or takes no minus.
 #[tactic(auto, unfolding(hir_lower_form::specs::Pats::literal_pat_form))]
 pub(crate) fn literal_form<S: PatParts>(
     parts: &S,
@@ -54,6 +64,9 @@ pub(crate) fn literal_form<S: PatParts>(
     match lit {
         None => state.alloc_pat(Pat::Missing, Some(at)),
         Some(lit) => {
+            if !minus_fits(minus, &lit.literal) {
+                return state.alloc_pat(Pat::Missing, Some(at));
+            }
             let source = parts.pointer(lit.id, lit.range);
             let written = Expr::Literal(signed(&lit.literal, minus)?);
             let expr = state.alloc_expr(written, Some(source))?;
@@ -170,7 +183,13 @@ fn side_form<S: PatParts>(
     match &node.kind {
         ast::PatKind::LiteralPat { lit, minus } => match lit {
             None => Ok(None),
-            Some(lit) => literal_side(state, at, &lit.literal, *minus),
+            Some(lit) => {
+                if minus_fits(*minus, &lit.literal) {
+                    literal_side(state, at, &lit.literal, *minus)
+                } else {
+                    Ok(None)
+                }
+            }
         },
         ast::PatKind::IdentPat {
             name,

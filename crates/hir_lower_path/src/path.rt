@@ -25,7 +25,7 @@ use hir_store::name::Name;
 use hir_store::path::{Path, PathKind};
 use hir_store::type_ref::TypeRef;
 use hir_syntax::ast::SegmentKind;
-use hir_syntax::node::InFile;
+use hir_base::node::InFile;
 use hir_syntax::{Boxed, Text, ast};
 
 /// A name with what stands behind it, or `$crate`, which may only be the first.

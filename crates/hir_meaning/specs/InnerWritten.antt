@@ -387,7 +387,7 @@ abbrev mutual
   target_bodies tree.absent_target = []
   target_bodies (tree.place_target at e) = expr_bodies e
   target_bodies (tree.wild_target at) = []
-  target_bodies (tree.path_target at p h) = path_bodies (tree.some_path p)
+  target_bodies (tree.path_target at p h) = in_held (held_of (path_of (tree.some_path p)) (path_parts p []))
   target_bodies (tree.tuple_target at ts) = targets_bodies ts
   target_bodies (tree.call_target at p ts) = if_read (path_of p) (path_bodies p ++ targets_bodies ts)
   target_bodies (tree.array_target at before dots behind) = targets_bodies before ++ targets_bodies behind
