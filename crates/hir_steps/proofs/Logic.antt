@@ -104,12 +104,12 @@ counts m = (m.nodes, m.labels, m.pats, m.bindings, m.types, m.lifetimes, m.entri
 pub grows_still : (m m' : Mark) → counts m' ≡ counts m → Grows m m'
 grows_still m m' e =
     let nodes = ap (λ c. c.0) e in
-    let labels = ap (λ c. c.1.0) e in
-    let pats = ap (λ c. c.1.1.0) e in
-    let bindings = ap (λ c. c.1.1.1.0) e in
-    let types = ap (λ c. c.1.1.1.1.0) e in
-    let lifetimes = ap (λ c. c.1.1.1.1.1.0) e in
-    let entries = ap (λ c. c.1.1.1.1.1.1) e in record {
+    let labels = ap (λ c. c.1) e in
+    let pats = ap (λ c. c.2) e in
+    let bindings = ap (λ c. c.3) e in
+    let types = ap (λ c. c.4) e in
+    let lifetimes = ap (λ c. c.5) e in
+    let entries = ap (λ c. c.6) e in record {
       nodes = omega (arith, nodes);
       labels = omega (arith, labels);
       pats = omega (arith, pats);
@@ -226,7 +226,7 @@ correct_in_store {A = A} {p = p} {R = R} h = record { holds = λ final ps b r. g
             pats = pats;
             types = types;
             lifetimes = longer pre.lifetimes.entries;
-            entries = omega (types, pats);
+            entries = omega (arith, types, pats);
           };
     }
     go final ps b (Err e) c y = y

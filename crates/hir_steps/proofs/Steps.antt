@@ -395,7 +395,7 @@ correct_opened {A = A} {B = B} at l {p = p} {R = R} {f = f} {Q = Q} frame hp hf 
             labels = h.labels;
             nodes = h.nodes;
             types = h.types;
-            entries = let t = h.types in let p = h.pats in omega (t, p);
+            entries = let t = h.types in let p = h.pats in omega (arith, t, p);
             last = refl;
             stored = h.stored;
             before = x.grows;
