@@ -8,13 +8,13 @@ ghost use Rattle.hir_env.specs.NodeMap.{with_first, with_first_pred, with_first_
 use crate::env::LowerEnv;
 use crate::lang::LangItems;
 use crate::resolved::{Resolved, Shadow};
+use hir_base::node::{InFile, NodeId, PredId};
 use hir_store::first_map::FirstMap;
 use hir_store::ids::{
     BlockId, CfgId, CrateId, CtxId, DefWithBodyId, HygieneId, ItemContainerId, MacroDefId, ModuleId,
 };
 use hir_store::path::ModPath;
 use hir_syntax::Seq;
-use hir_base::node::{InFile, NodeId, PredId};
 use std::alloc::{AllocError, Global};
 use std::marker::Model;
 
@@ -229,16 +229,10 @@ fn same_path(a: &ModPath, b: &ModPath) -> bool
 }
 
 /// What is said first of the path in the module.
-fn entry_of<'a>(
-    entries: &'a [PathEntry],
-    inside: ModuleId,
-    path: &ModPath,
-) -> Option<&'a PathEntry>
+fn entry_of<'a>(entries: &'a [PathEntry], inside: ModuleId, path: &ModPath) -> Option<&'a PathEntry>
     ensures { option_copied result ≡ find (spec.says_of inside path.now) entries.now }
 {
-    entries
-        .iter()
-        .find(|entry| entry.inside == inside && same_path(&entry.path, path))
+    entries.iter().find(|entry| entry.inside == inside && same_path(&entry.path, path))
 }
 
 impl LowerEnv for TableEnv {

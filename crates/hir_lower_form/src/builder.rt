@@ -13,6 +13,7 @@ ghost use Rattle.hir_lower_form.specs.Pats.{missing_pat};
 ghost use Rattle.hir_lower_form.specs.Types.{error_type, unit_type};
 
 use crate::parts::LowerParts;
+use hir_base::node::{AstPtr, InFile};
 use hir_lower_scope::labels::{LabelScopes, NoTarget};
 use hir_store::builder::ExpressionStoreBuilder;
 use hir_store::diagnostics::{AwaitLocation, ExpressionStoreDiagnostics};
@@ -24,7 +25,6 @@ use hir_store::ids::{
 use hir_store::name::Name;
 use hir_store::type_ref::{LifetimeRef, TypeRef};
 use hir_syntax::Seq;
-use hir_base::node::{AstPtr, InFile};
 use std::alloc::Global;
 use std::marker::Model;
 

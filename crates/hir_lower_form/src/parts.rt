@@ -16,6 +16,7 @@ ghost use Rattle.hir_lower_form.specs.Methods.{HasWalk, LowersArgs, LowersConsta
 
 use crate::builder::BodyBuilder;
 use crate::walk::{PathWalk, Reading};
+use hir_base::node::{AstPtr, InFile, NodeId, PredId, TextRange};
 use hir_env::lang::LangItems;
 use hir_env::place::Place;
 use hir_env::resolved::{Resolved, Shadow};
@@ -25,7 +26,6 @@ use hir_store::ids::{CfgId, CrateId, ExprId, HygieneId, LabelId, TypeRefId};
 use hir_store::name::Name;
 use hir_store::path::{GenericArgs, ModPath};
 use hir_store::type_ref::ConstRef;
-use hir_base::node::{AstPtr, InFile, NodeId, PredId, TextRange};
 use hir_syntax::{Boxed, Seq, ast};
 use std::alloc::Global;
 
@@ -146,6 +146,7 @@ pub trait LowerParts {
 
     /// The same of what is assigned to, which may be handed in as an expression, too.
     ghost target_kids: { TargetsNest can };
+
     ghost target_place: { TargetsArePlaces can spot };
 }
 

@@ -153,8 +153,11 @@ arms by = record {
       ∷ (stored_one, Some 4)
       ∷ (stored_b, Some 2)
       ∷ (stored_two, Some 7)
-      ∷ (hir.Match (id 0) (record { pat = pat_number 0; guard = Some (id 2); expr = id 1 }
-      ∷ record { pat = pat_number 1; guard = None; expr = id 3 } ∷ []), Some 0)
+      ∷ (
+        hir.Match (id 0) (record { pat = pat_number 0; guard = Some (id 2); expr = id 1 }
+            ∷ record { pat = pat_number 1; guard = None; expr = id 3 } ∷ []),
+        Some 0,
+      )
       ∷ [];
   pats = (stored_x, Some 3) ∷ (pat.Wild, Some 6) ∷ [];
   bindings = binding_x ∷ [];
@@ -256,8 +259,11 @@ range_record i = record {
   written = range_of (tree.record_range i last_name) (tree.some_expr name_a) (tree.some_expr name_b);
   nodes = (stored_a, Some 1)
       ∷ (stored_b, Some 2)
-      ∷ (hir.RecordLit (LangItem i) (record { name = start_name; expr = id 0 } ∷ record { name = last_name; expr = id 1 } ∷ [])
-      spread.None, Some 0)
+      ∷ (
+        hir.RecordLit (LangItem i) (record { name = start_name; expr = id 0 } ∷ record { name = last_name; expr = id 1 } ∷ [])
+            spread.None,
+        Some 0,
+      )
       ∷ [];
   pats = [];
   bindings = [];

@@ -132,10 +132,10 @@ correct_constant {R = R} h = correct_as (correct_behind (λ i. record { expr = i
       before = n.before;
       after = n.after;
       nodes = ap (λ k. k.0) n.counts_are;
-      labels = ap (λ k. k.1.0) n.counts_are;
-      types = ap (λ k. k.1.1.1.1.0) n.counts_are;
-      lifetimes = ap (λ k. k.1.1.1.1.1.0) n.counts_are;
-      entries = ap (λ k. k.1.1.1.1.1.1) n.counts_are;
+      labels = ap (λ k. k.1) n.counts_are;
+      types = ap (λ k. k.4) n.counts_are;
+      lifetimes = ap (λ k. k.5) n.counts_are;
+      entries = ap (λ k. k.6) n.counts_are;
       first = n.first;
       stored = n.stored;
     }))

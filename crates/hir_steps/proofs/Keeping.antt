@@ -477,7 +477,7 @@ mutual
   target_any tree.absent_target = missing_pat_any
   target_any (tree.place_target at e) = place_target_any at (node_any e)
   target_any (tree.wild_target at) = stored_pat_any _ (Some at)
-  target_any (tree.path_target at p h) = path_target_any at h (lower_path_any (tree.some_path p))
+  target_any (tree.path_target at p h) = path_target_any at h (then_any (reading_any p start) (λ r. pure_any (path_read r)))
   target_any (tree.tuple_target at ts) = tuple_target_any at (targets_any no_elements ts)
   target_any (tree.call_target at p ts) = call_target_any at (targets_any no_elements ts) (lower_path_any p)
   target_any (tree.array_target at before dots behind) =
