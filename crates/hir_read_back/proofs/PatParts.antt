@@ -214,7 +214,7 @@ tuple_reads {d = d} at comma h t =
       uses = e.rel.uses;
       reads = λ us named. pat_stored u.first (λ n le.
           let ids = ap (many_pats final (within final n)) e.ids
-              ∙ e.rel.reads us named n (omega (le, s.before.entries, arith)) in
+          ∙ e.rel.reads us named n (omega (le, s.before.entries, arith)) in
           let place = s.first.place ∙ ap (written.moved_by comma) (e.place ∙ plus_none d) in
           λ j. datum.tuple_pattern (place j) ((s.first.reads n (omega (le, arith)) ∙ ap (written.behind_comma comma) ids) j));
     }))
@@ -240,7 +240,7 @@ tuple_struct_reads {x = x} {d = d} {f = f} {p = p} y at comma hq h =
           uses = e.rel.uses;
           reads = λ us named. pat_stored u.first (λ n le.
               let ids = ap (many_pats final (within final n)) e.ids
-                  ∙ e.rel.reads us named n (omega (le, s.before.entries, arith)) in
+              ∙ e.rel.reads us named n (omega (le, s.before.entries, arith)) in
               let place = s.first.place ∙ ap (written.moved_by comma) (e.place ∙ plus_none d) in
               λ j. datum.tuple_struct_pattern (path n (omega (le, row.before.entries, s.before.entries, arith)) j) (place j)
               ((s.first.reads n (omega (le, arith)) ∙ ap (written.behind_comma comma) ids) j));

@@ -178,7 +178,7 @@ array_target_reads at dots h k = correct_as (correct_bind h (λ b. correct_bind 
     (λ final ps m m' i g row. let s = row.second in let u = s.second in record {
       is = pat_stored u.second (λ n le.
           let front = ap (many_pats final (within final n)) row.first.ids
-              ∙ row.first.reads n (omega (le, s.before.entries, u.before.entries, arith)) in
+          ∙ row.first.reads n (omega (le, s.before.entries, u.before.entries, arith)) in
           let back = ap (many_pats final (within final n)) s.first.ids ∙ s.first.reads n (omega (le, u.before.entries, arith)) in
           λ j. datum.slice_pattern (front j) (u.first.is n le j) (back j));
     })

@@ -266,10 +266,14 @@ module _ (at : Pointer) {b : Lowering Elements} (hb : Correct b (ElementsOwn no_
       let part = places_to (store_of final) c in
       let front = in_store_front (store_of final) c in
       let f = reached_to (store_of final) d in
-      rw (x.is, y.is, each_front part front x.new (places_in_present part u.one (places_in_each part y.new [])),
-      present_front part front u.one (places_in_each part y.new []),
-      each_append f (places_in_each part x.new []) (places_in_present part u.one [] ++ places_in_each part y.new []),
-      each_append f (places_in_present part u.one []) (places_in_each part y.new []))
+      rw (
+        x.is,
+        y.is,
+        each_front part front x.new (places_in_present part u.one (places_in_each part y.new [])),
+        present_front part front u.one (places_in_each part y.new []),
+        each_append f (places_in_each part x.new []) (places_in_present part u.one [] ++ places_in_each part y.new []),
+        each_append f (places_in_present part u.one []) (places_in_each part y.new []),
+      )
       (spread_append m.nodes u.middle.nodes (inl (omega arith)) (omega (s.before.nodes, u.before.nodes, row.before.nodes))
       (x.rel.spread c d (omega (le, s.before.pats, u.before.pats)) (omega (le', s.before.nodes, u.before.nodes, u.after.nodes)))
       (spread_append row.middle.nodes u.middle.nodes (inr (omega arith)) (omega (s.before.nodes, u.before.nodes))
@@ -332,7 +336,7 @@ record_target_owns at dots spread {fs = fs} hq h = behind_path hq by
 
 pub assign_owns : (at : Pointer) {t : Lowering PatId} {v : ExprSteps} → Correct t OwnsPlaces → Correct v Owns
     → Correct (assign_form at t v) Owns
-unfolding assign_form, places
+unfolding assign_form places
 assign_owns at ht hv = correct_as
     (correct_bind (correct_in_store ht) (λ i. correct_bind hv (λ e. correct_alloc (hir.Assignment i e) (Some at))))
     (λ final ps m m' k g row. let s = row.second in

@@ -61,15 +61,15 @@ module _ {A B C : Type 0} {ps : List Frame} where
 
 module _ {A B : Type 0} {ps : List Frame} where
   pub stored_pure : {a : A} {f : A → StoreRun B} {n : SyntaxRun B} → SameWhere ps (f a) n → SameWhere ps (pure a >>= f) n
-  unfolding ends, ◌>>=◌
+  unfolding ends ◌>>=◌
   stored_pure h = record { same = λ w. h.same w }
 
   written_pure : {a : A} {m : StoreRun B} {g : A → SyntaxRun B} → SameWhere ps m (g a) → SameWhere ps m (pure a >>= g)
-  unfolding ends, ◌>>=◌
+  unfolding ends ◌>>=◌
   written_pure h = record { same = λ w. h.same w }
 
   written_value : {m : StoreRun B} (a : A) (g : A → SyntaxRun B) → SameWhere ps m (pure a >>= g) → SameWhere ps m (g a)
-  unfolding ends, ◌>>=◌
+  unfolding ends ◌>>=◌
   written_value a g h = record { same = λ w. h.same w }
 
 -- ---- ends
@@ -111,7 +111,7 @@ module _ {labels nodes : ℕ} {final : Stored} {ps : List Frame} (turns d : ℕ)
   same_ends_of same (tree.some_expr x) (tree.some_expr y) (Some s) (Some e) h h' =
       stored_row (written_row (same_bind (h.same turns d le f)
       (λ v. stored_row (stored_row (written_pure (written_row (same_bind (h'.same turns d le f)
-      (λ w. stored_row (stored_pure (stored_pure (stored_pure (written_pure (same (v ∷ w ∷ [])))))))))))))
+      (λ w. stored_row (stored_pure (stored_pure (stored_pure (written_pure (same (v ∷ w ∷ []))))))))))))))
   same_ends_of same tree.no_expr end (Some s) e h h' = absurd h
   same_ends_of same (tree.some_expr x) end None e h h' = absurd h
   same_ends_of same start tree.no_expr s (Some e) h h' = absurd h'

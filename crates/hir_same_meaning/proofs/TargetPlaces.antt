@@ -352,7 +352,7 @@ goes_assign {labels = labels} {m' = m'} {at = at} {final = final} {ps = ps} {i =
 
 pub assign_fine : (at : Pointer) (t : Target) {q : ExprSteps} {x : Walk Value} {y : Placing} → Correct (lower_target t) (PlacesAre y)
     → Correct q (Runs one x) → Correct (assign_form at (lower_target t) q) (Runs one (assigned at (target_data t) y x))
-unfolding assign_form, places
+unfolding assign_form places
 assign_fine at t ht hq = correct_as (correct_bind (correct_in_store (correct_both ht (target_now t)))
     (λ i. correct_bind hq (λ e. correct_alloc (hir.Assignment i e) (Some at))))
     (λ final ps m m' k g row. let f = row.first in let s = row.second in

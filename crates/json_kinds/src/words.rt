@@ -49,8 +49,8 @@ fn resolutions() -> &'static [&'static str]
     ensures { map (λ w. w.now) result.now ≡ resolutions }
 {
     &[
-        "module", "function", "struct", "union", "enum", "variant", "const", "static",
-        "trait", "builtin",
+        "module", "function", "struct", "union", "enum", "variant", "const", "static", "trait",
+        "builtin",
     ]
 }
 
