@@ -3,6 +3,7 @@
 
 mod boxed;
 pub mod node;
+pub mod op;
 mod seq;
 mod text;
 

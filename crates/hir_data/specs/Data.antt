@@ -2,7 +2,7 @@
 -- they are stored. Each type, each lifetime and each pattern has the node that it came from, where it came from one. A constant
 -- is named by the node that it came from.
 use Rattle.std.specs.Prelude.{ℕ, Bool, true, List, [], ◌∷◌, Option, None, option_map}
-use Rattle.hir_syntax.specs.declared.pats.RangeOp.{RangeOp}
+use Rattle.hir_base.specs.declared.op.RangeOp.{RangeOp}
 use Rattle.hir_binding.specs.declared.binding.BindingAnnotation.{BindingAnnotation}
 use Rattle.hir_store.specs.Pointers.{Pointer}
 use Rattle.hir_store.specs.declared.ids.HygieneId.{HygieneId}

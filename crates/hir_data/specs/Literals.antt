@@ -1,7 +1,7 @@
 -- Literals as data, read from the tree and from the store (Rust Reference, literal expressions and literal patterns).
 use Rattle.std.specs.Prelude.{ℕ, Bool, false, List, Option}
 use Rattle.hir_syntax.specs.declared.ast.Literal.{Literal as AstLiteral}
-use Rattle.hir_syntax.specs.declared.ast.LiteralKind.{LiteralKind}
+use Rattle.hir_base.specs.declared.op.LiteralKind.{LiteralKind}
 use Rattle.hir_store.specs.declared.hir.Literal.{Literal}
 
 -- a literal, its text and its suffix as bytes; `negative` where a minus belongs to it

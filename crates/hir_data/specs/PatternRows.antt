@@ -1,8 +1,8 @@
 -- Worked patterns.
 use Rattle.std.specs.Prelude.{◌≡◌, codes, Bool, true, false, List, [], ◌∷◌, Option, Some, None}
 use Rattle.hir_syntax.specs.declared.ast.Literal.{Literal}
-use Rattle.hir_syntax.specs.declared.pats.RangeOp.{RangeOp}
-use Rattle.hir_syntax.specs.declared.pats.RangeOp.TheVariants.{Inclusive}
+use Rattle.hir_base.specs.declared.op.RangeOp.{RangeOp}
+use Rattle.hir_base.specs.declared.op.RangeOp.TheVariants.{Inclusive}
 use Rattle.hir_binding.specs.Steps.{over_all, shown}
 use Rattle.hir_binding.specs.declared.binding.BindingAnnotation.{BindingAnnotation}
 use Rattle.hir_binding.specs.declared.binding.BindingAnnotation.TheVariants.{Unannotated, Mutable, Ref}

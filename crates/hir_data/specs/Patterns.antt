@@ -1,7 +1,7 @@
 -- The data of written patterns, and what they do with names. A pattern is read where some names of its top pattern have uses
 -- already; what stands behind `@` comes before the name in front of it.
 use Rattle.std.specs.Prelude.{ℕ, suc, Bool, true, false, if◌then◌else◌, [], Option, Some, None, option_map}
-use Rattle.hir_syntax.specs.declared.pats.RangeOp.{RangeOp}
+use Rattle.hir_base.specs.declared.op.RangeOp.{RangeOp}
 use Rattle.hir_binding.specs.Uses.{Uses, name_use, product, alternatives, Parts, no_parts, more_parts}
 use Rattle.hir_store.specs.Pointers.{Pointer}
 use Rattle.hir_store.specs.declared.name.Name.{Name}

@@ -1,7 +1,7 @@
 -- The data of what is written, patterns that bind apart.
 use Rattle.std.specs.Prelude.{codes, Bool, true, false, List, [], ◌∷◌, map, Option, Some, None, option_map}
 use Rattle.hir_store.specs.Pointers.{Pointer}
-use Rattle.hir_syntax.specs.declared.pats.RangeOp.TheVariants.{Inclusive}
+use Rattle.hir_base.specs.declared.op.RangeOp.TheVariants.{Inclusive}
 use Rattle.hir_store.specs.declared.ids.CrateId.{CrateId}
 use Rattle.hir_store.specs.declared.ids.HygieneId.{HygieneId}
 use Rattle.hir_store.specs.declared.ids.LangItemId.{LangItemId}

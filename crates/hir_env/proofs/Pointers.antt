@@ -1,6 +1,6 @@
 -- The node of an answered expression is its own.
 use Rattle.std.proofs.Common.{◌≡◌, ◌∙◌, refl, ap, Some, None, Result, Ok, Err}
-use Rattle.hir_syntax.specs.declared.ast.BinaryOp.TheVariants as op
+use Rattle.hir_base.specs.declared.op.BinaryOp.TheVariants as op
 use Rattle.hir_syntax.specs.declared.ast.ExprKind.{out-ExprKind}
 use Rattle.hir_syntax.specs.declared.ast.Expr.{Expr as AstExpr}
 use Rattle.hir_syntax.specs.declared.ast.ElseBranch.TheOpen.{ExprKind-F}

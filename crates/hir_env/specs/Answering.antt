@@ -1,12 +1,12 @@
 -- How the answers are written into one level of a tree. The steps ask; nothing above them does.
 use Rattle.std.specs.Prelude.{List, [], ◌∷◌, Bool, true, false, codes, Option, Some, None, is_some, Result, Ok, Err, option_map, map}
-use Rattle.hir_syntax.specs.declared.ast.UnaryOp.{UnaryOp}
-use Rattle.hir_syntax.specs.declared.ast.BinaryOp.{BinaryOp}
-use Rattle.hir_syntax.specs.declared.ast.BinaryOp.TheVariants as op
+use Rattle.hir_base.specs.declared.op.UnaryOp.{UnaryOp}
+use Rattle.hir_base.specs.declared.op.BinaryOp.{BinaryOp}
+use Rattle.hir_base.specs.declared.op.BinaryOp.TheVariants as op
 use Rattle.hir_syntax.specs.declared.ast.BlockModifier.{BlockModifier}
 use Rattle.hir_syntax.specs.declared.ast.BlockModifier.TheVariants as modifier
 use Rattle.hir_syntax.specs.declared.ast.Literal.{Literal}
-use Rattle.hir_syntax.specs.declared.ast.LiteralKind.TheVariants as literal
+use Rattle.hir_base.specs.declared.op.LiteralKind.TheVariants as literal
 use Rattle.hir_store.specs.declared.hir.Rawness.{Rawness}
 use Rattle.hir_store.specs.declared.hir.Rawness.TheVariants as raw
 use Rattle.hir_base.specs.declared.node.NodeId.{NodeId}

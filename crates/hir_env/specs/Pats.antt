@@ -1,8 +1,8 @@
 -- How the answers are written into patterns.
 use Rattle.std.specs.Prelude.{List, [], ◌∷◌, Bool, true, false, ◌&&◌, if◌then◌else◌, Option, Some, None, Result, Ok, Err, option_map}
 use Rattle.hir_base.specs.declared.node.AstPtr.{AstPtr}
-use Rattle.hir_syntax.specs.declared.ast.LiteralKind.{LiteralKind}
-use Rattle.hir_syntax.specs.declared.ast.LiteralKind.TheVariants as literal
+use Rattle.hir_base.specs.declared.op.LiteralKind.{LiteralKind}
+use Rattle.hir_base.specs.declared.op.LiteralKind.TheVariants as literal
 use Rattle.hir_syntax.specs.declared.ast.Name.{Name as AstName}
 use Rattle.hir_syntax.specs.declared.pats.PatLiteral.{PatLiteral}
 use Rattle.hir_syntax.specs.declared.ast.ElseBranch.TheOpen.{PatKind-F}

@@ -1,7 +1,7 @@
 -- What a range becomes.
 use Rattle.std.specs.Prelude.{codes, Bool, true, false, Option, Some, None}
-use Rattle.hir_syntax.specs.declared.pats.RangeOp.{RangeOp}
-use Rattle.hir_syntax.specs.declared.pats.RangeOp.TheVariants as range
+use Rattle.hir_base.specs.declared.op.RangeOp.{RangeOp}
+use Rattle.hir_base.specs.declared.op.RangeOp.TheVariants as range
 use Rattle.hir_store.specs.declared.ids.LangItemId.{LangItemId}
 use Rattle.hir_store.specs.declared.name.Name.{Name}
 use Rattle.hir_store.specs.declared.name.Name.TheVariants as name

@@ -1,7 +1,7 @@
 -- What a pattern is in a type, in a function pointer's parameter, and where only a plain name or `_` may stand.
 use Rattle.std.specs.Prelude.{Bool, true, false, Option, Some, None}
-use Rattle.hir_syntax.specs.declared.pats.RangeOp.{RangeOp}
-use Rattle.hir_syntax.specs.declared.pats.RangeOp.TheVariants as range
+use Rattle.hir_base.specs.declared.op.RangeOp.{RangeOp}
+use Rattle.hir_base.specs.declared.op.RangeOp.TheVariants as range
 use Rattle.hir_binding.specs.declared.binding.BindingAnnotation.{BindingAnnotation}
 use Rattle.hir_binding.specs.declared.binding.BindingAnnotation.TheVariants as binding
 use Rattle.hir_store.specs.Pointers.{Pointer}

@@ -14,11 +14,11 @@ use Rattle.hir_syntax.specs.declared.ast.Path.{Path as AstPath}
 use Rattle.hir_syntax.specs.declared.ast.RecordExprFieldList.{RecordExprFieldList as AstFieldList}
 use Rattle.hir_syntax.specs.declared.types.Type_.{Type_ as AstType_}
 use Rattle.hir_syntax.specs.declared.types.GenericArgList.{GenericArgList as AstGenericArgList}
-use Rattle.hir_syntax.specs.declared.ast.BinaryOp.{BinaryOp}
-use Rattle.hir_syntax.specs.declared.ast.UnaryOp.{UnaryOp}
+use Rattle.hir_base.specs.declared.op.BinaryOp.{BinaryOp}
+use Rattle.hir_base.specs.declared.op.UnaryOp.{UnaryOp}
 use Rattle.hir_syntax.specs.declared.branches.MatchArm.{MatchArm as AstMatchArm}
 use Rattle.hir_syntax.specs.declared.pats.Pat.{Pat as AstPat}
-use Rattle.hir_syntax.specs.declared.pats.RangeOp.{RangeOp}
+use Rattle.hir_base.specs.declared.op.RangeOp.{RangeOp}
 use Rattle.hir_base.specs.declared.node.PredId.{PredId}
 use Rattle.hir_env.specs.Layers.{ExprKindLayer}
 use Rattle.hir_env.specs.Whole.{written}

@@ -1,7 +1,7 @@
 -- A binary expression is lowered alike whether or not its operator is lazy, unless it is an assignment.
 use Rattle.std.proofs.Common.{◌≡◌, Bool, Option, Some, None, refl, absurd}
-use Rattle.hir_syntax.specs.declared.ast.BinaryOp.{BinaryOp}
-use Rattle.hir_syntax.specs.declared.ast.BinaryOp.TheVariants as operator
+use Rattle.hir_base.specs.declared.op.BinaryOp.{BinaryOp}
+use Rattle.hir_base.specs.declared.op.BinaryOp.TheVariants as operator
 use Rattle.hir_store.specs.Pointers.{Pointer}
 use Rattle.hir_store.specs.declared.hir.Expr.TheVariants as hir
 use Rattle.hir_env.specs.Answered.{Path, OptionExpr}

@@ -2,8 +2,8 @@
 use Rattle.std.specs.Prelude.{nat_le, if◌then◌else◌, Bool, true, false}
 use Rattle.std.specs.Prelude.{List, [], ◌∷◌, ◌++◌, length, Option, Some, None}
 use Rattle.hir_syntax.specs.declared.ast.Literal.{Literal as AstLiteral}
-use Rattle.hir_syntax.specs.declared.ast.LogicOp.{LogicOp}
-use Rattle.hir_syntax.specs.declared.ast.BinaryOp.TheVariants as operator
+use Rattle.hir_base.specs.declared.op.LogicOp.{LogicOp}
+use Rattle.hir_base.specs.declared.op.BinaryOp.TheVariants as operator
 use Rattle.hir_store.specs.Pointers.{Pointer}
 use Rattle.hir_store.specs.declared.hir.Expr.{Expr as HirExpr}
 use Rattle.hir_store.specs.declared.hir.Expr.TheVariants as hir

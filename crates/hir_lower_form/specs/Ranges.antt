@@ -1,6 +1,6 @@
 -- Ranges, which are made of items of the language, and patterns in types.
 use Rattle.std.specs.Prelude.{codes, List, [], ◌∷◌, ◌++◌, Option, Some, None}
-use Rattle.hir_syntax.specs.declared.pats.RangeOp.TheVariants as op
+use Rattle.hir_base.specs.declared.op.RangeOp.TheVariants as op
 use Rattle.hir_store.specs.Pointers.{Pointer}
 use Rattle.hir_store.specs.declared.hir.Expr.{Expr as HirExpr}
 use Rattle.hir_store.specs.declared.hir.Expr.TheVariants as hir

@@ -3,8 +3,8 @@ use Rattle.std.specs.Prelude.{ℕ, Bool, List, Option}
 use Rattle.hir_store.specs.declared.ids.HygieneId.{HygieneId}
 use Rattle.hir_store.specs.declared.ids.BlockId.{BlockId}
 use Rattle.hir_store.specs.declared.ids.LangItemId.{LangItemId}
-use Rattle.hir_syntax.specs.declared.ast.UnaryOp.{UnaryOp}
-use Rattle.hir_syntax.specs.declared.ast.BinaryOp.{BinaryOp}
+use Rattle.hir_base.specs.declared.op.UnaryOp.{UnaryOp}
+use Rattle.hir_base.specs.declared.op.BinaryOp.{BinaryOp}
 use Rattle.hir_store.specs.declared.hir.Rawness.{Rawness}
 use Rattle.hir_store.specs.declared.hir.Mutability.{Mutability}
 use Rattle.hir_store.specs.declared.name.Name.{Name}

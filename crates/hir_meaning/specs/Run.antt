@@ -3,8 +3,8 @@
 use Rattle.std.specs.Prelude.{ℕ, Bool, true, false, List, [], ◌∷◌, ◌++◌, Option, None}
 use Rattle.hir_store.specs.declared.ids.BlockId.{BlockId}
 use Rattle.hir_store.specs.declared.ids.HygieneId.{HygieneId}
-use Rattle.hir_syntax.specs.declared.ast.LogicOp.{LogicOp}
-use Rattle.hir_syntax.specs.declared.ast.LogicOp.TheVariants as logic
+use Rattle.hir_base.specs.declared.op.LogicOp.{LogicOp}
+use Rattle.hir_base.specs.declared.op.LogicOp.TheVariants as logic
 use Rattle.hir_env.specs.NodeMap.{Site}
 use Rattle.hir_data.specs.Data.{PathData, path_data, item_path, OptionTypeData, PatData, pattern_site}
 pub use Rattle.hir_meaning.specs.Events.{Value, answered, unit, truth, item, Test, is_true, matches, Operation, literal, read, call}

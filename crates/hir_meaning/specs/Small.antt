@@ -1,7 +1,7 @@
 -- What small bodies are made of, as they are written and as they are stored.
 use Rattle.std.specs.Prelude.{◌≡◌, ℕ, true, false, List, [], ◌∷◌, map, Option, Some, None, option_map}
 use Rattle.hir_syntax.specs.declared.ast.Literal.{Literal as AstLiteral}
-use Rattle.hir_syntax.specs.declared.ast.LiteralKind.TheVariants.{Int}
+use Rattle.hir_base.specs.declared.op.LiteralKind.TheVariants.{Int}
 use Rattle.hir_store.specs.Pointers.{Pointer}
 use Rattle.hir_store.specs.Stored.{Store, SourceMap}
 use Rattle.hir_store.specs.declared.hir.Expr.{Expr as Stored}

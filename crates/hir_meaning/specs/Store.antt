@@ -23,7 +23,7 @@ use Rattle.hir_meaning.specs.Run.{Value, unit, truth, is_true, Operation, litera
 use Rattle.hir_meaning.specs.Run.{underscore, include_bytes, field, prefix, reference, operator, index, array, method_call}
 use Rattle.hir_meaning.specs.Run.{yielding, awaiting, cast, SpreadForm, no_spread, field_defaults, rest_of, made_record, offset_of}
 use Rattle.hir_meaning.specs.Run.{returned, became, yeeted, unmatched, made_tuple, lazily, read_path, binds, assigns}
-use Rattle.hir_syntax.specs.declared.ast.BinaryOp.TheVariants as ast
+use Rattle.hir_base.specs.declared.op.BinaryOp.TheVariants as ast
 use Rattle.hir_meaning.specs.Run.{ends, pure, ◌>>=◌, ◌>>◌, ask, tests, tests_pattern, entering}
 use Rattle.hir_meaning.specs.Catching.{turn, loop, block}
 

@@ -1,6 +1,6 @@
 -- What is stored for patterns that bind no names reads back: those of types, and what is assigned to.
 use Rattle.std.proofs.Common.{◌≡◌, ◌∙◌, refl, ap, ℕ, ◌≤◌, Option, Some, None, List, [], ◌∷◌, ◌++◌, arith}
-use Rattle.hir_syntax.specs.declared.pats.RangeOp.TheVariants.{Inclusive}
+use Rattle.hir_base.specs.declared.op.RangeOp.TheVariants.{Inclusive}
 use Rattle.hir_store.specs.Pointers.{Pointer}
 use Rattle.hir_store.specs.Stored.{Stored, store_of, map_of}
 use Rattle.hir_store.specs.declared.hir.Expr.{Expr as HirExpr}

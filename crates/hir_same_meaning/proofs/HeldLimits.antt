@@ -10,7 +10,7 @@ use Rattle.hir_store.specs.declared.name.Name.{Name}
 use Rattle.hir_store.specs.declared.pat.Pat.{Pat as HirPat}
 use Rattle.hir_store.specs.declared.pat.Pat.TheVariants as pat
 use Rattle.hir_store.specs.declared.path.Path.{Path as HirPath}
-use Rattle.hir_syntax.specs.declared.pats.RangeOp.TheVariants as op
+use Rattle.hir_base.specs.declared.op.RangeOp.TheVariants as op
 use Rattle.hir_env.specs.Answering.{site_of}
 use Rattle.hir_env.specs.Answered as tree
 use Rattle.hir_env.specs.Answered.{OptionPath, Side, Limit, Signed}

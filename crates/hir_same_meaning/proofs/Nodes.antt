@@ -1,7 +1,7 @@
 -- What each node of the store stands for, given what its parts stand for.
 use Rattle.std.proofs.Common.{◌≡◌, ℕ, Bool, if◌then◌else◌, List, [], ◌∷◌, Option, Some, None, refl, ap}
-use Rattle.hir_syntax.specs.declared.ast.LogicOp.{LogicOp}
-use Rattle.hir_syntax.specs.declared.ast.BinaryOp.TheVariants as ast
+use Rattle.hir_base.specs.declared.op.LogicOp.{LogicOp}
+use Rattle.hir_base.specs.declared.op.BinaryOp.TheVariants as ast
 use Rattle.hir_store.specs.Pointers.{Pointer}
 use Rattle.hir_store.specs.Stored.{Stored}
 use Rattle.hir_store.specs.declared.hir.Expr.TheVariants as hir

@@ -1,8 +1,8 @@
 -- Runs of the store that go as runs of the syntax.
 use Rattle.std.proofs.Common.{◌≡◌, ℕ, zero, suc, Bool, true, false, if◌then◌else◌, List, [], ◌∷◌, Option, Some, None, refl, ap, ◌∙◌}
 use Rattle.std.proofs.Common.{subst, sym}
-use Rattle.hir_syntax.specs.declared.ast.LogicOp.{LogicOp}
-use Rattle.hir_syntax.specs.declared.ast.LogicOp.TheVariants as logic
+use Rattle.hir_base.specs.declared.op.LogicOp.{LogicOp}
+use Rattle.hir_base.specs.declared.op.LogicOp.TheVariants as logic
 use Rattle.hir_store.specs.declared.ids.BlockId.{BlockId}
 use Rattle.hir_store.specs.declared.ids.HygieneId.{HygieneId}
 use Rattle.hir_env.specs.NodeMap.{Site}

@@ -9,8 +9,8 @@ use crate::arena::Arena;
 use crate::fault::StoreFault;
 use crate::ids::{BindingId, PatId};
 use crate::pat::Binding;
+use hir_base::Seq;
 use hir_binding::binding::BindingProblems;
-use hir_syntax::Seq;
 use std::alloc::{AllocError, Global};
 use std::marker::Model;
 

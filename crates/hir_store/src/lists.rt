@@ -12,7 +12,7 @@ use crate::hir::{MatchArm, RecordFieldPat, RecordLitField, Statement};
 use crate::ids::{ExprId, PatId, TypeRefId};
 use crate::path::{AssociatedTypeBinding, GenericArg, GenericArgs};
 use crate::type_ref::{TypeBound, UseArgRef};
-use hir_syntax::Seq;
+use hir_base::Seq;
 use std::alloc::AllocError;
 
 /// Adds a number to a list of an expression's parts.

@@ -4,9 +4,9 @@ use crate::hir::Mutability;
 use crate::ids::{BindingId, ExprId, HygieneId, PatId};
 use crate::name::Name;
 use crate::path::Path;
+use hir_base::Seq;
+use hir_base::op::RangeOp;
 use hir_binding::binding::{BindingAnnotation, BindingProblems};
-use hir_syntax::Seq;
-use hir_syntax::ast::RangeOp;
 
 /// A name that a pattern binds, bound as by its first use.
 pub struct Binding {

@@ -6,7 +6,7 @@ use crate::hir::Mutability;
 use crate::ids::{ExprId, LifetimeRefId, PatId, TypeRefId};
 use crate::name::{Name, copy_names};
 use crate::path::Path;
-use hir_syntax::Seq;
+use hir_base::Seq;
 use std::alloc::AllocError;
 
 /// A lifetime as written. `Placeholder` is `'_`; an empty text and `'` alone are errors.

@@ -28,20 +28,8 @@ impl Drop for MatchArm {
     }
 }
 
-/// `if` behind the pattern of an arm.
-#[derive(Drop)]
-#[cycle(ast)]
-pub struct Guard {
-    pub id: NodeId,
-    pub range: TextRange,
-    pub condition: Option<Boxed<Expr>>,
-}
+/// The condition behind the pattern of an arm.
+pub type Guard = Option<Boxed<Expr>>;
 
-/// `else` behind a `let`.
-#[derive(Drop)]
-#[cycle(ast)]
-pub struct LetElse {
-    pub id: NodeId,
-    pub range: TextRange,
-    pub block: Option<Boxed<BlockExpr>>,
-}
+/// The block behind the `else` of a `let`.
+pub type LetElse = Option<Boxed<BlockExpr>>;

@@ -6,6 +6,7 @@ use hir_base::node::{NodeId, TextRange};
 use hir_base::{Boxed, Seq};
 
 /// A `self` among the parameters.
+#[derive(Drop)]
 pub struct SelfParam {
     pub id: NodeId,
     pub range: TextRange,
@@ -17,35 +18,11 @@ pub struct SelfParam {
     pub ty: Option<Boxed<Type_>>,
 }
 
-impl Drop for SelfParam {
-    fn drop(self) {
-        let SelfParam {
-            id: _,
-            range: _,
-            name: _,
-            ref_: _,
-            mut_: _,
-            lifetime: _,
-            ty: _,
-        } = self;
-    }
-}
-
 /// The parameters of a function.
+#[derive(Drop)]
 pub struct ParamList {
     pub id: NodeId,
     pub range: TextRange,
     pub self_: Option<SelfParam>,
     pub params: Seq<Param>,
-}
-
-impl Drop for ParamList {
-    fn drop(self) {
-        let ParamList {
-            id: _,
-            range: _,
-            self_: _,
-            params: _,
-        } = self;
-    }
 }

@@ -2,16 +2,8 @@
 
 use crate::ast::{Literal, Name, Path};
 use hir_base::node::{NodeId, PredId, TextRange};
+use hir_base::op::RangeOp;
 use hir_base::{Boxed, Seq};
-
-/// The operator of a range.
-#[derive(Clone, Copy, Debug, PartialEq, Eq)]
-pub enum RangeOp {
-    /// `..`
-    Exclusive,
-    /// `..=`
-    Inclusive,
-}
 
 /// The literal of a pattern, without its minus.
 pub struct PatLiteral {
@@ -49,6 +41,7 @@ impl Drop for Pat {
     }
 }
 
+#[derive(Drop)]
 #[cycle(ast)]
 pub enum PatKind {
     IdentPat {
@@ -113,56 +106,6 @@ pub enum PatKind {
     RestPat,
     NotNullPat,
     ConstBlockPat,
-}
-
-impl Drop for PatKind {
-    #[cycle(ast_drop)]
-    fn drop(self) {
-        match self {
-            PatKind::IdentPat {
-                name: _,
-                ref_: _,
-                mut_: _,
-                pat: _,
-            } => {}
-            PatKind::TupleStructPat {
-                path: _,
-                leading_comma: _,
-                fields: _,
-            } => {}
-            PatKind::TuplePat {
-                leading_comma: _,
-                fields: _,
-            } => {}
-            PatKind::RefPat { mut_: _, pat: _ } => {}
-            PatKind::PathPat { path: _ } => {}
-            PatKind::OrPat { pats: _ } => {}
-            PatKind::ParenPat { pat: _ } => {}
-            PatKind::BoxPat { pat: _ } => {}
-            PatKind::DerefPat { pat: _ } => {}
-            PatKind::RecordPat {
-                path: _,
-                fields: _,
-                rest: _,
-            } => {}
-            PatKind::SlicePat {
-                prefix: _,
-                slice: _,
-                suffix: _,
-            } => {}
-            PatKind::LiteralPat { lit: _, minus: _ } => {}
-            PatKind::RangePat {
-                op: _,
-                start: _,
-                end: _,
-            } => {}
-            PatKind::CfgPredPat { pred: _ } => {}
-            PatKind::WildcardPat => {}
-            PatKind::RestPat => {}
-            PatKind::NotNullPat => {}
-            PatKind::ConstBlockPat => {}
-        }
-    }
 }
 
 /// A field of a record pattern. One without a written pattern has both, the pattern being a name.

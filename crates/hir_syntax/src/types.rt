@@ -24,6 +24,7 @@ impl Drop for Type_ {
     }
 }
 
+#[derive(Drop)]
 #[cycle(ast)]
 pub enum TypeKind {
     ParenType {
@@ -77,37 +78,6 @@ pub enum TypeKind {
     InferType,
 }
 
-impl Drop for TypeKind {
-    #[cycle(ast_drop)]
-    fn drop(self) {
-        match self {
-            TypeKind::ParenType { ty: _ } => {}
-            TypeKind::SliceType { ty: _ } => {}
-            TypeKind::ArrayType { ty: _, len: _ } => {}
-            TypeKind::TupleType { fields: _ } => {}
-            TypeKind::PathType { path: _ } => {}
-            TypeKind::PtrType { mut_: _, ty: _ } => {}
-            TypeKind::RefType {
-                lifetime: _,
-                mut_: _,
-                ty: _,
-            } => {}
-            TypeKind::FnPtrType {
-                unsafe_: _,
-                abi: _,
-                params: _,
-                ret: _,
-            } => {}
-            TypeKind::ForType { binder: _, ty: _ } => {}
-            TypeKind::ImplTraitType { bounds: _ } => {}
-            TypeKind::DynTraitType { bounds: _ } => {}
-            TypeKind::PatternType { ty: _, pat: _ } => {}
-            TypeKind::NeverType => {}
-            TypeKind::InferType => {}
-        }
-    }
-}
-
 /// A parameter of a function or of a function pointer. A variadic one is `...`.
 #[cycle(ast)]
 pub struct Param {
@@ -129,15 +99,6 @@ impl Drop for Param {
             variadic: _,
         } = self;
     }
-}
-
-/// `-> T`.
-#[derive(Drop)]
-#[cycle(ast)]
-pub struct RetType {
-    pub id: NodeId,
-    pub range: TextRange,
-    pub ty: Option<Boxed<Type_>>,
 }
 
 /// A bound of a type. One without a kind, a path without `ty` and a lifetime without `lifetime` are errors.
@@ -222,15 +183,6 @@ pub struct PathType {
     pub path: Option<Boxed<Path>>,
 }
 
-/// `<..>` behind a name.
-#[derive(Drop)]
-#[cycle(ast)]
-pub struct GenericArgList {
-    pub id: NodeId,
-    pub range: TextRange,
-    pub args: Seq<GenericArg>,
-}
-
 #[cycle(ast)]
 pub enum GenericArg {
     TypeArg(TypeArg),
@@ -248,25 +200,6 @@ impl Drop for GenericArg {
             GenericArg::LifetimeArg(_) => {}
             GenericArg::ConstArg(_) => {}
         }
-    }
-}
-
-/// A type as an argument.
-#[cycle(ast)]
-pub struct TypeArg {
-    pub id: NodeId,
-    pub range: TextRange,
-    pub ty: Option<Boxed<Type_>>,
-}
-
-impl Drop for TypeArg {
-    #[cycle(ast_drop)]
-    fn drop(self) {
-        let TypeArg {
-            id: _,
-            range: _,
-            ty: _,
-        } = self;
     }
 }
 
@@ -304,11 +237,14 @@ impl Drop for LifetimeArg {
     }
 }
 
+/// `-> T`.
+pub type RetType = Option<Boxed<Type_>>;
+
+/// A type as an argument.
+pub type TypeArg = Option<Boxed<Type_>>;
+
+/// `<..>` behind a name.
+pub type GenericArgList = Seq<GenericArg>;
+
 /// `(A, B)` behind a name.
-#[derive(Drop)]
-#[cycle(ast)]
-pub struct ParenArgs {
-    pub id: NodeId,
-    pub range: TextRange,
-    pub args: Seq<TypeArg>,
-}
+pub type ParenArgs = Seq<TypeArg>;

@@ -1,19 +1,19 @@
 -- Operators, by their words.
 use Rattle.std.specs.Prelude.{ℕ, List, [], ◌∷◌, ◌++◌, Bool, true, false, Option, Some, None, bytes_eq, codes, option_and_then, option_map}
 use Rattle.serde_json.specs.Data.{Data}
-use Rattle.hir_syntax.specs.declared.ast.ArithOp.{ArithOp}
-use Rattle.hir_syntax.specs.declared.ast.ArithOp.TheVariants as arith
-use Rattle.hir_syntax.specs.declared.ast.BinaryOp.{BinaryOp}
-use Rattle.hir_syntax.specs.declared.ast.BinaryOp.TheVariants as binary
-use Rattle.hir_syntax.specs.declared.ast.CmpOp.{CmpOp}
-use Rattle.hir_syntax.specs.declared.ast.CmpOp.TheVariants as cmp
-use Rattle.hir_syntax.specs.declared.ast.LogicOp.{LogicOp}
-use Rattle.hir_syntax.specs.declared.ast.LogicOp.TheVariants as logic
-use Rattle.hir_syntax.specs.declared.ast.Ordering.TheVariants.{Less, Greater}
-use Rattle.hir_syntax.specs.declared.pats.RangeOp.{RangeOp}
-use Rattle.hir_syntax.specs.declared.pats.RangeOp.TheVariants as range
-use Rattle.hir_syntax.specs.declared.ast.UnaryOp.{UnaryOp}
-use Rattle.hir_syntax.specs.declared.ast.UnaryOp.TheVariants as unary
+use Rattle.hir_base.specs.declared.op.ArithOp.{ArithOp}
+use Rattle.hir_base.specs.declared.op.ArithOp.TheVariants as arith
+use Rattle.hir_base.specs.declared.op.BinaryOp.{BinaryOp}
+use Rattle.hir_base.specs.declared.op.BinaryOp.TheVariants as binary
+use Rattle.hir_base.specs.declared.op.CmpOp.{CmpOp}
+use Rattle.hir_base.specs.declared.op.CmpOp.TheVariants as cmp
+use Rattle.hir_base.specs.declared.op.LogicOp.{LogicOp}
+use Rattle.hir_base.specs.declared.op.LogicOp.TheVariants as logic
+use Rattle.hir_base.specs.declared.op.Ordering.TheVariants.{Less, Greater}
+use Rattle.hir_base.specs.declared.op.RangeOp.{RangeOp}
+use Rattle.hir_base.specs.declared.op.RangeOp.TheVariants as range
+use Rattle.hir_base.specs.declared.op.UnaryOp.{UnaryOp}
+use Rattle.hir_base.specs.declared.op.UnaryOp.TheVariants as unary
 use Rattle.json_nodes.specs.Fields.{text_in}
 use Rattle.json_kinds.specs.ByWord.{with_word, or_else}
 
