@@ -6,22 +6,20 @@ use Rattle.hir_syntax.specs.declared.ast.ElseBranch.{ElseBranch as AstElseBranch
 use Rattle.hir_syntax.specs.declared.ast.ExprKind.{ExprKind as AstExprKind, out-ExprKind}
 use Rattle.hir_syntax.specs.declared.ast.StmtKind.{StmtKind as AstStmtKind, out-StmtKind}
 use Rattle.hir_syntax.specs.declared.ast.BlockExpr.{BlockExpr as AstBlockExpr, out-BlockExpr}
-use Rattle.hir_syntax.specs.declared.ast.ConstArg.{ConstArg as AstConstArg, out-ConstArg}
 use Rattle.hir_syntax.specs.declared.ast.Expr.{Expr as AstExpr}
 use Rattle.hir_syntax.specs.declared.ast.RecordExprField.{RecordExprField as AstRecordExprField, out-RecordExprField}
 use Rattle.hir_syntax.specs.declared.ast.RecordExprFieldList.{RecordExprFieldList as AstRecordExprFieldList, out-RecordExprFieldList}
 use Rattle.hir_syntax.specs.declared.ast.Stmt.{Stmt as AstStmt}
-use Rattle.hir_syntax.specs.declared.branches.Guard.{Guard as AstGuard, out-Guard}
-use Rattle.hir_syntax.specs.declared.branches.LetElse.{LetElse as AstLetElse, out-LetElse}
 use Rattle.hir_syntax.specs.declared.branches.MatchArm.{MatchArm as AstMatchArm, out-MatchArm}
 use Rattle.hir_syntax.specs.declared.ast.ElseBranch.TheOpen.{ElseBranch-F, ExprKind-F, StmtKind-F}
 use Rattle.hir_store.specs.Pointers.{Pointer}
 use Rattle.hir_env.specs.declared.place.Place.{Place}
 use Rattle.hir_env.specs.Answers.{Answers}
+use Rattle.hir_env.specs.Wrapped.{AstConstArg, AstGuard, AstLetElse}
 use Rattle.hir_env.specs.Spot.{Spot}
 use Rattle.hir_env.specs.Layers.{BlockReading, StmtReading, RecordReading, Reader, ElseBranchLayer, ExprKindLayer, StmtKindLayer}
-use Rattle.hir_env.specs.Layers.{BlockExprLayer, ConstArgLayer, RecordExprFieldLayer, RecordExprFieldListLayer, GuardLayer}
-use Rattle.hir_env.specs.Layers.{LetElseLayer, MatchArmLayer, itself}
+use Rattle.hir_env.specs.Layers.{BlockExprLayer, RecordExprFieldLayer, RecordExprFieldListLayer}
+use Rattle.hir_env.specs.Layers.{MatchArmLayer, itself}
 use Rattle.hir_env.specs.Answering as of
 use Rattle.hir_env.specs.Paths.{inside_constant}
 use Rattle.hir_env.specs.Folds.{written, reader, read_else_branch, read_expr_kind, read_stmt_kind, read_block, read_constant}
@@ -33,10 +31,10 @@ use Rattle.hir_env.specs.Whole.{answered, answered_plain, answered_block, answer
 use Rattle.hir_env.specs.Whole.{answered_record, block_head, stmts_part, in_block, block_number, pointer_at, asked_expr}
 use Rattle.hir_env.specs.Whole.{block_level, stmt_level, else_level, constant_level, field_level, record_level, guard_level}
 use Rattle.hir_env.specs.Whole.{let_else_level, arm_level, answered_guard, answered_let_else, answered_arm}
-use Rattle.hir_env.proofs.Mapped.{optional, listed, mapped_else, mapped_kind, mapped_stmt_kind, mapped_block, mapped_constant}
-use Rattle.hir_env.proofs.Mapped.{mapped_field, mapped_record, mapped_guard, mapped_let_else, mapped_arm}
-use Rattle.hir_env.proofs.Opened.{opened_else_branch, opened_expr_kind, opened_stmt_kind, opened_block, opened_constant}
-use Rattle.hir_env.proofs.Opened.{opened_expr, opened_field, opened_record, opened_stmt, opened_guard, opened_let_else, opened_arm}
+use Rattle.hir_env.proofs.Mapped.{optional, listed, mapped_else, mapped_kind, mapped_stmt_kind, mapped_block}
+use Rattle.hir_env.proofs.Mapped.{mapped_field, mapped_record, mapped_arm}
+use Rattle.hir_env.proofs.Opened.{opened_else_branch, opened_expr_kind, opened_stmt_kind, opened_block}
+use Rattle.hir_env.proofs.Opened.{opened_expr, opened_field, opened_record, opened_stmt, opened_arm}
 use Rattle.hir_env.proofs.PathLevels.{type_is, path_is, pat_is, arg_list_is}
 
 -- parts that may be absent, and lists
@@ -73,15 +71,17 @@ arms_is : {A : Type 0} (h : A → Place → Arm) (xs : List A) (p : Place) → o
 arms_is h [] p = refl
 arms_is h (x ∷ xs) p = λ j. tree.more_arms (h x p) (arms_is h xs p j)
 
-guard_is : {A : Type 0} (h : A → Place → OptionExpr) (x : Option A) (p : Place)
-    → of.guard_or_none (λ y. y) (optional h x) p ≡ of.guard_or_none h x p
+guard_is : {A : Type 0} (h : A → Place → Expr) (x : Option (Option A)) (p : Place)
+    → of.guard_or_none (of.expr_or_none (λ y. y)) (optional (optional h) x) p ≡ of.guard_or_none (of.expr_or_none h) x p
 guard_is h None p = refl
-guard_is h (Some x) p = refl
+guard_is h (Some None) p = refl
+guard_is h (Some (Some x)) p = refl
 
-let_else_is : {A : Type 0} (h : A → Place → OptionBlock) (x : Option A) (p : Place)
-    → of.let_else_or_none (λ y. y) (optional h x) p ≡ of.let_else_or_none h x p
+let_else_is : {A : Type 0} (h : A → BlockReading) (x : Option (Option A)) (p : Place)
+    → of.let_else_or_none (of.plain_or_none (λ y. y)) (optional (optional h) x) p ≡ of.let_else_or_none (of.plain_or_none h) x p
 let_else_is h None p = refl
-let_else_is h (Some x) p = refl
+let_else_is h (Some None) p = refl
+let_else_is h (Some (Some x)) p = refl
 
 contents_is : {A : Type 0} (h : A → Place → StmtReading) (xs : List A) (t t' : Place → OptionExpr)
     → ((p : Place) → t p ≡ t' p) → (p : Place) → of.contents_of (λ y. y) (listed h xs) t p ≡ of.contents_of h xs t' p
@@ -107,10 +107,10 @@ module _ (env : Answers) where
   expr_at_is (ExprKind-F.Literal l) p s = refl
   expr_at_is (ExprKind-F.MethodCallExpr e n as' None) p s = λ j.
       tree.method_call_expr s (expr_is rd.expr e p j) (of.name_or_missing n) tree.no_exprs
-      (arg_list_is rd.generic_arg_list as' p j)
+      (arg_list_is rd.generic_arg as' p j)
   expr_at_is (ExprKind-F.MethodCallExpr e n as' (Some es)) p s = λ j.
       tree.method_call_expr s (expr_is rd.expr e p j) (of.name_or_missing n) (exprs_is rd.expr es p j)
-      (arg_list_is rd.generic_arg_list as' p j)
+      (arg_list_is rd.generic_arg as' p j)
   expr_at_is (ExprKind-F.FieldExpr e n) p s = λ j. tree.unary_expr s (tree.field_of (of.name_or_missing n)) (expr_is rd.expr e p j)
   expr_at_is (ExprKind-F.PrefixExpr o e) p s = λ j. of.prefix_expr s o (expr_is rd.expr e p j)
   expr_at_is (ExprKind-F.BinExpr o a b) p s = λ j.
@@ -146,10 +146,6 @@ module _ (env : Answers) where
       → of.expr_kind env itself (mapped_kind env k) n p ≡ of.expr_kind env rd k n p
   expr_kind_is k n p = λ j. let s = of.in_file p n in of.asked s (env.cfg (of.site_of s)) (expr_at_is k p s j)
 
-  constant_step_is : (x : ConstArgLayer written) (p : Place)
-      → of.constant_step env itself (mapped_constant env x) p ≡ of.constant_step env rd x p
-  constant_step_is x p = λ j. tree.constant (expr_is rd.expr x.expr (inside_constant p) j)
-
   field_step_is : (x : RecordExprFieldLayer written) (p : Place)
       → of.field_step env itself (mapped_field env x) p ≡ of.field_step env rd x p
   field_step_is x p = λ j. let s = of.in_file p (of.ptr x.id x.range) in
@@ -163,16 +159,9 @@ module _ (env : Answers) where
     spread = spread_is rd.expr x.spread x.dotdot p j;
   }
 
-  guard_step_is : (x : GuardLayer written) (p : Place) → of.guard_step env itself (mapped_guard env x) p ≡ of.guard_step env rd x p
-  guard_step_is x p = expr_is rd.expr x.condition p
-
-  let_else_step_is : (x : LetElseLayer written) (p : Place)
-      → of.let_else_step env itself (mapped_let_else env x) p ≡ of.let_else_step env rd x p
-  let_else_step_is x p = plain_is rd.block_expr x.block p
-
   arm_step_is : (x : MatchArmLayer written) (p : Place) → of.arm_step env itself (mapped_arm env x) p ≡ of.arm_step env rd x p
   arm_step_is x p = λ j. let s = of.in_file p (of.ptr x.id x.range) in of.asked_arm s (env.cfg (of.site_of s))
-      (tree.arm (pat_is rd.pat x.pat p j) (expr_is rd.expr x.expr p j) (guard_is rd.guard x.guard p j))
+      (tree.arm (pat_is rd.pat x.pat p j) (expr_is rd.expr x.expr p j) (guard_is rd.expr x.guard p j))
 
   block_at_is : (b : BlockExprLayer written) (head : Bool × Option Label) (p : Place)
       → of.block_at env itself (mapped_block env b) head p ≡ of.block_at env rd b head p
@@ -185,7 +174,7 @@ module _ (env : Answers) where
   stmt_at_is : (k : StmtKindLayer written) (p : Place) (s : Pointer)
       → of.stmt_at env itself (mapped_stmt_kind env k) p s ≡ of.stmt_at env rd k p s
   stmt_at_is (StmtKind-F.LetStmt x t e b) p s = λ j. of.asked_stmt s (env.cfg (of.site_of s))
-      (tree.let_stmt (pat_is rd.pat x p j) (type_is rd.type_ t p j) (expr_is rd.expr e p j) (let_else_is rd.let_else b p j))
+      (tree.let_stmt (pat_is rd.pat x p j) (type_is rd.type_ t p j) (expr_is rd.expr e p j) (let_else_is rd.block_expr b p j))
   stmt_at_is (StmtKind-F.ExprStmt e semi) p s = λ j. tree.expr_stmt (expr_is rd.expr e p j) semi
   stmt_at_is StmtKind-F.Item p s = refl
 
@@ -221,20 +210,11 @@ module _ (env : Answers) where
   read_stmt_is : (s : AstStmt) (p : Place) → read_stmt env s p ≡ of.stmt_kind env rd (out-StmtKind s.kind) (of.ptr s.id s.range) p
   read_stmt_is s p = opened_stmt env s p ∙ read_stmt_kind_is s.kind (of.ptr s.id s.range) p
 
-  read_guard_is : (x : AstGuard) (p : Place) → read_guard env x p ≡ of.guard_step env rd (out-Guard x) p
-  read_guard_is x p = opened_guard env x p ∙ guard_step_is (out-Guard x) p
-
-  read_let_else_is : (x : AstLetElse) (p : Place) → read_let_else env x p ≡ of.let_else_step env rd (out-LetElse x) p
-  read_let_else_is x p = opened_let_else env x p ∙ let_else_step_is (out-LetElse x) p
-
   read_arm_is : (x : AstMatchArm) (p : Place) → read_arm env x p ≡ of.arm_step env rd (out-MatchArm x) p
   read_arm_is x p = opened_arm env x p ∙ arm_step_is (out-MatchArm x) p
 
   read_else_is : (e : AstElseBranch) (p : Place) → read_else_branch env e p ≡ of.else_branch env rd (out-ElseBranch e) p
   read_else_is e p = opened_else_branch env e p ∙ else_is (out-ElseBranch e) p
-
-  read_constant_is : (x : AstConstArg) (p : Place) → read_constant env x p ≡ of.constant_step env rd (out-ConstArg x) p
-  read_constant_is x p = opened_constant env x p ∙ constant_step_is (out-ConstArg x) p
 
   read_field_is : (x : AstRecordExprField) (p : Place) → read_field env x p ≡ of.field_step env rd (out-RecordExprField x) p
   read_field_is x p = opened_field env x p ∙ field_step_is (out-RecordExprField x) p
@@ -270,7 +250,7 @@ pub else_is_level : (at : Spot) (e : AstElseBranch) → answered_else at e ≡ e
 else_is_level at e = read_else_is at.answers e at.place
 
 pub constant_is_level : (at : Spot) (x : AstConstArg) → answered_constant at x ≡ constant_level at x
-constant_is_level at x = read_constant_is at.answers x at.place
+constant_is_level at x = refl
 
 pub field_is_level : (at : Spot) (x : AstRecordExprField) → answered_field at x ≡ field_level at x
 field_is_level at x = read_field_is at.answers x at.place
@@ -279,10 +259,10 @@ pub record_is_level : (at : Spot) (x : AstRecordExprFieldList) → answered_reco
 record_is_level at x = read_record_is at.answers x at.place
 
 pub guard_is_level : (at : Spot) (x : AstGuard) → answered_guard at x ≡ guard_level at x
-guard_is_level at x = read_guard_is at.answers x at.place
+guard_is_level at x = refl
 
 pub let_else_is_level : (at : Spot) (x : AstLetElse) → answered_let_else at x ≡ let_else_level at x
-let_else_is_level at x = read_let_else_is at.answers x at.place
+let_else_is_level at x = refl
 
 pub arm_is_level : (at : Spot) (x : AstMatchArm) → answered_arm at x ≡ arm_level at x
 arm_is_level at x = read_arm_is at.answers x at.place

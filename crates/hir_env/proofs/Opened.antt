@@ -6,13 +6,10 @@ use Rattle.hir_syntax.specs.declared.ast.ExprKind.{ExprKind as AstExprKind, out-
 use Rattle.hir_syntax.specs.declared.ast.StmtKind.{StmtKind as AstStmtKind, out-StmtKind}
 use Rattle.hir_syntax.specs.declared.pats.PatKind.{PatKind as AstPatKind, out-PatKind}
 use Rattle.hir_syntax.specs.declared.ast.BlockExpr.{BlockExpr as AstBlockExpr, out-BlockExpr}
-use Rattle.hir_syntax.specs.declared.ast.ConstArg.{ConstArg as AstConstArg, out-ConstArg}
 use Rattle.hir_syntax.specs.declared.ast.Expr.{Expr as AstExpr}
 use Rattle.hir_syntax.specs.declared.ast.RecordExprField.{RecordExprField as AstRecordExprField, out-RecordExprField}
 use Rattle.hir_syntax.specs.declared.ast.RecordExprFieldList.{RecordExprFieldList as AstRecordExprFieldList, out-RecordExprFieldList}
 use Rattle.hir_syntax.specs.declared.ast.Stmt.{Stmt as AstStmt}
-use Rattle.hir_syntax.specs.declared.branches.Guard.{Guard as AstGuard, out-Guard}
-use Rattle.hir_syntax.specs.declared.branches.LetElse.{LetElse as AstLetElse, out-LetElse}
 use Rattle.hir_syntax.specs.declared.branches.MatchArm.{MatchArm as AstMatchArm, out-MatchArm}
 use Rattle.hir_syntax.specs.declared.pats.Pat.{Pat as AstPat}
 use Rattle.hir_syntax.specs.declared.pats.RecordPatField.{RecordPatField as AstRecordPatField, out-RecordPatField}
@@ -25,319 +22,209 @@ use Rattle.hir_env.specs.Answering as of
 use Rattle.hir_env.specs.Paths as of_types
 use Rattle.hir_env.specs.Pats as of_pats
 use Rattle.hir_env.specs.Folds.{read_else_branch, read_expr_kind, read_stmt_kind, read_pat_kind, read_generic_arg, read_type_kind}
-use Rattle.hir_env.specs.Folds.{read_block, read_constant, read_expr, read_path, read_segment, read_field, read_record, read_stmt}
-use Rattle.hir_env.specs.Folds.{read_guard, read_let_else, read_arm, read_pat, read_pat_field, read_assoc_type_arg}
-use Rattle.hir_env.specs.Folds.{read_generic_arg_list, read_param, read_paren_args, read_path_type, read_ret_type, read_type_arg}
+use Rattle.hir_env.specs.Folds.{read_block, read_expr, read_path, read_segment, read_field, read_record, read_stmt}
+use Rattle.hir_env.specs.Folds.{read_arm, read_pat, read_pat_field, read_assoc_type_arg}
+use Rattle.hir_env.specs.Folds.{read_param, read_path_type}
 use Rattle.hir_env.specs.Folds.{read_type_bound, read_type}
-use Rattle.hir_env.proofs.Mapped.{mapped_else, mapped_kind, mapped_stmt_kind, mapped_pat_kind, mapped_block, mapped_constant}
-use Rattle.hir_env.proofs.Mapped.{mapped_field, mapped_record, mapped_guard, mapped_let_else, mapped_arm, mapped_pat_field}
+use Rattle.hir_env.proofs.Mapped.{mapped_else, mapped_kind, mapped_stmt_kind, mapped_pat_kind, mapped_block}
+use Rattle.hir_env.proofs.Mapped.{mapped_field, mapped_record, mapped_arm, mapped_pat_field}
 
 module _ (env : Answers) where
   pub opened_else_branch : (x : AstElseBranch) (p : Place)
       → read_else_branch env x p ≡ of.else_branch env itself (mapped_else env (out-ElseBranch x)) p
-  unfolding read_else_branch read_expr_kind read_stmt_kind read_pat_kind read_generic_arg read_type_kind read_block read_constant
-      read_expr read_path read_segment read_field read_record read_stmt read_guard read_let_else read_arm read_pat read_pat_field
-      read_assoc_type_arg read_generic_arg_list read_param read_paren_args read_path_type read_ret_type read_type_arg
-      read_type_bound read_type
+  unfolding read_else_branch read_expr_kind read_stmt_kind read_pat_kind read_generic_arg read_type_kind read_block read_expr
+      read_path read_segment read_field read_record read_stmt read_arm read_pat read_pat_field read_assoc_type_arg read_param
+      read_path_type read_type_bound read_type
   opened_else_branch x p = λ j. folds.fold_out-ElseBranch
       readings.ElseBranch readings.ExprKind readings.StmtKind readings.PatKind readings.GenericArg readings.TypeKind
-      readings.BlockExpr readings.ConstArg readings.Expr readings.Path readings.PathSegment readings.RecordExprField
-      readings.RecordExprFieldList readings.Stmt readings.Guard readings.LetElse readings.MatchArm readings.Pat
-      readings.RecordPatField readings.AssocTypeArg readings.GenericArgList readings.Param readings.ParenArgs readings.PathType
-      readings.RetType readings.TypeArg readings.TypeBound readings.Type_
+      readings.BlockExpr readings.Expr readings.Path readings.PathSegment readings.RecordExprField readings.RecordExprFieldList
+      readings.Stmt readings.MatchArm readings.Pat readings.RecordPatField readings.AssocTypeArg readings.Param readings.PathType
+      readings.TypeBound readings.Type_
       (of.else_branch env itself) (of.expr_kind env itself) (of.stmt_kind env itself) (of_pats.pat_kind_step env itself)
       (of_types.generic_arg_step env itself) (of_types.type_kind_step env itself) (of.block_step env itself)
-      (of.constant_step env itself) (of.expr_step env itself) (of_types.path_step env itself) (of_types.segment_step env itself)
-      (of.field_step env itself) (of.record_step env itself) (of.stmt_step env itself) (of.guard_step env itself)
-      (of.let_else_step env itself) (of.arm_step env itself) (of_pats.pat_step env itself) (of_pats.pat_field_step env itself)
-      (of_types.assoc_type_arg_step env itself) (of_types.generic_arg_list_step env itself) (of_types.param_step env itself)
-      (of_types.paren_args_step env itself) (of_types.path_type_step env itself) (of_types.ret_type_step env itself)
-      (of_types.type_arg_step env itself) (of_types.type_bound_step env itself) (of_types.type_step env itself) x j p
+      (of.expr_step env itself) (of_types.path_step env itself) (of_types.segment_step env itself) (of.field_step env itself)
+      (of.record_step env itself) (of.stmt_step env itself) (of.arm_step env itself) (of_pats.pat_step env itself)
+      (of_pats.pat_field_step env itself) (of_types.assoc_type_arg_step env itself) (of_types.param_step env itself)
+      (of_types.path_type_step env itself) (of_types.type_bound_step env itself) (of_types.type_step env itself) x j p
 
   pub opened_expr_kind : (x : AstExprKind) (at : AstPtr) (p : Place)
       → read_expr_kind env x at p ≡ of.expr_kind env itself (mapped_kind env (out-ExprKind x)) at p
-  unfolding read_else_branch read_expr_kind read_stmt_kind read_pat_kind read_generic_arg read_type_kind read_block read_constant
-      read_expr read_path read_segment read_field read_record read_stmt read_guard read_let_else read_arm read_pat read_pat_field
-      read_assoc_type_arg read_generic_arg_list read_param read_paren_args read_path_type read_ret_type read_type_arg
-      read_type_bound read_type
+  unfolding read_else_branch read_expr_kind read_stmt_kind read_pat_kind read_generic_arg read_type_kind read_block read_expr
+      read_path read_segment read_field read_record read_stmt read_arm read_pat read_pat_field read_assoc_type_arg read_param
+      read_path_type read_type_bound read_type
   opened_expr_kind x at p = λ j. folds.fold_out-ExprKind
       readings.ElseBranch readings.ExprKind readings.StmtKind readings.PatKind readings.GenericArg readings.TypeKind
-      readings.BlockExpr readings.ConstArg readings.Expr readings.Path readings.PathSegment readings.RecordExprField
-      readings.RecordExprFieldList readings.Stmt readings.Guard readings.LetElse readings.MatchArm readings.Pat
-      readings.RecordPatField readings.AssocTypeArg readings.GenericArgList readings.Param readings.ParenArgs readings.PathType
-      readings.RetType readings.TypeArg readings.TypeBound readings.Type_
+      readings.BlockExpr readings.Expr readings.Path readings.PathSegment readings.RecordExprField readings.RecordExprFieldList
+      readings.Stmt readings.MatchArm readings.Pat readings.RecordPatField readings.AssocTypeArg readings.Param readings.PathType
+      readings.TypeBound readings.Type_
       (of.else_branch env itself) (of.expr_kind env itself) (of.stmt_kind env itself) (of_pats.pat_kind_step env itself)
       (of_types.generic_arg_step env itself) (of_types.type_kind_step env itself) (of.block_step env itself)
-      (of.constant_step env itself) (of.expr_step env itself) (of_types.path_step env itself) (of_types.segment_step env itself)
-      (of.field_step env itself) (of.record_step env itself) (of.stmt_step env itself) (of.guard_step env itself)
-      (of.let_else_step env itself) (of.arm_step env itself) (of_pats.pat_step env itself) (of_pats.pat_field_step env itself)
-      (of_types.assoc_type_arg_step env itself) (of_types.generic_arg_list_step env itself) (of_types.param_step env itself)
-      (of_types.paren_args_step env itself) (of_types.path_type_step env itself) (of_types.ret_type_step env itself)
-      (of_types.type_arg_step env itself) (of_types.type_bound_step env itself) (of_types.type_step env itself) x j at p
+      (of.expr_step env itself) (of_types.path_step env itself) (of_types.segment_step env itself) (of.field_step env itself)
+      (of.record_step env itself) (of.stmt_step env itself) (of.arm_step env itself) (of_pats.pat_step env itself)
+      (of_pats.pat_field_step env itself) (of_types.assoc_type_arg_step env itself) (of_types.param_step env itself)
+      (of_types.path_type_step env itself) (of_types.type_bound_step env itself) (of_types.type_step env itself) x j at p
 
   pub opened_stmt_kind : (x : AstStmtKind) (at : AstPtr) (p : Place)
       → read_stmt_kind env x at p ≡ of.stmt_kind env itself (mapped_stmt_kind env (out-StmtKind x)) at p
-  unfolding read_else_branch read_expr_kind read_stmt_kind read_pat_kind read_generic_arg read_type_kind read_block read_constant
-      read_expr read_path read_segment read_field read_record read_stmt read_guard read_let_else read_arm read_pat read_pat_field
-      read_assoc_type_arg read_generic_arg_list read_param read_paren_args read_path_type read_ret_type read_type_arg
-      read_type_bound read_type
+  unfolding read_else_branch read_expr_kind read_stmt_kind read_pat_kind read_generic_arg read_type_kind read_block read_expr
+      read_path read_segment read_field read_record read_stmt read_arm read_pat read_pat_field read_assoc_type_arg read_param
+      read_path_type read_type_bound read_type
   opened_stmt_kind x at p = λ j. folds.fold_out-StmtKind
       readings.ElseBranch readings.ExprKind readings.StmtKind readings.PatKind readings.GenericArg readings.TypeKind
-      readings.BlockExpr readings.ConstArg readings.Expr readings.Path readings.PathSegment readings.RecordExprField
-      readings.RecordExprFieldList readings.Stmt readings.Guard readings.LetElse readings.MatchArm readings.Pat
-      readings.RecordPatField readings.AssocTypeArg readings.GenericArgList readings.Param readings.ParenArgs readings.PathType
-      readings.RetType readings.TypeArg readings.TypeBound readings.Type_
+      readings.BlockExpr readings.Expr readings.Path readings.PathSegment readings.RecordExprField readings.RecordExprFieldList
+      readings.Stmt readings.MatchArm readings.Pat readings.RecordPatField readings.AssocTypeArg readings.Param readings.PathType
+      readings.TypeBound readings.Type_
       (of.else_branch env itself) (of.expr_kind env itself) (of.stmt_kind env itself) (of_pats.pat_kind_step env itself)
       (of_types.generic_arg_step env itself) (of_types.type_kind_step env itself) (of.block_step env itself)
-      (of.constant_step env itself) (of.expr_step env itself) (of_types.path_step env itself) (of_types.segment_step env itself)
-      (of.field_step env itself) (of.record_step env itself) (of.stmt_step env itself) (of.guard_step env itself)
-      (of.let_else_step env itself) (of.arm_step env itself) (of_pats.pat_step env itself) (of_pats.pat_field_step env itself)
-      (of_types.assoc_type_arg_step env itself) (of_types.generic_arg_list_step env itself) (of_types.param_step env itself)
-      (of_types.paren_args_step env itself) (of_types.path_type_step env itself) (of_types.ret_type_step env itself)
-      (of_types.type_arg_step env itself) (of_types.type_bound_step env itself) (of_types.type_step env itself) x j at p
+      (of.expr_step env itself) (of_types.path_step env itself) (of_types.segment_step env itself) (of.field_step env itself)
+      (of.record_step env itself) (of.stmt_step env itself) (of.arm_step env itself) (of_pats.pat_step env itself)
+      (of_pats.pat_field_step env itself) (of_types.assoc_type_arg_step env itself) (of_types.param_step env itself)
+      (of_types.path_type_step env itself) (of_types.type_bound_step env itself) (of_types.type_step env itself) x j at p
 
   pub opened_pat_kind : (x : AstPatKind) (at : AstPtr) (p : Place)
       → read_pat_kind env x at p ≡ of_pats.pat_kind_step env itself (mapped_pat_kind env (out-PatKind x)) at p
-  unfolding read_else_branch read_expr_kind read_stmt_kind read_pat_kind read_generic_arg read_type_kind read_block read_constant
-      read_expr read_path read_segment read_field read_record read_stmt read_guard read_let_else read_arm read_pat read_pat_field
-      read_assoc_type_arg read_generic_arg_list read_param read_paren_args read_path_type read_ret_type read_type_arg
-      read_type_bound read_type
+  unfolding read_else_branch read_expr_kind read_stmt_kind read_pat_kind read_generic_arg read_type_kind read_block read_expr
+      read_path read_segment read_field read_record read_stmt read_arm read_pat read_pat_field read_assoc_type_arg read_param
+      read_path_type read_type_bound read_type
   opened_pat_kind x at p = λ j. folds.fold_out-PatKind
       readings.ElseBranch readings.ExprKind readings.StmtKind readings.PatKind readings.GenericArg readings.TypeKind
-      readings.BlockExpr readings.ConstArg readings.Expr readings.Path readings.PathSegment readings.RecordExprField
-      readings.RecordExprFieldList readings.Stmt readings.Guard readings.LetElse readings.MatchArm readings.Pat
-      readings.RecordPatField readings.AssocTypeArg readings.GenericArgList readings.Param readings.ParenArgs readings.PathType
-      readings.RetType readings.TypeArg readings.TypeBound readings.Type_
+      readings.BlockExpr readings.Expr readings.Path readings.PathSegment readings.RecordExprField readings.RecordExprFieldList
+      readings.Stmt readings.MatchArm readings.Pat readings.RecordPatField readings.AssocTypeArg readings.Param readings.PathType
+      readings.TypeBound readings.Type_
       (of.else_branch env itself) (of.expr_kind env itself) (of.stmt_kind env itself) (of_pats.pat_kind_step env itself)
       (of_types.generic_arg_step env itself) (of_types.type_kind_step env itself) (of.block_step env itself)
-      (of.constant_step env itself) (of.expr_step env itself) (of_types.path_step env itself) (of_types.segment_step env itself)
-      (of.field_step env itself) (of.record_step env itself) (of.stmt_step env itself) (of.guard_step env itself)
-      (of.let_else_step env itself) (of.arm_step env itself) (of_pats.pat_step env itself) (of_pats.pat_field_step env itself)
-      (of_types.assoc_type_arg_step env itself) (of_types.generic_arg_list_step env itself) (of_types.param_step env itself)
-      (of_types.paren_args_step env itself) (of_types.path_type_step env itself) (of_types.ret_type_step env itself)
-      (of_types.type_arg_step env itself) (of_types.type_bound_step env itself) (of_types.type_step env itself) x j at p
+      (of.expr_step env itself) (of_types.path_step env itself) (of_types.segment_step env itself) (of.field_step env itself)
+      (of.record_step env itself) (of.stmt_step env itself) (of.arm_step env itself) (of_pats.pat_step env itself)
+      (of_pats.pat_field_step env itself) (of_types.assoc_type_arg_step env itself) (of_types.param_step env itself)
+      (of_types.path_type_step env itself) (of_types.type_bound_step env itself) (of_types.type_step env itself) x j at p
 
   pub opened_block : (x : AstBlockExpr) → read_block env x ≡ of.block_step env itself (mapped_block env (out-BlockExpr x))
-  unfolding read_else_branch read_expr_kind read_stmt_kind read_pat_kind read_generic_arg read_type_kind read_block read_constant
-      read_expr read_path read_segment read_field read_record read_stmt read_guard read_let_else read_arm read_pat read_pat_field
-      read_assoc_type_arg read_generic_arg_list read_param read_paren_args read_path_type read_ret_type read_type_arg
-      read_type_bound read_type
+  unfolding read_else_branch read_expr_kind read_stmt_kind read_pat_kind read_generic_arg read_type_kind read_block read_expr
+      read_path read_segment read_field read_record read_stmt read_arm read_pat read_pat_field read_assoc_type_arg read_param
+      read_path_type read_type_bound read_type
   opened_block x = λ j. folds.fold_out-BlockExpr
       readings.ElseBranch readings.ExprKind readings.StmtKind readings.PatKind readings.GenericArg readings.TypeKind
-      readings.BlockExpr readings.ConstArg readings.Expr readings.Path readings.PathSegment readings.RecordExprField
-      readings.RecordExprFieldList readings.Stmt readings.Guard readings.LetElse readings.MatchArm readings.Pat
-      readings.RecordPatField readings.AssocTypeArg readings.GenericArgList readings.Param readings.ParenArgs readings.PathType
-      readings.RetType readings.TypeArg readings.TypeBound readings.Type_
+      readings.BlockExpr readings.Expr readings.Path readings.PathSegment readings.RecordExprField readings.RecordExprFieldList
+      readings.Stmt readings.MatchArm readings.Pat readings.RecordPatField readings.AssocTypeArg readings.Param readings.PathType
+      readings.TypeBound readings.Type_
       (of.else_branch env itself) (of.expr_kind env itself) (of.stmt_kind env itself) (of_pats.pat_kind_step env itself)
       (of_types.generic_arg_step env itself) (of_types.type_kind_step env itself) (of.block_step env itself)
-      (of.constant_step env itself) (of.expr_step env itself) (of_types.path_step env itself) (of_types.segment_step env itself)
-      (of.field_step env itself) (of.record_step env itself) (of.stmt_step env itself) (of.guard_step env itself)
-      (of.let_else_step env itself) (of.arm_step env itself) (of_pats.pat_step env itself) (of_pats.pat_field_step env itself)
-      (of_types.assoc_type_arg_step env itself) (of_types.generic_arg_list_step env itself) (of_types.param_step env itself)
-      (of_types.paren_args_step env itself) (of_types.path_type_step env itself) (of_types.ret_type_step env itself)
-      (of_types.type_arg_step env itself) (of_types.type_bound_step env itself) (of_types.type_step env itself) x j
-
-  pub opened_constant : (x : AstConstArg) (p : Place)
-      → read_constant env x p ≡ of.constant_step env itself (mapped_constant env (out-ConstArg x)) p
-  unfolding read_else_branch read_expr_kind read_stmt_kind read_pat_kind read_generic_arg read_type_kind read_block read_constant
-      read_expr read_path read_segment read_field read_record read_stmt read_guard read_let_else read_arm read_pat read_pat_field
-      read_assoc_type_arg read_generic_arg_list read_param read_paren_args read_path_type read_ret_type read_type_arg
-      read_type_bound read_type
-  opened_constant x p = λ j. folds.fold_out-ConstArg
-      readings.ElseBranch readings.ExprKind readings.StmtKind readings.PatKind readings.GenericArg readings.TypeKind
-      readings.BlockExpr readings.ConstArg readings.Expr readings.Path readings.PathSegment readings.RecordExprField
-      readings.RecordExprFieldList readings.Stmt readings.Guard readings.LetElse readings.MatchArm readings.Pat
-      readings.RecordPatField readings.AssocTypeArg readings.GenericArgList readings.Param readings.ParenArgs readings.PathType
-      readings.RetType readings.TypeArg readings.TypeBound readings.Type_
-      (of.else_branch env itself) (of.expr_kind env itself) (of.stmt_kind env itself) (of_pats.pat_kind_step env itself)
-      (of_types.generic_arg_step env itself) (of_types.type_kind_step env itself) (of.block_step env itself)
-      (of.constant_step env itself) (of.expr_step env itself) (of_types.path_step env itself) (of_types.segment_step env itself)
-      (of.field_step env itself) (of.record_step env itself) (of.stmt_step env itself) (of.guard_step env itself)
-      (of.let_else_step env itself) (of.arm_step env itself) (of_pats.pat_step env itself) (of_pats.pat_field_step env itself)
-      (of_types.assoc_type_arg_step env itself) (of_types.generic_arg_list_step env itself) (of_types.param_step env itself)
-      (of_types.paren_args_step env itself) (of_types.path_type_step env itself) (of_types.ret_type_step env itself)
-      (of_types.type_arg_step env itself) (of_types.type_bound_step env itself) (of_types.type_step env itself) x j p
+      (of.expr_step env itself) (of_types.path_step env itself) (of_types.segment_step env itself) (of.field_step env itself)
+      (of.record_step env itself) (of.stmt_step env itself) (of.arm_step env itself) (of_pats.pat_step env itself)
+      (of_pats.pat_field_step env itself) (of_types.assoc_type_arg_step env itself) (of_types.param_step env itself)
+      (of_types.path_type_step env itself) (of_types.type_bound_step env itself) (of_types.type_step env itself) x j
 
   pub opened_expr : (x : AstExpr) (p : Place) → read_expr env x p ≡ read_expr_kind env x.kind (ptr x.id x.range) p
-  unfolding read_else_branch read_expr_kind read_stmt_kind read_pat_kind read_generic_arg read_type_kind read_block read_constant
-      read_expr read_path read_segment read_field read_record read_stmt read_guard read_let_else read_arm read_pat read_pat_field
-      read_assoc_type_arg read_generic_arg_list read_param read_paren_args read_path_type read_ret_type read_type_arg
-      read_type_bound read_type
+  unfolding read_else_branch read_expr_kind read_stmt_kind read_pat_kind read_generic_arg read_type_kind read_block read_expr
+      read_path read_segment read_field read_record read_stmt read_arm read_pat read_pat_field read_assoc_type_arg read_param
+      read_path_type read_type_bound read_type
   opened_expr x p = λ j. folds.fold_out-Expr
       readings.ElseBranch readings.ExprKind readings.StmtKind readings.PatKind readings.GenericArg readings.TypeKind
-      readings.BlockExpr readings.ConstArg readings.Expr readings.Path readings.PathSegment readings.RecordExprField
-      readings.RecordExprFieldList readings.Stmt readings.Guard readings.LetElse readings.MatchArm readings.Pat
-      readings.RecordPatField readings.AssocTypeArg readings.GenericArgList readings.Param readings.ParenArgs readings.PathType
-      readings.RetType readings.TypeArg readings.TypeBound readings.Type_
+      readings.BlockExpr readings.Expr readings.Path readings.PathSegment readings.RecordExprField readings.RecordExprFieldList
+      readings.Stmt readings.MatchArm readings.Pat readings.RecordPatField readings.AssocTypeArg readings.Param readings.PathType
+      readings.TypeBound readings.Type_
       (of.else_branch env itself) (of.expr_kind env itself) (of.stmt_kind env itself) (of_pats.pat_kind_step env itself)
       (of_types.generic_arg_step env itself) (of_types.type_kind_step env itself) (of.block_step env itself)
-      (of.constant_step env itself) (of.expr_step env itself) (of_types.path_step env itself) (of_types.segment_step env itself)
-      (of.field_step env itself) (of.record_step env itself) (of.stmt_step env itself) (of.guard_step env itself)
-      (of.let_else_step env itself) (of.arm_step env itself) (of_pats.pat_step env itself) (of_pats.pat_field_step env itself)
-      (of_types.assoc_type_arg_step env itself) (of_types.generic_arg_list_step env itself) (of_types.param_step env itself)
-      (of_types.paren_args_step env itself) (of_types.path_type_step env itself) (of_types.ret_type_step env itself)
-      (of_types.type_arg_step env itself) (of_types.type_bound_step env itself) (of_types.type_step env itself) x j p
+      (of.expr_step env itself) (of_types.path_step env itself) (of_types.segment_step env itself) (of.field_step env itself)
+      (of.record_step env itself) (of.stmt_step env itself) (of.arm_step env itself) (of_pats.pat_step env itself)
+      (of_pats.pat_field_step env itself) (of_types.assoc_type_arg_step env itself) (of_types.param_step env itself)
+      (of_types.path_type_step env itself) (of_types.type_bound_step env itself) (of_types.type_step env itself) x j p
 
   pub opened_field : (x : AstRecordExprField) (p : Place)
       → read_field env x p ≡ of.field_step env itself (mapped_field env (out-RecordExprField x)) p
-  unfolding read_else_branch read_expr_kind read_stmt_kind read_pat_kind read_generic_arg read_type_kind read_block read_constant
-      read_expr read_path read_segment read_field read_record read_stmt read_guard read_let_else read_arm read_pat read_pat_field
-      read_assoc_type_arg read_generic_arg_list read_param read_paren_args read_path_type read_ret_type read_type_arg
-      read_type_bound read_type
+  unfolding read_else_branch read_expr_kind read_stmt_kind read_pat_kind read_generic_arg read_type_kind read_block read_expr
+      read_path read_segment read_field read_record read_stmt read_arm read_pat read_pat_field read_assoc_type_arg read_param
+      read_path_type read_type_bound read_type
   opened_field x p = λ j. folds.fold_out-RecordExprField
       readings.ElseBranch readings.ExprKind readings.StmtKind readings.PatKind readings.GenericArg readings.TypeKind
-      readings.BlockExpr readings.ConstArg readings.Expr readings.Path readings.PathSegment readings.RecordExprField
-      readings.RecordExprFieldList readings.Stmt readings.Guard readings.LetElse readings.MatchArm readings.Pat
-      readings.RecordPatField readings.AssocTypeArg readings.GenericArgList readings.Param readings.ParenArgs readings.PathType
-      readings.RetType readings.TypeArg readings.TypeBound readings.Type_
+      readings.BlockExpr readings.Expr readings.Path readings.PathSegment readings.RecordExprField readings.RecordExprFieldList
+      readings.Stmt readings.MatchArm readings.Pat readings.RecordPatField readings.AssocTypeArg readings.Param readings.PathType
+      readings.TypeBound readings.Type_
       (of.else_branch env itself) (of.expr_kind env itself) (of.stmt_kind env itself) (of_pats.pat_kind_step env itself)
       (of_types.generic_arg_step env itself) (of_types.type_kind_step env itself) (of.block_step env itself)
-      (of.constant_step env itself) (of.expr_step env itself) (of_types.path_step env itself) (of_types.segment_step env itself)
-      (of.field_step env itself) (of.record_step env itself) (of.stmt_step env itself) (of.guard_step env itself)
-      (of.let_else_step env itself) (of.arm_step env itself) (of_pats.pat_step env itself) (of_pats.pat_field_step env itself)
-      (of_types.assoc_type_arg_step env itself) (of_types.generic_arg_list_step env itself) (of_types.param_step env itself)
-      (of_types.paren_args_step env itself) (of_types.path_type_step env itself) (of_types.ret_type_step env itself)
-      (of_types.type_arg_step env itself) (of_types.type_bound_step env itself) (of_types.type_step env itself) x j p
+      (of.expr_step env itself) (of_types.path_step env itself) (of_types.segment_step env itself) (of.field_step env itself)
+      (of.record_step env itself) (of.stmt_step env itself) (of.arm_step env itself) (of_pats.pat_step env itself)
+      (of_pats.pat_field_step env itself) (of_types.assoc_type_arg_step env itself) (of_types.param_step env itself)
+      (of_types.path_type_step env itself) (of_types.type_bound_step env itself) (of_types.type_step env itself) x j p
 
   pub opened_record : (x : AstRecordExprFieldList) (p : Place)
       → read_record env x p ≡ of.record_step env itself (mapped_record env (out-RecordExprFieldList x)) p
-  unfolding read_else_branch read_expr_kind read_stmt_kind read_pat_kind read_generic_arg read_type_kind read_block read_constant
-      read_expr read_path read_segment read_field read_record read_stmt read_guard read_let_else read_arm read_pat read_pat_field
-      read_assoc_type_arg read_generic_arg_list read_param read_paren_args read_path_type read_ret_type read_type_arg
-      read_type_bound read_type
+  unfolding read_else_branch read_expr_kind read_stmt_kind read_pat_kind read_generic_arg read_type_kind read_block read_expr
+      read_path read_segment read_field read_record read_stmt read_arm read_pat read_pat_field read_assoc_type_arg read_param
+      read_path_type read_type_bound read_type
   opened_record x p = λ j. folds.fold_out-RecordExprFieldList
       readings.ElseBranch readings.ExprKind readings.StmtKind readings.PatKind readings.GenericArg readings.TypeKind
-      readings.BlockExpr readings.ConstArg readings.Expr readings.Path readings.PathSegment readings.RecordExprField
-      readings.RecordExprFieldList readings.Stmt readings.Guard readings.LetElse readings.MatchArm readings.Pat
-      readings.RecordPatField readings.AssocTypeArg readings.GenericArgList readings.Param readings.ParenArgs readings.PathType
-      readings.RetType readings.TypeArg readings.TypeBound readings.Type_
+      readings.BlockExpr readings.Expr readings.Path readings.PathSegment readings.RecordExprField readings.RecordExprFieldList
+      readings.Stmt readings.MatchArm readings.Pat readings.RecordPatField readings.AssocTypeArg readings.Param readings.PathType
+      readings.TypeBound readings.Type_
       (of.else_branch env itself) (of.expr_kind env itself) (of.stmt_kind env itself) (of_pats.pat_kind_step env itself)
       (of_types.generic_arg_step env itself) (of_types.type_kind_step env itself) (of.block_step env itself)
-      (of.constant_step env itself) (of.expr_step env itself) (of_types.path_step env itself) (of_types.segment_step env itself)
-      (of.field_step env itself) (of.record_step env itself) (of.stmt_step env itself) (of.guard_step env itself)
-      (of.let_else_step env itself) (of.arm_step env itself) (of_pats.pat_step env itself) (of_pats.pat_field_step env itself)
-      (of_types.assoc_type_arg_step env itself) (of_types.generic_arg_list_step env itself) (of_types.param_step env itself)
-      (of_types.paren_args_step env itself) (of_types.path_type_step env itself) (of_types.ret_type_step env itself)
-      (of_types.type_arg_step env itself) (of_types.type_bound_step env itself) (of_types.type_step env itself) x j p
+      (of.expr_step env itself) (of_types.path_step env itself) (of_types.segment_step env itself) (of.field_step env itself)
+      (of.record_step env itself) (of.stmt_step env itself) (of.arm_step env itself) (of_pats.pat_step env itself)
+      (of_pats.pat_field_step env itself) (of_types.assoc_type_arg_step env itself) (of_types.param_step env itself)
+      (of_types.path_type_step env itself) (of_types.type_bound_step env itself) (of_types.type_step env itself) x j p
 
   pub opened_stmt : (x : AstStmt) (p : Place) → read_stmt env x p ≡ read_stmt_kind env x.kind (ptr x.id x.range) p
-  unfolding read_else_branch read_expr_kind read_stmt_kind read_pat_kind read_generic_arg read_type_kind read_block read_constant
-      read_expr read_path read_segment read_field read_record read_stmt read_guard read_let_else read_arm read_pat read_pat_field
-      read_assoc_type_arg read_generic_arg_list read_param read_paren_args read_path_type read_ret_type read_type_arg
-      read_type_bound read_type
+  unfolding read_else_branch read_expr_kind read_stmt_kind read_pat_kind read_generic_arg read_type_kind read_block read_expr
+      read_path read_segment read_field read_record read_stmt read_arm read_pat read_pat_field read_assoc_type_arg read_param
+      read_path_type read_type_bound read_type
   opened_stmt x p = λ j. folds.fold_out-Stmt
       readings.ElseBranch readings.ExprKind readings.StmtKind readings.PatKind readings.GenericArg readings.TypeKind
-      readings.BlockExpr readings.ConstArg readings.Expr readings.Path readings.PathSegment readings.RecordExprField
-      readings.RecordExprFieldList readings.Stmt readings.Guard readings.LetElse readings.MatchArm readings.Pat
-      readings.RecordPatField readings.AssocTypeArg readings.GenericArgList readings.Param readings.ParenArgs readings.PathType
-      readings.RetType readings.TypeArg readings.TypeBound readings.Type_
+      readings.BlockExpr readings.Expr readings.Path readings.PathSegment readings.RecordExprField readings.RecordExprFieldList
+      readings.Stmt readings.MatchArm readings.Pat readings.RecordPatField readings.AssocTypeArg readings.Param readings.PathType
+      readings.TypeBound readings.Type_
       (of.else_branch env itself) (of.expr_kind env itself) (of.stmt_kind env itself) (of_pats.pat_kind_step env itself)
       (of_types.generic_arg_step env itself) (of_types.type_kind_step env itself) (of.block_step env itself)
-      (of.constant_step env itself) (of.expr_step env itself) (of_types.path_step env itself) (of_types.segment_step env itself)
-      (of.field_step env itself) (of.record_step env itself) (of.stmt_step env itself) (of.guard_step env itself)
-      (of.let_else_step env itself) (of.arm_step env itself) (of_pats.pat_step env itself) (of_pats.pat_field_step env itself)
-      (of_types.assoc_type_arg_step env itself) (of_types.generic_arg_list_step env itself) (of_types.param_step env itself)
-      (of_types.paren_args_step env itself) (of_types.path_type_step env itself) (of_types.ret_type_step env itself)
-      (of_types.type_arg_step env itself) (of_types.type_bound_step env itself) (of_types.type_step env itself) x j p
-
-  pub opened_guard : (x : AstGuard) (p : Place) → read_guard env x p ≡ of.guard_step env itself (mapped_guard env (out-Guard x)) p
-  unfolding read_else_branch read_expr_kind read_stmt_kind read_pat_kind read_generic_arg read_type_kind read_block read_constant
-      read_expr read_path read_segment read_field read_record read_stmt read_guard read_let_else read_arm read_pat read_pat_field
-      read_assoc_type_arg read_generic_arg_list read_param read_paren_args read_path_type read_ret_type read_type_arg
-      read_type_bound read_type
-  opened_guard x p = λ j. folds.fold_out-Guard
-      readings.ElseBranch readings.ExprKind readings.StmtKind readings.PatKind readings.GenericArg readings.TypeKind
-      readings.BlockExpr readings.ConstArg readings.Expr readings.Path readings.PathSegment readings.RecordExprField
-      readings.RecordExprFieldList readings.Stmt readings.Guard readings.LetElse readings.MatchArm readings.Pat
-      readings.RecordPatField readings.AssocTypeArg readings.GenericArgList readings.Param readings.ParenArgs readings.PathType
-      readings.RetType readings.TypeArg readings.TypeBound readings.Type_
-      (of.else_branch env itself) (of.expr_kind env itself) (of.stmt_kind env itself) (of_pats.pat_kind_step env itself)
-      (of_types.generic_arg_step env itself) (of_types.type_kind_step env itself) (of.block_step env itself)
-      (of.constant_step env itself) (of.expr_step env itself) (of_types.path_step env itself) (of_types.segment_step env itself)
-      (of.field_step env itself) (of.record_step env itself) (of.stmt_step env itself) (of.guard_step env itself)
-      (of.let_else_step env itself) (of.arm_step env itself) (of_pats.pat_step env itself) (of_pats.pat_field_step env itself)
-      (of_types.assoc_type_arg_step env itself) (of_types.generic_arg_list_step env itself) (of_types.param_step env itself)
-      (of_types.paren_args_step env itself) (of_types.path_type_step env itself) (of_types.ret_type_step env itself)
-      (of_types.type_arg_step env itself) (of_types.type_bound_step env itself) (of_types.type_step env itself) x j p
-
-  pub opened_let_else : (x : AstLetElse) (p : Place)
-      → read_let_else env x p ≡ of.let_else_step env itself (mapped_let_else env (out-LetElse x)) p
-  unfolding read_else_branch read_expr_kind read_stmt_kind read_pat_kind read_generic_arg read_type_kind read_block read_constant
-      read_expr read_path read_segment read_field read_record read_stmt read_guard read_let_else read_arm read_pat read_pat_field
-      read_assoc_type_arg read_generic_arg_list read_param read_paren_args read_path_type read_ret_type read_type_arg
-      read_type_bound read_type
-  opened_let_else x p = λ j. folds.fold_out-LetElse
-      readings.ElseBranch readings.ExprKind readings.StmtKind readings.PatKind readings.GenericArg readings.TypeKind
-      readings.BlockExpr readings.ConstArg readings.Expr readings.Path readings.PathSegment readings.RecordExprField
-      readings.RecordExprFieldList readings.Stmt readings.Guard readings.LetElse readings.MatchArm readings.Pat
-      readings.RecordPatField readings.AssocTypeArg readings.GenericArgList readings.Param readings.ParenArgs readings.PathType
-      readings.RetType readings.TypeArg readings.TypeBound readings.Type_
-      (of.else_branch env itself) (of.expr_kind env itself) (of.stmt_kind env itself) (of_pats.pat_kind_step env itself)
-      (of_types.generic_arg_step env itself) (of_types.type_kind_step env itself) (of.block_step env itself)
-      (of.constant_step env itself) (of.expr_step env itself) (of_types.path_step env itself) (of_types.segment_step env itself)
-      (of.field_step env itself) (of.record_step env itself) (of.stmt_step env itself) (of.guard_step env itself)
-      (of.let_else_step env itself) (of.arm_step env itself) (of_pats.pat_step env itself) (of_pats.pat_field_step env itself)
-      (of_types.assoc_type_arg_step env itself) (of_types.generic_arg_list_step env itself) (of_types.param_step env itself)
-      (of_types.paren_args_step env itself) (of_types.path_type_step env itself) (of_types.ret_type_step env itself)
-      (of_types.type_arg_step env itself) (of_types.type_bound_step env itself) (of_types.type_step env itself) x j p
+      (of.expr_step env itself) (of_types.path_step env itself) (of_types.segment_step env itself) (of.field_step env itself)
+      (of.record_step env itself) (of.stmt_step env itself) (of.arm_step env itself) (of_pats.pat_step env itself)
+      (of_pats.pat_field_step env itself) (of_types.assoc_type_arg_step env itself) (of_types.param_step env itself)
+      (of_types.path_type_step env itself) (of_types.type_bound_step env itself) (of_types.type_step env itself) x j p
 
   pub opened_arm : (x : AstMatchArm) (p : Place) → read_arm env x p ≡ of.arm_step env itself (mapped_arm env (out-MatchArm x)) p
-  unfolding read_else_branch read_expr_kind read_stmt_kind read_pat_kind read_generic_arg read_type_kind read_block read_constant
-      read_expr read_path read_segment read_field read_record read_stmt read_guard read_let_else read_arm read_pat read_pat_field
-      read_assoc_type_arg read_generic_arg_list read_param read_paren_args read_path_type read_ret_type read_type_arg
-      read_type_bound read_type
+  unfolding read_else_branch read_expr_kind read_stmt_kind read_pat_kind read_generic_arg read_type_kind read_block read_expr
+      read_path read_segment read_field read_record read_stmt read_arm read_pat read_pat_field read_assoc_type_arg read_param
+      read_path_type read_type_bound read_type
   opened_arm x p = λ j. folds.fold_out-MatchArm
       readings.ElseBranch readings.ExprKind readings.StmtKind readings.PatKind readings.GenericArg readings.TypeKind
-      readings.BlockExpr readings.ConstArg readings.Expr readings.Path readings.PathSegment readings.RecordExprField
-      readings.RecordExprFieldList readings.Stmt readings.Guard readings.LetElse readings.MatchArm readings.Pat
-      readings.RecordPatField readings.AssocTypeArg readings.GenericArgList readings.Param readings.ParenArgs readings.PathType
-      readings.RetType readings.TypeArg readings.TypeBound readings.Type_
+      readings.BlockExpr readings.Expr readings.Path readings.PathSegment readings.RecordExprField readings.RecordExprFieldList
+      readings.Stmt readings.MatchArm readings.Pat readings.RecordPatField readings.AssocTypeArg readings.Param readings.PathType
+      readings.TypeBound readings.Type_
       (of.else_branch env itself) (of.expr_kind env itself) (of.stmt_kind env itself) (of_pats.pat_kind_step env itself)
       (of_types.generic_arg_step env itself) (of_types.type_kind_step env itself) (of.block_step env itself)
-      (of.constant_step env itself) (of.expr_step env itself) (of_types.path_step env itself) (of_types.segment_step env itself)
-      (of.field_step env itself) (of.record_step env itself) (of.stmt_step env itself) (of.guard_step env itself)
-      (of.let_else_step env itself) (of.arm_step env itself) (of_pats.pat_step env itself) (of_pats.pat_field_step env itself)
-      (of_types.assoc_type_arg_step env itself) (of_types.generic_arg_list_step env itself) (of_types.param_step env itself)
-      (of_types.paren_args_step env itself) (of_types.path_type_step env itself) (of_types.ret_type_step env itself)
-      (of_types.type_arg_step env itself) (of_types.type_bound_step env itself) (of_types.type_step env itself) x j p
+      (of.expr_step env itself) (of_types.path_step env itself) (of_types.segment_step env itself) (of.field_step env itself)
+      (of.record_step env itself) (of.stmt_step env itself) (of.arm_step env itself) (of_pats.pat_step env itself)
+      (of_pats.pat_field_step env itself) (of_types.assoc_type_arg_step env itself) (of_types.param_step env itself)
+      (of_types.path_type_step env itself) (of_types.type_bound_step env itself) (of_types.type_step env itself) x j p
 
   pub opened_pat : (x : AstPat) (p : Place) → read_pat env x p ≡ read_pat_kind env x.kind (ptr x.id x.range) p
-  unfolding read_else_branch read_expr_kind read_stmt_kind read_pat_kind read_generic_arg read_type_kind read_block read_constant
-      read_expr read_path read_segment read_field read_record read_stmt read_guard read_let_else read_arm read_pat read_pat_field
-      read_assoc_type_arg read_generic_arg_list read_param read_paren_args read_path_type read_ret_type read_type_arg
-      read_type_bound read_type
+  unfolding read_else_branch read_expr_kind read_stmt_kind read_pat_kind read_generic_arg read_type_kind read_block read_expr
+      read_path read_segment read_field read_record read_stmt read_arm read_pat read_pat_field read_assoc_type_arg read_param
+      read_path_type read_type_bound read_type
   opened_pat x p = λ j. folds.fold_out-Pat
       readings.ElseBranch readings.ExprKind readings.StmtKind readings.PatKind readings.GenericArg readings.TypeKind
-      readings.BlockExpr readings.ConstArg readings.Expr readings.Path readings.PathSegment readings.RecordExprField
-      readings.RecordExprFieldList readings.Stmt readings.Guard readings.LetElse readings.MatchArm readings.Pat
-      readings.RecordPatField readings.AssocTypeArg readings.GenericArgList readings.Param readings.ParenArgs readings.PathType
-      readings.RetType readings.TypeArg readings.TypeBound readings.Type_
+      readings.BlockExpr readings.Expr readings.Path readings.PathSegment readings.RecordExprField readings.RecordExprFieldList
+      readings.Stmt readings.MatchArm readings.Pat readings.RecordPatField readings.AssocTypeArg readings.Param readings.PathType
+      readings.TypeBound readings.Type_
       (of.else_branch env itself) (of.expr_kind env itself) (of.stmt_kind env itself) (of_pats.pat_kind_step env itself)
       (of_types.generic_arg_step env itself) (of_types.type_kind_step env itself) (of.block_step env itself)
-      (of.constant_step env itself) (of.expr_step env itself) (of_types.path_step env itself) (of_types.segment_step env itself)
-      (of.field_step env itself) (of.record_step env itself) (of.stmt_step env itself) (of.guard_step env itself)
-      (of.let_else_step env itself) (of.arm_step env itself) (of_pats.pat_step env itself) (of_pats.pat_field_step env itself)
-      (of_types.assoc_type_arg_step env itself) (of_types.generic_arg_list_step env itself) (of_types.param_step env itself)
-      (of_types.paren_args_step env itself) (of_types.path_type_step env itself) (of_types.ret_type_step env itself)
-      (of_types.type_arg_step env itself) (of_types.type_bound_step env itself) (of_types.type_step env itself) x j p
+      (of.expr_step env itself) (of_types.path_step env itself) (of_types.segment_step env itself) (of.field_step env itself)
+      (of.record_step env itself) (of.stmt_step env itself) (of.arm_step env itself) (of_pats.pat_step env itself)
+      (of_pats.pat_field_step env itself) (of_types.assoc_type_arg_step env itself) (of_types.param_step env itself)
+      (of_types.path_type_step env itself) (of_types.type_bound_step env itself) (of_types.type_step env itself) x j p
 
   pub opened_pat_field : (x : AstRecordPatField) (p : Place)
       → read_pat_field env x p ≡ of_pats.pat_field_step env itself (mapped_pat_field env (out-RecordPatField x)) p
-  unfolding read_else_branch read_expr_kind read_stmt_kind read_pat_kind read_generic_arg read_type_kind read_block read_constant
-      read_expr read_path read_segment read_field read_record read_stmt read_guard read_let_else read_arm read_pat read_pat_field
-      read_assoc_type_arg read_generic_arg_list read_param read_paren_args read_path_type read_ret_type read_type_arg
-      read_type_bound read_type
+  unfolding read_else_branch read_expr_kind read_stmt_kind read_pat_kind read_generic_arg read_type_kind read_block read_expr
+      read_path read_segment read_field read_record read_stmt read_arm read_pat read_pat_field read_assoc_type_arg read_param
+      read_path_type read_type_bound read_type
   opened_pat_field x p = λ j. folds.fold_out-RecordPatField
       readings.ElseBranch readings.ExprKind readings.StmtKind readings.PatKind readings.GenericArg readings.TypeKind
-      readings.BlockExpr readings.ConstArg readings.Expr readings.Path readings.PathSegment readings.RecordExprField
-      readings.RecordExprFieldList readings.Stmt readings.Guard readings.LetElse readings.MatchArm readings.Pat
-      readings.RecordPatField readings.AssocTypeArg readings.GenericArgList readings.Param readings.ParenArgs readings.PathType
-      readings.RetType readings.TypeArg readings.TypeBound readings.Type_
+      readings.BlockExpr readings.Expr readings.Path readings.PathSegment readings.RecordExprField readings.RecordExprFieldList
+      readings.Stmt readings.MatchArm readings.Pat readings.RecordPatField readings.AssocTypeArg readings.Param readings.PathType
+      readings.TypeBound readings.Type_
       (of.else_branch env itself) (of.expr_kind env itself) (of.stmt_kind env itself) (of_pats.pat_kind_step env itself)
       (of_types.generic_arg_step env itself) (of_types.type_kind_step env itself) (of.block_step env itself)
-      (of.constant_step env itself) (of.expr_step env itself) (of_types.path_step env itself) (of_types.segment_step env itself)
-      (of.field_step env itself) (of.record_step env itself) (of.stmt_step env itself) (of.guard_step env itself)
-      (of.let_else_step env itself) (of.arm_step env itself) (of_pats.pat_step env itself) (of_pats.pat_field_step env itself)
-      (of_types.assoc_type_arg_step env itself) (of_types.generic_arg_list_step env itself) (of_types.param_step env itself)
-      (of_types.paren_args_step env itself) (of_types.path_type_step env itself) (of_types.ret_type_step env itself)
-      (of_types.type_arg_step env itself) (of_types.type_bound_step env itself) (of_types.type_step env itself) x j p
+      (of.expr_step env itself) (of_types.path_step env itself) (of_types.segment_step env itself) (of.field_step env itself)
+      (of.record_step env itself) (of.stmt_step env itself) (of.arm_step env itself) (of_pats.pat_step env itself)
+      (of_pats.pat_field_step env itself) (of_types.assoc_type_arg_step env itself) (of_types.param_step env itself)
+      (of_types.path_type_step env itself) (of_types.type_bound_step env itself) (of_types.type_step env itself) x j p

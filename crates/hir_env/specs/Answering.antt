@@ -27,13 +27,13 @@ use Rattle.hir_env.specs.declared.place.LoweringMode.{LoweringMode}
 use Rattle.hir_env.specs.declared.place.LoweringMode.TheVariants as mode
 use Rattle.hir_env.specs.Answers.{Answers}
 pub use Rattle.hir_env.specs.Spot.{in_file, ptr, site_of}
-pub use Rattle.hir_env.specs.Paths.{mutability}
-use Rattle.hir_env.specs.Paths.{path_or_none, type_or_none, pat_or_none, arg_list_or_none, inside_constant}
+pub use Rattle.hir_env.specs.Paths.{mutability, expr_or_none, constant_step, generic_arg_list_step}
+use Rattle.hir_env.specs.Paths.{path_or_none, type_or_none, pat_or_none, arg_list_or_none}
 use Rattle.hir_env.specs.Ranges.{range_form}
 use Rattle.hir_env.specs.Targets.{resolves, target_of}
 use Rattle.hir_env.specs.Layers.{BlockReading, StmtReading, RecordReading, Sorts, Reader, ElseBranchLayer, ExprKindLayer}
-use Rattle.hir_env.specs.Layers.{StmtKindLayer, BlockExprLayer, ConstArgLayer, ExprLayer, RecordExprFieldLayer}
-use Rattle.hir_env.specs.Layers.{RecordExprFieldListLayer, StmtLayer, GuardLayer, LetElseLayer, MatchArmLayer}
+use Rattle.hir_env.specs.Layers.{StmtKindLayer, BlockExprLayer, ExprLayer, RecordExprFieldLayer}
+use Rattle.hir_env.specs.Layers.{RecordExprFieldListLayer, StmtLayer, MatchArmLayer}
 use Rattle.hir_env.specs.Answered as tree
 use Rattle.hir_env.specs.Answered.{Label, Jump, Path, Expr, OptionExpr, Exprs, RecordHead, Fields, Field, Spread, Block, OptionBlock}
 use Rattle.hir_env.specs.Answered.{Stmts, Stmt, Constant, Arms, Arm, Guard}
@@ -105,10 +105,6 @@ inside None p = p
 inside (Some n) p = record p { module_id = n.1 }
 
 -- parts that may be absent, and lists
-
-abbrev pub expr_or_none : {A : Type 0} → (A → Place → Expr) → Option A → Place → OptionExpr
-expr_or_none read None p = tree.no_expr
-expr_or_none read (Some e) p = tree.some_expr (read e p)
 
 abbrev pub plain_or_none : {A : Type 0} → (A → BlockReading) → Option A → Place → OptionBlock
 plain_or_none read None p = tree.no_block
@@ -214,7 +210,7 @@ module _ (env : Answers) {S : Sorts} (part : Reader S) where
   expr_at (ExprKind-F.Literal l) p s = tree.literal_expr s l
   expr_at (ExprKind-F.MethodCallExpr e n as' es) p s =
       tree.method_call_expr s (expr_or_none part.expr e p) (name_or_missing n) (exprs_or_none part.expr es p)
-      (arg_list_or_none part.generic_arg_list as' p)
+      (arg_list_or_none (generic_arg_list_step env part) as' p)
   expr_at (ExprKind-F.FieldExpr e n) p s = tree.unary_expr s (tree.field_of (name_or_missing n)) (expr_or_none part.expr e p)
   expr_at (ExprKind-F.PrefixExpr o e) p s = prefix_expr s o (expr_or_none part.expr e p)
   expr_at (ExprKind-F.BinExpr o a b) p s = bin_expr (resolves env p) s o (expr_or_none part.expr a p) (expr_or_none part.expr b p)
@@ -248,9 +244,6 @@ module _ (env : Answers) {S : Sorts} (part : Reader S) where
   abbrev pub expr_step : ExprLayer S → Place → Expr
   expr_step e = part.expr_kind e.kind (ptr e.id e.range)
 
-  abbrev pub constant_step : ConstArgLayer S → Place → Constant
-  constant_step x p = tree.constant (expr_or_none part.expr x.expr (inside_constant p))
-
   abbrev pub field_at : RecordExprFieldLayer S → Place → Pointer → Field
   field_at x p s = asked_field s (env.cfg (site_of s)) (field_of s x.name (expr_or_none part.expr x.expr p))
 
@@ -264,12 +257,12 @@ module _ (env : Answers) {S : Sorts} (part : Reader S) where
     spread = spread_or_none part.expr x.spread x.dotdot p;
   }
 
-  abbrev pub guard_step : GuardLayer S → Place → OptionExpr
-  guard_step x p = expr_or_none part.expr x.condition p
+  abbrev pub guard_step : Option S.Expr → Place → OptionExpr
+  guard_step x p = expr_or_none part.expr x p
 
   abbrev pub arm_at : MatchArmLayer S → Place → Pointer → Arm
   arm_at x p s = asked_arm s (env.cfg (site_of s))
-      (tree.arm (pat_or_none part.pat x.pat p) (expr_or_none part.expr x.expr p) (guard_or_none part.guard x.guard p))
+      (tree.arm (pat_or_none part.pat x.pat p) (expr_or_none part.expr x.expr p) (guard_or_none guard_step x.guard p))
 
   abbrev pub arm_step : MatchArmLayer S → Place → Arm
   arm_step x p = arm_at x p (in_file p (ptr x.id x.range))
@@ -286,14 +279,14 @@ module _ (env : Answers) {S : Sorts} (part : Reader S) where
     own = λ p. tree.block_expr (block_at b (modified b.mod_ (option_map (label_of env p) b.label)) p);
   }
 
-  abbrev pub let_else_step : LetElseLayer S → Place → OptionBlock
-  let_else_step x p = plain_or_none part.block_expr x.block p
+  abbrev pub let_else_step : Option S.BlockExpr → Place → OptionBlock
+  let_else_step x p = plain_or_none part.block_expr x p
 
   -- the one statement that it stands for
   abbrev pub stmt_at : StmtKindLayer S → Place → Pointer → Stmt
   stmt_at (StmtKind-F.LetStmt x t e b) p s = asked_stmt s (env.cfg (site_of s))
       (tree.let_stmt (pat_or_none part.pat x p) (type_or_none part.type_ t p) (expr_or_none part.expr e p)
-      (let_else_or_none part.let_else b p))
+      (let_else_or_none let_else_step b p))
   stmt_at (StmtKind-F.ExprStmt e semi) p s = tree.expr_stmt (expr_or_none part.expr e p) semi
   stmt_at StmtKind-F.Item p s = tree.item_stmt
 

@@ -7,26 +7,19 @@ use Rattle.hir_syntax.specs.declared.ast.StmtKind.{out-StmtKind}
 use Rattle.hir_syntax.specs.declared.types.GenericArg.{GenericArg as AstGenericArg, out-GenericArg}
 use Rattle.hir_syntax.specs.declared.types.TypeKind.{out-TypeKind}
 use Rattle.hir_syntax.specs.declared.ast.BlockExpr.{BlockExpr as AstBlockExpr, out-BlockExpr}
-use Rattle.hir_syntax.specs.declared.ast.ConstArg.{ConstArg as AstConstArg, out-ConstArg}
 use Rattle.hir_syntax.specs.declared.ast.Expr.{Expr as AstExpr}
 use Rattle.hir_syntax.specs.declared.ast.Path.{Path as AstPath, out-Path}
 use Rattle.hir_syntax.specs.declared.ast.PathSegment.{PathSegment as AstPathSegment, out-PathSegment}
 use Rattle.hir_syntax.specs.declared.ast.RecordExprField.{RecordExprField as AstRecordExprField, out-RecordExprField}
 use Rattle.hir_syntax.specs.declared.ast.RecordExprFieldList.{RecordExprFieldList as AstRecordExprFieldList, out-RecordExprFieldList}
 use Rattle.hir_syntax.specs.declared.ast.Stmt.{Stmt as AstStmt}
-use Rattle.hir_syntax.specs.declared.branches.Guard.{Guard as AstGuard, out-Guard}
-use Rattle.hir_syntax.specs.declared.branches.LetElse.{LetElse as AstLetElse, out-LetElse}
 use Rattle.hir_syntax.specs.declared.branches.MatchArm.{MatchArm as AstMatchArm, out-MatchArm}
 use Rattle.hir_syntax.specs.declared.pats.PatKind.{out-PatKind}
 use Rattle.hir_syntax.specs.declared.pats.Pat.{Pat as AstPat}
 use Rattle.hir_syntax.specs.declared.pats.RecordPatField.{RecordPatField as AstRecordPatField, out-RecordPatField}
 use Rattle.hir_syntax.specs.declared.types.AssocTypeArg.{AssocTypeArg as AstAssocTypeArg, out-AssocTypeArg}
-use Rattle.hir_syntax.specs.declared.types.GenericArgList.{GenericArgList as AstGenericArgList, out-GenericArgList}
 use Rattle.hir_syntax.specs.declared.types.Param.{Param as AstParam, out-Param}
-use Rattle.hir_syntax.specs.declared.types.ParenArgs.{ParenArgs as AstParenArgs, out-ParenArgs}
 use Rattle.hir_syntax.specs.declared.types.PathType.{PathType as AstPathType, out-PathType}
-use Rattle.hir_syntax.specs.declared.types.RetType.{RetType as AstRetType, out-RetType}
-use Rattle.hir_syntax.specs.declared.types.TypeArg.{TypeArg as AstTypeArg, out-TypeArg}
 use Rattle.hir_syntax.specs.declared.types.TypeBound.{TypeBound as AstTypeBound, out-TypeBound}
 use Rattle.hir_syntax.specs.declared.types.Type_.{Type_ as AstType_}
 use Rattle.hir_syntax.specs.declared.ast.Label.{Label as AstLabel}
@@ -35,6 +28,7 @@ use Rattle.hir_base.specs.declared.node.NodeId.{NodeId}
 use Rattle.hir_base.specs.declared.node.TextRange.{TextRange}
 use Rattle.hir_store.specs.Pointers.{Pointer}
 use Rattle.hir_env.specs.Spot.{Spot}
+use Rattle.hir_env.specs.Wrapped.{AstConstArg, AstGuard, AstLetElse, AstRetType, AstTypeArg, AstParenArgs, AstGenericArgList}
 use Rattle.hir_store.specs.declared.ids.BlockId.{BlockId}
 use Rattle.hir_store.specs.declared.name.Name.{Name}
 use Rattle.hir_env.specs.declared.place.Place.{Place}
@@ -311,13 +305,13 @@ abbrev pub record_level : Spot → AstRecordExprFieldList → RecordReading
 record_level at x = record_step at.answers (reader at.answers) (out-RecordExprFieldList x) at.place
 
 abbrev pub constant_level : Spot → AstConstArg → Constant
-constant_level at x = constant_step at.answers (reader at.answers) (out-ConstArg x) at.place
+constant_level at x = constant_step at.answers (reader at.answers) x at.place
 
 abbrev pub guard_level : Spot → AstGuard → OptionExpr
-guard_level at x = guard_step at.answers (reader at.answers) (out-Guard x) at.place
+guard_level at x = guard_step at.answers (reader at.answers) x at.place
 
 abbrev pub let_else_level : Spot → AstLetElse → OptionBlock
-let_else_level at x = let_else_step at.answers (reader at.answers) (out-LetElse x) at.place
+let_else_level at x = let_else_step at.answers (reader at.answers) x at.place
 
 abbrev pub arm_level : Spot → AstMatchArm → Arm
 arm_level at x = arm_step at.answers (reader at.answers) (out-MatchArm x) at.place
@@ -337,7 +331,7 @@ abbrev pub param_level : Spot → AstParam → ParamReading
 param_level at x = param_step at.answers (reader at.answers) (out-Param x) at.place
 
 abbrev pub ret_level : Spot → AstRetType → OptionType
-ret_level at x = ret_type_step at.answers (reader at.answers) (out-RetType x) at.place
+ret_level at x = ret_type_step at.answers (reader at.answers) x at.place
 
 abbrev pub path_level : Spot → AstPath → Path
 path_level at x = path_step at.answers (reader at.answers) (out-Path x) at.place
@@ -349,16 +343,16 @@ abbrev pub path_type_level : Spot → AstPathType → PathTypeReading
 path_type_level at x = path_type_step at.answers (reader at.answers) (out-PathType x) at.place
 
 abbrev pub paren_args_level : Spot → AstParenArgs → Parts
-paren_args_level at x = paren_args_step at.answers (reader at.answers) (out-ParenArgs x) at.place
+paren_args_level at x = paren_args_step at.answers (reader at.answers) x at.place
 
 abbrev pub arg_list_level : Spot → AstGenericArgList → Args
-arg_list_level at x = generic_arg_list_step at.answers (reader at.answers) (out-GenericArgList x) at.place
+arg_list_level at x = generic_arg_list_step at.answers (reader at.answers) x at.place
 
 abbrev pub arg_level : Spot → AstGenericArg → Arg
 arg_level at x = generic_arg_step at.answers (reader at.answers) (out-GenericArg x) at.place
 
 abbrev pub type_arg_level : Spot → AstTypeArg → OptionType
-type_arg_level at x = type_arg_step at.answers (reader at.answers) (out-TypeArg x) at.place
+type_arg_level at x = type_arg_step at.answers (reader at.answers) x at.place
 
 abbrev pub assoc_arg_level : Spot → AstAssocTypeArg → Arg
 assoc_arg_level at x = assoc_type_arg_step at.answers (reader at.answers) (out-AssocTypeArg x) at.place

@@ -31,6 +31,7 @@ use Rattle.hir_env.specs.Answered as tree
 use Rattle.hir_env.specs.Answered.{Formals, OptionExpr}
 use Rattle.hir_lower_form.specs.Lowering.{Lowering, SomeEnd, ◌>>=◌, ◌>>◌, pure, close_labels, report, record_root, enter_root, outside_root}
 use Rattle.hir_lower_form.specs.Lower.{ExprSteps, lower_part}
+use Rattle.hir_lower_knot.specs.Spots.{spot_at}
 use Rattle.hir_lower.specs.declared.body.Body.{Body}
 use Rattle.hir_lower.specs.declared.body.Param.{Param}
 use Rattle.hir_lower.specs.Formals.{Given, HasGiven, item_formals, lower_formals}
@@ -97,11 +98,6 @@ pub record RefusedAtEnd {A : Type 0} (p : Lowering A) (limit : ℕ) : Type 0 whe
   pub builder : Builder
   pub refused : p (fresh limit) ≡ (Err Full, builder)
   pub at_end : SomeEnd builder
-
--- read at a place
-
-abbrev pub spot_at : Answers → Place → Spot
-spot_at env p = record { answers = env; place = p }
 
 -- the body of an item
 abbrev pub item_of : Spot → DefWithBodyId → AstPtr → Option AstParamList → Option AstExpr → Lowering (Given × ExprId)

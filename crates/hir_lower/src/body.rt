@@ -10,10 +10,11 @@ ghost use Rattle.hir_env.specs.Whole.{expr_part};
 ghost use Rattle.hir_lower_form.specs.Lowering.{Lowers};
 ghost use Rattle.hir_one_result.specs.OneResult.{OneResult};
 ghost use Rattle.hir_one_result.specs.Room.{TooLarge};
+ghost use Rattle.hir_lower_knot.specs.Spots.{spot_at};
 ghost use Rattle.hir_lower.specs.Formals.{are_read, item_formals, lower_formals, outside_the_body, self_source};
 ghost use Rattle.hir_lower.specs.Means.{HasBody, HasParams, body_fault, body_owes, body_read, required_body};
 ghost use Rattle.hir_lower.specs.Roots.{GivenFromNothing, HasBehind, RefusedAtEnd, StoresFromNothing, await_location, behind, body_spot};
-ghost use Rattle.hir_lower.specs.Roots.{item_of, report_missing, spot_at};
+ghost use Rattle.hir_lower.specs.Roots.{item_of, report_missing};
 ghost use Rattle.hir_lower.specs.Roots.{as_written as written};
 
 use crate::collector::collect_expr_opt;

@@ -1,7 +1,6 @@
 //! The collector, which lowers trees into one store and stops for good after its first error.
 
 ghost use Rattle.std.specs.Prelude.{◌≡◌, ◌≢◌, false, true, Err, IfOk, IsErrOf, IsOkAnd, option_copied};
-ghost use Rattle.hir_syntax.specs.declared.ast.ConstArg.{out-ConstArg};
 ghost use Rattle.hir_store.specs.Range.{HasExpr, HasTypeParts, InRange};
 ghost use Rattle.hir_store.specs.Stored.{map_of, store_of};
 ghost use Rattle.hir_env.specs.Spot.{in_file};
@@ -11,18 +10,19 @@ ghost use Rattle.hir_lower_form.specs.Methods.{LowersExprOpt};
 ghost use Rattle.hir_steps.specs.Keeps.{Paired};
 ghost use Rattle.hir_one_result.specs.Room.{whole_size};
 ghost use Rattle.hir_one_result.specs.Room.{Short, TooLarge};
+ghost use Rattle.hir_lower_knot.specs.Spots.{spot_at};
 ghost use Rattle.hir_lower.specs.Calls.{Calls, Outside};
 ghost use Rattle.hir_lower.specs.Means.{AddsType, BearsNames, NoRoomForType, PathRooted, ReadsBack, Rooted, whole_path};
-ghost use Rattle.hir_lower.specs.Roots.{becoming, fresh, outside_body, root_of, spot_at};
+ghost use Rattle.hir_lower.specs.Roots.{becoming, fresh, outside_body, root_of};
 ghost use Rattle.hir_lower.specs.Stays.{Stays};
 
 use crate::error::LowerError;
 use crate::impl_trait::ImplTraitLower;
-use crate::knot::{collect_expr, lower_path};
 use hir_base::node::{AstPtr, HirFileId, InFile};
 use hir_env::env::LowerEnv;
 use hir_env::place::{ImplTrait, LoweringMode, Place};
 use hir_lower_form::builder::BodyBuilder;
+use hir_lower_knot::knot::{collect_expr, lower_path};
 use hir_store::builder::ExpressionStoreBuilder;
 use hir_store::diagnostics::AwaitLocation;
 use hir_store::fault::StoreFault;
@@ -222,10 +222,10 @@ impl<'db, E: LowerEnv> ExprCollector<'db, E> {
     /// since.
     pub fn lower_const_arg(&mut self, arg: &ast::ConstArg) -> Result<ConstRef, LowerError>
         ensures calls { Calls self.old.failed self.old.state result self.new.state self.new.failed }
-        ensures rooted { let e = expr_part (spot_at (E.answers self.old.db.now) self.old.place) (out-ConstArg arg.now).expr in
+        ensures rooted { let e = expr_part (spot_at (E.answers self.old.db.now) self.old.place) arg.now in
             IfOk result (λ c. Rooted self.old.state.stored self.new.state.stored c.expr e) }
         ensures full { IsErrOf result LowerError.Full → SomeEnd self.new.state }
-        ensures too_large { let e = expr_part (spot_at (E.answers self.old.db.now) self.old.place) (out-ConstArg arg.now).expr in
+        ensures too_large { let e = expr_part (spot_at (E.answers self.old.db.now) self.old.place) arg.now in
             IsErrOf result LowerError.Full → TooLarge self.old.state.stored e }
         ensures stays { result ≢ Err LowerError.Memory → Stays self.old.state.stored self.new.state.stored }
         ensures db { self.new.db ≡ self.old.db }
@@ -240,7 +240,7 @@ impl<'db, E: LowerEnv> ExprCollector<'db, E> {
             self.db,
             self.place,
             &mut self.state,
-            unboxed(&arg.expr),
+            unboxed(arg),
         )?;
         self.failed = false;
         Ok(ConstRef { expr })

@@ -5,15 +5,16 @@ ghost use Rattle.hir_store.specs.Range.{HasType, InRange};
 ghost use Rattle.hir_lower_form.specs.Lower.{type_part};
 ghost use Rattle.hir_lower_form.specs.Lowering.{Lowers};
 ghost use Rattle.hir_type_result.specs.TypeResult.{TypeResult, TypeTooLarge};
+ghost use Rattle.hir_lower_knot.specs.Spots.{spot_at};
 ghost use Rattle.hir_lower.specs.Means.{whole_type};
-ghost use Rattle.hir_lower.specs.Roots.{AnswersFromNothing, RefusedAtEnd, spot_at, type_spot};
+ghost use Rattle.hir_lower.specs.Roots.{AnswersFromNothing, RefusedAtEnd, type_spot};
 
 use crate::error::LowerError;
-use crate::knot::lower_type_node;
 use hir_base::node::InFile;
 use hir_env::env::LowerEnv;
 use hir_env::place::{ImplTrait, LoweringMode, Place};
 use hir_lower_form::builder::BodyBuilder;
+use hir_lower_knot::knot::lower_type_node;
 use hir_store::diagnostics::AwaitLocation;
 use hir_store::fault::StoreFault;
 use hir_store::ids::{ModuleId, TypeRefId};

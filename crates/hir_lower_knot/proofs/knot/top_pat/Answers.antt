@@ -1,6 +1,6 @@
-use Rattle.hir_lower.specs.Nests.{HandlesPat}
-use Rattle.hir_lower.proofs.Kids.{so_of_present}
-use Rattle.hir_lower.proofs.knot.top_pat.Goals as goal
+use Rattle.hir_lower_knot.specs.Nests.{HandlesPat}
+use Rattle.hir_lower_knot.proofs.Kids.{so_of_present}
+use Rattle.hir_lower_knot.proofs.knot.top_pat.Goals as goal
 
 pub top_pat-requires : goal.top_pat-requires
 top_pat-requires g c = so_of_present (HandlesPat g.E.LowerEnv.answers _ _ c.args.env.now c.args.place)

@@ -7,7 +7,6 @@ use Rattle.hir_syntax.specs.declared.ast.BlockExpr.{BlockExpr as AstBlockExpr}
 use Rattle.hir_syntax.specs.declared.ast.Path.{Path as AstPath}
 use Rattle.hir_syntax.specs.declared.pats.Pat.{Pat as AstPat}
 use Rattle.hir_syntax.specs.declared.types.Type_.{Type_ as AstType_}
-use Rattle.hir_syntax.specs.declared.types.GenericArgList.{GenericArgList as AstGenericArgList}
 use Rattle.hir_store.specs.Stored.{Stored}
 use Rattle.hir_store.specs.Range.{HasExpr, HasExprOption, HasLabelOption}
 use Rattle.hir_store.specs.declared.path.GenericArgs.{GenericArgs}
@@ -19,6 +18,7 @@ use Rattle.hir_env.specs.Answers.{Answers}
 use Rattle.hir_env.specs.Answered as tree
 use Rattle.hir_env.specs.Answered.{Binder}
 use Rattle.hir_env.specs.Paths.{inside_constant}
+use Rattle.hir_env.specs.Wrapped.{AstGenericArgList}
 use Rattle.hir_env.specs.Whole.{answered, answered_arg_list, answered_path, answered_plain, answered_type}
 use Rattle.hir_lower_form.specs.Builder.{Builder}
 use Rattle.hir_lower_form.specs.Lowering.{Lowering, Checked, Lowers}
@@ -28,7 +28,7 @@ use Rattle.hir_lower_form.specs.Nests.{Claims, IfPresent}
 use Rattle.hir_lower_pat.specs.Nested.{InPat, InTarget}
 use Rattle.hir_lower_form.specs.declared.walk.PathWalk.{PathWalk}
 use Rattle.hir_lower_form.specs.declared.walk.Reading.{Reading}
-use Rattle.hir_lower.specs.Roots.{spot_at}
+use Rattle.hir_lower_knot.specs.Spots.{spot_at}
 
 -- what such a function requires and ensures, over an environment
 abbrev pub Pre : Type 0 → Type 1

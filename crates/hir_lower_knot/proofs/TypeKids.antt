@@ -1,7 +1,6 @@
 -- The parts of a type, of a path and of a list of arguments are smaller than the whole, as they are answered.
 use Rattle.std.proofs.Common.{arith, ◌≡◌, refl, ap, ℕ, suc, ◌<◌, ◌≤◌, ◌+◌, Bool, true, false, Option, Some, None, List, [], ◌∷◌}
 use Rattle.std.specs.Prelude.{codes, bytes_eq, if◌then◌else◌, map, option_map}
-use Rattle.hir_syntax.specs.declared.ast.ConstArg.{ConstArg as AstConstArg, out-ConstArg}
 use Rattle.hir_syntax.specs.declared.ast.Expr.{Expr as AstExpr}
 use Rattle.hir_syntax.specs.declared.ast.Name.{Name as AstName}
 use Rattle.hir_syntax.specs.declared.ast.Path.{Path as AstPath}
@@ -13,14 +12,10 @@ use Rattle.hir_syntax.specs.declared.types.BoundKind.{BoundKind}
 use Rattle.hir_syntax.specs.declared.types.BoundKind.TheVariants as bound_kind
 use Rattle.hir_syntax.specs.declared.types.Type_.{Type_ as AstType_}
 use Rattle.hir_syntax.specs.declared.types.Param.{Param as AstParam, out-Param}
-use Rattle.hir_syntax.specs.declared.types.RetType.{RetType as AstRetType, out-RetType}
-use Rattle.hir_syntax.specs.declared.types.ParenArgs.{ParenArgs as AstParenArgs, out-ParenArgs}
 use Rattle.hir_syntax.specs.declared.types.PathType.{PathType as AstPathType, out-PathType}
-use Rattle.hir_syntax.specs.declared.types.TypeArg.{TypeArg as AstTypeArg, out-TypeArg}
 use Rattle.hir_syntax.specs.declared.types.TypeBound.{TypeBound as AstTypeBound, out-TypeBound}
 use Rattle.hir_syntax.specs.declared.types.AssocTypeArg.{out-AssocTypeArg}
 use Rattle.hir_syntax.specs.declared.types.GenericArg.{GenericArg as AstGenericArg, out-GenericArg}
-use Rattle.hir_syntax.specs.declared.types.GenericArgList.{GenericArgList as AstGenericArgList}
 use Rattle.hir_syntax.specs.declared.ast.ElseBranch.TheOpen.{GenericArg-F, TypeKind-F}
 use Rattle.hir_store.specs.Pointers.{Pointer}
 use Rattle.hir_store.specs.declared.name.Name.TheVariants as name_of
@@ -31,8 +26,9 @@ use Rattle.hir_env.specs.Answered.{Parts}
 use Rattle.hir_env.specs.Answers.{Answers}
 use Rattle.hir_env.specs.Paths as of
 use Rattle.hir_env.specs.Paths.{inside_constant, inside_impl, outside_impl}
+use Rattle.hir_env.specs.Wrapped.{AstConstArg, AstGenericArgList, AstParenArgs, AstRetType, AstTypeArg}
 use Rattle.hir_env.specs.Whole.{written, reader, read_param, read_type_arg, read_ret_type, read_path_type}
-use Rattle.hir_env.specs.TypeLayers.{GenericArgLayer, TypeKindLayer, AssocTypeArgLayer, GenericArgListLayer, ParamLayer}
+use Rattle.hir_env.specs.TypeLayers.{GenericArgLayer, TypeKindLayer, AssocTypeArgLayer, ParamLayer}
 use Rattle.hir_env.specs.TypeLayers.{PathLayer, PathSegmentLayer, TypeBoundLayer}
 use Rattle.hir_env.specs.Count.{count_type, count_option_type, count_parts, count_path, count_option_path, count_segments, count_segment}
 use Rattle.hir_env.specs.Count.{count_segment_args, count_option_parens, count_option_ret, count_option_args, count_args, count_arg}
@@ -41,14 +37,13 @@ use Rattle.hir_env.specs.Whole.{answered_pat, pat_part}
 use Rattle.hir_env.specs.Whole.{answered, answered_type, answered_path, answered_arg_list, type_part, path_part, arg_list_part, types_part}
 use Rattle.hir_env.specs.Whole.{type_args_part, params_part, answer_part, ret_part, parens_part, path_type_part, segment_part}
 use Rattle.hir_env.specs.Whole.{segments_part, first_part, rest_part, generic_args_part, bounds_part, answered_constant, constant_part}
-use Rattle.hir_env.proofs.Levels.{constant_is_level}
-use Rattle.hir_env.proofs.PathLevels.{param_is_level, ret_is_level, segment_is_level, path_type_is_level, paren_args_is_level}
-use Rattle.hir_env.proofs.PathLevels.{arg_is_level, type_arg_is_level, assoc_arg_is_level, bound_is_level}
+use Rattle.hir_env.proofs.PathLevels.{param_is_level, segment_is_level, path_type_is_level}
+use Rattle.hir_env.proofs.PathLevels.{arg_is_level, assoc_arg_is_level, bound_is_level}
 use Rattle.hir_lower_form.specs.Nests.{Claims, IfPresent, Each, KidsTypeArg, KidsRet, KidsParam, KidsTrait, KidsBound, KidsBounds, KidsImpl}
 use Rattle.hir_lower_form.specs.Nests.{Unless, KidsBinding, KidsAssoc, KidsType, KidsArg, KidsArgs, KidsParens, KidsSegmentArgs, KidsName}
 use Rattle.hir_lower_form.specs.Nests.{KidsQualified, KidsSegment, KidsSegments, KidsPath, const_expr}
 use Rattle.hir_lower_form.specs.Methods.{constant_at}
-use Rattle.hir_lower.specs.Roots.{spot_at}
+use Rattle.hir_lower_knot.specs.Spots.{spot_at}
 
 -- what holds of each node smaller than n, at whatever place it is read
 pub record Below (env : Answers) (C : Claims) (n : ℕ) : Type 0 where
@@ -78,10 +73,8 @@ module _ (env : Answers) (C : Claims) (n : ℕ) (below : Below env C n) where
   const_part p (Some e) h = below.constants p e (omega (arith, h))
 
   const_arg : (p : Place) (x : AstConstArg) → count_constant (answered_constant (spot_at env p) x) < n
-      → C.constant p (out-ConstArg x).expr
-  const_arg p x h =
-      let s = ap count_constant (constant_is_level (spot_at env p) x) in
-      const_part p (out-ConstArg x).expr (omega (arith, h, s))
+      → C.constant p x
+  const_arg p x h = const_part p x h
 
   constant : (p : Place) (o : Option AstConstArg) → count_constant (constant_part (spot_at env p) o) < n → C.constant p (const_expr o)
   constant p None h = const_part p None h
@@ -97,14 +90,14 @@ module _ (env : Answers) (C : Claims) (n : ℕ) (below : Below env C n) where
   pat p (Some x) h = below.pats p x h
 
   type_arg : (p : Place) (x : AstTypeArg) → count_option_type (read_type_arg env x p) < n → KidsTypeArg C p x
-  type_arg p x h = let s = ap count_option_type (type_arg_is_level (spot_at env p) x) in type_ p (out-TypeArg x).ty (omega (arith, h, s))
+  type_arg p x h = type_ p x h
 
   type_args : (p : Place) (xs : List AstTypeArg) → count_parts (type_args_part (spot_at env p) xs) < n → Each (KidsTypeArg C p) xs
   type_args p [] h = tt
   type_args p (x ∷ xs) h = (type_arg p x (omega (arith, h)), type_args p xs (omega (arith, h)))
 
   ret : (p : Place) (r : AstRetType) → count_option_type (read_ret_type env r p) < n → KidsRet C p r
-  ret p r h = let s = ap count_option_type (ret_is_level (spot_at env p) r) in type_ p (out-RetType r).ty (omega (arith, h, s))
+  ret p r h = type_ p r h
 
   answer : (p : Place) (o : Option AstRetType) → count_option_type (answer_part (spot_at env p) o) < n → IfPresent (KidsRet C p) o
   answer p None h = tt
@@ -213,16 +206,14 @@ module _ (env : Answers) (C : Claims) (n : ℕ) (below : Below env C n) where
       let s = ap count_arg (arg_is_level (spot_at env p) a) in
       (arg p (out-GenericArg a) (omega (arith, h, s)), args p as' (omega (arith, h)))
 
-  pub kids_args : (p : Place) (l : GenericArgListLayer written)
+  pub kids_args : (p : Place) (l : AstGenericArgList)
       → suc (count_args (of.generic_arg_list_step env (reader env) l p)) ≤ n → KidsArgs C p l
-  kids_args p l h = args p l.args h
+  kids_args p l h = args p l h
 
   parens : (p : Place) (o : Option AstParenArgs) (r : Option AstRetType) → count_option_parens (parens_part (spot_at env p) o r) < n
       → KidsParens C p o r
   parens p None r h = tt
-  parens p (Some x) r h =
-      let s = ap count_parts (paren_args_is_level (spot_at env p) x) in
-      (type_args p (out-ParenArgs x).args (omega (arith, h, s)), ret_option p r (omega (arith, h)))
+  parens p (Some x) r h = (type_args p x (omega (arith, h)), ret_option p r (omega (arith, h)))
 
   qualified : (p : Place) (o : Option AstType_) (t : Option AstPathType)
       → count_segment (of.qualified_segment (type_part (spot_at env p) o) (path_type_part (spot_at env p) t)) < n → KidsQualified C p o t

@@ -11,8 +11,8 @@ ghost use Rattle.hir_lower_form.specs.Methods.{HasWalk, LowersArgs, LowersExpr, 
 ghost use Rattle.hir_lower_form.specs.Methods.{LowersTop, MaybeLowersExpr, ReadsPath};
 ghost use Rattle.hir_lower_pat.specs.Methods.{use_with};
 ghost use Rattle.hir_lower_pat.proofs.Nested.{pat_nests, target_is_place, target_nests};
-ghost use Rattle.hir_lower.specs.Nests.{Handled, HandlesExpr, HandlesPath};
-ghost use Rattle.hir_lower.specs.Roots.{spot_at};
+ghost use Rattle.hir_lower_knot.specs.Nests.{Handled, HandlesExpr, HandlesPath};
+ghost use Rattle.hir_lower_knot.specs.Spots.{spot_at};
 
 use crate::constant::constant_form;
 use hir_base::node::{AstPtr, InFile, NodeId, PredId};

@@ -3,19 +3,18 @@ use Rattle.hir_syntax.specs.declared.ast.ExprKind.{out-ExprKind}
 use Rattle.hir_syntax.specs.declared.ast.BlockExpr.{out-BlockExpr}
 use Rattle.hir_syntax.specs.declared.ast.Path.{out-Path}
 use Rattle.hir_syntax.specs.declared.types.TypeKind.{out-TypeKind}
-use Rattle.hir_syntax.specs.declared.types.GenericArgList.{out-GenericArgList}
 use Rattle.hir_env.specs.Answering.{ptr, numbered}
 use Rattle.hir_env.specs.declared.place.Place.{Place}
-use Rattle.hir_env.specs.Count.{count_args, count_block, count_path, count_stmts, count_option_expr, count_type}
+use Rattle.hir_env.specs.Count.{count_block, count_path, count_stmts, count_option_expr, count_type}
 use Rattle.hir_env.specs.Paths.{inside_constant}
 use Rattle.hir_env.specs.Whole.{answered_path, answered_plain, expr_part, pointer_at, stmts_part}
 use Rattle.hir_env.proofs.Levels.{expr_is_level, plain_is_level}
-use Rattle.hir_env.proofs.PathLevels.{arg_list_is_level, path_is_level, type_is_level}
-use Rattle.hir_lower.specs.Nests.{HandlesArgs, HandlesBlock, HandlesConstant, HandlesExpr, HandlesPat, HandlesPath, HandlesType}
-use Rattle.hir_lower.specs.Roots.{spot_at}
-use Rattle.hir_lower.proofs.Kids.{kids_expr, kids_block, expr_below, in_inside}
-use Rattle.hir_lower.proofs.TypeKids.{kids_args, kids_path, kids_type}
-use Rattle.hir_lower.proofs.knot.+lower.Goals as goal
+use Rattle.hir_env.proofs.PathLevels.{path_is_level, type_is_level}
+use Rattle.hir_lower_knot.specs.Nests.{HandlesArgs, HandlesBlock, HandlesConstant, HandlesExpr, HandlesPat, HandlesPath, HandlesType}
+use Rattle.hir_lower_knot.specs.Spots.{spot_at}
+use Rattle.hir_lower_knot.proofs.Kids.{kids_expr, kids_block, expr_below, in_inside}
+use Rattle.hir_lower_knot.proofs.TypeKids.{kids_args, kids_path, kids_type}
+use Rattle.hir_lower_knot.proofs.knot.+lower.Goals as goal
 
 pub maybe_collect_expr-returns : goal.maybe_collect_expr-returns
 maybe_collect_expr-returns g t c =
@@ -176,14 +175,12 @@ lower_type_node-type_node-requires g t c =
     c.args.place (pointer_at at c.args.node.now.id c.args.node.now.range) (out-TypeKind c.args.node.now.kind) (omega (arith, d, size))
 
 pub lower_arg_list-returns : goal.lower_arg_list-returns
-lower_arg_list-returns g t c =
-    rw (arg_list_is_level (spot_at (g.E.LowerEnv.answers c.args.env.now) c.args.place) c.args.node.now) c.args_node.ensures
+lower_arg_list-returns g t c = c.args_node.ensures
 
 pub lower_arg_list-args_node-requires : goal.lower_arg_list-args_node-requires
 lower_arg_list-args_node-requires g t c =
     let d = c.decreases in
     let env = g.E.LowerEnv.answers c.args.env.now in
-    let size = ap count_args (arg_list_is_level (spot_at env c.args.place) c.args.node.now) in
     kids_args env (record {
       expr = HandlesExpr g.E.LowerEnv.answers _ _ c.args.env.now c.args.place;
       block = HandlesBlock g.E.LowerEnv.answers _ _ c.args.env.now c.args.place;
@@ -214,4 +211,4 @@ lower_arg_list-args_node-requires g t c =
         lowers = λ alloc v old new b r same is q. rw (← is) (rw (← same) q.2);
       };
     })
-    c.args.place (out-GenericArgList c.args.node.now) (omega (arith, d, size))
+    c.args.place c.args.node.now (omega (arith, d))
