@@ -5,12 +5,8 @@ use Rattle.hir_syntax.specs.declared.ast.PathSegment.{PathSegment as AstPathSegm
 use Rattle.hir_syntax.specs.declared.types.AssocTypeArg.{roll-AssocTypeArg, out-roll-AssocTypeArg}
 use Rattle.hir_syntax.specs.declared.types.GenericArg.{GenericArg as AstGenericArg, roll-GenericArg, out-roll-GenericArg}
 use Rattle.hir_syntax.specs.declared.ast.ElseBranch.TheOpen.{GenericArg-F}
-use Rattle.hir_syntax.specs.declared.types.GenericArgList.{roll-GenericArgList, out-roll-GenericArgList}
 use Rattle.hir_syntax.specs.declared.types.Param.{Param as AstParam, roll-Param, out-roll-Param}
-use Rattle.hir_syntax.specs.declared.types.ParenArgs.{roll-ParenArgs, out-roll-ParenArgs}
 use Rattle.hir_syntax.specs.declared.types.PathType.{roll-PathType, out-roll-PathType}
-use Rattle.hir_syntax.specs.declared.types.RetType.{roll-RetType, out-roll-RetType}
-use Rattle.hir_syntax.specs.declared.types.TypeArg.{roll-TypeArg, out-roll-TypeArg}
 use Rattle.hir_syntax.specs.declared.types.TypeBound.{roll-TypeBound, out-roll-TypeBound}
 use Rattle.hir_syntax.specs.declared.types.TypeKind.{out-roll-TypeKind}
 use Rattle.hir_syntax.specs.declared.types.Type_.{Type_ as AstType_}
@@ -19,8 +15,7 @@ use Rattle.hir_store.specs.declared.name.Name.TheVariants as name
 use Rattle.hir_env.specs.declared.place.ImplTrait.TheVariants as impl
 use Rattle.hir_env.specs.Spot.{Spot}
 use Rattle.hir_env.specs.TypeLayers.{ParamReading, TypeKindLayer, PathLayer, PathSegmentLayer, AssocTypeArgLayer, GenericArgLayer}
-use Rattle.hir_env.specs.TypeLayers.{GenericArgListLayer, ParamLayer, ParenArgsLayer, PathTypeLayer, RetTypeLayer, TypeArgLayer}
-use Rattle.hir_env.specs.TypeLayers.{TypeBoundLayer}
+use Rattle.hir_env.specs.TypeLayers.{ParamLayer, PathTypeLayer, TypeBoundLayer}
 use Rattle.hir_env.specs.Paths as of
 use Rattle.hir_env.specs.Answered as tree
 use Rattle.hir_env.specs.Answered.{FnHead, Type_, OptionType, Parts, Segment, SegmentArgs, Arg}
@@ -64,35 +59,15 @@ module _ (at : Spot) where
   bound_made x = bound_is_level at (roll-TypeBound x)
       ∙ ap (λ l. of.type_bound_step at.answers (reader at.answers) l at.place) (out-roll-TypeBound x)
 
-  arg_list_made : (x : GenericArgListLayer written)
-      → answered_arg_list at (roll-GenericArgList x) ≡ of.generic_arg_list_step at.answers (reader at.answers) x at.place
-  arg_list_made x = arg_list_is_level at (roll-GenericArgList x)
-      ∙ ap (λ l. of.generic_arg_list_step at.answers (reader at.answers) l at.place) (out-roll-GenericArgList x)
-
   arg_made : (x : GenericArgLayer written)
       → answered_arg at (roll-GenericArg x) ≡ of.generic_arg_step at.answers (reader at.answers) x at.place
   arg_made x = arg_is_level at (roll-GenericArg x)
       ∙ ap (λ l. of.generic_arg_step at.answers (reader at.answers) l at.place) (out-roll-GenericArg x)
 
-  type_arg_made : (x : TypeArgLayer written)
-      → answered_type_arg at (roll-TypeArg x) ≡ of.type_arg_step at.answers (reader at.answers) x at.place
-  type_arg_made x = type_arg_is_level at (roll-TypeArg x)
-      ∙ ap (λ l. of.type_arg_step at.answers (reader at.answers) l at.place) (out-roll-TypeArg x)
-
   assoc_arg_made : (x : AssocTypeArgLayer written)
       → answered_assoc_arg at (roll-AssocTypeArg x) ≡ of.assoc_type_arg_step at.answers (reader at.answers) x at.place
   assoc_arg_made x = assoc_arg_is_level at (roll-AssocTypeArg x)
       ∙ ap (λ l. of.assoc_type_arg_step at.answers (reader at.answers) l at.place) (out-roll-AssocTypeArg x)
-
-  paren_args_made : (x : ParenArgsLayer written)
-      → answered_paren_args at (roll-ParenArgs x) ≡ of.paren_args_step at.answers (reader at.answers) x at.place
-  paren_args_made x = paren_args_is_level at (roll-ParenArgs x)
-      ∙ ap (λ l. of.paren_args_step at.answers (reader at.answers) l at.place) (out-roll-ParenArgs x)
-
-  ret_made : (x : RetTypeLayer written)
-      → answered_ret at (roll-RetType x) ≡ of.ret_type_step at.answers (reader at.answers) x at.place
-  ret_made x = ret_is_level at (roll-RetType x)
-      ∙ ap (λ l. of.ret_type_step at.answers (reader at.answers) l at.place) (out-roll-RetType x)
 
   param_made : (x : ParamLayer written)
       → answered_param at (roll-Param x) ≡ of.param_step at.answers (reader at.answers) x at.place

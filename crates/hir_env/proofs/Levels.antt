@@ -21,9 +21,8 @@ use Rattle.hir_env.specs.Layers.{BlockReading, StmtReading, RecordReading, Reade
 use Rattle.hir_env.specs.Layers.{BlockExprLayer, RecordExprFieldLayer, RecordExprFieldListLayer}
 use Rattle.hir_env.specs.Layers.{MatchArmLayer, itself}
 use Rattle.hir_env.specs.Answering as of
-use Rattle.hir_env.specs.Paths.{inside_constant}
-use Rattle.hir_env.specs.Folds.{written, reader, read_else_branch, read_expr_kind, read_stmt_kind, read_block, read_constant}
-use Rattle.hir_env.specs.Folds.{read_expr, read_field, read_record, read_stmt, read_guard, read_let_else, read_arm}
+use Rattle.hir_env.specs.Folds.{written, reader, read_else_branch, read_expr_kind, read_stmt_kind, read_block}
+use Rattle.hir_env.specs.Folds.{read_expr, read_field, read_record, read_stmt, read_arm}
 use Rattle.hir_env.specs.Answered as tree
 use Rattle.hir_env.specs.Answered.{Label, Expr, OptionExpr, Field, OptionBlock, Arm}
 use Rattle.hir_env.specs.Targets.{resolves}

@@ -23,7 +23,7 @@ use Rattle.hir_env.specs.TypeLayers.{AssocTypeArgLayer, ParamLayer, PathTypeLaye
 use Rattle.hir_env.specs.TypeLayers.{TypeBoundLayer}
 use Rattle.hir_env.specs.Paths as of
 use Rattle.hir_env.specs.Folds.{written, reader, read_generic_arg, read_type_kind, read_path, read_segment, read_assoc_type_arg}
-use Rattle.hir_env.specs.Folds.{read_generic_arg_list, read_param, read_paren_args, read_path_type, read_ret_type, read_type_arg}
+use Rattle.hir_env.specs.Folds.{read_param, read_path_type}
 use Rattle.hir_env.specs.Folds.{read_type_bound, read_type}
 use Rattle.hir_env.proofs.Mapped.{optional, listed, listed_options, mapped_generic_arg, mapped_type_kind, mapped_path}
 use Rattle.hir_env.proofs.Mapped.{mapped_segment, mapped_assoc_type_arg, mapped_param}
@@ -32,7 +32,7 @@ use Rattle.hir_env.proofs.OpenedTypes.{opened_generic_arg, opened_type_kind, ope
 use Rattle.hir_env.proofs.OpenedTypes.{opened_param, opened_path_type}
 use Rattle.hir_env.proofs.OpenedTypes.{opened_type_bound, opened_type}
 use Rattle.hir_env.specs.Answered as tree
-use Rattle.hir_env.specs.Answered.{Type_, OptionType, Parts, Path, Segment, OptionRet, Args, Arg, Bound, Constant, Pat}
+use Rattle.hir_env.specs.Answered.{Expr, Type_, OptionType, Parts, Path, Segment, OptionRet, Args, Arg, Bound, Constant, Pat}
 use Rattle.hir_env.specs.TypePats.{type_pat_or_none, name_given}
 use Rattle.hir_env.specs.Whole.{answered_type, answered_param, answered_ret, answered_path, answered_segment, answered_path_type}
 use Rattle.hir_env.specs.Whole.{answered_paren_args, answered_arg_list, answered_arg, answered_type_arg, answered_assoc_arg}

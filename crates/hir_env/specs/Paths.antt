@@ -36,7 +36,7 @@ use Rattle.hir_env.specs.TypeLayers.{TypeBoundLayer, Type_Layer}
 use Rattle.hir_env.specs.Answered as tree
 use Rattle.hir_env.specs.Answered.{Lifetime, Binder, UseRead, FnHead, Type_, OptionType, Parts, Path, OptionPath, Segments, Segment}
 use Rattle.hir_env.specs.Answered.{SegmentArgs, OptionParens, OptionRet, OptionArgs, Args, Arg, Bounds, Bound, Constant, Pat}
-use Rattle.hir_env.specs.Answered.{OptionPat}
+use Rattle.hir_env.specs.Answered.{OptionPat, Expr, OptionExpr}
 
 -- names, lifetimes and texts
 

@@ -62,7 +62,14 @@ recorded_stays b (Ok i) c h = extends_trans h.stays (extends_root c.stored (root
 recorded_stays b (Err x) c h = h
 
 recorded_went : (b : Builder) (o : Checked ExprId) (c : Builder) → Went b.stored c.stored → Went b.stored (go_on o c recorded).1.stored
-recorded_went b (Ok i) c h = record { exprs = h.exprs; labels = h.labels; types = h.types; lifetimes = h.lifetimes }
+recorded_went b (Ok i) c h = record {
+  exprs = h.exprs;
+  labels = h.labels;
+  pats = h.pats;
+  types = h.types;
+  lifetimes = h.lifetimes;
+  bindings = h.bindings;
+}
 recorded_went b (Err x) c h = h
 
 root_stays : (e : OptionExpr) (b : Builder) → Stays b.stored (root_of e b).1.stored
@@ -73,8 +80,10 @@ root_stays e b =
     rw (root_steps e b)
     (record {
       extends = recorded_stays b o c (keeping e (closed b));
+      bindings = ways.bindings;
       exprs = ways.exprs.ways;
       labels = ways.labels.ways;
+      pats = ways.pats.ways;
       types = ways.types.ways;
       lifetimes = ways.lifetimes.ways;
     })
@@ -154,8 +163,8 @@ root_rooted e b b' i d h =
       faults = faults.is;
       permuted = faults.permuted;
       blocks = blocks_are e (closed b) i p.inner paired p.is;
-      paired = record { exprs = after.exprs; labels = after.labels; types = after.types; lifetimes = after.lifetimes };
-      mapped = λ m. let x = kept.mapped paired m in record { types = x.types; lifetimes = x.lifetimes };
+      paired = record { exprs = after.exprs; labels = after.labels; pats = after.pats; types = after.types; lifetimes = after.lifetimes };
+      mapped = λ m. let x = kept.mapped paired m in record { pats = x.pats; types = x.types; lifetimes = x.lifetimes };
     })
 
 pub rooted_if : (e : OptionExpr) (b b' : Builder) (r : Checked ExprId) → Lowers HasExpr (root_of e) b r b' → Paired b.stored

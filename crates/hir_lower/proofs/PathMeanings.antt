@@ -128,8 +128,10 @@ module _ (at : Spot) (x : AstPath) (b b' : Builder) where
       let o = lower_path (whole_path at x) b in
       let ways : Went b.stored o.1.stored = went (option_path_leads (whole_path at x)) b in record {
         extends = extends_of b o.0 o.1 (paths_keep (whole_path at x) b);
+        bindings = ways.bindings;
         exprs = ways.exprs.ways;
         labels = ways.labels.ways;
+        pats = ways.pats.ways;
         types = ways.types.ways;
         lifetimes = ways.lifetimes.ways;
       }

@@ -13,7 +13,6 @@ use Rattle.hir_syntax.specs.declared.ast.Name.{Name as AstName}
 use Rattle.hir_syntax.specs.declared.ast.Path.{Path as AstPath}
 use Rattle.hir_syntax.specs.declared.ast.RecordExprFieldList.{RecordExprFieldList as AstFieldList}
 use Rattle.hir_syntax.specs.declared.types.Type_.{Type_ as AstType_}
-use Rattle.hir_syntax.specs.declared.types.GenericArgList.{GenericArgList as AstGenericArgList}
 use Rattle.hir_base.specs.declared.op.BinaryOp.{BinaryOp}
 use Rattle.hir_base.specs.declared.op.UnaryOp.{UnaryOp}
 use Rattle.hir_syntax.specs.declared.branches.MatchArm.{MatchArm as AstMatchArm}
@@ -22,6 +21,7 @@ use Rattle.hir_base.specs.declared.op.RangeOp.{RangeOp}
 use Rattle.hir_base.specs.declared.node.PredId.{PredId}
 use Rattle.hir_env.specs.Layers.{ExprKindLayer}
 use Rattle.hir_env.specs.Whole.{written}
+use Rattle.hir_env.specs.Wrapped.{AstGenericArgList}
 use Rattle.hir_lower_form.specs.Families.{IsControl, IsMatching, IsListing, IsAccess, IsOperator, IsLeaving, IsTyped, IsLeaf}
 
 made : (k : AstExprKind) (l : ExprKindLayer written) → out-ExprKind k ≡ l → k ≡ roll-ExprKind l

@@ -1,9 +1,8 @@
 //! `let`, as a condition and as a statement.
 
-ghost use Rattle.hir_syntax.specs.declared.branches.LetElse.{out-LetElse};
 ghost use Rattle.hir_env.specs.Answered as tree;
 ghost use Rattle.hir_env.specs.Answering.{asked_stmt, site_of};
-ghost use Rattle.hir_env.specs.Whole.{answered_let_else, expr_part, let_else_level, let_else_part, pat_part, type_part};
+ghost use Rattle.hir_env.specs.Whole.{answered_let_else, expr_part, let_else_part, pat_part, type_part};
 ghost use Rattle.hir_lower_form.specs.Nests.{IfPresent, KidsLetElse};
 ghost use Rattle.hir_lower_form.specs.Methods.{LowersBlockIfPresent, LowersExpr, LowersStmt};
 
@@ -42,24 +41,13 @@ fn else_block<P: LowerParts>(
     state: &mut BodyBuilder,
     node: &ast::LetElse,
 ) -> Result<Option<ExprId>, StoreFault>
-    requires { KidsLetElse (P.can lowerer.now.parts) (out-LetElse node.now) }
-    ensures { LowersBlockIfPresent (let_else_level (P.spot lowerer.now.parts) node.now) state.old result state.new }
+    requires { KidsLetElse (P.can lowerer.now.parts) node.now }
+    ensures { LowersBlockIfPresent (answered_let_else (P.spot lowerer.now.parts) node.now) state.old result state.new }
 {
-    match &node.block {
+    match node {
         None => Ok(None),
         Some(block) => Ok(Some(lowerer.collect_block(state, block.get())?)),
     }
-}
-
-fn else_branch<P: LowerParts>(
-    lowerer: &Lowerer<P>,
-    state: &mut BodyBuilder,
-    node: &ast::LetElse,
-) -> Result<Option<ExprId>, StoreFault>
-    requires { KidsLetElse (P.can lowerer.now.parts) (out-LetElse node.now) }
-    ensures { LowersBlockIfPresent (answered_let_else (P.spot lowerer.now.parts) node.now) state.old result state.new }
-{
-    else_block(lowerer, state, node)
 }
 
 fn else_if_present<P: LowerParts>(
@@ -67,12 +55,12 @@ fn else_if_present<P: LowerParts>(
     state: &mut BodyBuilder,
     part: &Option<ast::LetElse>,
 ) -> Result<Option<ExprId>, StoreFault>
-    requires { IfPresent (λ e. KidsLetElse (P.can lowerer.now.parts) (out-LetElse e)) part.now }
+    requires { IfPresent (KidsLetElse (P.can lowerer.now.parts)) part.now }
     ensures { LowersBlockIfPresent (let_else_part (P.spot lowerer.now.parts) part.now) state.old result state.new }
 {
     match part {
         None => Ok(None),
-        Some(part) => else_branch(lowerer, state, part),
+        Some(part) => else_block(lowerer, state, part),
     }
 }
 
@@ -89,7 +77,7 @@ fn kept_let<P: LowerParts>(
     requires pat { IfPresent ((P.can lowerer.now.parts).pat (P.spot lowerer.now.parts).place) pat.now }
     requires ty { IfPresent ((P.can lowerer.now.parts).type_ (P.spot lowerer.now.parts).place) ty.now }
     requires init { IfPresent (P.can lowerer.now.parts).expr init.now }
-    requires else_ { IfPresent (λ e. KidsLetElse (P.can lowerer.now.parts) (out-LetElse e)) else_.now }
+    requires else_ { IfPresent (KidsLetElse (P.can lowerer.now.parts)) else_.now }
     ensures { let spot = P.spot lowerer.now.parts in
         LowersStmt (tree.let_stmt
         (pat_part spot pat.now)
@@ -122,7 +110,7 @@ pub(crate) fn let_stmt<P: LowerParts>(
     requires pat { IfPresent ((P.can lowerer.now.parts).pat (P.spot lowerer.now.parts).place) pat.now }
     requires ty { IfPresent ((P.can lowerer.now.parts).type_ (P.spot lowerer.now.parts).place) ty.now }
     requires init { IfPresent (P.can lowerer.now.parts).expr init.now }
-    requires else_ { IfPresent (λ e. KidsLetElse (P.can lowerer.now.parts) (out-LetElse e)) else_.now }
+    requires else_ { IfPresent (KidsLetElse (P.can lowerer.now.parts)) else_.now }
     ensures { let spot = P.spot lowerer.now.parts in
         LowersStmt (asked_stmt at (spot.answers.cfg (site_of at)) (tree.let_stmt
         (pat_part spot pat.now)

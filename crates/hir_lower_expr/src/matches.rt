@@ -1,15 +1,13 @@
 //! `match`, and its arms.
 
 ghost use Rattle.std.specs.Prelude.{[]};
-ghost use Rattle.hir_syntax.specs.declared.branches.Guard.{out-Guard};
 ghost use Rattle.hir_syntax.specs.declared.branches.MatchArm.{out-MatchArm};
 ghost use Rattle.hir_store.specs.Range.{HasArms, HasExprOption};
 ghost use Rattle.hir_env.specs.Answered as tree;
-ghost use Rattle.hir_env.specs.Whole.{answered_arm, answered_guard, arm_level, arms_or_none_part, arms_part, expr_part};
-ghost use Rattle.hir_env.specs.Whole.{guard_level, guard_part, pat_part};
+ghost use Rattle.hir_env.specs.Whole.{answered_arm, arm_level, arms_or_none_part, arms_part, expr_part, guard_part, pat_part};
 ghost use Rattle.hir_lower_form.specs.Lowering.{Lowers};
 ghost use Rattle.hir_lower_form.specs.Lower as spec;
-ghost use Rattle.hir_lower_form.specs.Methods.{HasArmOption, LowersExpr, LowersExprOpt};
+ghost use Rattle.hir_lower_form.specs.Methods.{HasArmOption, LowersExpr};
 ghost use Rattle.hir_lower_form.specs.Nests.{IfPresent, KidsArm, KidsArms, KidsGuard};
 
 use hir_base::node::{AstPtr, InFile};
@@ -23,41 +21,18 @@ use hir_store::ids::ExprId;
 use hir_store::lists::push_arm;
 use hir_syntax::{Boxed, Seq, ast};
 
-/// The condition of a guard, missing where the guard has none.
-fn condition_form<P: LowerParts>(
-    lowerer: &Lowerer<P>,
-    state: &mut BodyBuilder,
-    node: &ast::Guard,
-) -> Result<ExprId, StoreFault>
-    requires { KidsGuard (P.can lowerer.now.parts) (out-Guard node.now) }
-    ensures { LowersExprOpt (guard_level (P.spot lowerer.now.parts) node.now) state.old result state.new }
-{
-    lowerer.collect_expr_opt(state, &node.condition)
-}
-
-fn condition<P: LowerParts>(
-    lowerer: &Lowerer<P>,
-    state: &mut BodyBuilder,
-    node: &ast::Guard,
-) -> Result<ExprId, StoreFault>
-    requires { KidsGuard (P.can lowerer.now.parts) (out-Guard node.now) }
-    ensures { LowersExprOpt (answered_guard (P.spot lowerer.now.parts) node.now) state.old result state.new }
-{
-    condition_form(lowerer, state, node)
-}
-
-/// The condition of an arm's guard, where it has a guard.
+/// The condition of an arm's guard, missing where the guard has none.
 fn guard<P: LowerParts>(
     lowerer: &Lowerer<P>,
     state: &mut BodyBuilder,
     part: &Option<ast::Guard>,
 ) -> Result<Option<ExprId>, StoreFault>
-    requires { IfPresent (λ g. KidsGuard (P.can lowerer.now.parts) (out-Guard g)) part.now }
+    requires { IfPresent (KidsGuard (P.can lowerer.now.parts)) part.now }
     ensures { Lowers HasExprOption (spec.lower_guard (guard_part (P.spot lowerer.now.parts) part.now)) state.old result state.new }
 {
     match part {
         None => Ok(None),
-        Some(guard) => Ok(Some(condition(lowerer, state, guard)?)),
+        Some(condition) => Ok(Some(lowerer.collect_expr_opt(state, condition)?)),
     }
 }
 

@@ -9,6 +9,7 @@ pub use Rattle.hir_store.specs.Storing.{Checked}
 use Rattle.hir_store.specs.declared.fault.StoreFault.TheVariants.{Memory, Full}
 use Rattle.hir_binding.specs.declared.binding.BindingProblems.{BindingProblems}
 use Rattle.hir_store.specs.declared.hir.Expr.{Expr}
+use Rattle.hir_store.specs.declared.name.Name.{Name}
 use Rattle.hir_store.specs.declared.pat.Binding.{Binding}
 use Rattle.hir_store.specs.declared.pat.Pat.{Pat}
 use Rattle.hir_store.specs.declared.type_ref.TypeRef.{TypeRef}
@@ -25,6 +26,8 @@ use Rattle.hir_store.specs.declared.diagnostics.ExpressionStoreDiagnostics.TheVa
 use Rattle.hir_store.specs.declared.diagnostics.ExpressionStoreDiagnostics.TheVariants.{UndeclaredLabel, UnreachableLabel}
 use Rattle.hir_store.specs.declared.diagnostics.AwaitLocation.{AwaitLocation}
 use Rattle.hir_scope.specs.Ribs.{label_rib, barrier_rib, Target, reachable, unreachable, undeclared, target}
+use Rattle.hir_lower_scope.specs.declared.labels.NoTarget.{NoTarget}
+use Rattle.hir_lower_scope.specs.declared.labels.NoTarget.TheVariants as no
 use Rattle.hir_lower_scope.specs.Labels.{rest}
 use Rattle.hir_env.specs.Answered.{Label, Jump}
 use Rattle.hir_lower_form.specs.Builder.{Builder}
@@ -140,14 +143,21 @@ close = λ b. (Ok tt, record b { scopes = rest b.scopes })
 unfoldable pub close_labels : Lowering (Unit {0})
 close_labels = λ b. (Ok tt, record b { scopes = [] })
 
+-- what is wrong with a jump that has no target
+abbrev pub jump_fault : NoTarget → Pointer → Name → ExpressionStoreDiagnostics
+jump_fault no.Unreachable node name = UnreachableLabel node name
+jump_fault no.Undeclared node name = UndeclaredLabel node name
+
+-- none, and a fault
+abbrev pub no_target : NoTarget → Pointer → Name → Lowering (Option LabelId)
+no_target cause node name = do
+  report (jump_fault cause node name)
+  pure None
+
 abbrev pub found_or_fault : Jump → Target LabelId → Lowering (Option LabelId)
 found_or_fault j (reachable id) = pure (Some id)
-found_or_fault j unreachable = do
-  report (UnreachableLabel j.pointer j.name)
-  pure None
-found_or_fault j undeclared = do
-  report (UndeclaredLabel j.pointer j.name)
-  pure None
+found_or_fault j unreachable = no_target no.Unreachable j.pointer j.name
+found_or_fault j undeclared = no_target no.Undeclared j.pointer j.name
 
 -- the label that the jump is for, or none and a fault; an unlabelled jump has none
 unfoldable pub jump_target : Option Jump → Lowering (Option LabelId)

@@ -128,6 +128,14 @@ PatSteps = Table → Lowering (PatId × Table)
 unfoldable pub missing_pat : Lowering PatId
 missing_pat = alloc_pat pat.Missing None
 
+-- what no written pattern is stays missing, from no node
+abbrev pub unwritten_pattern : Lowering PatId
+unwritten_pattern = missing_pat
+
+-- what no written side of a range is stays absent
+abbrev pub unwritten_side : Lowering (Option ExprId)
+unwritten_side = pure None
+
 abbrev pub stored_pat_leaf : PatLeaf → HirPat
 stored_pat_leaf tree.wild_leaf = pat.Wild
 stored_pat_leaf tree.rest_leaf = pat.Rest

@@ -65,6 +65,16 @@ impl Model for BodyBuilder {
         RibsExist (record { stored = b.store; scopes = b.scopes; counted_out = b.counted_out; in_root = b.in_root }) };
 }
 
+/// What is wrong with a jump of this name, at this node, that has no target.
+fn jump_fault(cause: NoTarget, name: Name, node: InFile<AstPtr>) -> ExpressionStoreDiagnostics
+    ensures { result ≡ spec.jump_fault cause node name }
+{
+    match cause {
+        NoTarget::Unreachable => ExpressionStoreDiagnostics::UnreachableLabel { node, name },
+        NoTarget::Undeclared => ExpressionStoreDiagnostics::UndeclaredLabel { node, name },
+    }
+}
+
 impl BodyBuilder {
     /// A builder that has stored nothing, with this limit for each arena. It takes no memory.
     pub fn new(alloc: Global, limit: u32) -> BodyBuilder
@@ -350,8 +360,20 @@ impl BodyBuilder {
         self.scopes = LabelScopes::new(alloc);
     }
 
+    /// Reports that a jump of this name has no target.
+    fn no_target(
+        &mut self,
+        cause: NoTarget,
+        name: Name,
+        source: InFile<AstPtr>,
+    ) -> Result<Option<LabelId>, StoreFault>
+        ensures { Lowers HasLabelOption (spec.no_target cause source name) self.old result self.new }
+    {
+        self.report(jump_fault(cause, name, source))?;
+        Ok(None)
+    }
+
     /// The label that a jump of this name and this hygiene is for, or none and a fault at the node.
-    #[tactic(auto, using(crate::proofs::Ribs::found_lowers), unfolding(crate::specs::Lowering::jump_target))]
     pub fn jump_target<P: LowerParts>(
         &mut self,
         parts: &P,
@@ -364,14 +386,7 @@ impl BodyBuilder {
     {
         match parts.find_label(&self.scopes, &name, hygiene) {
             Ok(label) => Ok(Some(label)),
-            Err(NoTarget::Unreachable) => {
-                self.report(ExpressionStoreDiagnostics::UnreachableLabel { node: source, name })?;
-                Ok(None)
-            }
-            Err(NoTarget::Undeclared) => {
-                self.report(ExpressionStoreDiagnostics::UndeclaredLabel { node: source, name })?;
-                Ok(None)
-            }
+            Err(cause) => self.no_target(cause, name, source),
         }
     }
 

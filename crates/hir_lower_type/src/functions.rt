@@ -5,7 +5,7 @@ ghost use Rattle.hir_syntax.specs.declared.types.Param.{out-Param};
 ghost use Rattle.hir_store.specs.Range.{HasType, HasTypeOption};
 ghost use Rattle.hir_env.specs.Answered as tree;
 ghost use Rattle.hir_env.specs.Paths as of;
-ghost use Rattle.hir_env.specs.Whole.{answer_part, answered_param, names_part, param_level, params_part, ret_level, varargs_part};
+ghost use Rattle.hir_env.specs.Whole.{answer_part, answered_param, names_part, param_level, params_part, varargs_part};
 ghost use Rattle.hir_lower_form.specs.Lowering.{Lowers};
 ghost use Rattle.hir_lower_form.specs.Lower as spec;
 ghost use Rattle.hir_lower_form.specs.Methods.{LowersParts, LowersType};
@@ -167,25 +167,7 @@ fn is_varargs<P: LowerParts>(lowerer: &Lowerer<P>, all: &Option<Seq<ast::Param>>
     }
 }
 
-fn answer_type<P: LowerParts>(
-    lowerer: &Lowerer<P>,
-    state: &mut BodyBuilder,
-    node: &ast::RetType,
-) -> Result<TypeRefId, StoreFault>
-    requires { KidsRet (P.can lowerer.now.parts) (P.spot lowerer.now.parts).place node.now }
-    ensures { Lowers HasType (spec.type_or_unit (ret_level (P.spot lowerer.now.parts) node.now)) state.old result state.new }
-{
-    match &node.ty {
-        None => state.unit_type(lowerer.alloc),
-        Some(ty) => {
-            let place = lowerer.parts.place();
-            lowerer.parts.lower_type(state, place, &None, ty.get())
-        }
-    }
-}
-
 /// What a function pointer returns: `()` where no type is written.
-#[tactic(auto, using(hir_env::proofs::PathLevels::ret_is_level))]
 fn answer<P: LowerParts>(
     lowerer: &Lowerer<P>,
     state: &mut BodyBuilder,
@@ -195,8 +177,11 @@ fn answer<P: LowerParts>(
     ensures { Lowers HasType (spec.type_or_unit (answer_part (P.spot lowerer.now.parts) ret.now)) state.old result state.new }
 {
     match ret {
-        None => state.unit_type(lowerer.alloc),
-        Some(ret) => answer_type(lowerer, state, ret),
+        None | Some(None) => state.unit_type(lowerer.alloc),
+        Some(Some(ty)) => {
+            let place = lowerer.parts.place();
+            lowerer.parts.lower_type(state, place, &None, ty.get())
+        }
     }
 }
 

@@ -1,6 +1,6 @@
 use Rattle.std.proofs.Common.{arith, ◌∙◌, sym}
 use Rattle.hir_lower_form.specs.Builder.{Builder}
-use Rattle.hir_lower_form.proofs.Ribs.{found_lowers}
+use Rattle.hir_lower_form.proofs.Ribs.{found_lowers, missed_lowers}
 use Rattle.hir_lower_form.proofs.builder.BodyBuilder.jump_target.Goals as goal
 
 pub returns-in-Ok : goal.returns-in-Ok
@@ -15,3 +15,6 @@ returns-in-Ok g c =
     let is = sym c.find_label.ensures ∙ c.in-Ok.is in
     let h = found_lowers b env c.args.source c.args.name c.args.hygiene c.in-Ok.label is c.self.invariant in
     rw (← c.self.view_is) (h.0, (omega arith, omega arith, omega arith, omega arith, omega arith, omega arith), h.1)
+
+pub returns-in-Err : goal.returns-in-Err
+returns-in-Err g c = ?
