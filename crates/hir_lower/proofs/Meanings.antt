@@ -39,10 +39,10 @@ use Rattle.hir_lower.proofs.TreeWays.{part_leads}
 use Rattle.hir_lower.specs.Means.{Rooted, HasBody, body_fault, unless_skipped, missing_fault, owed_faults}
 
 -- inside of a root no label is open
-abbrev closed : Builder → Builder
+abbrev pub closed : Builder → Builder
 closed b = record b { scopes = []; in_root = true }
 
-abbrev rooted : Builder → ExprId → Builder
+abbrev pub rooted : Builder → ExprId → Builder
 rooted b i = record b {
   stored = record b.stored { roots = b.stored.roots ++ root_at (store_of b.stored) i ∷ [] };
   in_root = false;

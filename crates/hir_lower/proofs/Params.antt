@@ -16,7 +16,7 @@ use Rattle.hir_store.specs.declared.pat.Binding.{Binding}
 use Rattle.hir_store.proofs.Extending.{extends_root, extends_trans}
 use Rattle.hir_store.proofs.Arenas.{prefix_trans}
 use Rattle.hir_env.specs.Answered as tree
-use Rattle.hir_env.specs.Answered.{Formal, Formals, OptionExpr, SelfFormal, Use}
+use Rattle.hir_env.specs.Answered.{Formal, Formals, OptionExpr, SelfFormal}
 use Rattle.hir_data.specs.Data.{PatData}
 use Rattle.hir_data.specs.Patterns.{written_pat}
 use Rattle.hir_data.specs.Reading.{stored_pat}
@@ -37,11 +37,11 @@ use Rattle.hir_read_back.proofs.PatTree.{PatNow, top_now}
 use Rattle.hir_lower.specs.Formals.{Given, each_formal, lower_formal, lower_formals, lower_self}
 use Rattle.hir_lower.specs.Means.{HasParams, body_fault, formals_read, receiver_read}
 use Rattle.hir_lower.specs.Roots.{GivenFromNothing, StoresFromNothing, as_written, behind, body_of, fresh, report_missing}
+use Rattle.hir_lower.specs.declared.body.Body.{Body}
 use Rattle.hir_lower.specs.declared.body.Param.{Param}
 use Rattle.hir_lower.proofs.Meanings.{closed, rooted}
-use Rattle.hir_lower.proofs.PatWays.{bound_if, leading_alloc_binding}
 use Rattle.hir_lower.proofs.TreeWays.{part_leads, top_leads}
-use Rattle.hir_lower.proofs.Ways.{Leading, Went, any as whatever, then', went, leading_pure, leading_report}
+use Rattle.hir_lower.proofs.Ways.{Leading, Went, bound_if, any as whatever, then', went, leading_pure, leading_report}
 
 -- patterns
 
@@ -272,3 +272,26 @@ self_handed_in : {A : Type 0} (o : Option A)
     → option_map (λ p. p.formal) (option_map as_written o) ≡ option_map (λ p. p.user_written) (option_map as_written o)
 self_handed_in None = refl
 self_handed_in (Some a) = refl
+
+module _ (skipped : Bool) (node : Pointer) (k : Option MissingBodyItemKind) (f : Formals) (e : OptionExpr) (limit : ℕ) where
+  params : (b : Body) (store : Store) (source_map : SourceMap) → StoresFromNothing (body_of skipped node k f e) limit store source_map
+      → GivenFromNothing (body_of skipped node k f e) limit b → HasParams store source_map b.params b.self_param skipped f
+  params b store source_map s g =
+      let now = g.builder.stored in
+      let read = body_reads skipped node k f e limit g.builder g.given g.root g.done in
+      let same : s.builder.stored ≡ now = ap (λ (q : Checked (Given × ExprId) × Builder). q.1.stored) (sym s.done ∙ g.done) in
+      let P : Store → Type 0 = λ x. HasParams x source_map b.params b.self_param skipped f in
+      let Q : SourceMap → Type 0 = λ x. HasParams (store_of now) x b.params b.self_param skipped f in
+      subst P (sym (s.store_is ∙ ap store_of same)) (subst Q (sym (s.source_map_is ∙ ap map_of same)) (rw (g.params, g.receiver) (record {
+        patterns = written_of (stored_pat (store_of now) (map_of now)) g.given.1 ∙ read.patterns;
+        binding = self_written (λ i. slice_get now.bindings.entries i.0) g.given.0 ∙ read.binding;
+        handed_in = formal_is_written g.given.1;
+        handed_self = self_handed_in g.given.0;
+      })))
+
+  pub params_if : {A E : Type 0} (body : A → Body) (store : A → Store) (source_map : A → SourceMap) (r : Result A E)
+      → IfOk r (λ a. StoresFromNothing (body_of skipped node k f e) limit (store a) (source_map a))
+      → IfOk r (λ a. GivenFromNothing (body_of skipped node k f e) limit (body a))
+      → IfOk r (λ a. HasParams (store a) (source_map a) (body a).params (body a).self_param skipped f)
+  params_if body store source_map (Ok a) s g = params (body a) (store a) (source_map a) s g
+  params_if body store source_map (Err x) s g = tt

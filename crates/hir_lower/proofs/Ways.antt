@@ -329,7 +329,7 @@ leading_alloc_pat p source = record { goes = λ b. by b (nat_lt (length b.stored
 abbrev pub new : Low BindingId
 new s b = length s.bindings.entries ≤ b.0
 
-abbrev bound_if : Bool → Binding → Bindings → Checked BindingId × Bindings
+abbrev pub bound_if : Bool → Binding → Bindings → Checked BindingId × Bindings
 bound_if room x a = if room then (Ok (binding_id (length a.entries)), with_binding a x) else (Err Full, a)
 
 pub leading_alloc_binding : (x : Binding) → Leading new (alloc_binding x)
