@@ -20,14 +20,14 @@ use Rattle.hir_env.specs.Paths as of
 use Rattle.hir_env.specs.Answered as tree
 use Rattle.hir_env.specs.Answered.{FnHead, Type_, OptionType, Parts, Segment, SegmentArgs, Arg}
 use Rattle.hir_env.specs.Whole.{written, reader}
-use Rattle.hir_env.specs.Whole.{answered_type, answered_param, answered_ret, answered_path, answered_segment, answered_path_type}
-use Rattle.hir_env.specs.Whole.{answered_paren_args, answered_arg_list, answered_arg, answered_type_arg, answered_assoc_arg}
+use Rattle.hir_env.specs.Whole.{answered_type, answered_param, answered_path, answered_segment, answered_path_type}
+use Rattle.hir_env.specs.Whole.{answered_arg, answered_assoc_arg}
 use Rattle.hir_env.specs.Whole.{answered_bound, in_impl, in_binding}
-use Rattle.hir_env.proofs.PathLevels.{type_is_level, param_is_level, ret_is_level, path_is_level, segment_is_level, path_type_is_level}
-use Rattle.hir_env.proofs.PathLevels.{paren_args_is_level, arg_list_is_level, arg_is_level, type_arg_is_level, assoc_arg_is_level}
+use Rattle.hir_env.proofs.PathLevels.{type_is_level, param_is_level, path_is_level, segment_is_level, path_type_is_level}
+use Rattle.hir_env.proofs.PathLevels.{arg_is_level, assoc_arg_is_level}
 use Rattle.hir_env.proofs.PathLevels.{bound_is_level}
 use Rattle.hir_data.specs.Written.{type_data}
-use Rattle.hir_data.specs.Trees.{type_at, with_argument, type_arg_of, binding_of, ret_of, fn_trait, impl_at, never_at, bare}
+use Rattle.hir_data.specs.Trees.{type_at, with_argument, type_arg_of, binding_of, fn_trait, impl_at, never_at, bare}
 use Rattle.hir_data.specs.Trees.{free, pointer, ImplsInside, reads_lifetime, LifetimesOfTexts, reads_abi, AbisOfTexts, fn_at}
 use Rattle.hir_data.specs.Trees.{plain_param, dots_param, VarargsAtTheEnd}
 
@@ -118,11 +118,10 @@ module _ (at : Spot) where
   with_argument_is : (a : AstGenericArg)
       → answered_segment at (with_argument (codes "A") a) ≡ segment_with (codes "A") (list_with (answered_arg at a))
   with_argument_is a = segment_made at _
-      ∙ ap (λ l. segment_with (codes "A") (tree.segment_args (tree.some_arg_list l) tree.no_parens false)) (arg_list_made at _)
 
   type_argument_is : (t : AstType_)
       → answered_arg at (roll-GenericArg (GenericArg-F.TypeArg (type_arg_of t))) ≡ tree.type_arg (tree.some_type (answered_type at t))
-  type_argument_is t = arg_made at _ ∙ ap tree.type_arg (type_arg_made at _)
+  type_argument_is t = arg_made at _
 
   binding_is : (n : List ℕ) (t : AstType_)
       → answered_arg at (binding_of n t)
@@ -133,9 +132,6 @@ module _ (at : Spot) where
       → answered_segment at (fn_trait (codes "Fn") a b)
       ≡ segment_with (codes "Fn") (parens_with (only_part (tree.some_type (answered_type at a))) (tree.some_type (answered_type at b)))
   fn_trait_is a b = segment_made at _
-      ∙ (ap (λ ps. segment_with (codes "Fn") (parens_with ps (answered_ret at (ret_of b))))
-      (paren_args_made at _ ∙ ap only_part (type_arg_made at _))
-      ∙ ap (λ r. segment_with (codes "Fn") (parens_with (only_part (tree.some_type (answered_type at a))) r)) (ret_made at _))
 
 -- `Fn(t) -> r`
 abbrev fn_of : Type_ → Type_ → Segment

@@ -1,5 +1,5 @@
 -- Worked patterns.
-use Rattle.std.specs.Prelude.{◌≡◌, codes, Bool, true, false, List, [], ◌∷◌, Option, Some, None}
+use Rattle.std.specs.Prelude.{◌≡◌, codes, true, false, List, [], ◌∷◌, Option, Some, None}
 use Rattle.hir_syntax.specs.declared.ast.Literal.{Literal}
 use Rattle.hir_base.specs.declared.op.RangeOp.{RangeOp}
 use Rattle.hir_base.specs.declared.op.RangeOp.TheVariants.{Inclusive}

@@ -1,5 +1,5 @@
 -- The data of what is assigned to. Of a place it only says that one is there.
-use Rattle.std.specs.Prelude.{ℕ, suc, [], Option, Some, None, option_map}
+use Rattle.std.specs.Prelude.{ℕ, suc, Option, Some, None, option_map}
 use Rattle.hir_store.specs.Pointers.{Pointer}
 use Rattle.hir_store.specs.declared.ids.HygieneId.{HygieneId}
 use Rattle.hir_env.specs.Answered as tree

@@ -180,6 +180,12 @@ record Steps (p : Lowering Given) (e : OptionExpr) (b : Builder) (given : Given)
 abbrev ended : Given → ExprId → Lowering (Given × ExprId)
 ended given i = λ t. (Ok (given, i), rooted t i)
 
+both_same : {A B E : Type 0} (a c : A) (x y : B) → ◌≡◌ {A = Result (A × B) E} (Ok (a, x)) (Ok (c, y)) → (a ≡ c) × (x ≡ y)
+both_same a c x y h = (cc, cc)
+
+not_refused : {A E : Type 0} (e : E) (a : A) → ◌≡◌ {A = Result A E} (Err e) (Ok a) → ⊥
+not_refused e a h = cc
+
 steps : (p : Lowering Given) (e : OptionExpr) (b b' : Builder) (given : Given) (i : ExprId) → behind p e b ≡ (Ok (given, i), b')
     → Steps p e b given i b'
 unfolding behind close_labels enter_root record_root outside_root storing.record_root
@@ -188,22 +194,20 @@ steps p e b b' given i h = first (p (closed b)).0 (p (closed b)).1 refl h
     second : (g : Given) (c : Builder) → p (closed b) ≡ (Ok g, c) → (o : Checked ExprId) (d : Builder) → lower_part e c ≡ (o, d)
         → go_on o d (ended g) ≡ (Ok (given, i), b') → Steps p e b given i b'
     second g c f (Ok j) d is k =
-        let ok = ap (λ (q : Checked (Given × ExprId) × Builder). q.0) k in
-        let end = ap (λ (q : Checked (Given × ExprId) × Builder). q.1) k in
-        let same_given : g ≡ given = cc in
-        let same : j ≡ i = cc in record {
+        let same = both_same g given j i (ap (λ (q : Checked (Given × ExprId) × Builder). q.0) k) in
+        let end = ap (λ (q : Checked (Given × ExprId) × Builder). q.1) k in record {
           middle = c;
           inner = d;
-          formals = f ∙ ap (λ x. (Ok x, c)) same_given;
-          body = is ∙ ap (λ x. (Ok x, d)) same;
-          left = sym (ap (rooted d) same) ∙ end;
+          formals = f ∙ ap (λ x. (Ok x, c)) same.0;
+          body = is ∙ ap (λ x. (Ok x, d)) same.1;
+          left = sym (ap (rooted d) same.1) ∙ end;
         }
-    second g c f (Err x) d is k = let no = ap (λ (q : Checked (Given × ExprId) × Builder). q.0) k in cc
+    second g c f (Err x) d is k = absurd (not_refused x (given, i) (ap (λ (q : Checked (Given × ExprId) × Builder). q.0) k))
 
     first : (o : Checked Given) (c : Builder) → p (closed b) ≡ (o, c)
         → go_on o c (λ g. lower_part e >>= ended g) ≡ (Ok (given, i), b') → Steps p e b given i b'
     first (Ok g) c f k = second g c f (lower_part e c).0 (lower_part e c).1 refl k
-    first (Err x) c f k = let no = ap (λ (q : Checked (Given × ExprId) × Builder). q.0) k in cc
+    first (Err x) c f k = absurd (not_refused x (given, i) (ap (λ (q : Checked (Given × ExprId) × Builder). q.0) k))
 
 record ReadAs (skipped : Bool) (f : Formals) (given : Given) (s : Stored) : Type 0 where
   patterns : map (stored_pat (store_of s) (map_of s)) given.1 ≡ data_of skipped f.formals

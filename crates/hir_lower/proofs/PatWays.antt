@@ -78,7 +78,8 @@ abbrev pub Handing : {A : Type 0} → (Table → Lowering (A × Table)) → Type
 Handing p = (t : Table) → Leading (names t) (p t)
 
 pub unnamed : {A : Type 0} (a : A) (t : Table) → Leading (names t) (pure (a, t))
-unnamed a t = record { goes = λ b. (((leading_pure (a, t)).goes b).0, none_new t.bindings b.stored) }
+unnamed {A = A} a t =
+    record { goes = λ b. (((leading_pure {A = A × Table} (a, t)).goes b).0, none_new t.bindings b.stored) }
 
 -- what uses names, and then what goes on with them
 pub then_names : {A B : Type 0} {p : Lowering (A × Table)} {f : A × Table → Lowering (B × Table)} (t : Table) → Leading (names t) p

@@ -72,7 +72,7 @@ pub record Lives (old new later : Stored) (i : ExprId) (e : OptionExpr) : Type 0
   pub labels : length new.labels.entries ≡ length old.labels.entries + label_ways ways
   pub reached_once : (depth : ℕ) → length later.exprs.entries ≤ depth
       → Spread (length old.exprs.entries) (length new.exprs.entries)
-      (of_each (reached_to later.exprs.entries depth) (i ∷ inner_bodies (store_of later) i))
+      (of_each (reached_to (store_of later) depth) (i ∷ inner_bodies (store_of later) i))
   pub types_reached_once : (depth : ℕ) → length later.types.entries ≤ depth
       → (more : List HirExpr) → new.exprs.entries ≡ old.exprs.entries ++ more
       → Spread (length old.types.entries) (length new.types.entries) (of_exprs (types_reached later.types.entries depth) more)
@@ -102,7 +102,7 @@ pub record HasBody (store : Store) (source_map : SourceMap) (e : OptionExpr) : T
   pub only : store.roots ≡ root ∷ []
   pub same : SameMeaning store source_map root.root e
   pub reached_once : (depth : ℕ) → length store.exprs ≤ depth
-      → Spread 0 (length store.exprs) (of_each (reached_to store.exprs depth) (root.root ∷ inner_bodies store root.root))
+      → Spread 0 (length store.exprs) (of_each (reached_to store depth) (root.root ∷ inner_bodies store root.root))
   pub types_reached_once : (depth : ℕ) → length store.types ≤ depth
       → Spread 0 (length store.types) (of_exprs (types_reached store.types depth) store.exprs)
 
@@ -164,7 +164,7 @@ pub record PathRooted (old new : Stored) (r : Option Path) (p : OptionPath) : Ty
       → Spread (length old.types.entries) (length new.types.entries) (of_present (of_path (types_reached later.types.entries depth)) r)
   pub inside_reached_once : (later : Stored) → Extends new later → (depth : ℕ) → length later.exprs.entries ≤ depth
       → Spread (length old.exprs.entries) (length new.exprs.entries)
-      (of_each (reached_to later.exprs.entries depth) (of_some (path_inner_bodies (store_of later)) r))
+      (of_each (reached_to (store_of later) depth) (of_some (path_inner_bodies (store_of later)) r))
   pub grown : Grown (whole_size p) old new
   pub paired : Paired new
   pub mapped : Mapped old → Mapped new

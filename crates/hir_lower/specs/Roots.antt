@@ -31,7 +31,7 @@ use Rattle.hir_env.specs.Answered as tree
 use Rattle.hir_env.specs.Answered.{Formals, OptionExpr}
 use Rattle.hir_lower_form.specs.Lowering.{Lowering, SomeEnd, ◌>>=◌, ◌>>◌, pure, close_labels, report, record_root, enter_root, outside_root}
 use Rattle.hir_lower_form.specs.Lower.{ExprSteps, lower_part}
-use Rattle.hir_lower_knot.specs.Spots.{spot_at}
+use Rattle.hir_lower_handlers.specs.Spots.{spot_at}
 use Rattle.hir_lower.specs.declared.body.Body.{Body}
 use Rattle.hir_lower.specs.declared.body.Param.{Param}
 use Rattle.hir_lower.specs.Formals.{Given, HasGiven, item_formals, lower_formals}

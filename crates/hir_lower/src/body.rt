@@ -10,7 +10,7 @@ ghost use Rattle.hir_env.specs.Whole.{expr_part};
 ghost use Rattle.hir_lower_form.specs.Lowering.{Lowers};
 ghost use Rattle.hir_one_result.specs.OneResult.{OneResult};
 ghost use Rattle.hir_one_result.specs.Room.{TooLarge};
-ghost use Rattle.hir_lower_knot.specs.Spots.{spot_at};
+ghost use Rattle.hir_lower_handlers.specs.Spots.{spot_at};
 ghost use Rattle.hir_lower.specs.Formals.{are_read, item_formals, lower_formals, outside_the_body, self_source};
 ghost use Rattle.hir_lower.specs.Means.{HasBody, HasParams, body_fault, body_owes, body_read, required_body};
 ghost use Rattle.hir_lower.specs.Roots.{GivenFromNothing, HasBehind, RefusedAtEnd, StoresFromNothing, await_location, behind, body_spot};

@@ -12,7 +12,7 @@ ghost use Rattle.hir_env.specs.TypePats.{bare_formal};
 ghost use Rattle.hir_env.specs.Whole.{pat_part};
 ghost use Rattle.hir_lower_form.specs.Lowering.{Lowers, alloc_binding};
 ghost use Rattle.hir_lower_form.specs.Pats.{new_binding};
-ghost use Rattle.hir_lower_knot.specs.Spots.{spot_at};
+ghost use Rattle.hir_lower_handlers.specs.Spots.{spot_at};
 ghost use Rattle.hir_lower.specs.Formals.{HasGiven, HasSelf, LowersFormal, bare_kind, each_formal, formal_as};
 ghost use Rattle.hir_lower.specs.Formals.{is_bare_ident, lower_formal, lower_formals, lower_self, self_source};
 

@@ -5,7 +5,7 @@ ghost use Rattle.hir_store.specs.Range.{HasType, InRange};
 ghost use Rattle.hir_lower_form.specs.Lower.{type_part};
 ghost use Rattle.hir_lower_form.specs.Lowering.{Lowers};
 ghost use Rattle.hir_type_result.specs.TypeResult.{TypeResult, TypeTooLarge};
-ghost use Rattle.hir_lower_knot.specs.Spots.{spot_at};
+ghost use Rattle.hir_lower_handlers.specs.Spots.{spot_at};
 ghost use Rattle.hir_lower.specs.Means.{whole_type};
 ghost use Rattle.hir_lower.specs.Roots.{AnswersFromNothing, RefusedAtEnd, type_spot};
 

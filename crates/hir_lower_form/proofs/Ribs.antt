@@ -46,7 +46,7 @@ found_lowers b env source name hygiene n e exist =
 -- what steps answer and leave where they start at this builder is what equal steps do
 lowers_as : {A : Type 0} (Has : Stored → A → Type 0) (p q : Lowering A) (b : Builder) → p b ≡ q b
     → (r : Checked A) (new : Builder) → Lowers Has q b r new → Lowers Has p b r new
-lowers_as Has p q b e (Ok a) new h = (e ∙ h.0, h.1)
+lowers_as Has p q b e (Ok a) new h = (e ∙ h.0, h.1, h.2)
 lowers_as Has p q b e (Err x) new h = λ k. (e ∙ (h k).0, (h k).1)
 
 abbrev JumpMissed : Builder → Jump → Target LabelId → Result LabelId NoTarget → Type 0

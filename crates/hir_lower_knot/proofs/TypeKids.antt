@@ -43,7 +43,7 @@ use Rattle.hir_lower_form.specs.Nests.{Claims, IfPresent, Each, KidsTypeArg, Kid
 use Rattle.hir_lower_form.specs.Nests.{Unless, KidsBinding, KidsAssoc, KidsType, KidsArg, KidsArgs, KidsParens, KidsSegmentArgs, KidsName}
 use Rattle.hir_lower_form.specs.Nests.{KidsQualified, KidsSegment, KidsSegments, KidsPath, const_expr}
 use Rattle.hir_lower_form.specs.Methods.{constant_at}
-use Rattle.hir_lower_knot.specs.Spots.{spot_at}
+use Rattle.hir_lower_handlers.specs.Spots.{spot_at}
 
 -- what holds of each node smaller than n, at whatever place it is read
 pub record Below (env : Answers) (C : Claims) (n : ℕ) : Type 0 where

@@ -1,5 +1,6 @@
 -- What patterns of each kind are.
-use Rattle.std.proofs.Common.{◌≡◌, ◌∙◌, absurd, ap, refl, sym, Bool, true, false, ◌&&◌, Option, Some, None}
+use Rattle.std.proofs.Common.{◌≡◌, ◌∙◌, ap, refl, sym, Bool, true, false, ◌&&◌, Option, Some, None}
+use Rattle.std.specs.Prelude.{if◌then◌else◌}
 use Rattle.hir_syntax.specs.declared.ast.ElseBranch.TheOpen.{PatKind-F}
 use Rattle.hir_syntax.specs.declared.pats.Pat.{Pat as AstPat}
 use Rattle.hir_syntax.specs.declared.ast.Path.{Path as AstPath}
@@ -13,7 +14,7 @@ use Rattle.hir_env.specs.Spot.{Spot}
 use Rattle.hir_env.specs.Answered as tree
 use Rattle.hir_env.specs.Answered.{OptionPat, Pat, Use}
 use Rattle.hir_env.specs.PatLayers.{PatKindLayer}
-use Rattle.hir_env.specs.Pats.{name_or_bind, pat_at, plain_side, side_of}
+use Rattle.hir_env.specs.Pats.{minus_fits, name_or_bind, pat_at, plain_side, side_of}
 use Rattle.hir_env.specs.TypePats.{is_plain}
 use Rattle.hir_env.specs.Whole.{answered_pat, pointer_at, reader, written}
 use Rattle.hir_env.proofs.PatLevels.{pat_is_level}
@@ -23,6 +24,11 @@ use Rattle.hir_lower_pat.specs.Methods.{IsPlain, is_rest, kind_at, lower_plain}
 
 abbrev level : Spot → PatKindLayer written → Pointer → Pat
 level at k s = pat_at at.answers (reader at.answers) k at.place s
+
+-- what is so of both is so of either
+pub of_either : {A : Type 0} (f : Pat → A) (b : Bool) (p q : Pat) (a : A) → f p ≡ a → f q ≡ a → f (if b then p else q) ≡ a
+of_either f true p q a h k = h
+of_either f false p q a h k = k
 
 -- ---- two dots
 
@@ -43,7 +49,7 @@ dots_at at (PatKind-F.DerefPat x) s = refl
 dots_at at (PatKind-F.RecordPat x fs dots) s = refl
 dots_at at (PatKind-F.SlicePat before x after) s = refl
 dots_at at (PatKind-F.LiteralPat None minus) s = refl
-dots_at at (PatKind-F.LiteralPat (Some l) minus) s = refl
+dots_at at (PatKind-F.LiteralPat (Some l) minus) s = of_either is_dots (minus_fits minus l.literal.lit) _ _ false refl refl
 dots_at at (PatKind-F.RangePat op low high) s = refl
 dots_at at (PatKind-F.CfgPredPat pred) s = refl
 dots_at at PatKind-F.WildcardPat s = refl
@@ -65,11 +71,16 @@ named_side false f s u q h = ap (λ b. plain_side b s u.name) h
 
 -- ---- patterns that know of no name
 
+either_plain : (b : Bool) (p q : Pat) (t : Table) → lower_pat p t ≡ alone (lower_plain p) t → lower_pat q t ≡ alone (lower_plain q) t
+    → lower_pat (if b then p else q) t ≡ alone (lower_plain (if b then p else q)) t
+either_plain true p q t h k = h
+either_plain false p q t h k = k
+
 plain_at : (at : Spot) (k : PatKindLayer written) (s : Pointer) (t : Table) → IsPlain k
     → lower_pat (level at k s) t ≡ alone (lower_plain (level at k s)) t
 plain_at at (PatKind-F.PathPat x) s t h = refl
 plain_at at (PatKind-F.LiteralPat None minus) s t h = refl
-plain_at at (PatKind-F.LiteralPat (Some l) minus) s t h = refl
+plain_at at (PatKind-F.LiteralPat (Some l) minus) s t h = either_plain (minus_fits minus l.literal.lit) _ _ t refl refl
 plain_at at (PatKind-F.RangePat op low high) s t h = refl
 plain_at at (PatKind-F.CfgPredPat pred) s t h = refl
 plain_at at PatKind-F.WildcardPat s t h = refl

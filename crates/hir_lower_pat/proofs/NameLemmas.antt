@@ -1,9 +1,10 @@
 -- What the bindings of a top pattern know of its names.
-use Rattle.std.proofs.Common.{arith, ◌≡◌, ◌≤◌, ◌<◌, ◌+◌, ℕ, zero, suc, Bool, true, false, cond, refl, sym, ap, ◌∙◌}
+use Rattle.std.proofs.Common.{arith, ◌≡◌, ◌≤◌, ◌<◌, ◌+◌, ℕ, zero, suc, Bool, true, false, cond, refl, ap}
 use Rattle.std.proofs.Common.{List, [], ◌∷◌, ◌++◌, length, Option, None, Some}
-use Rattle.std.specs.Prelude.{drop, nat_eq, nat_lt, slice_get, position, if◌then◌else◌, Result, Ok, Err, OnOk}
-use Rattle.std.specs.List.{position_or_len}
+use Rattle.std.specs.Prelude.{drop, nat_eq, slice_get, if◌then◌else◌, Result, Ok, Err, OnOk}
 use Rattle.std.specs.Map.{lookup}
+use Rattle.std.proofs.lemmas.Bool.{eq-eqb}
+use Rattle.std.proofs.lemmas.Bool.Decides.{nat_tests}
 use Rattle.std.proofs.lemmas.Option.{same_Some}
 use Rattle.indexmap.specs.IndexMap.{IndexMap, insert_entry}
 use Rattle.indexmap.proofs.CallerLemmas.{insert_entry-new}
@@ -20,16 +21,7 @@ pub all_noted_on : {A E : Type 0} (r : Result A E) (f g : Notes) → OnOk r ((n 
 all_noted_on (Ok a) f g h = all_noted f g h
 all_noted_on (Err e) f g h = tt
 
--- ---- places
-
-pub found_place : {A : Type 0} (test : A → Bool) (xs : List A) (n : ℕ) → position test xs ≡ Some n
-    → (n ≡ position_or_len test xs) × (n < length xs)
-found_place test xs n h = by (nat_lt (position_or_len test xs) (length xs)) refl h
-  where
-    by : (b : Bool) → nat_lt (position_or_len test xs) (length xs) ≡ b → cond b (Some (position_or_len test xs)) None ≡ Some n
-        → (n ≡ position_or_len test xs) × (n < length xs)
-    by true e h = let is = same_Some (position_or_len test xs) n h in (sym is, omega (arith, e, is))
-    by false e h = cc
+-- ---- bindings
 
 -- the bindings of names exist
 abbrev past_ids : List (Key × BindingId) → ℕ
@@ -38,11 +30,11 @@ past_ids es = past (λ e. suc e.1.0) es
 pub found_exists : (test : Key → Bool) (es : List (Key × BindingId)) (b : BindingId) (m : ℕ) → lookup test es ≡ Some b
     → past_ids es ≤ m → suc b.0 ≤ m
 found_exists test [] b m h k = cc
-found_exists test (e ∷ es) b m h k = by (test e.0) h
+found_exists test (e ∷ es) b m h k = by (test e.0) h (λ g. found_exists test es b m g (omega (arith, k)))
   where
-    by : (t : Bool) → cond t (Some e.1) (lookup test es) ≡ Some b → suc b.0 ≤ m
-    by true h = let is = ap (λ i. i.0) (same_Some e.1 b h) in omega (arith, is, k)
-    by false h = found_exists test es b m h (omega (arith, k))
+    by : (t : Bool) → cond t (Some e.1) (lookup test es) ≡ Some b → (lookup test es ≡ Some b → suc b.0 ≤ m) → suc b.0 ≤ m
+    by true g rest = let is = ap (λ i. i.0) (same_Some e.1 b g) in omega (arith, is, k)
+    by false g rest = rest g
 
 pub entry_exists : (es : List (Key × BindingId)) (n : ℕ) (e : Key × BindingId) (m : ℕ) → slice_get es n ≡ Some e
     → past_ids es ≤ m → suc e.1.0 ≤ m
@@ -62,19 +54,14 @@ new_name m k b h = insert_entry-new same_key m k b h
 
 -- ---- counts
 
+differ : (n m : ℕ) → n < m → nat_eq n m ≡ false
+differ n m h = grind (arith, nat_tests)
+
 pub known_counted : (n count : ℕ) → n < count → count_with n count ≡ count
-known_counted n count h = by (nat_eq n count) refl
-  where
-    by : (b : Bool) → nat_eq n count ≡ b → (if b then count + 1 else count) ≡ count
-    by true e = omega (arith, e, h)
-    by false e = refl
+known_counted n count h = ap (λ b. if b then count + 1 else count) (differ n count h)
 
 pub next_counted : (count : ℕ) → count_with count count ≡ count + 1
-next_counted count = by (nat_eq count count) refl
-  where
-    by : (b : Bool) → nat_eq count count ≡ b → (if b then count + 1 else count) ≡ count + 1
-    by true e = refl
-    by false e = omega (arith, e)
+next_counted count = ap (λ b. if b then count + 1 else count) (eq-eqb count count refl)
 
 -- ---- one binding after another
 

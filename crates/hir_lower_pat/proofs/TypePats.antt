@@ -1,5 +1,5 @@
 -- What patterns are in types.
-use Rattle.std.proofs.Common.{◌≡◌, ◌∙◌, absurd, ap, refl, sym, Bool, true, false, Option, Some, None}
+use Rattle.std.proofs.Common.{◌≡◌, ◌∙◌, ap, refl, sym, Bool, true, false, Option, Some, None}
 use Rattle.hir_syntax.specs.declared.ast.ElseBranch.TheOpen.{PatKind-F}
 use Rattle.hir_syntax.specs.declared.ast.Name.{Name as AstName}
 use Rattle.hir_syntax.specs.declared.ast.Path.{Path as AstPath}
@@ -14,13 +14,13 @@ use Rattle.hir_env.specs.Spot.{Spot}
 use Rattle.hir_env.specs.Answered as tree
 use Rattle.hir_env.specs.Answered.{OptionPat, Pat, Side, Use}
 use Rattle.hir_env.specs.PatLayers.{PatKindLayer}
-use Rattle.hir_env.specs.Pats.{is_found, name_or_bind, pat_at, plain_side, side_of, use_at}
+use Rattle.hir_env.specs.Pats.{is_found, minus_fits, name_or_bind, pat_at, plain_side, side_of, use_at}
 use Rattle.hir_env.specs.TypePats.{end_at, end_limit, is_plain, start_limit, type_pat_of}
 use Rattle.hir_env.specs.Whole.{pat_level, pat_part, pointer_at, reader, written}
 use Rattle.hir_env.specs.declared.lang.LangItems.{LangItems}
 use Rattle.hir_lower_form.specs.Lower.{limit_side, missing}
 use Rattle.hir_lower_pat.specs.TypePats.{IsOther}
-use Rattle.hir_lower_pat.proofs.KindLemmas.{named_side}
+use Rattle.hir_lower_pat.proofs.KindLemmas.{named_side, of_either}
 
 abbrev level : Spot → PatKindLayer written → Pointer → Pat
 level at k s = pat_at at.answers (reader at.answers) k at.place s
@@ -152,7 +152,8 @@ other_at items at (PatKind-F.DerefPat x) s h = refl
 other_at items at (PatKind-F.RecordPat x fs dots) s h = refl
 other_at items at (PatKind-F.SlicePat before x after) s h = refl
 other_at items at (PatKind-F.LiteralPat None minus) s h = refl
-other_at items at (PatKind-F.LiteralPat (Some l) minus) s h = refl
+other_at items at (PatKind-F.LiteralPat (Some l) minus) s h =
+    of_either (type_pat_of items) (minus_fits minus l.literal.lit) _ _ (tree.other_type_pat s) refl refl
 other_at items at (PatKind-F.CfgPredPat pred) s h = refl
 other_at items at PatKind-F.WildcardPat s h = refl
 other_at items at PatKind-F.RestPat s h = refl

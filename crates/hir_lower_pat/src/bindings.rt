@@ -41,7 +41,6 @@ impl Bindings {
     }
 
     /// The number of a name and its binding, where it has a use.
-    #[tactic(auto, using(crate::proofs::NameLemmas::found_place))]
     fn find(&self, key: &(Name, HygieneId)) -> Option<(usize, BindingId)>
         ensures binding { option_map (λ found. found.1) result ≡ binding_of key.now (table_of self.now) }
         ensures number { IfSome result (λ found. found.0 ≡ number_of key.now (table_of self.now)) }
@@ -64,7 +63,6 @@ impl Bindings {
     }
 
     /// The binding of a name that has none is this one from now on.
-    #[tactic(auto, using(crate::proofs::NameLemmas::new_name))]
     fn insert(&mut self, key: (Name, HygieneId), id: BindingId) -> Result<(), AllocError>
         requires { binding_of key (table_of self.old) ≡ None }
         ensures ids { OnOk result (self.new.ids.entries ≡ self.old.ids.entries ++ (key, id) ∷ []) }
@@ -157,7 +155,7 @@ impl Bindings {
     }
 
     /// Writes the problem that each binding shows. It takes no memory.
-    #[tactic(auto, using(crate::proofs::NameLemmas::entry_exists, crate::proofs::NameLemmas::drop_entry, crate::proofs::NameLemmas::drop_none), unfolding(hir_lower_form::specs::Pats::settle))]
+    #[tactic(auto, using(crate::proofs::NameLemmas::drop_entry, crate::proofs::NameLemmas::drop_none), unfolding(hir_lower_form::specs::Pats::settle))]
     pub fn settle(&self, state: &mut BodyBuilder)
         requires { HasNames state.old.stored self.now }
         ensures { Lowers HasNone (spec.settle (table_of self.now)) state.old (Ok tt) state.new }

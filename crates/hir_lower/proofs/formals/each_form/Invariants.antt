@@ -2,7 +2,7 @@ use Rattle.std.proofs.Common.{◌≡◌, length, []}
 use Rattle.hir_store.specs.Range.{Grows, HasPats}
 use Rattle.hir_env.specs.Formals.{formals_part}
 use Rattle.hir_lower.specs.Formals.{each_formal}
-use Rattle.hir_lower_knot.specs.Spots.{spot_at}
+use Rattle.hir_lower_handlers.specs.Spots.{spot_at}
 use Rattle.hir_lower.proofs.formals.each_form.Given as goal
 
 abbrev pub invariant-loop-left : goal.invariant-loop-left

@@ -10,8 +10,8 @@ use Rattle.hir_env.specs.Paths.{inside_constant}
 use Rattle.hir_env.specs.Whole.{answered_path, answered_plain, expr_part, pointer_at, stmts_part}
 use Rattle.hir_env.proofs.Levels.{expr_is_level, plain_is_level}
 use Rattle.hir_env.proofs.PathLevels.{path_is_level, type_is_level}
-use Rattle.hir_lower_knot.specs.Nests.{HandlesArgs, HandlesBlock, HandlesConstant, HandlesExpr, HandlesPat, HandlesPath, HandlesType}
-use Rattle.hir_lower_knot.specs.Spots.{spot_at}
+use Rattle.hir_lower_handlers.specs.Nests.{HandlesArgs, HandlesBlock, HandlesConstant, HandlesExpr, HandlesPat, HandlesPath, HandlesType}
+use Rattle.hir_lower_handlers.specs.Spots.{spot_at}
 use Rattle.hir_lower_knot.proofs.Kids.{kids_expr, kids_block, expr_below, in_inside}
 use Rattle.hir_lower_knot.proofs.TypeKids.{kids_args, kids_path, kids_type}
 use Rattle.hir_lower_knot.proofs.knot.+lower.Goals as goal

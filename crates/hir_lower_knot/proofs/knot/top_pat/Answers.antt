@@ -1,4 +1,4 @@
-use Rattle.hir_lower_knot.specs.Nests.{HandlesPat}
+use Rattle.hir_lower_handlers.specs.Nests.{HandlesPat}
 use Rattle.hir_lower_knot.proofs.Kids.{so_of_present}
 use Rattle.hir_lower_knot.proofs.knot.top_pat.Goals as goal
 

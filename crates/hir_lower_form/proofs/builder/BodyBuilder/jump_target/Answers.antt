@@ -17,4 +17,14 @@ returns-in-Ok g c =
     rw (← c.self.view_is) (h.0, (omega arith, omega arith, omega arith, omega arith, omega arith, omega arith), h.1)
 
 pub returns-in-Err : goal.returns-in-Err
-returns-in-Err g c = ?
+returns-in-Err g c =
+    let b : Builder = record {
+      stored = c.self.inside.store;
+      scopes = c.self.inside.scopes;
+      counted_out = c.self.inside.counted_out;
+      in_root = c.self.inside.in_root;
+    } in
+    let env = (g.P.LowerParts.spot c.args.parts.now).answers in
+    let is = sym c.find_label.ensures ∙ c.in-Err.is in
+    rw (← c.self.view_is) (missed_lowers b env c.args.source c.args.name c.args.hygiene c.in-Err.cause is
+    c.no_target.result c.no_target.new.self c.no_target.ensures)

@@ -4,8 +4,8 @@ ghost use Rattle.hir_env.specs.Answered as tree;
 ghost use Rattle.hir_env.specs.Whole.{answered, expr_part};
 ghost use Rattle.hir_lower_form.specs.Methods.{LowersConstant, LowersExpr, LowersExprOpt};
 ghost use Rattle.hir_lower_form.specs.Nests.{IfPresent};
-ghost use Rattle.hir_lower_knot.specs.Nests.{HandlesExpr};
-ghost use Rattle.hir_lower_knot.specs.Spots.{spot_at};
+ghost use Rattle.hir_lower_handlers.specs.Nests.{HandlesExpr};
+ghost use Rattle.hir_lower_handlers.specs.Spots.{spot_at};
 
 use hir_env::env::LowerEnv;
 use hir_env::place::Place;

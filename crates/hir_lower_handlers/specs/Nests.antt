@@ -28,7 +28,7 @@ use Rattle.hir_lower_form.specs.Nests.{Claims, IfPresent}
 use Rattle.hir_lower_pat.specs.Nested.{InPat, InTarget}
 use Rattle.hir_lower_form.specs.declared.walk.PathWalk.{PathWalk}
 use Rattle.hir_lower_form.specs.declared.walk.Reading.{Reading}
-use Rattle.hir_lower_knot.specs.Spots.{spot_at}
+use Rattle.hir_lower_handlers.specs.Spots.{spot_at}
 
 -- what such a function requires and ensures, over an environment
 abbrev pub Pre : Type 0 → Type 1
