@@ -1,5 +1,5 @@
 -- A binary expression is lowered alike whether or not its operator is lazy, unless it is an assignment.
-use Rattle.std.proofs.Common.{◌≡◌, Bool, Option, Some, None, refl, absurd}
+use Rattle.std.proofs.Common.{◌≡◌, Bool, Option, Some, None, refl}
 use Rattle.hir_base.specs.declared.op.BinaryOp.{BinaryOp}
 use Rattle.hir_base.specs.declared.op.BinaryOp.TheVariants as operator
 use Rattle.hir_store.specs.Pointers.{Pointer}

@@ -37,7 +37,7 @@ are_more : (final : Stored) (u : Use) (b : BindingId) → found_in final b ≡ S
 are_more final u b h [] [] k = (refl, h, tt)
 are_more final u b h [] (e ∷ es) k = absurd k
 are_more final u b h (f ∷ us) [] k = absurd k
-are_more final u b h (f ∷ us) (e ∷ es) k = (k.0, k.1.0, are_more final u b h us es k.1.1)
+are_more final u b h (f ∷ us) (e ∷ es) k = (k.0, k.1, are_more final u b h us es k.2)
 
 -- What is known of a name on both sides, where w are the uses with this one, and f is the first of them: a binding that was made for
 -- f, or nothing.
@@ -55,12 +55,12 @@ known : (final : Stored) (u : Use) (us : FirstUses) (es : List (Key × BindingId
 known final u [] [] h = (refl, refl)
 known final u [] (e ∷ es) h = absurd h
 known final u (f ∷ us) [] h = absurd h
-known final u (f ∷ us) (e ∷ es) h = rw h.0 (by (is_of u.name u.hygiene f) (known final u us es h.1.1))
+known final u (f ∷ us) (e ∷ es) h = rw h.0 (by (is_of u.name u.hygiene f) (known final u us es h.2))
   where
     by : (t : Bool) → KnownBy final u us (lookup (same_key (key_of u)) es) (with_use us u) (first_use us u)
         → KnownBy final u (f ∷ us) (cond t (Some e.1) (lookup (same_key (key_of u)) es))
         (if t then f ∷ us else f ∷ with_use us u) (if t then f else first_use us u)
-    by true k = (refl, h.1.0)
+    by true k = (refl, h.1)
     by false k = known_later final u f us (lookup (same_key (key_of u)) es) (with_use us u) (first_use us u) k
 
 -- The binding of a use was made for the first one of its name, which is known from then on.

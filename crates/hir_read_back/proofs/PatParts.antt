@@ -1,6 +1,6 @@
 -- What is stored for tuples, records, alternatives and ranges reads back.
 use Rattle.std.proofs.Common.{◌≡◌, ◌∙◌, ◌⊎◌, inl, inr, refl, sym, ap, subst, ℕ, suc, ◌+◌, ◌≤◌, Bool, true, false, if◌then◌else◌}
-use Rattle.std.proofs.Common.{List, [], ◌∷◌, ◌++◌, append-nil, append_assoc, length, length-append, nat_lt, arith}
+use Rattle.std.proofs.Common.{List, [], ◌∷◌, ◌++◌, add-one, append-nil, append_assoc, length, length-append, nat_lt, arith}
 use Rattle.std.specs.Prelude.{◌^◌, Option, Some, None, option_map, unwrap_or}
 use Rattle.hir_base.specs.declared.op.RangeOp.{RangeOp}
 use Rattle.hir_store.specs.Pointers.{Pointer}
@@ -65,7 +65,7 @@ no_elements_are done t = correct_as (correct_pure (done, t)) (λ final ps m m' r
 
 pub dots_here : (ids : List PatId) (k d : Option ℕ)
     → dots_behind (length ids) (forms.dots_after ids k) d ≡ dots_behind (length ids) k (Some 0)
-dots_here ids None d = refl
+dots_here ids None d = let here : length ids ≡ 0 + length ids = omega arith in ap Some here
 dots_here ids (Some k) d = refl
 
 -- two dots are no part
@@ -73,15 +73,15 @@ pub dots_are : {x : FirstUses → PatsData} {d : Option ℕ} {f : FirstUses → 
     (part : Table → Lowering (PatId × Table))
     → ((done : Elements) (t : Table) → Correct (q done t) (ElementsAre done x d f t)) → (done : Elements) (t : Table)
     → Correct (forms.element_form true done part t >>= (λ r. q r.0 r.1)) (ElementsAre done x (Some 0) f t)
-dots_are {d = d} part h done t =
+dots_are {x = x} {d = d} {f = f} part h done t =
     correct_as (correct_bind (correct_pure ((done.0, forms.dots_after done.0 done.1), t)) (λ r. h r.0 r.1))
     (λ final ps m m' r g row. go final ps m row.middle m' r row.one row.first.is row.first.still row.second)
   where
     go : (final : Stored) (ps : List Frame) (m n m' : Mark) (r one : Elements × Table)
-        → one ≡ ((done.0, forms.dots_after done.0 done.1), t) → n ≡ m → ElementsAre one.0 _ d _ one.1 final ps n m' r
-        → ElementsAre done _ (Some 0) _ t final ps m m' r
+        → one ≡ ((done.0, forms.dots_after done.0 done.1), t) → n ≡ m → ElementsAre one.0 x d f one.1 final ps n m' r
+        → ElementsAre done x (Some 0) f t final ps m m' r
     go final ps m n m' r one e s h =
-        let k = subst (λ v. ElementsAre v.0 _ d _ v.1 final ps n m' r) e h in record {
+        let k = subst (λ v. ElementsAre v.0 x d f v.1 final ps n m' r) e h in record {
           new = k.new;
           ids = k.ids;
           place = k.place ∙ dots_here done.0 done.1 d;
@@ -161,7 +161,7 @@ counted_is comma (Some n) = by comma (nat_lt (forms.moved_dots comma n) (2 ^ 32)
   where
     moved : (comma : Bool) → Some (forms.moved_dots comma n) ≡ written.moved_by comma (Some n)
     moved false = refl
-    moved true = refl
+    moved true = ap Some (add-one n)
 
     by : (comma room : Bool) → Correct (forms.counted_place (if room then Some (forms.moved_dots comma n) else None))
         (λ final ps m m' r. (r ≡ written.moved_by comma (Some n)) × (m'.entries ≡ m.entries))

@@ -48,17 +48,22 @@ element_before : (p : Pat) (ps : Pats) → IsDots p ⊎ IsPart p
     (ElementsAre done (written.tuple_parts_data (tree.more_pats p ps)) (written.dots_among (tree.more_pats p ps))
     (written.uses_after_each (tree.more_pats p ps)) t)
 element_before p ps (inl is) h hs done t = rw is.0 (correct_as (parts.dots_are (lower.lower_pat p) hs done t)
-    (λ final ps' m m' r g row. rw is.1.0 (record {
+    (λ final ps' m m' r g row. rw is.1 (record {
       new = row.new;
       ids = row.ids;
       place = row.place;
       rel = record {
-        uses = λ us named. rw (is.1.1 us) (row.rel.uses us named);
+        uses = λ us named. rw (is.2 us) (row.rel.uses us named);
         reads = row.rel.reads;
       };
     })))
 element_before p ps (inr is) h hs done t = rw is.0 (correct_as (parts.part_is h hs done t)
     (λ final ps' m m' r g row. rw is.1 (record { new = row.new; ids = row.ids; place = row.place; rel = row.rel })))
+
+disabled_field_reads : (at : Pointer) (by : CfgId) (f : PatField)
+    → PatFine maybe_field (lower.lower_pat_field (tree.disabled_pat_field at by f)) (λ us fs. fs) (λ us. us)
+disabled_field_reads at by f t = correct_as (correct_bind (correct_report _) (λ u. parts.no_field_reads t))
+    (λ final ps m m' r g row. record { uses = row.second.uses; reads = row.second.reads })
 
 mutual
   pub pat_reads : (p : Pat) → PatFine a_pat (lower.lower_pat p) (written.pattern_data p) (written.uses_after p)
@@ -112,11 +117,6 @@ mutual
       parts.more_fields_named parts.no_field_reads (fields_read fs) done t
   fields_read (tree.more_pat_fields (tree.pat_field at n p) fs) done t =
       parts.more_fields_named (parts.field_reads at n (pat_reads p)) (fields_read fs) done t
-
-  disabled_field_reads : (at : Pointer) (by : CfgId) (f : PatField)
-      → PatFine maybe_field (lower.lower_pat_field (tree.disabled_pat_field at by f)) (λ us fs. fs) (λ us. us)
-  disabled_field_reads at by f t = correct_as (correct_bind (correct_report _) (λ u. parts.no_field_reads t))
-      (λ final ps m m' r g row. record { uses = row.second.uses; reads = row.second.reads })
 
 -- ---- whole patterns
 

@@ -26,5 +26,6 @@ returns-in-Err g c =
     } in
     let env = (g.P.LowerParts.spot c.args.parts.now).answers in
     let is = sym c.find_label.ensures ∙ c.in-Err.is in
+    let told = rw (← c.self.view_is) at c.no_target.ensures in
     rw (← c.self.view_is) (missed_lowers b env c.args.source c.args.name c.args.hygiene c.in-Err.cause is
-    c.no_target.result c.no_target.new.self c.no_target.ensures)
+    c.no_target.result c.no_target.new.self told)
