@@ -16,14 +16,16 @@ use Rattle.hir_env.specs.Answered.{OptionExpr}
 use Rattle.hir_lower_form.specs.Builder.{Builder}
 use Rattle.hir_lower_form.specs.Lowering.{Checked, Lowering, Lowers, go_on, close_labels, enter_root, outside_root, record_root, report}
 use Rattle.hir_lower_form.specs.Lower.{lower_part}
+use Rattle.hir_scope.specs.Ribs.{map_ribs}
 use Rattle.hir_steps.specs.Keeps.{KeepsAll, Keeps, Paired}
 use Rattle.hir_steps.proofs.Keeping.{keeping}
 use Rattle.hir_same_meaning.specs.Headline.{Lowered}
 use Rattle.hir_same_meaning.proofs.Whole.{headline}
-use Rattle.hir_one_result.specs.Diagnostics.{Faults}
 use Rattle.hir_one_result.specs.Laws.{Fits, FitsUnless}
 use Rattle.hir_one_result.specs.Room.{TooLarge}
 use Rattle.hir_one_result.specs.OneResult.{OneResult, fresh_owing}
+use Rattle.hir_one_result.specs.Diagnostics.{Faults, forget}
+use Rattle.hir_one_result.specs.Stands.{StandsPart}
 use Rattle.hir_one_result.proofs.TreeStands.{all_stand}
 use Rattle.hir_one_result.proofs.TreeFaults.{diagnostics_are}
 use Rattle.hir_one_result.proofs.TreeBlocks.{blocks_are}
@@ -129,43 +131,53 @@ parts e b b' i h = by (lower_part e (closed b)).0 (lower_part e (closed b)).1 re
         record { inner = c; is = is ∙ ap (λ k. (Ok k, c)) same; left = sym (ap (rooted c) same) ∙ end }
     by (Err x) c is g = let no = ap (λ (q : Checked ExprId × Builder). q.0) g in cc
 
-root_rooted : (e : OptionExpr) (b b' : Builder) (i : ExprId) → Paired b.stored → root_of e b ≡ (Ok i, b') → Rooted b.stored b'.stored i e
-root_rooted e b b' i d h =
-    let P : Builder → Type 0 = λ x. Rooted b.stored x.stored i e in
-    let p : Parts e b i b' = parts e b b' i h in
-    let paired : Paired (closed b).stored = d in
-    let lowered : Lowered e (closed b) i p.inner = record { none_open = refl; paired = paired; is = p.is } in
-    let kept : KeepsAll (closed b) p.inner = subst (λ r. Keeps (closed b) r.0 r.1) p.is (keeping e (closed b)) in
-    let fits : Fits e b.stored p.inner.stored = subst (λ r. FitsUnless e b.stored r.0 r.1.stored) p.is (all_fit e (closed b)) in
-    let faults = diagnostics_are e (closed b) i p.inner paired p.is [] refl in
+-- Inside of a root, where no label is open, an expression is lowered and recorded.
+pub rooted_inside : (e : OptionExpr) (b inner : Builder) (i : ExprId) → b.scopes ≡ [] → b.in_root ≡ true → Paired b.stored
+    → lower_part e b ≡ (Ok i, inner) → Rooted b.stored (rooted inner i).stored i e
+rooted_inside e b inner i none_open in_root paired is =
+    let lowered : Lowered e b i inner = record { none_open = none_open; paired = paired; is = is } in
+    let kept : KeepsAll b inner = subst (λ r. Keeps b r.0 r.1) is (keeping e b) in
+    let fits : Fits e b.stored inner.stored = subst (λ r. FitsUnless e b.stored r.0 r.1.stored) is (all_fit e b) in
+    let faults = diagnostics_are e b i inner paired is [] (ap (λ rs. map_ribs forget rs) (sym none_open)) in
     let after = kept.paired paired in
-    subst P p.left (record {
+    record {
       lives = λ later x.
-          let ext : Extends p.inner.stored later = extends_trans (extends_root p.inner.stored (root_at (store_of p.inner.stored) i)) x in
-          let standing = all_stand e (closed b) i p.inner paired p.is later ext in record {
-            same = headline e (closed b) p.inner i lowered later ext;
+          let ext : Extends inner.stored later = extends_trans (extends_root inner.stored (root_at (store_of inner.stored) i)) x in
+          let standing = all_stand e b i inner paired is later ext in record {
+            same = headline e b inner i lowered later ext;
             ways = standing.ways;
-            stands = standing.stands;
+            stands = subst (λ rs. StandsPart (store_of later) (map_of later) rs e i standing.ways) none_open standing.stands;
             covers = standing.covers;
             covers_labels = standing.covers_labels;
             led = standing.led;
             labels = standing.labels;
-            reached_once = λ depth le. expr_inside e (closed b) p.inner i lowered later ext depth le;
-            types_reached_once = λ depth le more new. expr_types_once e (closed b) p.inner i paired p.is later ext depth le more new;
+            reached_once = λ depth le. expr_inside e b inner i lowered later ext depth le;
+            types_reached_once = λ depth le more new. expr_types_once e b inner i paired is later ext depth le more new;
           };
       exprs = fits.exprs;
       types = fits.types;
       lifetimes = fits.lifetimes;
       type_sources = fits.type_sources;
       lifetime_sources = fits.lifetime_sources;
-      roots = ap (λ rs. rs ++ root_at (store_of p.inner.stored) i ∷ []) (kept.roots refl);
+      roots = ap (λ rs. rs ++ root_at (store_of inner.stored) i ∷ []) (kept.roots in_root);
       more = faults.more;
       faults = faults.is;
       permuted = faults.permuted;
-      blocks = blocks_are e (closed b) i p.inner paired p.is;
-      paired = record { exprs = after.exprs; labels = after.labels; pats = after.pats; types = after.types; lifetimes = after.lifetimes };
+      blocks = blocks_are e b i inner paired is;
+      paired = record {
+        exprs = after.exprs;
+        labels = after.labels;
+        pats = after.pats;
+        types = after.types;
+        lifetimes = after.lifetimes;
+      };
       mapped = λ m. let x = kept.mapped paired m in record { pats = x.pats; types = x.types; lifetimes = x.lifetimes };
-    })
+    }
+
+root_rooted : (e : OptionExpr) (b b' : Builder) (i : ExprId) → Paired b.stored → root_of e b ≡ (Ok i, b') → Rooted b.stored b'.stored i e
+root_rooted e b b' i d h =
+    let p : Parts e b i b' = parts e b b' i h in
+    subst (λ x. Rooted b.stored x.stored i e) p.left (rooted_inside e (closed b) p.inner i refl refl d p.is)
 
 pub rooted_if : (e : OptionExpr) (b b' : Builder) (r : Checked ExprId) → Lowers HasExpr (root_of e) b r b' → Paired b.stored
     → IfOk r (λ i. Rooted b.stored b'.stored i e)

@@ -180,8 +180,12 @@ record Steps (p : Lowering Given) (e : OptionExpr) (b : Builder) (given : Given)
 abbrev ended : Given → ExprId → Lowering (Given × ExprId)
 ended given i = λ t. (Ok (given, i), rooted t i)
 
+ok_same : {A E : Type 0} (a c : A) → ◌≡◌ {A = Result A E} (Ok a) (Ok c) → a ≡ c
+ok_same a c h = cc
+
 both_same : {A B E : Type 0} (a c : A) (x y : B) → ◌≡◌ {A = Result (A × B) E} (Ok (a, x)) (Ok (c, y)) → (a ≡ c) × (x ≡ y)
-both_same a c x y h = (cc, cc)
+both_same a c x y h =
+    let same = ok_same (a, x) (c, y) h in (ap (λ q. q.0) same, ap (λ q. q.1) same)
 
 not_refused : {A E : Type 0} (e : E) (a : A) → ◌≡◌ {A = Result A E} (Err e) (Ok a) → ⊥
 not_refused e a h = cc

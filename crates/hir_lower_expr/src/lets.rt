@@ -6,6 +6,7 @@ ghost use Rattle.hir_env.specs.Whole.{answered_let_else, expr_part, let_else_par
 ghost use Rattle.hir_lower_form.specs.Nests.{IfPresent, KidsLetElse};
 ghost use Rattle.hir_lower_form.specs.Methods.{LowersBlockIfPresent, LowersExpr, LowersStmt};
 
+use crate::here::type_here_if_present;
 use hir_base::node::{AstPtr, InFile};
 use hir_lower_form::builder::BodyBuilder;
 use hir_lower_form::parts::{LowerParts, Lowerer, site};
@@ -86,7 +87,7 @@ fn kept_let<P: LowerParts>(
         (let_else_part spot else_.now)) state.old result state.new }
 {
     let pat = top_pat(lowerer, state, pat)?;
-    let type_ref = lowerer.type_if_present(state, lowerer.parts.place(), ty)?;
+    let type_ref = type_here_if_present(lowerer, state, ty)?;
     let initializer = lowerer.collect_expr_if_present(state, init)?;
     let else_branch = else_if_present(lowerer, state, else_)?;
     Ok(Some(Statement::Let {

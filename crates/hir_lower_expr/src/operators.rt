@@ -1,6 +1,7 @@
 //! Operators, and what else is done with operands.
 
 ghost use Rattle.std.specs.Prelude.{◌≡◌, ◌≢◌, Some};
+ghost use Rattle.hir_base.specs.declared.op.BinaryOp.TheVariants as operator;
 ghost use Rattle.hir_env.specs.Answered as tree;
 ghost use Rattle.hir_env.specs.Answering as of;
 ghost use Rattle.hir_env.specs.Targets.{resolves};
@@ -110,7 +111,7 @@ pub(crate) fn binary_form<P: LowerParts>(
 ) -> Result<ExprId, StoreFault>
     requires lhs { IfPresent (P.can lowerer.now.parts).expr lhs.now }
     requires rhs { IfPresent (P.can lowerer.now.parts).expr rhs.now }
-    requires other { op ≢ Some BinaryOp.Assign }
+    requires other { op ≢ Some operator.Assign }
     ensures { let spot = P.spot lowerer.now.parts in
         LowersExpr (of.bin_expr (resolves spot.answers spot.place) at op
         (expr_part spot lhs.now)

@@ -261,11 +261,9 @@ module _ (leading : Bool) (w : PathWalk) (r : names.Reading) (open_ : r.ended �
       at_none (BarePath x) e b = cc
       at_none (Normal x) e b = cc
       at_none (LangItem item) e =
-          gives_after (λ x. Agrees x (read_piece leading (behind_trait None) r)) _ _ (λ i. gives_pure _ Refused
-          (agrees_refused (behind_trait None) refl refl))
+          gives_after (λ x. Agrees x (read_piece leading (behind_trait None) r)) _ _ (λ i b. agrees_refused (behind_trait None) refl refl)
   agrees_trait t (Some p) (Some m) e at =
-      gives_after (λ x. Agrees x (read_piece leading (behind_trait (Some m)) r)) _ _ (λ i. gives_pure _ (projected t p (at_first leading w))
-      (by (walks.no_names (mod_path p).segments) (same_empty (mod_path p).segments ∙ ap (λ x. no_names x.segments) is)))
+      gives_after (λ x. Agrees x (read_piece leading (behind_trait (Some m)) r)) _ _ (λ i b. by (walks.no_names (mod_path p).segments) (same_empty (mod_path p).segments ∙ ap (λ x. no_names x.segments) is))
     where
       is : mod_path p ≡ m
       is = own_names_of p m e
@@ -311,8 +309,8 @@ Going f g = (w : PathWalk) (r : names.Reading) → r.ended ≡ false → Says w 
 
 goes_on : (leading : Bool) (p : names.Piece) (g : PathWalk → Lowering Reading) → Going (read_piece leading p) g
     → (q : Reading) (r : names.Reading) → Agrees q r → Gives (λ x. Agrees x (read_piece leading p r)) (proceed q g)
-goes_on leading p g h Refused r a = gives_pure _ Refused (closed_refused leading p r a)
-goes_on leading p g h (Ended w) r a = gives_pure _ (Ended w) (subst (Agrees (Ended w)) (sym (closed_ended leading p r a.0)) a)
+goes_on leading p g h Refused r a = λ b. closed_refused leading p r a
+goes_on leading p g h (Ended w) r a = λ b. subst (Agrees (Ended w)) (sym (closed_ended leading p r a.0)) a
 goes_on leading p g h (Open w) r a = h w r a.0 a.1
 
 -- all segments of a path, and of those around it
@@ -386,17 +384,17 @@ Named o r = names_read r ≡ mod_path_of o
 
 mutual
   first_goes : (leading : Bool) (s : Segment) → Going (read_piece leading (piece true s)) (λ w. read_segment true s (at_first leading w))
-  first_goes leading tree.absent_segment w r e h = gives_pure _ _ (agrees_named leading w r e h missing_name None)
-  first_goes leading tree.broken_segment w r e h = gives_pure _ Refused (agrees_refused leading w r e h names.refusing refl refl)
+  first_goes leading tree.absent_segment w r e h = λ b. agrees_named leading w r e h missing_name None
+  first_goes leading tree.broken_segment w r e h = λ b. agrees_refused leading w r e h names.refusing refl refl
   first_goes leading (tree.name_segment n a) w r e h =
-      gives_after _ (lower_segment_args a) _ (λ x. gives_pure _ _ (agrees_named leading w r e h n x))
-  first_goes leading tree.self_type_segment w r e h = gives_pure _ _ (agrees_named leading w r e h walks.self_type_name None)
-  first_goes leading tree.crate_segment w r e h = gives_pure _ _ (agrees_root leading w r e h kind.Crate)
-  first_goes leading (tree.dollar_crate_segment c) w r e h = gives_pure _ _ (crate_agrees leading c w r e h)
-  first_goes leading tree.self_segment w r e h = gives_pure _ _ (agrees_self leading w r e h)
+      gives_after _ (lower_segment_args a) _ (λ x b. agrees_named leading w r e h n x)
+  first_goes leading tree.self_type_segment w r e h = λ b. agrees_named leading w r e h walks.self_type_name None
+  first_goes leading tree.crate_segment w r e h = λ b. agrees_root leading w r e h kind.Crate
+  first_goes leading (tree.dollar_crate_segment c) w r e h = λ b. crate_agrees leading c w r e h
+  first_goes leading tree.self_segment w r e h = λ b. agrees_self leading w r e h
   first_goes leading tree.super_segment w r e h = gives_super leading w r e h
   first_goes leading (tree.type_segment t) w r e h =
-      gives_after _ (lower_type None t) _ (λ i. gives_pure _ _ (agrees_anchor leading w r e h i))
+      gives_after _ (lower_type None t) _ (λ i b. agrees_anchor leading w r e h i)
   first_goes leading (tree.trait_segment t at p) w r e h =
       gives_after _ (lower_type None t) _ (λ i. trait_goes leading i at p w r e h)
 
@@ -413,20 +411,20 @@ mutual
       (λ o named. agrees_trait leading w r e h i o (mod_path_of p) named at)
 
   behind_goes : (s : Segment) → Going (read_piece false (piece false s)) (read_segment false s)
-  behind_goes tree.absent_segment w r e h = gives_pure _ _ (agrees_named false w r e h missing_name None)
-  behind_goes tree.broken_segment w r e h = gives_pure _ Refused (agrees_refused false w r e h names.refusing refl refl)
+  behind_goes tree.absent_segment w r e h = λ b. agrees_named false w r e h missing_name None
+  behind_goes tree.broken_segment w r e h = λ b. agrees_refused false w r e h names.refusing refl refl
   behind_goes (tree.name_segment n a) w r e h =
-      gives_after _ (lower_segment_args a) _ (λ x. gives_pure _ _ (agrees_named false w r e h n x))
-  behind_goes tree.self_type_segment w r e h = gives_pure _ _ (agrees_named false w r e h walks.self_type_name None)
-  behind_goes tree.crate_segment w r e h = gives_pure _ Refused (agrees_refused false w r e h names.refusing refl refl)
-  behind_goes (tree.dollar_crate_segment c) w r e h = gives_pure _ Refused (agrees_refused false w r e h names.refusing refl refl)
-  behind_goes tree.self_segment w r e h = gives_pure _ Refused (agrees_refused false w r e h names.refusing refl refl)
+      gives_after _ (lower_segment_args a) _ (λ x b. agrees_named false w r e h n x)
+  behind_goes tree.self_type_segment w r e h = λ b. agrees_named false w r e h walks.self_type_name None
+  behind_goes tree.crate_segment w r e h = λ b. agrees_refused false w r e h names.refusing refl refl
+  behind_goes (tree.dollar_crate_segment c) w r e h = λ b. agrees_refused false w r e h names.refusing refl refl
+  behind_goes tree.self_segment w r e h = λ b. agrees_refused false w r e h names.refusing refl refl
   behind_goes tree.super_segment w r e h = gives_super false w r e h
-  behind_goes (tree.type_segment t) w r e h = gives_pure _ Refused (agrees_refused false w r e h names.refusing refl refl)
-  behind_goes (tree.trait_segment t at p) w r e h = gives_pure _ Refused (agrees_refused false w r e h names.refusing refl refl)
+  behind_goes (tree.type_segment t) w r e h = λ b. agrees_refused false w r e h names.refusing refl refl
+  behind_goes (tree.trait_segment t at p) w r e h = λ b. agrees_refused false w r e h names.refusing refl refl
 
   each_goes : (ss : Segments) → Going (read_rest ss) (read_each ss)
-  each_goes tree.no_segments w r e h = gives_pure _ (Open w) (e, h)
+  each_goes tree.no_segments w r e h = λ b. (e, h)
   each_goes (tree.more_segments s ss) w r e h = gives_bind (λ q. Agrees q (read_rest ss r)) _ (read_each ss w) _ (each_goes ss w r e h)
       (λ q a. goes_on false (piece false s) (read_segment false s) (behind_goes s) q (read_rest ss r) a)
 
@@ -442,16 +440,16 @@ mutual
 
   outer_goes : (o : OptionPath) (q : Reading) (r : names.Reading) → Agrees q r
       → Gives (λ x. Agrees x (read_use o r)) (proceed q (read_option o))
-  outer_goes o Refused r a = gives_pure _ Refused (use_refused o r a)
-  outer_goes o (Ended w) r a = gives_pure _ (Ended w) (subst (Agrees (Ended w)) (sym (use_ended o r a.0)) a)
-  outer_goes tree.no_path (Open w) r a = gives_pure _ (Open w) a
+  outer_goes o Refused r a = λ b. use_refused o r a
+  outer_goes o (Ended w) r a = λ b. subst (Agrees (Ended w)) (sym (use_ended o r a.0)) a
+  outer_goes tree.no_path (Open w) r a = λ b. a
   outer_goes (tree.some_path p) (Open w) r a = path_goes p w r a.0 a.1
 
   path_named : (o : OptionPath) → Gives (Named o) (lower_path o)
-  path_named tree.no_path = gives_pure _ None refl
+  path_named tree.no_path = λ b. refl
   path_named (tree.some_path p) = gives_bind (λ q. Agrees q (read_outward p nothing_read)) _ (read_path p start) _
       (path_goes p start nothing_read start_agrees.0 start_agrees.1)
-      (λ q a. gives_pure _ (walks.path_read q) (agreed_names q (read_outward p nothing_read) a))
+      (λ q a b. agreed_names q (read_outward p nothing_read) a)
 
 -- a path that was lowered has the names that are read of it
 pub lowered_names : (o : OptionPath) (b b' : Builder) (r : Option HirPath) → lower_path o b ≡ (Ok r, b')

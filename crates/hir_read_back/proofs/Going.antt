@@ -1,12 +1,11 @@
 -- The steps of a walk, as what they add to the items that are read.
-use Rattle.std.proofs.Common.{arith, ◌≡◌, ◌∙◌, refl, sym, ap, ℕ, suc, ◌+◌, ◌≤◌, List, [], ◌∷◌, Option, Some, None, Ok, Err, Bool, true}
+use Rattle.std.proofs.Common.{arith, ◌≡◌, ◌∙◌, refl, ap, ℕ, ◌+◌, ◌≤◌, List, [], ◌∷◌, Option, Some, None, Bool, true}
 use Rattle.std.proofs.Common.{false}
 use Rattle.std.specs.Prelude.{if◌then◌else◌, nat_lt, ◌^◌, option_map}
 use Rattle.hir_store.specs.Pointers.{Pointer}
-use Rattle.hir_store.specs.Stored.{Stored, store_of, map_of}
+use Rattle.hir_store.specs.Stored.{Stored}
 use Rattle.hir_store.specs.declared.ids.TypeRefId.{TypeRefId}
 use Rattle.hir_store.specs.declared.name.Name.{Name}
-use Rattle.hir_store.specs.declared.path.PathKind.{PathKind}
 use Rattle.hir_store.specs.declared.path.PathKind.TheVariants as kind
 use Rattle.hir_store.specs.declared.path.GenericArgs.{GenericArgs}
 use Rattle.hir_store.specs.declared.path.Path.{Path as HirPath}
@@ -14,18 +13,17 @@ use Rattle.hir_store.specs.declared.type_ref.TypeRef.{TypeRef}
 use Rattle.hir_store.specs.declared.type_ref.TypeRef.TheVariants as ty
 use Rattle.hir_store.specs.declared.type_ref.TypeBound.{TypeBound}
 use Rattle.hir_store.specs.declared.type_ref.TypeBound.TheVariants as bound
-use Rattle.hir_env.specs.Answered as tree
-use Rattle.hir_env.specs.Answered.{Binder, OptionPath}
+use Rattle.hir_env.specs.Answered.{Binder}
 use Rattle.hir_lower_form.specs.declared.walk.PathWalk.{PathWalk}
 use Rattle.hir_lower_form.specs.declared.walk.Reading.{Reading}
 use Rattle.hir_lower_form.specs.declared.walk.Reading.TheVariants.{Refused, Ended, Open}
-use Rattle.hir_lower_form.specs.Lowering.{Lowering, ◌>>=◌, pure, alloc_type, count_out}
+use Rattle.hir_lower_form.specs.Lowering.{Lowering, ◌>>=◌, pure}
 use Rattle.hir_lower_form.specs.Walks as walks
 use Rattle.hir_lower_form.specs.Walks.{start, at_first, super_read, path_read, projected, anchored}
 use Rattle.hir_lower_form.specs.Paths.{proceed, counted, with_trait, read_trait}
 use Rattle.hir_lower_form.specs.Types.{path_type_form, path_or_error, path_bound_form, path_bound_of, stored_path_bound, stored_modifier}
 use Rattle.hir_steps.proofs.Frames.{Frame}
-use Rattle.hir_steps.proofs.Steps.{Mark, Grows, Rel, Correct, correct_bind, correct_as, correct_pure, correct_count_out}
+use Rattle.hir_steps.proofs.Steps.{Mark, Rel, Correct, correct_bind, correct_as, correct_pure, correct_count_out}
 use Rattle.hir_steps.proofs.TypeSteps.{correct_alloc_type, AllocatedType}
 use Rattle.hir_data.specs.Data as datum
 use Rattle.hir_data.specs.Data.{TypeData, typed, OptionArgsData, BoundData}
@@ -34,7 +32,7 @@ use Rattle.hir_data.specs.Rule.{PathRead, What, Item, named, root, self_, super_
 use Rattle.hir_data.specs.Written as written
 use Rattle.hir_read_back.proofs.Layers.{a_list, a_type, a_shape, a_bound, within, Reads, type_at}
 use Rattle.hir_read_back.proofs.Walk.{item, Says, says_later, says_named, says_refused, says_super, says_anchor, says_trait, says_answers}
-use Rattle.hir_read_back.proofs.Walk.{Closed, Answers, Matches, matches_read, begins}
+use Rattle.hir_read_back.proofs.Walk.{Closed, Answers, matches_read, begins}
 
 -- from what was read this is read, where these items are added
 pub record Goes (from : Reading) (add : List Item → List Item) (final : Stored) (ps : List Frame) (m m' : Mark) (r : Reading) : Type 0 where

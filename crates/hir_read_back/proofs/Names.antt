@@ -6,7 +6,6 @@ use Rattle.hir_store.specs.Stored.{Stored, store_of, map_of}
 use Rattle.hir_store.specs.declared.ids.BindingId.{BindingId}
 use Rattle.hir_store.specs.declared.pat.Binding.{Binding}
 use Rattle.hir_env.specs.Answered.{Use}
-use Rattle.hir_lower_form.specs.Lowering.{◌>>=◌}
 use Rattle.hir_lower_form.specs.Pats.{Key, same_key, key_of, Table, no_names, binding_of, number_of, with_name, with_use as notes_use}
 use Rattle.hir_lower_form.specs.Pats.{new_binding, use_of_known, use_name}
 use Rattle.hir_steps.proofs.Frames.{Frame}

@@ -16,7 +16,7 @@ use Rattle.hir_store.specs.declared.path.Path.{Path as HirPath}
 use Rattle.hir_env.specs.Answered as tree
 use Rattle.hir_env.specs.Answered.{Pat, Signed}
 use Rattle.hir_lower_form.specs.Forms.{push_some, root_hygiene}
-use Rattle.hir_lower_form.specs.Lowering.{Lowering, ◌>>=◌, ◌>>◌, pure}
+use Rattle.hir_lower_form.specs.Lowering.{Lowering, ◌>>=◌, pure}
 use Rattle.hir_lower_form.specs.Pats as forms
 use Rattle.hir_lower_form.specs.Pats.{Table, enter_or, leave_or, next_alternative, Elements, no_elements, name_path}
 use Rattle.hir_steps.proofs.Frames.{Frame}

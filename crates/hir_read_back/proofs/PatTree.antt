@@ -1,6 +1,6 @@
 -- What lowering stores for a pattern reads back as what is written: by induction, a line for each kind.
-use Rattle.std.proofs.Common.{◌≡◌, ◌∙◌, ◌⊎◌, inl, inr, refl, ◌≤◌, List, [], ◌∷◌, None, arith}
-use Rattle.std.specs.Prelude.{if◌then◌else◌, length, ◌+◌}
+use Rattle.std.proofs.Common.{◌≡◌, ◌⊎◌, inl, inr, refl, sym, subst, List, [], Some, None, arith}
+use Rattle.std.specs.Prelude.{if◌then◌else◌, length, ◌+◌, suc, option_map}
 use Rattle.hir_store.specs.Pointers.{Pointer}
 use Rattle.hir_store.specs.Stored.{Stored, store_of, map_of}
 use Rattle.hir_store.specs.declared.ids.PatId.{PatId}
@@ -9,7 +9,7 @@ use Rattle.hir_store.specs.declared.pat.Pat.TheVariants as pat
 use Rattle.hir_store.specs.declared.pat.RecordFieldPat.{RecordFieldPat}
 use Rattle.hir_env.specs.Answered as tree
 use Rattle.hir_env.specs.Answered.{Pat, OptionPat, Pats, PatFields, PatField, Side}
-use Rattle.hir_lower_form.specs.Lowering.{◌>>=◌, ◌>>◌}
+use Rattle.hir_lower_form.specs.Lowering.{◌>>=◌}
 use Rattle.hir_lower_form.specs.Lower as lower
 use Rattle.hir_lower_form.specs.Pats as forms
 use Rattle.hir_lower_form.specs.Pats.{Table, no_names, Elements, no_elements}
@@ -47,8 +47,15 @@ element_before : (p : Pat) (ps : Pats) → IsDots p ⊎ IsPart p
     → Correct (lower.lower_elements done (tree.more_pats p ps) t)
     (ElementsAre done (written.tuple_parts_data (tree.more_pats p ps)) (written.dots_among (tree.more_pats p ps))
     (written.uses_after_each (tree.more_pats p ps)) t)
-element_before p ps (inl is) h hs done t = rw is.0 (correct_as (parts.dots_are (lower.lower_pat p) hs done t)
-    (λ final ps' m m' r g row. rw is.1 (record {
+element_before p ps (inl is) h hs done t = correct_as
+    (subst (λ b. Correct (forms.element_form b done (lower.lower_pat p) t >>= (λ r. lower.lower_elements r.0 ps r.1))
+    (ElementsAre done (written.tuple_parts_data ps) (Some 0) (written.uses_after_each ps) t))
+    (sym is.0) (parts.dots_are (lower.lower_pat p) hs done t))
+    (λ final ps' m m' r g row. subst (λ b. ElementsAre done
+    (λ us. if b then written.tuple_parts_data ps us
+    else datum.more_patterns (written.pattern_data p us) (written.tuple_parts_data ps (written.uses_after p us)))
+    (if b then Some 0 else option_map suc (written.dots_among ps))
+    (written.uses_after_each (tree.more_pats p ps)) t final ps' m m' r) (sym is.1) (record {
       new = row.new;
       ids = row.ids;
       place = row.place;
@@ -56,9 +63,19 @@ element_before p ps (inl is) h hs done t = rw is.0 (correct_as (parts.dots_are (
         uses = λ us named. rw (is.2 us) (row.rel.uses us named);
         reads = row.rel.reads;
       };
-    })))
-element_before p ps (inr is) h hs done t = rw is.0 (correct_as (parts.part_is h hs done t)
-    (λ final ps' m m' r g row. rw is.1 (record { new = row.new; ids = row.ids; place = row.place; rel = row.rel })))
+    }))
+element_before p ps (inr is) h hs done t = correct_as
+    (subst (λ b. Correct (forms.element_form b done (lower.lower_pat p) t >>= (λ r. lower.lower_elements r.0 ps r.1))
+    (ElementsAre done
+    (λ us. datum.more_patterns (written.pattern_data p us) (written.tuple_parts_data ps (written.uses_after p us)))
+    (option_map suc (written.dots_among ps)) (λ us. written.uses_after_each ps (written.uses_after p us)) t))
+    (sym is.0) (parts.part_is h hs done t))
+    (λ final ps' m m' r g row. subst (λ b. ElementsAre done
+    (λ us. if b then written.tuple_parts_data ps us
+    else datum.more_patterns (written.pattern_data p us) (written.tuple_parts_data ps (written.uses_after p us)))
+    (if b then Some 0 else option_map suc (written.dots_among ps))
+    (written.uses_after_each (tree.more_pats p ps)) t final ps' m m' r) (sym is.1)
+    (record { new = row.new; ids = row.ids; place = row.place; rel = row.rel }))
 
 disabled_field_reads : (at : Pointer) (by : CfgId) (f : PatField)
     → PatFine maybe_field (lower.lower_pat_field (tree.disabled_pat_field at by f)) (λ us fs. fs) (λ us. us)

@@ -1,7 +1,7 @@
 -- What a written expression becomes comes from its node: a line for each form, whatever its parts are.
-use Rattle.std.proofs.Common.{arith, ◌≡◌, refl, ap, Bool, true, false, ℕ, ◌≤◌, List, [], ◌∷◌, Option, Some, None, option_map}
+use Rattle.std.proofs.Common.{arith, refl, Bool, true, false, List, Option, Some, None, option_map}
 use Rattle.hir_store.specs.Pointers.{Pointer}
-use Rattle.hir_store.specs.Stored.{Stored, store_of, map_of}
+use Rattle.hir_store.specs.Stored.{Stored}
 use Rattle.hir_store.specs.declared.hir.Expr.{Expr as HirExpr}
 use Rattle.hir_store.specs.declared.hir.MatchArm.{MatchArm}
 use Rattle.hir_store.specs.declared.ids.BlockId.{BlockId}
@@ -9,17 +9,15 @@ use Rattle.hir_store.specs.declared.ids.ExprId.{ExprId}
 use Rattle.hir_store.specs.declared.ids.HygieneId.{HygieneId}
 use Rattle.hir_store.specs.declared.ids.LabelId.{LabelId}
 use Rattle.hir_store.specs.declared.ids.PatId.{PatId}
-use Rattle.hir_store.specs.declared.ids.TypeRefId.{TypeRefId}
 use Rattle.hir_store.specs.declared.name.Name.{Name}
 use Rattle.hir_store.specs.declared.path.GenericArgs.{GenericArgs}
 use Rattle.hir_store.specs.declared.path.Path.{Path as HirPath}
-use Rattle.hir_store.specs.declared.type_ref.ConstRef.{ConstRef}
 use Rattle.hir_store.specs.declared.diagnostics.AwaitLocation.{AwaitLocation}
 use Rattle.hir_env.specs.Answered as tree
 use Rattle.hir_env.specs.Answered.{Jump, Label, Listing, RangeForm}
 use Rattle.hir_env.specs.NodeMap.{Site}
 use Rattle.hir_env.specs.Spot.{site_of}
-use Rattle.hir_lower_form.specs.Lowering.{Lowering, ◌>>=◌, pure, alloc_expr}
+use Rattle.hir_lower_form.specs.Lowering.{Lowering, ◌>>=◌, alloc_expr}
 use Rattle.hir_lower_form.specs.Types.{TypeSteps}
 use Rattle.hir_lower_form.specs.Forms.{ExprSteps, StoredContents, StoredFields, missing, if_form, loop_form, call_form, continue_form}
 use Rattle.hir_lower_form.specs.Forms.{break_form, paren_form, path_form, operand_form, operands_form, value_form, list_form}
@@ -31,10 +29,9 @@ use Rattle.hir_steps.proofs.Steps.{Mark, Rel, Correct, correct_bind, correct_as,
 use Rattle.hir_steps.proofs.Steps.{correct_enter_block, correct_opened, correct_report_await, correct_target}
 use Rattle.hir_steps.proofs.Constants.{correct_constant}
 use Rattle.hir_steps.proofs.Keeping.{Any}
-use Rattle.hir_data.specs.Reading as reading
 use Rattle.hir_data.specs.Rule.{PathRead}
 use Rattle.hir_data.specs.Written as written
-use Rattle.hir_read_back.proofs.Layers.{Layer, Reads, a_constant, a_source}
+use Rattle.hir_read_back.proofs.Layers.{Reads, a_constant, a_source}
 use Rattle.hir_read_back.proofs.Going.{PathIs}
 use Rattle.hir_read_back.proofs.Walk.{Answers}
 

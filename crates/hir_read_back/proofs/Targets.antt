@@ -14,7 +14,7 @@ use Rattle.hir_env.specs.Answered as tree
 use Rattle.hir_env.specs.Answered.{Target, Targets, TargetFields}
 use Rattle.hir_lower_form.specs.Forms.{ExprSteps, push_some}
 use Rattle.hir_lower_form.specs.Lower as lower
-use Rattle.hir_lower_form.specs.Lowering.{Lowering, ◌>>=◌, ◌>>◌, pure}
+use Rattle.hir_lower_form.specs.Lowering.{Lowering, ◌>>=◌, pure}
 use Rattle.hir_lower_form.specs.Pats.{Elements, no_elements}
 use Rattle.hir_lower_form.specs.Targets as forms
 use Rattle.hir_steps.proofs.Frames.{Frame}

@@ -15,11 +15,11 @@ use Rattle.hir_env.specs.Answered.{OptionRet, OptionArgs, Args, Arg, Bounds, Bou
 use Rattle.hir_env.specs.Answered.{Limit, Side, TypePat, OptionTypePat, TypePats}
 use Rattle.hir_lower_form.specs.declared.args.ArgLists.{ArgLists}
 use Rattle.hir_lower_form.specs.declared.walk.PathWalk.{PathWalk}
-use Rattle.hir_lower_form.specs.declared.walk.Reading.TheVariants.{Refused, Ended, Open}
-use Rattle.hir_lower_form.specs.Lowering.{Lowering, ◌>>=◌, pure}
+use Rattle.hir_lower_form.specs.declared.walk.Reading.TheVariants.{Refused, Open}
+use Rattle.hir_lower_form.specs.Lowering.{pure}
 use Rattle.hir_lower_form.specs.Walks as walks
 use Rattle.hir_lower_form.specs.Walks.{start, at_first, missing_name, self_type_name}
-use Rattle.hir_lower_form.specs.Paths.{proceed, whole}
+use Rattle.hir_lower_form.specs.Paths.{whole}
 use Rattle.hir_lower_form.specs.Types.{no_lists}
 use Rattle.hir_lower_form.specs.Lower as lower
 use Rattle.hir_steps.proofs.Steps.{Correct, correct_report}
@@ -27,10 +27,10 @@ use Rattle.hir_steps.proofs.Keeping.{part_any, present_any, each_any, block_part
 use Rattle.hir_steps.proofs.Keeping.{spread_any, type_any, lower_path_any, args_any, top_any, arms_any, target_any}
 use Rattle.hir_data.specs.Data as datum
 use Rattle.hir_data.specs.Data.{TypesData, no_args}
-use Rattle.hir_data.specs.Rule.{Item, broken, named}
+use Rattle.hir_data.specs.Rule.{broken, named}
 use Rattle.hir_data.specs.Written as written
 use Rattle.hir_read_back.proofs.Layers.{a_type, types_before, maybe_type, a_bound, many_bounds, a_list, Reads, value0, Pushed}
-use Rattle.hir_read_back.proofs.Layers.{a_constant, a_source}
+use Rattle.hir_read_back.proofs.Layers.{a_constant}
 use Rattle.hir_read_back.proofs.Sites as sites
 use Rattle.hir_read_back.proofs.Sites.{From, ends_from, missing_from}
 use Rattle.hir_read_back.proofs.Layers.{pushed_all, type0}

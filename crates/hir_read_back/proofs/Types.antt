@@ -26,14 +26,14 @@ use Rattle.hir_env.specs.Answered as tree
 use Rattle.hir_env.specs.Answered.{Lifetime, Binder, FnHead, UseRead, TypeLeaf, TypeUnary}
 use Rattle.hir_lower_form.specs.declared.args.ArgLists.{ArgLists}
 use Rattle.hir_lower_form.specs.Lowering.{Lowering, ◌>>=◌, pure, alloc_type}
-use Rattle.hir_lower_form.specs.Paths.{parens_form, segment_args_form, or_else, or_notation, notation, sugared_args, output_name}
+use Rattle.hir_lower_form.specs.Paths.{parens_form, segment_args_form, or_else, or_notation, sugared_args, output_name}
 use Rattle.hir_lower_form.specs.Types.{error_type, unit_type, lower_lifetime, lower_lifetime_option, lower_use, lower_uses}
-use Rattle.hir_lower_form.specs.Types.{stored_leaf_type, stored_over_type, over_form, tuple_type_form, ref_type_form, stored_fn}
+use Rattle.hir_lower_form.specs.Types.{stored_leaf_type, over_form, tuple_type_form, ref_type_form, stored_fn}
 use Rattle.hir_lower_form.specs.Types.{array_type_form}
 use Rattle.hir_lower_form.specs.Types.{fn_type_form}
-use Rattle.hir_lower_form.specs.Types.{stored_impl, impl_type_form, dyn_type_form, yielded, binding_form, add_arg, add_binding, no_lists}
+use Rattle.hir_lower_form.specs.Types.{impl_type_form, dyn_type_form, yielded, binding_form, add_arg, add_binding, no_lists}
 use Rattle.hir_steps.proofs.Frames.{Frame}
-use Rattle.hir_steps.proofs.Steps.{Mark, Grows, Rel, Correct, correct_bind, correct_as, correct_pure}
+use Rattle.hir_steps.proofs.Steps.{Mark, Rel, Correct, correct_bind, correct_as, correct_pure}
 use Rattle.hir_steps.proofs.TypeSteps.{correct_alloc_type, correct_alloc_lifetime}
 use Rattle.hir_data.specs.Data as datum
 use Rattle.hir_data.specs.Data.{LifetimeData, UseData, TypeData, typed, Shape, OptionTypeData, TypesData, OptionArgsData, no_args}
@@ -43,7 +43,7 @@ use Rattle.hir_data.specs.Written as written
 use Rattle.hir_data.specs.Reading as reading
 use Rattle.hir_data.specs.Reading.{Readers}
 use Rattle.hir_read_back.proofs.Layers.{a_constant}
-use Rattle.hir_read_back.proofs.Layers.{Layer, a_lifetime, maybe_lifetime, a_use, many_uses, a_type, types_before, maybe_type, a_shape}
+use Rattle.hir_read_back.proofs.Layers.{Layer, a_lifetime, maybe_lifetime, a_use, many_uses, a_type, types_before, maybe_type}
 use Rattle.hir_read_back.proofs.Layers.{a_bound, many_bounds, arguments_before, a_binding, bindings_before, a_list, within, Reads}
 use Rattle.hir_read_back.proofs.Layers.{value0, value1, Pushed, pushed_all, none_read, more_read, type_at, type0, type1, type2}
 use Rattle.hir_read_back.proofs.Generics.{args_roll, binding_roll}

@@ -1,11 +1,9 @@
 -- The walk and the rule, segment by segment.
 use Rattle.std.proofs.Common.{arith, ◌≡◌, ◌≤◌, ◌∙◌, refl, sym, ap, subst, ℕ, zero, suc, ◌+◌, List, [], ◌∷◌, ◌++◌}
 use Rattle.std.proofs.Common.{Option, Some, None, Bool, true, false}
-use Rattle.std.specs.Prelude.{reverse, map, ◌&&◌, ◌||◌, not, is_some, is_none, if◌then◌else◌, nat_lt, ◌^◌, option_map}
+use Rattle.std.specs.Prelude.{reverse, map, ◌&&◌, ◌||◌, not, is_some, is_none, if◌then◌else◌, option_map}
 use Rattle.std.proofs.lemmas.List.{reverse-append, reverse-reverse, map-append}
-use Rattle.hir_store.specs.Pointers.{Pointer}
 use Rattle.hir_store.specs.Stored.{Stored, store_of, map_of}
-use Rattle.hir_store.specs.Generics.{self_first}
 use Rattle.hir_store.specs.declared.ids.CrateId.{CrateId}
 use Rattle.hir_store.specs.declared.ids.TypeRefId.{TypeRefId}
 use Rattle.hir_store.specs.declared.name.Name.{Name}

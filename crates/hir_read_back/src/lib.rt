@@ -1,6 +1,7 @@
 //! What lowering stores for paths, types and patterns reads back as what is written. A law is a function whose contract is the law.
 #![tactic(auto)]
 
+ghost use Rattle.hir_read_back.specs.Asked.{NameLaw};
 ghost use Rattle.hir_read_back.specs.Laws.{PathLaw, TypeLaw, ArgsLaw, PatLaw, TargetLaw};
 
 /// A path reads back as it is written, and none is answered exactly where it is absent or refused.
@@ -26,4 +27,9 @@ pub fn pat_law()
 /// What is assigned to reads back as it is written.
 pub fn target_law()
     ensures { TargetLaw }
+{}
+
+/// What is asked about a path in a pattern, or in what is assigned to, is asked about the path that the rule says it is.
+pub fn name_law()
+    ensures { NameLaw }
 {}

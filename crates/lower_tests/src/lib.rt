@@ -16,7 +16,11 @@ mod limits;
 #[cfg(test)]
 mod listings;
 #[cfg(test)]
+mod lowered;
+#[cfg(test)]
 mod paths;
+#[cfg(test)]
+mod patterns;
 #[cfg(test)]
 mod streams;
 #[cfg(test)]

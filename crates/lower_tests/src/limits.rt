@@ -28,11 +28,7 @@ fn expr(node: u32, kind: ExprKind) -> Expr {
 }
 
 fn constant(alloc: Global, value: Expr) -> Result<ConstArg, AllocError> {
-    Ok(ConstArg {
-        id: NodeId(0),
-        range: range(0),
-        expr: Some(Boxed::new(alloc, value)?),
-    })
+    Ok(Some(Boxed::new(alloc, value)?))
 }
 
 fn one(alloc: Global, node: u32) -> Result<Expr, AllocError> {

@@ -138,11 +138,7 @@ fn awaiting(alloc: Global) -> Result<ConstArg, AllocError> {
         range: TextRange { start: 1, end: 2 },
         kind: ExprKind::AwaitExpr { expr: None },
     };
-    Ok(ConstArg {
-        id: NodeId(0),
-        range: TextRange { start: 0, end: 2 },
-        expr: Some(Boxed::new(alloc, expr)?),
-    })
+    Ok(Some(Boxed::new(alloc, expr)?))
 }
 
 /// The listing of what a collector holds, with sources.

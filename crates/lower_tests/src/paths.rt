@@ -1,6 +1,6 @@
 //! Paths in collectors, and the way back to their segments.
 
-use hir_base::node::{HirFileId, NodeId, TextRange};
+use hir_base::node::{HirFileId, NodeId};
 use hir_env::place::LoweringMode;
 use hir_env::table::TableEnv;
 use hir_lower::{ErrorImplTrait, ExprCollector, LowerError, hir_segment_to_ast_segment};
@@ -53,14 +53,6 @@ fn segments_that_bear_names_are_lent(rt: HostRuntime) {
     );
 }
 
-fn no_constant() -> ConstArg {
-    ConstArg {
-        id: NodeId(6),
-        range: TextRange { start: 6, end: 7 },
-        expr: None,
-    }
-}
-
 /// Whether the path has a lowered form, or why that isn't said.
 fn lowered(collector: &mut ExprCollector<'_, TableEnv>, path: &Path) -> Result<bool, LowerError> {
     let lowered = collector.lower_path(path, &mut ErrorImplTrait)?;
@@ -78,7 +70,7 @@ type Answers = (
 
 fn without_room(alloc: Global, path: &Path) -> Answers {
     let env = TableEnv::new(alloc, ItemContainerId::ModuleId(ModuleId(0)));
-    let constant = no_constant();
+    let constant: ConstArg = None;
     let mut collector = ExprCollector::with_limit(
         alloc,
         &env,

@@ -1,13 +1,13 @@
-//! What an `impl` becomes where the caller chooses, and types for which there is no room.
+//! What an `impl` becomes where the caller chooses, types for which there is no room, and one that is absent.
 
 use hir_base::Seq;
-use hir_base::node::{AstPtr, HirFileId, NodeId, TextRange};
+use hir_base::node::{AstPtr, HirFileId, InFile, NodeId, TextRange};
 use hir_env::lang::LangItems;
 use hir_env::place::LoweringMode;
 use hir_env::table::TableEnv;
 use hir_lower::{
     ErrorImplTrait, ExprCollector, ImplTraitLower, LowerError, OpaqueImplTrait,
-    impl_trait_error_allocator,
+    impl_trait_error_allocator, lower_type_ref,
 };
 use hir_store::ids::{ItemContainerId, ModuleId, TypeRefId};
 use hir_store::source_map::ExpressionStoreSourceMap;
@@ -192,4 +192,29 @@ fn a_path_of_two_types_does_not_fit_where_one_may_be_stored(rt: HostRuntime) -> 
     let listed = opaque_in_text(rt.alloc(), IMPL_IN_A_PATH, 1)?;
     assert!(rt; matches!(listed, Some(Err(LowerError::Full))));
     Ok(())
+}
+
+/// Whether a type that is absent comes from a node.
+fn absent_has_node(alloc: Global) -> Result<bool, LowerError> {
+    let env = table(alloc);
+    let absent = InFile {
+        file_id: HirFileId(0),
+        value: None,
+    };
+    let has_node = match lower_type_ref(alloc, &env, ModuleId(0), absent) {
+        Ok((store, source_map, ty)) => {
+            let has_node = source_map.type_syntax(ty).is_some();
+            drop(store);
+            drop(source_map);
+            Ok(has_node)
+        }
+        Err(error) => Err(error),
+    };
+    drop(env);
+    has_node
+}
+
+#[test]
+fn an_absent_type_has_no_node(rt: HostRuntime) {
+    assert_eq!(rt; absent_has_node(rt.alloc()), Ok(false));
 }

@@ -1,0 +1,179 @@
+//! The ways between written nodes and what patterns become, and what the parameters of a function are, which no listing shows.
+
+use crate::lowered::lowered_text;
+use hir_base::node::{AstPtr, HirFileId, InFile, NodeId, TextRange};
+use hir_lower::{Body, BodySourceMap};
+use hir_store::ids::{BindingId, ExprId, PatId};
+use lower_json::fault::ReadError;
+use std::alloc::Global;
+
+/// What a node leads to.
+type Way = (Option<ExprId>, Option<PatId>);
+
+fn way(source_map: &BodySourceMap, node: u32) -> Way {
+    let node = InFile {
+        file_id: HirFileId(0),
+        value: AstPtr {
+            node: NodeId(node),
+            range: TextRange {
+                start: node,
+                end: node.saturating_add(1),
+            },
+        },
+    };
+    (
+        source_map.store.node_expr(node),
+        source_map.store.node_pat(node),
+    )
+}
+
+/// `fn f() { (a, (b), ..) = c }`
+const TARGETS: &str = r#"{"nodes": [
+    {"k": "Fn", "body": 1},
+    {"k": "BlockExpr", "tail": 2},
+    {"k": "BinExpr", "op": "=", "lhs": 3, "rhs": 12},
+    {"k": "TupleExpr", "fields": [4, 7, 11]},
+    {"k": "PathExpr", "path": 5},
+    {"k": "Path", "segs": [6]},
+    {"k": "PathSegment", "seg": "name", "name": "a"},
+    {"k": "ParenExpr", "expr": 8},
+    {"k": "PathExpr", "path": 9},
+    {"k": "Path", "segs": [10]},
+    {"k": "PathSegment", "seg": "name", "name": "b"},
+    {"k": "RangeExpr", "op": ".."},
+    {"k": "PathExpr", "path": 13},
+    {"k": "Path", "segs": [14]},
+    {"k": "PathSegment", "seg": "name", "name": "c"}
+]}"#;
+
+/// What the tuple, `a`, the parentheses, `b`, the two dots and `c` lead to.
+fn ways_to_targets(alloc: Global) -> Result<Option<[Way; 6]>, ReadError> {
+    match lowered_text(alloc, TARGETS)? {
+        Some((body, source_map)) => {
+            let ways = [
+                way(&source_map, 3),
+                way(&source_map, 4),
+                way(&source_map, 7),
+                way(&source_map, 8),
+                way(&source_map, 11),
+                way(&source_map, 12),
+            ];
+            drop(body);
+            drop(source_map);
+            Ok(Some(ways))
+        }
+        None => Ok(None),
+    }
+}
+
+#[test]
+fn places_lead_to_expressions_and_to_patterns(rt: HostRuntime) {
+    let ways = [
+        (None, Some(PatId(2))),
+        (Some(ExprId(0)), Some(PatId(0))),
+        (Some(ExprId(1)), Some(PatId(1))),
+        (Some(ExprId(1)), None),
+        (None, None),
+        (Some(ExprId(2)), None),
+    ];
+    assert_eq!(rt; ways_to_targets(rt.alloc()), Ok(Some(ways)));
+}
+
+/// `fn f(&mut self, (1, 2..=, S { a: b }, cfg)) {}`, where `cfg` stands for a predicate.
+const PATTERNS: &str = r#"{"nodes": [
+    {"k": "Fn", "params": 1, "body": 16},
+    {"k": "ParamList", "self": 2, "params": [3]},
+    {"k": "SelfParam", "name": "self", "ref": true, "mut": true},
+    {"k": "Param", "pat": 4},
+    {"k": "TuplePat", "fields": [5, 7, 10, 15]},
+    {"k": "LiteralPat", "lit": 6},
+    {"k": "Literal", "lit": "int", "t": "1"},
+    {"k": "RangePat", "op": "..=", "start": 8},
+    {"k": "LiteralPat", "lit": 9},
+    {"k": "Literal", "lit": "int", "t": "2"},
+    {"k": "RecordPat", "path": 11, "fields": [13]},
+    {"k": "Path", "segs": [12]},
+    {"k": "PathSegment", "seg": "name", "name": "S"},
+    {"k": "RecordPatField", "name": "a", "pat": 14},
+    {"k": "IdentPat", "name": "b"},
+    {"k": "CfgPredPat", "pred": 1},
+    {"k": "BlockExpr"}
+]}"#;
+
+/// What a function's parts lead to, and what its parameters are.
+#[derive(Clone, Copy, Debug, PartialEq)]
+struct Parts {
+    /// Of the literal pattern, its literal, the range, its side, the side's literal, the name and the predicate.
+    ways: [Way; 7],
+    /// The node of the field that the name's pattern comes from.
+    field: Option<NodeId>,
+    /// The first parameter as it is handed in and as it was written.
+    param: Option<(PatId, PatId)>,
+    /// The same of `self`, and its node.
+    receiver: Option<(BindingId, BindingId)>,
+    self_node: Option<NodeId>,
+}
+
+fn first_param(body: &Body) -> Option<(PatId, PatId)> {
+    let param = body.params.as_slice().first()?;
+    Some((param.formal, param.user_written))
+}
+
+fn receiver(body: &Body) -> Option<(BindingId, BindingId)> {
+    let param = body.self_param?;
+    Some((param.formal, param.user_written))
+}
+
+fn number_of(node: InFile<AstPtr>) -> NodeId {
+    node.value.node
+}
+
+fn parts(body: &Body, source_map: &BodySourceMap) -> Parts {
+    Parts {
+        ways: [
+            way(source_map, 5),
+            way(source_map, 6),
+            way(source_map, 7),
+            way(source_map, 8),
+            way(source_map, 9),
+            way(source_map, 14),
+            way(source_map, 15),
+        ],
+        field: source_map.store.pat_field_syntax(PatId(2)).map(number_of),
+        param: first_param(body),
+        receiver: receiver(body),
+        self_node: source_map.self_param.map(number_of),
+    }
+}
+
+fn parts_of_patterns(alloc: Global) -> Result<Option<Parts>, ReadError> {
+    match lowered_text(alloc, PATTERNS)? {
+        Some((body, source_map)) => {
+            let parts = parts(&body, &source_map);
+            drop(body);
+            drop(source_map);
+            Ok(Some(parts))
+        }
+        None => Ok(None),
+    }
+}
+
+#[test]
+fn parts_of_patterns_lead_to_what_they_become(rt: HostRuntime) {
+    let parts = Parts {
+        ways: [
+            (None, Some(PatId(0))),
+            (Some(ExprId(0)), None),
+            (None, Some(PatId(1))),
+            (Some(ExprId(1)), None),
+            (None, None),
+            (None, Some(PatId(2))),
+            (Some(ExprId(2)), Some(PatId(4))),
+        ],
+        field: Some(NodeId(13)),
+        param: Some((PatId(5), PatId(5))),
+        receiver: Some((BindingId(0), BindingId(0))),
+        self_node: Some(NodeId(2)),
+    };
+    assert_eq!(rt; parts_of_patterns(rt.alloc()), Ok(Some(parts)));
+}
