@@ -102,6 +102,27 @@ fn made_as(items: &LangItems, is_new: bool, op: Option<RangeOp>, start: bool, en
     }
 }
 
+/// What a range that stands here is made as.
+fn made_here<P: LowerParts>(
+    lowerer: &Lowerer<P>,
+    op: Option<RangeOp>,
+    start: &Option<Boxed<ast::Expr>>,
+    end: &Option<Boxed<ast::Expr>>,
+) -> Made
+    ensures { let spot = P.spot lowerer.now.parts in
+        let is_new = spot.answers.new_range spot.place.module_id in
+        made_form result ≡ of.range_form spot.answers.lang_items is_new op (is_some start.now) (is_some end.now) }
+{
+    let is_new = lowerer.parts.new_range();
+    made_as(
+        lowerer.parts.lang_items(),
+        is_new,
+        op,
+        start.is_some(),
+        end.is_some(),
+    )
+}
+
 /// The name of the field for the end.
 fn end_name(alloc: Global, is_last: bool) -> Result<Name, AllocError>
     ensures { IfOk result (λ n. n ≡ name_of_end is_last) }
@@ -218,13 +239,6 @@ pub(crate) fn range_form<P: LowerParts>(
 {
     let low = lowerer.collect_expr_if_present(state, start)?;
     let high = lowerer.collect_expr_if_present(state, end)?;
-    let is_new = lowerer.parts.new_range();
-    let form = made_as(
-        lowerer.parts.lang_items(),
-        is_new,
-        op,
-        start.is_some(),
-        end.is_some(),
-    );
-    made_of(lowerer.alloc, state, at, form, low, high)
+    let made = made_here(lowerer, op, start, end);
+    made_of(lowerer.alloc, state, at, made, low, high)
 }
