@@ -1,20 +1,17 @@
 -- What is lowered as a root is what is written.
 use Rattle.std.proofs.Common.{◌≡◌, ◌≢◌, ◌∙◌, refl, sym, ap, subst, ℕ, true, false, Bool, [], ◌∷◌, ◌++◌, Option, Some, None, Result, Ok, Err}
 use Rattle.std.specs.Prelude.{IfOk, IsErrOf}
-use Rattle.hir_store.specs.Pointers.{Pointer}
-use Rattle.hir_store.specs.Stored.{Store, SourceMap, store_of, map_of}
+use Rattle.hir_store.specs.Stored.{store_of, map_of}
 use Rattle.hir_store.specs.Storing as storing
-use Rattle.hir_store.specs.Storing.{Extends, empty, root_at}
+use Rattle.hir_store.specs.Storing.{Extends, root_at}
 use Rattle.hir_store.specs.Range.{HasExpr}
 use Rattle.hir_store.specs.declared.ids.ExprId.{ExprId}
 use Rattle.hir_store.specs.declared.fault.StoreFault.{StoreFault}
 use Rattle.hir_store.specs.declared.fault.StoreFault.TheVariants.{Memory, Full}
-use Rattle.hir_store.specs.declared.diagnostics.MissingBodyItemKind.{MissingBodyItemKind}
-use Rattle.hir_store.proofs.Extending.{extends_refl, extends_root, extends_trans}
-use Rattle.hir_env.specs.Answered as tree
+use Rattle.hir_store.proofs.Extending.{extends_root, extends_trans}
 use Rattle.hir_env.specs.Answered.{OptionExpr}
 use Rattle.hir_lower_form.specs.Builder.{Builder}
-use Rattle.hir_lower_form.specs.Lowering.{Checked, Lowering, Lowers, go_on, close_labels, enter_root, outside_root, record_root, report}
+use Rattle.hir_lower_form.specs.Lowering.{Checked, Lowering, Lowers, go_on, close_labels, enter_root, outside_root, record_root}
 use Rattle.hir_lower_form.specs.Lower.{lower_part}
 use Rattle.hir_scope.specs.Ribs.{map_ribs}
 use Rattle.hir_steps.specs.Keeps.{KeepsAll, Keeps, Paired}
@@ -23,32 +20,21 @@ use Rattle.hir_same_meaning.specs.Headline.{Lowered}
 use Rattle.hir_same_meaning.proofs.Whole.{headline}
 use Rattle.hir_one_result.specs.Laws.{Fits, FitsUnless}
 use Rattle.hir_one_result.specs.Room.{TooLarge}
-use Rattle.hir_one_result.specs.OneResult.{OneResult, fresh_owing}
-use Rattle.hir_one_result.specs.Diagnostics.{Faults, forget}
+use Rattle.hir_one_result.specs.Diagnostics.{forget}
 use Rattle.hir_one_result.specs.Stands.{StandsPart}
 use Rattle.hir_one_result.proofs.TreeStands.{all_stand}
 use Rattle.hir_one_result.proofs.TreeFaults.{diagnostics_are}
 use Rattle.hir_one_result.proofs.TreeBlocks.{blocks_are}
 use Rattle.hir_one_result.proofs.Fits.{all_fit}
-use Rattle.hir_one_result.proofs.Whole.{one_results}
 use Rattle.hir_type_result.proofs.Inside.{expr_inside}
 use Rattle.hir_type_result.proofs.Named.{expr_types_once}
 use Rattle.hir_lower.specs.Calls.{Outside}
-use Rattle.hir_lower.specs.Roots.{RefusedAtEnd, StoresFromNothing, fresh, root_of, body_of, report_missing}
+use Rattle.hir_lower.specs.Roots.{root_of}
 use Rattle.hir_lower.specs.Stays.{Stays}
+use Rattle.hir_lower.proofs.Behind.{closed, rooted}
 use Rattle.hir_lower.proofs.Ways.{Went, went}
 use Rattle.hir_lower.proofs.TreeWays.{part_leads}
-use Rattle.hir_lower.specs.Means.{Rooted, HasBody, body_fault, unless_skipped, missing_fault, owed_faults}
-
--- inside of a root no label is open
-abbrev pub closed : Builder → Builder
-closed b = record b { scopes = []; in_root = true }
-
-abbrev pub rooted : Builder → ExprId → Builder
-rooted b i = record b {
-  stored = record b.stored { roots = b.stored.roots ++ root_at (store_of b.stored) i ∷ [] };
-  in_root = false;
-}
+use Rattle.hir_lower.specs.Means.{Rooted}
 
 abbrev recorded : ExprId → Lowering ExprId
 recorded i = λ t. (Ok i, rooted t i)
@@ -141,24 +127,35 @@ rooted_inside e b inner i none_open in_root paired is =
     let faults = diagnostics_are e b i inner paired is [] (ap (λ rs. map_ribs forget rs) (sym none_open)) in
     let after = kept.paired paired in
     record {
-      lives = λ later x.
+      lives = λ later x still.
           let ext : Extends inner.stored later = extends_trans (extends_root inner.stored (root_at (store_of inner.stored) i)) x in
-          let standing = all_stand e b i inner paired is later ext in record {
+          let standing = all_stand e b i inner paired is later ext still in record {
             same = headline e b inner i lowered later ext;
             ways = standing.ways;
             stands = subst (λ rs. StandsPart (store_of later) (map_of later) rs e i standing.ways) none_open standing.stands;
-            covers = standing.covers;
-            covers_labels = standing.covers_labels;
-            led = standing.led;
-            labels = standing.labels;
+            reaches = record {
+              covers = standing.reaches.covers;
+              covers_labels = standing.reaches.covers_labels;
+              covers_bindings = standing.reaches.covers_bindings;
+              led = standing.reaches.led;
+              labels = standing.reaches.labels;
+              settled = standing.reaches.settled;
+              defined = standing.reaches.defined;
+            };
             reached_once = λ depth le. expr_inside e b inner i lowered later ext depth le;
             types_reached_once = λ depth le more new. expr_types_once e b inner i paired is later ext depth le more new;
           };
-      exprs = fits.exprs;
-      types = fits.types;
-      lifetimes = fits.lifetimes;
-      type_sources = fits.type_sources;
-      lifetime_sources = fits.lifetime_sources;
+      grown = record {
+        exprs = fits.exprs;
+        labels = fits.labels;
+        bindings = fits.bindings;
+        pats = fits.pats;
+        types = fits.types;
+        lifetimes = fits.lifetimes;
+        pat_sources = fits.pat_sources;
+        type_sources = fits.type_sources;
+        lifetime_sources = fits.lifetime_sources;
+      };
       roots = ap (λ rs. rs ++ root_at (store_of inner.stored) i ∷ []) (kept.roots in_root);
       more = faults.more;
       faults = faults.is;
@@ -194,82 +191,3 @@ root_outside e b b' i h =
 pub outside_if : (e : OptionExpr) (b b' : Builder) (r : Checked ExprId) → Lowers HasExpr (root_of e) b r b' → IfOk r (λ i. Outside b')
 outside_if e b b' (Ok i) l = root_outside e b b' i l.0
 outside_if e b b' (Err f) l = tt
-
--- the body of an item, from nothing
-
-record Whole (owed : Faults) (e : OptionExpr) (b' : Builder) : Type 0 where
-  result : OneResult (store_of b'.stored) (map_of b'.stored) owed e
-  body : HasBody (store_of b'.stored) (map_of b'.stored) e
-
-root_whole : (e : OptionExpr) (limit : ℕ) (owed : Faults) (b' : Builder) (i : ExprId) → root_of e (fresh_owing limit owed) ≡ (Ok i, b')
-    → Whole owed e b'
-unfolding storing.record_root
-root_whole e limit owed b' i h =
-    let b = fresh_owing limit owed in
-    let p = parts e b b' i h in
-    let done = root_rooted e b b' i (record { exprs = refl; labels = refl; types = refl; lifetimes = refl }) h in
-    let live = done.lives b'.stored (extends_refl b'.stored) in
-    let P : Builder → Type 0 = λ x. OneResult (store_of x.stored) (map_of x.stored) owed e in record {
-      result = subst P p.left (one_results limit owed e i p.inner p.is);
-      body = record {
-        root = root_at (store_of b'.stored) i;
-        only = done.roots;
-        same = live.same;
-        reached_once = live.reached_once;
-        types_reached_once = λ depth le. live.types_reached_once depth le b'.stored.exprs.entries refl;
-      };
-    }
-
-body_whole : (skip : Bool) (node : Pointer) (k : Option MissingBodyItemKind) (e : OptionExpr) (limit : ℕ) (b' : Builder) (i : ExprId)
-    → body_of skip node k e (fresh limit) ≡ (Ok i, b') → Whole (owed_faults skip node k e) (unless_skipped skip e) b'
-unfolding body_of report_missing report storing.report
-body_whole true node k e limit b' i h = root_whole tree.no_expr limit [] b' i h
-body_whole false node k e limit b' i h = by (body_fault k e) h
-  where
-    by : (f : Option MissingBodyItemKind)
-        → go_on (report_missing node f (fresh limit)).0 (report_missing node f (fresh limit)).1 (λ u. root_of e) ≡ (Ok i, b')
-        → Whole (missing_fault node f) e b'
-    by None g = root_whole e limit [] b' i g
-    by (Some f) g = root_whole e limit (missing_fault node (Some f)) b' i g
-
-pub body_too_large : (skip : Bool) (node : Pointer) (k : Option MissingBodyItemKind) (e : OptionExpr) (limit : ℕ)
-    → RefusedAtEnd (body_of skip node k e) limit → TooLarge (empty limit) (unless_skipped skip e)
-unfolding body_of report_missing report storing.report
-body_too_large true node k e limit r = root_too_large tree.no_expr (fresh limit) r.builder Full r.refused
-body_too_large false node k e limit r = by (body_fault k e) r.refused
-  where
-    by : (f : Option MissingBodyItemKind)
-        → go_on (report_missing node f (fresh limit)).0 (report_missing node f (fresh limit)).1 (λ u. root_of e) ≡ (Err Full, r.builder)
-        → TooLarge (empty limit) e
-    by None g = root_too_large e (fresh limit) r.builder Full g
-    by (Some f) g = root_too_large e (fresh_owing limit (missing_fault node (Some f))) r.builder Full g
-
-if_ok : {A E : Type 0} (P Q : A → Type 0) → ((a : A) → P a → Q a) → (r : Result A E) → IfOk r P → IfOk r Q
-if_ok P Q f (Ok a) p = f a p
-if_ok P Q f (Err e) p = tt
-
-module _ (skip : Bool) (node : Pointer) (k : Option MissingBodyItemKind) (e : OptionExpr) (limit : ℕ) where
-  has_body : (store : Store) (source_map : SourceMap) → StoresFromNothing (body_of skip node k e) limit store source_map
-      → HasBody store source_map (unless_skipped skip e)
-  has_body store source_map s =
-      let w = body_whole skip node k e limit s.builder s.answer s.done in
-      let P : Store → Type 0 = λ x. HasBody x source_map (unless_skipped skip e) in
-      let Q : SourceMap → Type 0 = λ m. HasBody (store_of s.builder.stored) m (unless_skipped skip e) in
-      subst P (sym s.store_is) (subst Q (sym s.source_map_is) w.body)
-
-  one_result : (store : Store) (source_map : SourceMap) → StoresFromNothing (body_of skip node k e) limit store source_map
-      → OneResult store source_map (owed_faults skip node k e) (unless_skipped skip e)
-  one_result store source_map s =
-      let w = body_whole skip node k e limit s.builder s.answer s.done in
-      let P : Store → Type 0 = λ x. OneResult x source_map (owed_faults skip node k e) (unless_skipped skip e) in
-      let Q : SourceMap → Type 0 = λ m. OneResult (store_of s.builder.stored) m (owed_faults skip node k e) (unless_skipped skip e) in
-      subst P (sym s.store_is) (subst Q (sym s.source_map_is) w.result)
-
-  module _ {A E : Type 0} (store : A → Store) (source_map : A → SourceMap) where
-    pub has_body_if : (r : Result A E) → IfOk r (λ a. StoresFromNothing (body_of skip node k e) limit (store a) (source_map a))
-        → IfOk r (λ a. HasBody (store a) (source_map a) (unless_skipped skip e))
-    has_body_if r h = if_ok _ _ (λ a s. has_body (store a) (source_map a) s) r h
-
-    pub one_result_if : (r : Result A E) → IfOk r (λ a. StoresFromNothing (body_of skip node k e) limit (store a) (source_map a))
-        → IfOk r (λ a. OneResult (store a) (source_map a) (owed_faults skip node k e) (unless_skipped skip e))
-    one_result_if r h = if_ok _ _ (λ a s. one_result (store a) (source_map a) s) r h

@@ -22,8 +22,7 @@ use Rattle.hir_data.specs.Patterns.{written_pat}
 use Rattle.hir_data.specs.Reading.{stored_pat}
 use Rattle.hir_lower_form.specs.Builder.{Builder}
 use Rattle.hir_lower_form.specs.Forms.{push_some, some}
-use Rattle.hir_lower_form.specs.Lowering.{Checked, Lowering, ◌>>=◌, go_on, pure, alloc_binding, close_labels, enter_root, outside_root}
-use Rattle.hir_lower_form.specs.Lowering.{record_root, report}
+use Rattle.hir_lower_form.specs.Lowering.{Checked, Lowering, ◌>>=◌, go_on, pure, alloc_binding, report}
 use Rattle.hir_lower_form.specs.Lower.{lower_part}
 use Rattle.hir_lower_form.specs.Pats.{new_binding}
 use Rattle.hir_steps.specs.Keeps.{Keeps, KeepsAll, Paired}
@@ -34,12 +33,13 @@ use Rattle.hir_steps.proofs.PatSteps.{correct_alloc_binding}
 use Rattle.hir_steps.proofs.Steps.{Mark, mark, Rel, Holds, Correct, correct_as, correct_bind, correct_pure, correct_report}
 use Rattle.hir_steps.proofs.TypeAny.{Any, any, pure_any, then_any}
 use Rattle.hir_read_back.proofs.PatTree.{PatNow, top_now}
-use Rattle.hir_lower.specs.Formals.{Given, each_formal, lower_formal, lower_formals, lower_self}
-use Rattle.hir_lower.specs.Means.{HasParams, body_fault, formals_read, receiver_read}
-use Rattle.hir_lower.specs.Roots.{GivenFromNothing, StoresFromNothing, as_written, behind, body_of, fresh, report_missing}
+use Rattle.hir_lower.specs.Formals.{Given, each_formal, formals_read, lower_formal, lower_formals, lower_self}
+use Rattle.hir_lower.specs.Means.{HasParams, owed_faults, receiver_read, unless_skipped}
+use Rattle.hir_one_result.specs.OneResult.{fresh_owing}
+use Rattle.hir_lower.specs.Roots.{GivenFromNothing, StoresFromNothing, as_written, behind, body_of, fresh}
 use Rattle.hir_lower.specs.declared.body.Body.{Body}
 use Rattle.hir_lower.specs.declared.body.Param.{Param}
-use Rattle.hir_lower.proofs.Meanings.{closed, rooted}
+use Rattle.hir_lower.proofs.Behind.{Steps, closed, item_is, steps}
 use Rattle.hir_lower.proofs.TreeWays.{part_leads, top_leads}
 use Rattle.hir_lower.proofs.Ways.{Leading, Went, bound_if, any as whatever, then', went, leading_pure, leading_report}
 
@@ -106,7 +106,7 @@ self_any (tree.self_formal at u) = then_any (any (correct_alloc_binding _)) (λ 
 record GivenNow (xs : List PatData) (final : Stored) (ps : List Frame) (m m' : Mark) (given : Given) : Type 0 where
   reads : map (stored_pat (store_of final) (map_of final)) given.1 ≡ xs
 
-given_now : (skipped : Bool) (f : Formals) → Correct (lower_formals skipped f) (GivenNow (data_of skipped f.formals))
+pub given_now : (skipped : Bool) (f : Formals) → Correct (lower_formals skipped f) (GivenNow (data_of skipped f.formals))
 unfolding lower_formals
 given_now skipped f =
     correct_as (correct_bind (self_any f.receiver) (λ s. correct_bind (each_now skipped [] f.formals) (λ ids. correct_pure (s, ids))))
@@ -168,51 +168,6 @@ given_self skipped f b = first (lower_self f.receiver b).0 (lower_self f.receive
         second i c h each.0 each.1 (went (each_leads skipped [] f.formals) c)
     first (Err e) c h = tt
 
--- a body behind its parameters
-
-record Steps (p : Lowering Given) (e : OptionExpr) (b : Builder) (given : Given) (i : ExprId) (b' : Builder) : Type 0 where
-  middle : Builder
-  inner : Builder
-  formals : p (closed b) ≡ (Ok given, middle)
-  body : lower_part e middle ≡ (Ok i, inner)
-  left : rooted inner i ≡ b'
-
-abbrev ended : Given → ExprId → Lowering (Given × ExprId)
-ended given i = λ t. (Ok (given, i), rooted t i)
-
-ok_same : {A E : Type 0} (a c : A) → ◌≡◌ {A = Result A E} (Ok a) (Ok c) → a ≡ c
-ok_same a c h = cc
-
-both_same : {A B E : Type 0} (a c : A) (x y : B) → ◌≡◌ {A = Result (A × B) E} (Ok (a, x)) (Ok (c, y)) → (a ≡ c) × (x ≡ y)
-both_same a c x y h =
-    let same = ok_same (a, x) (c, y) h in (ap (λ q. q.0) same, ap (λ q. q.1) same)
-
-not_refused : {A E : Type 0} (e : E) (a : A) → ◌≡◌ {A = Result A E} (Err e) (Ok a) → ⊥
-not_refused e a h = cc
-
-steps : (p : Lowering Given) (e : OptionExpr) (b b' : Builder) (given : Given) (i : ExprId) → behind p e b ≡ (Ok (given, i), b')
-    → Steps p e b given i b'
-unfolding behind close_labels enter_root record_root outside_root storing.record_root
-steps p e b b' given i h = first (p (closed b)).0 (p (closed b)).1 refl h
-  where
-    second : (g : Given) (c : Builder) → p (closed b) ≡ (Ok g, c) → (o : Checked ExprId) (d : Builder) → lower_part e c ≡ (o, d)
-        → go_on o d (ended g) ≡ (Ok (given, i), b') → Steps p e b given i b'
-    second g c f (Ok j) d is k =
-        let same = both_same g given j i (ap (λ (q : Checked (Given × ExprId) × Builder). q.0) k) in
-        let end = ap (λ (q : Checked (Given × ExprId) × Builder). q.1) k in record {
-          middle = c;
-          inner = d;
-          formals = f ∙ ap (λ x. (Ok x, c)) same.0;
-          body = is ∙ ap (λ x. (Ok x, d)) same.1;
-          left = sym (ap (rooted d) same.1) ∙ end;
-        }
-    second g c f (Err x) d is k = absurd (not_refused x (given, i) (ap (λ (q : Checked (Given × ExprId) × Builder). q.0) k))
-
-    first : (o : Checked Given) (c : Builder) → p (closed b) ≡ (o, c)
-        → go_on o c (λ g. lower_part e >>= ended g) ≡ (Ok (given, i), b') → Steps p e b given i b'
-    first (Ok g) c f k = second g c f (lower_part e c).0 (lower_part e c).1 refl k
-    first (Err x) c f k = absurd (not_refused x (given, i) (ap (λ (q : Checked (Given × ExprId) × Builder). q.0) k))
-
 record ReadAs (skipped : Bool) (f : Formals) (given : Given) (s : Stored) : Type 0 where
   patterns : map (stored_pat (store_of s) (map_of s)) given.1 ≡ data_of skipped f.formals
   binding : option_and_then (λ i. slice_get s.bindings.entries i.0) given.0 ≡ receiver_read f.receiver
@@ -228,7 +183,7 @@ answered {R = R} h o o' a d e final x =
 behind_reads : (skipped : Bool) (f : Formals) (e : OptionExpr) (b b' : Builder) (given : Given) (i : ExprId) → Paired b.stored
     → behind (lower_formals skipped f) e b ≡ (Ok (given, i), b') → ReadAs skipped f given b'.stored
 behind_reads skipped f e b b' given i d h =
-    let s : Steps (lower_formals skipped f) e b given i b' = steps (lower_formals skipped f) e b b' given i h in
+    let s : Steps skipped f e b given i b' = steps skipped f e b b' given i h in
     let kept : KeepsAll s.middle s.inner = subst (λ r. Keeps s.middle r.0 r.1) s.body (keeping e s.middle) in
     let root = extends_root s.inner.stored (root_at (store_of s.inner.stored) i) in
     let later : Extends s.middle.stored b'.stored = subst (λ t. Extends s.middle.stored t.stored) s.left (extends_trans kept.stays root) in
@@ -245,21 +200,10 @@ behind_reads skipped f e b b' given i d h =
 
 body_reads : (skipped : Bool) (node : Pointer) (k : Option MissingBodyItemKind) (f : Formals) (e : OptionExpr) (limit : ℕ) (b' : Builder)
     (given : Given) (i : ExprId) → body_of skipped node k f e (fresh limit) ≡ (Ok (given, i), b') → ReadAs skipped f given b'.stored
-unfolding body_of report_missing report storing.report
-body_reads true node k f e limit b' given i h = behind_reads true f tree.no_expr (fresh limit) b' given i none_paired h
-  where
-    none_paired : Paired (fresh limit).stored
-    none_paired = record { exprs = refl; labels = refl; pats = refl; types = refl; lifetimes = refl }
-body_reads false node k f e limit b' given i h = by (body_fault k e) h
-  where
-    by : (fault : Option MissingBodyItemKind)
-        → go_on (report_missing node fault (fresh limit)).0 (report_missing node fault (fresh limit)).1
-        (λ u. behind (lower_formals false f) e) ≡ (Ok (given, i), b')
-        → ReadAs false f given b'.stored
-    by None g = behind_reads false f e (fresh limit) b' given i
-        (record { exprs = refl; labels = refl; pats = refl; types = refl; lifetimes = refl }) g
-    by (Some fault) g = behind_reads false f e (report_missing node (Some fault) (fresh limit)).1 b' given i
-        (record { exprs = refl; labels = refl; pats = refl; types = refl; lifetimes = refl }) g
+body_reads skipped node k f e limit b' given i h =
+    let b = fresh_owing limit (owed_faults skipped node k e) in
+    let paired : Paired b.stored = record { exprs = refl; labels = refl; pats = refl; types = refl; lifetimes = refl } in
+    behind_reads skipped f (unless_skipped skipped e) b b' given i paired (sym (item_is skipped node k f e limit) ∙ h)
 
 -- handed in as they are written
 

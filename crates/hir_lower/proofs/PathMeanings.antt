@@ -68,14 +68,11 @@ module _ (at : Spot) (x : AstPath) (b b' : Builder) where
   constants_live later none w = record {
     ways = w.ways;
     stands = subst (λ rs. WholeWays (store_of later) (map_of later) rs (whole_path at x) w.ways) none w.shown;
-    covers = w.moved.covers;
-    covers_labels = w.moved.covers_labels;
-    led = w.moved.led;
-    labels = w.moved.labels;
+    reaches = w.moved;
   }
 
   abbrev RootsIn : Stored → Open → Bool → Type 0
-  RootsIn later around inside = RootsOf around b.stored b'.stored later (recorded inside (whole_size (whole_path at x)).constants)
+  RootsIn later around inside = RootsOf around b.stored b'.stored later (recorded inside (whole_size (whole_path at x)).inner)
 
   roots_outside : (later : Stored) → Outside b → RootsIn later b.scopes b.in_root → RootsIn later [] false
   roots_outside later out h =
@@ -92,7 +89,7 @@ module _ (at : Spot) (x : AstPath) (b b' : Builder) where
       subst (λ q. GrownUnless (whole_size (whole_path at x)) b.stored q.0 q.1.stored) l.0 (paths_fit (whole_path at x) b) in
       record {
         inner = λ later ext. (path_roots p b b' y d l.0 later ext).1;
-        lives = λ later ext. constants_live later none (ways_behind b b' y d l.0 (whole_left p) later ext);
+        lives = λ later ext still. constants_live later none (ways_behind b b' y d l.0 (whole_left p) later ext still);
         roots = λ later ext. roots_outside later out (path_roots p b b' y d l.0 later ext).0;
         more = faults.more;
         faults = faults.is;

@@ -1,5 +1,5 @@
 -- What the parameters of a body become.
-use Rattle.std.specs.Prelude.{Bool, true, false, List, [], ◌∷◌, Option, Some, None}
+use Rattle.std.specs.Prelude.{Bool, true, false, [], Option, Some, None}
 use Rattle.hir_syntax.specs.declared.ast.ElseBranch.TheOpen.{PatKind-F}
 use Rattle.hir_syntax.specs.declared.ast.Name.{Name as AstName}
 use Rattle.hir_syntax.specs.declared.params.ParamList.{ParamList as AstParamList}
@@ -8,7 +8,6 @@ use Rattle.hir_binding.specs.declared.binding.BindingAnnotation.TheVariants.{Una
 use Rattle.hir_store.specs.Pointers.{Pointer}
 use Rattle.hir_store.specs.Range.{HasBindingId, HasPatOption, HasPats}
 use Rattle.hir_store.specs.Stored.{Stored}
-use Rattle.hir_store.specs.declared.diagnostics.ExpressionStoreDiagnostics.TheVariants.{InactiveCode, PatternArgInExternFn}
 use Rattle.hir_store.specs.declared.ids.BindingId.{BindingId}
 use Rattle.hir_store.specs.declared.ids.DefWithBodyId.{DefWithBodyId}
 use Rattle.hir_store.specs.declared.ids.DefWithBodyId.TheVariants as owner
@@ -21,15 +20,10 @@ use Rattle.hir_env.specs.Formals.{answered_formals, are_bare}
 use Rattle.hir_env.specs.Answered as tree
 use Rattle.hir_env.specs.Answered.{Formal, Formals, SelfFormal}
 use Rattle.hir_lower_form.specs.Builder.{Builder}
-use Rattle.hir_lower_form.specs.Forms.{push_some, some}
-use Rattle.hir_lower_form.specs.Lower.{lower_top}
-use Rattle.hir_lower_form.specs.Lowering.{Checked, Lowering, Lowers, ◌>>=◌, ◌>>◌, pure, alloc_binding, report}
-use Rattle.hir_lower_form.specs.Pats.{missing_pat, new_binding}
+use Rattle.hir_lower_form.specs.Lowering.{Checked, Lowers}
 use Rattle.hir_lower_pat.specs.Methods.{use_with}
-
--- the binding of `self`, and the patterns of the others that are kept
-abbrev pub Given : Type 0
-Given = Option BindingId × List PatId
+pub use Rattle.hir_one_result.specs.Formals.{Given, each_formal, formals_read, lower_formal, lower_self}
+unfoldable pub use Rattle.hir_one_result.specs.Formals.{lower_formals}
 
 abbrev pub HasSelf : Stored → Option BindingId → Type 0
 HasSelf s None = Unit {0}
@@ -37,38 +31,6 @@ HasSelf s (Some b) = HasBindingId s b
 
 abbrev pub HasGiven : Stored → Given → Type 0
 HasGiven s g = HasSelf s g.0 × HasPats s g.1
-
-abbrev pub lower_self : SelfFormal → Lowering (Option BindingId)
-lower_self tree.no_self = pure None
-lower_self (tree.disabled_self at by) = do
-  report (InactiveCode at by)
-  pure None
-lower_self (tree.self_formal at u) = some (alloc_binding (new_binding u))
-
--- none where a condition disables it; whether the body is skipped, and so nothing of the parameter is read
-abbrev pub lower_formal : Bool → Formal → Lowering (Option PatId)
-lower_formal skipped (tree.disabled_formal at by) = do
-  report (InactiveCode at by)
-  pure None
-lower_formal true (tree.formal p) = some missing_pat
-lower_formal true (tree.fault_formal at) = some missing_pat
-lower_formal false (tree.formal p) = some (lower_top p)
-lower_formal false (tree.fault_formal at) = do
-  report (PatternArgInExternFn at)
-  some missing_pat
-
-abbrev pub each_formal : Bool → List PatId → List Formal → Lowering (List PatId)
-each_formal skipped done [] = pure done
-each_formal skipped done (f ∷ fs) = do
-  x ← lower_formal skipped f
-  each_formal skipped (push_some done x) fs
-
--- `self` first, then the others in order
-unfoldable pub lower_formals : Bool → Formals → Lowering Given
-lower_formals skipped f = do
-  s ← lower_self f.receiver
-  ps ← each_formal skipped [] f.formals
-  pure (s, ps)
 
 abbrev pub LowersFormal : Formal → Builder → Checked (Option PatId) → Builder → Type 0
 LowersFormal f old result new = Lowers HasPatOption (lower_formal false f) old result new

@@ -37,7 +37,6 @@ use Rattle.hir_env.specs.Whole.{answered_path, expr_part, type_part}
 use Rattle.hir_data.specs.Data.{path_names}
 use Rattle.hir_data.specs.Patterns.{written_pat}
 use Rattle.hir_data.specs.Reading.{stored_pat, stored_path}
-use Rattle.hir_data.specs.Tops.{Tops}
 use Rattle.hir_data.specs.Written.{written_path}
 use Rattle.hir_data.specs.Segments.{PlainTrait, Whole, first_trait, named_segments, segment_name}
 use Rattle.hir_meaning.specs.Inner.{inner_bodies, path_bodies, path_inner_bodies}
@@ -47,29 +46,26 @@ use Rattle.hir_same_meaning.specs.Reached.{Spread, of_each, reached_to}
 use Rattle.hir_steps.specs.Keeps.{Mapped, Paired}
 use Rattle.hir_one_result.specs.Blocks.{blocks_of_part, blocks_of_whole}
 use Rattle.hir_one_result.specs.Diagnostics.{Faults, part_diagnostics, whole_faults}
-use Rattle.hir_one_result.specs.Laws.{Grown}
-use Rattle.hir_one_result.specs.Room.{whole_size}
-use Rattle.hir_one_result.specs.Room.{count_of_exprs, count_of_lifetimes, count_of_types, lifetime_sources_of, type_sources_of}
-use Rattle.hir_one_result.specs.Leads.{Way, label_ways, Covers, CoversLabels, Led}
+use Rattle.hir_one_result.specs.Laws.{Grown, Reaches, Settled}
+use Rattle.hir_one_result.specs.Room.{size_part, whole_size}
+use Rattle.hir_one_result.specs.Leads.{Way}
 use Rattle.hir_one_result.specs.Stands.{StandsPart, WholeWays}
 use Rattle.hir_lower.specs.declared.body.Param.{Param}
+use Rattle.hir_lower.specs.Formals.{formals_read}
 use Rattle.hir_type_result.specs.Named.{of_exprs}
 use Rattle.hir_type_result.specs.Roots.{RootsOf}
 use Rattle.hir_type_result.specs.Reached.{of_path, of_present, types_reached}
 
 -- What is so of a root in a later store. Its expression does what the tree does; it stands for the tree, and each expression
 -- that came with it is what a written one became, or a missing one for an absent or disabled part or in front of a tuple with a
--- leading comma; where the source map led by then it leads still, or by the ways of the tree; each label more is what a written
--- one became, and there are as many; each number that it reaches is reached once, and is one that lowering it gave out, and so
--- is each type that the expressions reach that came with it.
+-- leading comma, or what is called for a range; where the source map led by then it leads still, or by the ways of the tree; each
+-- label and each binding more is what a written one became, and there are as many; each number that it reaches is reached once, and
+-- is one that lowering it gave out, and so is each type that the expressions reach that came with it.
 pub record Lives (old new later : Stored) (i : ExprId) (e : OptionExpr) : Type 0 where
   pub same : SameMeaning (store_of later) (map_of later) i e
   pub ways : List Way
   pub stands : StandsPart (store_of later) (map_of later) [] e i ways
-  pub covers : Covers ways (length old.exprs.entries) (length new.exprs.entries)
-  pub covers_labels : CoversLabels ways (length old.labels.entries) (length new.labels.entries)
-  pub led : Led (map_of old) (map_of new) ways
-  pub labels : length new.labels.entries ≡ length old.labels.entries + label_ways ways
+  pub reaches : Reaches old new ways
   pub reached_once : (depth : ℕ) → length later.exprs.entries ≤ depth
       → Spread (length old.exprs.entries) (length new.exprs.entries)
       (of_each (reached_to (store_of later) depth) (i ∷ inner_bodies (store_of later) i))
@@ -78,15 +74,11 @@ pub record Lives (old new later : Stored) (i : ExprId) (e : OptionExpr) : Type 0
       → Spread (length old.types.entries) (length new.types.entries) (of_exprs (types_reached later.types.entries depth) more)
 
 -- What lowering a root leaves. It is the last of the recorded roots, to which all belongs that was stored since the one before:
--- as many expressions as the tree becomes, and types and lifetimes from just those of its nodes that become one. Behind the
--- faults and the blocks that were noted before come those of the tree.
+-- as many expressions, labels and bindings as the tree becomes, and patterns, types and lifetimes from just those of its nodes that
+-- become one. Behind the faults and the blocks that were noted before come those of the tree.
 pub record Rooted (old new : Stored) (i : ExprId) (e : OptionExpr) : Type 0 where
-  pub lives : (later : Stored) → Extends new later → Lives old new later i e
-  pub exprs : length new.exprs.entries ≡ length old.exprs.entries + count_of_exprs e
-  pub types : length new.types.entries ≡ length old.types.entries + count_of_types e
-  pub lifetimes : length new.lifetimes.entries ≡ length old.lifetimes.entries + count_of_lifetimes e
-  pub type_sources : new.types.sources ≡ old.types.sources ++ type_sources_of e
-  pub lifetime_sources : new.lifetimes.sources ≡ old.lifetimes.sources ++ lifetime_sources_of e
+  pub lives : (later : Stored) → Extends new later → Settled new later → Lives old new later i e
+  pub grown : Grown (size_part e) old new
   pub roots : new.roots ≡ old.roots ++ root_at (store_of new) i ∷ []
   pub more : Faults
   pub faults : new.diagnostics ≡ old.diagnostics ++ more
@@ -143,10 +135,7 @@ becomes mode.Opaque bounds = ty.ImplTrait bounds
 pub record ConstantsLive (old new later : Stored) (p : OptionPath) : Type 0 where
   pub ways : List Way
   pub stands : WholeWays (store_of later) (map_of later) [] p ways
-  pub covers : Covers ways (length old.exprs.entries) (length new.exprs.entries)
-  pub covers_labels : CoversLabels ways (length old.labels.entries) (length new.labels.entries)
-  pub led : Led (map_of old) (map_of new) ways
-  pub labels : length new.labels.entries ≡ length old.labels.entries + label_ways ways
+  pub reaches : Reaches old new ways
 
 -- What lowering a path to r leaves: types and lifetimes from just those of its nodes that become one, and its constants. Those are
 -- roots, also where r is none; behind the faults and the blocks that were noted before come theirs. In each later store each body
@@ -154,8 +143,8 @@ pub record ConstantsLive (old new later : Stored) (p : OptionPath) : Type 0 wher
 pub record PathRooted (old new : Stored) (r : Option Path) (p : OptionPath) : Type 0 where
   pub inner : (later : Stored) → Extends new later
       → SameBodies (store_of later) (map_of later) (of_some (path_inner_bodies (store_of later)) r) (path_bodies p)
-  pub lives : (later : Stored) → Extends new later → ConstantsLive old new later p
-  pub roots : (later : Stored) → Extends new later → RootsOf [] old new later (whole_size p).constants
+  pub lives : (later : Stored) → Extends new later → Settled new later → ConstantsLive old new later p
+  pub roots : (later : Stored) → Extends new later → RootsOf [] old new later (whole_size p).inner
   pub more : Faults
   pub faults : new.diagnostics ≡ old.diagnostics ++ more
   pub permuted : IsPermutation (whole_faults [] p) more
@@ -205,14 +194,6 @@ body_owes at owner node body =
     owed_faults (at.answers.skip owner) (in_file at.place node) (required_body owner (at.answers.container owner)) (expr_part at body)
 
 -- parameters of items
-
--- what is read of the parameters that no condition disables: nothing where the body is skipped, and nothing of one at fault
-abbrev pub formals_read : Bool → List Formal → Tops
-formals_read skipped [] = []
-formals_read skipped (tree.disabled_formal at by ∷ fs) = formals_read skipped fs
-formals_read true (f ∷ fs) = tree.no_pat ∷ formals_read true fs
-formals_read false (tree.formal p ∷ fs) = p ∷ formals_read false fs
-formals_read false (tree.fault_formal at ∷ fs) = tree.no_pat ∷ formals_read false fs
 
 -- the binding of a `self` that no condition disables
 abbrev pub receiver_read : SelfFormal → Option Binding

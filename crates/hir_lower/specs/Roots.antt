@@ -84,6 +84,10 @@ pub record StoresFromNothing {A : Type 0} (p : Lowering A) (limit : ℕ) (store 
 abbrev pub as_written : {A : Type 0} → A → Param A
 as_written x = record { formal = x; user_written = x }
 
+-- what a body is given, as it is written
+abbrev pub given_of : Body → Given
+given_of b = (option_map (λ p. p.user_written) b.self_param, map (λ p. p.user_written) b.params)
+
 -- the parameters of the body are what the steps answer, from nothing
 pub record GivenFromNothing (p : Lowering (Given × ExprId)) (limit : ℕ) (b : Body) : Type 0 where
   pub given : Given

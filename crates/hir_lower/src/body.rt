@@ -9,12 +9,12 @@ ghost use Rattle.hir_env.specs.Spot.{Spot};
 ghost use Rattle.hir_env.specs.Whole.{expr_part};
 ghost use Rattle.hir_lower_form.specs.Lowering.{Lowers};
 ghost use Rattle.hir_one_result.specs.OneResult.{OneResult};
-ghost use Rattle.hir_one_result.specs.Room.{TooLarge};
+ghost use Rattle.hir_one_result.specs.Room.{BodyTooLarge};
 ghost use Rattle.hir_lower_handlers.specs.Spots.{spot_at};
 ghost use Rattle.hir_lower.specs.Formals.{are_read, item_formals, lower_formals, outside_the_body, self_source};
 ghost use Rattle.hir_lower.specs.Means.{HasBody, HasParams, body_fault, body_owes, body_read, required_body};
 ghost use Rattle.hir_lower.specs.Roots.{GivenFromNothing, HasBehind, RefusedAtEnd, StoresFromNothing, await_location, behind, body_spot};
-ghost use Rattle.hir_lower.specs.Roots.{item_of, report_missing};
+ghost use Rattle.hir_lower.specs.Roots.{given_of, item_of, report_missing};
 ghost use Rattle.hir_lower.specs.Roots.{as_written as written};
 
 use crate::collector::collect_expr_opt;
@@ -323,13 +323,15 @@ fn body_steps<E: LowerEnv>(
 ///
 /// The stored body does what the written one does, for every answerer and every number of turns that a loop may take,
 /// and so does each body inside it; each expression that it reaches, but through constants, is reached in one way only.
-/// Store, source map and diagnostics are one result of the tree: what is stored stands for it and no more is stored, each
-/// expression with its source, all in the range of the one root; the source map leads from each written expression,
-/// label, type and lifetime to what it became, from the values of a record's kept fields to their fields, and from
-/// nothing else; the numbers of blocks come in the order of entering; the diagnostics are those that body and tree owe.
-/// Each number in store and source map is in range. A skipped body is a missing expression and owes no fault. `Memory`
-/// where a growth was refused; `Full` only where the tree becomes more expressions, labels, types or lifetimes than the
-/// arenas have room for, or a path in it has more `super`s than 32 bits count; never `Failed`.
+/// Store, source map and diagnostics are one result of the parameters and the tree: what is stored stands for them and no more is
+/// stored, each expression and pattern with its source, all in the range of the one root; the source map leads from each written
+/// expression, label, pattern, type and lifetime to what it became, from the values and patterns of a record's kept fields to
+/// their fields, and from nothing else; the numbers of blocks come in the order of entering; the diagnostics are those that body,
+/// parameters and tree owe. Each number in store and source map is in range. A skipped body is a missing expression and owes no
+/// fault. `Memory` where a growth was refused; `Full` only where parameters and tree become more expressions, labels, patterns,
+/// bindings, types or lifetimes than the arenas have room for, or a path in them has more `super`s, or a pattern more parts in
+/// front of its two dots, than 32 bits count; never `Failed`.
+/// Each parameter reads back as it is written, in order, and `self` is the binding of its name, of which nothing is wrong.
 /// Parameters are read of functions alone, and of each item that is skipped, `self` first and then those that no condition
 /// disables. In an extern block, and in a trait where the function has no body, a parameter is a plain name or `_`, and any other
 /// is missing and owes a fault. Of a skipped body each is missing. Until inner bodies come the caller hands in neither flag.
@@ -351,7 +353,10 @@ pub fn lower_body<E: LowerEnv>(
         IfOk result (λ r. HasBody r.0.store r.1.store (body_read at owner (option_copied body.entry))) }
     ensures one_result { let at = body_spot (E.answers db.now) owner current_file_id inside in
         let owed = body_owes at owner syntax_node (option_copied body.entry) in
-        IfOk result (λ r. OneResult r.0.store r.1.store owed (body_read at owner (option_copied body.entry))) }
+        let formals = item_formals at owner (option_copied params.entry) (is_some (option_copied body.entry)) in
+        let skipped = at.answers.skip owner in
+        let read = body_read at owner (option_copied body.entry) in
+        IfOk result (λ r. OneResult r.0.store r.1.store owed skipped formals (given_of r.0) read) }
     ensures params { let at = body_spot (E.answers db.now) owner current_file_id inside in
         let formals = item_formals at owner (option_copied params.entry) (is_some (option_copied body.entry)) in
         let skipped = at.answers.skip owner in
@@ -361,7 +366,10 @@ pub fn lower_body<E: LowerEnv>(
         IfOk result (λ r. r.1.self_param ≡ self_source formals.receiver) }
     ensures in_range { IfOk result (λ r. InRange r.0.store r.1.store) }
     ensures too_large { let at = body_spot (E.answers db.now) owner current_file_id inside in
-        IsErrOf result LowerError.Full → TooLarge (empty 4294967295) (body_read at owner (option_copied body.entry)) }
+        let formals = item_formals at owner (option_copied params.entry) (is_some (option_copied body.entry)) in
+        let skipped = at.answers.skip owner in
+        let read = body_read at owner (option_copied body.entry) in
+        IsErrOf result LowerError.Full → BodyTooLarge (empty 4294967295) skipped formals read }
     ensures own { result ≢ Err LowerError.Failed }
 {
     body_steps(

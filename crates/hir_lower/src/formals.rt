@@ -281,7 +281,7 @@ pub(crate) fn must_be_bare(container: ItemContainerId, has_body: bool) -> bool
 }
 
 /// The binding of `self`, and then the patterns of the other parameters that are kept. Those of a skipped body are missing.
-#[tactic(auto, unfolding(crate::specs::Formals::lower_formals))]
+#[tactic(auto, unfolding(hir_one_result::specs::Formals::lower_formals))]
 pub(crate) fn formals_form<E: LowerEnv>(
     alloc: Global,
     env: &E,

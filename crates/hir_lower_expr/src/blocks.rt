@@ -10,13 +10,13 @@ ghost use Rattle.hir_lower_form.specs.Lower as spec;
 ghost use Rattle.hir_lower_form.specs.Nests.{Each, KidsBlock, KidsStmt};
 ghost use Rattle.hir_lower_form.specs.Methods.{HasContents, LowersExpr, LowersStmt, LowersStmts, block_steps_at, contents_at, flat};
 
+use crate::kept::push_kept_statement;
 use crate::lets::let_stmt;
 use hir_lower_form::builder::BodyBuilder;
 use hir_lower_form::parts::{LowerParts, Lowerer};
 use hir_store::fault::StoreFault;
 use hir_store::hir::{Expr, Statement};
 use hir_store::ids::{BlockId, ExprId, LabelId};
-use hir_store::lists::push_statement;
 use hir_syntax::{Seq, ast};
 
 /// The expression of a last statement that has no semicolon.
@@ -93,9 +93,8 @@ fn collect_stmts<P: LowerParts>(
 {
     let mut done = Seq::new(lowerer.alloc);
     while let [one, rest @ ..] = all {
-        if let Some(statement) = collect_stmt(lowerer, state, one)? {
-            push_statement(&mut done, statement)?;
-        }
+        let statement = collect_stmt(lowerer, state, one)?;
+        push_kept_statement(&mut done, statement)?;
         all = rest;
     }
     Ok(done)

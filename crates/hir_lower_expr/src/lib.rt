@@ -10,6 +10,7 @@ pub mod exprs;
 mod families;
 mod here;
 mod jumps;
+mod kept;
 mod leaves;
 mod leaving;
 mod lets;

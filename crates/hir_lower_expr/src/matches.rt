@@ -10,6 +10,7 @@ ghost use Rattle.hir_lower_form.specs.Lower as spec;
 ghost use Rattle.hir_lower_form.specs.Methods.{HasArmOption, LowersExpr};
 ghost use Rattle.hir_lower_form.specs.Nests.{IfPresent, KidsArm, KidsArms, KidsGuard};
 
+use crate::kept::push_kept_arm;
 use hir_base::node::{AstPtr, InFile};
 use hir_lower_form::builder::BodyBuilder;
 use hir_lower_form::parts::{LowerParts, Lowerer, site};
@@ -18,7 +19,6 @@ use hir_store::diagnostics::ExpressionStoreDiagnostics;
 use hir_store::fault::StoreFault;
 use hir_store::hir::{Expr, MatchArm};
 use hir_store::ids::ExprId;
-use hir_store::lists::push_arm;
 use hir_syntax::{Boxed, Seq, ast};
 
 /// The condition of an arm's guard, missing where the guard has none.
@@ -96,9 +96,8 @@ fn each_arm<P: LowerParts>(
 {
     let mut done = Seq::new(lowerer.alloc);
     while let [one, rest @ ..] = left {
-        if let Some(arm) = arm(lowerer, state, one)? {
-            push_arm(&mut done, arm)?;
-        }
+        let arm = arm(lowerer, state, one)?;
+        push_kept_arm(&mut done, arm)?;
         left = rest;
     }
     Ok(done)

@@ -14,6 +14,7 @@ ghost use Rattle.hir_lower_form.specs.Methods.{HasField, HasRecord, LowersExpr, 
 ghost use Rattle.hir_lower_form.specs.Nests.{IfPresent, KidsField, KidsFields, KidsRecord};
 
 use crate::here::path_here;
+use crate::kept::push_kept_field;
 use hir_base::node::{AstPtr, InFile};
 use hir_lower_form::builder::BodyBuilder;
 use hir_lower_form::parts::{LowerParts, Lowerer, site};
@@ -21,7 +22,6 @@ use hir_store::diagnostics::ExpressionStoreDiagnostics;
 use hir_store::fault::StoreFault;
 use hir_store::hir::{Expr, RecordLitField, RecordSpread};
 use hir_store::ids::ExprId;
-use hir_store::lists::push_field;
 use hir_store::name::Name;
 use hir_syntax::{Boxed, Seq, ast};
 
@@ -87,9 +87,8 @@ fn fields<P: LowerParts>(
 {
     let mut done = Seq::new(lowerer.alloc);
     while let [one, rest @ ..] = left {
-        if let Some(field) = field(lowerer, state, one)? {
-            push_field(&mut done, field)?;
-        }
+        let field = field(lowerer, state, one)?;
+        push_kept_field(&mut done, field)?;
         left = rest;
     }
     Ok(done)

@@ -1,5 +1,5 @@
 -- The parts of a type, of a path and of a list of arguments are smaller than the whole, as they are answered.
-use Rattle.std.proofs.Common.{arith, ◌≡◌, refl, ap, ℕ, suc, ◌<◌, ◌≤◌, ◌+◌, Bool, true, false, Option, Some, None, List, [], ◌∷◌}
+use Rattle.std.proofs.Common.{arith, ◌≡◌, refl, ap, subst, ℕ, suc, ◌<◌, ◌≤◌, ◌+◌, Bool, true, false, Option, Some, None, List, [], ◌∷◌}
 use Rattle.std.specs.Prelude.{codes, bytes_eq, if◌then◌else◌, map, option_map}
 use Rattle.hir_syntax.specs.declared.ast.Expr.{Expr as AstExpr}
 use Rattle.hir_syntax.specs.declared.ast.Name.{Name as AstName}
@@ -19,6 +19,7 @@ use Rattle.hir_syntax.specs.declared.types.GenericArg.{GenericArg as AstGenericA
 use Rattle.hir_syntax.specs.declared.ast.ElseBranch.TheOpen.{GenericArg-F, TypeKind-F}
 use Rattle.hir_store.specs.Pointers.{Pointer}
 use Rattle.hir_store.specs.declared.name.Name.TheVariants as name_of
+use Rattle.hir_store.specs.declared.path.GenericArgs.{GenericArgs}
 use Rattle.hir_env.specs.declared.place.Place.{Place}
 use Rattle.hir_env.specs.Spot.{Spot}
 use Rattle.hir_env.specs.Answered as tree
@@ -31,7 +32,7 @@ use Rattle.hir_env.specs.Whole.{written, reader, read_param, read_type_arg, read
 use Rattle.hir_env.specs.TypeLayers.{GenericArgLayer, TypeKindLayer, AssocTypeArgLayer, ParamLayer}
 use Rattle.hir_env.specs.TypeLayers.{PathLayer, PathSegmentLayer, TypeBoundLayer}
 use Rattle.hir_env.specs.Count.{count_type, count_option_type, count_parts, count_path, count_option_path, count_segments, count_segment}
-use Rattle.hir_env.specs.Count.{count_segment_args, count_option_parens, count_option_ret, count_option_args, count_args, count_arg}
+use Rattle.hir_env.specs.Count.{count_option_parens, count_option_ret, count_option_args, count_args, count_arg}
 use Rattle.hir_env.specs.Count.{count_bounds, count_bound, count_constant, count_expr, count_option_pat, count_pat}
 use Rattle.hir_env.specs.Whole.{answered_pat, pat_part}
 use Rattle.hir_env.specs.Whole.{answered, answered_type, answered_path, answered_arg_list, type_part, path_part, arg_list_part, types_part}
@@ -42,7 +43,9 @@ use Rattle.hir_env.proofs.PathLevels.{arg_is_level, assoc_arg_is_level, bound_is
 use Rattle.hir_lower_form.specs.Nests.{Claims, IfPresent, Each, KidsTypeArg, KidsRet, KidsParam, KidsTrait, KidsBound, KidsBounds, KidsImpl}
 use Rattle.hir_lower_form.specs.Nests.{Unless, KidsBinding, KidsAssoc, KidsType, KidsArg, KidsArgs, KidsParens, KidsSegmentArgs, KidsName}
 use Rattle.hir_lower_form.specs.Nests.{KidsQualified, KidsSegment, KidsSegments, KidsPath, const_expr}
-use Rattle.hir_lower_form.specs.Methods.{constant_at}
+use Rattle.hir_lower_form.specs.Builder.{Builder}
+use Rattle.hir_lower_form.specs.Lowering.{Checked}
+use Rattle.hir_lower_form.specs.Methods.{LowersArgs, constant_at}
 use Rattle.hir_lower_handlers.specs.Spots.{spot_at}
 
 -- what holds of each node smaller than n, at whatever place it is read
@@ -269,3 +272,12 @@ module _ (env : Answers) (C : Claims) (n : ℕ) (below : Below env C n) where
 
   pub kids_path : (p : Place) (x : PathLayer written) → count_path (of.path_step env (reader env) x p) ≤ n → KidsPath C p x
   kids_path p x h = (all_segments p x.segs (omega (arith, h)), path_below p x.use_ (omega (arith, h)))
+
+-- of the same list in the same environment the same is so
+pub args_read : {E : Type 0} (answers : E → Answers) (p : Place) {v env : E} {l m : AstGenericArgList} {old new : Builder}
+    {r : Checked (Option GenericArgs)} → v ≡ env → l ≡ m
+    → LowersArgs (tree.some_arg_list (answered_arg_list (spot_at (answers v) p) l)) old r new
+    → LowersArgs (tree.some_arg_list (answered_arg_list (spot_at (answers env) p) m)) old r new
+args_read answers p {v = v} {m = m} {old = old} {new = new} {r = r} same is h =
+    subst (λ e. LowersArgs (tree.some_arg_list (answered_arg_list (spot_at (answers e) p) m)) old r new) same
+    (subst (λ x. LowersArgs (tree.some_arg_list (answered_arg_list (spot_at (answers v) p) x)) old r new) is h)

@@ -318,7 +318,7 @@ settled_jumps P new (Some i) h = h
 settled_jumps P [] None h = (tt, tt)
 settled_jumps P (statement.Item ∷ new) None h = settled_jumps P new None h
 settled_jumps P (statement.Let p t e b ∷ new) None h =
-    let r = settled_jumps P new None (h.0.1.1, tt) in ((h.0.0, h.0.1.0, r.0), r.1)
+    let r = settled_jumps P new None (h.0.2, tt) in ((h.0.0, h.0.1, r.0), r.1)
 settled_jumps P (statement.Expr i true ∷ new) None h = let r = settled_jumps P new None (h.0.1, tt) in ((h.0.0, r.0), r.1)
 settled_jumps P (statement.Expr i false ∷ []) None h = (tt, h.0.0)
 settled_jumps P (statement.Expr i false ∷ (s ∷ new)) None h = let r = settled_jumps P (s ∷ new) None (h.0.1, tt) in ((h.0.0, r.0), r.1)

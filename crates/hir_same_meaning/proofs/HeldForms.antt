@@ -362,6 +362,10 @@ settled_is : (r : Inners) (ss : List Statement) (o : Option ExprId) → of_conte
 settled_is r ss (Some i) = refl
 settled_is r [] None = refl
 settled_is r (statement.Item ∷ ss) None = settled_is r ss None
+settled_is r (statement.Let p t e b ∷ ss) None =
+    let u = settled ss None in
+    one_before (of_statement r (statement.Let p t e b)) (all_of (of_statement r) u.0) (of_present r.expr u.1)
+    (all_of (of_statement r) ss) [] (settled_is r ss None)
 settled_is r (statement.Expr i true ∷ ss) None =
     let t = settled ss None in
     one_before (r.expr i) (all_of (of_statement r) t.0) (of_present r.expr t.1) (all_of (of_statement r) ss) [] (settled_is r ss None)

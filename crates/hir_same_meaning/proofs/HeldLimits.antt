@@ -108,9 +108,9 @@ before_fine item h = correct_as (correct_bind h (λ e. correct_bind (correct_all
     let k = goes_within (omega arith) row.first in
     let f : Goes m.labels s.middle.nodes one (λ turns ss. run_item item) final ps s.one = item_runs item s.first in
     goes_at s.second
-    (λ turns d le falls. same_bind (f.same turns d le falls) (λ v. stored_row (same_bind (k.same turns d le falls)
-    (λ w. stored_row (stored_pure (stored_pure (same_ask call (v ∷ w ∷ []) None)))))))
-    (λ d le. (f.jumps d le, k.jumps d le, tt)))
+    (λ turns d le falls. same_bind (f.same turns d le falls) (λ v. stored_row _ _ _ (same_bind (k.same turns d le falls)
+    (λ w. stored_row _ _ _ (stored_pure _ (stored_pure _ (same_ask call (v ∷ w ∷ []) None)))))))
+    (λ d le. (f.jumps d le, (k.jumps d le, tt))))
 
 -- ---- what they hold
 
@@ -133,7 +133,7 @@ before_held {es = es} item h = correct_as (correct_bind h (λ e. correct_bind (e
     (λ f. correct_alloc (hir.Call f (e ∷ [])) None)))
     (λ final ps m m' i g row. let s = row.second in expr_held s.second s.after (λ d le. let r = inners_in final d in
     same_append final (r.expr s.one) (r.expr row.one ++ []) [] es (s.first.same d le)
-    (same_ids final es (append-nil (r.expr row.one)) (row.first.same d (omega (le, s.before.nodes, s.before.entries))))))
+    (same_ids final es (append-nil (r.expr row.one)) (row.first.same d (omega (le, s.before.nodes, s.before.entries, arith))))))
 
 -- a path as a side
 path_side_held : {es : Bodies} (at : Pointer) {q : Lowering (Option HirPath)} → Correct q (Holds a_path es)
@@ -173,7 +173,7 @@ own_held l runs holds = correct_as (correct_inner (correct_both (correct_in_stor
     (λ final ps m m' i g row. let x = row.first.one in record {
       same = λ d le. (
         body_is (barrier_at ∷ ps) x.rel x.nodes tt refl,
-        row.first.other.same d (omega (le, row.after.nodes, row.after.entries)),
+        row.first.other.same d (omega (le, row.after.nodes, row.after.entries, arith)),
       );
     })
 
@@ -212,4 +212,4 @@ limits_held {es = es} {fs = fs} at hp hq =
     correct_as (correct_bind hp (λ s. correct_bind hq (λ e. correct_alloc_pat (pat.Range op.Inclusive (Some s) (Some e)) (Some at))))
     (λ final ps m m' i g row. let s = row.second in type_pat_held {ps = ps} {n = m} s.second (λ d le. let r = inners_in final d in
     same_append final (of_limit r row.one) (of_limit r s.one) es fs
-    (row.first.same d (omega (le, s.before.nodes, s.before.entries))) (s.first.same d le)))
+    (row.first.same d (omega (le, s.before.nodes, s.before.entries, arith))) (s.first.same d le)))

@@ -1,5 +1,5 @@
 -- What is stored for patterns, and for what is assigned to, holds what their parts hold.
-use Rattle.std.proofs.Common.{◌≡◌, ◌∙◌, refl, sym, ap, subst, ℕ, zero, suc, ◌+◌, ◌≤◌, Bool, true, false, List, [], ◌∷◌, ◌++◌}
+use Rattle.std.proofs.Common.{◌≡◌, ◌∙◌, refl, sym, ap, subst, ℕ, zero, suc, ◌+◌, ◌≤◌, Bool, true, false, List, [], ◌∷◌, ◌++◌, arith}
 use Rattle.std.proofs.Common.{append-nil, append_assoc, Option, Some, None}
 use Rattle.hir_base.specs.declared.op.RangeOp.{RangeOp}
 use Rattle.hir_store.specs.Pointers.{Pointer}
@@ -104,8 +104,8 @@ module _ (at : Pointer) where
       (λ final ps m m' r g row. let s = row.second in let k = s.second in let v = k.second in
       rw (v.second.is, v.second.still) (record {
         same = λ d le. (pat_held {ps = ps} {n = m} k.first
-            (λ n ge. row.first.same n (omega (ge, s.before.nodes, s.before.entries)))).same d
-            (omega (le, v.before.nodes, v.before.entries));
+            (λ n ge. row.first.same n (omega (ge, s.before.nodes, s.before.entries, arith)))).same d
+            (omega (le, v.before.nodes, v.before.entries, arith));
       }))
 
 -- ---- lists that grow
@@ -130,22 +130,22 @@ added_more {part = part} {es = es} {fs = fs} done h k = correct_as (correct_bind
       is = s.is ∙ append_assoc done (part row.one ∷ []) s.new;
       rel = record {
         same = λ d le. let i = inners_in final d in same_append final (i.pat (part row.one)) (all_of i.pat s.new) es fs
-            (row.first.same d (omega (le, row.after.nodes, row.after.entries))) (s.rel.same d le);
+            (row.first.same d (omega (le, row.after.nodes, row.after.entries, arith))) (s.rel.same d le);
       };
     })
 
 -- one that may be left out
-pub added_some : {A B C : Type 0} {ids : Ids B} {list : C → List B} {part : A → Option B} {p : Lowering A} {q : A → Lowering C}
-    {es fs : Bodies} (done : List B) → Correct p (Holds (λ r a. of_present (ids r) (part a)) es)
+pub added_some : {A B C : Type 0} {ids : Ids B} {list : C → List B} (part : A → Option B) {p : Lowering A}
+    {q : A → Lowering C} {es fs : Bodies} (done : List B) → Correct p (Holds (λ r a. of_present (ids r) (part a)) es)
     → ((a : A) → Correct (q a) (Added ids list (push_some done (part a)) fs)) → Correct (p >>= q) (Added ids list done (es ++ fs))
-added_some {ids = ids} {part = part} {es = es} {fs = fs} done h k = correct_as (correct_bind h k)
+added_some {ids = ids} part {es = es} {fs = fs} done h k = correct_as (correct_bind h k)
     (λ final ps m m' r g row. let s = row.second in record {
       new = newly (part row.one) s.new;
       is = s.is ∙ newly_pushed done (part row.one) s.new;
       rel = record {
         same = λ d le. let i = inners_in final d in same_ids final (es ++ fs) (newly_holds (ids i) (part row.one) s.new)
             (same_append final (of_present (ids i) (part row.one)) (all_of (ids i) s.new) es fs
-            (row.first.same d (omega (le, row.after.nodes, row.after.entries))) (s.rel.same d le));
+            (row.first.same d (omega (le, row.after.nodes, row.after.entries, arith))) (s.rel.same d le));
       };
     })
 
@@ -175,7 +175,7 @@ element_held false {es = es} {fs = fs} none h hs done t =
       is = s.is ∙ append_assoc done.0 (a.one.0 ∷ []) s.new;
       rel = record {
         same = λ d le. let i = inners_in final d in same_append final (i.pat a.one.0) (all_of i.pat s.new) es fs
-            (a.first.same d (omega (le, a.after.nodes, a.after.entries, row.after.nodes, row.after.entries))) (s.rel.same d le);
+            (a.first.same d (omega (le, a.after.nodes, a.after.entries, row.after.nodes, row.after.entries, arith))) (s.rel.same d le);
       };
     })
 
@@ -217,9 +217,9 @@ list_held {es = es} from comma con h t =
     (λ final ps m m' x g row fs make. let e = row.first in let s = row.second in let u = s.second in
     rw (u.second.is, u.second.still) (record {
       same = (pat_held {ps = ps} {n = m} u.first (λ d le. make d
-          (omega (le, row.before.nodes, row.before.entries, s.before.nodes, s.before.entries)) s.one.0 s.one.1
+          (omega (le, row.before.nodes, row.before.entries, s.before.nodes, s.before.entries, arith)) s.one.0 s.one.1
           (same_ids final es (s.first.same d le ∙ ap (all_of (inners_in final d).pat) e.is)
-          (e.rel.same d (omega (le, s.before.nodes, s.before.entries)))))).same;
+          (e.rel.same d (omega (le, s.before.nodes, s.before.entries, arith)))))).same;
     }))
 
 pub tuple_held : {es : Bodies} {p : Table → Lowering (Elements × Table)} (at : Pointer) (comma : Bool)
@@ -240,10 +240,10 @@ WithPath ids es fs o final ps m m' a =
     (n : Mark) → Holds a_path es final ps n m o → Holds ids (if_some o (es ++ fs)) final ps m m' a
 
 -- it is read where its path is
-pub behind_path : {A : Type 0} {ids : Ids A} {es fs : Bodies} (y : Option PathRead) {q : Lowering (Option HirPath)}
+pub behind_path : {A : Type 0} {ids : Ids A} {es : Bodies} (fs : Bodies) (y : Option PathRead) {q : Lowering (Option HirPath)}
     {g : Option HirPath → Lowering A} → Correct q (PathIs y) → Correct q (Holds a_path es)
     → ((o : Option HirPath) → Correct (g o) (WithPath ids es fs o)) → Correct (q >>= g) (Holds ids (if_read y (es ++ fs)))
-behind_path {A = A} {ids = ids} {es = es} {fs = fs} y says hq k = correct_as (correct_bind (correct_both says hq) k)
+behind_path {A = A} {ids = ids} {es = es} fs y says hq k = correct_as (correct_bind (correct_both says hq) k)
     (λ final ps m m' a g row. go final ps row.middle m m' a y row.one row.first.one.is (row.second m row.first.other))
   where
     go : (final : Stored) (ps : List Frame) (n m m' : Mark) (a : A) (y : Option PathRead) (o : Option HirPath)
@@ -254,8 +254,8 @@ behind_path {A = A} {ids = ids} {es = es} {fs = fs} y says hq k = correct_as (co
     go final ps n m m' a (Some x) (Some p) e h = record { same = h.same }
 
 -- a pattern that isn't there
-pub refused_held : {es fs : Bodies} (t : Table) → Correct (forms.alone missing_pat t) (WithPath (named a_pat) es fs None)
-refused_held t = correct_as (alone_held absent_held t) (λ final ps m m' a g row n h. row)
+pub refused_held : {es : Bodies} (fs : Bodies) (t : Table) → Correct (forms.alone missing_pat t) (WithPath (named a_pat) es fs None)
+refused_held fs t = correct_as (alone_held absent_held t) (λ final ps m m' a g row n h. row)
 
 module _ (at : Pointer) {es fs : Bodies} (y : Option PathRead) {q : Lowering (Option HirPath)} (says : Correct q (PathIs y))
     (hq : Correct q (Holds a_path es)) where
@@ -263,10 +263,10 @@ module _ (at : Pointer) {es fs : Bodies} (y : Option PathRead) {q : Lowering (Op
       → ((t : Table) → Correct (p t) (Added a_pat parts [] fs))
       → PatHeld a_pat (forms.tuple_struct_form at comma p q) (if_read y (es ++ fs))
   unfolding forms.tuple_struct_form
-  tuple_struct_held comma {p = p} h t = behind_path y says hq by
+  tuple_struct_held comma {p = p} h t = behind_path fs y says hq by
     where
       by : (o : Option HirPath) → Correct (forms.tuple_struct_of at comma p o t) (WithPath (named a_pat) es fs o)
-      by None = refused_held t
+      by None = refused_held fs t
       by (Some o) = correct_as (list_held (Some at) comma (pat.TupleStruct o) h t)
           (λ final ps m m' r g row n path. row (es ++ fs) (λ d le k is same. let i = inners_in final d in
           same_append final (of_path i o) (all_of i.pat is) es fs (path.same d le) same))
@@ -275,16 +275,16 @@ module _ (at : Pointer) {es fs : Bodies} (y : Option PathRead) {q : Lowering (Op
       → ((t : Table) → Correct (p t) (Added (λ r f. of_pat_field r f) (λ r. r.0) [] fs))
       → PatHeld a_pat (forms.record_pat_form at dots p q) (if_read y (es ++ fs))
   unfolding forms.record_pat_form
-  record_held dots {p = p} h t = behind_path y says hq by
+  record_held dots {p = p} h t = behind_path fs y says hq by
     where
       by : (o : Option HirPath) → Correct (forms.record_pat_of at dots p o t) (WithPath (named a_pat) es fs o)
-      by None = refused_held t
+      by None = refused_held fs t
       by (Some o) = correct_as (correct_bind (added_all (h t))
           (λ r. correct_bind (correct_alloc_pat (pat.Record o r.0 dots) (Some at)) (λ i. correct_pure (i, r.1))))
           (λ final ps m m' x g row n path. let s = row.second in rw (s.second.is, s.second.still) (record {
             same = (pat_held {ps = ps} {n = m} s.first (λ d le. let i = inners_in final d in
                 same_append final (of_path i o) (all_of (of_pat_field i) row.one.0) es fs
-                (path.same d (omega (le, row.before.nodes, row.before.entries))) (row.first.same d le))).same;
+                (path.same d (omega (le, row.before.nodes, row.before.entries, arith))) (row.first.same d le))).same;
           }))
 
 -- a field without a name is left out
@@ -294,13 +294,13 @@ unfolding forms.pat_field_form
 field_held at n h t = correct_as (correct_bind (h t) (λ r. correct_bind (correct_bind (correct_point_pat_field r.0 at)
     (λ u. correct_pure (Some (record { name = n; pat = r.0 })))) (λ f. correct_pure (f, r.1))))
     (λ final ps m m' x g row. let s = row.second in let f = s.first in rw (s.second.is, s.second.still, f.second.is) (record {
-      same = λ d le. row.first.same d (omega (le, s.before.nodes, s.before.entries));
+      same = λ d le. row.first.same d (omega (le, s.before.nodes, s.before.entries, arith));
     }))
 
-pub nameless_held : {R : Rel (PatId × Table)} (at : Pointer) {p : Table → Lowering (PatId × Table)} (t : Table) → Correct (p t) R
+pub nameless_held : {R : Rel (PatId × Table)} (at : Pointer) (p : Table → Lowering (PatId × Table)) (t : Table) → Correct (p t) R
     → Correct (forms.pat_field_form at None p t) (Holds (named (maybe (λ r f. of_pat_field r f))) [])
 unfolding forms.pat_field_form
-nameless_held at t h = holds_behind h (λ r. holds_none (None, r.1) (λ i. refl))
+nameless_held at p t h = holds_behind h (λ r. holds_none (None, r.1) (λ i. refl))
 
 -- ---- slices, alternatives, literals and ranges
 
@@ -314,9 +314,9 @@ module _ (at : Pointer) {es fs gs : Bodies} where
       (λ final ps m m' x g row. let s = row.second in let u = s.second in let v = u.second in rw (v.second.is, v.second.still) (record {
         same = (pat_held {ps = ps} {n = m} v.first (λ d le. let i = inners_in final d in
             same_append final (all_of i.pat row.one.0) (of_present i.pat s.one.0 ++ all_of i.pat u.one.0) es (fs ++ gs)
-            (row.first.same d (omega (le, s.before.nodes, s.before.entries, u.before.nodes, u.before.entries)))
+            (row.first.same d (omega (le, s.before.nodes, s.before.entries, u.before.nodes, u.before.entries, arith)))
             (same_append final (of_present i.pat s.one.0) (all_of i.pat u.one.0) fs gs
-            (s.first.same d (omega (le, u.before.nodes, u.before.entries))) (u.first.same d le)))).same;
+            (s.first.same d (omega (le, u.before.nodes, u.before.entries, arith))) (u.first.same d le)))).same;
       }))
 
 -- of one alternative, or of more
@@ -340,10 +340,14 @@ pub or_held : {es fs : Bodies} (at : Pointer) {p : Table → Lowering (PatId × 
     → PatHeld a_pat (forms.or_form at p later) (es ++ fs)
 unfolding forms.or_form
 or_held {es = es} {fs = fs} at h hs t = correct_as
-    (correct_bind (added_all (added_more {part = λ r. r.0} [] (h (forms.enter_or t)) (λ r. hs (r.0 ∷ []) r.1)))
-    (λ rs. correct_bind (or_is at rs.0) (λ i. correct_pure (i, forms.leave_or rs.1))))
-    (λ final ps m m' x g row. let s = row.second in rw (s.second.is, s.second.still) (record {
-      same = (s.first.holds (es ++ fs) (record { same = row.first.same })).same;
+    (correct_bind (h (forms.enter_or t)) (λ r. correct_bind (hs (r.0 ∷ []) r.1)
+    (λ rs. correct_bind (or_is at rs.0) (λ i. correct_pure (i, forms.leave_or rs.1)))))
+    (λ final ps m m' x g row. let u = row.second in let s = u.second in rw (s.second.is, s.second.still) (record {
+      same = (s.first.holds (es ++ fs) (record {
+        same = λ d le. let i = inners_in final d in same_ids final (es ++ fs) (ap (all_of i.pat) u.first.is)
+            (same_append final (i.pat row.one.0) (all_of i.pat u.first.new) es fs
+            (row.first.same d (omega (le, u.before.nodes, u.before.entries, arith))) (u.first.rel.same d le));
+      })).same;
     }))
 
 module _ (at : Pointer) where
@@ -388,7 +392,7 @@ module _ (at : Pointer) where
       correct_as (correct_bind hp (λ s. correct_bind hq (λ e. correct_alloc_pat (pat.Range op s e) (Some at))))
       (λ final ps m m' i g row. let s = row.second in pat_held {ps = ps} {n = m} s.second (λ d le. let i = inners_in final d in
       same_append final (of_present i.expr row.one) (of_present i.expr s.one) es fs
-      (row.first.same d (omega (le, s.before.nodes, s.before.entries))) (s.first.same d le)))
+      (row.first.same d (omega (le, s.before.nodes, s.before.entries, arith))) (s.first.same d le)))
 
   pub range_held : {es fs : Bodies} (op : Option RangeOp) {p q : Lowering (Option ExprId)} → Correct p (Holds (maybe an_expr) es)
       → Correct q (Holds (maybe an_expr) fs)

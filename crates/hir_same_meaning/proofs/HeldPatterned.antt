@@ -1,5 +1,5 @@
 -- What forms with patterns become holds what their parts hold: targets, `let`, `match` and ranges.
-use Rattle.std.proofs.Common.{◌≡◌, ◌∙◌, refl, ap, Bool, false, List, [], ◌∷◌, ◌++◌, append-nil, ℕ, ◌+◌}
+use Rattle.std.proofs.Common.{◌≡◌, ◌∙◌, refl, ap, Bool, false, List, [], ◌∷◌, ◌++◌, append-nil, ℕ, ◌+◌, arith}
 use Rattle.std.proofs.Common.{◌≤◌, Option, Some, None}
 use Rattle.hir_store.specs.Pointers.{Pointer}
 use Rattle.hir_store.specs.declared.hir.Expr.TheVariants as hir
@@ -41,11 +41,11 @@ use Rattle.hir_same_meaning.proofs.TargetPlaces.{parts_of, spread_any}
 -- ---- a whole pattern
 
 -- its bindings get their problems, and nothing else
-pub top_held : {es : Bodies} {p : Table → Lowering (PatId × Table)} → Correct (p no_names) (Holds (named a_pat) es)
+pub top_held : {es : Bodies} (p : Table → Lowering (PatId × Table)) → Correct (p no_names) (Holds (named a_pat) es)
     → Correct (p no_names >>= (λ r. settle r.1 >>= (λ u. pure r.0))) (Holds a_pat es)
-top_held h = correct_as (correct_bind h (λ r. correct_bind (settle_any r.1) (λ u. correct_pure r.0)))
+top_held p h = correct_as (correct_bind h (λ r. correct_bind (settle_any r.1) (λ u. correct_pure r.0)))
     (λ final ps m m' i g row. let s = row.second in rw (s.second.is, s.second.still) (record {
-      same = λ d le. row.first.same d (omega (le, s.before.nodes, s.before.entries));
+      same = λ d le. row.first.same d (omega (le, s.before.nodes, s.before.entries, arith));
     }))
 
 -- ---- what is assigned to
@@ -63,9 +63,9 @@ list_held : {es : Bodies} {p : Lowering Elements} (from : Option Pointer) (con :
 list_held {es = es} from con h = correct_as (correct_bind h (λ r. correct_bind (parts_of r) (λ k. correct_alloc_pat (con k.0 k.1) from)))
     (λ final ps m m' i g row fs make. let e = row.first in let s = row.second in
     pat_held {ps = ps} {n = m} s.second (λ d le. make d
-    (omega (le, row.before.nodes, row.before.entries, s.before.nodes, s.before.entries)) s.one.0 s.one.1
+    (omega (le, row.before.nodes, row.before.entries, s.before.nodes, s.before.entries, arith)) s.one.0 s.one.1
     (same_ids final es (ap (all_of (inners_in final d).pat) (s.first ∙ e.is))
-    (e.rel.same d (omega (le, s.before.nodes, s.before.entries))))))
+    (e.rel.same d (omega (le, s.before.nodes, s.before.entries, arith))))))
 
 target_path_is : (h : HygieneId) (r : Inners) (p : Option HirPath) → of_pat r (forms.path_target_of h p) ≡ a_path r p
 target_path_is h r None = refl
@@ -100,16 +100,16 @@ module _ (at : Pointer) where
       (λ final ps m m' i g row. let s = row.second in let u = s.second in
       pat_held {ps = ps} {n = m} u.second (λ d le. let r = inners_in final d in
       same_append final (all_of r.pat row.one.0) (of_present r.pat u.one ++ all_of r.pat s.one.0) es fs
-      (row.first.same d (omega (le, s.before.nodes, s.before.entries, u.before.nodes, u.before.entries)))
+      (row.first.same d (omega (le, s.before.nodes, s.before.entries, u.before.nodes, u.before.entries, arith)))
       (same_append final (of_present r.pat u.one) (all_of r.pat s.one.0) [] fs (u.first.same d le)
-      (s.first.same d (omega (le, u.before.nodes, u.before.entries))))))
+      (s.first.same d (omega (le, u.before.nodes, u.before.entries, arith))))))
 
   module _ {es fs : Bodies} (y : Option PathRead) {q : Lowering (Option HirPath)} (says : Correct q (PathIs y))
       (hq : Correct q (Holds a_path es)) where
     pub call_target_held : {p : Lowering Elements} → Correct p (Added a_pat parts [] fs)
         → Correct (forms.call_target_form at p q) (Holds a_pat (if_read y (es ++ fs)))
     unfolding forms.call_target_form
-    call_target_held {p = p} h = behind_path y says hq by
+    call_target_held {p = p} h = behind_path fs y says hq by
       where
         by : (o : Option HirPath) → Correct (forms.call_target_of at p o) (WithPath a_pat es fs o)
         by None = correct_as absent_held (λ final ps m m' i g row n h. row)
@@ -121,7 +121,7 @@ module _ (at : Pointer) where
         → Correct p (Holds (each (λ r f. of_pat_field r f)) fs)
         → Correct (forms.record_target_form at dots others p q) (Holds a_pat (if_read y (es ++ fs)))
     unfolding forms.record_target_form
-    record_target_held dots others {p = p} h = behind_path y says hq by
+    record_target_held dots others {p = p} h = behind_path fs y says hq by
       where
         by : (o : Option HirPath) → Correct (forms.record_target_of at dots others p o) (WithPath a_pat es fs o)
         by None = correct_as absent_held (λ final ps m m' i g row n h. row)
@@ -130,7 +130,7 @@ module _ (at : Pointer) where
             (λ final ps m m' i g row n path. let s = row.second in
             pat_held {ps = ps} {n = m} s.second (λ d le. let r = inners_in final d in
             same_append final (of_path r o) (all_of (of_pat_field r) s.one) es fs
-            (path.same d (omega (le, row.before.nodes, row.before.entries, s.before.nodes, s.before.entries))) (s.first.same d le)))
+            (path.same d (omega (le, row.before.nodes, row.before.entries, s.before.nodes, s.before.entries, arith))) (s.first.same d le)))
 
   pub target_field_held : {es : Bodies} (n : Name) {p : Lowering PatId} → Correct p (Holds a_pat es)
       → Correct (forms.target_field_form at (Some n) p) (Holds (maybe (λ r f. of_pat_field r f)) es)
@@ -138,7 +138,7 @@ module _ (at : Pointer) where
   target_field_held n h = correct_as (correct_bind h (λ i. correct_bind (correct_point_pat_field i at)
       (λ u. correct_pure (Some (record { name = n; pat = i })))))
       (λ final ps m m' o g row. rw row.second.second.is (record {
-        same = λ d le. row.first.same d (omega (le, row.after.nodes, row.after.entries));
+        same = λ d le. row.first.same d (omega (le, row.after.nodes, row.after.entries, arith));
       }))
 
   pub nameless_target_held : {R : Rel PatId} {p : Lowering PatId} → Correct p R
@@ -200,7 +200,7 @@ made_held at (tree.call_range item) s e = correct_as
     (λ f. correct_alloc (hir.Call f (end_operand s ++ end_operand e)) (Some at)))
     (λ final ps m m' i g row es h. expr_held {ps = ps} {n = m} row.second row.after (λ d le. let r = inners_in final d in
     same_append final (r.expr row.one) (all_of r.expr (end_operand s ++ end_operand e)) [] es (row.first.same d le)
-    (same_ids final es (operands_are r s e) (h d (omega (le, row.before.nodes, row.before.entries))))))
+    (same_ids final es (operands_are r s e) (h d (omega (le, row.before.nodes, row.before.entries, arith))))))
 made_held at tree.itemless_range s e = correct_as (expr0 hir.Missing (Some at) (λ r. refl)) (λ final ps m m' i g row es h. row)
 
 pub range_held : {es fs : Bodies} (at : Pointer) (form : RangeForm) {p q : Lowering (Option ExprId)} → Correct p (Holds (maybe an_expr) es)
@@ -210,7 +210,7 @@ range_held {es = es} {fs = fs} at form hp hq = correct_as (correct_bind hp (λ s
     (λ final ps m m' i g row. let s = row.second in record {
       same = (s.second (es ++ fs) (λ d le. let r = inners_in final d in
           same_append final (of_present r.expr row.one) (of_present r.expr s.one) es fs
-          (row.first.same d (omega (le, s.before.nodes, s.before.entries))) (s.first.same d le))).same;
+          (row.first.same d (omega (le, s.before.nodes, s.before.entries, arith))) (s.first.same d le))).same;
     })
 
 -- ---- arms and `let` statements
@@ -225,9 +225,9 @@ arm_held {es = es} {fs = fs} {gs = gs} hp hg he = correct_as (correct_bind hp (�
     (λ final ps m m' o u row. let s = row.second in let v = s.second in rw (v.second.is, v.second.still) (record {
       same = λ d le. let r = inners_in final d in
           same_append final (r.pat row.one) (of_present r.expr v.one ++ r.expr s.one) es (fs ++ gs)
-          (row.first.same d (omega (le, s.before.nodes, s.before.entries, v.before.nodes, v.before.entries)))
+          (row.first.same d (omega (le, s.before.nodes, s.before.entries, v.before.nodes, v.before.entries, arith)))
           (same_append final (of_present r.expr v.one) (r.expr s.one) fs gs (v.first.same d le)
-          (s.first.same d (omega (le, v.before.nodes, v.before.entries))));
+          (s.first.same d (omega (le, v.before.nodes, v.before.entries, arith))));
     }))
 
 pub let_stmt_held : {es fs gs hs : Bodies} {p : Lowering PatId} {t : Lowering (Option TypeRefId)} {i b : Lowering (Option ExprId)}
@@ -243,9 +243,9 @@ let_stmt_held {es = es} {fs = fs} {gs = gs} {hs = hs} hp ht hi hb = correct_as
           same_append final (r.pat row.one) (of_present r.type s.one ++ (of_present r.expr v.one ++ of_present r.expr w.one))
           es (fs ++ (gs ++ hs))
           (row.first.same d
-          (omega (le, s.before.nodes, s.before.entries, v.before.nodes, v.before.entries, w.before.nodes, w.before.entries)))
+          (omega (le, s.before.nodes, s.before.entries, v.before.nodes, v.before.entries, w.before.nodes, w.before.entries, arith)))
           (same_append final (of_present r.type s.one) (of_present r.expr v.one ++ of_present r.expr w.one) fs (gs ++ hs)
-          (s.first.same d (omega (le, v.before.nodes, v.before.entries, w.before.nodes, w.before.entries)))
+          (s.first.same d (omega (le, v.before.nodes, v.before.entries, w.before.nodes, w.before.entries, arith)))
           (same_append final (of_present r.expr v.one) (of_present r.expr w.one) gs hs
-          (v.first.same d (omega (le, w.before.nodes, w.before.entries))) (w.first.same d le)));
+          (v.first.same d (omega (le, w.before.nodes, w.before.entries, arith))) (w.first.same d le)));
     }))

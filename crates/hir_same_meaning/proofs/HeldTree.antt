@@ -83,6 +83,10 @@ dots_hold_nothing (tree.over_pat at form p) e = absurd (true≢false (sym e))
 dots_hold_nothing (tree.literal_pat at own l) e = refl
 dots_hold_nothing (tree.range_pat at op s e) k = absurd (true≢false (sym k))
 
+-- what came of a field, which may be left out
+abbrev field_kept : Option RecordFieldPat × Table → Option RecordFieldPat
+field_kept r = r.0
+
 mutual
   -- ---- types
 
@@ -299,7 +303,7 @@ mutual
 
   top_holds : (p : OptionPat) → Correct (lower.lower_top p) (Holds a_pat (inner.pat_part_bodies p))
   top_holds tree.no_pat = pats.absent_held
-  top_holds (tree.some_pat p) = patterned.top_held {p = lower.lower_pat p} (pat_holds p no_names)
+  top_holds (tree.some_pat p) = patterned.top_held (lower.lower_pat p) (pat_holds p no_names)
 
   pat_holds : (p : Pat) → PatHeld a_pat (lower.lower_pat p) (inner.pat_bodies p)
   pat_holds (tree.leaf_pat at form) = pats.leaf_held at form
@@ -350,14 +354,14 @@ mutual
       → Correct (lower.lower_pat_fields done fs t) (Added a_field_pat (λ r. r.0) done (inner.pat_fields_bodies fs))
   pat_fields_hold tree.no_pat_fields done t = added_none (λ r. r.0) (done, t)
   pat_fields_hold (tree.more_pat_fields (tree.disabled_pat_field at by f) fs) done t =
-      added_some {part = λ r. r.0} done (holds_behind (correct_report (InactiveCode at by)) (λ u. holds_none (None, t) (λ r. refl)))
+      added_some field_kept done (holds_behind (correct_report (InactiveCode at by)) (λ u. holds_none (None, t) (λ r. refl)))
       (λ r. pat_fields_hold fs (push_some done r.0) r.1)
   pat_fields_hold (tree.more_pat_fields tree.partless_pat_field fs) done t =
-      added_some {part = λ r. r.0} done (holds_none (None, t) (λ r. refl)) (λ r. pat_fields_hold fs (push_some done r.0) r.1)
+      added_some field_kept done (holds_none (None, t) (λ r. refl)) (λ r. pat_fields_hold fs (push_some done r.0) r.1)
   pat_fields_hold (tree.more_pat_fields (tree.pat_field at None p) fs) done t =
-      added_some {part = λ r. r.0} done (pats.nameless_held at t (pat_holds p t)) (λ r. pat_fields_hold fs (push_some done r.0) r.1)
+      added_some field_kept done (pats.nameless_held at (lower.lower_pat p) t (pat_holds p t)) (λ r. pat_fields_hold fs (push_some done r.0) r.1)
   pat_fields_hold (tree.more_pat_fields (tree.pat_field at (Some n) p) fs) done t =
-      added_some {part = λ r. r.0} done (pats.field_held at n (pat_holds p) t) (λ r. pat_fields_hold fs (push_some done r.0) r.1)
+      added_some field_kept done (pats.field_held at n (pat_holds p) t) (λ r. pat_fields_hold fs (push_some done r.0) r.1)
 
   side_holds : (s : Side) → Correct (lower.lower_side s) (Holds (maybe an_expr) (inner.side_bodies s))
   side_holds tree.no_side = holds_none None (λ r. refl)
@@ -402,7 +406,7 @@ mutual
   target_holds (tree.place_target at e) = patterned.place_held at (expr_holds e)
   target_holds (tree.wild_target at) = pat0 pat.Wild (Some at) (λ r. refl)
   target_holds (tree.path_target at p h) =
-      patterned.path_target_held at h (paths.path_held (tree.some_path p) (outer_holds (tree.some_path p)))
+      patterned.path_target_held at h (paths.path_held (tree.some_path p) (all_hold p))
   target_holds (tree.tuple_target at ts) = patterned.tuple_target_held at (targets_hold ts no_elements)
   target_holds (tree.call_target at p ts) = patterned.call_target_held at (path_of p) (path_reads p)
       (paths.path_held p (outer_holds p)) (targets_hold ts no_elements)

@@ -126,7 +126,7 @@ mutual
   arms_fine : (arms : Arms) (done : List MatchArm)
       → Correct (lower_arms done arms) (Forms.Pushed done (Patterned.ArmsAre (λ v site turns ss. run_arms turns arms v site ss)))
   arms_fine tree.no_arms done =
-      correct_as (correct_pure done) (λ final ps m m' r g row. Forms.pushed_none done row.is Patterned.no_arms_are)
+      correct_as (correct_pure done) (λ final ps m m' r g row. Forms.pushed_none done row.is (Patterned.no_arms_are m m'))
   arms_fine (tree.more_arms (tree.disabled_arm at by a) arms) done = correct_as
       (correct_bind (correct_bind (correct_report (InactiveCode at by)) (λ u. correct_pure None)) (λ o. arms_fine arms (push_some done o)))
       (λ final ps m m' r g row. Patterned.arms_skip done row.one row.first.second.is row.before row.second)

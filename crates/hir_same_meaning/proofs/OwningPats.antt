@@ -99,11 +99,12 @@ module _ (part : PatId → List ExprId → List ExprId) (front : (p : PatId) (is
 in_store_front : (s : Store) (c : ℕ) (p : PatId) (is : List ExprId) → places_to s c p is ≡ places_to s c p [] ++ is
 unfolding places_to
 in_store_front s zero p is = refl
-in_store_front s (suc c) p is = by (slice_get s.pats p.0)
+in_store_front s (suc c) p is = by (slice_get s.pats p.0) (in_store_front s c)
   where
-    by : (o : Option HirPat) → places_found (places_to s c) o is ≡ places_found (places_to s c) o [] ++ is
-    by None = refl
-    by (Some q) = in_front (places_to s c) (in_store_front s c) q is
+    by : (o : Option HirPat) → ((q : PatId) (is : List ExprId) → places_to s c q is ≡ places_to s c q [] ++ is)
+        → places_found (places_to s c) o is ≡ places_found (places_to s c) o [] ++ is
+    by None front = refl
+    by (Some q) front = in_front (places_to s c) front q is
 
 -- ---- what is assigned to
 
@@ -180,7 +181,7 @@ pub place_owns : (at : Pointer) {e : ExprSteps} → Correct e Owns → Correct (
 unfolding forms.place_form
 place_owns at h = correct_as (correct_bind h (λ e. correct_alloc_pat (pat.Expr e) (Some at)))
     (λ final ps m m' i g row. place_at m row.second row.before.nodes (λ c d le le'.
-    rw (append-nil (reached_to (store_of final) d row.one)) (row.first.spread d (omega (le', row.after.nodes)))))
+    rw (append-nil (reached_to (store_of final) d row.one)) (row.first.spread d (omega (le', row.after.nodes, arith)))))
 
 pub record ElementsOwn (done : Elements) (final : Stored) (ps : List Frame) (m m' : Mark) (r : Elements) : Type 0 where
   pub new : List PatId
@@ -195,16 +196,16 @@ none_own done = correct_as (correct_pure done) (λ final ps m m' r g row. rw row
 }))
 
 -- those of a pattern, and of others behind it
-both_own : {final : Stored} {ps : List Frame} {m n m' : Mark} {i : PatId} {is : ℕ → List ExprId} → Grows m n → Grows n m'
+both_own : {final : Stored} {ps : List Frame} {m n m' : Mark} {i : PatId} (is : ℕ → List ExprId) → Grows m n → Grows n m'
     → OwnsPlaces final ps m n i
     → ((c d : ℕ) → m'.pats ≤ c → m'.nodes ≤ d → Spread n.nodes m'.nodes (of_each (reached_to (store_of final) d) (is c)))
     → (c d : ℕ) → m'.pats ≤ c → m'.nodes ≤ d
     → Spread m.nodes m'.nodes (of_each (reached_to (store_of final) d) (places_to (store_of final) c i (is c)))
-both_own {final = final} {m = m} {m' = m'} {i = i} {is = is} g g' h k c d le le' =
+both_own {final = final} {m = m} {m' = m'} {i = i} is g g' h k c d le le' =
     let s = store_of final in
     rw (in_store_front s c i (is c), each_append (reached_to s d) (places_to s c i []) (is c))
     (spread_append m.nodes m'.nodes (inl (omega arith)) (omega arith)
-    (h.spread c d (omega (le, g'.pats)) (omega (le', g'.nodes))) (k c d le le'))
+    (h.spread c d (omega (le, g'.pats, arith)) (omega (le', g'.nodes, arith))) (k c d le le'))
 
 pub more_own : {p : Lowering PatId} {q : Elements → Lowering Elements} → Correct p OwnsPlaces
     → ((done : Elements) → Correct (q done) (ElementsOwn done)) → (done : Elements)
@@ -214,7 +215,7 @@ more_own h hs done = correct_as (correct_bind h (λ i. hs (forms.add_target done
       new = row.one ∷ s.new;
       is = pushed_one done.0 row.one s.new s.is;
       rel = record {
-        spread = both_own {is = λ c. places_in_each (places_to (store_of final) c) s.new []} row.before row.after row.first s.rel.spread;
+        spread = both_own (λ c. places_in_each (places_to (store_of final) c) s.new []) row.before row.after row.first s.rel.spread;
       };
     })
 
@@ -231,10 +232,10 @@ list_own : {p : Lowering Elements} (from : Option Pointer) (con : Option ℕ →
     → Correct (p >>= (λ r. elements_form false r >>= (λ es. alloc_pat (con es.0 es.1) from))) OwnsPlaces
 list_own from con e h = correct_as (correct_bind h (λ r. correct_bind (parts_of r) (λ es. correct_alloc_pat (con es.0 es.1) from)))
     (λ final ps m m' i g row. let s = row.second in
-    place_at m s.second (omega (row.before.nodes, s.before.nodes)) (λ c d le le'.
+    place_at m s.second (omega (row.before.nodes, s.before.nodes, arith)) (λ c d le le'.
     rw (e (places_to (store_of final) c) s.one.0 s.one.1, s.first, row.first.is)
     (spread_wider m.nodes s.middle.nodes (omega arith) s.before.nodes
-    (row.first.rel.spread c d (omega (le, s.before.pats)) (omega (le', s.before.nodes, s.after.nodes))))))
+    (row.first.rel.spread c d (omega (le, s.before.pats, arith)) (omega (le', s.before.nodes, s.after.nodes, arith))))))
 
 module _ (at : Pointer) {b : Lowering Elements} (hb : Correct b (ElementsOwn no_elements)) where
   pub tuple_target_owns : Correct (forms.tuple_target_form at b) OwnsPlaces
@@ -262,7 +263,7 @@ module _ (at : Pointer) {b : Lowering Elements} (hb : Correct b (ElementsOwn no_
   array_target_owns dots ha = correct_as (correct_bind hb (λ b. correct_bind ha (λ a. correct_bind (rest_owns dots)
       (λ o. correct_alloc_pat (pat.Slice b.0 o a.0) (Some at)))))
       (λ final ps m m' i g row. let x = row.first in let s = row.second in let y = s.first in let u = s.second in
-      place_at m u.second (omega (row.before.nodes, s.before.nodes, u.before.nodes)) (λ c d le le'.
+      place_at m u.second (omega (row.before.nodes, s.before.nodes, u.before.nodes, arith)) (λ c d le le'.
       let part = places_to (store_of final) c in
       let front = in_store_front (store_of final) c in
       let f = reached_to (store_of final) d in
@@ -274,11 +275,11 @@ module _ (at : Pointer) {b : Lowering Elements} (hb : Correct b (ElementsOwn no_
         each_append f (places_in_each part x.new []) (places_in_present part u.one [] ++ places_in_each part y.new []),
         each_append f (places_in_present part u.one []) (places_in_each part y.new []),
       )
-      (spread_append m.nodes u.middle.nodes (inl (omega arith)) (omega (s.before.nodes, u.before.nodes, row.before.nodes))
-      (x.rel.spread c d (omega (le, s.before.pats, u.before.pats)) (omega (le', s.before.nodes, u.before.nodes, u.after.nodes)))
-      (spread_append row.middle.nodes u.middle.nodes (inr (omega arith)) (omega (s.before.nodes, u.before.nodes))
-      (u.first.spread c d le (omega (le', u.after.nodes)))
-      (y.rel.spread c d (omega (le, u.before.pats)) (omega (le', u.before.nodes, u.after.nodes)))))))
+      (spread_append m.nodes u.middle.nodes (inl (omega arith)) (omega (s.before.nodes, u.before.nodes, row.before.nodes, arith))
+      (x.rel.spread c d (omega (le, s.before.pats, u.before.pats, arith)) (omega (le', s.before.nodes, u.before.nodes, u.after.nodes, arith)))
+      (spread_append row.middle.nodes u.middle.nodes (inr (omega arith)) (omega (s.before.nodes, u.before.nodes, arith))
+      (u.first.spread c d le (omega (le', u.after.nodes, arith)))
+      (y.rel.spread c d (omega (le, u.before.pats, arith)) (omega (le', u.before.nodes, u.after.nodes, arith)))))))
 
 -- fields of a record
 
@@ -300,7 +301,7 @@ target_field_owns at (Some n) h = correct_as (correct_bind h (λ i. correct_bind
     (λ u. correct_pure (Some (record { name = n; pat = i })))))
     (λ final ps m m' o g row. rw row.second.second.is (record {
       spread = λ c d le le'. spread_wider m.nodes m'.nodes (omega arith) row.after.nodes
-          (row.first.spread c d (omega (le, row.after.pats)) (omega (le', row.after.nodes)));
+          (row.first.spread c d (omega (le, row.after.pats, arith)) (omega (le', row.after.nodes, arith)));
     }))
 
 pub target_fields_more : {final : Stored} {ps : List Frame} {m n m' : Mark} {r : List RecordFieldPat} (done : List RecordFieldPat)
@@ -311,11 +312,12 @@ target_fields_more {m = m} {m' = m'} done None g g' h p = record {
   is = p.is;
   rel = record { spread = λ c d le le'. spread_wider m.nodes m'.nodes g.nodes (omega arith) (p.rel.spread c d le le') };
 }
-target_fields_more {final = final} done (Some f) g g' h p = record {
+target_fields_more {final = final} {ps = ps} {m = m} {n = n} {m' = m'} done (Some f) g g' h p = record {
   new = f ∷ p.new;
   is = pushed_one done f p.new p.is;
   rel = record {
-    spread = both_own {is = λ c. places_in_fields (places_to (store_of final) c) p.new []} g g' (record { spread = h.spread }) p.rel.spread;
+    spread = both_own {final = final} {ps = ps} {m = m} {n = n} {m' = m'} {i = f.pat}
+        (λ c. places_in_fields (places_to (store_of final) c) p.new []) g g' (record { spread = h.spread }) p.rel.spread;
   };
 }
 
@@ -330,9 +332,9 @@ record_target_owns at dots spread {fs = fs} hq h = behind_path hq by
     by (Some p) = correct_as (correct_bind (spread_any spread) (λ u. correct_bind h
         (λ fs. correct_alloc_pat (pat.Record p fs dots) (Some at))))
         (λ final ps m m' i g row. let s = row.second in
-        place_at m s.second (omega (row.before.nodes, s.before.nodes)) (λ c d le le'. rw s.first.is
+        place_at m s.second (omega (row.before.nodes, s.before.nodes, arith)) (λ c d le le'. rw s.first.is
         (spread_wider m.nodes s.middle.nodes row.before.nodes (omega arith)
-        (s.first.rel.spread c d le (omega (le', s.after.nodes))))))
+        (s.first.rel.spread c d le (omega (le', s.after.nodes, arith))))))
 
 pub assign_owns : (at : Pointer) {t : Lowering PatId} {v : ExprSteps} → Correct t OwnsPlaces → Correct v Owns
     → Correct (assign_form at t v) Owns
@@ -340,9 +342,9 @@ unfolding assign_form places
 assign_owns at ht hv = correct_as
     (correct_bind (correct_in_store ht) (λ i. correct_bind hv (λ e. correct_alloc (hir.Assignment i e) (Some at))))
     (λ final ps m m' k g row. let s = row.second in
-    owns_at m s.second (omega (row.before.nodes, s.before.nodes)) (λ d le. spread_append m.nodes s.middle.nodes (inl (omega arith))
-    (omega (row.before.nodes, s.before.nodes))
-    (row.first.rel.spread (length final.pats.entries) d row.first.pats (omega (le, s.before.nodes))) (s.first.spread d le)))
+    owns_at m s.second (omega (row.before.nodes, s.before.nodes, arith)) (λ d le. spread_append m.nodes s.middle.nodes (inl (omega arith))
+    (omega (row.before.nodes, s.before.nodes, arith))
+    (row.first.rel.spread (length final.pats.entries) d row.first.pats (omega (le, s.before.nodes, arith))) (s.first.spread d le)))
 
 -- ---- `let`, `match` and ranges
 
@@ -350,7 +352,7 @@ pub let_owns : (at : Pointer) (p : OptionPat) {e : ExprSteps} → Correct e Owns
 unfolding let_form
 let_owns at p h = correct_as (correct_bind (top_any p) (λ i. correct_bind h (λ e. correct_alloc (hir.Let i e) (Some at))))
     (λ final ps m m' k g row. let s = row.second in
-    owns_at m s.second (omega (row.before.nodes, s.before.nodes)) (λ d le.
+    owns_at m s.second (omega (row.before.nodes, s.before.nodes, arith)) (λ d le.
     spread_wider m.nodes s.middle.nodes row.before.nodes (omega arith) (s.first.spread d le)))
 
 pub match_owns : (at : Pointer) {e : ExprSteps} {arms : Lowering (List MatchArm)} → Correct e Owns → Correct arms (OwnsAs of_arms)
@@ -368,8 +370,8 @@ unfolding arm_form
 arm_owns p he hg = correct_as (correct_bind (top_any p) (λ i. correct_bind he (λ e. correct_bind hg
     (λ g. correct_pure (Some (record { pat = i; guard = g; expr = e }))))))
     (λ final ps m m' a g row. let s = row.second in let u = s.second in rw (u.second.is, u.second.still) (record {
-      spread = λ d le. spread_append m.nodes u.middle.nodes (inl (omega arith)) (omega (row.before.nodes, s.before.nodes, u.before.nodes))
-          (s.first.spread d (omega (le, u.before.nodes))) (u.first.spread d le);
+      spread = λ d le. spread_append m.nodes u.middle.nodes (inl (omega arith)) (omega (row.before.nodes, s.before.nodes, u.before.nodes, arith))
+          (s.first.spread d (omega (le, u.before.nodes, arith))) (u.first.spread d le);
     }))
 
 pub arms_more : {final : Stored} {ps : List Frame} {m m1 m' : Mark} {r : List MatchArm} (done : List MatchArm)
@@ -421,10 +423,10 @@ made_owns at (tree.record_range item last) s e =
 made_owns at (tree.call_range item) s e = correct_as
     (correct_bind (leaf_owns (item_expr item) None (item_below item))
     (λ c. correct_alloc (hir.Call c (end_operand s ++ end_operand e)) (Some at)))
-    (λ final ps m m' i g row from le h. owns_at from row.second (omega (le, row.before.nodes)) (λ d ge.
+    (λ final ps m m' i g row from le h. owns_at from row.second (omega (le, row.before.nodes, arith)) (λ d ge.
     rw (operands_below (reached_to (store_of final) d) s e)
-    (spread_append from.nodes row.middle.nodes (inr (omega arith)) (omega (le, row.before.nodes))
-    (row.first.spread d ge) (h d (omega (ge, row.before.nodes))))))
+    (spread_append from.nodes row.middle.nodes (inr (omega arith)) (omega (le, row.before.nodes, arith))
+    (row.first.spread d ge) (h d (omega (ge, row.before.nodes, arith))))))
 made_owns at tree.itemless_range s e = correct_as (correct_alloc hir.Missing (Some at))
     (λ final ps m m' i g a from le h. owns_at from a le (λ d ge. spread_none from.nodes m.nodes))
 
@@ -432,9 +434,9 @@ pub range_owns : (at : Pointer) (form : RangeForm) {q r : Lowering (Option ExprI
     → Correct (range_form at form q r) Owns
 unfolding range_form
 range_owns at form hq hr = correct_as (correct_bind hq (λ s. correct_bind hr (λ e. made_owns at form s e)))
-    (λ final ps m m' i g row. let u = row.second in u.second m (omega (row.before.nodes, u.before.nodes)) (λ d le.
-    spread_append m.nodes u.middle.nodes (inl (omega arith)) (omega (row.before.nodes, u.before.nodes))
-    (row.first.spread d (omega (le, u.before.nodes))) (u.first.spread d le)))
+    (λ final ps m m' i g row. let u = row.second in u.second m (omega (row.before.nodes, u.before.nodes, arith)) (λ d le.
+    spread_append m.nodes u.middle.nodes (inl (omega arith)) (omega (row.before.nodes, u.before.nodes, arith))
+    (row.first.spread d (omega (le, u.before.nodes, arith))) (u.first.spread d le)))
 
 -- ---- `let` statements
 
@@ -453,8 +455,8 @@ let_stmt_owns p t hq hr = correct_as (correct_bind (top_any p) (λ i. correct_bi
       is = v.second.is;
       rel = rw v.second.still (record {
         spread = λ d le. spread_append m.nodes v.middle.nodes (inl (omega arith))
-            (omega (row.before.nodes, s.before.nodes, u.before.nodes, v.before.nodes))
-            (u.first.spread d (omega (le, v.before.nodes))) (v.first.spread d le);
+            (omega (row.before.nodes, s.before.nodes, u.before.nodes, v.before.nodes, arith))
+            (u.first.spread d (omega (le, v.before.nodes, arith))) (v.first.spread d le);
       });
     })
 

@@ -129,10 +129,10 @@ arm_fine p {g = g} hq hr = correct_as (correct_bind (top_now p) (λ i. correct_b
     guard_within final ps (Some x) None le le' h = absurd h
     guard_within final ps (Some x) (Some i) le le' h = goes_within (record { labels_from = le; nodes_to = le' }) h
 
-pub no_arms_are : {final : Stored} {ps : List Frame} {m m' : Mark} → ArmsAre (λ v site turns ss. ends (leave unmatched)) final ps m m' []
-no_arms_are = record { same = λ turns d le f v site. same_ends (leave unmatched) refl; jumps = λ d le. tt }
+pub no_arms_are : {final : Stored} {ps : List Frame} (m m' : Mark) → ArmsAre (λ v site turns ss. ends (leave unmatched)) final ps m m' []
+no_arms_are m m' = record { same = λ turns d le f v site. same_ends (leave unmatched) refl; jumps = λ d le. tt }
 
-module _ {labels nodes : ℕ} {final : Stored} {ps : List Frame} where
+module _ (labels nodes : ℕ) (final : Stored) (ps : List Frame) where
   same_guarded : (turns d : ℕ) → nodes ≤ d → Falls labels ps → (g : Option (Walk Value)) (o : Option ExprId) (site : Option Site)
       → GuardIs labels nodes final ps g o → {m m' : StoreRun Value} {n n' : SyntaxRun Value} → SameWhere ps m n → SameWhere ps m' n'
       → SameWhere ps (run_guarded turns (run_in final d turns) o site m m') (guarded g site n n' turns (scopes ps))
@@ -149,15 +149,16 @@ module _ {labels nodes : ℕ} {final : Stored} {ps : List Frame} where
   guard_jumps d le (Some x) None h = absurd h
   guard_jumps d le (Some x) (Some i) h = h.jumps d le
 
+module _ {labels nodes : ℕ} {final : Stored} {ps : List Frame} where
   arms_go : {x : Walk Value} {y : ArmsWalk} {arms : List MatchArm} (d : PatData) (g : Option (Walk Value)) (a : MatchArm)
       → pat_in final a.pat ≡ d → GuardIs labels nodes final ps g a.guard → Goes labels nodes one x final ps a.expr
       → ArmsGo labels nodes y final ps arms → ArmsGo labels nodes (arm_walk d g x y) final ps (a ∷ arms)
   arms_go {x = x} {y = y} {arms = arms} d g a is h k l =
       subst (λ z. ArmsGo labels nodes (arm_walk z g x y) final ps (a ∷ arms)) is (record {
         same = λ turns n le f v site. same_bind (same_tests_pattern (pat_in final a.pat) v) (λ fits. same_if fits
-            (same_guarded turns n le f g a.guard site h (k.same turns n le f) (l.same turns n le f v site))
+            (same_guarded labels nodes final ps turns n le f g a.guard site h (k.same turns n le f) (l.same turns n le f v site))
             (l.same turns n le f v site));
-        jumps = λ n le. (guard_jumps n le g a.guard h, k.jumps n le, l.jumps n le);
+        jumps = λ n le. (guard_jumps labels nodes final ps n le g a.guard h, k.jumps n le, l.jumps n le);
       })
 
 arms_within : {labels nodes labels' nodes' : ℕ} {y : ArmsWalk} {final : Stored} {ps : List Frame} {arms : List MatchArm}
@@ -186,25 +187,26 @@ arms_more {final = final} {ps = ps} {m = m} {m1 = m1} {m' = m'} {d = d} {g = g} 
     let q = subst (λ z. Pushed (push_some done z) (ArmsAre y) final ps m1 m' r) h.is p in record {
       new = h.arm ∷ q.new;
       is = pushed_one done h.arm q.new q.is;
-      rel = arms_go d g h.arm h.pattern (guard_to final ps g h.arm.guard (omega arith) h.guard) (goes_within (omega arith) h.body)
+      rel = arms_go d g h.arm h.pattern (guard_to m.labels final ps g h.arm.guard (omega arith) h.guard) (goes_within (omega arith) h.body)
           (arms_within (omega arith) (omega arith) q.rel);
     }
   where
-    guard_to : {labels nodes nodes' : ℕ} (final : Stored) (ps : List Frame) (g : Option (Walk Value)) (o : Option ExprId)
+    guard_to : {nodes nodes' : ℕ} (labels : ℕ) (final : Stored) (ps : List Frame) (g : Option (Walk Value)) (o : Option ExprId)
         → nodes ≤ nodes' → GuardIs labels nodes final ps g o → GuardIs labels nodes' final ps g o
-    guard_to final ps None None le h = tt
-    guard_to final ps None (Some i) le h = absurd h
-    guard_to final ps (Some x) None le h = absurd h
-    guard_to final ps (Some x) (Some i) le h = goes_within (record { labels_from = omega arith; nodes_to = le }) h
+    guard_to labels final ps None None le h = tt
+    guard_to labels final ps None (Some i) le h = absurd h
+    guard_to labels final ps (Some x) None le h = absurd h
+    guard_to labels final ps (Some x) (Some i) le h = goes_within (record { labels_from = omega arith; nodes_to = le }) h
 
 pub match_fine : (at : Pointer) {p : ExprSteps} {q : Lowering (List MatchArm)} {x : Walk Value} {y : ArmsWalk} → Correct p (Runs one x)
     → Correct q (Pushed [] (ArmsAre y))
     → Correct (match_form at p q) (Runs one (λ turns ss. x turns ss >>= (λ v. y v (Some (site_of at)) turns ss)))
 unfolding match_form
-match_fine at hp hq = correct_as (correct_bind hp (λ e. correct_bind hq (λ arms. correct_alloc (hir.Match e arms) (Some at))))
+match_fine at {y = y} hp hq = correct_as (correct_bind hp (λ e. correct_bind hq (λ arms. correct_alloc (hir.Match e arms) (Some at))))
     (λ final ps m m' i g row. let s = row.second in
     let h = goes_within (omega arith) row.first in
-    let k = arms_within (omega arith) (omega arith) (rw s.first.is s.first.rel) in
+    let k = arms_within {labels = row.middle.labels} {nodes = s.middle.nodes} {labels' = m.labels} {nodes' = s.middle.nodes} {y = y}
+    {final = final} {ps = ps} {arms = s.one} (omega arith) (omega arith) (rw s.first.is s.first.rel) in
     goes_at s.second
     (λ turns d le f. same_bind (h.same turns d le f) (λ v. k.same turns d le f v (Some (site_of at))))
     (λ d le. (h.jumps d le, k.jumps d le)))

@@ -92,11 +92,14 @@ places_at : {p : HirPat} {source : Option Pointer} {x : Placing} {final : Stored
     → ((c : ℕ) → m.pats ≤ c → Put m0.labels m'.nodes x final ps (places_in (places_to (store_of final) c) p))
     → PlacesAre x final ps m0 m' i
 unfolding places_to
-places_at {x = x} {final = final} {ps = ps} {m0 = m0} {m' = m'} {i = i} at h = record { put = by }
+places_at {p = p} {x = x} {final = final} {ps = ps} {m0 = m0} {m' = m'} {i = i} at h = record { put = by }
   where
     by : (c : ℕ) → m'.pats ≤ c → Put m0.labels m'.nodes x final ps (places_to (store_of final) c i)
     by zero le = absurd (omega (arith, le, at.next))
-    by (suc c) le = rw (at.number, at.here) (h c (omega (arith, le, at.next)))
+    by (suc c) le =
+        let found : (is : List ExprId) → places_to (store_of final) (suc c) i is ≡ places_in (places_to (store_of final) c) p is
+        = λ is. rw (at.number, at.here) refl in
+        subst (λ k. Put m0.labels m'.nodes x final ps k) (λ j is. sym (found is) j) (h c (omega (arith, le, at.next)))
 
 -- ---- without places
 
@@ -193,7 +196,7 @@ tuple_places at h = correct_as (correct_bind h (λ r. correct_bind (parts_of r)
     (λ es. correct_alloc_pat (pat.Tuple es.0 es.1) (Some at))))
     (λ final ps m m' i g row. let e = row.first in let s = row.second in
     places_at s.second (λ c le. rw (s.first, e.is)
-    (put_within (omega arith) (omega (s.before.nodes, s.after.nodes)) (e.put c (omega (le, s.before.pats))))))
+    (put_within (omega arith) (omega (s.before.nodes, s.after.nodes, arith)) (e.put c (omega (le, s.before.pats, arith))))))
 
 -- beside a path that is absent or refused nothing runs
 abbrev Found : Option HirPath → Placing → Rel PatId
@@ -230,7 +233,7 @@ call_places {x = x} {p = p} y at hq h = found_places y hq (forms.call_target_of 
         (λ es. correct_alloc_pat (pat.TupleStruct o es.0 es.1) (Some at))))
         (λ final ps m m' i g row. let e = row.first in let s = row.second in
         places_at s.second (λ c le. rw (s.first, e.is)
-        (put_within (omega arith) (omega (s.before.nodes, s.after.nodes)) (e.put c (omega (le, s.before.pats))))))
+        (put_within (omega arith) (omega (s.before.nodes, s.after.nodes, arith)) (e.put c (omega (le, s.before.pats, arith))))))
 
 -- the dots of an array hold no place
 record RestIs (final : Stored) (ps : List Frame) (m m' : Mark) (o : Option PatId) : Type 0 where
@@ -249,11 +252,11 @@ array_places at dots h k = correct_as (correct_bind h (λ b. correct_bind k (λ 
     (λ o. correct_alloc_pat (pat.Slice b.0 o a.0) (Some at)))))
     (λ final ps m m' i g row. let b = row.first in let s = row.second in let a = s.first in let u = s.second in
     places_at u.second (λ c le. rw (b.is, a.is) (put_both
-    (put_within (omega arith) (omega (s.before.nodes, u.before.nodes, u.after.nodes)) (b.put c
-    (omega (le, s.before.pats, u.before.pats))))
+    (put_within (omega arith) (omega (s.before.nodes, u.before.nodes, u.after.nodes, arith)) (b.put c
+    (omega (le, s.before.pats, u.before.pats, arith))))
     (put_both
-    (put_within (omega (row.before.labels, s.before.labels)) (omega u.after.nodes) (u.first.put c le))
-    (put_within row.before.labels (omega (u.before.nodes, u.after.nodes)) (a.put c (omega (le, u.before.pats))))))))
+    (put_within (omega (row.before.labels, s.before.labels, arith)) (omega (u.after.nodes, arith)) (u.first.put c le))
+    (put_within row.before.labels (omega (u.before.nodes, u.after.nodes, arith)) (a.put c (omega (le, u.before.pats, arith))))))))
 
 -- ---- fields of a record
 
@@ -287,7 +290,7 @@ unfolding forms.target_field_form
 field_place at n h = correct_as (correct_bind h (λ i. correct_bind (correct_point_pat_field i at)
     (λ u. correct_pure (Some (record { name = n; pat = i })))))
     (λ final ps m m' o g row. let s = row.second in rw s.second.is (record {
-      put = λ c le. put_within (omega arith) row.after.nodes (row.first.put c (omega (le, row.after.pats)));
+      put = λ c le. put_within (omega arith) row.after.nodes (row.first.put c (omega (le, row.after.pats, arith)));
     }))
 
 pub field_before : {x y : Placing} {p : Lowering (Option RecordFieldPat)} {q : List RecordFieldPat → Lowering (List RecordFieldPat)}
@@ -304,7 +307,7 @@ field_before {x = x} {y = y} h hs done = correct_as (correct_bind h (λ o. hs (p
       new = rest.new;
       is = rest.is;
       rel = record {
-        put = λ c le. put_both (put_within (omega arith) g'.nodes (one.put c (omega (le, g'.pats))))
+        put = λ c le. put_both (put_within (omega arith) g'.nodes (one.put c (omega (le, g'.pats, arith))))
             (put_within g.labels (omega arith) (rest.rel.put c le));
       };
     }
@@ -312,7 +315,7 @@ field_before {x = x} {y = y} h hs done = correct_as (correct_bind h (λ o. hs (p
       new = f ∷ rest.new;
       is = pushed_one done f rest.new rest.is;
       rel = record {
-        put = λ c le. put_both (put_within (omega arith) g'.nodes (one.put c (omega (le, g'.pats))))
+        put = λ c le. put_both (put_within (omega arith) g'.nodes (one.put c (omega (le, g'.pats, arith))))
             (put_within g.labels (omega arith) (rest.rel.put c le));
       };
     }

@@ -12,8 +12,9 @@ use Rattle.hir_env.proofs.Levels.{expr_is_level, plain_is_level}
 use Rattle.hir_env.proofs.PathLevels.{path_is_level, type_is_level}
 use Rattle.hir_lower_handlers.specs.Nests.{HandlesArgs, HandlesBlock, HandlesConstant, HandlesExpr, HandlesPat, HandlesPath, HandlesType}
 use Rattle.hir_lower_handlers.specs.Spots.{spot_at}
-use Rattle.hir_lower_knot.proofs.Kids.{kids_expr, kids_block, expr_below, in_inside}
-use Rattle.hir_lower_knot.proofs.TypeKids.{kids_args, kids_path, kids_type}
+use Rattle.hir_lower_pat.proofs.AimLemmas.{kept_below}
+use Rattle.hir_lower_knot.proofs.Kids.{kids_expr, kids_block, in_inside}
+use Rattle.hir_lower_knot.proofs.TypeKids.{args_read, kids_args, kids_path, kids_type}
 use Rattle.hir_lower_knot.proofs.knot.+lower.Goals as goal
 
 pub maybe_collect_expr-returns : goal.maybe_collect_expr-returns
@@ -25,7 +26,7 @@ maybe_collect_expr-expr_node-requires g t c =
     let d = c.decreases in
     let env = g.E.LowerEnv.answers c.args.env.now in
     let at = spot_at env c.args.place in
-    let size = expr_below at c.args.node.now in
+    let size = kept_below at c.args.node.now in
     kids_expr env (HandlesExpr g.E.LowerEnv.answers _ _ c.args.env.now) (HandlesBlock g.E.LowerEnv.answers _ _ c.args.env.now)
     (HandlesPath g.E.LowerEnv.answers _ _ c.args.env.now) (HandlesType g.E.LowerEnv.answers _ _ c.args.env.now)
     (HandlesArgs g.E.LowerEnv.answers _ _ c.args.env.now) (λ p o. Unit {0}) t
@@ -47,7 +48,7 @@ maybe_collect_expr-expr_node-requires g t c =
     })
     (λ p x h. record {
       callable = λ alloc v old b same is. (rw same (rw is h), λ a m. m);
-      lowers = λ alloc v old new b r same is q. rw (← is) (rw (← same) q.2);
+      lowers = λ alloc v old new b r same is q. args_read g.E.LowerEnv.answers p same is q.2;
     })
     c.args.place (pointer_at at c.args.node.now.id c.args.node.now.range) (out-ExprKind c.args.node.now.kind) (omega (arith, d, size))
 
@@ -90,7 +91,7 @@ collect_block_inside-block_node-requires-clause-parts g t c =
     })
     (λ p x h. record {
       callable = λ alloc v old b same is. (rw same (rw is h), λ a m. m);
-      lowers = λ alloc v old new b r same is q. rw (← is) (rw (← same) q.2);
+      lowers = λ alloc v old new b r same is q. args_read g.E.LowerEnv.answers p same is q.2;
     })
     c.inside-inner.result c.args.node.now (omega (arith, d, size))
 
@@ -127,7 +128,7 @@ read_path_segments-path_node-requires-clause-parts g t c =
       pats = λ p x h. tt;
       lists = λ p x h. record {
         callable = λ alloc v old b same is. (rw same (rw is h), λ a m. m);
-        lowers = λ alloc v old new b r same is q. rw (← is) (rw (← same) q.2);
+        lowers = λ alloc v old new b r same is q. args_read g.E.LowerEnv.answers p same is q.2;
       };
     })
     c.args.place (out-Path c.args.node.now) (omega (arith, d, size))
@@ -208,7 +209,7 @@ lower_arg_list-args_node-requires g t c =
       pats = λ p x h. tt;
       lists = λ p x h. record {
         callable = λ alloc v old b same is. (rw same (rw is h), λ a m. m);
-        lowers = λ alloc v old new b r same is q. rw (← is) (rw (← same) q.2);
+        lowers = λ alloc v old new b r same is q. args_read g.E.LowerEnv.answers p same is q.2;
       };
     })
     c.args.place c.args.node.now (omega (arith, d))
