@@ -1,14 +1,14 @@
 -- Which patterns are plain names or `_`.
-use Rattle.std.proofs.Common.{◌≡◌, ◌∙◌, ap, refl, sym, Bool, true, false, Option, Some, None}
+use Rattle.std.proofs.Common.{◌≡◌, ◌∙◌, ap, refl, sym, Bool, true, false, if◌then◌else◌, Option, Some, None}
 use Rattle.hir_syntax.specs.declared.ast.ElseBranch.TheOpen.{PatKind-F}
 use Rattle.hir_syntax.specs.declared.ast.Name.{Name as AstName}
 use Rattle.hir_syntax.specs.declared.pats.Pat.{Pat as AstPat}
 use Rattle.hir_syntax.specs.declared.pats.PatKind.{out-PatKind}
 use Rattle.hir_store.specs.Pointers.{Pointer}
 use Rattle.hir_env.specs.Answered as tree
-use Rattle.hir_env.specs.Answered.{Formal, OptionPat, Pat, PatLeaf, Use}
+use Rattle.hir_env.specs.Answered.{Formal, OptionPat, Pat, PatLeaf, Signed, Use}
 use Rattle.hir_env.specs.PatLayers.{PatKindLayer}
-use Rattle.hir_env.specs.Pats.{is_found, name_or_bind, pat_at, use_at}
+use Rattle.hir_env.specs.Pats.{is_found, minus_fits, name_or_bind, pat_at, use_at}
 use Rattle.hir_env.specs.Formals.{formal_of}
 use Rattle.hir_env.specs.Spot.{Spot}
 use Rattle.hir_env.specs.TypePats.{bare_formal, is_plain, named_formal}
@@ -48,6 +48,12 @@ module _ (at : Spot) (s : Pointer) where
   ident_reads n true true None = refl
   ident_reads n true true (Some x) = refl
 
+  -- a literal whose minus fits, and one that is missing
+  literal_reads : (fits : Bool) (own : Option Pointer) (l : Signed)
+      → bare_formal (tree.some_pat (if fits then tree.literal_pat s own l else tree.leaf_pat s tree.broken_leaf)) ≡ tree.fault_formal s
+  literal_reads true own l = refl
+  literal_reads false own l = refl
+
   kind_reads : (k : PatKindLayer written) → Reads k
   kind_reads (PatKind-F.IdentPat n is_ref is_mut p) = ident_reads n is_ref is_mut p
   kind_reads (PatKind-F.TupleStructPat x comma ps) = refl
@@ -61,7 +67,7 @@ module _ (at : Spot) (s : Pointer) where
   kind_reads (PatKind-F.RecordPat x fs dots) = refl
   kind_reads (PatKind-F.SlicePat ps p qs) = refl
   kind_reads (PatKind-F.LiteralPat None minus) = refl
-  kind_reads (PatKind-F.LiteralPat (Some l) minus) = refl
+  kind_reads (PatKind-F.LiteralPat (Some l) minus) = literal_reads (minus_fits minus l.literal.lit) _ _
   kind_reads (PatKind-F.RangePat o low high) = refl
   kind_reads (PatKind-F.CfgPredPat pred) = refl
   kind_reads PatKind-F.WildcardPat = refl

@@ -38,6 +38,9 @@ pub record Steps (skipped : Bool) (f : Formals) (e : OptionExpr) (b : Builder) (
 abbrev ended : Given → ExprId → Lowering (Given × ExprId)
 ended given i = λ t. (Ok (given, i), rooted t i)
 
+abbrev together : Given → ExprId → Lowering (Given × ExprId)
+together given i = pure (given, i)
+
 ok_same : {A E : Type 0} (a c : A) → ◌≡◌ {A = Result A E} (Ok a) (Ok c) → a ≡ c
 ok_same a c h = cc
 
@@ -85,8 +88,8 @@ module _ (skipped : Bool) (f : Formals) (e : OptionExpr) (b : Builder) where
       → lower_body skipped f e (closed b) ≡ (Ok (given, i), s.inner)
   unfolding lower_body
   lowered b' given i s =
-      ap (λ (q : Checked Given × Builder). go_on q.0 q.1 (λ g. lower_part e >>= (λ root. pure (g, root)))) s.formals
-      ∙ ap (λ (q : Checked ExprId × Builder). go_on q.0 q.1 (λ root. pure (given, root))) s.body
+      ap (λ (q : Checked Given × Builder). go_on q.0 q.1 (λ g. lower_part e >>= together g)) s.formals
+      ∙ ap (λ (q : Checked ExprId × Builder). go_on q.0 q.1 (together given)) s.body
 
   -- and where they are refused so is the body
   pub refused : (b' : Builder) (x : StoreFault) → behind (lower_formals skipped f) e b ≡ (Err x, b')
@@ -95,12 +98,12 @@ module _ (skipped : Bool) (f : Formals) (e : OptionExpr) (b : Builder) where
   refused b' x h = first own.0 own.1 h
     where
       second : (g : Given) (o : Checked ExprId) (d : Builder) → go_on o d (ended g) ≡ (Err x, b')
-          → (go_on o d (λ root. pure (g, root))).0 ≡ Err x
+          → (go_on o d (together g)).0 ≡ Err x
       second g (Ok j) d k = absurd (not_refused x (g, j) (sym (ap (λ (q : Ending). q.0) k)))
       second g (Err y) d k = ap Err (err_same y x (ap (λ (q : Ending). q.0) k))
 
       first : (o : Checked Given) (c : Builder) → go_on o c (λ g. lower_part e >>= ended g) ≡ (Err x, b')
-          → (go_on o c (λ g. lower_part e >>= (λ root. pure (g, root)))).0 ≡ Err x
+          → (go_on o c (λ g. lower_part e >>= together g)).0 ≡ Err x
       first (Ok g) c k = second g (lower_part e c).0 (lower_part e c).1 k
       first (Err y) c k = ap Err (err_same y x (ap (λ (q : Ending). q.0) k))
 

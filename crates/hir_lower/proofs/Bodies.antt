@@ -1,5 +1,5 @@
 -- What is lowered as the body of an item, behind its parameters, is what is written.
-use Rattle.std.proofs.Common.{arith, ◌≡◌, ◌∙◌, refl, sym, ap, subst, ℕ, ◌≤◌, Bool, List, [], ◌∷◌, ◌++◌, map, Option, Some, None, option_map}
+use Rattle.std.proofs.Common.{arith, ◌≡◌, ◌∙◌, refl, sym, ap, subst, ℕ, Bool, List, [], ◌∷◌, ◌++◌, map, Option, Some, None, option_map}
 use Rattle.std.proofs.Common.{Result, Ok, Err}
 use Rattle.std.specs.Prelude.{IfOk}
 use Rattle.hir_store.specs.Pointers.{Pointer}
@@ -17,7 +17,7 @@ use Rattle.hir_env.specs.Answered.{Formals, OptionExpr}
 use Rattle.hir_lower_form.specs.Builder.{Builder}
 use Rattle.hir_lower_form.specs.Lowering.{Checked}
 use Rattle.hir_scope.specs.Each.{Each}
-use Rattle.hir_steps.specs.Keeps.{Keeps, KeepsAll, Paired}
+use Rattle.hir_steps.specs.Keeps.{Keeps, KeepsAll}
 use Rattle.hir_steps.proofs.Keeping.{kept_by}
 use Rattle.hir_steps.proofs.TypeAny.{any}
 use Rattle.hir_same_meaning.specs.Reached.{Between, Spread}

@@ -1,5 +1,5 @@
 -- The parameters of a body are read back as they are written.
-use Rattle.std.proofs.Common.{◌≡◌, ◌∙◌, refl, sym, ap, subst, ℕ, Bool, true, false, nat_lt, if◌then◌else◌, length, map, append-nil}
+use Rattle.std.proofs.Common.{◌≡◌, ◌∙◌, refl, sym, ap, subst, ℕ, Bool, true, false, nat_lt, length, map, append-nil}
 use Rattle.std.proofs.Common.{append_assoc, List, [], ◌∷◌, ◌++◌, Option, Some, None, option_map, slice_get, Result, Ok, Err}
 use Rattle.std.proofs.lemmas.List.{map-append}
 use Rattle.std.specs.Prelude.{IfOk, option_and_then, option_to_list}
@@ -23,7 +23,6 @@ use Rattle.hir_data.specs.Reading.{stored_pat}
 use Rattle.hir_lower_form.specs.Builder.{Builder}
 use Rattle.hir_lower_form.specs.Forms.{push_some, some}
 use Rattle.hir_lower_form.specs.Lowering.{Checked, Lowering, ◌>>=◌, go_on, pure, alloc_binding, report}
-use Rattle.hir_lower_form.specs.Lower.{lower_part}
 use Rattle.hir_lower_form.specs.Pats.{new_binding}
 use Rattle.hir_steps.specs.Keeps.{Keeps, KeepsAll, Paired}
 use Rattle.hir_steps.proofs.Frames.{Frame, frames, ribs_frames}
@@ -38,7 +37,6 @@ use Rattle.hir_lower.specs.Means.{HasParams, owed_faults, receiver_read, unless_
 use Rattle.hir_one_result.specs.OneResult.{fresh_owing}
 use Rattle.hir_lower.specs.Roots.{GivenFromNothing, StoresFromNothing, as_written, behind, body_of, fresh}
 use Rattle.hir_lower.specs.declared.body.Body.{Body}
-use Rattle.hir_lower.specs.declared.body.Param.{Param}
 use Rattle.hir_lower.proofs.Behind.{Steps, closed, item_is, steps}
 use Rattle.hir_lower.proofs.TreeWays.{part_leads, top_leads}
 use Rattle.hir_lower.proofs.Ways.{Leading, Went, bound_if, any as whatever, then', went, leading_pure, leading_report}
@@ -89,31 +87,31 @@ each_now skipped done [] = correct_as (correct_pure done)
     (λ final ps m m' ids g row. record { more = []; is = row.is ∙ sym (append-nil done); reads = refl })
 each_now skipped done (f ∷ fs) =
     correct_as (correct_bind (formal_now skipped f) (λ o. each_now skipped (push_some done o) fs)) (λ final ps m m' ids g row.
-        let own = option_to_list row.one in
-        let others = row.second in
-        let read = stored_pat (store_of final) (map_of final) in record {
-          more = own ++ others.more;
-          is = others.is ∙ (ap (λ ds. ds ++ others.more) (pushed done row.one) ∙ append_assoc done own others.more);
-          reads = map-append read own others.more ∙ (ap (λ ds. ds ++ map read others.more) row.first.is
-              ∙ (ap (λ ds. data_of skipped (f ∷ []) ++ ds) others.reads ∙ sym (read_apart skipped f fs)));
-        })
+    let own = option_to_list row.one in
+    let others = row.second in
+    let read = stored_pat (store_of final) (map_of final) in record {
+      more = own ++ others.more;
+      is = others.is ∙ (ap (λ ds. ds ++ others.more) (pushed done row.one) ∙ append_assoc done own others.more);
+      reads = map-append read own others.more ∙ (ap (λ ds. ds ++ map read others.more) row.first.is
+          ∙ (ap (λ ds. data_of skipped (f ∷ []) ++ ds) others.reads ∙ sym (read_apart skipped f fs)));
+    })
 
 self_any : (s : SelfFormal) → Correct (lower_self s) Any
 self_any tree.no_self = pure_any None
 self_any (tree.disabled_self at by) = then_any (any (correct_report _)) (λ u. pure_any None)
 self_any (tree.self_formal at u) = then_any (any (correct_alloc_binding _)) (λ i. pure_any (Some i))
 
-record GivenNow (xs : List PatData) (final : Stored) (ps : List Frame) (m m' : Mark) (given : Given) : Type 0 where
-  reads : map (stored_pat (store_of final) (map_of final)) given.1 ≡ xs
+pub record GivenNow (xs : List PatData) (final : Stored) (ps : List Frame) (m m' : Mark) (given : Given) : Type 0 where
+  pub reads : map (stored_pat (store_of final) (map_of final)) given.1 ≡ xs
 
 pub given_now : (skipped : Bool) (f : Formals) → Correct (lower_formals skipped f) (GivenNow (data_of skipped f.formals))
 unfolding lower_formals
 given_now skipped f =
     correct_as (correct_bind (self_any f.receiver) (λ s. correct_bind (each_now skipped [] f.formals) (λ ids. correct_pure (s, ids))))
     (λ final ps m m' given g row.
-        let own = row.second in
-        let read = stored_pat (store_of final) (map_of final) in
-        rw own.second.is (record { reads = ap (map read) own.first.is ∙ own.first.reads }))
+    let own = row.second in
+    let read = stored_pat (store_of final) (map_of final) in
+    rw own.second.is (record { reads = ap (map read) own.first.is ∙ own.first.reads }))
 
 -- `self`
 

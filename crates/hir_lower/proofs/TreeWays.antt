@@ -41,7 +41,7 @@ use Rattle.hir_lower_form.specs.Lower.{present_block, lower_arms, lower_arm, low
 use Rattle.hir_lower_form.specs.Lower.{present_pat, lower_pats, lower_elements, lower_alternatives, lower_later, lower_pat_fields}
 use Rattle.hir_lower_form.specs.Lower.{lower_pat_field, lower_side, lower_type_pat_part, lower_type_pat, lower_type_pats, lower_limit}
 use Rattle.hir_lower_form.specs.Lower.{limit_side, lower_target, lower_targets, lower_target_fields, lower_target_field}
-use Rattle.hir_lower_form.specs.Pats.{Table, no_names, next_alternative, Elements, no_elements, is_dots}
+use Rattle.hir_lower_form.specs.Pats.{Table, next_alternative, Elements, no_elements, is_dots}
 use Rattle.hir_lower_form.specs.Walks.{at_first, start, path_read}
 use Rattle.hir_lower.proofs.TypeWays.{error_leads, unit_leads, lifetime_leads, lifetime_option_leads, uses_lead, over_leads, array_leads}
 use Rattle.hir_lower.proofs.TypeWays.{tuple_leads, path_type_leads, ref_leads, fn_leads, impl_leads, dyn_leads, path_bound_leads}
@@ -53,12 +53,12 @@ use Rattle.hir_lower.proofs.Ways.{leading_point_field, leading_alloc_type, leadi
 use Rattle.hir_lower.proofs.Ways.{leading_leave, anyway}
 use Rattle.hir_lower.proofs.PatWays.{alone_leads, arm_leads, array_target_leads, assign_leads, before_leads, bind_leads, call_target_leads}
 use Rattle.hir_lower.proofs.PatWays.{element_leads, inner_leads, item_leads, let_leads, let_stmt_leads, limits_leads, literal_limit_leads}
-use Rattle.hir_lower.proofs.PatWays.{literal_pat_leads, literal_side_leads, match_leads, missing_pat_leads, name_limit_leads, name_side_leads}
-use Rattle.hir_lower.proofs.PatWays.{or_leads, over_pat_leads, pat_field_leads, path_limit_leads, path_pat_leads, path_side_leads}
-use Rattle.hir_lower.proofs.PatWays.{path_target_leads, place_target_leads, range_leads, range_pat_leads, record_pat_leads}
+use Rattle.hir_lower.proofs.PatWays.{literal_pat_leads, literal_side_leads, match_leads, missing_pat_leads, name_limit_leads}
+use Rattle.hir_lower.proofs.PatWays.{name_side_leads, or_leads, over_pat_leads, pat_field_leads, path_limit_leads, path_pat_leads}
+use Rattle.hir_lower.proofs.PatWays.{path_side_leads, path_target_leads, place_target_leads, range_leads, range_pat_leads, record_pat_leads}
 use Rattle.hir_lower.proofs.PatWays.{record_target_leads, slice_pat_leads, target_field_leads, tuple_pat_leads}
-use Rattle.hir_lower.proofs.PatWays.{tuple_struct_leads, tuple_target_leads, type_alternatives_leads, names, unnamed, beside, then_names}
-use Rattle.hir_lower.proofs.PatWays.{top_form_leads}
+use Rattle.hir_lower.proofs.PatWays.{tuple_struct_leads, tuple_target_leads, type_alternatives_leads, names, unnamed, beside}
+use Rattle.hir_lower.proofs.PatWays.{then_names, top_form_leads}
 
 missing_leads : Leading since missing
 unfolding missing
@@ -391,7 +391,8 @@ mutual
   pat_leads (tree.bind_pat at u p) t = bind_leads at u (present_pat_leads p) t
   pat_leads (tree.name_pat at u) t = alone_leads (leading_alloc_pat _ (Some at)) t
   pat_leads (tree.path_pat at p) t = alone_leads (path_pat_leads at (option_path_leads p)) t
-  pat_leads (tree.tuple_struct_pat at p comma ps) t = tuple_struct_leads at comma (elements_part_leads no_elements ps) (option_path_leads p) t
+  pat_leads (tree.tuple_struct_pat at p comma ps) t =
+      tuple_struct_leads at comma (elements_part_leads no_elements ps) (option_path_leads p) t
   pat_leads (tree.tuple_pat at comma ps) t = tuple_pat_leads at comma (elements_part_leads no_elements ps) t
   pat_leads (tree.record_pat at p fs dots) t = record_pat_leads at dots (pat_fields_leads [] fs) (option_path_leads p) t
   pat_leads (tree.or_pat at ps) t = alternatives_leads at ps t

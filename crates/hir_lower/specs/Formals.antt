@@ -1,12 +1,13 @@
 -- What the parameters of a body become.
-use Rattle.std.specs.Prelude.{Bool, true, false, [], Option, Some, None}
+use Rattle.std.specs.Prelude.{◌≤◌, ℕ, suc, length, Bool, true, false, [], Option, Some, None}
 use Rattle.hir_syntax.specs.declared.ast.ElseBranch.TheOpen.{PatKind-F}
 use Rattle.hir_syntax.specs.declared.ast.Name.{Name as AstName}
 use Rattle.hir_syntax.specs.declared.params.ParamList.{ParamList as AstParamList}
 use Rattle.hir_syntax.specs.declared.pats.Pat.{Pat as AstPat}
 use Rattle.hir_binding.specs.declared.binding.BindingAnnotation.TheVariants.{Unannotated}
 use Rattle.hir_store.specs.Pointers.{Pointer}
-use Rattle.hir_store.specs.Range.{HasBindingId, HasPatOption, HasPats}
+use Rattle.hir_store.specs.Arenas.{past_option}
+use Rattle.hir_store.specs.Range.{HasPatOption, HasPats}
 use Rattle.hir_store.specs.Stored.{Stored}
 use Rattle.hir_store.specs.declared.ids.BindingId.{BindingId}
 use Rattle.hir_store.specs.declared.ids.DefWithBodyId.{DefWithBodyId}
@@ -15,6 +16,7 @@ use Rattle.hir_store.specs.declared.ids.PatId.{PatId}
 use Rattle.hir_store.specs.declared.diagnostics.AwaitLocation.TheVariants as location
 use Rattle.hir_env.specs.PatLayers.{PatKindLayer}
 use Rattle.hir_env.specs.Spot.{Spot}
+use Rattle.hir_env.specs.declared.place.Place.{Place}
 use Rattle.hir_env.specs.Whole.{answered_pat, pointer_at, written}
 use Rattle.hir_env.specs.Formals.{answered_formals, are_bare}
 use Rattle.hir_env.specs.Answered as tree
@@ -25,9 +27,11 @@ use Rattle.hir_lower_pat.specs.Methods.{use_with}
 pub use Rattle.hir_one_result.specs.Formals.{Given, each_formal, formals_read, lower_formal, lower_self}
 unfoldable pub use Rattle.hir_one_result.specs.Formals.{lower_formals}
 
+abbrev past_binding_id : BindingId → ℕ
+past_binding_id b = suc b.0
+
 abbrev pub HasSelf : Stored → Option BindingId → Type 0
-HasSelf s None = Unit {0}
-HasSelf s (Some b) = HasBindingId s b
+HasSelf s o = past_option past_binding_id o ≤ length s.bindings.entries
 
 abbrev pub HasGiven : Stored → Given → Type 0
 HasGiven s g = HasSelf s g.0 × HasPats s g.1
@@ -56,8 +60,11 @@ formals_if true f = f
 formals_if false f = no_formals
 
 -- An `await` in a parameter stands outside of the body.
+abbrev pub outside_place : Place → Place
+outside_place p = record p { await_location = Some location.Unknown }
+
 abbrev pub outside_the_body : Spot → Spot
-outside_the_body at = record at { place = record at.place { await_location = Some location.Unknown } }
+outside_the_body at = record at { place = outside_place at.place }
 
 abbrev pub item_formals : Spot → DefWithBodyId → Option AstParamList → Bool → Formals
 item_formals at item ps has_body =

@@ -32,7 +32,7 @@ use Rattle.hir_env.specs.declared.place.ImplTrait.{ImplTrait}
 use Rattle.hir_env.specs.declared.place.ImplTrait.TheVariants as mode
 use Rattle.hir_env.specs.Answering.{in_file}
 use Rattle.hir_env.specs.Answered as tree
-use Rattle.hir_env.specs.Answered.{Formal, Formals, OptionExpr, OptionPath, OptionType, SelfFormal}
+use Rattle.hir_env.specs.Answered.{Formals, OptionExpr, OptionPath, OptionType, SelfFormal}
 use Rattle.hir_env.specs.Whole.{answered_path, expr_part, type_part}
 use Rattle.hir_data.specs.Data.{path_names}
 use Rattle.hir_data.specs.Patterns.{written_pat}

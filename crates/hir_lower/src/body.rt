@@ -2,8 +2,8 @@
 
 ghost use Rattle.std.specs.Prelude.{◌≡◌, ◌≢◌, Bool, false, is_some, map, IfOk, IsErrOf, option_copied, option_map};
 ghost use Rattle.hir_store.specs.Range.{HasNone, InRange};
+ghost use Rattle.hir_store.specs.Stored.{map_of, store_of};
 ghost use Rattle.hir_store.specs.Storing.{empty};
-ghost use Rattle.hir_env.specs.Answers.{Answers};
 ghost use Rattle.hir_env.specs.Formals.{answered_formals};
 ghost use Rattle.hir_env.specs.Spot.{Spot};
 ghost use Rattle.hir_env.specs.Whole.{expr_part};
@@ -11,7 +11,7 @@ ghost use Rattle.hir_lower_form.specs.Lowering.{Lowers};
 ghost use Rattle.hir_one_result.specs.OneResult.{OneResult};
 ghost use Rattle.hir_one_result.specs.Room.{BodyTooLarge};
 ghost use Rattle.hir_lower_handlers.specs.Spots.{spot_at};
-ghost use Rattle.hir_lower.specs.Formals.{are_read, item_formals, lower_formals, outside_the_body, self_source};
+ghost use Rattle.hir_lower.specs.Formals.{are_read, item_formals, lower_formals, outside_place, outside_the_body, self_source};
 ghost use Rattle.hir_lower.specs.Means.{HasBody, HasParams, body_fault, body_owes, body_read, required_body};
 ghost use Rattle.hir_lower.specs.Roots.{GivenFromNothing, HasBehind, RefusedAtEnd, StoresFromNothing, await_location, behind, body_spot};
 ghost use Rattle.hir_lower.specs.Roots.{given_of, item_of, report_missing};
@@ -121,7 +121,7 @@ fn is_function(owner: DefWithBodyId) -> bool
 
 /// The place around a body: there no `await` stands in what is async.
 fn around(place: Place) -> Place
-    ensures { (env : Answers) → spot_at env result ≡ outside_the_body (spot_at env place) }
+    ensures { result ≡ outside_place place }
 {
     Place {
         await_location: Some(AwaitLocation::Unknown),
@@ -247,6 +247,42 @@ fn self_as_written(receiver: Option<BindingId>) -> Option<Param<BindingId>>
     }
 }
 
+/// The body of what is stored by then, with the node of `self`.
+fn finished(
+    alloc: Global,
+    state: BodyBuilder,
+    receiver: Option<BindingId>,
+    pats: &[PatId],
+    self_param: Option<InFile<AstPtr>>,
+) -> Result<(Body, BodySourceMap), AllocError>
+    ensures store { IfOk result (λ r. r.0.store ≡ store_of state.stored) }
+    ensures source_map { IfOk result (λ r. r.1.store ≡ map_of state.stored) }
+    ensures params { IfOk result (λ r. r.0.params ≡ map written pats.now) }
+    ensures receiver { IfOk result (λ r. r.0.self_param ≡ option_map written receiver) }
+    ensures self_param { IfOk result (λ r. r.1.self_param ≡ self_param) }
+    ensures in_range { IfOk result (λ r. InRange r.0.store r.1.store) }
+{
+    match as_written(pats, alloc) {
+        Ok(params) => {
+            let (store, source_map) = state.into_store().finish();
+            let body = Body {
+                store,
+                params,
+                self_param: self_as_written(receiver),
+            };
+            let map = BodySourceMap {
+                self_param,
+                store: source_map,
+            };
+            Ok((body, map))
+        }
+        Err(refused) => {
+            drop(state);
+            Err(refused)
+        }
+    }
+}
+
 /// The steps of `lower_body`, with what they store.
 fn body_steps<E: LowerEnv>(
     alloc: Global,
@@ -292,26 +328,13 @@ fn body_steps<E: LowerEnv>(
         params,
         body,
     ) {
-        Ok(((receiver, pats), _root)) => match as_written(pats.as_slice(), alloc) {
-            Ok(kept) => {
-                let (store, source_map) = state.into_store().finish();
-                Ok((
-                    Body {
-                        store,
-                        params: kept,
-                        self_param: self_as_written(receiver),
-                    },
-                    BodySourceMap {
-                        self_param: item_self(db, place, owner, params),
-                        store: source_map,
-                    },
-                ))
+        Ok(((receiver, pats), _root)) => {
+            let self_param = item_self(db, place, owner, params);
+            match finished(alloc, state, receiver, pats.as_slice(), self_param) {
+                Ok(lowered) => Ok(lowered),
+                Err(_) => Err(LowerError::Memory),
             }
-            Err(_) => {
-                drop(state);
-                Err(LowerError::Memory)
-            }
-        },
+        }
         Err(fault) => {
             drop(state);
             Err(LowerError::from(fault))

@@ -27,6 +27,7 @@ use hir_store::diagnostics::ExpressionStoreDiagnostics;
 use hir_store::fault::StoreFault;
 use hir_store::hir::{Binding, BindingAnnotation};
 use hir_store::ids::{BindingId, HygieneId, ItemContainerId, PatId};
+use hir_store::lists::push_pat;
 use hir_store::name::Name;
 use hir_syntax::ast;
 use std::alloc::Global;
@@ -173,7 +174,7 @@ fn each_form<E: LowerEnv>(
     let mut pats = Seq::new(alloc);
     while let [one, rest @ ..] = left {
         if let Some(pat) = formal(alloc, env, place, state, skipped, bare, one)? {
-            pats.push(pat)?;
+            push_pat(&mut pats, pat)?;
         }
         left = rest;
     }

@@ -274,10 +274,10 @@ module _ (env : Answers) (C : Claims) (n : ℕ) (below : Below env C n) where
   kids_path p x h = (all_segments p x.segs (omega (arith, h)), path_below p x.use_ (omega (arith, h)))
 
 -- of the same list in the same environment the same is so
-pub args_read : {E : Type 0} (answers : E → Answers) (p : Place) {v env : E} {l m : AstGenericArgList} {old new : Builder}
-    {r : Checked (Option GenericArgs)} → v ≡ env → l ≡ m
+pub args_read : {E : Type 0} (answers : E → Answers) (p : Place) {v env : E} {l m : AstGenericArgList} (old new : Builder)
+    (r : Checked (Option GenericArgs)) → v ≡ env → l ≡ m
     → LowersArgs (tree.some_arg_list (answered_arg_list (spot_at (answers v) p) l)) old r new
     → LowersArgs (tree.some_arg_list (answered_arg_list (spot_at (answers env) p) m)) old r new
-args_read answers p {v = v} {m = m} {old = old} {new = new} {r = r} same is h =
+args_read answers p {v = v} {m = m} old new r same is h =
     subst (λ e. LowersArgs (tree.some_arg_list (answered_arg_list (spot_at (answers e) p) m)) old r new) same
     (subst (λ x. LowersArgs (tree.some_arg_list (answered_arg_list (spot_at (answers v) p) x)) old r new) is h)

@@ -1,6 +1,6 @@
 -- What patterns of each kind are.
-use Rattle.std.proofs.Common.{◌≡◌, ◌∙◌, ap, refl, sym, Bool, true, false, ◌&&◌, Option, Some, None}
-use Rattle.std.specs.Prelude.{if◌then◌else◌}
+use Rattle.std.proofs.Common.{◌≡◌, ◌∙◌, ap, refl, sym, subst, arith, slice_index_or, Bool, true, false, ◌&&◌, List, [], ◌∷◌, Option, Some, None}
+use Rattle.std.specs.Prelude.{if◌then◌else◌, ◌≤◌, ◌-◌, drop, length, take}
 use Rattle.hir_syntax.specs.declared.ast.ElseBranch.TheOpen.{PatKind-F}
 use Rattle.hir_syntax.specs.declared.pats.Pat.{Pat as AstPat}
 use Rattle.hir_syntax.specs.declared.ast.Path.{Path as AstPath}
@@ -16,11 +16,17 @@ use Rattle.hir_env.specs.Answered.{OptionPat, Pat, Use}
 use Rattle.hir_env.specs.PatLayers.{PatKindLayer}
 use Rattle.hir_env.specs.Pats.{minus_fits, name_or_bind, pat_at, plain_side, side_of}
 use Rattle.hir_env.specs.TypePats.{is_plain}
-use Rattle.hir_env.specs.Whole.{answered_pat, pointer_at, reader, written}
+use Rattle.hir_env.specs.Whole.{answered_pat, pats_part, pointer_at, reader, written}
 use Rattle.hir_env.proofs.PatLevels.{pat_is_level}
-use Rattle.hir_lower_form.specs.Lower.{lower_pat}
-use Rattle.hir_lower_form.specs.Pats.{Table, alone, is_dots}
-use Rattle.hir_lower_pat.specs.Methods.{IsPlain, is_rest, kind_at, lower_plain}
+use Rattle.hir_store.specs.Range.{HasPat}
+use Rattle.hir_store.specs.declared.ids.PatId.{PatId}
+use Rattle.hir_lower_form.specs.Builder.{Builder}
+use Rattle.hir_lower_form.specs.Lower.{lower_later, lower_pat}
+use Rattle.hir_lower_form.specs.Lowering.{Checked}
+use Rattle.hir_lower_form.specs.Pats.{Table, alone, is_dots, or_form}
+use Rattle.hir_lower_pat.specs.Bindings.{LowersNamed}
+use Rattle.hir_lower_pat.specs.Methods.{IsPlain, LowersPat, is_rest, kind_at, lower_plain}
+use Rattle.hir_lower_pat.specs.declared.bindings.Bindings.{Bindings}
 
 abbrev level : Spot → PatKindLayer written → Pointer → Pat
 level at k s = pat_at at.answers (reader at.answers) k at.place s
@@ -127,3 +133,24 @@ only_plain k is no_path no_literal no_range no_cfgpred no_wildcard no_rest no_no
     by PatKind-F.NotNullPat h is = no_notnull (made k _ h ∙ kind.rolls-NotNullPat)
     by PatKind-F.ConstBlockPat h is = no_constblock (made k _ h ∙ kind.rolls-ConstBlockPat)
     by _ h is = is
+
+-- ---- alternatives
+
+take_all : {A : Type 0} (xs : List A) → take (length xs) xs ≡ xs
+take_all [] = refl
+take_all (x ∷ xs) = ap (λ ys. x ∷ ys) (take_all xs)
+
+-- what is first, and what is behind it
+pub first_of : {A : Type 0} (xs : List A) (x : A) → x ≡ slice_index_or xs 0 x → 1 ≤ length xs
+    → xs ≡ x ∷ take (length xs - 1) (drop 1 xs)
+first_of [] x h le = absurd (omega (arith, le))
+first_of (y ∷ ys) x h le =
+    let rest : length (y ∷ ys) - 1 ≡ length ys = omega arith in
+    λ j. sym h j ∷ sym (ap (λ n. take n ys) rest ∙ take_all ys) j
+
+pub of_alternatives : (at : Spot) (s : Pointer) (all : List AstPat) (x : AstPat) (left : List AstPat) (was is : Bindings)
+    (old new : Builder) (r : Checked PatId) → all ≡ x ∷ left
+    → LowersNamed HasPat (or_form s (lower_pat (answered_pat at x)) (lower_later (pats_part at left))) was old r is new
+    → LowersPat (tree.or_pat s (pats_part at all)) was old r is new
+of_alternatives at s all x left was is old new r e h =
+    subst (λ xs. LowersPat (tree.or_pat s (pats_part at xs)) was old r is new) (sym e) h

@@ -97,6 +97,7 @@ fn small_place(leading_comma: bool, place: usize) -> Option<u32>
 }
 
 /// The place of the dots as it is stored. There may be more parts in front than are counted.
+#[tactic(auto, unfolding(hir_lower_form::specs::Lowering::count_out))]
 fn counted_dots(
     state: &mut BodyBuilder,
     leading_comma: bool,

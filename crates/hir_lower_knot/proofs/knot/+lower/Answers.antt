@@ -48,7 +48,7 @@ maybe_collect_expr-expr_node-requires g t c =
     })
     (λ p x h. record {
       callable = λ alloc v old b same is. (rw same (rw is h), λ a m. m);
-      lowers = λ alloc v old new b r same is q. args_read g.E.LowerEnv.answers p same is q.2;
+      lowers = λ alloc v old new b r same is q. args_read g.E.LowerEnv.answers p old.now new.now r same is q.2;
     })
     c.args.place (pointer_at at c.args.node.now.id c.args.node.now.range) (out-ExprKind c.args.node.now.kind) (omega (arith, d, size))
 
@@ -91,7 +91,7 @@ collect_block_inside-block_node-requires-clause-parts g t c =
     })
     (λ p x h. record {
       callable = λ alloc v old b same is. (rw same (rw is h), λ a m. m);
-      lowers = λ alloc v old new b r same is q. args_read g.E.LowerEnv.answers p same is q.2;
+      lowers = λ alloc v old new b r same is q. args_read g.E.LowerEnv.answers p old.now new.now r same is q.2;
     })
     c.inside-inner.result c.args.node.now (omega (arith, d, size))
 
@@ -128,7 +128,7 @@ read_path_segments-path_node-requires-clause-parts g t c =
       pats = λ p x h. tt;
       lists = λ p x h. record {
         callable = λ alloc v old b same is. (rw same (rw is h), λ a m. m);
-        lowers = λ alloc v old new b r same is q. args_read g.E.LowerEnv.answers p same is q.2;
+        lowers = λ alloc v old new b r same is q. args_read g.E.LowerEnv.answers p old.now new.now r same is q.2;
       };
     })
     c.args.place (out-Path c.args.node.now) (omega (arith, d, size))
@@ -209,7 +209,7 @@ lower_arg_list-args_node-requires g t c =
       pats = λ p x h. tt;
       lists = λ p x h. record {
         callable = λ alloc v old b same is. (rw same (rw is h), λ a m. m);
-        lowers = λ alloc v old new b r same is q. args_read g.E.LowerEnv.answers p same is q.2;
+        lowers = λ alloc v old new b r same is q. args_read g.E.LowerEnv.answers p old.now new.now r same is q.2;
       };
     })
     c.args.place c.args.node.now (omega (arith, d))
