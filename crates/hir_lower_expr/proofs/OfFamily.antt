@@ -1,7 +1,8 @@
--- No kind of a family is left where each was taken.
+-- What a kind is made of, and that no kind of a family is left where each was taken.
 use Rattle.std.proofs.Common.{◌≡◌, ◌∙◌, ap, sym, refl, Bool, List, Option}
 use Rattle.hir_syntax.specs.declared.ast.ElseBranch.TheOpen.{ExprKind-F}
-use Rattle.hir_syntax.specs.declared.ast.ExprKind.{ExprKind as AstExprKind, out-ExprKind, roll-ExprKind, roll-out-ExprKind}
+use Rattle.hir_syntax.specs.declared.ast.ExprKind.{ExprKind as AstExprKind, out-ExprKind, roll-ExprKind}
+use Rattle.hir_syntax.specs.declared.ast.ExprKind.{out-roll-ExprKind, roll-out-ExprKind}
 use Rattle.hir_syntax.specs.declared.ast.ExprKind.TheVariants as kind
 use Rattle.hir_syntax.specs.declared.ast.Expr.{Expr as AstExpr}
 use Rattle.hir_syntax.specs.declared.ast.BlockExpr.{BlockExpr as AstBlockExpr}
@@ -26,6 +27,9 @@ use Rattle.hir_lower_form.specs.Families.{IsControl, IsMatching, IsListing, IsAc
 
 made : (k : AstExprKind) (l : ExprKindLayer written) → out-ExprKind k ≡ l → k ≡ roll-ExprKind l
 made k l h = sym (roll-out-ExprKind k) ∙ ap roll-ExprKind h
+
+pub opened : {k : AstExprKind} {l : ExprKindLayer written} → roll-ExprKind l ≡ k → out-ExprKind k ≡ l
+opened {k} {l} h = ap out-ExprKind (sym h) ∙ out-roll-ExprKind l
 
 pub only_control : (k : AstExprKind) → IsControl (out-ExprKind k)
     → ((c : Option AstExpr) (t : Option AstBlockExpr) (e : Option AstElseBranch) → k ≡ kind.IfExpr c t e → ⊥)

@@ -4,7 +4,6 @@ use Rattle.serde_json.specs.Find.{get}
 use Rattle.hir_syntax.specs.declared.types.BoundKind.{BoundKind}
 use Rattle.hir_syntax.specs.declared.types.BoundKind.TheVariants as bound_kinds
 use Rattle.hir_syntax.specs.declared.types.TypeBound.{TypeBound, roll-TypeBound}
-use Rattle.hir_syntax.specs.declared.types.RetType.{roll-RetType}
 use Rattle.json_kinds.specs.ByWord.{with_word}
 use Rattle.json_kinds.specs.declared.kind.PartNode.{PartNode}
 use Rattle.json_kinds.specs.declared.kind.PartNode.TheVariants as kind
@@ -45,9 +44,5 @@ of_bound h kind.ForBinder = Some (part.Type_ (type_part.Binder (record {
   range = h.range;
   params = list_with_nulls_in h as_lifetime (codes "params");
 })))
-of_bound h kind.RetType = Some (part.Type_ (type_part.Ret (roll-RetType (record {
-  id = h.id;
-  range = h.range;
-  ty = part_in h as_type (codes "ty");
-}))))
+of_bound h kind.RetType = Some (part.Type_ (type_part.Ret (part_in h as_type (codes "ty"))))
 of_bound h _ = None

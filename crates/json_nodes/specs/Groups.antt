@@ -6,9 +6,7 @@ use Rattle.hir_syntax.specs.declared.ast.ElseBranch.{ElseBranch}
 use Rattle.hir_syntax.specs.declared.ast.ElseBranch.TheVariants as branch
 use Rattle.hir_syntax.specs.declared.ast.BlockExpr.{BlockExpr, out-BlockExpr}
 use Rattle.hir_syntax.specs.declared.ast.Stmt.{Stmt}
-use Rattle.hir_syntax.specs.declared.branches.LetElse.{LetElse}
 use Rattle.hir_syntax.specs.declared.branches.MatchArm.{MatchArm}
-use Rattle.hir_syntax.specs.declared.branches.Guard.{Guard}
 use Rattle.hir_syntax.specs.declared.ast.RecordExprFieldList.{RecordExprFieldList}
 use Rattle.hir_syntax.specs.declared.ast.RecordExprField.{RecordExprField}
 use Rattle.hir_syntax.specs.declared.pats.PatLiteral.{PatLiteral}
@@ -22,15 +20,10 @@ use Rattle.hir_syntax.specs.declared.types.TypeKind.TheVariants as type_kind
 use Rattle.hir_syntax.specs.declared.types.PathType.{PathType, out-PathType}
 use Rattle.hir_syntax.specs.declared.types.TypeBound.{TypeBound}
 use Rattle.hir_syntax.specs.declared.types.ForBinder.{ForBinder}
-use Rattle.hir_syntax.specs.declared.types.RetType.{RetType}
 use Rattle.hir_syntax.specs.declared.ast.Path.{Path}
 use Rattle.hir_syntax.specs.declared.ast.PathSegment.{PathSegment}
-use Rattle.hir_syntax.specs.declared.types.GenericArgList.{GenericArgList}
 use Rattle.hir_syntax.specs.declared.types.GenericArg.{GenericArg}
 use Rattle.hir_syntax.specs.declared.types.GenericArg.TheVariants as arg
-use Rattle.hir_syntax.specs.declared.types.TypeArg.{TypeArg}
-use Rattle.hir_syntax.specs.declared.ast.ConstArg.{ConstArg}
-use Rattle.hir_syntax.specs.declared.types.ParenArgs.{ParenArgs}
 use Rattle.hir_syntax.specs.declared.ast.Label.{Label}
 use Rattle.hir_syntax.specs.declared.ast.Lifetime.{Lifetime}
 use Rattle.hir_syntax.specs.declared.ast.Name.{Name}
@@ -107,7 +100,7 @@ abbrev pub stmt_of : CodePart → Option Stmt
 stmt_of (code_part.Stmt x) = Some x
 stmt_of _ = None
 
-abbrev pub let_else_of : CodePart → Option LetElse
+abbrev pub let_else_of : CodePart → Option (Option BlockExpr)
 let_else_of (code_part.LetElse x) = Some x
 let_else_of _ = None
 
@@ -115,7 +108,7 @@ abbrev pub arm_of : CodePart → Option MatchArm
 arm_of (code_part.Arm x) = Some x
 arm_of _ = None
 
-abbrev pub guard_of : CodePart → Option Guard
+abbrev pub guard_of : CodePart → Option (Option Expr)
 guard_of (code_part.Guard x) = Some x
 guard_of _ = None
 
@@ -166,7 +159,7 @@ abbrev pub binder_of : TypePart → Option ForBinder
 binder_of (type_part.Binder x) = Some x
 binder_of _ = None
 
-abbrev pub ret_of : TypePart → Option RetType
+abbrev pub ret_of : TypePart → Option (Option Type_)
 ret_of (type_part.Ret x) = Some x
 ret_of _ = None
 
@@ -178,19 +171,19 @@ abbrev pub segment_of : PathPart → Option PathSegment
 segment_of (path_part.Segment x) = Some x
 segment_of _ = None
 
-abbrev pub generic_args_of : PathPart → Option GenericArgList
+abbrev pub generic_args_of : PathPart → Option (List GenericArg)
 generic_args_of (path_part.GenericArgs x) = Some x
 generic_args_of _ = None
 
-abbrev pub type_arg_of : PathPart → Option TypeArg
+abbrev pub type_arg_of : PathPart → Option (Option Type_)
 type_arg_of (path_part.TypeArg x) = Some x
 type_arg_of _ = None
 
-abbrev pub const_arg_of : PathPart → Option ConstArg
+abbrev pub const_arg_of : PathPart → Option (Option Expr)
 const_arg_of (path_part.ConstArg x) = Some x
 const_arg_of _ = None
 
-abbrev pub paren_args_of : PathPart → Option ParenArgs
+abbrev pub paren_args_of : PathPart → Option (List (Option Type_))
 paren_args_of (path_part.ParenArgs x) = Some x
 paren_args_of _ = None
 
@@ -245,13 +238,13 @@ as_pat_literal p = option_and_then pat_literal_of (expr_in p)
 abbrev pub as_stmt : AnyPart → Option Stmt
 as_stmt p = option_and_then stmt_of (code_in p)
 
-abbrev pub as_let_else : AnyPart → Option LetElse
+abbrev pub as_let_else : AnyPart → Option (Option BlockExpr)
 as_let_else p = option_and_then let_else_of (code_in p)
 
 abbrev pub as_arm : AnyPart → Option MatchArm
 as_arm p = option_and_then arm_of (code_in p)
 
-abbrev pub as_guard : AnyPart → Option Guard
+abbrev pub as_guard : AnyPart → Option (Option Expr)
 as_guard p = option_and_then guard_of (code_in p)
 
 abbrev pub as_record_list : AnyPart → Option RecordExprFieldList
@@ -287,7 +280,7 @@ as_bound p = option_and_then bound_of (type_in p)
 abbrev pub as_binder : AnyPart → Option ForBinder
 as_binder p = option_and_then binder_of (type_in p)
 
-abbrev pub as_ret : AnyPart → Option RetType
+abbrev pub as_ret : AnyPart → Option (Option Type_)
 as_ret p = option_and_then ret_of (type_in p)
 
 abbrev pub as_path : AnyPart → Option Path
@@ -296,16 +289,16 @@ as_path p = option_and_then path_of (path_in p)
 abbrev pub as_segment : AnyPart → Option PathSegment
 as_segment p = option_and_then segment_of (path_in p)
 
-abbrev pub as_generic_args : AnyPart → Option GenericArgList
+abbrev pub as_generic_args : AnyPart → Option (List GenericArg)
 as_generic_args p = option_and_then generic_args_of (path_in p)
 
-abbrev pub as_type_arg : AnyPart → Option TypeArg
+abbrev pub as_type_arg : AnyPart → Option (Option Type_)
 as_type_arg p = option_and_then type_arg_of (path_in p)
 
-abbrev pub as_const_arg : AnyPart → Option ConstArg
+abbrev pub as_const_arg : AnyPart → Option (Option Expr)
 as_const_arg p = option_and_then const_arg_of (path_in p)
 
-abbrev pub as_paren_args : AnyPart → Option ParenArgs
+abbrev pub as_paren_args : AnyPart → Option (List (Option Type_))
 as_paren_args p = option_and_then paren_args_of (path_in p)
 
 abbrev pub as_generic_arg : AnyPart → Option GenericArg

@@ -1,6 +1,7 @@
 pub mod Fields
 pub mod Literals
 pub mod Groups
+pub mod Kept
 pub mod Parts
 pub mod Nodes
 pub mod Operators

@@ -1,19 +1,16 @@
 //! Expressions, statements, and their parts.
 
-ghost use Rattle.std.specs.Prelude.{◌≡◌};
-ghost use Rattle.json_nodes.specs.Groups.{arm_of, as_arm, as_block, as_else, as_expr, as_guard, as_let_else};
-ghost use Rattle.json_nodes.specs.Groups.{as_pat_literal, as_record_field, as_record_list, as_stmt, block_of};
-ghost use Rattle.json_nodes.specs.Groups.{else_of, expr_of, guard_of, let_else_of, pat_literal_of, record_field_of};
-ghost use Rattle.json_nodes.specs.Groups.{record_list_of, stmt_of};
+ghost use Rattle.json_nodes.specs.Groups.{as_arm, as_block, as_else, as_expr, as_guard, as_let_else, as_pat_literal};
+ghost use Rattle.json_nodes.specs.Groups.{as_record_field, as_record_list, as_stmt};
 
-use crate::part::{AnyPart, Part};
+use crate::part::{AnyPart, BoxedGroup, Group, ReadParts};
 use hir_base::Boxed;
 use hir_base::node::{NodeId, TextRange};
 use hir_syntax::ast::{
     BlockExpr, ElseBranch, Expr, ExprKind, Guard, LetElse, Literal, MatchArm, PatLiteral,
     RecordExprField, RecordExprFieldList, Stmt,
 };
-use std::alloc::{AllocError, Global};
+use std::alloc::Global;
 
 /// What serves as an expression.
 pub enum ExprPart {
@@ -25,280 +22,199 @@ pub enum ExprPart {
     Literal(NodeId, TextRange, Literal),
 }
 
-impl Drop for ExprPart {
-    fn drop(self) {
-        match self {
-            ExprPart::Expr(_) => {}
-            ExprPart::If(_) => {}
-            ExprPart::Block(_) => {}
-            ExprPart::Literal(_, _, _) => {}
-        }
-    }
-}
-
 /// A part of expressions and statements.
 pub enum CodePart {
-    Stmt(Boxed<Stmt>),
-    LetElse(Boxed<LetElse>),
-    Arm(Boxed<MatchArm>),
-    Guard(Boxed<Guard>),
-    RecordList(Boxed<RecordExprFieldList>),
-    RecordField(Boxed<RecordExprField>),
+    Stmt(Stmt),
+    LetElse(LetElse),
+    Arm(MatchArm),
+    Guard(Guard),
+    RecordList(RecordExprFieldList),
+    RecordField(RecordExprField),
 }
 
-impl Drop for CodePart {
-    fn drop(self) {
-        match self {
-            CodePart::Stmt(_) => {}
-            CodePart::LetElse(_) => {}
-            CodePart::Arm(_) => {}
-            CodePart::Guard(_) => {}
-            CodePart::RecordList(_) => {}
-            CodePart::RecordField(_) => {}
-        }
-    }
-}
+/// Expressions.
+pub struct Exprs;
 
-/// The part as one of a group, none where it is of another.
-impl ExprPart {
-    fn into_expr(self) -> Option<Expr>
-        ensures { result ≡ expr_of self }
-    {
-        match self {
-            ExprPart::Expr(expr) => Some(expr.into_inner()),
-            ExprPart::If(expr) => Some(expr.into_inner()),
-            ExprPart::Block(block) => Some(Expr {
+/// What follows `else`.
+pub struct Elses;
+
+/// Blocks, each in a box.
+pub struct Blocks;
+
+/// Literals in patterns.
+pub struct PatLiterals;
+
+/// Statements.
+pub struct Stmts;
+
+/// What follows the `else` of a `let`.
+pub struct LetElses;
+
+/// Arms of a `match`.
+pub struct Arms;
+
+/// Conditions of arms.
+pub struct Guards;
+
+/// The fields of a record, as a whole.
+pub struct RecordLists;
+
+/// Fields of a record.
+pub struct RecordFields;
+
+impl Group for Exprs {
+    type Part = Expr;
+
+    ghost as_group = { as_expr };
+
+    fn from_part(part: AnyPart) -> Result<Expr, AnyPart> {
+        match part {
+            AnyPart::Expr(ExprPart::Expr(expr)) => Ok(expr.into_inner()),
+            AnyPart::Expr(ExprPart::If(expr)) => Ok(expr.into_inner()),
+            AnyPart::Expr(ExprPart::Block(block)) => Ok(Expr {
                 id: block.get().id,
                 range: block.get().range,
                 kind: ExprKind::BlockExpr(block),
             }),
-            ExprPart::Literal(id, range, literal) => Some(Expr {
+            AnyPart::Expr(ExprPart::Literal(id, range, literal)) => Ok(Expr {
                 id,
                 range,
                 kind: ExprKind::Literal(literal),
             }),
-        }
-    }
-
-    fn into_else(self) -> Option<ElseBranch>
-        ensures { result ≡ else_of self }
-    {
-        match self {
-            ExprPart::Block(block) => Some(ElseBranch::ElseBlock(block)),
-            ExprPart::If(expr) => Some(ElseBranch::ElseIf(expr)),
-            other => {
-                drop(other);
-                None
-            }
-        }
-    }
-
-    fn into_block(self) -> Option<BlockExpr>
-        ensures { result ≡ block_of self }
-    {
-        match self {
-            ExprPart::Block(block) => Some(block.into_inner()),
-            other => {
-                drop(other);
-                None
-            }
-        }
-    }
-
-    fn into_literal(self) -> Option<PatLiteral>
-        ensures { result ≡ pat_literal_of self }
-    {
-        match self {
-            ExprPart::Literal(id, range, literal) => Some(PatLiteral { id, range, literal }),
-            other => {
-                drop(other);
-                None
-            }
+            other => Err(other),
         }
     }
 }
 
-/// Likewise.
-impl CodePart {
-    fn into_stmt(self) -> Option<Stmt>
-        ensures { result ≡ stmt_of self }
-    {
-        match self {
-            CodePart::Stmt(stmt) => Some(stmt.into_inner()),
-            other => {
-                drop(other);
-                None
-            }
-        }
-    }
-
-    fn into_let_else(self) -> Option<LetElse>
-        ensures { result ≡ let_else_of self }
-    {
-        match self {
-            CodePart::LetElse(let_else) => Some(let_else.into_inner()),
-            other => {
-                drop(other);
-                None
-            }
-        }
-    }
-
-    fn into_arm(self) -> Option<MatchArm>
-        ensures { result ≡ arm_of self }
-    {
-        match self {
-            CodePart::Arm(arm) => Some(arm.into_inner()),
-            other => {
-                drop(other);
-                None
-            }
-        }
-    }
-
-    fn into_guard(self) -> Option<Guard>
-        ensures { result ≡ guard_of self }
-    {
-        match self {
-            CodePart::Guard(guard) => Some(guard.into_inner()),
-            other => {
-                drop(other);
-                None
-            }
-        }
-    }
-
-    fn into_record_list(self) -> Option<RecordExprFieldList>
-        ensures { result ≡ record_list_of self }
-    {
-        match self {
-            CodePart::RecordList(record_list) => Some(record_list.into_inner()),
-            other => {
-                drop(other);
-                None
-            }
-        }
-    }
-
-    fn into_record_field(self) -> Option<RecordExprField>
-        ensures { result ≡ record_field_of self }
-    {
-        match self {
-            CodePart::RecordField(record_field) => Some(record_field.into_inner()),
-            other => {
-                drop(other);
-                None
-            }
-        }
+impl BoxedGroup for Exprs {
+    fn in_box<P: ReadParts>(
+        parts: &P,
+        alloc: Global,
+        refused: &mut bool,
+        part: Expr,
+    ) -> Option<Boxed<Expr>> {
+        parts.boxed_expr(alloc, refused, part)
     }
 }
 
-impl Part for Expr {
-    ghost as_group = { as_expr };
+impl Group for Elses {
+    type Part = ElseBranch;
 
-    fn from_part(_alloc: Global, part: AnyPart) -> Result<Option<Expr>, AllocError> {
-        match part.into_expr() {
-            Some(part) => Ok(part.into_expr()),
-            None => Ok(None),
-        }
-    }
-}
-
-impl Part for ElseBranch {
     ghost as_group = { as_else };
 
-    fn from_part(_alloc: Global, part: AnyPart) -> Result<Option<ElseBranch>, AllocError> {
-        match part.into_expr() {
-            Some(part) => Ok(part.into_else()),
-            None => Ok(None),
+    fn from_part(part: AnyPart) -> Result<ElseBranch, AnyPart> {
+        match part {
+            AnyPart::Expr(ExprPart::Block(block)) => Ok(ElseBranch::ElseBlock(block)),
+            AnyPart::Expr(ExprPart::If(expr)) => Ok(ElseBranch::ElseIf(expr)),
+            other => Err(other),
         }
     }
 }
 
-impl Part for BlockExpr {
+impl Group for Blocks {
+    type Part = Boxed<BlockExpr>;
+
     ghost as_group = { as_block };
 
-    fn from_part(_alloc: Global, part: AnyPart) -> Result<Option<BlockExpr>, AllocError> {
-        match part.into_expr() {
-            Some(part) => Ok(part.into_block()),
-            None => Ok(None),
+    fn from_part(part: AnyPart) -> Result<Boxed<BlockExpr>, AnyPart> {
+        match part {
+            AnyPart::Expr(ExprPart::Block(block)) => Ok(block),
+            other => Err(other),
         }
     }
 }
 
-impl Part for PatLiteral {
+impl Group for PatLiterals {
+    type Part = PatLiteral;
+
     ghost as_group = { as_pat_literal };
 
-    fn from_part(_alloc: Global, part: AnyPart) -> Result<Option<PatLiteral>, AllocError> {
-        match part.into_expr() {
-            Some(part) => Ok(part.into_literal()),
-            None => Ok(None),
+    fn from_part(part: AnyPart) -> Result<PatLiteral, AnyPart> {
+        match part {
+            AnyPart::Expr(ExprPart::Literal(id, range, literal)) => Ok(PatLiteral {
+                id,
+                range,
+                literal,
+            }),
+            other => Err(other),
         }
     }
 }
 
-impl Part for Stmt {
+impl Group for Stmts {
+    type Part = Stmt;
+
     ghost as_group = { as_stmt };
 
-    fn from_part(_alloc: Global, part: AnyPart) -> Result<Option<Stmt>, AllocError> {
-        match part.into_code() {
-            Some(part) => Ok(part.into_stmt()),
-            None => Ok(None),
+    fn from_part(part: AnyPart) -> Result<Stmt, AnyPart> {
+        match part {
+            AnyPart::Code(CodePart::Stmt(stmt)) => Ok(stmt),
+            other => Err(other),
         }
     }
 }
 
-impl Part for LetElse {
+impl Group for LetElses {
+    type Part = LetElse;
+
     ghost as_group = { as_let_else };
 
-    fn from_part(_alloc: Global, part: AnyPart) -> Result<Option<LetElse>, AllocError> {
-        match part.into_code() {
-            Some(part) => Ok(part.into_let_else()),
-            None => Ok(None),
+    fn from_part(part: AnyPart) -> Result<LetElse, AnyPart> {
+        match part {
+            AnyPart::Code(CodePart::LetElse(let_else)) => Ok(let_else),
+            other => Err(other),
         }
     }
 }
 
-impl Part for MatchArm {
+impl Group for Arms {
+    type Part = MatchArm;
+
     ghost as_group = { as_arm };
 
-    fn from_part(_alloc: Global, part: AnyPart) -> Result<Option<MatchArm>, AllocError> {
-        match part.into_code() {
-            Some(part) => Ok(part.into_arm()),
-            None => Ok(None),
+    fn from_part(part: AnyPart) -> Result<MatchArm, AnyPart> {
+        match part {
+            AnyPart::Code(CodePart::Arm(arm)) => Ok(arm),
+            other => Err(other),
         }
     }
 }
 
-impl Part for Guard {
+impl Group for Guards {
+    type Part = Guard;
+
     ghost as_group = { as_guard };
 
-    fn from_part(_alloc: Global, part: AnyPart) -> Result<Option<Guard>, AllocError> {
-        match part.into_code() {
-            Some(part) => Ok(part.into_guard()),
-            None => Ok(None),
+    fn from_part(part: AnyPart) -> Result<Guard, AnyPart> {
+        match part {
+            AnyPart::Code(CodePart::Guard(guard)) => Ok(guard),
+            other => Err(other),
         }
     }
 }
 
-impl Part for RecordExprFieldList {
+impl Group for RecordLists {
+    type Part = RecordExprFieldList;
+
     ghost as_group = { as_record_list };
 
-    fn from_part(_alloc: Global, part: AnyPart) -> Result<Option<RecordExprFieldList>, AllocError> {
-        match part.into_code() {
-            Some(part) => Ok(part.into_record_list()),
-            None => Ok(None),
+    fn from_part(part: AnyPart) -> Result<RecordExprFieldList, AnyPart> {
+        match part {
+            AnyPart::Code(CodePart::RecordList(list)) => Ok(list),
+            other => Err(other),
         }
     }
 }
 
-impl Part for RecordExprField {
+impl Group for RecordFields {
+    type Part = RecordExprField;
+
     ghost as_group = { as_record_field };
 
-    fn from_part(_alloc: Global, part: AnyPart) -> Result<Option<RecordExprField>, AllocError> {
-        match part.into_code() {
-            Some(part) => Ok(part.into_record_field()),
-            None => Ok(None),
+    fn from_part(part: AnyPart) -> Result<RecordExprField, AnyPart> {
+        match part {
+            AnyPart::Code(CodePart::RecordField(field)) => Ok(field),
+            other => Err(other),
         }
     }
 }

@@ -7,6 +7,7 @@ pub mod branches;
 pub mod code_parts;
 pub mod exprs;
 pub mod field;
+pub mod fields;
 pub mod leaving;
 pub mod literal;
 pub mod members;

@@ -1,67 +1,68 @@
 //! Parameters.
 
-ghost use Rattle.std.specs.Prelude.{◌≡◌, IfOk};
+ghost use Rattle.std.specs.Prelude.{◌≡◌};
+ghost use Rattle.json_nodes.specs.Kept.{Kept};
 ghost use Rattle.json_nodes.specs.Params as spec;
-ghost use Rattle.json_nodes.specs.Nodes.{here};
 
 use crate::field::flag;
-use crate::node::{Node, ReadParts};
-use crate::param_parts::ParamPart;
+use crate::fields::{All, Fields, InBox, One};
+use crate::name_parts::{Lifetimes, Names};
+use crate::param_parts::{ParamPart, Params, Pats, SelfParams};
 use crate::part::AnyPart;
-use hir_base::Boxed;
-use hir_syntax::ast::{Lifetime, Name, Param, ParamList, Pat, SelfParam, Type_};
+use crate::type_parts::Types;
+use hir_syntax::ast::{Param, ParamList, SelfParam};
 use json_kinds::kind::PartNode;
-use std::alloc::AllocError;
 
 #[tactic(auto, unfolding(crate::specs::Params::self_param))]
-fn self_param<P: ReadParts>(node: &Node<'_, P>) -> Result<SelfParam, AllocError>
-    requires { P.can node.now.parts.now }
-    ensures { IfOk result (λ param. param ≡ spec.self_param (here P.parts node.now)) }
+fn self_param<F: Fields>(node: &F, refused: &mut bool) -> SelfParam
+    requires { F.can node.now }
+    ensures { Kept refused.old refused.new (result ≡ spec.self_param (F.here node.now)) }
 {
-    Ok(SelfParam {
-        id: node.id,
-        range: node.range,
-        name: node.part::<Name>("name")?,
-        ref_: flag(node.value, "ref"),
-        mut_: flag(node.value, "mut"),
-        lifetime: node.part::<Lifetime>("lifetime")?,
-        ty: node.boxed::<Type_>("ty")?,
-    })
+    let name = node.field::<One<Names>>(refused, "name");
+    let lifetime = node.field::<One<Lifetimes>>(refused, "lifetime");
+    let ty = node.field::<InBox<Types>>(refused, "ty");
+    SelfParam {
+        id: node.id(),
+        range: node.range(),
+        name,
+        ref_: flag(node.value(), "ref"),
+        mut_: flag(node.value(), "mut"),
+        lifetime,
+        ty,
+    }
 }
 
 /// A parameter, a `self`, or all of a function.
 #[tactic(auto, unfolding(crate::specs::Params::of_param))]
-pub fn of_param<P: ReadParts>(
-    node: &Node<'_, P>,
-    kind: PartNode,
-) -> Result<Option<AnyPart>, AllocError>
-    requires { P.can node.now.parts.now }
-    ensures { IfOk result (λ part. part ≡ spec.of_param (here P.parts node.now) kind) }
+pub fn of_param<F: Fields>(node: &F, refused: &mut bool, kind: PartNode) -> Option<AnyPart>
+    requires { F.can node.now }
+    ensures { Kept refused.old refused.new (result ≡ spec.of_param (F.here node.now) kind) }
 {
     match kind {
         PartNode::Param => {
-            let param = Param {
-                id: node.id,
-                range: node.range,
-                pat: node.boxed::<Pat>("pat")?,
-                ty: node.boxed::<Type_>("ty")?,
-                variadic: flag(node.value, "variadic"),
-            };
-            Ok(Some(AnyPart::Param(ParamPart::Param(Boxed::new(node.alloc, param)?))))
+            let pat = node.field::<InBox<Pats>>(refused, "pat");
+            let ty = node.field::<InBox<Types>>(refused, "ty");
+            Some(AnyPart::Param(ParamPart::Param(Param {
+                id: node.id(),
+                range: node.range(),
+                pat,
+                ty,
+                variadic: flag(node.value(), "variadic"),
+            })))
         }
         PartNode::SelfParam => {
-            let param = self_param(node)?;
-            Ok(Some(AnyPart::Param(ParamPart::SelfParam(Boxed::new(node.alloc, param)?))))
+            Some(AnyPart::Param(ParamPart::SelfParam(self_param(node, refused))))
         }
         PartNode::ParamList => {
-            let params = ParamList {
-                id: node.id,
-                range: node.range,
-                self_: node.part::<SelfParam>("self")?,
-                params: node.list::<Param>("params")?,
-            };
-            Ok(Some(AnyPart::Param(ParamPart::ParamList(Boxed::new(node.alloc, params)?))))
+            let self_ = node.field::<One<SelfParams>>(refused, "self");
+            let params = node.field::<All<Params>>(refused, "params");
+            Some(AnyPart::Param(ParamPart::ParamList(ParamList {
+                id: node.id(),
+                range: node.range(),
+                self_,
+                params,
+            })))
         }
-        _ => Ok(None),
+        _ => None,
     }
 }

@@ -1,17 +1,23 @@
 //! The parts of trees, by their group.
 
-ghost use Rattle.std.specs.Prelude.{◌≡◌, IfOk, Option};
-ghost use Rattle.json_nodes.specs.Groups.{code_in, expr_in, name_in, param_in, pat_in, path_in, type_in};
+ghost use Rattle.std.specs.Prelude.{◌≡◌, ℕ, IfOk, Option, Some};
+ghost use Rattle.std.specs.Result.{result_ok};
+ghost use Rattle.json_nodes.specs.Kept.{Kept};
+ghost use Rattle.json_nodes.specs.declared.part.AnyPart.{AnyPart};
 
 use crate::code_parts::{CodePart, ExprPart};
 use crate::name_parts::NamePart;
 use crate::param_parts::{ParamPart, PatPart};
 use crate::path_parts::PathPart;
 use crate::type_parts::TypePart;
+use hir_base::Boxed;
+use hir_syntax::ast::{BlockExpr, Expr, Pat, Path, Type_};
 use std::alloc::{AllocError, Global};
 
-/// A part of a tree, by its sort, so that each group is told from the few others of that sort. Each is held in a box, since a
-/// part that was handed on whole would be let go of kind by kind wherever another is wanted.
+/// A part of a tree, by its sort.
+///
+/// It can't be dropped but by what reads parts, since whatever may drop a tree is dear to check. Expressions, patterns and
+/// types are in boxes for the same reason: an enum is dear to take apart that holds one by value.
 pub enum AnyPart {
     Expr(ExprPart),
     /// A part of expressions and statements.
@@ -23,115 +29,66 @@ pub enum AnyPart {
     Name(NamePart),
 }
 
-impl Drop for AnyPart {
-    fn drop(self) {
-        match self {
-            AnyPart::Expr(_) => {}
-            AnyPart::Code(_) => {}
-            AnyPart::Pat(_) => {}
-            AnyPart::Param(_) => {}
-            AnyPart::Type_(_) => {}
-            AnyPart::Path(_) => {}
-            AnyPart::Name(_) => {}
-        }
-    }
+/// What reads the parts of a node, and does with them what may drop one.
+///
+/// What it does in a box sets `refused` and answers none where memory is refused.
+pub trait ReadParts {
+    /// It may be asked.
+    ghost can: { Self → Type 0 };
+    /// What stands at each node.
+    ghost parts: { Self → ℕ → Option AnyPart };
+
+    /// The part that stands at a node, if one does.
+    fn part_at(&self, alloc: Global, at: u32) -> Result<Option<AnyPart>, AllocError>
+        requires { can self.now }
+        ensures { IfOk result (λ part. part ≡ parts self.now at) };
+
+    /// Lets a part go.
+    fn let_go(&self, part: AnyPart);
+
+    fn boxed_expr(&self, alloc: Global, refused: &mut bool, expr: Expr) -> Option<Boxed<Expr>>
+        ensures { Kept refused.old refused.new (result ≡ Some expr) };
+
+    fn boxed_block(
+        &self,
+        alloc: Global,
+        refused: &mut bool,
+        block: BlockExpr,
+    ) -> Option<Boxed<BlockExpr>>
+        ensures { Kept refused.old refused.new (result ≡ Some block) };
+
+    fn boxed_pat(&self, alloc: Global, refused: &mut bool, pat: Pat) -> Option<Boxed<Pat>>
+        ensures { Kept refused.old refused.new (result ≡ Some pat) };
+
+    fn boxed_type(&self, alloc: Global, refused: &mut bool, ty: Type_) -> Option<Boxed<Type_>>
+        ensures { Kept refused.old refused.new (result ≡ Some ty) };
+
+    fn boxed_path(&self, alloc: Global, refused: &mut bool, path: Path) -> Option<Boxed<Path>>
+        ensures { Kept refused.old refused.new (result ≡ Some path) };
 }
 
-/// The part where it is of this sort, none where it is of another.
-impl AnyPart {
-    pub fn into_expr(self) -> Option<ExprPart>
-        ensures { result ≡ expr_in self }
-    {
-        match self {
-            AnyPart::Expr(part) => Some(part),
-            other => {
-                drop(other);
-                None
-            }
-        }
-    }
-
-    pub fn into_code(self) -> Option<CodePart>
-        ensures { result ≡ code_in self }
-    {
-        match self {
-            AnyPart::Code(part) => Some(part),
-            other => {
-                drop(other);
-                None
-            }
-        }
-    }
-
-    pub fn into_pat(self) -> Option<PatPart>
-        ensures { result ≡ pat_in self }
-    {
-        match self {
-            AnyPart::Pat(part) => Some(part),
-            other => {
-                drop(other);
-                None
-            }
-        }
-    }
-
-    pub fn into_param(self) -> Option<ParamPart>
-        ensures { result ≡ param_in self }
-    {
-        match self {
-            AnyPart::Param(part) => Some(part),
-            other => {
-                drop(other);
-                None
-            }
-        }
-    }
-
-    pub fn into_type(self) -> Option<TypePart>
-        ensures { result ≡ type_in self }
-    {
-        match self {
-            AnyPart::Type_(part) => Some(part),
-            other => {
-                drop(other);
-                None
-            }
-        }
-    }
-
-    pub fn into_path(self) -> Option<PathPart>
-        ensures { result ≡ path_in self }
-    {
-        match self {
-            AnyPart::Path(part) => Some(part),
-            other => {
-                drop(other);
-                None
-            }
-        }
-    }
-
-    pub fn into_name(self) -> Option<NamePart>
-        ensures { result ≡ name_in self }
-    {
-        match self {
-            AnyPart::Name(part) => Some(part),
-            other => {
-                drop(other);
-                None
-            }
-        }
-    }
-}
-
-/// What a field for one group of parts may hold.
-pub trait Part: Drop {
+/// A group of parts: what a field for one may hold.
+pub trait Group {
+    ghost use Rattle.std.specs.Prelude.{Option};
     ghost use Rattle.json_nodes.specs.declared.part.AnyPart.{AnyPart};
 
-    /// What a part is in such a field, if it serves there.
-    ghost as_group: { AnyPart → Option Self };
+    type Part;
 
-    /// The part as one of this group, none where it is of another.
-    fn from_part(alloc: Global, part: AnyPart) -> Result<Option<Self>, AllocError>
-        ensures { IfOk result (λ found. found ≡ as_group part) };
+    /// What a part is in such a field, if it serves there.
+    ghost as_group: { AnyPart → Option Self.Part };
+
+    /// The part as one of this group, or as it was where it is of another.
+    fn from_part(part: AnyPart) -> Result<Self::Part, AnyPart>
+        ensures { result_ok result ≡ as_group part };
+}
+
+/// A group of which trees hold parts in boxes.
+pub trait BoxedGroup: Group {
+    fn in_box<P: ReadParts>(
+        parts: &P,
+        alloc: Global,
+        refused: &mut bool,
+        part: Self::Part,
+    ) -> Option<Boxed<Self::Part>>
+        ensures { Kept refused.old refused.new (result ≡ Some part) };
 }

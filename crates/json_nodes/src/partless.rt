@@ -3,8 +3,12 @@
 ghost use Rattle.std.specs.Prelude.{◌≡◌, codes};
 ghost use Rattle.serde_json.specs.View.{view};
 ghost use Rattle.serde_json.specs.Find.{get};
+ghost use Rattle.json_nodes.specs.Kept.{Kept};
 ghost use Rattle.json_nodes.specs.Exprs as spec;
 
+use crate::exprs::whole_expr;
+use crate::fields::Fields;
+use crate::part::AnyPart;
 use hir_base::node::PredId;
 use hir_syntax::ast::ExprKind;
 use json_faults::value::small;
@@ -20,15 +24,21 @@ pub fn pred(node: &Value) -> Option<PredId>
 
 /// Predicates of conditions, `_`, and what the compiler's own macros write.
 #[tactic(auto, unfolding(crate::specs::Exprs::partless))]
-pub fn partless(node: &Value, kind: ExprNode) -> Option<ExprKind>
-    ensures { result ≡ spec.partless (view node.now) kind }
+pub fn partless<F: Fields>(node: &F, refused: &mut bool, kind: ExprNode) -> Option<AnyPart>
+    ensures { Kept refused.old refused.new (result ≡ spec.partless (F.here node.now) kind) }
 {
     match kind {
-        ExprNode::CfgPredExpr => Some(ExprKind::CfgPredExpr { pred: pred(node) }),
-        ExprNode::UnderscoreExpr => Some(ExprKind::UnderscoreExpr),
-        ExprNode::IncludeBytesExpr => Some(ExprKind::IncludeBytesExpr),
-        ExprNode::AsmExpr => Some(ExprKind::AsmExpr),
-        ExprNode::FormatArgsExpr => Some(ExprKind::FormatArgsExpr),
+        ExprNode::CfgPredExpr => whole_expr(
+            node,
+            refused,
+            ExprKind::CfgPredExpr {
+                pred: pred(node.value()),
+            },
+        ),
+        ExprNode::UnderscoreExpr => whole_expr(node, refused, ExprKind::UnderscoreExpr),
+        ExprNode::IncludeBytesExpr => whole_expr(node, refused, ExprKind::IncludeBytesExpr),
+        ExprNode::AsmExpr => whole_expr(node, refused, ExprKind::AsmExpr),
+        ExprNode::FormatArgsExpr => whole_expr(node, refused, ExprKind::FormatArgsExpr),
         _ => None,
     }
 }

@@ -1,166 +1,114 @@
 //! Types, and what stands beside them.
 
-ghost use Rattle.std.specs.Prelude.{◌≡◌, Some};
-ghost use Rattle.json_nodes.specs.Groups.{as_binder, as_bound, as_path_type, as_ret, as_type, binder_of, bound_of};
-ghost use Rattle.json_nodes.specs.Groups.{path_type_of, ret_of, type_of};
-ghost use Rattle.json_nodes.specs.declared.type_parts.TypePart.TheVariants as type_part;
+ghost use Rattle.json_nodes.specs.Groups.{as_binder, as_bound, as_path_type, as_ret, as_type};
 
-use crate::part::{AnyPart, Part};
+use crate::part::{AnyPart, BoxedGroup, Group, ReadParts};
 use hir_base::Boxed;
 use hir_syntax::ast::{ForBinder, PathType, RetType, Type_, TypeBound, TypeKind};
-use std::alloc::{AllocError, Global};
+use std::alloc::Global;
 
 /// A type, or what stands beside one.
 pub enum TypePart {
     Type_(Boxed<Type_>),
     /// A path as a type, which may also name a trait.
-    PathType(Boxed<PathType>),
-    Bound(Boxed<TypeBound>),
-    Binder(Boxed<ForBinder>),
-    Ret(Boxed<RetType>),
+    PathType(PathType),
+    Bound(TypeBound),
+    Binder(ForBinder),
+    Ret(RetType),
 }
 
-impl Drop for TypePart {
-    fn drop(self) {
-        match self {
-            TypePart::Type_(_) => {}
-            TypePart::PathType(_) => {}
-            TypePart::Bound(_) => {}
-            TypePart::Binder(_) => {}
-            TypePart::Ret(_) => {}
-        }
-    }
-}
+/// Types.
+pub struct Types;
 
-/// A path as a type.
-fn type_of_path(path_type: Boxed<PathType>) -> Type_
-    ensures { Some result ≡ type_of (type_part.PathType path_type) }
-{
-    let mut ty = path_type.into_inner();
-    Type_ {
-        id: ty.id,
-        range: ty.range,
-        kind: TypeKind::PathType {
-            path: ty.path.take(),
-        },
-    }
-}
+/// Paths as types.
+pub struct PathTypes;
 
-/// The part as one of a group, none where it is of another.
-impl TypePart {
-    fn into_type(self) -> Option<Type_>
-        ensures { result ≡ type_of self }
-    {
-        match self {
-            TypePart::Type_(ty) => Some(ty.into_inner()),
-            TypePart::PathType(ty) => Some(type_of_path(ty)),
-            other => {
-                drop(other);
-                None
-            }
-        }
-    }
+/// Bounds of a type.
+pub struct Bounds;
 
-    fn into_path_type(self) -> Option<PathType>
-        ensures { result ≡ path_type_of self }
-    {
-        match self {
-            TypePart::PathType(path_type) => Some(path_type.into_inner()),
-            other => {
-                drop(other);
-                None
-            }
-        }
-    }
+/// The lifetimes that `for` introduces.
+pub struct Binders;
 
-    fn into_bound(self) -> Option<TypeBound>
-        ensures { result ≡ bound_of self }
-    {
-        match self {
-            TypePart::Bound(bound) => Some(bound.into_inner()),
-            other => {
-                drop(other);
-                None
-            }
-        }
-    }
+/// Types that are returned.
+pub struct Rets;
 
-    fn into_binder(self) -> Option<ForBinder>
-        ensures { result ≡ binder_of self }
-    {
-        match self {
-            TypePart::Binder(binder) => Some(binder.into_inner()),
-            other => {
-                drop(other);
-                None
-            }
-        }
-    }
+impl Group for Types {
+    type Part = Type_;
 
-    fn into_ret(self) -> Option<RetType>
-        ensures { result ≡ ret_of self }
-    {
-        match self {
-            TypePart::Ret(ret) => Some(ret.into_inner()),
-            other => {
-                drop(other);
-                None
-            }
-        }
-    }
-}
-
-impl Part for Type_ {
     ghost as_group = { as_type };
 
-    fn from_part(_alloc: Global, part: AnyPart) -> Result<Option<Type_>, AllocError> {
-        match part.into_type() {
-            Some(part) => Ok(part.into_type()),
-            None => Ok(None),
+    fn from_part(part: AnyPart) -> Result<Type_, AnyPart> {
+        match part {
+            AnyPart::Type_(TypePart::Type_(ty)) => Ok(ty.into_inner()),
+            AnyPart::Type_(TypePart::PathType(PathType { id, range, path })) => Ok(Type_ {
+                id,
+                range,
+                kind: TypeKind::PathType { path },
+            }),
+            other => Err(other),
         }
     }
 }
 
-impl Part for PathType {
+impl BoxedGroup for Types {
+    fn in_box<P: ReadParts>(
+        parts: &P,
+        alloc: Global,
+        refused: &mut bool,
+        part: Type_,
+    ) -> Option<Boxed<Type_>> {
+        parts.boxed_type(alloc, refused, part)
+    }
+}
+
+impl Group for PathTypes {
+    type Part = PathType;
+
     ghost as_group = { as_path_type };
 
-    fn from_part(_alloc: Global, part: AnyPart) -> Result<Option<PathType>, AllocError> {
-        match part.into_type() {
-            Some(part) => Ok(part.into_path_type()),
-            None => Ok(None),
+    fn from_part(part: AnyPart) -> Result<PathType, AnyPart> {
+        match part {
+            AnyPart::Type_(TypePart::PathType(ty)) => Ok(ty),
+            other => Err(other),
         }
     }
 }
 
-impl Part for TypeBound {
+impl Group for Bounds {
+    type Part = TypeBound;
+
     ghost as_group = { as_bound };
 
-    fn from_part(_alloc: Global, part: AnyPart) -> Result<Option<TypeBound>, AllocError> {
-        match part.into_type() {
-            Some(part) => Ok(part.into_bound()),
-            None => Ok(None),
+    fn from_part(part: AnyPart) -> Result<TypeBound, AnyPart> {
+        match part {
+            AnyPart::Type_(TypePart::Bound(bound)) => Ok(bound),
+            other => Err(other),
         }
     }
 }
 
-impl Part for ForBinder {
+impl Group for Binders {
+    type Part = ForBinder;
+
     ghost as_group = { as_binder };
 
-    fn from_part(_alloc: Global, part: AnyPart) -> Result<Option<ForBinder>, AllocError> {
-        match part.into_type() {
-            Some(part) => Ok(part.into_binder()),
-            None => Ok(None),
+    fn from_part(part: AnyPart) -> Result<ForBinder, AnyPart> {
+        match part {
+            AnyPart::Type_(TypePart::Binder(binder)) => Ok(binder),
+            other => Err(other),
         }
     }
 }
 
-impl Part for RetType {
+impl Group for Rets {
+    type Part = RetType;
+
     ghost as_group = { as_ret };
 
-    fn from_part(_alloc: Global, part: AnyPart) -> Result<Option<RetType>, AllocError> {
-        match part.into_type() {
-            Some(part) => Ok(part.into_ret()),
-            None => Ok(None),
+    fn from_part(part: AnyPart) -> Result<RetType, AnyPart> {
+        match part {
+            AnyPart::Type_(TypePart::Ret(ret)) => Ok(ret),
+            other => Err(other),
         }
     }
 }

@@ -2,7 +2,6 @@
 use Rattle.std.specs.Prelude.{ℕ, suc, zero, codes, List, [], ◌∷◌, false, Option, None, option_and_then, option_map, unwrap_or}
 use Rattle.serde_json.specs.Data.{Data, null, Items}
 use Rattle.serde_json.specs.Find.{get, get_item}
-use Rattle.hir_syntax.specs.declared.ast.ExprKind.{ExprKind}
 use Rattle.hir_base.specs.declared.node.NodeId.{NodeId}
 use Rattle.hir_base.specs.declared.node.TextRange.{TextRange}
 use Rattle.hir_syntax.specs.declared.params.ParamList.{ParamList}
@@ -36,15 +35,9 @@ use Rattle.lower_json.specs.declared.document.Root.TheVariants as root
 use Rattle.lower_json.specs.declared.document.Tree.{Tree}
 use Rattle.lower_json.specs.declared.document.Tree.TheVariants as tree
 
-abbrev pub expr_kind : Here → ExprNode → Option ExprKind
-expr_kind h k = or_else (flow h k) (or_else (plain h k) (or_else (branching h k) (or_else (operation h k) (or_else (member h k)
-    (or_else (leaving h k) (or_else (typed h k) (partless h.value k)))))))
-
-abbrev pub of_expr_kind : Here → ExprKind → AnyPart
-of_expr_kind h x = part.Expr (expr_part.Expr (record { id = h.id; range = h.range; kind = x }))
-
 abbrev pub of_expr : Here → ExprNode → Option AnyPart
-of_expr h k = option_map (of_expr_kind h) (expr_kind h k)
+of_expr h k = or_else (flow h k) (or_else (plain h k) (or_else (branching h k) (or_else (operation h k) (or_else (member h k)
+    (or_else (leaving h k) (or_else (typed h k) (partless h k)))))))
 
 abbrev pub of_path_part : Here → PathNode → Option AnyPart
 of_path_part h k = or_else (of_path h k) (of_args h k)
