@@ -12,7 +12,7 @@ use Rattle.hir_store.specs.declared.ids.BindingId.{BindingId}
 use Rattle.hir_store.specs.declared.ids.ExprId.{ExprId}
 use Rattle.hir_store.specs.declared.ids.PatId.{PatId}
 use Rattle.hir_store.proofs.Arenas.{prefix_refl}
-use Rattle.hir_store.proofs.Extending.{extends_refl}
+use Rattle.hir_store.proofs.Extending.{extends_refl, extends_root}
 use Rattle.hir_env.specs.Answered.{Formals, OptionExpr}
 use Rattle.hir_lower_form.specs.Builder.{Builder}
 use Rattle.hir_lower_form.specs.Lowering.{Checked}
@@ -32,6 +32,7 @@ use Rattle.hir_lower.specs.Formals.{Given, lower_formals}
 use Rattle.hir_lower.specs.Means.{HasBody, owed_faults, unless_skipped}
 use Rattle.hir_lower.specs.Roots.{GivenFromNothing, RefusedAtEnd, StoresFromNothing, as_written, behind, body_of, given_of}
 use Rattle.hir_lower.specs.declared.body.Body.{Body}
+use Rattle.hir_lower.proofs.BodyTypes.{body_types_once}
 use Rattle.hir_lower.proofs.Behind.{Steps, closed, item_is, lowered, refused, rooted, steps}
 use Rattle.hir_lower.proofs.Meanings.{rooted_inside}
 use Rattle.hir_lower.proofs.Params.{given_now}
@@ -65,6 +66,7 @@ module _ (skipped : Bool) (f : Formals) (e : OptionExpr) (limit : ℕ) (owed : F
         subst (λ r. Keeps (closed start) r.0 r.1) s.formals (kept_by (any (given_now skipped f)) (closed start)) in
         let paired = kept.paired (record { exprs = refl; labels = refl; pats = refl; types = refl; lifetimes = refl }) in
         let rooted_here = rooted_inside e s.middle s.inner i kept.scopes kept.in_root paired s.body in
+        let root = root_at (store_of s.inner.stored) i in
         let end = (rooted s.inner i).stored in
         let live = rooted_here.lives end (extends_refl end) (prefix_refl end.bindings.entries) in
         let P : Builder → Type 0 = λ x. HasBody (store_of x.stored) (map_of x.stored) e in
@@ -73,7 +75,9 @@ module _ (skipped : Bool) (f : Formals) (e : OptionExpr) (limit : ℕ) (owed : F
           only = rooted_here.roots ∙ ap (λ rs. rs ++ root_at (store_of (rooted s.inner i).stored) i ∷ []) (kept.roots refl);
           same = live.same;
           reached_once = λ depth le. from_zero _ _ _ (live.reached_once depth le);
-          types_reached_once = ?;
+          types_reached_once = λ depth le. body_types_once skipped f e (closed start) s.inner given i
+              (record { exprs = refl; labels = refl; pats = refl; types = refl; lifetimes = refl }) refl
+              (lowered skipped f e start b' given i s) end (extends_root s.inner.stored root) depth le;
         })
 
   too_large : (b' : Builder) → behind (lower_formals skipped f) e start ≡ (Err Full, b') → BodyTooLarge (empty limit) skipped f e

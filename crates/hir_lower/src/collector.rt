@@ -216,10 +216,10 @@ impl<'db, E: LowerEnv> ExprCollector<'db, E> {
     ///
     /// In each later store its expression does what the constant does, for every answerer and every number of turns
     /// that a loop may take; what is stored stands for the tree, and faults, blocks and ways of the source map come
-    /// behind those of before. `Memory` where a growth was refused, `Full` where an arena has no room for the tree or
-    /// a path in the tree has more `super`s than 32 bits count, `Failed` after an error, and then nothing changes. All
-    /// that was stored is stored still, unless memory was refused, and a node leads to where it led, or to what came
-    /// since.
+    /// behind those of before. `Memory` where a growth was refused, `Full` where an arena has no room for the tree, or
+    /// a path in the tree has more `super`s, or a pattern more parts in front of its two dots, than 32 bits count,
+    /// `Failed` after an error, and then nothing changes. All that was stored is stored still, unless memory was
+    /// refused, and a node leads to where it led, or to what came since.
     pub fn lower_const_arg(&mut self, arg: &ast::ConstArg) -> Result<ConstRef, LowerError>
         ensures calls { Calls self.old.failed self.old.state result self.new.state self.new.failed }
         ensures rooted { let e = expr_part (spot_at (E.answers self.old.db.now) self.old.place) arg.now in
@@ -252,10 +252,11 @@ impl<'db, E: LowerEnv> ExprCollector<'db, E> {
     /// It has the names of all segments that are read, those of use trees around it in front, with the arguments that stand
     /// beside them, and begins where they say. Where no use tree stands around it or its trait, no segment of either is missing,
     /// and the trait has no qualified type, its names are those of the written segments that bear one. `Memory` where a
-    /// growth was refused, `Full` where an arena has no room for its types, lifetimes and constants or it has more `super`s
-    /// than 32 bits count, `Failed` after an error. All that was stored is stored still, unless memory was refused, and nothing
-    /// comes behind it but the path's types, its lifetimes and its constants, each of which is recorded as a root, also
-    /// where the path is refused.
+    /// growth was refused, `Full` where an arena has no room for its types, lifetimes and constants and the patterns in
+    /// them, or it has more `super`s, or a pattern in it more parts in front of its two dots, than 32 bits count, `Failed`
+    /// after an error. All that was stored is stored still, unless memory was refused, and nothing comes behind it but the
+    /// path's types, its lifetimes and its constants, each of which is recorded as a root, also where the path is refused,
+    /// with the patterns and bindings in them.
     pub fn lower_path<I: ImplTraitLower>(
         &mut self,
         path: &ast::Path,
