@@ -1,6 +1,6 @@
 -- What is done with the parts of patterns, targets and ranges stores as much as they become, or there is no room for it.
 use Rattle.std.proofs.Common.{◌≡◌, refl, sym, ap, subst, ℕ, suc, ◌+◌, ◌^◌, nat_lt, Bool, true, false, not, if◌then◌else◌, cond, arith, List}
-use Rattle.std.proofs.Common.{[], ◌∷◌, ◌++◌, length, Option, Some, None, is_some, inl, inr, ⊎_elim, ◌∙◌, ◌⊎◌, true≢false, option_map}
+use Rattle.std.proofs.Common.{[], ◌∷◌, ◌++◌, length, Option, Some, None, is_some, inl, inr, ⊎_elim, ◌∙◌, ◌⊎◌, true≢false, option_map, add-one}
 use Rattle.std.proofs.lemmas.Bool.{ltb-false}
 use Rattle.std.specs.Map.{lookup}
 use Rattle.hir_base.specs.declared.op.RangeOp.{RangeOp}
@@ -144,7 +144,7 @@ dots_take : (comma : Bool) (d : Option ℕ) → Takes (dots_behind (moved_by com
 dots_take false None = takes_pure None
 dots_take true None = takes_pure None
 dots_take false (Some n) = place_takes false n n refl
-dots_take true (Some n) = place_takes true n (suc n) (omega arith)
+dots_take true (Some n) = place_takes true n (suc n) (add-one n)
 
 front_takes : (comma : Bool) (ids : List PatId) → Takes (front_pat_size comma) (forms.with_first_missing comma ids)
 front_takes false ids = takes_pure ids
@@ -454,16 +454,24 @@ pub element_takes : (p : Pat) {n m : Size} {us vs : FirstUses} {d : Option ℕ} 
     → PartsTake (if_so (not (is_dots p)) n ∪ m) us vs (if is_dots p then Some 0 else option_map suc d)
     (λ done t. forms.element_form (forms.is_dots p) done (lower_pat p) t >>= (λ r. q r.0 r.1))
 element_takes p {n = n} {m = m} {us = us} {vs = vs} {d = d} {q = q} (inl is) h more done t k =
-    let same = dots_use_none p is.1.0 us in
     let next : Elements = (done.0, forms.dots_after done.0 done.1) in
     let rest : Tells m (λ r. Keyed vs r.1 × (r.0.1 ≡ parts.dots_behind (length done.0) (forms.dots_after done.0 done.1) d)) (q next t) =
-    more next t (subst (λ ws. Keyed ws t) (sym same) k) in
-    rw is.0 (rw is.1.0 (tells_as (nothing_first m)
-    (tells_less (λ r e. (e.0, e.1 ∙ parts.dots_here done.0 done.1 d)) rest)))
-element_takes p {us = us} {d = d} {q = q} (inr is) h more done t k = rw is.0 (rw is.1 (tells_then
-    (tells_end (h t k) (λ r e. tells_pure (λ s. Keyed (names_after p us) s.1 × ((i : PatId) × (s.0 ≡ (done.0 ++ i ∷ [], done.1))))
-    ((done.0 ++ r.0 ∷ [], done.1), r.1) (e, (r.0, refl))))
-    (λ s e. tells_less (λ r x. (x.0, x.1
+    more next t (subst (λ ws. Keyed ws t) (sym (dots_use_none p is.1 us)) k) in
+    subst (λ b. Tells (if_so (not b) n ∪ m)
+    (λ r. Keyed vs r.1 × (r.0.1 ≡ parts.dots_behind (length done.0) done.1 (if b then Some 0 else option_map suc d)))
+    (forms.element_form (forms.is_dots p) done (lower_pat p) t >>= (λ r. q r.0 r.1))) (sym is.1)
+    (subst (λ b. Tells (nothing ∪ m) (λ r. Keyed vs r.1 × (r.0.1 ≡ parts.dots_behind (length done.0) done.1 (Some 0)))
+    (forms.element_form b done (lower_pat p) t >>= (λ r. q r.0 r.1))) (sym is.0)
+    (tells_as (nothing_first m) (tells_less (λ r e. (e.0, e.1 ∙ parts.dots_here done.0 done.1 d)) rest)))
+element_takes p {n = n} {m = m} {us = us} {vs = vs} {d = d} {q = q} (inr is) h more done t k =
+    let one : Tells n (λ s. Keyed (names_after p us) s.1 × ((i : PatId) × (s.0 ≡ (done.0 ++ i ∷ [], done.1))))
+    (forms.element_form false done (lower_pat p) t) = tells_end (h t k) (λ r e. tells_pure _ _ (e, (r.0, refl))) in
+    subst (λ b. Tells (if_so (not b) n ∪ m)
+    (λ r. Keyed vs r.1 × (r.0.1 ≡ parts.dots_behind (length done.0) done.1 (if b then Some 0 else option_map suc d)))
+    (forms.element_form (forms.is_dots p) done (lower_pat p) t >>= (λ r. q r.0 r.1))) (sym is.1)
+    (subst (λ b. Tells (n ∪ m) (λ r. Keyed vs r.1 × (r.0.1 ≡ parts.dots_behind (length done.0) done.1 (option_map suc d)))
+    (forms.element_form b done (lower_pat p) t >>= (λ r. q r.0 r.1))) (sym is.0)
+    (tells_then one (λ s e. tells_less (λ r x. (x.0, x.1
     ∙ (ap (λ es. parts.dots_behind (length es.0) es.1 d) e.1.1 ∙ parts.one_further done.0 e.1.0 done.1 d))) (more s.0 s.1 e.0))))
 
 -- of so many alternatives as there are patterns

@@ -222,6 +222,9 @@ takes_as {A = A} {n = n} {k = k} {p = p} same h = record { takes = λ b. by b (p
 no_more : (n : ℕ) → n + 0 ≡ n
 no_more n = omega arith
 
+none_first : (n : ℕ) → 0 + n ≡ n
+none_first n = omega arith
+
 one_by_one : (n k j : ℕ) → n + (k + j) ≡ (n + k) + j
 one_by_one n k j = omega arith
 
@@ -238,9 +241,9 @@ none_after n = record {
 
 pub none_before : (n : Size) → Same (nothing ∪ n) n
 none_before n = record {
-  exprs = refl;
-  labels = refl;
-  bindings = refl;
+  exprs = none_first n.exprs;
+  labels = none_first n.labels;
+  bindings = none_first n.bindings;
   pats = refl;
   types = refl;
   lifetimes = refl;
@@ -250,9 +253,9 @@ none_before n = record {
 -- and the other way round
 pub nothing_first : (n : Size) → Same n (nothing ∪ n)
 nothing_first n = record {
-  exprs = refl;
-  labels = refl;
-  bindings = refl;
+  exprs = sym (none_first n.exprs);
+  labels = sym (none_first n.labels);
+  bindings = sym (none_first n.bindings);
   pats = refl;
   types = refl;
   lifetimes = refl;

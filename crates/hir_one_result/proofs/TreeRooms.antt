@@ -354,7 +354,7 @@ mutual
   pat_takes (tree.tuple_struct_pat at p comma ps) us = tuple_struct_takes at comma (path_tells p) (whole_parts (elements_are ps us))
   pat_takes (tree.tuple_pat at comma ps) us = tuple_pat_takes at comma (whole_parts (elements_are ps us))
   pat_takes (tree.record_pat at p fs dots) us = record_pat_takes at dots (path_tells p) (pat_fields_take fs us [])
-  pat_takes (tree.or_pat at tree.no_pats) us t k = alone_takes at us (takes_as (nothing_first _) (takes_pat _ _)) t k
+  pat_takes (tree.or_pat at tree.no_pats) us = alone_takes at us (takes_as (nothing_first _) (takes_pat _ _))
   pat_takes (tree.or_pat at (tree.more_pats p ps)) us = or_form_takes at p ps (pat_takes p us) (later_take ps (names_after p us))
   pat_takes (tree.paren_pat at p) us = pat_part_takes p us
   pat_takes (tree.slice_pat at before middle behind) us =
