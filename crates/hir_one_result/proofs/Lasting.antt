@@ -1,7 +1,7 @@
--- Steps by what they bring about in a final store in which what is settled of the bindings by then stays.
-use Rattle.std.proofs.Common.{◌≡◌, ◌∙◌, ◌⊎◌, inl, inr, refl, sym, ap, subst, List, ◌∷◌, Option, Some, None}
+-- Steps by what they bring about in a final store in which the bindings that they make stay as they are by then.
+use Rattle.std.proofs.Common.{arith, ◌≡◌, ◌∙◌, ◌⊎◌, inl, inr, refl, sym, ap, subst, ℕ, zero, suc, ◌≤◌, List, [], ◌∷◌, ◌++◌, length}
+use Rattle.std.proofs.Common.{slice_get, Option, Some, None, is_some, true≢false}
 use Rattle.hir_store.specs.Arenas.{Prefix}
-use Rattle.hir_store.specs.Bindings.{Bindings}
 use Rattle.hir_store.specs.Pointers.{Pointer}
 use Rattle.hir_store.specs.Stored.{Stored}
 use Rattle.hir_store.specs.declared.diagnostics.ExpressionStoreDiagnostics.{ExpressionStoreDiagnostics}
@@ -20,11 +20,12 @@ use Rattle.hir_env.specs.Answered.{Jump, Label}
 use Rattle.hir_scope.specs.Ribs.{Rib, Target, reachable, unreachable, undeclared, target}
 use Rattle.hir_lower_form.specs.Lower.{ExprSteps, constant_form}
 use Rattle.hir_lower_form.specs.Lowering.{Lowering, ◌>>=◌, pure, alloc_binding, alloc_expr, alloc_lifetime, alloc_pat, alloc_type, close}
-use Rattle.hir_lower_form.specs.Lowering.{enter_block, jump_target, open_label, point, point_field, point_pat_field, report, report_await}
+use Rattle.hir_lower_form.specs.Lowering.{count_out, enter_block, jump_target, open_label, point, point_field, point_pat_field, report, report_await}
 use Rattle.hir_lower_form.specs.Ranges.{inner_form}
 use Rattle.hir_steps.proofs.Constants as constants
 use Rattle.hir_steps.proofs.Constants.{Constant, Inner}
 use Rattle.hir_steps.proofs.Frames.{Frame, rib, ribs}
+use Rattle.hir_steps.proofs.Logic.{longer}
 use Rattle.hir_steps.proofs.PatSteps as pats
 use Rattle.hir_steps.proofs.PatSteps.{AllocatedBinding, AllocatedPat, PatWrites, with_field_pat}
 use Rattle.hir_steps.proofs.Steps as steps
@@ -32,19 +33,45 @@ use Rattle.hir_steps.proofs.Steps.{Allocated, AllocatedLifetime, AllocatedType, 
 use Rattle.hir_steps.proofs.Steps.{pointing, with_await, with_block, with_fault, with_field, with_jump, with_target}
 use Rattle.hir_one_result.specs.Laws.{Settled}
 
+-- from this number on the bindings stay as they are, also what is wrong about them
+pub record Unchanged (from : ℕ) (a b : Stored) : Type 0 where
+  pub at : (n : ℕ) (x : Binding) → from ≤ n → slice_get a.bindings.entries n ≡ Some x → slice_get b.bindings.entries n ≡ Some x
+
+abbrev pub bound : Stored → ℕ
+bound s = length s.bindings.entries
+
+-- What was settled of older bindings stays; and so it is in a final store in which the bindings that are new stay.
 pub record Lasts {A : Type 0} (R : Rel A) (final : Stored) (ps : List Frame) (m m' : Mark) (a : A) : Type 0 where
   pub settled : Settled m.stored m'.stored
-  pub rel : Settled m'.stored final → R final ps m m' a
+  pub rel : Unchanged (bound m.stored) m'.stored final → R final ps m m' a
 
 abbrev pub Correct : {A : Type 0} → Lowering A → Rel A → Type 0
 Correct p R = steps.Correct p (Lasts R)
+
+found_behind : {A : Type 0} (xs more : List A) (n : ℕ) (x : A) → slice_get xs n ≡ Some x → slice_get (xs ++ more) n ≡ Some x
+found_behind [] more n x h = absurd (true≢false (sym (ap is_some h)))
+found_behind (y ∷ xs) more zero x h = h
+found_behind (y ∷ xs) more (suc n) x h = found_behind xs more n x h
+
+pub in_prefix : {A : Type 0} {xs ys : List A} → Prefix xs ys → (n : ℕ) (x : A) → slice_get xs n ≡ Some x → slice_get ys n ≡ Some x
+in_prefix {xs = xs} p n x h = ap (λ l. slice_get l n) p.is ∙ found_behind xs p.more n x h
+
+pub unchanged_settled : {a b : Stored} (from : ℕ) → Settled a b → Unchanged from a b
+unchanged_settled from s = record { at = λ n x le h. in_prefix s n x h }
+
+-- of the first of two steps, and of the second
+pub unchanged_first : {a b c : Stored} {from : ℕ} → Settled a b → Unchanged from b c → Unchanged from a c
+unchanged_first s u = record { at = λ n x le h. u.at n x le (in_prefix s n x h) }
+
+unchanged_behind : {xs ys : List Binding} {a b : Stored} → Prefix xs ys → Unchanged (length xs) a b → Unchanged (length ys) a b
+unchanged_behind s u = let more = longer s in record { at = λ n x le h. u.at n x (omega (arith, le, more)) h }
 
 -- the bindings are what they were
 pub settled_as : {a b : Stored} → b.bindings ≡ a.bindings → Settled a b
 settled_as {a = a} {b = b} e = subst (λ xs. Prefix a.bindings.entries xs) (sym (ap (λ x. x.entries) e)) (prefix_refl a.bindings.entries)
 
 -- steps that are known to keep them
-keeping : {A : Type 0} {p : Lowering A} {R : Rel A} → steps.Correct p R
+pub keeping : {A : Type 0} {p : Lowering A} {R : Rel A} → steps.Correct p R
     → ((final : Stored) (ps : List Frame) (m m' : Mark) (a : A) → R final ps m m' a → Settled m.stored m'.stored) → Correct p R
 keeping h k = steps.correct_as h (λ final ps m m' a g row. record { settled = k final ps m m' a row; rel = λ s. row })
 
@@ -62,8 +89,8 @@ correct_bind h k = steps.correct_as (steps.correct_bind h k) (λ final ps m m' b
     one = row.one;
     before = row.before;
     after = row.after;
-    first = row.first.rel (prefix_trans row.second.settled s);
-    second = row.second.rel s;
+    first = row.first.rel (unchanged_first row.second.settled s);
+    second = row.second.rel (unchanged_behind row.first.settled s);
   };
 })
 
@@ -73,6 +100,10 @@ correct_both h k = steps.correct_as (steps.correct_both h k) (λ final ps m m' a
   settled = row.one.settled;
   rel = λ s. record { one = row.one.rel s; other = row.other };
 })
+
+-- what is refused at the end of a counter
+pub correct_count_out : {A : Type 0} (R : Rel A) → Correct {A = A} count_out R
+correct_count_out R = steps.correct_count_out (Lasts R)
 
 pub correct_pure : {A : Type 0} (a : A) → Correct (pure a) (IsPure a)
 correct_pure a = keeping (steps.correct_pure a) (λ final ps m m' b row. settled_as (ap (λ x. x.stored.bindings) row.still))
@@ -163,8 +194,8 @@ correct_opened at l frame hp hf = steps.correct_as (steps.correct_opened at l fr
     stored = row.stored;
     before = row.before;
     after = row.after;
-    first = row.first.rel (prefix_trans row.second.settled s);
-    second = row.second.rel s;
+    first = row.first.rel (unchanged_first row.second.settled (unchanged_behind (settled_as (ap (λ s. s.bindings) row.stored)) s));
+    second = row.second.rel (unchanged_behind (prefix_trans (settled_as (ap (λ s. s.bindings) row.stored)) row.first.settled) s);
   };
 })
 
@@ -185,7 +216,7 @@ correct_constant h = steps.correct_as (constants.correct_constant h) (λ final p
         types = row.types;
         lifetimes = row.lifetimes;
         entries = row.entries;
-        first = row.first.rel (prefix_trans same s);
+        first = row.first.rel (unchanged_first same s);
         stored = row.stored;
       };
     })
@@ -199,7 +230,7 @@ correct_inner h = steps.correct_as (constants.correct_inner h) (λ final ps m m'
         before = row.before;
         after = row.after;
         counts_are = row.counts_are;
-        first = row.first.rel (prefix_trans same s);
+        first = row.first.rel (unchanged_first same s);
         stored = row.stored;
       };
     })
