@@ -127,7 +127,8 @@ module _ (at : Pointer) where
   unfolding field_form
   field_takes name h = takes_end h (λ i. takes_end (takes_point_field i at) (λ u. takes_pure _))
 
-  pub await_takes : (location : Option AwaitLocation) {n : Size} {e : ExprSteps} → Takes n e → Takes (n ∪ an_expr) (await_form at location e)
+  pub await_takes : (location : Option AwaitLocation) {n : Size} {e : ExprSteps} → Takes n e
+      → Takes (n ∪ an_expr) (await_form at location e)
   unfolding await_form
   await_takes location h = takes_then h (λ i. takes_begin (takes_report_await at location) (λ u. takes_alloc _ (Some at)))
 
@@ -151,4 +152,3 @@ labelled_takes (Some l) h =
 pub kept_takes : (e : Expr) {n : Size} {p : ExprSteps} → Takes n p → Takes (if_so (is_kept e) n) (kept e p)
 kept_takes (tree.disabled_expr at by e) h = takes_end (takes_report _) (λ u. takes_pure None)
 kept_takes e h = some_takes h
-

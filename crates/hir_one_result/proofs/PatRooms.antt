@@ -1,6 +1,7 @@
 -- What is done with the parts of patterns, targets and ranges stores as much as they become, or there is no room for it.
 use Rattle.std.proofs.Common.{◌≡◌, refl, sym, ap, subst, ℕ, suc, ◌+◌, ◌^◌, nat_lt, Bool, true, false, not, if◌then◌else◌, cond, arith, List}
-use Rattle.std.proofs.Common.{[], ◌∷◌, ◌++◌, length, Option, Some, None, is_some, inl, inr, ⊎_elim, ◌∙◌, ◌⊎◌, true≢false, option_map, add-one}
+use Rattle.std.proofs.Common.{[], ◌∷◌, ◌++◌, length, Option, Some, None, is_some, inl, inr, ⊎_elim, ◌∙◌, ◌⊎◌, true≢false, option_map}
+use Rattle.std.proofs.Common.{add-one}
 use Rattle.std.proofs.lemmas.Bool.{ltb-false}
 use Rattle.std.specs.Map.{lookup}
 use Rattle.hir_base.specs.declared.op.RangeOp.{RangeOp}
@@ -154,7 +155,8 @@ elements_take : (comma : Bool) (es : Elements) (d : Option ℕ) → es.1 ≡ d
     → Takes (dots_behind (moved_by comma d) ∪ front_pat_size comma) (forms.elements_form comma es)
 unfolding forms.elements_form
 elements_take comma es d e = subst (λ k. Takes (dots_behind (moved_by comma k) ∪ front_pat_size comma)
-    (forms.elements_form comma es)) e (takes_then (dots_take comma es.1) (λ dots. takes_end (front_takes comma es.0) (λ ids. takes_pure (dots, ids))))
+    (forms.elements_form comma es)) e
+    (takes_then (dots_take comma es.1) (λ dots. takes_end (front_takes comma es.0) (λ ids. takes_pure (dots, ids))))
 
 -- the parts of a tuple, with the place of the first two dots
 abbrev pub ElementsTake : Size → FirstUses → FirstUses → Option ℕ → (Table → Lowering (Elements × Table)) → Type 0
@@ -471,8 +473,11 @@ element_takes p {n = n} {m = m} {us = us} {vs = vs} {d = d} {q = q} (inr is) h m
     (forms.element_form (forms.is_dots p) done (lower_pat p) t >>= (λ r. q r.0 r.1))) (sym is.1)
     (subst (λ b. Tells (n ∪ m) (λ r. Keyed vs r.1 × (r.0.1 ≡ parts.dots_behind (length done.0) done.1 (option_map suc d)))
     (forms.element_form b done (lower_pat p) t >>= (λ r. q r.0 r.1))) (sym is.0)
-    (tells_then one (λ s e. tells_less (λ r x. (x.0, x.1
-    ∙ (ap (λ es. parts.dots_behind (length es.0) es.1 d) e.1.1 ∙ parts.one_further done.0 e.1.0 done.1 d))) (more s.0 s.1 e.0))))
+    (tells_then one (λ s e. tells_less (λ r x. (
+      x.0,
+      x.1
+          ∙ (ap (λ es. parts.dots_behind (length es.0) es.1 d) e.1.1 ∙ parts.one_further done.0 e.1.0 done.1 d),
+    )) (more s.0 s.1 e.0))))
 
 -- of so many alternatives as there are patterns
 abbrev pub AsMany : {A : Type 0} → Pats → List A → Type 0

@@ -95,7 +95,8 @@ module _ {X : Type 0} (L : Listing X) where
 
   -- parts of a tuple: two dots add nothing
 
-  pub element_tells : (dots : Bool) (done : Elements) {D : List Scope → List X} {p : PatSteps} → (dots ≡ true → (ss : List Scope) → D ss ≡ [])
+  pub element_tells : (dots : Bool) (done : Elements) {D : List Scope → List X} {p : PatSteps}
+      → (dots ≡ true → (ss : List Scope) → D ss ≡ [])
       → Each D p → Each D (forms.element_form dots done p)
   element_tells true done {D = D} none h t =
       tells_as L (tells_pure L _) (λ ss. subst (λ xs. L.Like xs []) (sym (none refl ss)) (L.same []))
@@ -259,7 +260,8 @@ module _ {X : Type 0} (L : Listing X) where
 
     -- targets
 
-    pub place_target_tells : {D : List Scope → List X} {e : ExprSteps} → Correct e (Tells L D) → Correct (targets.place_form at e) (Tells L D)
+    pub place_target_tells : {D : List Scope → List X} {e : ExprSteps} → Correct e (Tells L D)
+        → Correct (targets.place_form at e) (Tells L D)
     unfolding targets.place_form
     place_target_tells h = tells_end L h (λ e. tells_pat _ (Some at))
 

@@ -345,16 +345,16 @@ takes_alloc e source = record { takes = λ b. by b (nat_lt (length b.stored.expr
         → Room an_expr b (made_expr t e source b.stored.exprs).0
         (record b { stored = record b.stored { exprs = (made_expr t e source b.stored.exprs).1 } })
     by b true is = record {
-          exprs = grew_one b.stored.exprs.entries e b.stored.exprs.limit;
-          labels = still refl;
-          bindings = grew_none refl refl;
-          pats = still refl;
-          types = still refl;
-          lifetimes = still refl;
-          pat_sources = no_sources b.stored.pats refl;
-          type_sources = no_sources b.stored.types refl;
-          lifetime_sources = no_sources b.stored.lifetimes refl;
-        }
+      exprs = grew_one b.stored.exprs.entries e b.stored.exprs.limit;
+      labels = still refl;
+      bindings = grew_none refl refl;
+      pats = still refl;
+      types = still refl;
+      lifetimes = still refl;
+      pat_sources = no_sources b.stored.pats refl;
+      type_sources = no_sources b.stored.types refl;
+      lifetime_sources = no_sources b.stored.lifetimes refl;
+    }
     by b false is = let full = ltb-false (length b.stored.exprs.entries) b.stored.exprs.limit is in inl (omega arith)
 
 abbrev made_label : Bool → HirLabel → Option Pointer → Sourced HirLabel LabelId → Checked LabelId × Sourced HirLabel LabelId
@@ -373,16 +373,16 @@ takes_open l = record { takes = λ b. by b (nat_lt (length b.stored.labels.entri
     by : (b : Builder) (t : Bool) → nat_lt (length b.stored.labels.entries) b.stored.labels.limit ≡ t
         → Room a_label b (opening l t b).0 (opening l t b).1
     by b true is = record {
-          exprs = still refl;
-          labels = grew_one b.stored.labels.entries (record { name = l.name }) b.stored.labels.limit;
-          bindings = grew_none refl refl;
-          pats = still refl;
-          types = still refl;
-          lifetimes = still refl;
-          pat_sources = no_sources b.stored.pats refl;
-          type_sources = no_sources b.stored.types refl;
-          lifetime_sources = no_sources b.stored.lifetimes refl;
-        }
+      exprs = still refl;
+      labels = grew_one b.stored.labels.entries (record { name = l.name }) b.stored.labels.limit;
+      bindings = grew_none refl refl;
+      pats = still refl;
+      types = still refl;
+      lifetimes = still refl;
+      pat_sources = no_sources b.stored.pats refl;
+      type_sources = no_sources b.stored.types refl;
+      lifetime_sources = no_sources b.stored.lifetimes refl;
+    }
     by b false is = let full = ltb-false (length b.stored.labels.entries) b.stored.labels.limit is in inr (inl (omega arith))
 
 abbrev made_type : Bool → TypeRef → Option Pointer → Sourced TypeRef TypeRefId → Checked TypeRefId × Sourced TypeRef TypeRefId
@@ -396,16 +396,16 @@ takes_type x source = record { takes = λ b. by b (nat_lt (length b.stored.types
         → Room (a_type source) b (made_type t x source b.stored.types).0
         (record b { stored = record b.stored { types = (made_type t x source b.stored.types).1 } })
     by b true is = record {
-          exprs = still refl;
-          labels = still refl;
-          bindings = grew_none refl refl;
-          pats = still refl;
-          types = grew_one b.stored.types.entries x b.stored.types.limit;
-          lifetimes = still refl;
-          pat_sources = no_sources b.stored.pats refl;
-          type_sources = refl;
-          lifetime_sources = no_sources b.stored.lifetimes refl;
-        }
+      exprs = still refl;
+      labels = still refl;
+      bindings = grew_none refl refl;
+      pats = still refl;
+      types = grew_one b.stored.types.entries x b.stored.types.limit;
+      lifetimes = still refl;
+      pat_sources = no_sources b.stored.pats refl;
+      type_sources = refl;
+      lifetime_sources = no_sources b.stored.lifetimes refl;
+    }
     by b false is = let full = ltb-false (length b.stored.types.entries) b.stored.types.limit is in
         inr (inr (inr (inr (inl (omega arith)))))
 
@@ -421,18 +421,19 @@ takes_lifetime x source = record { takes = λ b. by b (nat_lt (length b.stored.l
         → Room (a_lifetime source) b (made_lifetime t x source b.stored.lifetimes).0
         (record b { stored = record b.stored { lifetimes = (made_lifetime t x source b.stored.lifetimes).1 } })
     by b true is = record {
-          exprs = still refl;
-          labels = still refl;
-          bindings = grew_none refl refl;
-          pats = still refl;
-          types = still refl;
-          lifetimes = grew_one b.stored.lifetimes.entries x b.stored.lifetimes.limit;
-          pat_sources = no_sources b.stored.pats refl;
-          type_sources = no_sources b.stored.types refl;
-          lifetime_sources = refl;
-        }
+      exprs = still refl;
+      labels = still refl;
+      bindings = grew_none refl refl;
+      pats = still refl;
+      types = still refl;
+      lifetimes = grew_one b.stored.lifetimes.entries x b.stored.lifetimes.limit;
+      pat_sources = no_sources b.stored.pats refl;
+      type_sources = no_sources b.stored.types refl;
+      lifetime_sources = refl;
+    }
     by b false is =
-        let full = ltb-false (length b.stored.lifetimes.entries) b.stored.lifetimes.limit is in inr (inr (inr (inr (inr (inl (omega arith))))))
+        let full = ltb-false (length b.stored.lifetimes.entries) b.stored.lifetimes.limit is in
+        inr (inr (inr (inr (inr (inl (omega arith))))))
 
 -- patterns and bindings
 
@@ -447,16 +448,16 @@ takes_pat x source = record { takes = λ b. by b (nat_lt (length b.stored.pats.e
         → Room (a_pat source) b (made_pat t x source b.stored.pats).0
         (record b { stored = record b.stored { pats = (made_pat t x source b.stored.pats).1 } })
     by b true is = record {
-          exprs = still refl;
-          labels = still refl;
-          bindings = grew_none refl refl;
-          pats = grew_one b.stored.pats.entries x b.stored.pats.limit;
-          types = still refl;
-          lifetimes = still refl;
-          pat_sources = refl;
-          type_sources = no_sources b.stored.types refl;
-          lifetime_sources = no_sources b.stored.lifetimes refl;
-        }
+      exprs = still refl;
+      labels = still refl;
+      bindings = grew_none refl refl;
+      pats = grew_one b.stored.pats.entries x b.stored.pats.limit;
+      types = still refl;
+      lifetimes = still refl;
+      pat_sources = refl;
+      type_sources = no_sources b.stored.types refl;
+      lifetime_sources = no_sources b.stored.lifetimes refl;
+    }
     by b false is = let full = ltb-false (length b.stored.pats.entries) b.stored.pats.limit is in inr (inr (inl (omega arith)))
 
 abbrev made_binding : Bool → Binding → Bindings → Checked BindingId × Bindings
@@ -470,16 +471,16 @@ takes_binding x = record { takes = λ b. by b (nat_lt (length b.stored.bindings.
         → Room a_binding b (made_binding t x b.stored.bindings).0
         (record b { stored = record b.stored { bindings = (made_binding t x b.stored.bindings).1 } })
     by b true is = record {
-          exprs = still refl;
-          labels = still refl;
-          bindings = grew_one b.stored.bindings.entries x b.stored.bindings.limit;
-          pats = still refl;
-          types = still refl;
-          lifetimes = still refl;
-          pat_sources = no_sources b.stored.pats refl;
-          type_sources = no_sources b.stored.types refl;
-          lifetime_sources = no_sources b.stored.lifetimes refl;
-        }
+      exprs = still refl;
+      labels = still refl;
+      bindings = grew_one b.stored.bindings.entries x b.stored.bindings.limit;
+      pats = still refl;
+      types = still refl;
+      lifetimes = still refl;
+      pat_sources = no_sources b.stored.pats refl;
+      type_sources = no_sources b.stored.types refl;
+      lifetime_sources = no_sources b.stored.lifetimes refl;
+    }
     by b false is =
         let full = ltb-false (length b.stored.bindings.entries) b.stored.bindings.limit is in inr (inr (inr (inl (omega arith))))
 

@@ -384,7 +384,8 @@ mutual
       tells_bind entered (element_tells entered (forms.is_dots p) done (λ e ss. dots_enter_none p e) (pat_enters p) t)
       (λ r. elements_enters r.0 ps r.1)
 
-  pat_fields_enters : (done : List RecordFieldPat) (fs : PatFields) (t : Table) → Enters (blocks_of_pat_fields fs) (lower_pat_fields done fs t)
+  pat_fields_enters : (done : List RecordFieldPat) (fs : PatFields) (t : Table)
+      → Enters (blocks_of_pat_fields fs) (lower_pat_fields done fs t)
   pat_fields_enters done tree.no_pat_fields t = tells_pure entered (done, t)
   pat_fields_enters done (tree.more_pat_fields f fs) t = tells_bind entered (one_pat_field_enters f t) (λ r. pat_fields_enters _ fs r.1)
 
@@ -414,14 +415,16 @@ mutual
   target_enters (tree.call_target at p ts) = call_target_tells entered at p (whole_enters p) (targets_enters no_elements ts)
   target_enters (tree.array_target at before dots behind) =
       array_target_tells entered at dots (targets_enters no_elements before) (targets_enters no_elements behind)
-  target_enters (tree.record_target at p fs dots spread) = record_target_tells entered at dots spread p (whole_enters p) (target_fields_enters [] fs)
+  target_enters (tree.record_target at p fs dots spread) =
+      record_target_tells entered at dots spread p (whole_enters p) (target_fields_enters [] fs)
 
   targets_enters : (done : Elements) (ts : Targets) → Enters (blocks_of_targets ts) (lower_targets done ts)
   targets_enters done tree.no_targets = tells_pure entered done
   targets_enters done (tree.more_targets t ts) = tells_bind entered (target_enters t) (λ i. targets_enters _ ts)
   targets_enters done (tree.dots_targets ts) = targets_enters _ ts
 
-  target_fields_enters : (done : List RecordFieldPat) (fs : TargetFields) → Enters (blocks_of_target_fields fs) (lower_target_fields done fs)
+  target_fields_enters : (done : List RecordFieldPat) (fs : TargetFields)
+      → Enters (blocks_of_target_fields fs) (lower_target_fields done fs)
   target_fields_enters done tree.no_target_fields = tells_pure entered done
   target_fields_enters done (tree.more_target_fields f fs) = tells_bind entered (one_target_field_enters f) (λ x. target_fields_enters _ fs)
 

@@ -363,7 +363,8 @@ mutual
   pat_reports (tree.bind_pat at u sub) = bind_tells reported at u (subpat_reports sub)
   pat_reports (tree.name_pat at u) = alone_tells reported (tells_pat reported _ _)
   pat_reports (tree.path_pat at p) = alone_tells reported (path_pat_tells reported at (whole_reports p))
-  pat_reports (tree.tuple_struct_pat at p comma ps) = tuple_struct_tells reported at comma p (whole_reports p) (elements_reports no_elements ps)
+  pat_reports (tree.tuple_struct_pat at p comma ps) =
+      tuple_struct_tells reported at comma p (whole_reports p) (elements_reports no_elements ps)
   pat_reports (tree.tuple_pat at comma ps) = tuple_pat_tells reported at comma (elements_reports no_elements ps)
   pat_reports (tree.record_pat at p fs dots) = record_pat_tells reported at dots p (whole_reports p) (pat_fields_reports [] fs)
   pat_reports (tree.or_pat at tree.no_pats) = alone_tells reported (tells_pat reported _ _)
@@ -397,12 +398,14 @@ mutual
       tells_bind reported (element_tells reported (forms.is_dots p) done (λ e ss. dots_fault_none p e ss) (pat_reports p) t)
       (λ r. elements_reports r.0 ps r.1)
 
-  pat_fields_reports : (done : List RecordFieldPat) (fs : PatFields) (t : Table) → Reports (λ ss. pat_fields_faults ss fs) (lower_pat_fields done fs t)
+  pat_fields_reports : (done : List RecordFieldPat) (fs : PatFields) (t : Table)
+      → Reports (λ ss. pat_fields_faults ss fs) (lower_pat_fields done fs t)
   pat_fields_reports done tree.no_pat_fields t = tells_pure reported (done, t)
   pat_fields_reports done (tree.more_pat_fields f fs) t = tells_bind reported (one_pat_field_reports f t) (λ r. pat_fields_reports _ fs r.1)
 
   one_pat_field_reports : (f : PatField) (t : Table) → Reports (λ ss. pat_field_faults ss f) (lower_pat_field f t)
-  one_pat_field_reports (tree.disabled_pat_field at by f) t = tells_end reported (tells_report reported _) (λ u. tells_pure reported (None, t))
+  one_pat_field_reports (tree.disabled_pat_field at by f) t =
+      tells_end reported (tells_report reported _) (λ u. tells_pure reported (None, t))
   one_pat_field_reports tree.partless_pat_field t = tells_pure reported (None, t)
   one_pat_field_reports (tree.pat_field at n p) t = pat_field_tells reported at n (pat_reports p) t
 
@@ -427,7 +430,7 @@ mutual
   target_reports (tree.call_target at p ts) = call_target_tells reported at p (whole_reports p) (targets_reports no_elements ts)
   target_reports (tree.array_target at before dots behind) =
       array_target_tells reported at dots (targets_reports no_elements before) (targets_reports no_elements behind)
-  target_reports (tree.record_target at p fs dots spread) = 
+  target_reports (tree.record_target at p fs dots spread) =
       tells_as reported (record_target_tells reported at dots spread p (whole_reports p) (target_fields_reports [] fs))
       (λ ss. spread_like (written_path p) (whole_faults ss p) spread (target_fields_faults ss fs))
 
@@ -436,9 +439,11 @@ mutual
   targets_reports done (tree.more_targets t ts) = tells_bind reported (target_reports t) (λ i. targets_reports _ ts)
   targets_reports done (tree.dots_targets ts) = targets_reports _ ts
 
-  target_fields_reports : (done : List RecordFieldPat) (fs : TargetFields) → Reports (λ ss. target_fields_faults ss fs) (lower_target_fields done fs)
+  target_fields_reports : (done : List RecordFieldPat) (fs : TargetFields)
+      → Reports (λ ss. target_fields_faults ss fs) (lower_target_fields done fs)
   target_fields_reports done tree.no_target_fields = tells_pure reported done
-  target_fields_reports done (tree.more_target_fields f fs) = tells_bind reported (one_target_field_reports f) (λ x. target_fields_reports _ fs)
+  target_fields_reports done (tree.more_target_fields f fs) =
+      tells_bind reported (one_target_field_reports f) (λ x. target_fields_reports _ fs)
 
   one_target_field_reports : (f : TargetField) → Reports (λ ss. target_field_faults ss f) (lower_target_field f)
   one_target_field_reports (tree.disabled_target_field at by) = tells_end reported (tells_report reported _) (λ u. tells_pure reported None)

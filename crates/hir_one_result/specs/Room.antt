@@ -278,7 +278,8 @@ abbrev mutual
   pat_size (tree.path_pat at p) us = whole_size p ∪ a_pat (Some at)
   pat_size (tree.tuple_struct_pat at p comma ps) us =
       whole_size p
-      ∪ or_missing (is_some (whole_read p)) (elements_size ps us ∪ (dots_behind (ellipsis_of comma ps) ∪ front_pat_size comma) ∪ a_pat (Some at))
+      ∪ or_missing (is_some (whole_read p))
+      (elements_size ps us ∪ (dots_behind (ellipsis_of comma ps) ∪ front_pat_size comma) ∪ a_pat (Some at))
   pat_size (tree.tuple_pat at comma ps) us =
       elements_size ps us ∪ (dots_behind (ellipsis_of comma ps) ∪ front_pat_size comma) ∪ a_pat (Some at)
   pat_size (tree.record_pat at p fs dots) us =
