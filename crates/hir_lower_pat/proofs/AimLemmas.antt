@@ -35,7 +35,7 @@ use Rattle.hir_lower_form.specs.Pats.{Elements, no_elements}
 use Rattle.hir_lower_form.specs.Targets.{add_target, add_target_dots, array_target_form, path_target_form, path_target_of, place_form}
 use Rattle.hir_lower_form.specs.Targets.{rest_target}
 use Rattle.hir_lower_pat.specs.Aims.{ArrayParts, IsPlace, aim_of, aimed, array_rest, found_at, landed, names_read, path_aim, path_aimed}
-use Rattle.hir_lower_pat.specs.Aims.{path_of_callee, placed, through}
+use Rattle.hir_lower_pat.specs.Aims.{dots_kind, path_of_callee, placed, through}
 use Rattle.hir_lower_pat.specs.declared.aims.Aim.{Aim}
 use Rattle.hir_lower_pat.specs.declared.aims.Aim.TheVariants as aim
 use Rattle.hir_lower_pat.proofs.PathNames.{lowered_names}
@@ -62,10 +62,6 @@ through_asked : {A : Type 0} (f : Expr → A) → ((s : Pointer) (by : CfgId) (e
     → (s : Pointer) (r : Result (Unit {0}) CfgId) (e : Expr) → f (asked s r e) ≡ f e
 through_asked f h s (Ok _) e = refl
 through_asked f h s (Err by) e = h s by e
-
-abbrev dots_kind : ExprKindLayer written → Bool
-dots_kind (ExprKind-F.RangeExpr o None None) = true
-dots_kind _ = false
 
 dots_at : (at : Spot) (k : ExprKindLayer written) (s : Pointer) → is_dots (level at k s) ≡ dots_kind k
 dots_at at (ExprKind-F.BlockExpr b) s = ap is_dots (block_is_level at b)
@@ -449,14 +445,15 @@ module _ (f : Path → Bool) where
 
   behind_of : (at : Pointer) (before : Elements) (dots : Option Pointer) (o : Checked Elements) (b : Builder)
       → go_on o b (λ a. array_of at (before.0, dots, a.0))
-      ≡ go_on (go_on o b (λ a. pure (before.0, dots, a.0))).0 (go_on o b (λ a. pure (before.0, dots, a.0))).1 (array_of at)
+      ≡ go_on (go_on {B = ArrayParts} o b (λ a. pure (before.0, dots, a.0))).0
+      (go_on {B = ArrayParts} o b (λ a. pure (before.0, dots, a.0))).1 (array_of at)
   behind_of at before dots (Ok a) b = refl
   behind_of at before dots (Err x) b = refl
 
   parts_of : (at : Pointer) (dots : Option Pointer) (us : Targets) (o : Checked Elements) (b : Builder)
       → go_on o b (λ r. lower_targets no_elements us >>= (λ a. array_of at (r.0, dots, a.0)))
-      ≡ go_on (go_on o b (λ r. lower_targets no_elements us >>= (λ a. pure (r.0, dots, a.0)))).0
-      (go_on o b (λ r. lower_targets no_elements us >>= (λ a. pure (r.0, dots, a.0)))).1 (array_of at)
+      ≡ go_on (go_on {B = ArrayParts} o b (λ r. lower_targets no_elements us >>= (λ a. pure (r.0, dots, a.0)))).0
+      (go_on {B = ArrayParts} o b (λ r. lower_targets no_elements us >>= (λ a. pure (r.0, dots, a.0)))).1 (array_of at)
   parts_of at dots us (Ok r) b = behind_of at r dots (lower_targets no_elements us b).0 (lower_targets no_elements us b).1
   parts_of at dots us (Err x) b = refl
 

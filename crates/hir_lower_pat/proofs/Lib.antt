@@ -3,6 +3,7 @@ pub mod KindLemmas
 pub mod Kids
 pub mod PathNames
 pub mod AimLemmas
+pub mod AimSteps
 pub mod TypePats
 pub mod TargetKids
 pub mod Nested

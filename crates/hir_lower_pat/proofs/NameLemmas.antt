@@ -118,14 +118,22 @@ pub used_again : (u : Use) (was is : Bindings) (b : Builder) (id : BindingId) (n
 unfolding use_name
 used_again u was is b id number found at within ids notes count deep names =
     let counted : number < name_count was.list = omega (arith, within, names.0) in (
-      ap (λ o. use_of_known u (table_of was) o b) found ∙ (λ j. (Ok (id, record {
-        bindings = (sym ids j).entries;
-        noted = (ap (λ n. note_use n u.mode (noted was.list)) (sym at) ∙ sym notes) j;
-      }), b)),
+      ap (λ o. use_of_known u (table_of was) o b) found ∙ (λ j. (
+        Ok (
+          id,
+          record {
+            bindings = (sym ids j).entries;
+            noted = (ap (λ n. note_use n u.mode (noted was.list)) (sym at) ∙ sym notes) j;
+          },
+        ),
+        b,
+      )),
       stays b.stored,
       found_exists (same_key (key_of u)) was.ids.entries id (length b.stored.bindings.entries) found names.1,
-      (count ∙ (known_counted number (name_count was.list) counted ∙ (names.0 ∙ ap (λ i. length i.entries) (sym ids))),
-      subst (λ i. past_ids i.entries ≤ length b.stored.bindings.entries) (sym ids) names.1),
+      (
+        count ∙ (known_counted number (name_count was.list) counted ∙ (names.0 ∙ ap (λ i. length i.entries) (sym ids))),
+        subst (λ i. past_ids i.entries ≤ length b.stored.bindings.entries) (sym ids) names.1,
+      ),
       deep,
     )
 
@@ -149,12 +157,14 @@ used_first u was mid is b c id n copied stored number at ids notes count deep en
     = notes ∙ ap (λ k. note_use k u.mode (noted was.list)) at in
     let counted_last = count ∙ ap (λ k. count_with k (name_count was.list)) at in (
       ap (λ r. go_on r.0 r.1 (λ i. pure (i, with_use (length was.ids.entries) u.mode (with_name (key_of u) i (table_of was))))) made.0
-      ∙ (λ j. (Ok (id, record { bindings = sym all j; noted = (sym noted_last ∙ ap noted (sym list)) j }), c)),
+          ∙ (λ j. (Ok (id, record { bindings = sym all j; noted = (sym noted_last ∙ ap noted (sym list)) j }), c)),
       made.1,
       made.2,
-      (ap name_count list ∙ (counted_last ∙ (counted ∙ sym longer)),
-      subst (λ es. past_ids es ≤ length c.stored.bindings.entries) (sym all)
-      (past_more was.ids.entries (key_of u) id (length c.stored.bindings.entries) (past_later names.1 made.1) made.2)),
+      (
+        ap name_count list ∙ (counted_last ∙ (counted ∙ sym longer)),
+        subst (λ es. past_ids es ≤ length c.stored.bindings.entries) (sym all)
+            (past_more was.ids.entries (key_of u) id (length c.stored.bindings.entries) (past_later names.1 made.1) made.2),
+      ),
       ap depth list ∙ deep,
     )
   where

@@ -19,7 +19,7 @@ use Rattle.hir_env.specs.PathNames as names
 use Rattle.hir_env.specs.PathNames.{mod_path_of, nothing_read, piece, read_piece, read_outward, read_rest, read_use, counted, supers_in}
 use Rattle.hir_env.specs.PathNames.{with_piece, own_self, refuses, behind_trait, no_names}
 use Rattle.hir_lower_form.specs.Builder.{Builder}
-use Rattle.hir_lower_form.specs.Lowering.{Checked, Lowering, go_on, ◌>>=◌, pure}
+use Rattle.hir_lower_form.specs.Lowering.{Checked, Lowering, go_on, ◌>>=◌, pure, count_out}
 use Rattle.hir_lower_form.specs.Paths as forms
 use Rattle.hir_lower_form.specs.Paths.{proceed, whole, with_trait, read_trait}
 use Rattle.hir_lower_form.specs.Lower.{read_segment, read_each, read_path, read_option, lower_path, lower_type, lower_segment_args}
@@ -228,6 +228,7 @@ module _ (leading : Bool) (w : PathWalk) (r : names.Reading) (open_ : r.ended �
   -- `super`
   super_found : (c : Bool) → nat_lt (walks.supers (at_first leading w).kind + 1) (2 ^ 32) ≡ c
       → Gives (λ q. Agrees q (read_piece leading names.super_ r)) (forms.counted (super_read (at_first leading w)))
+  unfolding count_out
   super_found true e =
       let more : kind.Super (walks.supers (at_first leading w).kind + 1) ≡ counted (start_kind leading r) (suc (start_supers leading r)) =
       ap (λ k. kind.Super (walks.supers k + 1)) (first_kind leading w r h.kind)
@@ -252,14 +253,14 @@ module _ (leading : Bool) (w : PathWalk) (r : names.Reading) (open_ : r.ended �
 
   agrees_trait : (t : TypeRefId) (o : Option HirPath) (q : Option ModPath) → names_read o ≡ q
       → (at : Pointer) → Gives (λ x. Agrees x (read_piece leading (behind_trait q) r)) (read_trait t at (at_first leading w) o)
-  agrees_trait t None None e at b = agrees_refused (behind_trait None) refl refl
-  agrees_trait t None (Some m) e at b = cc
+  agrees_trait t None None e at = λ b. agrees_refused (behind_trait None) refl refl
+  agrees_trait t None (Some m) e at = λ b. cc
   agrees_trait t (Some p) None e at = at_none p e
     where
       at_none : (p : HirPath) → names_in p ≡ None → Gives (λ x. Agrees x (read_piece leading (behind_trait None) r))
           (read_trait t at (at_first leading w) (Some p))
-      at_none (BarePath x) e b = cc
-      at_none (Normal x) e b = cc
+      at_none (BarePath x) e = λ b. cc
+      at_none (Normal x) e = λ b. cc
       at_none (LangItem item) e =
           gives_after (λ x. Agrees x (read_piece leading (behind_trait None) r)) _ _ (λ i b. agrees_refused (behind_trait None) refl refl)
   agrees_trait t (Some p) (Some m) e at =
@@ -383,6 +384,8 @@ abbrev Named : OptionPath → Option HirPath → Type 0
 Named o r = names_read r ≡ mod_path_of o
 
 mutual
+  unfolding whole with_trait
+
   first_goes : (leading : Bool) (s : Segment) → Going (read_piece leading (piece true s)) (λ w. read_segment true s (at_first leading w))
   first_goes leading tree.absent_segment w r e h = λ b. agrees_named leading w r e h missing_name None
   first_goes leading tree.broken_segment w r e h = λ b. agrees_refused leading w r e h names.refusing refl refl
@@ -406,7 +409,6 @@ mutual
   trait_goes : (leading : Bool) (i : TypeRefId) (at : Pointer) (p : OptionPath) (w : PathWalk) (r : names.Reading) → r.ended ≡ false
       → Says w r → Gives (λ q. Agrees q (read_piece leading (behind_trait (mod_path_of p)) r))
       (with_trait (lower_path p) i at (at_first leading w))
-  unfolding with_trait
   trait_goes leading i at p w r e h = gives_bind (Named p) _ (lower_path p) _ (path_named p)
       (λ o named. agrees_trait leading w r e h i o (mod_path_of p) named at)
 
@@ -429,7 +431,6 @@ mutual
       (λ q a. goes_on false (piece false s) (read_segment false s) (behind_goes s) q (read_rest ss r) a)
 
   path_goes : (p : Path) → Going (read_outward p) (read_path p)
-  unfolding whole
   path_goes (tree.path leading first rest use_) w r e h =
       let own = read_piece leading (piece true first) (read_rest rest r) in
       gives_bind (λ q. Agrees q own) _ _ _

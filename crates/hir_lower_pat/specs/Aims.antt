@@ -1,5 +1,5 @@
 -- What comes of an expression that is assigned to, before it is known which parentheses stand around it.
-use Rattle.std.specs.Prelude.{◌≡◌, Bool, true, false, List, Option, Some, None, option_map}
+use Rattle.std.specs.Prelude.{◌≡◌, Bool, true, false, List, [], ◌∷◌, ◌++◌, Option, Some, None, is_none, option_map}
 use denote.Ref.{Bor, MutBor}
 use Rattle.hir_syntax.specs.declared.ast.Expr.{Expr as AstExpr}
 use Rattle.hir_syntax.specs.declared.ast.ExprKind.{out-ExprKind}
@@ -7,7 +7,7 @@ use Rattle.hir_syntax.specs.declared.ast.ElseBranch.TheOpen.{ExprKind-F}
 use Rattle.hir_syntax.specs.declared.ast.Name.{Name as AstName}
 use Rattle.hir_syntax.specs.declared.ast.Path.{Path as AstPath}
 use Rattle.hir_syntax.specs.declared.ast.RecordExprField.{RecordExprField as AstField, out-RecordExprField}
-use Rattle.hir_syntax.specs.declared.ast.RecordExprFieldList.{out-RecordExprFieldList}
+use Rattle.hir_syntax.specs.declared.ast.RecordExprFieldList.{RecordExprFieldList as AstFieldList, out-RecordExprFieldList}
 use Rattle.hir_store.specs.Pointers.{Pointer}
 use Rattle.hir_store.specs.Stored.{Stored}
 use Rattle.hir_store.specs.Range.{HasExpr, HasPat, HasPats}
@@ -22,13 +22,16 @@ use Rattle.hir_store.specs.declared.path.Path.TheVariants.{BarePath, Normal, Lan
 use Rattle.hir_store.specs.declared.pat.Pat.TheVariants as pat
 use Rattle.hir_env.specs.Spot.{Spot}
 use Rattle.hir_env.specs.Layers.{ExprKindLayer}
-use Rattle.hir_env.specs.Whole.{written, answered}
+use Rattle.hir_env.specs.Whole.{written, answered, fields_part, path_part, spread_part}
 use Rattle.hir_env.specs.Answered as tree
-use Rattle.hir_env.specs.Answered.{Expr, Exprs, Path, Target}
-use Rattle.hir_env.specs.Targets.{before_dots, behind_dots, dots_pointer, each_target, names_target, resolves, target_or}
+use Rattle.hir_env.specs.Answered.{Expr, Exprs, OptionPath, Path, Target}
+use Rattle.hir_env.specs.Targets.{before_dots, behind_dots, dots_pointer, each_target, names_target, resolves, spread_pointer}
+use Rattle.hir_env.specs.Targets.{target_fields, target_or}
 use Rattle.hir_lower_form.specs.Builder.{Builder}
 use Rattle.hir_lower_form.specs.Lowering.{Checked, Lowering, Lowers, ◌>>=◌, ◌>>◌, pure, alloc_expr, alloc_pat, point}
-use Rattle.hir_lower_form.specs.Lower.{lower, lower_target, lower_targets, path_hygiene}
+use Rattle.hir_lower_form.specs.Lower.{lower, lower_path, lower_target, lower_targets, path_hygiene}
+use Rattle.hir_lower_form.specs.Pats.{Elements}
+use Rattle.hir_lower_form.specs.Targets.{add_target, add_target_dots}
 use Rattle.hir_lower_form.specs.Nests.{Each, IfPresent}
 use Rattle.hir_lower_form.specs.declared.parts.Lowerer.{Lowerer}
 use Rattle.hir_lower_pat.specs.declared.aims.Aim.{Aim}
@@ -44,12 +47,16 @@ placed e = do
   i ← lower e
   pure (aim.Place i)
 
+-- a target of its own
+abbrev pub patterned : Target → Lowering Aim
+patterned t = do
+  i ← lower_target t
+  pure (aim.Pat i)
+
 -- what isn't a target of its own is a place
 abbrev pub aimed : Target → Expr → Lowering Aim
 aimed tree.absent_target e = placed e
-aimed t e = do
-  i ← lower_target t
-  pure (aim.Pat i)
+aimed t e = patterned t
 
 abbrev pub aim_of : (Path → Bool) → Expr → Lowering Aim
 aim_of is_found e = aimed (target_or is_found tree.absent_target e) e
@@ -58,6 +65,12 @@ aim_of is_found e = aimed (target_or is_found tree.absent_target e) e
 abbrev pub landed : Pointer → Aim → Lowering PatId
 landed at (aim.Pat i) = pure i
 landed at (aim.Place e) = alloc_pat (pat.Expr e) (Some at)
+
+-- what comes of an expression, with its node once it is a place
+abbrev pub landing : (Path → Bool) → Pointer → Expr → Lowering PatId
+landing is_found at e = do
+  a ← aim_of is_found e
+  landed at a
 
 -- whether a path that is read here is no place
 abbrev pub found_at : Spot → Path → Bool
@@ -74,6 +87,16 @@ through at (aim.Pat i) = pure (aim.Pat i)
 through at (aim.Place e) = do
   point at e
   pure (aim.Place e)
+
+-- what stands in parentheses that don't stand around two dots
+abbrev pub through_parens : (Path → Bool) → Pointer → Expr → Lowering Aim
+through_parens is_found at e = do
+  a ← aim_of is_found e
+  through at a
+
+-- two dots in parentheses
+abbrev pub dots_tuple : Pointer → Target
+dots_tuple at = tree.tuple_target at (tree.dots_targets tree.no_targets)
 
 -- ---- paths
 
@@ -105,11 +128,33 @@ path_aim spot at h None = do
   pure (aim.Place i)
 path_aim spot at h (Some p) = path_aimed (is_no_place spot p) at h p
 
+-- with the path, where it is read
+abbrev pub path_steps : Spot → Pointer → HygieneId → OptionPath → Lowering Aim
+path_steps spot at h path = do
+  r ← lower_path path
+  path_aim spot at h r
+
 -- ---- records
 
 -- the name of a field, where it has one
 abbrev pub name_written : Option AstName → Option Name
 name_written n = option_map (λ m. name.Text m.t) n
+
+-- with the fields of a list
+abbrev pub record_with : Spot → Pointer → Option AstPath → AstFieldList → Target
+record_with spot at path list =
+    let level = out-RecordExprFieldList list in
+    tree.record_target at (path_part spot path) (target_fields (found_at spot) (fields_part spot level.fields)) level.dotdot
+    (spread_pointer (spread_part spot level.spread level.dotdot))
+
+-- ---- tuples and calls
+
+-- one part more; two dots are none
+abbrev pub element_steps : Bool → Elements → Lowering PatId → Lowering Elements
+element_steps true done part = pure (add_target_dots done)
+element_steps false done part = do
+  i ← part
+  pure (add_target done i)
 
 -- ---- arrays
 
@@ -129,6 +174,32 @@ array_rest is_found before None behind es = do
 array_rest is_found before (Some at) behind es = do
   a ← lower_targets (behind, None) (each_target is_found es)
   pure (before, Some at, a.0)
+
+-- one part more, in front of the dots or behind them
+abbrev pub array_part : List PatId → Option Pointer → List PatId → PatId → ArrayParts
+array_part before None behind i = (before ++ i ∷ [], None, behind)
+array_part before (Some at) behind i = (before, Some at, behind ++ i ∷ [])
+
+abbrev pub array_steps : Bool → ArrayParts → Pointer → Lowering PatId → Lowering ArrayParts
+array_steps true r at part = pure (r.0, Some at, r.2)
+array_steps false r at part = do
+  i ← part
+  pure (array_part r.0 r.1 r.2 i)
+
+-- two dots behind the first are a part
+abbrev pub is_first : Option Pointer → Bool → Bool
+is_first None dots = dots
+is_first (Some at) dots = false
+
+-- ---- two dots as they are written
+
+abbrev pub no_ends : {A : Type 0} → Option A → Option A → Bool
+no_ends None b = is_none b
+no_ends (Some a) b = false
+
+abbrev pub dots_kind : ExprKindLayer written → Bool
+dots_kind (ExprKind-F.RangeExpr op a b) = no_ends a b
+dots_kind _ = false
 
 -- ---- what may be handed in
 

@@ -13,7 +13,9 @@ ghost use Rattle.hir_lower_form.specs.Forms.{path_hygiene};
 ghost use Rattle.hir_lower_form.specs.Lowering.{Lowers};
 ghost use Rattle.hir_lower_form.specs.Methods.{LowersExpr, LowersPath, LowersTarget};
 ghost use Rattle.hir_lower_form.specs.Nests.{IfPresent};
-ghost use Rattle.hir_lower_pat.specs.Aims.{Aims, HandlesTarget, HasAim, is_no_place, landed, path_aimed, placed, through};
+ghost use Rattle.hir_syntax.specs.declared.ast.ExprKind.{out-ExprKind};
+ghost use Rattle.hir_lower_pat.specs.Aims.{Aims, HandlesTarget, HasAim, dots_kind, found_at, is_no_place, landed, landing, no_ends};
+ghost use Rattle.hir_lower_pat.specs.Aims.{path_aimed, path_steps, placed, through};
 
 use hir_base::node::{AstPtr, InFile, NodeId, TextRange};
 use hir_env::resolved::{Resolution, Resolved, Shadow};
@@ -217,7 +219,27 @@ fn path_form<T: TargetParts>(
 }
 
 /// A path that is absent or refused is a place.
-#[tactic(auto, using(crate::proofs::AimLemmas::path_aims))]
+fn read_path<T: TargetParts>(
+    parts: &T,
+    state: &mut BodyBuilder,
+    at: InFile<AstPtr>,
+    hygiene: HygieneId,
+    path: &Option<Boxed<ast::Path>>,
+) -> Result<Aim, StoreFault>
+    requires { IfPresent (T.can_path parts.now) path.now }
+    ensures { let spot = T.spot parts.now in
+        Lowers HasAim (path_steps spot at hygiene (path_part spot path.now)) state.old result state.new }
+{
+    match parts.path(state, path)? {
+        None => {
+            let id = state.alloc_expr(Expr::Missing, Some(at))?;
+            Ok(Aim::Place(id))
+        }
+        Some(path) => path_form(parts, state, at, hygiene, path),
+    }
+}
+
+/// A path, by what it stands for.
 pub(crate) fn path_aim<T: TargetParts>(
     parts: &T,
     state: &mut BodyBuilder,
@@ -229,13 +251,7 @@ pub(crate) fn path_aim<T: TargetParts>(
         Aims spot (tree.path_expr at (path_part spot path.now) (spot.answers.hygiene (site_of at))) state.old result state.new }
 {
     let hygiene = parts.hygiene(site(at));
-    match parts.path(state, path)? {
-        None => {
-            let id = state.alloc_expr(Expr::Missing, Some(at))?;
-            Ok(Aim::Place(id))
-        }
-        Some(path) => path_form(parts, state, at, hygiene, path),
-    }
+    read_path(parts, state, at, hygiene, path)
 }
 
 /// The expression as it stands.
@@ -293,19 +309,48 @@ pub(crate) fn pointer_of<T: TargetParts>(parts: &T, node: &ast::Expr) -> InFile<
     }
 }
 
-/// Whether it is `..`, whatever disables it.
-#[tactic(auto, using(crate::proofs::AimLemmas::dots_are))]
-pub(crate) fn is_dots<T: TargetParts>(parts: &T, node: &ast::Expr) -> bool
-    ensures { result ≡ of.is_dots (answered (T.spot parts.now) node.now) }
+/// Whether a range stands between nothing.
+fn has_no_ends(start: &Option<Boxed<ast::Expr>>, end: &Option<Boxed<ast::Expr>>) -> bool
+    ensures { result ≡ no_ends start.now end.now }
+{
+    match start {
+        None => end.is_none(),
+        Some(_) => false,
+    }
+}
+
+/// Whether it is `..` as it stands.
+fn is_dots_kind(node: &ast::Expr) -> bool
+    ensures { result ≡ dots_kind (out-ExprKind node.now.kind) }
 {
     match &node.kind {
-        ast::ExprKind::RangeExpr { op: _, start, end } => start.is_none() && end.is_none(),
+        ast::ExprKind::RangeExpr { op: _, start, end } => has_no_ends(start, end),
         _ => false,
     }
 }
 
+/// Whether it is `..`, whatever disables it.
+pub(crate) fn is_dots<T: TargetParts>(parts: &T, node: &ast::Expr) -> bool
+    ensures { result ≡ of.is_dots (answered (T.spot parts.now) node.now) }
+{
+    is_dots_kind(node)
+}
+
+/// The pattern of an expression, which as a place has its node.
+fn landed_target<T: TargetParts>(
+    parts: &T,
+    state: &mut BodyBuilder,
+    node: &ast::Expr,
+) -> Result<PatId, StoreFault>
+    requires { T.can_target parts.now node.now }
+    ensures { let spot = T.spot parts.now in
+        Lowers HasPat (landing (found_at spot) (own_pointer spot node.now) (answered spot node.now)) state.old result state.new }
+{
+    let aim = parts.aim(state, node)?;
+    land(state, pointer_of(parts, node), aim)
+}
+
 /// The pattern of an expression, around which nothing else stands.
-#[tactic(auto, using(crate::proofs::AimLemmas::lands, hir_env::proofs::Pointers::pointer_is_own))]
 pub(crate) fn target<T: TargetParts>(
     parts: &T,
     state: &mut BodyBuilder,
@@ -314,6 +359,5 @@ pub(crate) fn target<T: TargetParts>(
     requires { T.can_target parts.now node.now }
     ensures { LowersTarget (target_part (T.spot parts.now) (Some node.now)) state.old result state.new }
 {
-    let aim = parts.aim(state, node)?;
-    land(state, pointer_of(parts, node), aim)
+    landed_target(parts, state, node)
 }

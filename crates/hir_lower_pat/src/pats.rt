@@ -82,7 +82,7 @@ fn deref_form<S: PatParts>(
 
 /// The form of a pattern. One whose parts know of no name is made by itself.
 #[tactic(auto, using(crate::proofs::KindLemmas::plain_is_alone))]
-fn pat_form<S: PatParts>(
+pub(crate) fn pat_form<S: PatParts>(
     parts: &S,
     state: &mut BodyBuilder,
     bindings: &mut Bindings,

@@ -1,18 +1,19 @@
 //! Tuples, calls and arrays that are assigned to.
 
-ghost use Rattle.std.specs.Prelude.{◌≡◌, None, [], is_some, option_copied};
+ghost use Rattle.std.specs.Prelude.{◌≡◌, None, Some, [], is_some, option_copied};
 ghost use Rattle.hir_syntax.specs.declared.ast.ExprKind.{out-ExprKind};
-ghost use Rattle.hir_store.specs.Range.{HasPatOption};
+ghost use Rattle.hir_store.specs.Range.{HasPat, HasPatOption, HasPath, HasPats};
 ghost use Rattle.hir_env.specs.Answered as tree;
 ghost use Rattle.hir_env.specs.Targets as of;
-ghost use Rattle.hir_env.specs.Whole.{answered, args_part, expr_part, exprs_part, path_part};
+ghost use Rattle.hir_env.specs.Whole.{answered, args_part, expr_part, exprs_part, own_pointer, path_part, target_part};
 ghost use Rattle.hir_lower_form.specs.Lowering.{Lowers};
 ghost use Rattle.hir_lower_form.specs.Lower as spec;
 ghost use Rattle.hir_lower_form.specs.Methods.{LowersTarget};
 ghost use Rattle.hir_lower_form.specs.Nests.{Each, IfPresent};
 ghost use Rattle.hir_lower_form.specs.Pats.{no_elements};
 ghost use Rattle.hir_lower_form.specs.Targets as steps;
-ghost use Rattle.hir_lower_pat.specs.Aims.{Aims, HasArrayParts, KidsOfCallee, array_rest, found_at, path_of_callee};
+ghost use Rattle.hir_lower_pat.specs.Aims.{Aims, HasAim, HasArrayParts, KidsOfCallee, array_rest, array_steps};
+ghost use Rattle.hir_lower_pat.specs.Aims.{element_steps, found_at, is_first, path_of_callee, patterned};
 ghost use Rattle.hir_lower_pat.specs.Methods.{HasElements};
 
 use crate::aims::{Aim, TargetParts, is_dots, place, pointer_of, target};
@@ -23,10 +24,37 @@ use hir_store::fault::StoreFault;
 use hir_store::hir::Pat;
 use hir_store::ids::PatId;
 use hir_store::lists::push_pat;
+use hir_store::path::Path;
 use hir_syntax::{Boxed, Seq, ast};
 use std::alloc::Global;
 
-/// The parts, and how many stand in front of the first two dots. Two dots are no part.
+/// One part more. Two dots are none, and of several the first count.
+fn element<T: TargetParts>(
+    parts: &T,
+    state: &mut BodyBuilder,
+    done: (Seq<PatId>, Option<usize>),
+    node: &ast::Expr,
+) -> Result<(Seq<PatId>, Option<usize>), StoreFault>
+    requires part { T.can_target parts.now node.now }
+    requires done { HasPats state.old.stored done.0 }
+    ensures { let spot = T.spot parts.now in
+        let part = spec.lower_target (target_part spot (Some node.now)) in
+        Lowers HasElements (element_steps (of.is_dots (answered spot node.now)) done part) state.old result state.new }
+{
+    let (mut ids, dots) = done;
+    if is_dots(parts, node) {
+        let first = match dots {
+            Some(place) => place,
+            None => ids.len(),
+        };
+        return Ok((ids, Some(first)));
+    }
+    let id = target(parts, state, node)?;
+    push_pat(&mut ids, id)?;
+    Ok((ids, dots))
+}
+
+/// The parts, and how many stand in front of the first two dots.
 fn elements<T: TargetParts>(
     parts: &T,
     state: &mut BodyBuilder,
@@ -37,21 +65,12 @@ fn elements<T: TargetParts>(
         let read = of.elements (found_at spot) (exprs_part spot left.entry.now) in
         Lowers HasElements (spec.lower_targets no_elements read) state.old result state.new }
 {
-    let mut done = Seq::new(parts.alloc());
-    let mut dots = None;
+    let mut done = (Seq::new(parts.alloc()), None);
     while let [one, rest @ ..] = left {
-        if is_dots(parts, one) {
-            dots = match dots {
-                None => Some(done.len()),
-                Some(place) => Some(place),
-            };
-        } else {
-            let pat = target(parts, state, one)?;
-            push_pat(&mut done, pat)?;
-        }
+        done = element(parts, state, done, one)?;
         left = rest;
     }
-    Ok((done, dots))
+    Ok(done)
 }
 
 /// A leading comma adds nothing.
@@ -72,6 +91,30 @@ fn tuple_form<T: TargetParts>(
     state.alloc_pat(Pat::Tuple { ellipsis, args }, Some(at))
 }
 
+/// A call of this path.
+fn call_of<T: TargetParts>(
+    parts: &T,
+    state: &mut BodyBuilder,
+    at: InFile<AstPtr>,
+    path: Path,
+    args: &Seq<ast::Expr>,
+) -> Result<PatId, StoreFault>
+    requires path { HasPath state.old.stored path }
+    requires args { Each (T.can_target parts.now) args.now }
+    ensures { let spot = T.spot parts.now in
+        let read = spec.lower_targets no_elements (of.elements (found_at spot) (exprs_part spot args.now)) in
+        Lowers HasPat (steps.call_target_of at read (Some path)) state.old result state.new }
+{
+    let read = elements(parts, state, args.as_slice())?;
+    let (ellipsis, args) = stored_elements(parts.alloc(), state, false, read)?;
+    let pat = Pat::TupleStruct {
+        path,
+        ellipsis,
+        args,
+    };
+    state.alloc_pat(pat, Some(at))
+}
+
 /// Where the path is absent or refused the call is missing, and nothing else of it is read.
 #[tactic(auto, unfolding(hir_lower_form::specs::Targets::call_target_form))]
 fn call_form<T: TargetParts>(
@@ -87,17 +130,10 @@ fn call_form<T: TargetParts>(
         let read = of.elements (found_at spot) (exprs_part spot args.now) in
         LowersTarget (tree.call_target at (path_part spot path.now) read) state.old result state.new }
 {
-    let Some(path) = parts.path(state, path)? else {
-        return state.missing_pat();
-    };
-    let read = elements(parts, state, args.as_slice())?;
-    let (ellipsis, args) = stored_elements(parts.alloc(), state, false, read)?;
-    let pat = Pat::TupleStruct {
-        path,
-        ellipsis,
-        args,
-    };
-    state.alloc_pat(pat, Some(at))
+    match parts.path(state, path)? {
+        None => state.missing_pat(),
+        Some(path) => call_of(parts, state, at, path, args),
+    }
 }
 
 /// `(..)`, the tuple without parts.
@@ -116,6 +152,47 @@ pub(crate) fn dots_alone(
     state.alloc_pat(pat, Some(at))
 }
 
+/// Whether it is the first two dots.
+fn are_first_dots<T: TargetParts>(parts: &T, dots: Option<InFile<AstPtr>>, node: &ast::Expr) -> bool
+    ensures { result ≡ is_first dots (of.is_dots (answered (T.spot parts.now) node.now)) }
+{
+    match dots {
+        None => is_dots(parts, node),
+        Some(_) => false,
+    }
+}
+
+/// The parts with one more, or with the node of the first two dots.
+fn array_element<T: TargetParts>(
+    parts: &T,
+    state: &mut BodyBuilder,
+    done: (Seq<PatId>, Option<InFile<AstPtr>>, Seq<PatId>),
+    node: &ast::Expr,
+) -> Result<(Seq<PatId>, Option<InFile<AstPtr>>, Seq<PatId>), StoreFault>
+    requires part { T.can_target parts.now node.now }
+    requires done { HasArrayParts state.old.stored done }
+    ensures { let spot = T.spot parts.now in
+        let part = spec.lower_target (target_part spot (Some node.now)) in
+        let first = is_first done.1 (of.is_dots (answered spot node.now)) in
+        Lowers HasArrayParts (array_steps first done (own_pointer spot node.now) part) state.old result state.new }
+{
+    let (mut prefix, dots, mut suffix) = done;
+    if are_first_dots(parts, dots, node) {
+        return Ok((prefix, Some(pointer_of(parts, node)), suffix));
+    }
+    let id = target(parts, state, node)?;
+    match dots {
+        None => {
+            push_pat(&mut prefix, id)?;
+            Ok((prefix, None, suffix))
+        }
+        Some(at) => {
+            push_pat(&mut suffix, id)?;
+            Ok((prefix, Some(at), suffix))
+        }
+    }
+}
+
 /// The parts in front of the first two dots, the node of these, and the parts behind them.
 fn array_parts<T: TargetParts>(
     parts: &T,
@@ -127,23 +204,12 @@ fn array_parts<T: TargetParts>(
         let read = exprs_part spot left.entry.now in
         Lowers HasArrayParts (array_rest (found_at spot) [] None [] read) state.old result state.new }
 {
-    let mut prefix = Seq::new(parts.alloc());
-    let mut dots = None;
-    let mut suffix = Seq::new(parts.alloc());
+    let mut done = (Seq::new(parts.alloc()), None, Seq::new(parts.alloc()));
     while let [one, rest @ ..] = left {
-        if dots.is_none() && is_dots(parts, one) {
-            dots = Some(pointer_of(parts, one));
-        } else {
-            let pat = target(parts, state, one)?;
-            if dots.is_none() {
-                push_pat(&mut prefix, pat)?;
-            } else {
-                push_pat(&mut suffix, pat)?;
-            }
-        }
+        done = array_element(parts, state, done, one)?;
         left = rest;
     }
-    Ok((prefix, dots, suffix))
+    Ok(done)
 }
 
 /// The two dots, where it has such.
@@ -217,8 +283,24 @@ fn callee_path(callee: &ast::Expr) -> Option<&Option<Boxed<ast::Path>>>
     }
 }
 
+/// A call whose callee is a path.
+fn called_aim<T: TargetParts>(
+    parts: &T,
+    state: &mut BodyBuilder,
+    at: InFile<AstPtr>,
+    path: &Option<Boxed<ast::Path>>,
+    args: &Seq<ast::Expr>,
+) -> Result<Aim, StoreFault>
+    requires path { IfPresent (T.can_path parts.now) path.now }
+    requires args { Each (T.can_target parts.now) args.now }
+    ensures { let spot = T.spot parts.now in
+        let read = of.elements (found_at spot) (exprs_part spot args.now) in
+        Lowers HasAim (patterned (tree.call_target at (path_part spot path.now) read)) state.old result state.new }
+{
+    Ok(Aim::Pat(call_form(parts, state, at, path, args)?))
+}
+
 /// A call without a list of arguments, and one whose callee is no path, is a place.
-#[tactic(auto, using(crate::proofs::AimLemmas::callee_is))]
 pub(crate) fn call_aim<T: TargetParts>(
     parts: &T,
     state: &mut BodyBuilder,
@@ -234,11 +316,14 @@ pub(crate) fn call_aim<T: TargetParts>(
         answered spot node.now ≡ tree.call_expr at (expr_part spot callee.now) (is_some args.now) (args_part spot args.now) }
     ensures { let spot = T.spot parts.now in Aims spot (answered spot node.now) state.old result state.new }
 {
-    let (Some(callee), Some(args)) = (callee, args) else {
-        return place(parts, state, node);
-    };
-    match callee_path(callee.get()) {
+    match callee {
         None => place(parts, state, node),
-        Some(path) => Ok(Aim::Pat(call_form(parts, state, at, path, args)?)),
+        Some(callee) => match args {
+            None => place(parts, state, node),
+            Some(args) => match callee_path(callee.get()) {
+                None => place(parts, state, node),
+                Some(path) => called_aim(parts, state, at, path, args),
+            },
+        },
     }
 }

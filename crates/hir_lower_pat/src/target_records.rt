@@ -3,17 +3,19 @@
 ghost use Rattle.std.specs.Prelude.{◌≡◌, Some, []};
 ghost use Rattle.hir_syntax.specs.declared.ast.RecordExprField.{out-RecordExprField};
 ghost use Rattle.hir_syntax.specs.declared.ast.RecordExprFieldList.{out-RecordExprFieldList};
-ghost use Rattle.hir_store.specs.Range.{HasNone, HasPat, HasPatFields};
+ghost use Rattle.hir_store.specs.Range.{HasNone, HasPat, HasPatFields, HasPath};
 ghost use Rattle.hir_env.specs.Answered as tree;
 ghost use Rattle.hir_env.specs.Targets as of;
-ghost use Rattle.hir_env.specs.Whole.{answered, answered_field, field_level, fields_part, path_part, record_part, spread_part, target_part};
+ghost use Rattle.hir_env.specs.Answering.{field_of};
+ghost use Rattle.hir_env.specs.Whole.{answered, answered_field, expr_part, field_level, fields_part, path_part, record_part};
+ghost use Rattle.hir_env.specs.Whole.{spread_part, target_part};
 ghost use Rattle.hir_lower_form.specs.Lowering.{Lowers};
 ghost use Rattle.hir_lower_form.specs.Lower as spec;
 ghost use Rattle.hir_lower_form.specs.Methods.{LowersTarget};
 ghost use Rattle.hir_lower_form.specs.Nests.{IfPresent};
 ghost use Rattle.hir_lower_form.specs.Pats as forms;
 ghost use Rattle.hir_lower_form.specs.Targets as steps;
-ghost use Rattle.hir_lower_pat.specs.Aims.{Aims, KidsOfFields, found_at, name_written};
+ghost use Rattle.hir_lower_pat.specs.Aims.{Aims, HasAim, KidsOfFields, found_at, name_written, patterned, record_with};
 ghost use Rattle.hir_lower_pat.specs.Methods.{HasPatField};
 
 use crate::aims::{Aim, TargetParts, place, pointer_of, target};
@@ -26,6 +28,7 @@ use hir_store::hir::{Pat, RecordFieldPat};
 use hir_store::ids::PatId;
 use hir_store::lists::push_pat_field;
 use hir_store::name::Name;
+use hir_store::path::Path;
 use hir_syntax::{Boxed, Seq, ast};
 
 /// The part of a field, which leads to the field where that has a name.
@@ -65,6 +68,26 @@ fn present_field<T: TargetParts>(
     named_part(state, at, name, pat)
 }
 
+/// Without an expression nothing comes of it.
+fn kept_field<T: TargetParts>(
+    parts: &T,
+    state: &mut BodyBuilder,
+    at: InFile<AstPtr>,
+    name: &Option<ast::Name>,
+    expr: &Option<Boxed<ast::Expr>>,
+) -> Result<Option<RecordFieldPat>, StoreFault>
+    requires { IfPresent (T.can_target parts.now) expr.now }
+    ensures { let spot = T.spot parts.now in
+        let field = of.target_field_of (found_at spot) (field_of at name.now (expr_part spot expr.now)) in
+        Lowers HasPatField (spec.lower_target_field field) state.old result state.new }
+{
+    match expr {
+        None => Ok(None),
+        Some(expr) => present_field(parts, state, at, name, expr.get()),
+    }
+}
+
+/// The field, none where a condition disables it.
 fn field_form<T: TargetParts>(
     parts: &T,
     state: &mut BodyBuilder,
@@ -81,10 +104,7 @@ fn field_form<T: TargetParts>(
             state.report(ExpressionStoreDiagnostics::InactiveCode { node: at, cfg })?;
             Ok(None)
         }
-        Ok(()) => match &node.expr {
-            None => Ok(None),
-            Some(expr) => present_field(parts, state, at, &node.name, expr.get()),
-        },
+        Ok(()) => kept_field(parts, state, at, &node.name, &node.expr),
     }
 }
 
@@ -142,8 +162,33 @@ fn report_spread<T: TargetParts>(
     }
 }
 
-/// Where the path is absent or refused the record is missing, and nothing else of it is read. The fault of a spread comes before
-/// those of the fields.
+/// A record of this path. The fault of a spread comes before those of the fields.
+fn record_of<T: TargetParts>(
+    parts: &T,
+    state: &mut BodyBuilder,
+    at: InFile<AstPtr>,
+    path: Path,
+    list: &ast::RecordExprFieldList,
+) -> Result<PatId, StoreFault>
+    requires path { HasPath state.old.stored path }
+    requires list { KidsOfFields (T.can_target parts.now) (out-RecordExprFieldList list.now).fields }
+    ensures { let spot = T.spot parts.now in
+        let level = out-RecordExprFieldList list.now in
+        let fields = spec.lower_target_fields [] (of.target_fields (found_at spot) (fields_part spot level.fields)) in
+        let spread = of.spread_pointer (spread_part spot level.spread level.dotdot) in
+        Lowers HasPat (steps.record_target_of at level.dotdot spread fields (Some path)) state.old result state.new }
+{
+    report_spread(parts, state, &list.spread, list.dotdot)?;
+    let args = fields(parts, state, list.fields.as_slice())?;
+    let pat = Pat::Record {
+        path,
+        args,
+        ellipsis: list.dotdot,
+    };
+    state.alloc_pat(pat, Some(at))
+}
+
+/// Where the path is absent or refused the record is missing, and nothing else of it is read.
 #[tactic(auto, unfolding(hir_lower_form::specs::Targets::record_target_form))]
 fn record_form<T: TargetParts>(
     parts: &T,
@@ -155,26 +200,31 @@ fn record_form<T: TargetParts>(
     requires path { IfPresent (T.can_path parts.now) path.now }
     requires list { KidsOfFields (T.can_target parts.now) (out-RecordExprFieldList list.now).fields }
     ensures { let spot = T.spot parts.now in
-        let level = out-RecordExprFieldList list.now in
-        let fields = of.target_fields (found_at spot) (fields_part spot level.fields) in
-        let spread = of.spread_pointer (spread_part spot level.spread level.dotdot) in
-        LowersTarget (tree.record_target at (path_part spot path.now) fields level.dotdot spread) state.old result state.new }
+        LowersTarget (record_with spot at path.now list.now) state.old result state.new }
 {
-    let Some(path) = parts.path(state, path)? else {
-        return state.missing_pat();
-    };
-    report_spread(parts, state, &list.spread, list.dotdot)?;
-    let args = fields(parts, state, list.fields.as_slice())?;
-    let pat = Pat::Record {
-        path,
-        args,
-        ellipsis: list.dotdot,
-    };
-    state.alloc_pat(pat, Some(at))
+    match parts.path(state, path)? {
+        None => state.missing_pat(),
+        Some(path) => record_of(parts, state, at, path, list),
+    }
+}
+
+/// A record with a list of fields.
+fn listed_aim<T: TargetParts>(
+    parts: &T,
+    state: &mut BodyBuilder,
+    at: InFile<AstPtr>,
+    path: &Option<Boxed<ast::Path>>,
+    list: &ast::RecordExprFieldList,
+) -> Result<Aim, StoreFault>
+    requires path { IfPresent (T.can_path parts.now) path.now }
+    requires list { KidsOfFields (T.can_target parts.now) (out-RecordExprFieldList list.now).fields }
+    ensures { let spot = T.spot parts.now in
+        Lowers HasAim (patterned (record_with spot at path.now list.now)) state.old result state.new }
+{
+    Ok(Aim::Pat(record_form(parts, state, at, path, list)?))
 }
 
 /// A record without a list of fields is a place.
-#[tactic(auto, using(hir_env::proofs::Levels::record_is_level))]
 pub(crate) fn record_aim<T: TargetParts>(
     parts: &T,
     state: &mut BodyBuilder,
@@ -192,6 +242,6 @@ pub(crate) fn record_aim<T: TargetParts>(
 {
     match list {
         None => place(parts, state, node),
-        Some(list) => Ok(Aim::Pat(record_form(parts, state, at, path, list)?)),
+        Some(list) => listed_aim(parts, state, at, path, list),
     }
 }

@@ -3,11 +3,13 @@
 ghost use Rattle.std.specs.Prelude.{◌≡◌, Some};
 ghost use Rattle.hir_syntax.specs.declared.ast.ExprKind.{out-ExprKind};
 ghost use Rattle.hir_env.specs.Answered as tree;
-ghost use Rattle.hir_env.specs.Whole.{answered, expr_part, kept_expr, pointer_at, target_part};
+ghost use Rattle.hir_store.specs.Range.{HasPat};
+ghost use Rattle.hir_env.specs.Whole.{answered, expr_part, kept_expr, own_pointer, pointer_at, target_part};
 ghost use Rattle.hir_lower_form.specs.Lowering.{Lowers};
 ghost use Rattle.hir_lower_form.specs.Methods.{LowersTarget};
 ghost use Rattle.hir_lower_form.specs.Nests.{IfPresent};
-ghost use Rattle.hir_lower_pat.specs.Aims.{Aims, HasAim, IsPlace, KidsOfTarget, aimed};
+ghost use Rattle.hir_lower_pat.specs.Aims.{Aims, HasAim, IsPlace, KidsOfTarget, aimed, dots_tuple, found_at, landing, patterned, placed};
+ghost use Rattle.hir_lower_pat.specs.Aims.{through_parens};
 
 use crate::aims::{Aim, Aiming, TargetParts, is_dots, land, parens, path_aim, place, pointer_of};
 use crate::target_lists::{array_aim, call_aim, dots_alone, tuple_aim};
@@ -19,6 +21,7 @@ use hir_store::fault::StoreFault;
 use hir_store::hir::Pat;
 use hir_store::ids::PatId;
 use hir_syntax::{Boxed, ast};
+use std::alloc::Global;
 
 /// `_`.
 fn wild(state: &mut BodyBuilder, at: InFile<AstPtr>) -> Result<Aim, StoreFault>
@@ -27,8 +30,29 @@ fn wild(state: &mut BodyBuilder, at: InFile<AstPtr>) -> Result<Aim, StoreFault>
     Ok(Aim::Pat(state.alloc_pat(Pat::Wild, Some(at))?))
 }
 
+/// `(..)`, the tuple without parts.
+fn dots_aim(alloc: Global, state: &mut BodyBuilder, at: InFile<AstPtr>) -> Result<Aim, StoreFault>
+    ensures { Lowers HasAim (patterned (dots_tuple at)) state.old result state.new }
+{
+    Ok(Aim::Pat(dots_alone(alloc, state, at)?))
+}
+
 /// What stands in parentheses, which lead to the expression of a place.
-#[tactic(auto, using(crate::proofs::AimLemmas::paren_aims))]
+fn parens_around<T: TargetParts>(
+    parts: &T,
+    state: &mut BodyBuilder,
+    at: InFile<AstPtr>,
+    inner: &ast::Expr,
+) -> Result<Aim, StoreFault>
+    requires { T.can_target parts.now inner.now }
+    ensures { let spot = T.spot parts.now in
+        Lowers HasAim (through_parens (found_at spot) at (answered spot inner.now)) state.old result state.new }
+{
+    let inner = parts.aim(state, inner)?;
+    parens(state, at, inner)
+}
+
+/// Two dots in parentheses are a tuple.
 fn paren_around<T: TargetParts>(
     parts: &T,
     state: &mut BodyBuilder,
@@ -40,14 +64,23 @@ fn paren_around<T: TargetParts>(
         Aims spot (tree.paren_expr at (tree.some_expr (answered spot inner.now))) state.old result state.new }
 {
     if is_dots(parts, inner) {
-        return Ok(Aim::Pat(dots_alone(parts.alloc(), state, at)?));
+        dots_aim(parts.alloc(), state, at)
+    } else {
+        parens_around(parts, state, at, inner)
     }
-    let inner = parts.aim(state, inner)?;
-    parens(state, at, inner)
+}
+
+/// Parentheses without expression.
+#[tactic(auto, unfolding(hir_lower_form::specs::Forms::paren_form))]
+fn empty_parens(state: &mut BodyBuilder, at: InFile<AstPtr>) -> Result<Aim, StoreFault>
+    ensures { Lowers HasAim (placed (tree.paren_expr at tree.no_expr)) state.old result state.new }
+{
+    let id = state.missing_expr()?;
+    state.point(at, id)?;
+    Ok(Aim::Place(id))
 }
 
 /// Parentheses without expression are a place.
-#[tactic(auto, unfolding(hir_lower_form::specs::Forms::paren_form))]
 fn paren_aim<T: TargetParts>(
     parts: &T,
     state: &mut BodyBuilder,
@@ -59,11 +92,7 @@ fn paren_aim<T: TargetParts>(
         Aims spot (tree.paren_expr at (expr_part spot expr.now)) state.old result state.new }
 {
     match expr {
-        None => {
-            let id = state.missing_expr()?;
-            state.point(at, id)?;
-            Ok(Aim::Place(id))
-        }
+        None => empty_parens(state, at),
         Some(inner) => paren_around(parts, state, at, inner.get()),
     }
 }
@@ -115,7 +144,7 @@ fn kept_aim<T: TargetParts>(
 
 /// What comes of an expression. One that a condition disables is a place.
 #[tactic(auto, using(crate::proofs::AimLemmas::enabled_is, crate::proofs::AimLemmas::disabled_is))]
-fn aim_node<T: TargetParts>(
+pub(crate) fn aim_node<T: TargetParts>(
     parts: &T,
     state: &mut BodyBuilder,
     node: &ast::Expr,
@@ -147,8 +176,25 @@ pub(crate) fn aim<P: LowerParts>(
     aim_node(&parts, state, node)
 }
 
+/// What is assigned to, which as a place has its node.
+fn whole_target<P: LowerParts>(
+    lowerer: &Lowerer<P>,
+    state: &mut BodyBuilder,
+    node: &ast::Expr,
+) -> Result<PatId, StoreFault>
+    requires { (P.can lowerer.now.parts).target (P.spot lowerer.now.parts).place node.now }
+    ensures { let spot = P.spot lowerer.now.parts in
+        Lowers HasPat (landing (found_at spot) (own_pointer spot node.now) (answered spot node.now)) state.old result state.new }
+{
+    let found = aim(lowerer, state, node)?;
+    let parts = Aiming {
+        lowerer,
+        aim: aim::<P>,
+    };
+    land(state, pointer_of(&parts, node), found)
+}
+
 /// What is assigned to, missing where it is absent.
-#[tactic(auto, using(crate::proofs::AimLemmas::lands, hir_env::proofs::Pointers::pointer_is_own))]
 pub fn lower_target<P: LowerParts>(
     lowerer: &Lowerer<P>,
     state: &mut BodyBuilder,
@@ -159,13 +205,6 @@ pub fn lower_target<P: LowerParts>(
 {
     match part {
         None => state.missing_pat(),
-        Some(part) => {
-            let found = aim(lowerer, state, part.get())?;
-            let parts = Aiming {
-                lowerer,
-                aim: aim::<P>,
-            };
-            land(state, pointer_of(&parts, part.get()), found)
-        }
+        Some(part) => whole_target(lowerer, state, part.get()),
     }
 }

@@ -1,8 +1,8 @@
 use Rattle.std.proofs.Common.{◌≡◌, length, [], None}
-use Rattle.hir_store.specs.Range.{Grows, HasPats}
+use Rattle.hir_store.specs.Range.{Grows}
 use Rattle.hir_env.specs.Whole.{exprs_part}
 use Rattle.hir_lower_form.specs.Nests.{Each}
-use Rattle.hir_lower_pat.specs.Aims.{array_rest, found_at}
+use Rattle.hir_lower_pat.specs.Aims.{HasArrayParts, array_rest, found_at}
 use Rattle.hir_lower_pat.proofs.target_lists.array_parts.Given as goal
 
 abbrev pub invariant-loop-left : goal.invariant-loop-left
@@ -10,9 +10,9 @@ invariant-loop-left g l =
     let at = g.T.TargetParts.spot l.parts in
     record {
       so_far : array_rest (found_at at) [] None [] (exprs_part at l.fn.left) l.fn.state
-          ≡ array_rest (found_at at) l.prefix l.dots l.suffix (exprs_part at l.left) l.state;
+          ≡ array_rest (found_at at) l.done.0 l.done.1 l.done.2 (exprs_part at l.left) l.state;
       may : Each (g.T.TargetParts.can_target l.parts) l.left;
-      placed : Grows l.fn.state.stored l.state.stored × HasPats l.state.stored l.prefix × HasPats l.state.stored l.suffix;
+      placed : Grows l.fn.state.stored l.state.stored × HasArrayParts l.state.stored l.done;
     }
 
 abbrev pub decreases-loop-left : goal.decreases-loop-left

@@ -14,9 +14,9 @@ invariant-loop-left g l =
     let read = of.elements (found_at at) in
     record {
       so_far : lower_targets no_elements (read (exprs_part at l.fn.left)) l.fn.state
-          ≡ lower_targets (l.done, l.dots) (read (exprs_part at l.left)) l.state;
+          ≡ lower_targets l.done (read (exprs_part at l.left)) l.state;
       may : Each (g.T.TargetParts.can_target l.parts) l.left;
-      placed : Grows l.fn.state.stored l.state.stored × HasPats l.state.stored l.done;
+      placed : Grows l.fn.state.stored l.state.stored × HasPats l.state.stored l.done.0;
     }
 
 abbrev pub decreases-loop-left : goal.decreases-loop-left
