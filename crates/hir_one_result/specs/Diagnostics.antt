@@ -18,13 +18,13 @@ use Rattle.hir_env.specs.Answered.{Formals}
 use Rattle.hir_data.specs.Written.{written_path}
 use Rattle.hir_one_result.specs.Blocks.{where_some, where_goes_on, unless}
 use Rattle.hir_one_result.specs.PathRoom.{Seen, nothing_seen, at_first, segments_read, own_read, yields}
-use Rattle.hir_scope.specs.Ribs.{Rib, Target, reachable, unreachable, undeclared, target, map_ribs}
+use Rattle.hir_scope.specs.Ribs.{Rib, Target as JumpTarget, reachable, unreachable, undeclared, target, map_ribs}
 use Rattle.hir_scope.specs.Scopes.{Scope, loop_scope, barrier, ribs, scopes_in_block}
 
 abbrev pub Faults : Type 0
 Faults = List ExpressionStoreDiagnostics
 
-abbrev pub target_faults : {A : Type 0} → Jump → Target A → Faults
+abbrev pub target_faults : {A : Type 0} → Jump → JumpTarget A → Faults
 target_faults j (reachable a) = []
 target_faults j unreachable = UnreachableLabel j.pointer j.name ∷ []
 target_faults j undeclared = UndeclaredLabel j.pointer j.name ∷ []

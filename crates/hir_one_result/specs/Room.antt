@@ -153,14 +153,11 @@ abbrev mutual
   type_pats_size tree.no_type_pats = nothing
   type_pats_size (tree.more_type_pats p ps) = type_pat_size p ∪ type_pats_size ps
 
+  -- each is a body of its own, in which stands the side, an item, or a call of the item with the side
   pub limit_size : Limit → Size
-  limit_size l = a_body (limit_body l) (size_of_limit l)
-
-  -- what stands in it: the side, an item, or a call of the item with the side
-  pub size_of_limit : Limit → Size
-  size_of_limit (tree.item_limit item) = an_expr
-  size_of_limit (tree.side_limit s) = limit_side_size s
-  size_of_limit (tree.before_limit item s) = limit_side_size s ∪ an_expr ∪ an_expr
+  limit_size (tree.item_limit item) = a_body (limit_body (tree.item_limit item)) an_expr
+  limit_size (tree.side_limit s) = a_body (limit_body (tree.side_limit s)) (limit_side_size s)
+  limit_size (tree.before_limit item s) = a_body (limit_body (tree.before_limit item s)) (limit_side_size s ∪ an_expr ∪ an_expr)
 
   -- what is no side is missing
   pub limit_side_size : Side → Size
