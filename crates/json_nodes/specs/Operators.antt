@@ -1,5 +1,6 @@
 -- Operators, by their words.
-use Rattle.std.specs.Prelude.{ℕ, List, [], ◌∷◌, ◌++◌, Bool, true, false, Option, Some, None, bytes_eq, codes, option_and_then, option_map}
+use Rattle.std.specs.Prelude.{ℕ, List, [], ◌∷◌, ◌++◌, Bool, true, false, Option, Some, None}
+use Rattle.std.specs.Prelude.{bytes_eq, codes, option_and_then, option_map}
 use Rattle.serde_json.specs.Data.{Data}
 use Rattle.hir_base.specs.declared.op.ArithOp.{ArithOp}
 use Rattle.hir_base.specs.declared.op.ArithOp.TheVariants as arith
@@ -43,7 +44,8 @@ cmp_word (cmp.Ord Greater true) = codes ">"
 
 -- the comparisons; an order is strict, or not
 abbrev pub cmp_ops : List CmpOp
-cmp_ops = cmp.Eq false ∷ cmp.Eq true ∷ cmp.Ord Less false ∷ cmp.Ord Less true ∷ cmp.Ord Greater false ∷ cmp.Ord Greater true ∷ []
+cmp_ops = cmp.Eq false ∷ cmp.Eq true ∷ cmp.Ord Less false ∷ cmp.Ord Less true
+    ∷ cmp.Ord Greater false ∷ cmp.Ord Greater true ∷ []
 
 abbrev pub arith_word : ArithOp → List ℕ
 arith_word arith.Add = codes "+"

@@ -39,40 +39,31 @@ fn named<F: Fields>(node: &F, refused: &mut bool, kind: PatNode) -> Option<AnyPa
         PatNode::IdentPat => {
             let name = node.field::<One<Names>>(refused, "name");
             let pat = node.field::<InBox<Pats>>(refused, "pat");
-            whole_pat(
-                node,
-                refused,
-                PatKind::IdentPat {
-                    name,
-                    ref_: flag(node.value(), "ref"),
-                    mut_: flag(node.value(), "mut"),
-                    pat,
-                },
-            )
+            let kind = PatKind::IdentPat {
+                name,
+                ref_: flag(node.value(), "ref"),
+                mut_: flag(node.value(), "mut"),
+                pat,
+            };
+            whole_pat(node, refused, kind)
         }
         PatNode::TupleStructPat => {
             let path = node.field::<InBox<Paths>>(refused, "path");
             let fields = node.field::<All<Pats>>(refused, "fields");
-            whole_pat(
-                node,
-                refused,
-                PatKind::TupleStructPat {
-                    path,
-                    leading_comma: flag(node.value(), "leading_comma"),
-                    fields,
-                },
-            )
+            let kind = PatKind::TupleStructPat {
+                path,
+                leading_comma: flag(node.value(), "leading_comma"),
+                fields,
+            };
+            whole_pat(node, refused, kind)
         }
         PatNode::TuplePat => {
             let fields = node.field::<All<Pats>>(refused, "fields");
-            whole_pat(
-                node,
-                refused,
-                PatKind::TuplePat {
-                    leading_comma: flag(node.value(), "leading_comma"),
-                    fields,
-                },
-            )
+            let kind = PatKind::TuplePat {
+                leading_comma: flag(node.value(), "leading_comma"),
+                fields,
+            };
+            whole_pat(node, refused, kind)
         }
         PatNode::PathPat => {
             let path = node.field::<InBox<Paths>>(refused, "path");

@@ -1,5 +1,6 @@
 -- What a text says, where it is a document.
-use Rattle.std.specs.Prelude.{◌≡◌, ℕ, Bool, true, false, codes, List, [], ◌∷◌, Option, Some, None, option_and_then, unwrap_or, IsUtf8}
+use Rattle.std.specs.Prelude.{◌≡◌, ℕ, Bool, true, false, codes, List, [], ◌∷◌, Option, Some, None}
+use Rattle.std.specs.Prelude.{option_and_then, unwrap_or, IsUtf8}
 use Rattle.serde_json.specs.Data.{Data}
 use Rattle.serde_json.specs.Find.{as_bool, get}
 use Rattle.serde_json.specs.Read.{read}

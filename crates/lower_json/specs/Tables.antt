@@ -104,7 +104,8 @@ context_of (Some (item c (item p (item o (item m (item l (item r no_items)))))))
     (frame_of (small_of p) (small_of o) (outer_macro_of (number_or_null m)) (crate_root_of (number_or_null r)))
 context_of _ = None
 
-abbrev pub with_entry : {K T : Type 0} → (List (K × T) → K → T → List (K × T)) → Option (K × T) → List (K × T) → List (K × T)
+abbrev pub with_entry : {K T : Type 0}
+    → (List (K × T) → K → T → List (K × T)) → Option (K × T) → List (K × T) → List (K × T)
 with_entry put None es = es
 with_entry put (Some e) es = put es e.0 e.1
 

@@ -332,6 +332,27 @@ fn tree_of<F: Fields>(node: &F, refused: &mut bool, want: Root, kind: Option<Kin
     }
 }
 
+/// The tree at a node whose root is wanted, by its value and kind.
+fn whole_tree<P: ReadParts>(
+    alloc: Global,
+    parts: &P,
+    want: Root,
+    kind: Option<Kind>,
+    value: &Value,
+    at: u32,
+) -> Result<Tree, AllocError>
+    requires { P.can parts.now }
+    ensures { IfOk result (λ tree. tree ≡ tree_of want kind (node_at (P.parts parts.now) at (view value.now))) }
+{
+    let mut refused = false;
+    let tree = tree_of(&node_at(alloc, parts, value, at), &mut refused, want, kind);
+    if !refused {
+        return Ok(tree);
+    }
+    drop(tree);
+    Err(AllocError)
+}
+
 /// The tree whose root is wanted. Past the end the root says nothing.
 #[tactic(auto, unfolding(crate::specs::Reading::tree_at))]
 pub fn read_tree_at(
@@ -350,23 +371,8 @@ pub fn read_tree_at(
         read: read_part,
     };
     let kind = kind_at(kinds, root as usize);
-    let mut refused = false;
-    let tree = match item_at(nodes, root as usize) {
-        Some(value) => tree_of(
-            &node_at(alloc, &inside, value, root),
-            &mut refused,
-            want,
-            kind,
-        ),
-        None => tree_of(
-            &node_at(alloc, &inside, &Value::Null, root),
-            &mut refused,
-            want,
-            kind,
-        ),
-    };
-    if refused {
-        return Err(AllocError);
+    match item_at(nodes, root as usize) {
+        Some(value) => whole_tree(alloc, &inside, want, kind, value, root),
+        None => whole_tree(alloc, &inside, want, kind, &Value::Null, root),
     }
-    Ok(tree)
 }
