@@ -3,6 +3,9 @@ pub mod Numbers
 pub mod Adding
 pub mod Naming
 pub mod Owned
+pub mod OwnedPats
+pub mod NamingForms
+pub mod TreeNamed
 pub mod Named
 pub mod Meaning
 pub mod Noting

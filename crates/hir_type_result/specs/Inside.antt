@@ -19,7 +19,7 @@ abbrev pub InsideReachedOnce : Type 0
 InsideReachedOnce = InLaterStores (λ e b i b' final.
     (depth : ℕ) → length final.exprs.entries ≤ depth
     → Spread (length b.stored.exprs.entries) (length b'.stored.exprs.entries)
-    (of_each (reached_to final.exprs.entries depth) (i ∷ inner_bodies (store_of final) i)))
+    (of_each (reached_to (store_of final) depth) (i ∷ inner_bodies (store_of final) i)))
 
 -- So it is of the constants inside a type that is lowered by itself,
 abbrev pub TypeInsideReachedOnce : Type 0
@@ -27,7 +27,7 @@ TypeInsideReachedOnce =
     (binder : Option Binder) (t : OptionType) (b b' : Builder) (i : TypeRefId) → Paired b.stored → type_part binder t b ≡ (Ok i, b')
     → (final : Stored) → Extends b'.stored final → (depth : ℕ) → length final.exprs.entries ≤ depth
     → Spread (length b.stored.exprs.entries) (length b'.stored.exprs.entries)
-    (of_each (reached_to final.exprs.entries depth) (type_inner_bodies (store_of final) i))
+    (of_each (reached_to (store_of final) depth) (type_inner_bodies (store_of final) i))
 
 -- and inside a path.
 abbrev pub PathInsideReachedOnce : Type 0
@@ -35,4 +35,4 @@ PathInsideReachedOnce =
     (p : OptionPath) (b b' : Builder) (r : Option Path) → Paired b.stored → lower_path p b ≡ (Ok r, b')
     → (final : Stored) → Extends b'.stored final → (depth : ℕ) → length final.exprs.entries ≤ depth
     → Spread (length b.stored.exprs.entries) (length b'.stored.exprs.entries)
-    (of_each (reached_to final.exprs.entries depth) (of_present (path_inner_bodies (store_of final)) r))
+    (of_each (reached_to (store_of final) depth) (of_present (path_inner_bodies (store_of final)) r))
