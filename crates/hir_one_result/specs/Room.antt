@@ -329,7 +329,8 @@ abbrev mutual
 
   -- a whole one, before which no name has a use
   pub top_size : OptionPat → Size
-  top_size p = pat_part_size p []
+  top_size tree.no_pat = a_pat None
+  top_size (tree.some_pat p) = pat_size p []
 
   -- ---- what is assigned to
 
