@@ -85,6 +85,10 @@ ReadsAs read d a = λ ws. (read a ≡ d) × No ws
 abbrev pub statement_of : Bool → Option ExprId → Option Statement
 statement_of semi o = option_map (λ id. statement.Expr id semi) o
 
+-- of some expression, whatever its number
+abbrev pub SomeExpr : (ExprId → Ways) → Ways
+SomeExpr S = λ ws. (i : ExprId) × S i ws
+
 -- what stands before is read where the reading goes on
 abbrev pub WhereOn : Read → (Seen → Ways) → Ways
 WhereOn (goes_on x) W = W x
@@ -237,6 +241,14 @@ module _ (store : Store) (source_map : SourceMap) where
     pub shown : (k : ℕ) (b : BindingId) (x : Binding) → slice_get ks k ≡ Some b → slice_get store.bindings b.0 ≡ Some x
         → Shows x.problems k (written_uses p)
 
+  -- what is so where the names of a top pattern have some bindings
+  abbrev pub WithNames : OptionPat → (Names → Ways) → PatId → Ways
+  WithNames p S i = λ ws. (ks : Names) × NamesOf p i ks × S ks ws
+
+  -- a whole target reads back as it is written
+  abbrev pub ReadsAsTarget : Target → Ways → PatId → Ways
+  ReadsAsTarget t S i = λ ws. (stored_pat store source_map i ≡ target_data t) × S ws
+
   abbrev mutual
     -- ---- what stands for the constants of types, paths, arguments and bounds
 
@@ -338,7 +350,8 @@ module _ (store : Store) (source_map : SourceMap) where
     pub TypePatWays : Open → TypePat → Ways
     TypePatWays rs (tree.not_null_type_pat at) = No
     TypePatWays rs (tree.or_type_pat at ps) = TypePatsWays rs ps
-    TypePatWays rs (tree.range_type_pat at low high) = LimitWays rs low & LimitWays rs high
+    TypePatWays rs (tree.range_type_pat at low high) =
+        SomeExpr (λ i. StandsLimit (barrier_rib ∷ rs) low i) & SomeExpr (λ i. StandsLimit (barrier_rib ∷ rs) high i)
     TypePatWays rs (tree.other_type_pat at) = No
 
     pub TypePatPartWays : Open → OptionTypePat → Ways
@@ -348,9 +361,6 @@ module _ (store : Store) (source_map : SourceMap) where
     pub TypePatsWays : Open → TypePats → Ways
     TypePatsWays rs tree.no_type_pats = No
     TypePatsWays rs (tree.more_type_pats p ps) = TypePatWays rs p & TypePatsWays rs ps
-
-    pub LimitWays : Open → Limit → Ways
-    LimitWays rs l = λ ws. (i : ExprId) × StandsLimit (barrier_rib ∷ rs) l i ws
 
     -- an end of a range in a type: the side, an item, or a call of an item with the side
     pub StandsLimit : Open → Limit → ExprId → Ways
@@ -414,13 +424,13 @@ module _ (store : Store) (source_map : SourceMap) where
     Stands rs (tree.await_expr at location e) i = StandsOver hir.Await at (λ x. StandsPart rs e x) i
     -- the operand stands in the store, and is part of nothing
     Stands rs (tree.nameless_expr at e) i = StandsOver (λ x. hir.Missing) at (λ x. StandsPart rs e x) i
-    Stands rs (tree.let_expr at p e) i = StandsOverTwo hir.Let at (λ q. StandsTop rs p q) (λ x. StandsPart rs e x) i
+    Stands rs (tree.let_expr at p e) i = StandsOverTwo hir.Let at (λ q. WithNames p (λ ks. StandsPatPart ks rs p [] q) q) (λ x. StandsPart rs e x) i
     Stands rs (tree.match_expr at e arms) i = StandsOverTwo hir.Match at (λ x. StandsPart rs e x) (λ as'. StandsArms rs arms as') i
     Stands rs (tree.range_expr at form low high) i =
         StandsRange at form (λ o. StandsPresent rs low o) (λ o. StandsPresent rs high o) i
     -- the target before the value
     Stands rs (tree.assign_expr at own t e) i =
-        StandsOverTwo hir.Assignment at (λ q. StandsAssigned rs t q) (λ x. StandsPart rs e x) i
+        StandsOverTwo hir.Assignment at (λ q. ReadsAsTarget t (StandsTarget rs t q) q) (λ x. StandsPart rs e x) i
 
     pub StandsPart : Open → OptionExpr → ExprId → Ways
     StandsPart rs tree.no_expr i = StandsMissing i
@@ -460,7 +470,7 @@ module _ (store : Store) (source_map : SourceMap) where
     StandsArms rs (tree.more_arms (tree.arm p e g) arms) is = λ ws.
         (q : PatId) × (x : ExprId) × (o : Option ExprId) × (others : List MatchArm)
         × (is ≡ record { pat = q; guard = o; expr = x } ∷ others)
-        × ((StandsTop rs p q & StandsPart rs e x & StandsGuard rs g o) & StandsArms rs arms others) ws
+        × ((WithNames p (λ ks. StandsPatPart ks rs p [] q) q & StandsPart rs e x & StandsGuard rs g o) & StandsArms rs arms others) ws
 
     pub StandsGuard : Open → Guard → Option ExprId → Ways
     StandsGuard rs tree.no_guard o = Absent o
@@ -494,14 +504,10 @@ module _ (store : Store) (source_map : SourceMap) where
     StandsContents rs (tree.more_stmts (tree.let_stmt p t e b) ss) Tail is tail = λ ws.
         (q : PatId) × (y : Option TypeRefId) × (x : Option ExprId) × (z : Option ExprId) × (others : List Statement)
         × (is ≡ statement.Let q y x z ∷ others)
-        × ((StandsTop rs p q & (PresentTypeWays rs t & ReadsAs (stored_option_type store source_map) (written_option_type t) y)
+        × ((WithNames p (λ ks. StandsPatPart ks rs p [] q) q & (PresentTypeWays rs t & ReadsAs (stored_option_type store source_map) (written_option_type t) y)
         & StandsPresent rs e x & StandsPresentBlock rs b z) & StandsContents rs ss Tail others tail) ws
 
     -- ---- patterns
-
-    -- a whole one, before which no name has a use
-    pub StandsTop : Open → OptionPat → PatId → Ways
-    StandsTop rs p i = λ ws. (ks : Names) × NamesOf p i ks × StandsPatPart ks rs p [] i ws
 
     -- one of which these names have a use
     pub StandsPat : Names → Open → Pat → FirstUses → PatId → Ways
@@ -574,10 +580,6 @@ module _ (store : Store) (source_map : SourceMap) where
 
     -- ---- what is assigned to
 
-    -- a whole one, which reads back as it is written
-    pub StandsAssigned : Open → Target → PatId → Ways
-    StandsAssigned rs t i = λ ws. (stored_pat store source_map i ≡ target_data t) × StandsTarget rs t i ws
-
     pub StandsTarget : Open → Target → PatId → Ways
     StandsTarget rs tree.absent_target i = No
     StandsTarget rs (tree.place_target at e) i = λ ws. (x : ExprId) × PatIs i (pat.Expr x) × Stands rs e x ws
@@ -610,3 +612,16 @@ module _ (store : Store) (source_map : SourceMap) where
         (i : PatId) × (others : List RecordFieldPat) × (is ≡ record { name = n; pat = i } ∷ others)
         × ((StandsTarget rs t i & OnePatFieldWay i at) & StandsTargetFields rs fs others) ws
     StandsTargetFields rs (tree.more_target_fields f fs) is = StandsTargetFields rs fs is
+
+  -- ---- whole ones
+
+  -- an end of a range in a type, which is a body of its own
+  abbrev pub LimitWays : Open → Limit → Ways
+  LimitWays rs l = SomeExpr (λ i. StandsLimit (barrier_rib ∷ rs) l i)
+
+  -- a top pattern, before which no name has a use
+  abbrev pub StandsTop : Open → OptionPat → PatId → Ways
+  StandsTop rs p i = WithNames p (λ ks. StandsPatPart ks rs p [] i) i
+
+  abbrev pub StandsAssigned : Open → Target → PatId → Ways
+  StandsAssigned rs t i = ReadsAsTarget t (StandsTarget rs t i) i
