@@ -191,6 +191,11 @@ module _ (store : Store) (source_map : SourceMap) where
   abbrev pub StandsItem : Option LangItemId → ExprId → Ways
   StandsItem item i = λ ws. ExprAt i (item_form item) None × OneUnled i ws
 
+  -- a call of an item with one side, from no node
+  abbrev pub StandsItemOver : Option LangItemId → (ExprId → Ways) → ExprId → Ways
+  StandsItemOver item S i = λ ws.
+      (side : ExprId) × (callee : ExprId) × ExprAt i (hir.Call callee (side ∷ [])) None × (S side & StandsItem item callee & OneUnled i) ws
+
   -- a range is a record of an item, or a call of one
   abbrev pub StandsRange : Pointer → RangeForm → (Option ExprId → Ways) → (Option ExprId → Ways) → ExprId → Ways
   StandsRange at (tree.record_range item last) S T i =
@@ -248,6 +253,10 @@ module _ (store : Store) (source_map : SourceMap) where
   -- a whole target reads back as it is written
   abbrev pub ReadsAsTarget : Target → Ways → PatId → Ways
   ReadsAsTarget t S i = λ ws. (stored_pat store source_map i ≡ target_data t) × S ws
+
+  -- what is assigned to reads back as it is written
+  abbrev pub StandsAssigned : Target → (PatId → Ways) → PatId → Ways
+  StandsAssigned t S i = λ ws. (stored_pat store source_map i ≡ target_data t) × S i ws
 
   abbrev mutual
     -- ---- what stands for the constants of types, paths, arguments and bounds
@@ -424,7 +433,8 @@ module _ (store : Store) (source_map : SourceMap) where
     Stands rs (tree.await_expr at location e) i = StandsOver hir.Await at (λ x. StandsPart rs e x) i
     -- the operand stands in the store, and is part of nothing
     Stands rs (tree.nameless_expr at e) i = StandsOver (λ x. hir.Missing) at (λ x. StandsPart rs e x) i
-    Stands rs (tree.let_expr at p e) i = StandsOverTwo hir.Let at (λ q. WithNames p (λ ks. StandsPatPart ks rs p [] q) q) (λ x. StandsPart rs e x) i
+    Stands rs (tree.let_expr at p e) i =
+        StandsOverTwo hir.Let at (λ q. WithNames p (λ ks. StandsPatPart ks rs p [] q) q) (λ x. StandsPart rs e x) i
     Stands rs (tree.match_expr at e arms) i = StandsOverTwo hir.Match at (λ x. StandsPart rs e x) (λ as'. StandsArms rs arms as') i
     Stands rs (tree.range_expr at form low high) i =
         StandsRange at form (λ o. StandsPresent rs low o) (λ o. StandsPresent rs high o) i
@@ -504,7 +514,8 @@ module _ (store : Store) (source_map : SourceMap) where
     StandsContents rs (tree.more_stmts (tree.let_stmt p t e b) ss) Tail is tail = λ ws.
         (q : PatId) × (y : Option TypeRefId) × (x : Option ExprId) × (z : Option ExprId) × (others : List Statement)
         × (is ≡ statement.Let q y x z ∷ others)
-        × ((WithNames p (λ ks. StandsPatPart ks rs p [] q) q & (PresentTypeWays rs t & ReadsAs (stored_option_type store source_map) (written_option_type t) y)
+        × ((WithNames p (λ ks. StandsPatPart ks rs p [] q) q
+        & (PresentTypeWays rs t & ReadsAs (stored_option_type store source_map) (written_option_type t) y)
         & StandsPresent rs e x & StandsPresentBlock rs b z) & StandsContents rs ss Tail others tail) ws
 
     -- ---- patterns
