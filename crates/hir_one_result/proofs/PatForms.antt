@@ -221,7 +221,7 @@ module _ {S : Within PatId} {T : Within (List PatId)} {f g : FirstUses → First
 
 -- ---- fields
 
-named_stands : (at : Pointer) (n : Name) (i : PatId) → Correct (forms.named_part at (Some n) i)
+pub named_stands : (at : Pointer) (n : Name) (i : PatId) → Correct (forms.named_part at (Some n) i)
     (Shows (λ final rs o ws. (o ≡ Some (record { name = n; pat = i })) × OnePatFieldWay i at ws))
 named_stands at n i = correct_as (correct_bind (correct_point_pat_field i at) (λ u. correct_pure _))
     (λ final ps m m' o g row. record {

@@ -190,7 +190,7 @@ leaf_pat_stands tree.not_null_leaf at = plain_stands pat.NotNull at tt
 leaf_pat_stands tree.broken_leaf at = plain_stands pat.Missing at tt
 
 -- steps whose ways are those of what comes before the pattern
-leaves_then : {A : Type 0} {W : Stored → Open → Ways} {P : A → Stored → PatId → Type 0} {q : Lowering A} {g : A → Lowering PatId}
+pub leaves_then : {A : Type 0} {W : Stored → Open → Ways} {P : A → Stored → PatId → Type 0} {q : Lowering A} {g : A → Lowering PatId}
     → Correct q (Leaves W) → ((a : A) → Correct (g a) (Facts (P a))) → Correct (q >>= g) (Shows (λ final rs i. W final rs))
 leaves_then h k = correct_as (correct_bind h k)
     (λ final ps m m' i g row. record { shown = shown_before row.first.shown row.second.moved })
@@ -211,7 +211,7 @@ signed_stands at s = correct_as (alone_stands (hir.Literal (signed_literal s)) a
     (λ final ps m m' i g row. record { shown = shown_as row.shown (λ ws y. (signed_literal s, refl, y)) })
 
 -- one part, and the pattern that is made of it
-part_then : {A : Type 0} {X : Of A} {q : Lowering A} (con : A → HirPat) (at : Pointer) → ((a : A) → MakesNone (con a)) → Correct q (Shows X)
+pub part_then : {A : Type 0} {X : Of A} {q : Lowering A} (con : A → HirPat) (at : Pointer) → ((a : A) → MakesNone (con a)) → Correct q (Shows X)
     → Correct (q >>= (λ a. alloc_pat (con a) (Some at)))
     (Shows (λ final rs i ws. (a : A) × PatIs (store_of final) (map_of final) i (con a) × X final rs a ws))
 part_then con at none h = correct_as (correct_bind h (λ a. pat_facts (con a) (Some at) (none a)))

@@ -52,8 +52,8 @@ use Rattle.hir_steps.proofs.Constants.{with_root}
 use Rattle.hir_steps.proofs.Frames.{ribs}
 use Rattle.hir_steps.proofs.Steps.{with_lifetime, with_type}
 use Rattle.hir_one_result.specs.Leads.{Way, Ways, No, OneUnled, ◌&◌}
-use Rattle.hir_one_result.specs.Stands.{Open, WhereOn, WherePath, Unless, StandsAlone, StandsItem, StandsOneName, StandsSidePath}
-use Rattle.hir_one_result.specs.Stands.{StandsSigned}
+use Rattle.hir_one_result.specs.Stands.{Open, WhereOn, WherePath, Unless, StandsAlone, StandsItem, StandsOneName}
+use Rattle.hir_one_result.specs.Stands.{StandsSidePath, StandsSigned}
 use Rattle.hir_one_result.proofs.Defining.{MakesNone}
 use Rattle.hir_one_result.proofs.Leading.{Shown, shown_as, shown_none, shown_both, shown_after, shown_before, Moved, moved_same, moved_to}
 use Rattle.hir_one_result.proofs.Leading.{moved_still, moved_pat}

@@ -106,6 +106,17 @@ rising_found lo hi (x ∷ es) zero b h e =
     omega (arith, more, same)
 rising_found lo hi (x ∷ es) (suc n) b h e = rising_found (suc x.1.0) hi es n b h.1 e
 
+pub rising_least : (lo hi : ℕ) (es : Entries) (n : ℕ) (b : BindingId) → Rising lo hi es → slice_get (ids es) n ≡ Some b → lo ≤ b.0
+rising_least lo hi [] n b h e = absurd (true≢false (sym (ap is_some e)))
+rising_least lo hi (x ∷ es) zero b h e =
+    let first : lo ≤ x.1.0 = h.0 in
+    let same : x.1.0 ≡ b.0 = ap (λ i. i.0) (same_Some x.1 b e) in
+    omega (arith, first, same)
+rising_least lo hi (x ∷ es) (suc n) b h e =
+    let first : lo ≤ x.1.0 = h.0 in
+    let later = rising_least (suc x.1.0) hi es n b h.1 e in
+    omega (arith, first, later)
+
 -- numbers that differ
 other : (m n : ℕ) → ((m ≡ n) → ⊥) → nat_eq m n ≡ false
 other m n h = by (nat_eq m n) refl

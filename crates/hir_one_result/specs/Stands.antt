@@ -191,11 +191,6 @@ module _ (store : Store) (source_map : SourceMap) where
   abbrev pub StandsItem : Option LangItemId → ExprId → Ways
   StandsItem item i = λ ws. ExprAt i (item_form item) None × OneUnled i ws
 
-  -- a call of an item with one side, from no node
-  abbrev pub StandsItemOver : Option LangItemId → (ExprId → Ways) → ExprId → Ways
-  StandsItemOver item S i = λ ws.
-      (side : ExprId) × (callee : ExprId) × ExprAt i (hir.Call callee (side ∷ [])) None × (S side & StandsItem item callee & OneUnled i) ws
-
   -- a range is a record of an item, or a call of one
   abbrev pub StandsRange : Pointer → RangeForm → (Option ExprId → Ways) → (Option ExprId → Ways) → ExprId → Ways
   StandsRange at (tree.record_range item last) S T i =
@@ -253,10 +248,6 @@ module _ (store : Store) (source_map : SourceMap) where
   -- a whole target reads back as it is written
   abbrev pub ReadsAsTarget : Target → Ways → PatId → Ways
   ReadsAsTarget t S i = λ ws. (stored_pat store source_map i ≡ target_data t) × S ws
-
-  -- what is assigned to reads back as it is written
-  abbrev pub StandsAssigned : Target → (PatId → Ways) → PatId → Ways
-  StandsAssigned t S i = λ ws. (stored_pat store source_map i ≡ target_data t) × S i ws
 
   abbrev mutual
     -- ---- what stands for the constants of types, paths, arguments and bounds
