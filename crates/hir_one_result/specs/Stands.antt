@@ -4,7 +4,7 @@
 -- and label to what it became, and to each missing one from no node. What its constants became stands for them, also where
 -- nothing names it. A top pattern reads back as it is written; its names have one binding each, and what is in it stands for what
 -- is written there.
-use Rattle.std.specs.Prelude.{◌≡◌, ℕ, Bool, true, false, List, [], ◌∷◌, ◌++◌, map, Option, Some, None, option_map, option_to_list}
+use Rattle.std.specs.Prelude.{◌≡◌, ℕ, Bool, true, false, List, [], ◌∷◌, ◌++◌, map, Option, Some, None, option_to_list}
 use Rattle.std.specs.Prelude.{slice_get, unwrap_or}
 use Rattle.hir_base.specs.declared.op.RangeOp.{RangeOp}
 use Rattle.hir_binding.specs.Rule.{Shows}
@@ -36,18 +36,18 @@ use Rattle.hir_store.specs.declared.ids.LangItemId.{LangItemId}
 use Rattle.hir_store.specs.declared.ids.HygieneId.{HygieneId}
 use Rattle.hir_store.specs.declared.ids.PatId.{PatId}
 use Rattle.hir_store.specs.declared.ids.TypeRefId.{TypeRefId}
-use Rattle.hir_scope.specs.Ribs.{Rib, label_rib, barrier_rib, jump_number}
+use Rattle.hir_scope.specs.Ribs.{barrier_rib, jump_number}
 use Rattle.hir_env.specs.Answered as tree
 use Rattle.hir_env.specs.Answered.{Type_, OptionType, Parts, Path as WrittenPath, OptionPath, Segments, Segment, SegmentArgs, OptionParens}
 use Rattle.hir_env.specs.Answered.{OptionRet, OptionArgs, Args, Arg, Bounds, Bound, Constant, Listing, Label, Expr, OptionExpr, Exprs}
-use Rattle.hir_env.specs.Answered.{Fields, Spread, Block, OptionBlock, Stmts, Arms, Guard, RangeForm, Signed, Use, Pat, OptionPat, Pats}
+use Rattle.hir_env.specs.Answered.{Fields, Spread, Block, OptionBlock, Stmts, Arms, Guard, RangeForm, Signed, Pat, OptionPat, Pats}
 use Rattle.hir_env.specs.Answered.{PatFields, Side, TypePat, OptionTypePat, TypePats, Limit, Target, Targets, TargetFields}
 use Rattle.hir_data.specs.BindingRule.{made_for}
 use Rattle.hir_data.specs.Data.{PathData}
 use Rattle.hir_data.specs.Patterns.{is_dots, first_uses, uses_after, uses_after_part, uses_after_each, written_pat, written_uses}
 use Rattle.hir_data.specs.Reading.{stored_path, stored_type, stored_option_type, stored_args, stored_pat}
 use Rattle.hir_data.specs.Targets.{target_data}
-use Rattle.hir_data.specs.Uses.{FirstUses, number_of}
+use Rattle.hir_data.specs.Uses.{FirstUses}
 use Rattle.hir_data.specs.Written.{written_path, written_type, written_option_type, written_args, signed_data}
 use Rattle.hir_data.specs.Lookup.{lookup_hygiene}
 use Rattle.hir_meaning.specs.Data.{literal_data, literal_read}
@@ -55,75 +55,10 @@ use Rattle.hir_meaning.specs.Left.{is_kept, is_left, gives_value}
 use Rattle.hir_meaning.specs.Contents.{BlockContents}
 use Rattle.hir_one_result.specs.Forms.{leaf_form, unary_form, binary_form, lazy_form, leaving_form, item_form, no_macro, path_of_name}
 use Rattle.hir_one_result.specs.Forms.{pat_unary_form, range_fields}
-use Rattle.hir_one_result.specs.PathRoom.{Seen, nothing_seen, at_first, Read, goes_on, segments_read, own_read, yields}
-use Rattle.hir_one_result.specs.PatRoom.{is_known}
-use Rattle.hir_one_result.specs.Leads.{Ways, No, OneWay, OneUnled, OneLabelWay, OneFieldWay, OnePatFieldWay, OneBindingWay, ◌&◌}
-
--- the numbers of the labels that are open, innermost first
-abbrev pub Open : Type 0
-Open = List (Rib LabelId)
-
-abbrev pub opened : Label → LabelId → Open → Open
-opened l n rs = label_rib l.name l.hygiene n ∷ rs
-
--- parts that may be absent in the store too
-
-abbrev pub Absent : {A : Type 0} → Option A → Ways
-Absent o = λ ws. (o ≡ None) × No ws
-
-abbrev pub There : {A : Type 0} → (A → Ways) → Option A → Ways
-There {A = A} S o = λ ws. (a : A) × (o ≡ Some a) × S a ws
-
-abbrev pub ThereIf : {A : Type 0} → Bool → (A → Ways) → Option A → Ways
-ThereIf true S o = There S o
-ThereIf false S o = Absent o
-
--- a part that is no expression: it reads back as this
-abbrev pub ReadsAs : {A D : Type 0} → (A → D) → D → A → Ways
-ReadsAs read d a = λ ws. (read a ≡ d) × No ws
-
-abbrev pub statement_of : Bool → Option ExprId → Option Statement
-statement_of semi o = option_map (λ id. statement.Expr id semi) o
-
--- of some expression, whatever its number
-abbrev pub SomeExpr : (ExprId → Ways) → Ways
-SomeExpr S = λ ws. (i : ExprId) × S i ws
-
--- what stands before is read where the reading goes on
-abbrev pub WhereOn : Read → (Seen → Ways) → Ways
-WhereOn (goes_on x) W = W x
-WhereOn read W = No
-
-abbrev pub Unless : Bool → Ways → Ways
-Unless true W = No
-Unless false W = W
-
--- one part before others, or none where two dots stand
-abbrev pub StandsBefore : {A : Type 0} → Bool → (A → Ways) → (List A → Ways) → List A → Ways
-StandsBefore true S T is = T is
-StandsBefore {A = A} false S T is = λ ws. (i : A) × (others : List A) × (is ≡ i ∷ others) × (S i & T others) ws
-
--- what is so where the path is read, and where it isn't
-abbrev pub WherePath : Option PathData → (PathData → Ways) → Ways → Ways
-WherePath None S T = T
-WherePath (Some d) S T = S d
-
--- in front of parts with a leading comma stands one that is missing
-abbrev pub BehindFront : Bool → List PatId → List PatId → Type 0
-BehindFront false is others = is ≡ others
-BehindFront true is others = (front : PatId) × (is ≡ front ∷ others)
-
--- the names of a top pattern have these bindings, in the order of their first uses
-abbrev pub Names : Type 0
-Names = List BindingId
-
--- where a name is used first, its binding is new
-abbrev pub NewName : Bool → BindingId → Ways
-NewName true b = No
-NewName false b = OneBindingWay b
-
-abbrev pub StandsName : Names → FirstUses → Use → BindingId → Ways
-StandsName ks us u b = λ ws. (slice_get ks (number_of us u) ≡ Some b) × NewName (is_known us u) b ws
+use Rattle.hir_one_result.specs.PathRoom.{Seen, nothing_seen, at_first, segments_read, own_read, yields}
+use Rattle.hir_one_result.specs.Leads.{Ways, No, OneWay, OneUnled, OneLabelWay, OneFieldWay, OnePatFieldWay, ◌&◌}
+pub use Rattle.hir_one_result.specs.StandsParts.{Open, opened, Absent, There, ThereIf, ReadsAs, statement_of, SomeExpr, WhereOn, Unless}
+pub use Rattle.hir_one_result.specs.StandsParts.{StandsBefore, WherePath, BehindFront, Names, NewName, StandsName}
 
 -- in a store
 
