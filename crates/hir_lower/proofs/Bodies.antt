@@ -76,8 +76,9 @@ module _ (skipped : Bool) (f : Formals) (e : OptionExpr) (limit : ℕ) (owed : F
           same = live.same;
           reached_once = λ depth le. from_zero _ _ _ (live.reached_once depth le);
           types_reached_once = λ depth le. body_types_once skipped f e (closed start) s.inner given i
-              (record { exprs = refl; labels = refl; pats = refl; types = refl; lifetimes = refl }) refl
-              (lowered skipped f e start b' given i s) end (extends_root s.inner.stored root) depth le;
+              (record { exprs = refl; labels = refl; pats = refl; types = refl; lifetimes = refl })
+              (record { exprs = refl; pats = refl; types = refl }) (lowered skipped f e start b' given i s) end
+              (extends_root s.inner.stored root) depth le;
         })
 
   too_large : (b' : Builder) → behind (lower_formals skipped f) e start ≡ (Err Full, b') → BodyTooLarge (empty limit) skipped f e

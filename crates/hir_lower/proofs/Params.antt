@@ -1,5 +1,5 @@
 -- The parameters of a body are read back as they are written.
-use Rattle.std.proofs.Common.{◌≡◌, ◌∙◌, refl, sym, ap, subst, ℕ, Bool, true, false, nat_lt, length, map, append-nil}
+use Rattle.std.proofs.Common.{◌≡◌, ◌≤◌, ◌∙◌, refl, sym, ap, subst, ℕ, Bool, true, false, nat_lt, length, map, append-nil}
 use Rattle.std.proofs.Common.{append_assoc, List, [], ◌∷◌, ◌++◌, Option, Some, None, option_map, slice_get, Result, Ok, Err}
 use Rattle.std.proofs.lemmas.List.{map-append}
 use Rattle.std.specs.Prelude.{IfOk, option_and_then, option_to_list}
@@ -32,12 +32,17 @@ use Rattle.hir_steps.proofs.PatSteps.{correct_alloc_binding}
 use Rattle.hir_steps.proofs.Steps.{Mark, mark, Rel, Holds, Correct, correct_as, correct_bind, correct_pure, correct_report}
 use Rattle.hir_steps.proofs.TypeAny.{Any, any, pure_any, then_any}
 use Rattle.hir_read_back.proofs.PatTree.{PatNow, top_now}
+use Rattle.hir_same_meaning.specs.Reached.{Spread}
+use Rattle.hir_type_result.specs.Named.{of_exprs, of_pats_alone}
+use Rattle.hir_type_result.specs.Pats.{of_types, pats_reached}
+use Rattle.hir_type_result.specs.Reached.{of_each}
 use Rattle.hir_lower.specs.Formals.{Given, each_formal, formals_read, lower_formal, lower_formals, lower_self}
 use Rattle.hir_lower.specs.Means.{HasParams, owed_faults, receiver_read, unless_skipped}
 use Rattle.hir_one_result.specs.OneResult.{fresh_owing}
 use Rattle.hir_lower.specs.Roots.{GivenFromNothing, StoresFromNothing, as_written, behind, body_of, fresh}
 use Rattle.hir_lower.specs.declared.body.Body.{Body}
-use Rattle.hir_lower.proofs.Behind.{Steps, closed, item_is, steps}
+use Rattle.hir_lower.proofs.Behind.{Steps, closed, item_is, lowered, rooted, steps}
+use Rattle.hir_lower.proofs.BodyTypes.{Bare, all_pats_once}
 use Rattle.hir_lower.proofs.TreeWays.{part_leads, top_leads}
 use Rattle.hir_lower.proofs.Ways.{Leading, Went, bound_if, any as whatever, then', went, leading_pure, leading_report}
 
@@ -166,8 +171,14 @@ given_self skipped f b = first (lower_self f.receiver b).0 (lower_self f.receive
         second i c h each.0 each.1 (went (each_leads skipped [] f.formals) c)
     first (Err e) c h = tt
 
+-- however deep one looks, each pattern is reached in one way
+abbrev PatsOnce : Stored → List PatId → Type 0
+PatsOnce s ps = (depth : ℕ) → length s.pats.entries ≤ depth → let l = of_pats_alone (pats_reached s.pats.entries depth) in
+    Spread 0 (length s.pats.entries) (of_each l.pats ps ++ (of_exprs l s.exprs.entries ++ of_types l s.types.entries))
+
 record ReadAs (skipped : Bool) (f : Formals) (given : Given) (s : Stored) : Type 0 where
   patterns : map (stored_pat (store_of s) (map_of s)) given.1 ≡ data_of skipped f.formals
+  pats_once : PatsOnce s given.1
   binding : option_and_then (λ i. slice_get s.bindings.entries i.0) given.0 ≡ receiver_read f.receiver
 
 -- what a step that is correct answers
@@ -179,18 +190,21 @@ answered {R = R} h o o' a d e final x =
     held.in_final d x
 
 behind_reads : (skipped : Bool) (f : Formals) (e : OptionExpr) (b b' : Builder) (given : Given) (i : ExprId) → Paired b.stored
-    → behind (lower_formals skipped f) e b ≡ (Ok (given, i), b') → ReadAs skipped f given b'.stored
-behind_reads skipped f e b b' given i d h =
+    → Bare b.stored → behind (lower_formals skipped f) e b ≡ (Ok (given, i), b') → ReadAs skipped f given b'.stored
+behind_reads skipped f e b b' given i d bare h =
     let s : Steps skipped f e b given i b' = steps skipped f e b b' given i h in
     let kept : KeepsAll s.middle s.inner = subst (λ r. Keeps s.middle r.0 r.1) s.body (keeping e s.middle) in
     let root = extends_root s.inner.stored (root_at (store_of s.inner.stored) i) in
     let later : Extends s.middle.stored b'.stored = subst (λ t. Extends s.middle.stored t.stored) s.left (extends_trans kept.stays root) in
+    let once = all_pats_once skipped f e (closed b) s.inner given i d (record { exprs = bare.exprs; pats = bare.pats; types = bare.types })
+    (lowered skipped f e b b' given i s) (rooted s.inner i).stored root in
     let moved : Went s.middle.stored s.inner.stored = subst (λ r. Went s.middle.stored r.1.stored) s.body (went (part_leads e) s.middle) in
     let bindings : Prefix s.middle.stored.bindings.entries b'.stored.bindings.entries =
     subst (λ t. Prefix s.middle.stored.bindings.entries t.stored.bindings.entries) s.left moved.bindings in
     let self : SelfReads f.receiver (Ok given.0, s.middle) = subst (GivenSelf f.receiver) s.formals (given_self skipped f (closed b)) in
     record {
       patterns = (answered (given_now skipped f) (closed b) s.middle given d s.formals b'.stored later).reads;
+      pats_once = subst (λ t. PatsOnce t.stored given.1) s.left (λ depth le. once depth le);
       binding = self b'.stored.bindings.entries bindings;
     }
 
@@ -201,13 +215,18 @@ body_reads : (skipped : Bool) (node : Pointer) (k : Option MissingBodyItemKind) 
 body_reads skipped node k f e limit b' given i h =
     let b = fresh_owing limit (owed_faults skipped node k e) in
     let paired : Paired b.stored = record { exprs = refl; labels = refl; pats = refl; types = refl; lifetimes = refl } in
-    behind_reads skipped f (unless_skipped skipped e) b b' given i paired (sym (item_is skipped node k f e limit) ∙ h)
+    let bare : Bare b.stored = record { exprs = refl; pats = refl; types = refl } in
+    behind_reads skipped f (unless_skipped skipped e) b b' given i paired bare (sym (item_is skipped node k f e limit) ∙ h)
 
 -- handed in as they are written
 
 written_of : {A D : Type 0} (read : A → D) (xs : List A) → map (λ p. read p.user_written) (map as_written xs) ≡ map read xs
 written_of read [] = refl
 written_of read (x ∷ xs) = ap (λ ys. read x ∷ ys) (written_of read xs)
+
+written_back : {A : Type 0} (xs : List A) → map (λ p. p.user_written) (map as_written xs) ≡ xs
+written_back [] = refl
+written_back (x ∷ xs) = ap (λ ys. x ∷ ys) (written_back xs)
 
 formal_is_written : {A : Type 0} (xs : List A) → map (λ p. p.formal) (map as_written xs) ≡ map (λ p. p.user_written) (map as_written xs)
 formal_is_written [] = refl
@@ -235,6 +254,7 @@ module _ (skipped : Bool) (node : Pointer) (k : Option MissingBodyItemKind) (f :
       subst P (sym (s.store_is ∙ ap store_of same)) (subst Q (sym (s.source_map_is ∙ ap map_of same)) (rw (g.params, g.receiver) (record {
         patterns = written_of (stored_pat (store_of now) (map_of now)) g.given.1 ∙ read.patterns;
         binding = self_written (λ i. slice_get now.bindings.entries i.0) g.given.0 ∙ read.binding;
+        pats_reached_once = λ depth le. rw (written_back g.given.1) (read.pats_once depth le);
         handed_in = formal_is_written g.given.1;
         handed_self = self_handed_in g.given.0;
       })))

@@ -14,6 +14,7 @@ use Rattle.hir_store.specs.declared.type_ref.TypeBound.{TypeBound}
 use Rattle.hir_store.specs.declared.type_ref.TypeRef.{TypeRef}
 use Rattle.hir_store.specs.declared.type_ref.TypeRef.TheVariants as ty
 use Rattle.hir_store.specs.declared.hir.Expr.{Expr as HirExpr}
+use Rattle.hir_store.specs.declared.pat.Pat.{Pat as HirPat}
 use Rattle.hir_store.specs.declared.ids.BindingId.{BindingId}
 use Rattle.hir_store.specs.declared.ids.ExprId.{ExprId}
 use Rattle.hir_store.specs.declared.ids.PatId.{PatId}
@@ -52,15 +53,18 @@ use Rattle.hir_one_result.specs.Leads.{Way}
 use Rattle.hir_one_result.specs.Stands.{StandsPart, WholeWays}
 use Rattle.hir_lower.specs.declared.body.Param.{Param}
 use Rattle.hir_lower.specs.Formals.{formals_read}
-use Rattle.hir_type_result.specs.Named.{of_exprs}
+use Rattle.hir_type_result.specs.Named.{of_exprs, of_pats, of_pats_alone, of_types_alone}
+use Rattle.hir_type_result.specs.Pats.{PatsSpread, of_types, pats_reached}
 use Rattle.hir_type_result.specs.Roots.{RootsOf}
 use Rattle.hir_type_result.specs.Reached.{of_path, of_present, types_reached}
+use Rattle.hir_type_result.specs.Reached.{of_each as of_all}
 
 -- What is so of a root in a later store. Its expression does what the tree does; it stands for the tree, and each expression
 -- that came with it is what a written one became, or a missing one for an absent or disabled part or in front of a tuple with a
 -- leading comma, or what is called for a range; where the source map led by then it leads still, or by the ways of the tree; each
 -- label and each binding more is what a written one became, and there are as many; each number that it reaches is reached once, and
--- is one that lowering it gave out, and so is each type that the expressions reach that came with it.
+-- is one that lowering it gave out, and so is each type that the expressions and patterns reach that came with it, and each pattern
+-- that the expressions and types do.
 pub record Lives (old new later : Stored) (i : ExprId) (e : OptionExpr) : Type 0 where
   pub same : SameMeaning (store_of later) (map_of later) i e
   pub ways : List Way
@@ -71,7 +75,10 @@ pub record Lives (old new later : Stored) (i : ExprId) (e : OptionExpr) : Type 0
       (of_each (reached_to (store_of later) depth) (i ∷ inner_bodies (store_of later) i))
   pub types_reached_once : (depth : ℕ) → length later.types.entries ≤ depth
       → (more : List HirExpr) → new.exprs.entries ≡ old.exprs.entries ++ more
-      → Spread (length old.types.entries) (length new.types.entries) (of_exprs (types_reached later.types.entries depth) more)
+      → (pats : List HirPat) → new.pats.entries ≡ old.pats.entries ++ pats
+      → let l = of_types_alone (types_reached later.types.entries depth) in
+      Spread (length old.types.entries) (length new.types.entries) (of_exprs l more ++ of_pats l pats)
+  pub pats_reached_once : PatsSpread old new later []
 
 -- What lowering a root leaves. It is the last of the recorded roots, to which all belongs that was stored since the one before:
 -- as many expressions, labels and bindings as the tree becomes, and patterns, types and lifetimes from just those of its nodes that
@@ -87,16 +94,16 @@ pub record Rooted (old new : Stored) (i : ExprId) (e : OptionExpr) : Type 0 wher
   pub paired : Paired new
   pub mapped : Mapped old → Mapped new
 
--- The one recorded root does what the written body does, and reaches each expression in one way only. The expressions reach each
--- type in one way only.
+-- The one recorded root does what the written body does, and reaches each expression in one way only. The expressions and patterns
+-- reach each type in one way only.
 pub record HasBody (store : Store) (source_map : SourceMap) (e : OptionExpr) : Type 0 where
   pub root : ExprRoot
   pub only : store.roots ≡ root ∷ []
   pub same : SameMeaning store source_map root.root e
   pub reached_once : (depth : ℕ) → length store.exprs ≤ depth
       → Spread 0 (length store.exprs) (of_each (reached_to store depth) (root.root ∷ inner_bodies store root.root))
-  pub types_reached_once : (depth : ℕ) → length store.types ≤ depth
-      → Spread 0 (length store.types) (of_exprs (types_reached store.types depth) store.exprs)
+  pub types_reached_once : (depth : ℕ) → length store.types ≤ depth → let l = of_types_alone (types_reached store.types depth) in
+      Spread 0 (length store.types) (of_exprs l store.exprs ++ of_pats l store.pats)
 
 -- paths and types
 
@@ -139,7 +146,8 @@ pub record ConstantsLive (old new later : Stored) (p : OptionPath) : Type 0 wher
 
 -- What lowering a path to r leaves: types and lifetimes from just those of its nodes that become one, and its constants. Those are
 -- roots, also where r is none; behind the faults and the blocks that were noted before come theirs. In each later store each body
--- inside r does what the written one does, and r reaches each type in one way only, and none that was stored before.
+-- inside r does what the written one does, and r reaches each type in one way only, and none that was stored before; so do the
+-- expressions and types that came with it reach each pattern.
 pub record PathRooted (old new : Stored) (r : Option Path) (p : OptionPath) : Type 0 where
   pub inner : (later : Stored) → Extends new later
       → SameBodies (store_of later) (map_of later) (of_some (path_inner_bodies (store_of later)) r) (path_bodies p)
@@ -151,6 +159,7 @@ pub record PathRooted (old new : Stored) (r : Option Path) (p : OptionPath) : Ty
   pub blocks : new.block_scopes ≡ old.block_scopes ++ blocks_of_whole p
   pub reached_once : (later : Stored) → Extends new later → (depth : ℕ) → length later.types.entries ≤ depth
       → Spread (length old.types.entries) (length new.types.entries) (of_present (of_path (types_reached later.types.entries depth)) r)
+  pub pats_reached_once : (later : Stored) → Extends new later → PatsSpread old new later []
   pub inside_reached_once : (later : Stored) → Extends new later → (depth : ℕ) → length later.exprs.entries ≤ depth
       → Spread (length old.exprs.entries) (length new.exprs.entries)
       (of_each (reached_to (store_of later) depth) (of_some (path_inner_bodies (store_of later)) r))
@@ -200,10 +209,14 @@ abbrev pub receiver_read : SelfFormal → Option Binding
 receiver_read (tree.self_formal at u) = Some (record { name = u.name; mode = u.mode; hygiene = u.hygiene; problems = None })
 receiver_read _ = None
 
--- Each parameter is read back as the written pattern, in order, and `self` is its binding. Each is handed in as it was written.
+-- Each parameter is read back as the written pattern, in order, and `self` is its binding. Each is handed in as it was written. They
+-- and the expressions and types reach each pattern in one way only.
 pub record HasParams (store : Store) (source_map : SourceMap) (params : List (Param PatId)) (receiver : Option (Param BindingId))
     (skipped : Bool) (formals : Formals) : Type 0 where
   pub patterns : map (λ p. stored_pat store source_map p.user_written) params ≡ map written_pat (formals_read skipped formals.formals)
   pub binding : option_and_then (λ p. slice_get store.bindings p.user_written.0) receiver ≡ receiver_read formals.receiver
+  pub pats_reached_once : (depth : ℕ) → length store.pats ≤ depth → let l = of_pats_alone (pats_reached store.pats depth) in
+      Spread 0 (length store.pats)
+      (of_all l.pats (map (λ p. p.user_written) params) ++ (of_exprs l store.exprs ++ of_types l store.types))
   pub handed_in : map (λ p. p.formal) params ≡ map (λ p. p.user_written) params
   pub handed_self : option_map (λ p. p.formal) receiver ≡ option_map (λ p. p.user_written) receiver
