@@ -4,8 +4,6 @@
 #[cfg(test)]
 mod bindings;
 #[cfg(test)]
-mod blocks;
-#[cfg(test)]
 mod constants;
 #[cfg(test)]
 mod definitions;
@@ -18,12 +16,18 @@ mod listings;
 #[cfg(test)]
 mod lowered;
 #[cfg(test)]
+mod objects;
+#[cfg(test)]
 mod paths;
 #[cfg(test)]
 mod patterns;
 #[cfg(test)]
 mod streams;
 #[cfg(test)]
+mod targets;
+#[cfg(test)]
 mod types;
+#[cfg(test)]
+mod ways;
 #[cfg(test)]
 mod ways_back;

@@ -1,83 +1,12 @@
 //! The ways between written nodes and what patterns become, and what the parameters of a function are, which no listing shows.
 
 use crate::lowered::lowered_text;
-use hir_base::node::{AstPtr, HirFileId, InFile, NodeId, TextRange};
+use crate::ways::{Way, number_of, way};
+use hir_base::node::NodeId;
 use hir_lower::{Body, BodySourceMap};
 use hir_store::ids::{BindingId, ExprId, PatId};
 use lower_json::fault::ReadError;
 use std::alloc::Global;
-
-/// What a node leads to.
-type Way = (Option<ExprId>, Option<PatId>);
-
-fn way(source_map: &BodySourceMap, node: u32) -> Way {
-    let node = InFile {
-        file_id: HirFileId(0),
-        value: AstPtr {
-            node: NodeId(node),
-            range: TextRange {
-                start: node,
-                end: node.saturating_add(1),
-            },
-        },
-    };
-    (
-        source_map.store.node_expr(node),
-        source_map.store.node_pat(node),
-    )
-}
-
-/// `fn f() { (a, (b), ..) = c }`
-const TARGETS: &str = r#"{"nodes": [
-    {"k": "Fn", "body": 1},
-    {"k": "BlockExpr", "tail": 2},
-    {"k": "BinExpr", "op": "=", "lhs": 3, "rhs": 12},
-    {"k": "TupleExpr", "fields": [4, 7, 11]},
-    {"k": "PathExpr", "path": 5},
-    {"k": "Path", "segs": [6]},
-    {"k": "PathSegment", "seg": "name", "name": "a"},
-    {"k": "ParenExpr", "expr": 8},
-    {"k": "PathExpr", "path": 9},
-    {"k": "Path", "segs": [10]},
-    {"k": "PathSegment", "seg": "name", "name": "b"},
-    {"k": "RangeExpr", "op": ".."},
-    {"k": "PathExpr", "path": 13},
-    {"k": "Path", "segs": [14]},
-    {"k": "PathSegment", "seg": "name", "name": "c"}
-]}"#;
-
-/// What the tuple, `a`, the parentheses, `b`, the two dots and `c` lead to.
-fn ways_to_targets(alloc: Global) -> Result<Option<[Way; 6]>, ReadError> {
-    match lowered_text(alloc, TARGETS)? {
-        Some((body, source_map)) => {
-            let ways = [
-                way(&source_map, 3),
-                way(&source_map, 4),
-                way(&source_map, 7),
-                way(&source_map, 8),
-                way(&source_map, 11),
-                way(&source_map, 12),
-            ];
-            drop(body);
-            drop(source_map);
-            Ok(Some(ways))
-        }
-        None => Ok(None),
-    }
-}
-
-#[test]
-fn places_lead_to_expressions_and_to_patterns(rt: HostRuntime) {
-    let ways = [
-        (None, Some(PatId(2))),
-        (Some(ExprId(0)), Some(PatId(0))),
-        (Some(ExprId(1)), Some(PatId(1))),
-        (Some(ExprId(1)), None),
-        (None, None),
-        (Some(ExprId(2)), None),
-    ];
-    assert_eq!(rt; ways_to_targets(rt.alloc()), Ok(Some(ways)));
-}
 
 /// `fn f(&mut self, (1, 2..=, S { a: b }, cfg)) {}`, where `cfg` stands for a predicate.
 const PATTERNS: &str = r#"{"nodes": [
@@ -122,10 +51,6 @@ fn first_param(body: &Body) -> Option<(PatId, PatId)> {
 fn receiver(body: &Body) -> Option<(BindingId, BindingId)> {
     let param = body.self_param?;
     Some((param.formal, param.user_written))
-}
-
-fn number_of(node: InFile<AstPtr>) -> NodeId {
-    node.value.node
 }
 
 fn parts(body: &Body, source_map: &BodySourceMap) -> Parts {
