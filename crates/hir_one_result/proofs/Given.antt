@@ -13,7 +13,7 @@ use Rattle.hir_one_result.proofs.Tellings.{Told, Tells}
 pub record Given {A : Type 0} (G : A → Type 0) (final : Stored) (ps : List Frame) (m m' : Mark) (a : A) : Type 0 where
   pub given : G a
 
-given_by : {A : Type 0} {n : Size} {G : A → Type 0} {R : Rel A} {p : Lowering A} → steps.Correct p R → Tells n G p
+pub given_by : {A : Type 0} {n : Size} {G : A → Type 0} {R : Rel A} {p : Lowering A} → steps.Correct p R → Tells n G p
     → steps.Correct p (Both R (Given G))
 given_by {A = A} {n = n} {G = G} {R = R} {p = p} h t =
     record { holds = λ final ps b r. go final ps b (p b).0 (p b).1 (h.holds final ps b r) (t.tells b) }

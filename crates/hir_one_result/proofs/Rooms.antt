@@ -63,12 +63,18 @@ over_first n k l a h = omega (arith, h)
 over_then : {n : ℕ} (k : ℕ) {l a l' b : ℕ} → Grew n l a l' b → l' < b + k → l < a + (n + k)
 over_then k g h = omega (arith, g.more, g.same, h)
 
-over_as : {n k l a : ℕ} → n ≡ k → l < a + n → l < a + k
-over_as {l = l} {a = a} e h = subst (λ j. l < a + j) e h
+over_as : {n k : ℕ} (l a : ℕ) → n ≡ k → l < a + n → l < a + k
+over_as l a e h = subst (λ j. l < a + j) e h
 
 -- of lists
 joined : {A : Type 0} (xs ys : List A) → length xs + length ys ≡ length (xs ++ ys)
 joined xs ys = sym (length-append xs ys)
+
+listed_first : {A : Type 0} (xs ys : List A) (l a : ℕ) → l < a + length xs → l < a + length (xs ++ ys)
+listed_first xs ys l a h = over_as l a (joined xs ys) (over_first (length xs) (length ys) l a h)
+
+listed_then : {A : Type 0} (xs ys : List A) {l a l' b : ℕ} → Grew (length xs) l a l' b → l' < b + length ys → l < a + length (xs ++ ys)
+listed_then xs ys {l = l} {a = a} g h = over_as l a (joined xs ys) (over_then (length ys) g h)
 
 -- so much more is stored
 pub record Took (n : Size) (a b : Stored) : Type 0 where
@@ -115,32 +121,32 @@ shorter n k s t e l p b y f o h =
 
 pub short_first : (n k : Size) (s : Stored) → Short n s → Short (n ∪ k) s
 short_first n k s h = shorter n (n ∪ k) s s
-    (λ x. over_first n.exprs k.exprs _ _ x)
-    (λ x. over_first n.labels k.labels _ _ x)
-    (λ x. over_as (joined n.pats k.pats) (over_first (length n.pats) (length k.pats) _ _ x))
-    (λ x. over_first n.bindings k.bindings _ _ x)
-    (λ x. over_as (joined n.types k.types) (over_first (length n.types) (length k.types) _ _ x))
-    (λ x. over_as (joined n.lifetimes k.lifetimes) (over_first (length n.lifetimes) (length k.lifetimes) _ _ x))
+    (λ x. over_first n.exprs k.exprs s.exprs.limit (length s.exprs.entries) x)
+    (λ x. over_first n.labels k.labels s.labels.limit (length s.labels.entries) x)
+    (λ x. listed_first n.pats k.pats s.pats.limit (length s.pats.entries) x)
+    (λ x. over_first n.bindings k.bindings s.bindings.limit (length s.bindings.entries) x)
+    (λ x. listed_first n.types k.types s.types.limit (length s.types.entries) x)
+    (λ x. listed_first n.lifetimes k.lifetimes s.lifetimes.limit (length s.lifetimes.entries) x)
     (λ o. inl o) h
 
 pub short_then : {n : Size} (k : Size) (a b : Stored) → Took n a b → Short k b → Short (n ∪ k) a
 short_then {n = n} k a b t h = shorter k (n ∪ k) b a
     (λ x. over_then k.exprs t.exprs x)
     (λ x. over_then k.labels t.labels x)
-    (λ x. over_as (joined n.pats k.pats) (over_then (length k.pats) t.pats x))
+    (λ x. listed_then n.pats k.pats t.pats x)
     (λ x. over_then k.bindings t.bindings x)
-    (λ x. over_as (joined n.types k.types) (over_then (length k.types) t.types x))
-    (λ x. over_as (joined n.lifetimes k.lifetimes) (over_then (length k.lifetimes) t.lifetimes x))
+    (λ x. listed_then n.types k.types t.types x)
+    (λ x. listed_then n.lifetimes k.lifetimes t.lifetimes x)
     (λ o. inr o) h
 
 pub short_as : {n k : Size} (s : Stored) → Same n k → Short n s → Short k s
 short_as {n = n} {k = k} s same h = shorter n k s s
-    (λ x. over_as same.exprs x)
-    (λ x. over_as same.labels x)
-    (λ x. over_as (ap length same.pats) x)
-    (λ x. over_as same.bindings x)
-    (λ x. over_as (ap length same.types) x)
-    (λ x. over_as (ap length same.lifetimes) x)
+    (λ x. over_as s.exprs.limit (length s.exprs.entries) same.exprs x)
+    (λ x. over_as s.labels.limit (length s.labels.entries) same.labels x)
+    (λ x. over_as s.pats.limit (length s.pats.entries) (ap length same.pats) x)
+    (λ x. over_as s.bindings.limit (length s.bindings.entries) same.bindings x)
+    (λ x. over_as s.types.limit (length s.types.entries) (ap length same.types) x)
+    (λ x. over_as s.lifetimes.limit (length s.lifetimes.entries) (ap length same.lifetimes) x)
     same.overcounts h
 
 then_more : (xs ys zs : List (Option Pointer)) {us vs : List (Option Pointer)} → us ≡ xs ++ ys → vs ≡ us ++ zs → vs ≡ xs ++ (ys ++ zs)
@@ -173,8 +179,8 @@ took_as {a = a} same t = record {
 }
 
 -- nothing more in an arena
-still : {T I : Type 0} {a b : Sourced T I} → b ≡ a → Grew 0 a.limit (length a.entries) b.limit (length b.entries)
-still e = grew_none (ap (λ s. length s.entries) e) (ap (λ s. s.limit) e)
+still : {T I : Type 0} (a : Sourced T I) {b : Sourced T I} → b ≡ a → Grew 0 a.limit (length a.entries) b.limit (length b.entries)
+still a e = grew_none (ap (λ s. length s.entries) e) (ap (λ s. s.limit) e)
 
 no_sources : {T I : Type 0} (a : Sourced T I) {b : Sourced T I} → b ≡ a → b.sources ≡ a.sources ++ []
 no_sources a e = ap (λ s. s.sources) e ∙ sym (append-nil a.sources)
@@ -185,11 +191,11 @@ took_besides : (a b : Stored) → b.exprs.entries ≡ a.exprs.entries → b.expr
     → b.types ≡ a.types → b.lifetimes ≡ a.lifetimes → Took nothing a b
 took_besides a b e limit l n most p t f = record {
   exprs = grew_none (ap length e) limit;
-  labels = still l;
+  labels = still a.labels l;
   bindings = grew_none n most;
-  pats = still p;
-  types = still t;
-  lifetimes = still f;
+  pats = still a.pats p;
+  types = still a.types t;
+  lifetimes = still a.lifetimes f;
   pat_sources = no_sources a.pats p;
   type_sources = no_sources a.types t;
   lifetime_sources = no_sources a.lifetimes f;
@@ -346,11 +352,11 @@ takes_alloc e source = record { takes = λ b. by b (nat_lt (length b.stored.expr
         (record b { stored = record b.stored { exprs = (made_expr t e source b.stored.exprs).1 } })
     by b true is = record {
       exprs = grew_one b.stored.exprs.entries e b.stored.exprs.limit;
-      labels = still refl;
+      labels = still b.stored.labels refl;
       bindings = grew_none refl refl;
-      pats = still refl;
-      types = still refl;
-      lifetimes = still refl;
+      pats = still b.stored.pats refl;
+      types = still b.stored.types refl;
+      lifetimes = still b.stored.lifetimes refl;
       pat_sources = no_sources b.stored.pats refl;
       type_sources = no_sources b.stored.types refl;
       lifetime_sources = no_sources b.stored.lifetimes refl;
@@ -373,12 +379,12 @@ takes_open l = record { takes = λ b. by b (nat_lt (length b.stored.labels.entri
     by : (b : Builder) (t : Bool) → nat_lt (length b.stored.labels.entries) b.stored.labels.limit ≡ t
         → Room a_label b (opening l t b).0 (opening l t b).1
     by b true is = record {
-      exprs = still refl;
+      exprs = still b.stored.exprs refl;
       labels = grew_one b.stored.labels.entries (record { name = l.name }) b.stored.labels.limit;
       bindings = grew_none refl refl;
-      pats = still refl;
-      types = still refl;
-      lifetimes = still refl;
+      pats = still b.stored.pats refl;
+      types = still b.stored.types refl;
+      lifetimes = still b.stored.lifetimes refl;
       pat_sources = no_sources b.stored.pats refl;
       type_sources = no_sources b.stored.types refl;
       lifetime_sources = no_sources b.stored.lifetimes refl;
@@ -396,12 +402,12 @@ takes_type x source = record { takes = λ b. by b (nat_lt (length b.stored.types
         → Room (a_type source) b (made_type t x source b.stored.types).0
         (record b { stored = record b.stored { types = (made_type t x source b.stored.types).1 } })
     by b true is = record {
-      exprs = still refl;
-      labels = still refl;
+      exprs = still b.stored.exprs refl;
+      labels = still b.stored.labels refl;
       bindings = grew_none refl refl;
-      pats = still refl;
+      pats = still b.stored.pats refl;
       types = grew_one b.stored.types.entries x b.stored.types.limit;
-      lifetimes = still refl;
+      lifetimes = still b.stored.lifetimes refl;
       pat_sources = no_sources b.stored.pats refl;
       type_sources = refl;
       lifetime_sources = no_sources b.stored.lifetimes refl;
@@ -421,11 +427,11 @@ takes_lifetime x source = record { takes = λ b. by b (nat_lt (length b.stored.l
         → Room (a_lifetime source) b (made_lifetime t x source b.stored.lifetimes).0
         (record b { stored = record b.stored { lifetimes = (made_lifetime t x source b.stored.lifetimes).1 } })
     by b true is = record {
-      exprs = still refl;
-      labels = still refl;
+      exprs = still b.stored.exprs refl;
+      labels = still b.stored.labels refl;
       bindings = grew_none refl refl;
-      pats = still refl;
-      types = still refl;
+      pats = still b.stored.pats refl;
+      types = still b.stored.types refl;
       lifetimes = grew_one b.stored.lifetimes.entries x b.stored.lifetimes.limit;
       pat_sources = no_sources b.stored.pats refl;
       type_sources = no_sources b.stored.types refl;
@@ -448,12 +454,12 @@ takes_pat x source = record { takes = λ b. by b (nat_lt (length b.stored.pats.e
         → Room (a_pat source) b (made_pat t x source b.stored.pats).0
         (record b { stored = record b.stored { pats = (made_pat t x source b.stored.pats).1 } })
     by b true is = record {
-      exprs = still refl;
-      labels = still refl;
+      exprs = still b.stored.exprs refl;
+      labels = still b.stored.labels refl;
       bindings = grew_none refl refl;
       pats = grew_one b.stored.pats.entries x b.stored.pats.limit;
-      types = still refl;
-      lifetimes = still refl;
+      types = still b.stored.types refl;
+      lifetimes = still b.stored.lifetimes refl;
       pat_sources = refl;
       type_sources = no_sources b.stored.types refl;
       lifetime_sources = no_sources b.stored.lifetimes refl;
@@ -471,12 +477,12 @@ takes_binding x = record { takes = λ b. by b (nat_lt (length b.stored.bindings.
         → Room a_binding b (made_binding t x b.stored.bindings).0
         (record b { stored = record b.stored { bindings = (made_binding t x b.stored.bindings).1 } })
     by b true is = record {
-      exprs = still refl;
-      labels = still refl;
+      exprs = still b.stored.exprs refl;
+      labels = still b.stored.labels refl;
       bindings = grew_one b.stored.bindings.entries x b.stored.bindings.limit;
-      pats = still refl;
-      types = still refl;
-      lifetimes = still refl;
+      pats = still b.stored.pats refl;
+      types = still b.stored.types refl;
+      lifetimes = still b.stored.lifetimes refl;
       pat_sources = no_sources b.stored.pats refl;
       type_sources = no_sources b.stored.types refl;
       lifetime_sources = no_sources b.stored.lifetimes refl;

@@ -1,6 +1,6 @@
 -- Lowering a tree enters its blocks.
-use Rattle.std.proofs.Common.{◌≡◌, ◌∙◌, refl, sym, ap, List, [], ◌++◌, append_assoc, append-nil, option_to_list, Option, Some, None, Bool}
-use Rattle.std.proofs.Common.{true, false, true≢false}
+use Rattle.std.proofs.Common.{◌≡◌, ◌∙◌, refl, sym, ap, List, [], ◌∷◌, ◌++◌, append_assoc, append-nil, option_to_list, Option, Some, None}
+use Rattle.std.proofs.Common.{Bool, true, false, true≢false}
 use Rattle.hir_store.specs.Stored.{Stored}
 use Rattle.hir_store.specs.declared.hir.Statement.{Statement}
 use Rattle.hir_store.specs.declared.ids.ExprId.{ExprId}
@@ -34,7 +34,10 @@ use Rattle.hir_one_result.specs.Blocks.{blocks_of_bound, blocks_of_constant, blo
 use Rattle.hir_one_result.specs.Blocks.{blocks_of_top, blocks_of_pats, blocks_of_pat_fields, blocks_of_pat_field, blocks_of_target}
 use Rattle.hir_one_result.specs.Blocks.{blocks_of_targets, blocks_of_target_fields, blocks_of_target_field, blocks_of_type_pat}
 use Rattle.hir_one_result.specs.Blocks.{blocks_of_type_pat_part, blocks_of_type_pats, blocks_of_limit, blocks_of_side, blocks_of_tops}
+use Rattle.hir_one_result.specs.Blocks.{where_some}
 use Rattle.hir_one_result.specs.Laws.{BlocksAre}
+use Rattle.hir_data.specs.Written.{written_path}
+use Rattle.hir_store.specs.Pointers.{Pointer}
 use Rattle.hir_one_result.proofs.Around.{scopes_around}
 use Rattle.hir_one_result.proofs.AfterLowering.{after_lowering}
 use Rattle.hir_one_result.proofs.Telling.{Listing, Tells, tells_bind, tells_as, tells_end, tells_pure, tells_some, tells_report}
@@ -67,7 +70,7 @@ use Rattle.hir_one_result.proofs.PatTelling.{literal_side_tells, name_side_tells
 use Rattle.hir_one_result.proofs.PatTelling.{literal_limit_tells, name_limit_tells, path_limit_tells, limits_tell, type_alternatives_tell}
 use Rattle.hir_one_result.proofs.PatTelling.{pattern_type_tells, place_target_tells, path_target_tells, tuple_target_tells}
 use Rattle.hir_one_result.proofs.PatTelling.{call_target_tells, array_target_tells, record_target_tells, target_field_tells, let_tells}
-use Rattle.hir_one_result.proofs.PatTelling.{match_tells, assign_tells, arm_tells, let_stmt_tells, item_tells, before_tells}
+use Rattle.hir_one_result.proofs.PatTelling.{match_tells, assign_tells, arm_tells, let_stmt_tells, item_tells, before_tells, spread_fault}
 
 pub entered_block : (n : Option BlockId) (s : Stored) → (with_block n s).block_scopes ≡ s.block_scopes ++ option_to_list n
 entered_block None s = sym (append-nil s.block_scopes)
@@ -104,6 +107,12 @@ kept_blocks e h = tells_some entered h
 dots_enter_none : (p : Pat) → forms.is_dots p ≡ true → blocks_of_pat p ≡ []
 dots_enter_none (tree.leaf_pat at form) e = refl
 dots_enter_none p e = absurd (true≢false (sym e))
+
+-- nor is what is behind the two dots of a record
+no_spread : {A : Type 0} (o : Option A) (w : List BlockId) (spread : Option Pointer) (ns : List BlockId)
+    → w ++ where_some o ns ≡ w ++ where_some o (spread_fault entered spread ++ ns)
+no_spread o w None ns = refl
+no_spread o w (Some at) ns = refl
 
 mutual
   one_type_enters : (b : Option Binder) (t : Type_) → Enters (blocks_of_type t) (lower_type b t)
@@ -410,13 +419,15 @@ mutual
   target_enters tree.absent_target = missing_pat_tells entered
   target_enters (tree.place_target at e) = place_target_tells entered at (node_blocks e)
   target_enters (tree.wild_target at) = tells_pat entered _ _
-  target_enters (tree.path_target at p h) = path_target_tells entered at h (whole_enters (tree.some_path p))
+  target_enters (tree.path_target at p h) =
+      path_target_tells entered at h (tells_end entered (reading_enters p start) (λ r. tells_pure entered _))
   target_enters (tree.tuple_target at ts) = tuple_target_tells entered at (targets_enters no_elements ts)
   target_enters (tree.call_target at p ts) = call_target_tells entered at p (whole_enters p) (targets_enters no_elements ts)
   target_enters (tree.array_target at before dots behind) =
       array_target_tells entered at dots (targets_enters no_elements before) (targets_enters no_elements behind)
   target_enters (tree.record_target at p fs dots spread) =
-      record_target_tells entered at dots spread p (whole_enters p) (target_fields_enters [] fs)
+      tells_as entered (record_target_tells entered at dots spread p (whole_enters p) (target_fields_enters [] fs))
+      (λ ss. no_spread (written_path p) (blocks_of_whole p) spread (blocks_of_target_fields fs))
 
   targets_enters : (done : Elements) (ts : Targets) → Enters (blocks_of_targets ts) (lower_targets done ts)
   targets_enters done tree.no_targets = tells_pure entered done

@@ -1,5 +1,5 @@
 -- Lowering a tree reports the faults of what it reads.
-use Rattle.std.proofs.Common.{◌≡◌, refl, subst, sym, List, [], ◌++◌, append_assoc, append-nil, Option, Some, None, IsPermutation, Bool}
+use Rattle.std.proofs.Common.{◌≡◌, refl, subst, sym, List, [], ◌∷◌, ◌++◌, append_assoc, append-nil, Option, Some, None, IsPermutation, Bool}
 use Rattle.std.proofs.Common.{true, false, true≢false}
 use Rattle.std.proofs.lemmas.List.Sorted.{IsPermutation-refl, IsPermutation-trans, IsPermutation-append, IsPermutation-append_comm}
 use Rattle.hir_store.specs.Stored.{Stored}
@@ -425,7 +425,8 @@ mutual
   target_reports tree.absent_target = missing_pat_tells reported
   target_reports (tree.place_target at e) = place_target_tells reported at (node_faults e)
   target_reports (tree.wild_target at) = tells_pat reported _ _
-  target_reports (tree.path_target at p h) = path_target_tells reported at h (whole_reports (tree.some_path p))
+  target_reports (tree.path_target at p h) =
+      path_target_tells reported at h (tells_end reported (reading_reports p start) (λ r. tells_pure reported _))
   target_reports (tree.tuple_target at ts) = tuple_target_tells reported at (targets_reports no_elements ts)
   target_reports (tree.call_target at p ts) = call_target_tells reported at p (whole_reports p) (targets_reports no_elements ts)
   target_reports (tree.array_target at before dots behind) =

@@ -98,6 +98,12 @@ own_segments leading first rest w h more = tells_then h (λ r e.
     proceed_tells r (segments_read rest (seen w)) (λ y. segment_size true first (at_first leading y))
     (λ y. segment_read true first (at_first leading y)) e (λ v. first_tells leading first v more))
 
+-- the place of dots among all
+whole_targets : (ts : Targets)
+    → Tells (targets_size ts) (λ r. r.1 ≡ parts.dots_behind 0 None (target_dots ts)) (lower_targets no_elements ts)
+    → Tells (targets_size ts) (λ r. r.1 ≡ target_dots ts) (lower_targets no_elements ts)
+whole_targets ts h = tells_less (λ r e. e ∙ from_none (target_dots ts)) h
+
 mutual
   pub type_takes : (b : Option Binder) (t : Type_) → Takes (type_size t) (lower_type b t)
   type_takes b (tree.paren_type t) = type_part_takes b t
@@ -418,15 +424,13 @@ mutual
   target_takes tree.absent_target = missing_pat_takes
   target_takes (tree.place_target at e) = place_target_takes at (node_takes e)
   target_takes (tree.wild_target at) = takes_pat _ _
-  target_takes (tree.path_target at p h) = path_target_takes at h (takes_of (path_tells (tree.some_path p)))
-  target_takes (tree.tuple_target at ts) = tuple_target_takes at (whole_targets ts)
-  target_takes (tree.call_target at p ts) = call_target_takes at (path_tells p) (whole_targets ts)
+  target_takes (tree.path_target at p h) =
+      path_target_takes at h (takes_end (takes_of (reading_tells p start)) (λ r. takes_pure _))
+  target_takes (tree.tuple_target at ts) = tuple_target_takes at (whole_targets ts (targets_take ts no_elements))
+  target_takes (tree.call_target at p ts) = call_target_takes at (path_tells p) (whole_targets ts (targets_take ts no_elements))
   target_takes (tree.array_target at before dots behind) =
-      array_target_takes at dots (takes_of (whole_targets before)) (takes_of (whole_targets behind))
+      array_target_takes at dots (takes_of (targets_take before no_elements)) (takes_of (targets_take behind no_elements))
   target_takes (tree.record_target at p fs dots spread) = record_target_takes at dots spread (path_tells p) (target_fields_take [] fs)
-
-  whole_targets : (ts : Targets) → Tells (targets_size ts) (λ r. r.1 ≡ target_dots ts) (lower_targets no_elements ts)
-  whole_targets ts = tells_less (λ r e. e ∙ from_none (target_dots ts)) (targets_take ts no_elements)
 
   targets_take : (ts : Targets) (done : Elements)
       → Tells (targets_size ts) (λ r. r.1 ≡ parts.dots_behind (length done.0) done.1 (target_dots ts)) (lower_targets done ts)
