@@ -44,6 +44,11 @@ makers_push b n (x ∷ xs) p =
     ap (λ ys. made_here b n x ++ ys) (makers_push b (suc n) xs p ∙ ap (λ k. makers b (suc n) xs ++ made_here b k p) (further n (length xs)))
     ∙ sym (append_assoc (made_here b n x) (makers b (suc n) xs) (made_here b (n + suc (length xs)) p))
 
+-- those of all, with one more
+makers_end : (b : BindingId) (xs : List Pat) (p : Pat) → makers b 0 (xs ++ p ∷ []) ≡ makers b 0 xs ++ made_here b (length xs) p
+makers_end b xs p =
+    makers_push b 0 xs p ∙ ap (λ k. makers b 0 xs ++ made_here b k p) (let e : 0 + length xs ≡ length xs = omega arith in e)
+
 -- where no pattern makes the binding
 none_make : (b : BindingId) (n : ℕ) (xs : List Pat)
     → ((k : ℕ) (c : BindingId) (sub : Option PatId) → slice_get xs k ≡ Some (pat.Bind c sub) → c.0 < b.0) → makers b n xs ≡ []
@@ -64,7 +69,7 @@ module _ (s : Stored) (d : Defined s) where
   pub defined_pat : (p : Pat) (source : Option Pointer) → MakesNone p → Defined (with_pat p source s)
   defined_pat p source none = record {
     as_many = d.as_many;
-    each = λ b ps e. d.each b ps e ∙ sym (makers_push b 0 s.pats.entries p
+    each = λ b ps e. d.each b ps e ∙ sym (makers_end b s.pats.entries p
         ∙ (ap (λ ys. makers b 0 s.pats.entries ++ ys) (makes_none p none b (length s.pats.entries)) ∙ append-nil _));
     known = λ n b sub e. ⊎_elim (λ old. d.known n b sub old) (λ new. absurd (subst MakesNone new.1 none))
         (found_push s.pats.entries p n (pat.Bind b sub) e);
@@ -92,12 +97,19 @@ at_same n f [] y h = absurd (true≢false (sym (ap is_some h)))
 at_same zero f (x ∷ xs) y h = (x, refl, sym (same_Some (f x) y h))
 at_same (suc n) f (x ∷ xs) y h = at_same n f xs y h
 
+smaller : (n m : ℕ) → nat_eq (suc n) (suc m) ≡ false → nat_eq n m ≡ false
+smaller n m e = by (nat_eq n m) refl
+  where
+    by : (t : Bool) → nat_eq n m ≡ t → nat_eq n m ≡ false
+    by true h = absurd (true≢false (sym (eq-eqb (suc n) (suc m) (ap suc (eqb-true n m h))) ∙ e))
+    by false h = h
+
 pub at_other : {A : Type 0} (n m : ℕ) (f : A → A) (xs : List A) → nat_eq n m ≡ false → slice_get (at_place n f xs) m ≡ slice_get xs m
 at_other n m f [] e = refl
 at_other zero zero f (x ∷ xs) e = absurd (true≢false e)
 at_other zero (suc m) f (x ∷ xs) e = refl
 at_other (suc n) zero f (x ∷ xs) e = refl
-at_other (suc n) (suc m) f (x ∷ xs) e = at_other n m f xs e
+at_other (suc n) (suc m) f (x ∷ xs) e = at_other n m f xs (smaller n m e)
 
 -- a pattern more, which makes this binding
 pub defined_bind : (s : Stored) → Defined s → (b : BindingId) (sub : Option PatId) (source : Option Pointer) (i : PatId)
@@ -105,7 +117,7 @@ pub defined_bind : (s : Stored) → Defined s → (b : BindingId) (sub : Option 
 defined_bind s d b sub source i number below = record {
   as_many = length_at b.0 (pattern_added i) s.bindings.definitions ∙ d.as_many;
   each = λ c ps e. by c ps (nat_eq b.0 c.0) refl e
-      ∙ sym (makers_push c 0 s.pats.entries (pat.Bind b sub));
+      ∙ sym (makers_end c s.pats.entries (pat.Bind b sub));
   known = λ n c other e. ⊎_elim (λ old. d.known n c other old) (λ new. let at : b ≡ c = same_bind new.1 in
       subst (λ k. k.0 < length s.bindings.entries) at below) (found_push s.pats.entries (pat.Bind b sub) n (pat.Bind c other) e);
 }

@@ -15,7 +15,7 @@ use Rattle.hir_read_back.proofs.PatParts.{IsDots, IsPart}
 use Rattle.hir_lower_form.specs.Lower.{lower_pat, lower_elements}
 use Rattle.hir_lower_form.specs.Lowering.{Lowering, ◌>>=◌, pure, alloc_pat}
 use Rattle.hir_lower_form.specs.Pats as forms
-use Rattle.hir_lower_form.specs.Pats.{Elements, Table}
+use Rattle.hir_lower_form.specs.Pats.{Elements, Table, no_elements}
 use Rattle.hir_steps.proofs.Steps as steps
 use Rattle.hir_one_result.specs.Leads.{Way, Ways, No, ◌&◌}
 use Rattle.hir_one_result.specs.Stands.{Names, Open, PatIs, OrIs, StandsBefore, StandsPat, StandsElements}
@@ -50,6 +50,12 @@ abbrev pub ElementsFine : Pats → Elements → (Table → Lowering (Elements ×
 ElementsFine ps done p =
     PatFine (Elementary ps done) (uses_after_each ps) (λ us n x. after_parts over_recent n (each_uses ps us) x) p
 
+pub all_elements : (ps : Pats) {p : Table → Lowering (Elements × Table)} → ElementsFine ps no_elements p
+    → PatFine (λ ks us final rs es. StandsElements (store_of final) (map_of final) ks rs ps us es.0) (uses_after_each ps)
+    (λ us n x. after_parts over_recent n (each_uses ps us) x) p
+all_elements ps h = pat_as
+    (λ ks us final rs es ws z. subst (λ js. StandsElements (store_of final) (map_of final) ks rs ps us js ws) (sym z.1) z.2) h
+
 -- two dots note nothing
 dots_note_nothing : (p : Pat) → is_dots p ≡ true → (us : FirstUses) (n : ℕ) (x : Noted) → x ≡ after over_recent n (uses_of p us) x
 dots_note_nothing (tree.leaf_pat at form) e us n x = refl
@@ -65,9 +71,9 @@ element_stands p ps (inl is) h hs done t =
     (PatShows (Elementary (tree.more_pats p ps) done) (uses_after_each (tree.more_pats p ps))
     (λ us n x. after_parts over_recent n (each_uses (tree.more_pats p ps) us) x) t)) (sym is.0)
     (steps.correct_as (hs (done.0, forms.dots_after done.0 done.1) t) (λ final qs m m' r g row. like_row row
-    (λ us. ap (uses_after_each ps) (sym (is.1.1 us)))
-    (λ us n x. ap (λ vs. after_parts over_recent n (each_uses ps vs) x) (sym (is.1.1 us))
-    ∙ ap (λ y. after_parts over_recent n (each_uses ps (uses_after p us)) y) (dots_note_nothing p is.1.0 us n x))
+    (λ us. ap (uses_after_each ps) (sym (is.2 us)))
+    (λ us n x. ap (λ vs. after_parts over_recent n (each_uses ps vs) x) (sym (is.2 us))
+    ∙ ap (λ y. after_parts over_recent n (each_uses ps (uses_after p us)) y) (dots_note_nothing p is.1 us n x))
     (λ ks us ws z. (z.0, z.1, by ks us final _ z.0 ws z.2))))
   where
     by : (ks : Names) (us : FirstUses) (final : Stored) (rs : Open) (js : List PatId) (ws : List Way)
@@ -75,8 +81,8 @@ element_stands p ps (inl is) h hs done t =
         → StandsElements (store_of final) (map_of final) ks rs (tree.more_pats p ps) us js ws
     by ks us final rs js ws z =
         subst (λ b. StandsBefore b (λ i. StandsPat (store_of final) (map_of final) ks rs p us i)
-        (λ others. StandsElements (store_of final) (map_of final) ks rs ps (uses_after p us) others) js ws) (sym is.1.0)
-        (subst (λ vs. StandsElements (store_of final) (map_of final) ks rs ps vs js ws) (sym (is.1.1 us)) z)
+        (λ others. StandsElements (store_of final) (map_of final) ks rs ps (uses_after p us) others) js ws) (sym is.1)
+        (subst (λ vs. StandsElements (store_of final) (map_of final) ks rs ps vs js ws) (sym (is.2 us)) z)
 element_stands p ps (inr is) h hs done t =
     subst (λ b. steps.Correct (forms.element_form b done (lower_pat p) t >>= (λ r. lower_elements r.0 ps r.1))
     (PatShows (Elementary (tree.more_pats p ps) done) (uses_after_each (tree.more_pats p ps))

@@ -106,7 +106,7 @@ module _ {I : Type 0} (same : I → I → Bool) (is_same : (i j : I) → same i 
         → FieldsLead same (pointed i p es) way (ws ++ way i p ∷ [])
     fields_more split i p = record {
       each = λ j q c. ⊎_elim (λ old. let was = h.each j q old in (was.0, pointed_still i p es j was.0 was.1))
-          (λ e. let at : i ≡ j = sym (split j i q p e).0 in
+          (λ e. let at : i ≡ j = (split i j p q e).0 in
           let new = pointed_new i p es in (new.0, subst (λ k. found (pointed i p es) k ≡ Some new.0) at new.1))
           (Contains-push_cases ws (way i p) (way j q) c);
       only = λ j q f. ⊎_elim (λ old. Contains-append_left ws (way i p ∷ []) (way j q) (h.only j q old))

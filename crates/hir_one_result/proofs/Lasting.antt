@@ -67,8 +67,8 @@ unchanged_behind : {xs ys : List Binding} {a b : Stored} → Prefix xs ys → Un
 unchanged_behind s u = let more = longer s in record { at = λ n x le h. u.at n x (omega (arith, le, more)) h }
 
 -- the bindings are what they were
-pub settled_as : {a b : Stored} → b.bindings ≡ a.bindings → Settled a b
-settled_as {a = a} {b = b} e = subst (λ xs. Prefix a.bindings.entries xs) (sym (ap (λ x. x.entries) e)) (prefix_refl a.bindings.entries)
+pub settled_as : (a b : Stored) → b.bindings ≡ a.bindings → Settled a b
+settled_as a b e = subst (λ xs. Prefix a.bindings.entries xs) (sym (ap (λ x. x.entries) e)) (prefix_refl a.bindings.entries)
 
 -- steps that are known to keep them
 pub keeping : {A : Type 0} {p : Lowering A} {R : Rel A} → steps.Correct p R
@@ -106,40 +106,40 @@ pub correct_count_out : {A : Type 0} (R : Rel A) → Correct {A = A} count_out R
 correct_count_out R = steps.correct_count_out (Lasts R)
 
 pub correct_pure : {A : Type 0} (a : A) → Correct (pure a) (IsPure a)
-correct_pure a = keeping (steps.correct_pure a) (λ final ps m m' b row. settled_as (ap (λ x. x.stored.bindings) row.still))
+correct_pure a = keeping (steps.correct_pure a) (λ final ps m m' b row. settled_as m.stored m'.stored (ap (λ x. x.stored.bindings) row.still))
 
 pub correct_alloc : (e : Expr) (source : Option Pointer) → Correct (alloc_expr e source) (Allocated e source)
 correct_alloc e source =
-    keeping (steps.correct_alloc e source) (λ final ps m m' i row. settled_as (ap (λ s. s.bindings) row.stored))
+    keeping (steps.correct_alloc e source) (λ final ps m m' i row. settled_as m.stored m'.stored (ap (λ s. s.bindings) row.stored))
 
 pub correct_alloc_type : (t : TypeRef) (source : Option Pointer) → Correct (alloc_type t source) (AllocatedType t source)
 correct_alloc_type t source =
-    keeping (steps.correct_alloc_type t source) (λ final ps m m' i row. settled_as (ap (λ s. s.bindings) row.stored))
+    keeping (steps.correct_alloc_type t source) (λ final ps m m' i row. settled_as m.stored m'.stored (ap (λ s. s.bindings) row.stored))
 
 pub correct_alloc_lifetime : (l : LifetimeRef) (source : Option Pointer) → Correct (alloc_lifetime l source) (AllocatedLifetime l source)
 correct_alloc_lifetime l source =
-    keeping (steps.correct_alloc_lifetime l source) (λ final ps m m' i row. settled_as (ap (λ s. s.bindings) row.stored))
+    keeping (steps.correct_alloc_lifetime l source) (λ final ps m m' i row. settled_as m.stored m'.stored (ap (λ s. s.bindings) row.stored))
 
 pub correct_alloc_pat : (p : Pat) (source : Option Pointer) → Correct (alloc_pat p source) (AllocatedPat p source)
 correct_alloc_pat p source =
-    keeping (pats.correct_alloc_pat p source) (λ final ps m m' i row. settled_as (ap (λ s. s.bindings) row.stored))
+    keeping (pats.correct_alloc_pat p source) (λ final ps m m' i row. settled_as m.stored m'.stored (ap (λ s. s.bindings) row.stored))
 
 pub correct_alloc_binding : (b : Binding) → Correct (alloc_binding b) (AllocatedBinding b)
 correct_alloc_binding b = keeping (pats.correct_alloc_binding b) (λ final ps m m' i row.
     subst (λ xs. Prefix m.stored.bindings.entries xs) (sym (ap (λ s. s.bindings.entries) row.stored)) (prefix_push _ b))
 
 pub correct_report : (d : ExpressionStoreDiagnostics) → Correct (report d) (Writes tt (with_fault d))
-correct_report d = keeping (steps.correct_report d) (λ final ps m m' u row. settled_as (ap (λ s. s.bindings) row.stored))
+correct_report d = keeping (steps.correct_report d) (λ final ps m m' u row. settled_as m.stored m'.stored (ap (λ s. s.bindings) row.stored))
 
 pub correct_point : (at : Pointer) (i : ExprId) → Correct (point at i) (Writes tt (pointing at i))
-correct_point at i = keeping (steps.correct_point at i) (λ final ps m m' u row. settled_as (ap (λ s. s.bindings) row.stored))
+correct_point at i = keeping (steps.correct_point at i) (λ final ps m m' u row. settled_as m.stored m'.stored (ap (λ s. s.bindings) row.stored))
 
 pub correct_point_field : (i : ExprId) (at : Pointer) → Correct (point_field i at) (Writes tt (with_field i at))
-correct_point_field i at = keeping (steps.correct_point_field i at) (λ final ps m m' u row. settled_as (ap (λ s. s.bindings) row.stored))
+correct_point_field i at = keeping (steps.correct_point_field i at) (λ final ps m m' u row. settled_as m.stored m'.stored (ap (λ s. s.bindings) row.stored))
 
 pub correct_point_pat_field : (i : PatId) (at : Pointer) → Correct (point_pat_field i at) (PatWrites (with_field_pat i at))
 correct_point_pat_field i at =
-    keeping (pats.correct_point_pat_field i at) (λ final ps m m' u row. settled_as (ap (λ s. s.bindings) row.stored))
+    keeping (pats.correct_point_pat_field i at) (λ final ps m m' u row. settled_as m.stored m'.stored (ap (λ s. s.bindings) row.stored))
 
 await_bindings : (at : Pointer) (location : Option AwaitLocation) (s : Stored) → (with_await at location s).bindings ≡ s.bindings
 await_bindings at None s = refl
@@ -148,7 +148,7 @@ await_bindings at (Some location) s = refl
 pub correct_report_await : (at : Pointer) (location : Option AwaitLocation)
     → Correct (report_await at location) (Writes tt (with_await at location))
 correct_report_await at location = keeping (steps.correct_report_await at location)
-    (λ final ps m m' u row. settled_as (ap (λ s. s.bindings) row.stored ∙ await_bindings at location m.stored))
+    (λ final ps m m' u row. settled_as m.stored m'.stored (ap (λ s. s.bindings) row.stored ∙ await_bindings at location m.stored))
 
 block_bindings : (n : Option BlockId) (s : Stored) → (with_block n s).bindings ≡ s.bindings
 block_bindings None s = refl
@@ -156,7 +156,7 @@ block_bindings (Some n) s = refl
 
 pub correct_enter_block : (n : Option BlockId) → Correct (enter_block n) (Writes tt (with_block n))
 correct_enter_block n = keeping (steps.correct_enter_block n)
-    (λ final ps m m' u row. settled_as (ap (λ s. s.bindings) row.stored ∙ block_bindings n m.stored))
+    (λ final ps m m' u row. settled_as m.stored m'.stored (ap (λ s. s.bindings) row.stored ∙ block_bindings n m.stored))
 
 target_bindings : {A : Type 0} (j : Jump) (t : Target A) (s : Stored) → (with_target j t s).bindings ≡ s.bindings
 target_bindings j (reachable n) s = refl
@@ -169,7 +169,7 @@ jump_bindings (Some j) rs s = target_bindings j (target j rs) s
 
 pub correct_target : (j : Option Jump) → Correct (jump_target j) (Targeted j)
 correct_target j = keeping (steps.correct_target j)
-    (λ final ps m m' n row. settled_as (ap (λ s. s.bindings) row.stored ∙ jump_bindings j (ribs ps) m.stored))
+    (λ final ps m m' n row. settled_as m.stored m'.stored (ap (λ s. s.bindings) row.stored ∙ jump_bindings j (ribs ps) m.stored))
 
 pub correct_opened : {A B : Type 0} (at : Label → LabelId → Frame) (l : Label)
     {p : LabelId → Lowering A} {R : LabelId → Rel A} {f : LabelId → A → Lowering B} {Q : LabelId → A → Rel B}
@@ -177,7 +177,7 @@ pub correct_opened : {A B : Type 0} (at : Label → LabelId → Frame) (l : Labe
     → ((n : LabelId) → Correct (p n) (R n)) → ((n : LabelId) (a : A) → Correct (f n a) (Q n a))
     → Correct (open_label l >>= (λ n. p n >>= (λ a. close >>= (λ _. f n a)))) (Opened at l R Q)
 correct_opened at l frame hp hf = steps.correct_as (steps.correct_opened at l frame hp hf) (λ final ps m m' b g row. record {
-  settled = prefix_trans (settled_as (ap (λ s. s.bindings) row.stored)) (prefix_trans row.first.settled row.second.settled);
+  settled = prefix_trans (settled_as m.stored row.entered.stored (ap (λ s. s.bindings) row.stored)) (prefix_trans row.first.settled row.second.settled);
   rel = λ s. record {
     number = row.number;
     entered = row.entered;
@@ -194,8 +194,8 @@ correct_opened at l frame hp hf = steps.correct_as (steps.correct_opened at l fr
     stored = row.stored;
     before = row.before;
     after = row.after;
-    first = row.first.rel (unchanged_first row.second.settled (unchanged_behind (settled_as (ap (λ s. s.bindings) row.stored)) s));
-    second = row.second.rel (unchanged_behind (prefix_trans (settled_as (ap (λ s. s.bindings) row.stored)) row.first.settled) s);
+    first = row.first.rel (unchanged_first row.second.settled (unchanged_behind (settled_as m.stored row.entered.stored (ap (λ s. s.bindings) row.stored)) s));
+    second = row.second.rel (unchanged_behind (prefix_trans (settled_as m.stored row.entered.stored (ap (λ s. s.bindings) row.stored)) row.first.settled) s);
   };
 })
 
@@ -205,7 +205,7 @@ root_bindings i (inr e) = ap (λ s. s.bindings) e
 
 pub correct_constant : {p : ExprSteps} {R : Rel ExprId} → Correct p R → Correct (constant_form p) (Constant R)
 correct_constant h = steps.correct_as (constants.correct_constant h) (λ final ps m m' c g row.
-    let same : Settled row.left.stored m'.stored = settled_as (root_bindings c.expr row.stored) in record {
+    let same : Settled row.left.stored m'.stored = settled_as row.left.stored m'.stored (root_bindings c.expr row.stored) in record {
       settled = prefix_trans row.first.settled same;
       rel = λ s. record {
         left = row.left;
@@ -223,7 +223,7 @@ correct_constant h = steps.correct_as (constants.correct_constant h) (λ final p
 
 pub correct_inner : {p : ExprSteps} {R : Rel ExprId} → Correct p R → Correct (inner_form p) (Inner R)
 correct_inner h = steps.correct_as (constants.correct_inner h) (λ final ps m m' i g row.
-    let same : Settled row.left.stored m'.stored = settled_as (root_bindings i row.stored) in record {
+    let same : Settled row.left.stored m'.stored = settled_as row.left.stored m'.stored (root_bindings i row.stored) in record {
       settled = prefix_trans row.first.settled same;
       rel = λ s. record {
         left = row.left;
