@@ -1,5 +1,5 @@
 -- What is done with the parts of patterns, targets and ranges stores as much as they become, or there is no room for it.
-use Rattle.std.proofs.Common.{◌≡◌, refl, sym, ap, subst, ℕ, suc, ◌+◌, ◌^◌, nat_lt, Bool, true, false, not, if◌then◌else◌, cond, arith, List}
+use Rattle.std.proofs.Common.{◌≡◌, refl, sym, ap, subst, ℕ, suc, ◌^◌, nat_lt, Bool, true, false, not, if◌then◌else◌, cond, arith, List}
 use Rattle.std.proofs.Common.{[], ◌∷◌, ◌++◌, length, Option, Some, None, is_some, inl, inr, ⊎_elim, ◌∙◌, ◌⊎◌, true≢false, option_map}
 use Rattle.std.proofs.Common.{add-one}
 use Rattle.std.proofs.lemmas.Bool.{ltb-false}
@@ -22,7 +22,7 @@ use Rattle.hir_env.specs.Answered.{PatUnary, RangeForm, Signed, Use, Pat, Pats}
 use Rattle.hir_data.specs.Patterns.{moved_by, is_dots}
 use Rattle.hir_data.specs.Uses.{FirstUses, is_of, with_use}
 use Rattle.hir_lower_form.specs.Forms.{ExprSteps, let_form, match_form, arm_form, assign_form, let_stmt_form}
-use Rattle.hir_lower_form.specs.Lowering.{Lowering, ◌>>=◌, ◌>>◌, count_out}
+use Rattle.hir_lower_form.specs.Lowering.{Lowering, ◌>>=◌, count_out}
 use Rattle.hir_lower_form.specs.Pats as forms
 use Rattle.hir_lower_form.specs.Pats.{Elements, Key, Notes, PatSteps, same_key, key_of, Table, no_names, missing_pat, no_elements, enter_or}
 use Rattle.hir_lower_form.specs.Pats.{leave_or}

@@ -31,11 +31,9 @@ use Rattle.hir_one_result.specs.Worked.{elements, PlainForms}
 abbrev bare_path : PathData → Path
 bare_path (path_data k t ns bare) = BarePath (record { kind = k; segments = names_in ns })
 bare_path (item_path i) = LangItem i
-bare_path (item_path i) = LangItem i
 
 abbrev bareness : PathData → Bool
 bareness (path_data k t ns bare) = bare
-bareness (item_path i) = false
 bareness (item_path i) = false
 
 -- a path whose data is bare is what is read of it
@@ -45,7 +43,6 @@ unfolding stored_path
 is_read store source_map (BarePath m) p b e =
     ap (λ ns. BarePath (record { kind = m.kind; segments = ns })) (sym (names_read m.segments)) ∙ ap bare_path e
 is_read store source_map (Normal n) p b e = absurd (true≢false (sym b ∙ ap bareness (sym e)))
-is_read store source_map (LangItem i) p b e = absurd (true≢false (sym b ∙ ap bareness (sym e)))
 is_read store source_map (LangItem i) p b e = absurd (true≢false (sym b ∙ ap bareness (sym e)))
 
 pub jumps : Jumps

@@ -190,7 +190,9 @@ some_top_stands p h = steps.correct_as
                 let least = rising_least (bound m.stored) (bound before) es k b rising e in
                 let found = u.at b.0 r.0 least (ap (λ l. slice_get l b.0) entries ∙ r.1) in
                 let same = same_Some y r.0 (sym there ∙ found) in
-                shows_at y.problems (notes k).problem k (uses_of p []) (ap (λ z. z.problems) same ∙ r.2)
+                let number : 0 + k ≡ k = omega arith in
+                shows_at y.problems (notes k).problem k (uses_of p [])
+                (ap (λ z. z.problems) same ∙ (r.2 ∙ ap (λ n. (notes n).problem) number))
                 (ap (λ z. z.problem) (x.noted [] tt k));
           } in
           record {

@@ -249,7 +249,7 @@ mutual
   node_stands (tree.range_expr at form low high) = range_stands at form (present_stands low) (present_stands high)
   node_stands (tree.assign_expr at own t e) = assign_stands at (assigned_stands t (target_stands t)) (part_stands e)
 
-  part_stands : (e : OptionExpr) → Correct (lower_part e) (Shows (λ final rs i. part final rs e i))
+  pub part_stands : (e : OptionExpr) → Correct (lower_part e) (Shows (λ final rs i. part final rs e i))
   part_stands tree.no_expr = missing_stands
   part_stands (tree.some_expr e) = node_stands e
 
