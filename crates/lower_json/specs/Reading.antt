@@ -1,5 +1,5 @@
 -- What stands at the nodes of a list.
-use Rattle.std.specs.Prelude.{ℕ, suc, zero, codes, List, [], ◌∷◌, false, Option, None, option_and_then, option_map, unwrap_or}
+use Rattle.std.specs.Prelude.{ℕ, suc, zero, codes, List, [], ◌∷◌, false, Option, None, option_and_then, unwrap_or}
 use Rattle.serde_json.specs.Data.{Data, null, Items}
 use Rattle.serde_json.specs.Find.{get, get_item}
 use Rattle.hir_base.specs.declared.node.NodeId.{NodeId}
@@ -28,8 +28,6 @@ use Rattle.json_nodes.specs.Groups.{as_pat, as_type}
 use Rattle.json_nodes.specs.Parts.{Here}
 use Rattle.json_kinds.specs.ByWord.{or_else}
 use Rattle.json_nodes.specs.declared.part.AnyPart.{AnyPart}
-use Rattle.json_nodes.specs.declared.part.AnyPart.TheVariants as part
-use Rattle.json_nodes.specs.declared.code_parts.ExprPart.TheVariants as expr_part
 use Rattle.lower_json.specs.declared.document.Root.{Root}
 use Rattle.lower_json.specs.declared.document.Root.TheVariants as root
 use Rattle.lower_json.specs.declared.document.Tree.{Tree}
