@@ -1,26 +1,36 @@
 -- What patterns are in types.
-use Rattle.std.proofs.Common.{◌≡◌, ◌∙◌, ap, refl, sym, Bool, true, false, Option, Some, None}
+use Rattle.std.proofs.Common.{◌≡◌, ◌∙◌, ap, refl, sym, suc, ◌+◌, slice_index_or}
+use Rattle.std.proofs.Common.{Bool, true, false, List, [], ◌∷◌, ◌++◌, Option, Some, None, Ok, Err}
+use Rattle.std.specs.Prelude.{◌≤◌, ◌-◌, ◌≢◌, drop, length, take, IsErrAnd}
 use Rattle.hir_syntax.specs.declared.ast.ElseBranch.TheOpen.{PatKind-F}
 use Rattle.hir_syntax.specs.declared.ast.Name.{Name as AstName}
 use Rattle.hir_syntax.specs.declared.ast.Path.{Path as AstPath}
 use Rattle.hir_syntax.specs.declared.pats.Pat.{Pat as AstPat}
-use Rattle.hir_syntax.specs.declared.pats.PatKind.{PatKind as AstPatKind, out-PatKind, roll-PatKind, roll-out-PatKind}
+use Rattle.hir_syntax.specs.declared.pats.PatKind.{PatKind as AstPatKind, out-PatKind, out-roll-PatKind}
+use Rattle.hir_syntax.specs.declared.pats.PatKind.{roll-PatKind, roll-out-PatKind}
 use Rattle.hir_syntax.specs.declared.pats.PatKind.TheVariants as kind
 use Rattle.hir_syntax.specs.declared.pats.PatLiteral.{PatLiteral}
 use Rattle.hir_base.specs.declared.op.RangeOp.{RangeOp}
-use Rattle.hir_base.specs.declared.op.RangeOp.TheVariants as op
 use Rattle.hir_store.specs.Pointers.{Pointer}
 use Rattle.hir_env.specs.Spot.{Spot}
 use Rattle.hir_env.specs.Answered as tree
 use Rattle.hir_env.specs.Answered.{OptionPat, Pat, Side, Use}
 use Rattle.hir_env.specs.PatLayers.{PatKindLayer}
 use Rattle.hir_env.specs.Pats.{is_found, minus_fits, name_or_bind, pat_at, plain_side, side_of, use_at}
-use Rattle.hir_env.specs.TypePats.{end_at, end_limit, is_plain, start_limit, type_pat_of}
-use Rattle.hir_env.specs.Whole.{pat_level, pat_part, pointer_at, reader, written}
+use Rattle.hir_env.specs.TypePats.{end_at, end_limit, is_plain, start_limit, type_pat_of, type_pats_of}
+use Rattle.hir_env.specs.Count.{count_pat, count_pats}
+use Rattle.hir_env.specs.Whole.{answered_pat, pat_level, pat_part, pats_part, pointer_at, reader, written}
+use Rattle.hir_env.proofs.PatLevels.{pat_is_level}
 use Rattle.hir_env.specs.declared.lang.LangItems.{LangItems}
-use Rattle.hir_lower_form.specs.Lower.{limit_side, missing}
+use Rattle.hir_store.specs.Stored.{Stored}
+use Rattle.hir_store.specs.declared.fault.StoreFault.{StoreFault}
+use Rattle.hir_store.specs.declared.fault.StoreFault.TheVariants.{Memory}
+use Rattle.hir_store.specs.declared.ids.PatId.{PatId}
+use Rattle.hir_lower_form.specs.Builder.{Builder}
+use Rattle.hir_lower_form.specs.Lower.{limit_side, lower_type_pat, lower_type_pats, missing}
+use Rattle.hir_lower_form.specs.Lowering.{Checked, Lowering, Lowers, SomeEnd, go_on}
 use Rattle.hir_lower_pat.specs.TypePats.{IsOther}
-use Rattle.hir_lower_pat.proofs.KindLemmas.{named_side, of_either}
+use Rattle.hir_lower_pat.proofs.KindLemmas.{first_of, named_side, of_either}
 
 abbrev level : Spot → PatKindLayer written → Pointer → Pat
 level at k s = pat_at at.answers (reader at.answers) k at.place s
@@ -165,3 +175,61 @@ other_at items at (PatKind-F.RangePat o low high) s h = absurd h
 pub other_is : (items : LangItems) (at : Spot) (p : AstPat) → IsOther (out-PatKind p.kind)
     → type_pat_of items (pat_level at p) ≡ tree.other_type_pat (pointer_at at p.id p.range)
 other_is items at p h = other_at items at (out-PatKind p.kind) (pointer_at at p.id p.range) h
+
+-- none of those is left where each was taken
+pub others_left : (k : AstPatKind) → (k ≡ kind.NotNullPat → ⊥) → ((ps : List AstPat) → k ≡ kind.OrPat ps → ⊥)
+    → ((o : Option RangeOp) (low high : Option AstPat) → k ≡ kind.RangePat o low high → ⊥) → IsOther (out-PatKind k)
+others_left k no_null no_or no_range = by (out-PatKind k) refl
+  where
+    by : (l : PatKindLayer written) → out-PatKind k ≡ l → IsOther l
+    by PatKind-F.NotNullPat h = absurd (no_null (made k _ h ∙ kind.rolls-NotNullPat))
+    by (PatKind-F.OrPat ps) h = absurd (no_or ps (made k _ h ∙ kind.rolls-OrPat ps))
+    by (PatKind-F.RangePat o low high) h = absurd (no_range o low high (made k _ h ∙ kind.rolls-RangePat o low high))
+    by _ h = tt
+
+-- ---- sizes
+
+pub opened : {k : AstPatKind} {l : PatKindLayer written} → roll-PatKind l ≡ k → out-PatKind k ≡ l
+opened {k} {l} h = ap out-PatKind (sym h) ∙ out-roll-PatKind l
+
+-- alternatives are smaller than what they stand in
+pub or_size : (at : Spot) (p : AstPat) (ps : List AstPat) → out-PatKind p.kind ≡ PatKind-F.OrPat ps
+    → count_pat (answered_pat at p) ≡ suc (count_pats (pats_part at ps))
+or_size at p ps h = ap count_pat (pat_is_level at p) ∙ ap (λ k. count_pat (level at k (pointer_at at p.id p.range))) h
+
+-- the first of a list, and what is behind it
+pub first_size : (at : Spot) (xs : List AstPat) (x : AstPat) → x ≡ slice_index_or xs 0 x → 1 ≤ length xs
+    → count_pats (pats_part at xs) ≡ count_pat (answered_pat at x) + count_pats (pats_part at (take (length xs - 1) (drop 1 xs)))
+first_size at xs x h le = ap (λ ys. count_pats (pats_part at ys)) (first_of xs x h le)
+
+-- ---- alternatives, one after another
+
+module _ (items : LangItems) (at : Spot) (done : List PatId) (xs : List AstPat) (x : AstPat) (b c : Builder) where
+  abbrev behind : List AstPat
+  behind = take (length xs - 1) (drop 1 xs)
+
+  abbrev left : List PatId → Builder → Checked (List PatId) × Builder
+  left ids = lower_type_pats ids (type_pats_of items (pats_part at behind))
+
+  turn : x ≡ slice_index_or xs 0 x → 1 ≤ length xs
+      → lower_type_pats done (type_pats_of items (pats_part at xs)) b
+      ≡ go_on (lower_type_pat (type_pat_of items (answered_pat at x)) b).0 (lower_type_pat (type_pat_of items (answered_pat at x)) b).1
+      (λ i. left (done ++ i ∷ []))
+  turn h le = ap (λ ys. lower_type_pats done (type_pats_of items (pats_part at ys)) b) (first_of xs x h le)
+
+  pub refused : (e : StoreFault) → x ≡ slice_index_or xs 0 x → 1 ≤ length xs
+      → lower_type_pat (type_pat_of items (answered_pat at x)) b ≡ (Err e, c)
+      → lower_type_pats done (type_pats_of items (pats_part at xs)) b ≡ (Err e, c)
+  refused e h le is = turn h le ∙ ap (λ r. go_on r.0 r.1 (λ i. left (done ++ i ∷ []))) is
+
+  pub one_more : (i : PatId) (ids : List PatId) → x ≡ slice_index_or xs 0 x → 1 ≤ length xs
+      → lower_type_pat (type_pat_of items (answered_pat at x)) b ≡ (Ok i, c) → ids ≡ done ++ i ∷ []
+      → lower_type_pats done (type_pats_of items (pats_part at xs)) b ≡ left ids c
+  one_more i ids h le is pushed =
+      turn h le ∙ (ap (λ r. go_on r.0 r.1 (λ j. left (done ++ j ∷ []))) is ∙ ap (λ js. left js c) (sym pushed))
+
+-- what is refused is refused in what it stands in
+pub handed_on : {A : Type 0} (Has : Stored → A → Type 0) (steps : Lowering A) (old : Builder) (e : StoreFault) (r : Checked A)
+    (new : Builder) → IsErrAnd r (λ f. f ≡ e) → (e ≢ Memory → (steps old ≡ (Err e, new)) × SomeEnd new) → Lowers Has steps old r new
+handed_on Has steps old e (Ok a) new is h = absurd is
+handed_on Has steps old e (Err f) new is h = rw is h

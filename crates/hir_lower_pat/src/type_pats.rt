@@ -5,6 +5,7 @@ ghost use Rattle.hir_syntax.specs.declared.pats.PatKind.{out-PatKind};
 ghost use Rattle.hir_store.specs.Range.{HasPat, HasPats};
 ghost use Rattle.hir_env.specs.Answered as tree;
 ghost use Rattle.hir_env.specs.Pats.{side_of};
+ghost use Rattle.hir_env.specs.Spot.{in_file, ptr};
 ghost use Rattle.hir_env.specs.TypePats as of;
 ghost use Rattle.hir_env.specs.Whole.{answered_pat, pat_level, pat_part, pats_part, type_pat_part};
 ghost use Rattle.hir_lower_form.specs.Lowering.{Lowers};
@@ -14,7 +15,6 @@ ghost use Rattle.hir_lower_form.specs.Nests.{Each, IfPresent, KidsSidePart};
 ghost use Rattle.hir_lower_pat.specs.TypePats.{IsOther};
 
 use crate::limits::{end_limit, start_limit};
-use hir_base::node::{AstPtr, InFile};
 use hir_env::place::Place;
 use hir_lower_form::builder::BodyBuilder;
 use hir_lower_form::parts::{LowerParts, Lowerer, pointer_in};
@@ -25,13 +25,26 @@ use hir_store::lists::push_pat;
 use hir_syntax::ast::RangeOp;
 use hir_syntax::{Boxed, Seq, ast};
 
+/// What is never null.
+fn not_null_form(
+    state: &mut BodyBuilder,
+    place: Place,
+    node: &ast::Pat,
+) -> Result<PatId, StoreFault>
+    ensures { let at = in_file place (ptr node.now.id node.now.range) in
+        Lowers HasPat (steps.lower_type_pat (tree.not_null_type_pat at)) state.old result state.new }
+{
+    let at = pointer_in(place, node.id, node.range);
+    state.alloc_pat(Pat::NotNull, Some(at))
+}
+
 /// Both ends are part of the range as it is stored.
 #[tactic(auto, unfolding(hir_lower_form::specs::Ranges::limits_form))]
 fn range_form<P: LowerParts>(
     lowerer: &Lowerer<P>,
     state: &mut BodyBuilder,
     place: Place,
-    at: InFile<AstPtr>,
+    node: &ast::Pat,
     op: Option<RangeOp>,
     start: &Option<Boxed<ast::Pat>>,
     end: &Option<Boxed<ast::Pat>>,
@@ -40,34 +53,16 @@ fn range_form<P: LowerParts>(
     requires end { KidsSidePart ((P.can lowerer.now.parts).path place) end.now }
     ensures { let here = at_place (P.spot lowerer.now.parts) place in
         let items = here.answers.lang_items in
+        let at = in_file place (ptr node.now.id node.now.range) in
         let low = of.start_limit items (side_of (pat_part here start.now)) in
         let high = of.end_limit items op (side_of (pat_part here end.now)) in
         Lowers HasPat (steps.lower_type_pat (tree.range_type_pat at low high)) state.old result state.new }
 {
+    let at = pointer_in(place, node.id, node.range);
     let start = Some(start_limit(lowerer, state, place, start)?);
     let end = Some(end_limit(lowerer, state, place, op, end)?);
     let op = RangeOp::Inclusive;
     state.alloc_pat(Pat::Range { op, start, end }, Some(at))
-}
-
-#[cycle(type_pat)]
-fn each_type_pat<P: LowerParts>(
-    lowerer: &Lowerer<P>,
-    state: &mut BodyBuilder,
-    place: Place,
-    all: &[ast::Pat],
-) -> Result<Seq<PatId>, StoreFault>
-    requires { Each ((P.can lowerer.now.parts).pat place) all.now }
-    ensures { let here = at_place (P.spot lowerer.now.parts) place in
-        let read = of.type_pats_of here.answers.lang_items (pats_part here all.now) in
-        Lowers HasPats (steps.lower_type_pats [] read) state.old result state.new }
-{
-    let mut done = Seq::new(lowerer.alloc);
-    for one in all {
-        let id = type_pat(lowerer, state, place, one)?;
-        push_pat(&mut done, id)?;
-    }
-    Ok(done)
 }
 
 /// A pattern that no type has is missing.
@@ -86,9 +81,50 @@ fn other_form<P: LowerParts>(
     state.alloc_pat(Pat::Missing, Some(pointer_in(place, node.id, node.range)))
 }
 
+#[cycle(type_pat)]
+fn each_type_pat<P: LowerParts>(
+    lowerer: &Lowerer<P>,
+    state: &mut BodyBuilder,
+    place: Place,
+    mut left: &[ast::Pat],
+) -> Result<Seq<PatId>, StoreFault>
+    requires { Each ((P.can lowerer.now.parts).pat place) left.now }
+    ensures { let here = at_place (P.spot lowerer.now.parts) place in
+        let read = of.type_pats_of here.answers.lang_items (pats_part here left.entry.now) in
+        Lowers HasPats (steps.lower_type_pats [] read) state.old result state.new }
+{
+    let mut done = Seq::new(lowerer.alloc);
+    while let [one, rest @ ..] = left {
+        let id = type_pat(lowerer, state, place, one)?;
+        push_pat(&mut done, id)?;
+        left = rest;
+    }
+    Ok(done)
+}
+
 /// Alternatives stay, also where there is one.
 #[cycle(type_pat)]
-#[tactic(auto, using(hir_env::proofs::PatLevels::pat_is_level))]
+#[tactic(auto, unfolding(hir_lower_form::specs::Ranges::type_alternatives_form))]
+fn alternatives_form<P: LowerParts>(
+    lowerer: &Lowerer<P>,
+    state: &mut BodyBuilder,
+    place: Place,
+    node: &ast::Pat,
+    all: &Seq<ast::Pat>,
+) -> Result<PatId, StoreFault>
+    requires { Each ((P.can lowerer.now.parts).pat place) all.now }
+    ensures { let here = at_place (P.spot lowerer.now.parts) place in
+        let at = in_file place (ptr node.now.id node.now.range) in
+        let read = of.type_pats_of here.answers.lang_items (pats_part here all.now) in
+        Lowers HasPat (steps.lower_type_pat (tree.or_type_pat at read)) state.old result state.new }
+{
+    let at = pointer_in(place, node.id, node.range);
+    let ids = each_type_pat(lowerer, state, place, all.as_slice())?;
+    state.alloc_pat(Pat::Or(ids), Some(at))
+}
+
+#[cycle(type_pat)]
+#[tactic(auto, using(crate::proofs::TypePats::others_left))]
 fn type_pat<P: LowerParts>(
     lowerer: &Lowerer<P>,
     state: &mut BodyBuilder,
@@ -100,31 +136,13 @@ fn type_pat<P: LowerParts>(
         let read = of.type_pat_of here.answers.lang_items (answered_pat here node.now) in
         Lowers HasPat (steps.lower_type_pat read) state.old result state.new }
 {
-    let at = pointer_in(place, node.id, node.range);
     match &node.kind {
-        ast::PatKind::NotNullPat => state.alloc_pat(Pat::NotNull, Some(at)),
-        ast::PatKind::OrPat { pats } => {
-            let ids = each_type_pat(lowerer, state, place, pats.as_slice())?;
-            state.alloc_pat(Pat::Or(ids), Some(at))
-        }
+        ast::PatKind::NotNullPat => not_null_form(state, place, node),
+        ast::PatKind::OrPat { pats } => alternatives_form(lowerer, state, place, node, pats),
         ast::PatKind::RangePat { op, start, end } => {
-            range_form(lowerer, state, place, at, *op, start, end)
+            range_form(lowerer, state, place, node, *op, start, end)
         }
-        ast::PatKind::IdentPat { .. }
-        | ast::PatKind::TupleStructPat { .. }
-        | ast::PatKind::TuplePat { .. }
-        | ast::PatKind::RefPat { .. }
-        | ast::PatKind::PathPat { .. }
-        | ast::PatKind::ParenPat { .. }
-        | ast::PatKind::BoxPat { .. }
-        | ast::PatKind::DerefPat { .. }
-        | ast::PatKind::RecordPat { .. }
-        | ast::PatKind::SlicePat { .. }
-        | ast::PatKind::LiteralPat { .. }
-        | ast::PatKind::CfgPredPat { .. }
-        | ast::PatKind::WildcardPat
-        | ast::PatKind::RestPat
-        | ast::PatKind::ConstBlockPat => other_form(lowerer, state, place, node),
+        _ => other_form(lowerer, state, place, node),
     }
 }
 

@@ -186,6 +186,7 @@ fn answer<P: LowerParts>(
 }
 
 /// The name that the pattern of a parameter gives it: any that is one name.
+#[tactic(auto, using(crate::proofs::Params::no_name_left))]
 fn param_name(node: &ast::Param) -> Result<Option<Name>, AllocError>
     ensures { IfOk result (λ name. name ≡ name_written node.now) }
 {
