@@ -7,6 +7,7 @@ pub mod OwnedPats
 pub mod NamingForms
 pub mod TreeNamed
 pub mod Named
+pub mod Ranges
 pub mod Meaning
 pub mod Noting
 pub mod NotingForms
@@ -17,4 +18,7 @@ pub mod Weighed
 pub mod Weights
 pub mod InsideTypes
 pub mod InsideForms
+pub mod Fronts
+pub mod InsidePats
+pub mod InsideTargets
 pub mod Inside

@@ -79,7 +79,7 @@ expr_types_once e b b' i paired is final stays depth le more new more_pats new_p
 -- ---- patterns
 
 -- where these patterns are named by what is answered
-pats_once : {A : Type 0} {now : A → Numbers} {p : Lowering A} (ps : A → List PatId) → Correct p (Adds none now)
+pub pats_once : {A : Type 0} {now : A → Numbers} {p : Lowering A} (ps : A → List PatId) → Correct p (Adds none now)
     → ((a : A) (l : Look) (k : ℕ) → times k (pats (ps a) l) ≤ times k (now a l)) → (b b' : Builder) (a : A) → Paired b.stored
     → p b ≡ (Ok a, b') → (final : Stored) → Extends b'.stored final → PatsSpread b.stored b'.stored final (ps a)
 pats_once ps h less b b' a paired is final stays depth le es new ts new_types =

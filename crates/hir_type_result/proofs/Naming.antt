@@ -1,6 +1,5 @@
 -- Steps that name no type and no pattern: each by what it does to what is stored.
 use Rattle.std.proofs.Common.{◌≡◌, ◌∙◌, ◌⊎◌, inl, inr, refl, sym, ap, ℕ, suc, List, [], ◌∷◌, length, Option, Some, None, arith}
-use Rattle.hir_binding.specs.declared.binding.BindingProblems.{BindingProblems}
 use Rattle.hir_store.specs.Pointers.{Pointer}
 use Rattle.hir_store.specs.Stored.{Stored}
 use Rattle.hir_store.specs.declared.diagnostics.AwaitLocation.{AwaitLocation}
@@ -16,13 +15,13 @@ use Rattle.hir_store.specs.declared.type_ref.ConstRef.{ConstRef}
 use Rattle.hir_env.specs.Answered.{Label, Jump, Use}
 use Rattle.hir_scope.specs.Ribs.{Rib, Target, reachable, unreachable, undeclared, target}
 use Rattle.hir_lower_form.specs.Lowering.{Lowering, ◌>>=◌, pure, alloc_binding, alloc_expr, define, point, point_field, point_pat_field}
-use Rattle.hir_lower_form.specs.Lowering.{report, report_await, enter_block, open_label, close, jump_target, set_problem}
+use Rattle.hir_lower_form.specs.Lowering.{report, report_await, enter_block, open_label, close, jump_target}
 use Rattle.hir_lower_form.specs.Lower.{ExprSteps, constant_form, some}
 use Rattle.hir_lower_form.specs.Pats.{Key, Notes, Table, binding_of, key_of, settle, settle_from, use_name, use_of_known}
 use Rattle.hir_lower_form.specs.Ranges.{inner_form}
 use Rattle.hir_steps.proofs.Constants.{correct_constant, correct_inner, with_root}
 use Rattle.hir_steps.proofs.Frames.{Frame, rib, ribs}
-use Rattle.hir_steps.proofs.PatSteps.{correct_alloc_binding, correct_define, correct_point_pat_field, correct_set_problem}
+use Rattle.hir_steps.proofs.PatSteps.{PatWrites, correct_alloc_binding, correct_define, correct_point_pat_field, correct_set_problem}
 use Rattle.hir_steps.proofs.Steps.{Mark, Grows, Correct, correct_as, correct_point, correct_point_field, correct_report}
 use Rattle.hir_steps.proofs.Steps.{correct_report_await, correct_enter_block, correct_opened, correct_target}
 use Rattle.hir_steps.proofs.Steps.{with_await, with_block, with_jump, with_label, with_target}
@@ -99,17 +98,16 @@ quiet_target j = correct_as (correct_target j)
 
 -- ---- what is written of patterns and bindings
 
+quiet_writes : {p : Lowering (Unit {0})} {f : Stored → Stored} → Correct p (PatWrites f)
+    → ((s : Sort) (final : Stored) (d k : ℕ) (x : Stored) → named s final d (f x) k ≡ named s final d x k) → Correct p Quiet
+quiet_writes h still = correct_as h (λ final ps m m' u g row. adds_still g
+    (λ s d k. ap (λ x. named s final d x k) row.stored ∙ still s final d k m.stored) (λ l k. omega arith))
+
 pub quiet_point_pat_field : (i : PatId) (at : Pointer) → Correct (point_pat_field i at) Quiet
-quiet_point_pat_field i at = correct_as (correct_point_pat_field i at)
-    (λ final ps m m' u g row. adds_still g (λ s d k. ap (λ x. named s final d x k) row.stored) (λ l k. omega arith))
+quiet_point_pat_field i at = quiet_writes (correct_point_pat_field i at) (λ s final d k x. refl)
 
 pub quiet_define : (b : BindingId) (i : PatId) → Correct (define b i) Quiet
-quiet_define b i = correct_as (correct_define b i)
-    (λ final ps m m' u g row. adds_still g (λ s d k. ap (λ x. named s final d x k) row.stored) (λ l k. omega arith))
-
-quiet_problem : (b : BindingId) (problem : Option BindingProblems) → Correct (set_problem b problem) Quiet
-quiet_problem b problem = correct_as (correct_set_problem b problem)
-    (λ final ps m m' u g row. adds_still g (λ s d k. ap (λ x. named s final d x k) row.stored) (λ l k. omega arith))
+quiet_define b i = quiet_writes (correct_define b i) (λ s final d k x. refl)
 
 pub quiet_binding : (x : Binding) → Correct (alloc_binding x) Quiet
 quiet_binding x = correct_as (correct_alloc_binding x)
@@ -125,7 +123,8 @@ quiet_name u t = quiet_known u t (binding_of (key_of u) t)
 
 quiet_settle_from : (notes : Notes) (number : ℕ) (es : List (Key × BindingId)) → Correct (settle_from notes number es) Quiet
 quiet_settle_from notes number [] = quiet_pure tt
-quiet_settle_from notes number (e ∷ es) = quiet_then (quiet_problem _ _) (λ u. quiet_settle_from notes (suc number) es)
+quiet_settle_from notes number (e ∷ es) = quiet_then (quiet_writes (correct_set_problem e.1 _) (λ s final d k x. refl))
+    (λ u. quiet_settle_from notes (suc number) es)
 
 pub quiet_settle : (t : Table) → Correct (settle t) Quiet
 unfolding settle
@@ -133,10 +132,10 @@ quiet_settle t = quiet_settle_from t.noted 0 t.bindings
 
 -- ---- a label around steps
 
-with_label_known : (s : Sort) (l : Label) {m entered : Mark} → entered.stored ≡ with_label l m.stored → entered.types ≡ m.types
+with_label_known : (s : Sort) (l : Label) (m entered : Mark) → entered.stored ≡ with_label l m.stored → entered.types ≡ m.types
     → m.pats ≡ length m.stored.pats.entries → entered.pats ≡ length entered.stored.pats.entries → known s entered ≡ known s m
-with_label_known the_types l stored types was is = types
-with_label_known the_pats l stored types was is = is ∙ (ap (λ x. length x.pats.entries) stored ∙ sym was)
+with_label_known the_types l m entered stored types was is = types
+with_label_known the_pats l m entered stored types was is = is ∙ (ap (λ x. length x.pats.entries) stored ∙ sym was)
 
 pub quiet_opened : {A B : Type 0} (at : Label → LabelId → Frame) (l : Label) {p : LabelId → Lowering A} {f : LabelId → A → Lowering B}
     → ((n : LabelId) (ps : List Frame) → ribs (at l n ∷ ps) ≡ rib l n ∷ ribs ps)
@@ -151,7 +150,7 @@ quiet_opened at l frame hp hf = correct_as (linked (correct_opened at l frame (�
       earlier = λ s d all le le'.
           let y = row.second.earlier s d all le le' in
           let x = row.first.rel.earlier s y.depth all y.deep (omega (arith, le', grows s row.after)) in
-          let t = with_label_known s l row.stored row.types linked.pats row.first.pats in record {
+          let t = with_label_known s l m row.entered row.stored row.types linked.pats row.first.pats in record {
             depth = d;
             deep = omega (arith, le, grows s g);
             counted = λ k.

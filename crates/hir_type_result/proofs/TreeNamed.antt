@@ -191,7 +191,7 @@ mutual
 
   -- constants
 
-  constant_quiet : (c : Constant) → Correct (lower_constant c) Quiet
+  pub constant_quiet : (c : Constant) → Correct (lower_constant c) Quiet
   constant_quiet (tree.constant e) = quiet_constant (part_quiet e)
 
   -- patterns of types, whose limits are expressions
@@ -210,7 +210,7 @@ mutual
   type_pats_add done tree.no_type_pats = none_more (λ l. l.pats) done
   type_pats_add done (tree.more_type_pats p ps) = one_more (λ l. l.pats) (type_pat_adds p) (λ is. type_pats_add is ps) done
 
-  limit_quiet : (x : Limit) → Correct (lower_limit x) Quiet
+  pub limit_quiet : (x : Limit) → Correct (lower_limit x) Quiet
   limit_quiet (tree.item_limit item) = quiet_inner (pats.item_quiet item)
   limit_quiet (tree.side_limit s) = quiet_inner (limit_side_quiet s)
   limit_quiet (tree.before_limit item s) = quiet_inner (pats.before_quiet item (limit_side_quiet s))
