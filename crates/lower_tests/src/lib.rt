@@ -16,6 +16,8 @@ mod listings;
 #[cfg(test)]
 mod lowered;
 #[cfg(test)]
+mod nodes;
+#[cfg(test)]
 mod objects;
 #[cfg(test)]
 mod paths;
