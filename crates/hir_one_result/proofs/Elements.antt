@@ -18,7 +18,7 @@ use Rattle.hir_lower_form.specs.Pats as forms
 use Rattle.hir_lower_form.specs.Pats.{Elements, Table, no_elements}
 use Rattle.hir_steps.proofs.Steps as steps
 use Rattle.hir_one_result.specs.Leads.{Way, Ways, No, ◌&◌}
-use Rattle.hir_one_result.specs.Stands.{Names, Open, PatIs, OrIs, StandsBefore, StandsPat, StandsElements}
+use Rattle.hir_one_result.specs.Stands.{Names, Open, PatIs, OrIs, StandsBefore, StandsPat, StandsPats, StandsElements}
 use Rattle.hir_one_result.proofs.Naming.{Within, PatFine, PatShows, like_row, pat_as, pat_node, pat_pure, same_notes, same_uses}
 use Rattle.hir_one_result.proofs.PatForms.{part_stands}
 use Rattle.hir_one_result.proofs.PatStanding.{Behind}
@@ -31,9 +31,10 @@ all_behind {S = S} h = pat_as (λ ks us final rs is ws z. subst (λ js. S ks us 
 
 -- an or-pattern of nothing
 pub no_alternatives : (at : Pointer)
-    → PatFine (λ ks us final rs i ws. (is : List PatId) × OrIs (store_of final) (map_of final) is i × (is ≡ []) × No ws)
-    same_uses same_notes (forms.alone (alloc_pat (pat.Or []) (Some at)))
-no_alternatives at = pat_as (λ ks us final rs i ws z. ([], z.0, refl, z.1)) (pat_node (pat.Or []) (Some at) tt)
+    → PatFine (λ ks us final rs i ws. (is : List PatId) × OrIs (store_of final) (map_of final) is i
+    × StandsPats (store_of final) (map_of final) ks rs tree.no_pats us is ws) same_uses same_notes
+    (forms.alone (alloc_pat (pat.Or []) (Some at)))
+no_alternatives at = pat_as (λ ks us final rs i ws z. ([], z.0, (refl, z.1))) (pat_node (pat.Or []) (Some at) tt)
 
 -- ---- parts of a tuple
 
