@@ -1,35 +1,33 @@
 -- What lowering a body answers stands for it and for its parameters.
-use Rattle.std.proofs.Common.{arith, ◌≡◌, ◌∙◌, refl, sym, ap, subst, Bool, true, false, List, [], ◌∷◌, ◌++◌, append_assoc, append-nil, slice_get}
+use Rattle.std.proofs.Common.{arith, ◌≡◌, ◌∙◌, refl, sym, ap, subst, Bool, true, false, List, [], ◌∷◌, ◌++◌, append_assoc, slice_get}
 use Rattle.std.proofs.Common.{Option, Some, None}
 use Rattle.hir_store.specs.Arenas.{Prefix}
 use Rattle.hir_store.specs.Stored.{Stored, store_of, map_of}
 use Rattle.hir_store.specs.declared.diagnostics.ExpressionStoreDiagnostics.{ExpressionStoreDiagnostics}
 use Rattle.hir_store.specs.declared.diagnostics.ExpressionStoreDiagnostics.TheVariants.{InactiveCode, PatternArgInExternFn}
 use Rattle.hir_store.specs.declared.ids.BindingId.{BindingId}
-use Rattle.hir_store.specs.declared.ids.ExprId.{ExprId}
 use Rattle.hir_store.specs.declared.ids.PatId.{PatId}
 use Rattle.hir_store.proofs.Arenas.{prefix_refl, prefix_push}
 use Rattle.hir_env.specs.Answered as tree
 use Rattle.hir_env.specs.Answered.{Formal, Formals, OptionExpr, OptionPat, SelfFormal, Use}
 use Rattle.hir_data.specs.Tops.{Tops}
 use Rattle.hir_lower_form.specs.Forms.{push_some, some}
-use Rattle.hir_lower_form.specs.Lower.{lower_part, lower_top}
-use Rattle.hir_lower_form.specs.Lowering.{Lowering, ◌>>=◌, ◌>>◌, pure, alloc_binding, report}
+use Rattle.hir_lower_form.specs.Lowering.{Lowering, ◌>>=◌, ◌>>◌, alloc_binding, report}
 use Rattle.hir_lower_form.specs.Pats.{missing_pat, new_binding}
 use Rattle.hir_steps.proofs.Frames.{ribs}
 use Rattle.hir_steps.proofs.Logic as logic
 use Rattle.hir_steps.proofs.PatSteps as pats
 use Rattle.hir_steps.proofs.PatSteps.{with_new_binding}
 use Rattle.hir_steps.proofs.Steps as steps
-use Rattle.hir_one_result.specs.Formals.{Given, lower_self, lower_formal, each_formal, lower_formals, lower_body, formals_read}
-use Rattle.hir_one_result.specs.Leads.{Ways, No, OneBindingWay, ◌&◌}
+use Rattle.hir_one_result.specs.Formals.{lower_self, each_formal, lower_formals, lower_body, formals_read}
+use Rattle.hir_one_result.specs.Leads.{Ways, OneBindingWay, ◌&◌}
 use Rattle.hir_one_result.specs.OneResult.{StandsSelf, StandsTops, StandsGiven}
 use Rattle.hir_one_result.specs.Stands.{Open, StandsPart, StandsTop}
-use Rattle.hir_one_result.proofs.Lasting.{Correct, bound, correct_as, correct_bind, correct_pure, correct_report}
+use Rattle.hir_one_result.proofs.Lasting.{Correct, correct_as, correct_bind, correct_pure, correct_report}
 use Rattle.hir_one_result.proofs.Leading.{shown_as, shown_after, shown_before, shown_both, shown_binding, shown_none, moved_then}
-use Rattle.hir_one_result.proofs.PatStanding.{Behind, push_append}
+use Rattle.hir_one_result.proofs.PatStanding.{Behind}
 use Rattle.hir_one_result.proofs.Settling.{no_top_stands}
-use Rattle.hir_one_result.proofs.Standing.{Of, Shows, moved_fault, moved_pure, present_none, present_some}
+use Rattle.hir_one_result.proofs.Standing.{Shows, moved_fault, moved_pure, present_none, present_some}
 use Rattle.hir_one_result.proofs.TargetStanding.{done_stand}
 use Rattle.hir_one_result.proofs.TreeParts.{behind_none, left_out}
 use Rattle.hir_one_result.proofs.TreeStands.{part_stands, top_stands}

@@ -1,9 +1,9 @@
 -- Each binding has the patterns that make it, while patterns and bindings come.
 use Rattle.std.proofs.Common.{arith, ◌≡◌, ◌∙◌, refl, sym, ap, subst, ℕ, zero, suc, ◌+◌, ◌<◌, nat_eq, Bool, true, false, if◌then◌else◌}
-use Rattle.std.proofs.Common.{List, [], ◌∷◌, ◌++◌, append_assoc, append-nil, length, length-append, Option, Some, None, is_some, true≢false}
+use Rattle.std.proofs.Common.{List, [], ◌∷◌, ◌++◌, append_assoc, append-nil, length, length-append, Option, Some, is_some, true≢false}
 use Rattle.std.proofs.Common.{◌⊎◌, inl, inr, ⊎_elim, slice_get}
-use Rattle.std.proofs.lemmas.Bool.{eqb-true, eqb-false, eq-eqb}
-use Rattle.std.proofs.lemmas.Option.{same_Some, slice_get_within}
+use Rattle.std.proofs.lemmas.Bool.{eqb-true, eq-eqb}
+use Rattle.std.proofs.lemmas.Option.{same_Some}
 use Rattle.hir_store.specs.Pointers.{Pointer}
 use Rattle.hir_store.specs.Bindings.{at_place, pattern_added}
 use Rattle.hir_store.specs.Stored.{Stored}
@@ -15,7 +15,7 @@ use Rattle.hir_store.specs.declared.pat.Pat.{Pat}
 use Rattle.hir_store.specs.declared.pat.Pat.TheVariants as pat
 use Rattle.hir_store.proofs.BindingLemmas.{length_at}
 use Rattle.hir_steps.proofs.PatSteps.{defining, with_new_binding, with_pat}
-use Rattle.hir_one_result.specs.Definitions.{made_here, makers, DefinitionsAre}
+use Rattle.hir_one_result.specs.Definitions.{made_here, makers}
 use Rattle.hir_one_result.specs.Laws.{Defined}
 
 -- a pattern that makes no binding
@@ -138,7 +138,7 @@ defined_bind s d b sub source i number below = record {
     by c ps true e h =
         let at = eqb-true b.0 c.0 e in
         let was = at_same c.0 (pattern_added i) s.bindings.definitions ps
-            (subst (λ n. slice_get (at_place n (pattern_added i) s.bindings.definitions) c.0 ≡ Some ps) at h) in
+        (subst (λ n. slice_get (at_place n (pattern_added i) s.bindings.definitions) c.0 ≡ Some ps) at h) in
         was.2 ∙ (ap (λ ys. ys ++ i ∷ []) (d.each c was.0 was.1) ∙ ap (λ j. makers c 0 s.pats.entries ++ j ∷ []) same_number)
     by c ps false e h =
         d.each c ps (sym (at_other b.0 c.0 (pattern_added i) s.bindings.definitions e) ∙ h) ∙ sym (append-nil _)

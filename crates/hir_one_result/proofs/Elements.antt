@@ -1,8 +1,7 @@
 -- Lists within patterns: the parts of a tuple, of which two dots are none, and what stands for all that came.
-use Rattle.std.proofs.Common.{◌≡◌, ◌∙◌, ◌⊎◌, inl, inr, refl, sym, ap, subst, ℕ, Bool, true, false, true≢false, List, [], ◌∷◌, ◌++◌}
+use Rattle.std.proofs.Common.{◌≡◌, ◌∙◌, ◌⊎◌, inl, inr, refl, sym, ap, subst, ℕ, true, false, true≢false, List, []}
 use Rattle.std.proofs.Common.{append-nil, Some}
 use Rattle.hir_binding.specs.Steps.{Noted, over_recent, after, after_parts}
-use Rattle.hir_binding.specs.Uses.{product, no_parts}
 use Rattle.hir_store.specs.Pointers.{Pointer}
 use Rattle.hir_store.specs.Stored.{Stored, store_of, map_of}
 use Rattle.hir_store.specs.declared.ids.PatId.{PatId}
@@ -17,8 +16,8 @@ use Rattle.hir_lower_form.specs.Lowering.{Lowering, ◌>>=◌, pure, alloc_pat}
 use Rattle.hir_lower_form.specs.Pats as forms
 use Rattle.hir_lower_form.specs.Pats.{Elements, Table, no_elements}
 use Rattle.hir_steps.proofs.Steps as steps
-use Rattle.hir_one_result.specs.Leads.{Way, Ways, No, ◌&◌}
-use Rattle.hir_one_result.specs.Stands.{Names, Open, PatIs, OrIs, StandsBefore, StandsPat, StandsPats, StandsElements}
+use Rattle.hir_one_result.specs.Leads.{Way, No}
+use Rattle.hir_one_result.specs.Stands.{Names, Open, OrIs, StandsBefore, StandsPat, StandsPats, StandsElements}
 use Rattle.hir_one_result.proofs.Naming.{Within, PatFine, PatShows, like_row, pat_as, pat_node, pat_pure, same_notes, same_uses}
 use Rattle.hir_one_result.proofs.PatForms.{part_stands}
 use Rattle.hir_one_result.proofs.PatStanding.{Behind}

@@ -7,7 +7,7 @@ use Rattle.hir_one_result.specs.Size.{Size}
 use Rattle.hir_steps.proofs.Frames.{Frame}
 use Rattle.hir_steps.proofs.Steps as steps
 use Rattle.hir_steps.proofs.Steps.{Mark, Rel, Holds, Both}
-use Rattle.hir_one_result.proofs.Lasting.{Correct, Lasts}
+use Rattle.hir_one_result.proofs.Lasting.{Correct}
 use Rattle.hir_one_result.proofs.Tellings.{Told, Tells}
 
 pub record Given {A : Type 0} (G : A → Type 0) (final : Stored) (ps : List Frame) (m m' : Mark) (a : A) : Type 0 where

@@ -1,6 +1,6 @@
 -- Steps within a top pattern, which hand its table on: what stands for what is written, what is known of names, and what is noted.
-use Rattle.std.proofs.Common.{arith, ◌≡◌, ◌∙◌, refl, sym, ap, subst, ℕ, ◌<◌, ◌≤◌, Bool, true, false, List, [], ◌∷◌, ◌++◌, append-nil}
-use Rattle.std.proofs.Common.{append_assoc, length, slice_get, Option, Some, None}
+use Rattle.std.proofs.Common.{arith, ◌≡◌, ◌∙◌, refl, sym, ap, subst, ℕ, ◌<◌, Bool, List, [], ◌∷◌, ◌++◌, append-nil}
+use Rattle.std.proofs.Common.{length, slice_get, Option, Some, None}
 use Rattle.std.proofs.lemmas.List.{map-append}
 use Rattle.std.specs.List.{position_or_len}
 use Rattle.std.specs.Map.{keys_of}
@@ -26,7 +26,7 @@ use Rattle.hir_steps.proofs.PatSteps as pats
 use Rattle.hir_steps.proofs.Steps as steps
 use Rattle.hir_steps.proofs.Steps.{Mark}
 use Rattle.hir_one_result.specs.Laws.{Settled}
-use Rattle.hir_one_result.specs.Leads.{Way, Ways, No, OneBindingWay, ◌&◌}
+use Rattle.hir_one_result.specs.Leads.{Way, Ways, No, ◌&◌}
 use Rattle.hir_one_result.specs.PatRoom.{is_known}
 use Rattle.hir_one_result.specs.Stands.{Names, Open, NewName, PatIs, StandsName}
 use Rattle.hir_one_result.proofs.Defining.{MakesNone}

@@ -293,8 +293,10 @@ before_stands item h = correct_as
     let r = row.second in
     let item_at = subst (λ e. Placed final r.one e None) (item_is item) (expr_at r.first) in
     let callee = shown_as (unled r.first) (λ ws x. (item_at, x)) in
-    record { shown = shown_as (shown_both row.first.shown (shown_both callee (unled r.second)))
-        (λ ws x. (row.one, r.one, expr_at r.second, x)) })
+    record {
+      shown = shown_as (shown_both row.first.shown (shown_both callee (unled r.second)))
+          (λ ws x. (row.one, r.one, expr_at r.second, x));
+    })
 
 module _ (at : Pointer) where
   pub literal_limit_stands : (l : Signed)

@@ -11,7 +11,6 @@ use Rattle.hir_store.specs.declared.hir.MatchArm.{MatchArm}
 use Rattle.hir_store.specs.declared.hir.RecordLitField.{RecordLitField}
 use Rattle.hir_store.specs.declared.hir.RecordSpread.{RecordSpread}
 use Rattle.hir_store.specs.declared.hir.RecordSpread.TheVariants as spread
-use Rattle.hir_store.specs.declared.hir.Statement.{Statement}
 use Rattle.hir_store.specs.declared.hir.Statement.TheVariants as statement
 use Rattle.hir_store.specs.declared.ids.ExprId.{ExprId}
 use Rattle.hir_store.specs.declared.ids.LabelId.{LabelId}
@@ -44,11 +43,11 @@ use Rattle.hir_lower_form.specs.Ranges as ranges
 use Rattle.hir_lower_form.specs.Ranges.{range_form, item_expr, end_operand}
 use Rattle.hir_lower_form.specs.Types.{TypeSteps}
 use Rattle.hir_steps.proofs.Frames.{Frame, loop_at, block_at, ribs}
-use Rattle.hir_steps.proofs.Steps.{Mark, Rel, Allocated, Opened, with_field, with_fault, with_target, with_jump, with_block, with_await}
+use Rattle.hir_steps.proofs.Steps.{Mark, Rel, Allocated, Opened, with_fault, with_target, with_jump, with_block, with_await}
 use Rattle.hir_one_result.specs.Forms.{leaf_form, unary_form, binary_form, leaving_form, item_form, range_fields}
 use Rattle.hir_one_result.specs.Leads.{Way, Ways, OneWay, OneUnled, OneLabelWay, OneFieldWay, ◌&◌}
 use Rattle.hir_one_result.specs.Stands.{ReadsAs, StandsOverThree, StandsRecord, Open, Absent, There, ExprAt, LabelAt, StandsMissing}
-use Rattle.hir_one_result.specs.Stands.{StandsAlone, StandsPath, StandsLiteral, StandsOver, StandsOverTwo, StandsList, InLabel, StandsItem}
+use Rattle.hir_one_result.specs.Stands.{StandsAlone, StandsPath, StandsLiteral, StandsOver, StandsOverTwo, StandsList, InLabel}
 use Rattle.hir_one_result.specs.Stands.{StandsRange}
 use Rattle.hir_one_result.proofs.Data.{PathIs, path_is}
 use Rattle.hir_one_result.proofs.Lasting.{Correct, correct_alloc, correct_as, correct_bind, correct_both, correct_enter_block}

@@ -1,20 +1,15 @@
 -- What lowering a tree answers stands for the tree.
-use Rattle.std.proofs.Common.{◌≡◌, ◌∙◌, ◌⊎◌, inl, inr, refl, sym, ap, subst, List, [], ◌∷◌, ◌++◌, append-nil, option_to_list, Bool}
-use Rattle.std.proofs.Common.{Option, Some, None, true, false, ℕ, true≢false}
-use Rattle.hir_binding.specs.Steps.{Noted, over_recent, after, after_parts, after_later, next}
-use Rattle.hir_binding.specs.Uses.{product, no_parts}
-use Rattle.hir_store.specs.Pointers.{Pointer}
+use Rattle.std.proofs.Common.{◌∙◌, refl, sym, ap, subst, List, [], ◌∷◌, ◌++◌, append-nil, option_to_list, Bool}
+use Rattle.std.proofs.Common.{Option, Some, None, true, false}
+use Rattle.hir_binding.specs.Steps.{over_recent, after, after_parts, after_later}
 use Rattle.hir_store.specs.Stored.{Stored, store_of, map_of}
 use Rattle.hir_store.specs.declared.diagnostics.ExpressionStoreDiagnostics.TheVariants.{InactiveCode}
-use Rattle.hir_store.specs.declared.hir.Expr.TheVariants as hir
 use Rattle.hir_store.specs.declared.hir.MatchArm.{MatchArm}
 use Rattle.hir_store.specs.declared.hir.RecordLitField.{RecordLitField}
 use Rattle.hir_store.specs.declared.hir.RecordSpread.TheVariants as spread
 use Rattle.hir_store.specs.declared.hir.Statement.{Statement}
 use Rattle.hir_store.specs.declared.hir.Statement.TheVariants as statement
 use Rattle.hir_store.specs.declared.ids.ExprId.{ExprId}
-use Rattle.hir_store.specs.declared.ids.LabelId.{LabelId}
-use Rattle.hir_store.specs.declared.ids.BlockId.{BlockId}
 use Rattle.hir_store.specs.declared.ids.PatId.{PatId}
 use Rattle.hir_store.specs.declared.ids.TypeRefId.{TypeRefId}
 use Rattle.hir_store.specs.declared.pat.Pat.TheVariants as pat
@@ -25,14 +20,10 @@ use Rattle.hir_env.specs.Answered.{Expr, OptionExpr, Exprs, Fields, Spread, Bloc
 use Rattle.hir_env.specs.Answered.{OptionPath, Segments, Segment, SegmentArgs, OptionParens, OptionRet, OptionArgs, Args, Arg, Bounds}
 use Rattle.hir_env.specs.Answered.{Bound, Constant, Binder, Arms, Guard, Pat, OptionPat, Pats, PatFields, Side, TypePat, OptionTypePat}
 use Rattle.hir_env.specs.Answered.{TypePats, Limit, Target, Targets, TargetFields}
-use Rattle.hir_data.specs.Patterns.{is_dots, uses_after, uses_after_part, uses_after_each, uses_after_fields, uses_of, part_uses, each_uses}
+use Rattle.hir_data.specs.Patterns.{uses_after, uses_after_part, uses_after_each, uses_after_fields, uses_of, part_uses, each_uses}
 use Rattle.hir_data.specs.Patterns.{field_uses}
-use Rattle.hir_data.specs.Uses.{FirstUses}
-use Rattle.hir_meaning.specs.Contents.{BlockContents}
-use Rattle.hir_meaning.specs.Left.{is_kept, is_left, gives_value}
 use Rattle.hir_read_back.proofs.PatParts.{dots_or_part}
-use Rattle.hir_read_back.proofs.Targets.{target_now}
-use Rattle.hir_lower_form.specs.Lower.{lower_fields, lower_spread, ExprSteps, StoredContents, push_some, block_form, kept, settled, lower}
+use Rattle.hir_lower_form.specs.Lower.{lower_fields, lower_spread, push_some, settled, lower}
 use Rattle.hir_lower_form.specs.Lower.{lower_part, present, kept_part, lower_each, lower_block, lower_block_part, lower_stmts}
 use Rattle.hir_lower_form.specs.Lower.{lower_constant, lower_type, type_part, present_type, type_or_unit, lower_parts, read_segment}
 use Rattle.hir_lower_form.specs.Lower.{read_each, read_path, read_option, lower_path, lower_segment_args, parens_part, output_part}
@@ -40,7 +31,7 @@ use Rattle.hir_lower_form.specs.Lower.{args_part, lower_args, lower_arg, lower_b
 use Rattle.hir_lower_form.specs.Lower.{lower_top, lower_pat, pat_part, present_pat, lower_pats, lower_elements, lower_later, lower_pat_fields}
 use Rattle.hir_lower_form.specs.Lower.{lower_side, lower_type_pat_part, lower_type_pat, lower_type_pats, lower_limit, limit_side}
 use Rattle.hir_lower_form.specs.Lower.{lower_target, lower_targets, lower_target_fields}
-use Rattle.hir_lower_form.specs.Lowering.{Lowering, ◌>>=◌, pure}
+use Rattle.hir_lower_form.specs.Lowering.{Lowering}
 use Rattle.hir_lower_form.specs.Pats as forms
 use Rattle.hir_lower_form.specs.Pats.{Elements, no_elements}
 use Rattle.hir_lower_form.specs.Types.{no_lists}
@@ -48,19 +39,16 @@ use Rattle.hir_lower_form.specs.Walks.{start, super_read}
 use Rattle.hir_lower_form.specs.declared.args.ArgLists.{ArgLists}
 use Rattle.hir_lower_form.specs.declared.walk.PathWalk.{PathWalk}
 use Rattle.hir_steps.proofs.Frames.{ribs, ribs_frames}
-use Rattle.hir_steps.proofs.Steps as steps
 use Rattle.hir_one_result.specs.Laws.{AllStand}
-use Rattle.hir_one_result.specs.Leads.{Ways, No, OneWay, OneFieldWay, ◌&◌}
+use Rattle.hir_one_result.specs.Leads.{Ways, OneFieldWay, ◌&◌}
 use Rattle.hir_one_result.specs.PathRoom.{at_first}
-use Rattle.hir_one_result.specs.Stands.{StandsFields, StandsOthers, Open, ThereIf, statement_of, Stands, StandsPart, StandsPresent}
-use Rattle.hir_one_result.specs.Stands.{StandsKept, StandsEach, StandsBlock, StandsBlockPart, StandsContents, TypeWays, TypePartWays}
+use Rattle.hir_one_result.specs.Stands.{StandsOthers, Open, Stands, StandsPresent}
+use Rattle.hir_one_result.specs.Stands.{StandsBlock, StandsBlockPart, TypeWays, TypePartWays}
 use Rattle.hir_one_result.specs.Stands.{PresentTypeWays, PartsWays, SegmentWays, SegmentsWays, PathWays, OuterWays, WholeWays, BesideWays}
 use Rattle.hir_one_result.specs.Stands.{ParensWays, OutputWays, ArgsWays, EachArgWays, ArgWays, BoundsWays, BoundWays, ConstantWays}
-use Rattle.hir_one_result.specs.Stands.{TypePatWays, TypePatPartWays, TypePatsWays, LimitWays, StandsLimitSide, StandsArms, StandsGuard}
-use Rattle.hir_one_result.specs.Stands.{StandsPresentBlock, StandsBefore, StandsTop, StandsPat, StandsPatPart, StandsSubpat, StandsPats}
-use Rattle.hir_one_result.specs.Stands.{StandsElements, StandsPatFields, StandsSide, StandsAssigned, StandsTarget, StandsTargets}
-use Rattle.hir_one_result.specs.Stands.{StandsTargetFields}
-use Rattle.hir_one_result.proofs.Contents.{has_contents}
+use Rattle.hir_one_result.specs.Stands.{TypePatWays, TypePatPartWays, TypePatsWays, LimitWays, StandsLimitSide, StandsGuard}
+use Rattle.hir_one_result.specs.Stands.{StandsPresentBlock, StandsTop, StandsPat, StandsPatPart, StandsSubpat, StandsPats}
+use Rattle.hir_one_result.specs.Stands.{StandsElements, StandsPatFields, StandsSide, StandsTarget}
 use Rattle.hir_one_result.proofs.AfterLowering.{after_lowering}
 use Rattle.hir_one_result.proofs.Elements.{all_behind, all_elements, element_stands, no_alternatives, no_elements_stand}
 use Rattle.hir_one_result.proofs.Lasting.{Correct, bound, correct_as, correct_bind, correct_pure, correct_report, unchanged_settled}
@@ -80,14 +68,14 @@ use Rattle.hir_one_result.proofs.PatForms.{fields_more_stand, field_off_stands}
 use Rattle.hir_one_result.proofs.PatStanding.{Behind, push_append, absent_stands, plain_stands, leaf_pat_stands, path_pat_stands}
 use Rattle.hir_one_result.proofs.PatStanding.{literal_pat_stands, range_pat_stands, literal_side_stands, name_side_stands, path_side_stands}
 use Rattle.hir_one_result.proofs.Settling.{no_top_stands, some_top_stands}
-use Rattle.hir_one_result.proofs.Standing.{cast_stands, record_stands, offset_of_stands, field_stands, contents_stand, Of, Placed, Shows}
+use Rattle.hir_one_result.proofs.Standing.{cast_stands, record_stands, offset_of_stands, field_stands, contents_stand, Shows}
 use Rattle.hir_one_result.proofs.Standing.{moved_pure, moved_fault, missing_stands, path_stands, literal_stands, present_none}
 use Rattle.hir_one_result.proofs.Standing.{present_some, if_stands, loop_stands, call_stands, continue_stands, break_stands, unary_is}
 use Rattle.hir_one_result.proofs.Standing.{binary_is, leaving_is, leaf_stands, operand_stands, operands_stand, value_stands, list_stands}
-use Rattle.hir_one_result.proofs.Standing.{method_call_stands, await_stands, paren_stands, block_form_stands, labelled_stands, Leaves}
+use Rattle.hir_one_result.proofs.Standing.{method_call_stands, await_stands, paren_stands, labelled_stands, Leaves}
 use Rattle.hir_one_result.proofs.Standing.{type_shown, option_type_shown, args_shown, let_stands, match_stands, assign_stands, range_stands}
 use Rattle.hir_one_result.proofs.Standing.{arm_stands, let_stmt_stands}
-use Rattle.hir_one_result.proofs.TargetStanding.{shows_as, leaves_shown, done_stand, place_stands, path_target_stands, tuple_target_stands}
+use Rattle.hir_one_result.proofs.TargetStanding.{leaves_shown, done_stand, place_stands, path_target_stands, tuple_target_stands}
 use Rattle.hir_one_result.proofs.TargetStanding.{call_target_stands, array_target_stands, record_target_stands, targets_more}
 use Rattle.hir_one_result.proofs.TargetStanding.{target_fields_more}
 use Rattle.hir_one_result.proofs.TreeParts.{kept_stands, all_fields_stand, left_out, all_stand_for, expr_stmt_stands, inside_stands}
@@ -320,9 +308,18 @@ mutual
             let x = z.first in
             let y = z.second in
             let made : MatchArm = record { pat = x.0; guard = x.2; expr = x.1 } in
-            let is' = y.1 ∙ (push_append done row.one y.0 ∙ ap (λ o. done ++ (option_to_list o ++ y.0)) x.3) in
-            (made ∷ y.0, is', (x.0, x.1, x.2, y.0, refl,
-            record { left = z.left; right = z.right; is = z.is; first = x.4; second = y.2 })));
+            let is' = y.1 ∙ (push_append done row.one y.0 ∙ ap (λ o. done ++ (option_to_list o ++ y.0)) x.3) in (
+              made ∷ y.0,
+              is',
+              (
+                x.0,
+                x.1,
+                x.2,
+                y.0,
+                refl,
+                record { left = z.left; right = z.right; is = z.is; first = x.4; second = y.2 },
+              ),
+            ));
       })
 
   guard_stands : (g : Guard) → Correct (lower_guard g) (Shows (λ final rs o. StandsGuard (store_of final) (map_of final) rs g o))
@@ -402,9 +399,19 @@ mutual
             let x = z.first in
             let y = z.second in
             let made = statement.Let x.0 x.1 x.2 x.3 in
-            let is = y.1 ∙ (push_append done row.one y.0 ∙ ap (λ o. done ++ (option_to_list o ++ y.0)) x.4) in
-            (made ∷ y.0, is, (x.0, x.1, x.2, x.3, y.0, refl,
-            record { left = z.left; right = z.right; is = z.is; first = x.5; second = y.2 })));
+            let is = y.1 ∙ (push_append done row.one y.0 ∙ ap (λ o. done ++ (option_to_list o ++ y.0)) x.4) in (
+              made ∷ y.0,
+              is,
+              (
+                x.0,
+                x.1,
+                x.2,
+                x.3,
+                y.0,
+                refl,
+                record { left = z.left; right = z.right; is = z.is; first = x.5; second = y.2 },
+              ),
+            ));
       })
 
   -- ---- patterns

@@ -1,5 +1,5 @@
 -- What is stored where one body was lowered is one result of its tree.
-use Rattle.std.proofs.Common.{arith, refl, sym, ap, subst, ℕ, is_some, true≢false, [], ◌∷◌, ◌++◌, ◌∙◌, Ok}
+use Rattle.std.proofs.Common.{arith, refl, sym, ap, subst, ℕ, is_some, true≢false, [], ◌∷◌, ◌++◌, ◌∙◌}
 use Rattle.hir_store.proofs.Extending.{extends_refl, extends_root}
 use Rattle.hir_store.specs.Arenas.{Sourced, MapsBack}
 use Rattle.hir_store.specs.Stored.{store_of}
