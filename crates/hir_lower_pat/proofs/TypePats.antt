@@ -230,6 +230,7 @@ module _ (items : LangItems) (at : Spot) (done : List PatId) (xs : List AstPat) 
 
 -- what is refused is refused in what it stands in
 pub handed_on : {A : Type 0} (Has : Stored → A → Type 0) (steps : Lowering A) (old : Builder) (e : StoreFault) (r : Checked A)
-    (new : Builder) → IsErrAnd r (λ f. f ≡ e) → (e ≢ Memory → (steps old ≡ (Err e, new)) × SomeEnd new) → Lowers Has steps old r new
+    (new : Builder) → IsErrAnd r (λ f. f ≡ e) → (e ≢ Memory → (steps old ≡ (Err e, new)) × SomeEnd new)
+    → Lowers Has steps old r new
 handed_on Has steps old e (Ok a) new is h = absurd is
 handed_on Has steps old e (Err f) new is h = rw is h

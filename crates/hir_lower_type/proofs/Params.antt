@@ -32,7 +32,8 @@ use Rattle.hir_lower_form.specs.Lower.{lower_parts, push_some, some, type_part}
 use Rattle.hir_lower_type.specs.Params.{lower_param, name_of_kind, name_of_pat, names_written, variadic_last}
 
 -- no answer decides whether the last is variadic
-pub variadic_is : (env : Answers) (p : Place) (b : Bool) (xs : List AstParam) → last_variadic (read_param env) b xs p ≡ variadic_last b xs
+pub variadic_is : (env : Answers) (p : Place) (b : Bool) (xs : List AstParam)
+    → last_variadic (read_param env) b xs p ≡ variadic_last b xs
 variadic_is env p b [] = refl
 variadic_is env p b (x ∷ xs) =
     let at : Spot = record { answers = env; place = p } in
@@ -46,7 +47,8 @@ typed done rest (Err e) c = refl
 
 one : (done : List TypeRefId) (rest : Parts) (t : OptionType) (variadic : Bool) (b : Builder)
     → lower_parts done (if variadic then rest else tree.more_parts t rest) b
-    ≡ go_on ((if variadic then pure None else some (type_part None t)) b).0 ((if variadic then pure None else some (type_part None t)) b).1
+    ≡ go_on ((if variadic then pure None else some (type_part None t)) b).0
+    ((if variadic then pure None else some (type_part None t)) b).1
     (λ x. lower_parts (push_some done x) rest)
 one done rest t true b = refl
 one done rest t false b = typed done rest (type_part None t b).0 (type_part None t b).1
@@ -61,7 +63,8 @@ take_all [] = refl
 take_all (x ∷ xs) = ap (λ ys. x ∷ ys) (take_all xs)
 
 -- what is first, and what is behind it
-first_of : {A : Type 0} (xs : List A) (x : A) → x ≡ slice_index_or xs 0 x → 1 ≤ length xs → xs ≡ x ∷ take (length xs - 1) (drop 1 xs)
+first_of : {A : Type 0} (xs : List A) (x : A) → x ≡ slice_index_or xs 0 x → 1 ≤ length xs
+    → xs ≡ x ∷ take (length xs - 1) (drop 1 xs)
 first_of [] x h le = absurd (omega (arith, le))
 first_of (y ∷ ys) x h le =
     let rest : length (y ∷ ys) - 1 ≡ length ys = omega arith in
@@ -73,11 +76,13 @@ pub params_refused : {A : Type 0} (read : A → Place → ParamReading) (p : Pla
 params_refused read p done xs x b c e h le is =
     let behind = take (length xs - 1) (drop 1 xs) in
     ap (λ ys. lower_parts done (params_of read ys p) b) (first_of xs x h le)
-    ∙ (params_more read p done x behind b ∙ ap (λ r. go_on r.0 r.1 (λ o. lower_parts (push_some done o) (params_of read behind p))) is)
+    ∙ (params_more read p done x behind b
+    ∙ ap (λ r. go_on r.0 r.1 (λ o. lower_parts (push_some done o) (params_of read behind p))) is)
 
 -- what is refused is refused in what it stands in
 pub handed_on : {A : Type 0} (Has : Stored → A → Type 0) (steps : Lowering A) (old : Builder) (e : StoreFault) (r : Checked A)
-    (new : Builder) → IsErrAnd r (λ f. f ≡ e) → (e ≢ Memory → (steps old ≡ (Err e, new)) × SomeEnd new) → Lowers Has steps old r new
+    (new : Builder) → IsErrAnd r (λ f. f ≡ e) → (e ≢ Memory → (steps old ≡ (Err e, new)) × SomeEnd new)
+    → Lowers Has steps old r new
 handed_on Has steps old e (Ok a) new is h = absurd is
 handed_on Has steps old e (Err f) new is h = rw is h
 
@@ -136,4 +141,5 @@ names_are env p [] = refl
 names_are env p (x ∷ xs) =
     let at : Spot = record { answers = env; place = p } in
     let one = param_is_level at x in
-    λ j. if (one j).variadic then names_are env p xs j else ((ap (λ r. r.name) one ∙ pat_name at (out-Param x).pat) j ∷ names_are env p xs j)
+    λ j. if (one j).variadic then names_are env p xs j
+    else ((ap (λ r. r.name) one ∙ pat_name at (out-Param x).pat) j ∷ names_are env p xs j)
