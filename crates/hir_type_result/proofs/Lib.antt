@@ -9,6 +9,7 @@ pub mod TreeNamed
 pub mod Named
 pub mod Ranges
 pub mod Meaning
+pub mod RootStands
 pub mod Noting
 pub mod NotingForms
 pub mod TreeNotes

@@ -2,6 +2,7 @@
 use Rattle.std.proofs.Common.{◌≡◌, ◌≤◌, ap, arith, refl, ℕ, ◌+◌, Bool, true, false, length, List, [], ◌∷◌, ◌++◌, Option, Some, None, Ok}
 use Rattle.hir_store.specs.Stored.{Stored}
 use Rattle.hir_store.specs.Storing.{Extends}
+use Rattle.hir_store.specs.declared.hir.Expr.{Expr as HirExpr}
 use Rattle.hir_store.specs.declared.ids.BindingId.{BindingId}
 use Rattle.hir_store.specs.declared.ids.PatId.{PatId}
 use Rattle.hir_store.specs.declared.ids.TypeRefId.{TypeRefId}
@@ -23,7 +24,7 @@ use Rattle.hir_type_result.specs.Named.{Look, of_types_alone, of_pats_alone, of_
 use Rattle.hir_type_result.specs.Named.{ExprTypesReachedOnce, PathTypesReachedOnce}
 use Rattle.hir_type_result.specs.Pats.{of_type, of_types, pats_reached, PatsSpread, ExprPatsReachedOnce, TypePatsReachedOnce}
 use Rattle.hir_type_result.specs.Pats.{PathPatsReachedOnce, BodyPatsReachedOnce}
-use Rattle.hir_type_result.proofs.Counted.{times, times_append, counted_spread}
+use Rattle.hir_type_result.proofs.Counted.{times, less, times_append, counted_spread}
 use Rattle.hir_type_result.proofs.Numbers.{each_append}
 use Rattle.hir_type_result.proofs.Adding.{Numbers, none, Adds, Quiet, the_types, the_pats, adds_pure, adds_then, adds_beside, adds_quiet}
 use Rattle.hir_type_result.proofs.Adding.{adds_to, no_pats_named}
@@ -79,23 +80,34 @@ expr_types_once e b b' i paired is final stays depth le more new more_pats new_p
 -- ---- patterns
 
 -- where these patterns are named by what is answered
-pub pats_once : {A : Type 0} {now : A → Numbers} {p : Lowering A} (ps : A → List PatId) → Correct p (Adds none now)
-    → ((a : A) (l : Look) (k : ℕ) → times k (pats (ps a) l) ≤ times k (now a l)) → (b b' : Builder) (a : A) → Paired b.stored
-    → p b ≡ (Ok a, b') → (final : Stored) → Extends b'.stored final → PatsSpread b.stored b'.stored final (ps a)
-pats_once ps h less b b' a paired is final stays depth le es new ts new_types =
-    let r = after_lowering (correct_in_store h) b a b' paired is final stays in
-    let n = r.pats in
-    let l = of_pats_alone (pats_reached final.pats.entries depth) in
-    let x = r.rel.earlier the_pats depth depth (omega arith) (omega arith) in
-    counted_spread _ _ _ (λ k.
-    let c = x.counted k in
-    let u = less a l k in
-    let e = each_append (of_expr l) b.stored.exprs.entries es k in
-    let s = ap (λ xs. times k (of_exprs l xs)) new in
-    let e' = each_append (of_type l) b.stored.types.entries ts k in
-    let s' = ap (λ xs. times k (of_types l xs)) new_types in
-    let v = times_append k (of_exprs l es) (of_types l ts) in
-    let w = times_append k (of_each l.pats (ps a)) (of_exprs l es ++ of_types l ts) in omega arith)
+
+abbrev came : List PatId → Look → List HirExpr → List TypeRef → List ℕ
+came ps l es ts = of_each l.pats ps ++ (of_exprs l es ++ of_types l ts)
+
+module _ {A : Type 0} {now : A → Numbers} {p : Lowering A} (ps : A → List PatId) (h : Correct p (Adds none now))
+    (less_than : (a : A) (l : Look) (k : ℕ) → times k (pats (ps a) l) ≤ times k (now a l)) (b b' : Builder) (a : A)
+    (paired : Paired b.stored) (is : p b ≡ (Ok a, b')) (final : Stored) (stays : Extends b'.stored final) where
+  pub pats_counted : (depth : ℕ) → length final.pats.entries ≤ depth → (es : List HirExpr)
+      → b'.stored.exprs.entries ≡ b.stored.exprs.entries ++ es → (ts : List TypeRef)
+      → b'.stored.types.entries ≡ b.stored.types.entries ++ ts → (k : ℕ)
+      → times k (came (ps a) (of_pats_alone (pats_reached final.pats.entries depth)) es ts) + less k (length b.stored.pats.entries)
+      ≤ less k (length b'.stored.pats.entries)
+  pats_counted depth le es new ts new_types k =
+      let r = after_lowering (correct_in_store h) b a b' paired is final stays in
+      let n = r.pats in
+      let l = of_pats_alone (pats_reached final.pats.entries depth) in
+      let x = r.rel.earlier the_pats depth depth (omega (arith, n, le)) (omega (arith, n, le)) in
+      let c = x.counted k in
+      let u = less_than a l k in
+      let e = each_append (of_expr l) b.stored.exprs.entries es k in
+      let s = ap (λ xs. times k (of_exprs l xs)) new in
+      let e' = each_append (of_type l) b.stored.types.entries ts k in
+      let s' = ap (λ xs. times k (of_types l xs)) new_types in
+      let v = times_append k (of_exprs l es) (of_types l ts) in
+      let w = times_append k (of_each l.pats (ps a)) (of_exprs l es ++ of_types l ts) in omega arith
+
+  pub pats_once : PatsSpread b.stored b'.stored final (ps a)
+  pats_once depth le es new ts new_types = counted_spread _ _ _ (pats_counted depth le es new ts new_types)
 
 pub expr_pats_once : ExprPatsReachedOnce
 expr_pats_once e b b' i paired is final stays = pats_once (λ i. []) (part_quiet e) (λ i l k. omega arith) b b' i paired is final stays

@@ -19,6 +19,7 @@ use Rattle.hir_meaning.specs.Same.{SameBody, SameBodies}
 use Rattle.hir_meaning.specs.Store.{stored_body}
 use Rattle.hir_steps.specs.Keeps.{Paired}
 use Rattle.hir_same_meaning.specs.Reached.{Spread, reached_to}
+use Rattle.hir_one_result.specs.Laws.{Settled}
 use Rattle.hir_one_result.specs.Leads.{Way, Ways}
 use Rattle.hir_one_result.specs.Room.{type_part_size, whole_size}
 use Rattle.hir_one_result.specs.Stands.{Open, StandsLimit, StandsPart}
@@ -109,13 +110,13 @@ abbrev pub recorded : Bool → Bodies → Bodies
 recorded true bs = []
 recorded false bs = bs
 
--- The bodies inside a lowered type are recorded, those too that nothing reaches afterwards. Each that it reaches is like the
--- written one.
+-- The bodies inside a lowered type are recorded, those too that nothing reaches afterwards. In a later store they stand there as
+-- long as what was settled of the bindings stays. Each that the type reaches is like the written one.
 abbrev pub TypeRoots : Type 0
 TypeRoots =
     (binder : Option Binder) (t : OptionType) (b b' : Builder) (i : TypeRefId) → Paired b.stored → type_part binder t b ≡ (Ok i, b')
     → (later : Stored) → Extends b'.stored later
-    → RootsOf b.scopes b.stored b'.stored later (recorded b.in_root (type_part_size t).inner)
+    → (Settled b'.stored later → RootsOf b.scopes b.stored b'.stored later (recorded b.in_root (type_part_size t).inner))
     × SameBodies (store_of later) (map_of later) (type_inner_bodies (store_of later) i) (part_bodies t)
 
 -- So it is of paths. A refused one reaches nothing, but its constants are recorded.
@@ -123,5 +124,5 @@ abbrev pub PathRoots : Type 0
 PathRoots =
     (p : OptionPath) (b b' : Builder) (r : Option Path) → Paired b.stored → lower_path p b ≡ (Ok r, b')
     → (later : Stored) → Extends b'.stored later
-    → RootsOf b.scopes b.stored b'.stored later (recorded b.in_root (whole_size p).inner)
+    → (Settled b'.stored later → RootsOf b.scopes b.stored b'.stored later (recorded b.in_root (whole_size p).inner))
     × SameBodies (store_of later) (map_of later) (of_present (path_inner_bodies (store_of later)) r) (path_bodies p)
