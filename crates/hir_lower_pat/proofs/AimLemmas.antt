@@ -35,7 +35,7 @@ use Rattle.hir_lower_form.specs.Pats.{Elements, no_elements}
 use Rattle.hir_lower_form.specs.Targets.{add_target, add_target_dots, array_target_form, path_target_form, path_target_of, place_form}
 use Rattle.hir_lower_form.specs.Targets.{rest_target}
 use Rattle.hir_lower_pat.specs.Aims.{ArrayParts, IsPlace, aim_of, aimed, array_rest, found_at, landed, names_read, path_aim, path_aimed}
-use Rattle.hir_lower_pat.specs.Aims.{dots_kind, path_of_callee, placed, through}
+use Rattle.hir_lower_pat.specs.Aims.{array_of, dots_kind, path_of_callee, placed, through}
 use Rattle.hir_lower_pat.specs.declared.aims.Aim.{Aim}
 use Rattle.hir_lower_pat.specs.declared.aims.Aim.TheVariants as aim
 use Rattle.hir_lower_pat.proofs.PathNames.{lowered_names}
@@ -438,10 +438,6 @@ module _ (f : Path → Bool) where
       (λ i. array_rest f before (Some at) (behind ++ i ∷ []) es)
   array_behind before behind at e es b = in_front (behind, None) (each_target f es) (λ a. pure (before, Some at, a.0))
       (lower_target (target_of f (tree.some_expr e)) b).0 (lower_target (target_of f (tree.some_expr e)) b).1
-
-  -- what is made of the parts of an array
-  abbrev pub array_of : Pointer → ArrayParts → Lowering PatId
-  array_of at r = rest_target r.1 >>= (λ m. alloc_pat (pat.Slice r.0 m r.2) (Some at))
 
   behind_of : (at : Pointer) (before : Elements) (dots : Option Pointer) (o : Checked Elements) (b : Builder)
       → go_on o b (λ a. array_of at (before.0, dots, a.0))

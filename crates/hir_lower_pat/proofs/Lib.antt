@@ -4,6 +4,7 @@ pub mod Kids
 pub mod PathNames
 pub mod AimLemmas
 pub mod AimSteps
+pub mod AimTurns
 pub mod TypePats
 pub mod TargetKids
 pub mod Nested

@@ -1,5 +1,6 @@
 -- The names of a lowered path are those that are read of the written one.
-use Rattle.std.proofs.Common.{arith, ◌≡◌, ◌∙◌, refl, sym, ap, subst, ℕ, zero, suc, ◌+◌, Bool, true, false, not, ◌&&◌, ◌||◌}
+use Rattle.std.proofs.Common.{arith, ◌≡◌, ◌∙◌, refl, sym, ap, subst, ℕ, zero, suc, ◌+◌, Bool, true, false, not}
+use Rattle.std.proofs.Common.{◌&&◌, ◌||◌}
 use Rattle.std.proofs.Common.{List, [], ◌∷◌, ◌++◌, Option, Some, None, Ok, Err}
 use Rattle.std.specs.Prelude.{reverse, is_none, is_some, if◌then◌else◌, nat_lt, ◌^◌, IfOk}
 use Rattle.std.proofs.lemmas.List.{reverse-append, reverse-reverse}
@@ -13,13 +14,14 @@ use Rattle.hir_store.specs.declared.path.PathKind.TheVariants as kind
 use Rattle.hir_store.specs.declared.path.GenericArgs.{GenericArgs}
 use Rattle.hir_store.specs.declared.path.Path.{Path as HirPath}
 use Rattle.hir_store.specs.declared.path.Path.TheVariants.{BarePath, Normal, LangItem}
+use Rattle.hir_store.specs.declared.type_ref.TypeRef.TheVariants as ty
 use Rattle.hir_env.specs.Answered as tree
 use Rattle.hir_env.specs.Answered.{Path, OptionPath, Segments, Segment}
 use Rattle.hir_env.specs.PathNames as names
 use Rattle.hir_env.specs.PathNames.{mod_path_of, nothing_read, piece, read_piece, read_outward, read_rest, read_use, counted, supers_in}
 use Rattle.hir_env.specs.PathNames.{with_piece, own_self, refuses, behind_trait, no_names}
 use Rattle.hir_lower_form.specs.Builder.{Builder}
-use Rattle.hir_lower_form.specs.Lowering.{Checked, Lowering, go_on, ◌>>=◌, pure, count_out}
+use Rattle.hir_lower_form.specs.Lowering.{Checked, Lowering, go_on, ◌>>=◌, pure, alloc_type, count_out}
 use Rattle.hir_lower_form.specs.Paths as forms
 use Rattle.hir_lower_form.specs.Paths.{proceed, whole, with_trait, read_trait}
 use Rattle.hir_lower_form.specs.Lower.{read_segment, read_each, read_path, read_option, lower_path, lower_type, lower_segment_args}
@@ -262,9 +264,12 @@ module _ (leading : Bool) (w : PathWalk) (r : names.Reading) (open_ : r.ended �
       at_none (BarePath x) e = λ b. cc
       at_none (Normal x) e = λ b. cc
       at_none (LangItem item) e =
-          gives_after (λ x. Agrees x (read_piece leading (behind_trait None) r)) _ _ (λ i b. agrees_refused (behind_trait None) refl refl)
+          gives_after (λ x. Agrees x (read_piece leading (behind_trait None) r)) (alloc_type (ty.Path (LangItem item)) (Some at))
+          (λ i. pure (projected t (LangItem item) (at_first leading w))) (λ i b. agrees_refused (behind_trait None) refl refl)
   agrees_trait t (Some p) (Some m) e at =
-      gives_after (λ x. Agrees x (read_piece leading (behind_trait (Some m)) r)) _ _ (λ i b. by (walks.no_names (mod_path p).segments) (same_empty (mod_path p).segments ∙ ap (λ x. no_names x.segments) is))
+      gives_after (λ x. Agrees x (read_piece leading (behind_trait (Some m)) r)) (alloc_type (ty.Path p) (Some at))
+      (λ i. pure (projected t p (at_first leading w)))
+      (λ i b. by (walks.no_names (mod_path p).segments) (same_empty (mod_path p).segments ∙ ap (λ x. no_names x.segments) is))
     where
       is : mod_path p ≡ m
       is = own_names_of p m e
@@ -383,6 +388,11 @@ start_agrees = (refl, record { going = refl; kind = refl; names = refl; anchor =
 abbrev Named : OptionPath → Option HirPath → Type 0
 Named o r = names_read r ≡ mod_path_of o
 
+crate_agrees : (leading : Bool) (c : Option CrateId) (w : PathWalk) (r : names.Reading) → r.ended ≡ false → Says w r
+    → Agrees (walks.ended (walks.crate_kind c) (at_first leading w)) (read_piece leading (names.root (names.crate_kind c)) r)
+crate_agrees leading None w r e h = agrees_root leading w r e h kind.Crate
+crate_agrees leading (Some c) w r e h = agrees_root leading w r e h (kind.DollarCrate c)
+
 mutual
   unfolding whole with_trait
 
@@ -399,18 +409,9 @@ mutual
   first_goes leading (tree.type_segment t) w r e h =
       gives_after _ (lower_type None t) _ (λ i b. agrees_anchor leading w r e h i)
   first_goes leading (tree.trait_segment t at p) w r e h =
-      gives_after _ (lower_type None t) _ (λ i. trait_goes leading i at p w r e h)
-
-  crate_agrees : (leading : Bool) (c : Option CrateId) (w : PathWalk) (r : names.Reading) → r.ended ≡ false → Says w r
-      → Agrees (walks.ended (walks.crate_kind c) (at_first leading w)) (read_piece leading (names.root (names.crate_kind c)) r)
-  crate_agrees leading None w r e h = agrees_root leading w r e h kind.Crate
-  crate_agrees leading (Some c) w r e h = agrees_root leading w r e h (kind.DollarCrate c)
-
-  trait_goes : (leading : Bool) (i : TypeRefId) (at : Pointer) (p : OptionPath) (w : PathWalk) (r : names.Reading) → r.ended ≡ false
-      → Says w r → Gives (λ q. Agrees q (read_piece leading (behind_trait (mod_path_of p)) r))
-      (with_trait (lower_path p) i at (at_first leading w))
-  trait_goes leading i at p w r e h = gives_bind (Named p) _ (lower_path p) _ (path_named p)
-      (λ o named. agrees_trait leading w r e h i o (mod_path_of p) named at)
+      gives_after _ (lower_type None t) _
+      (λ i. gives_bind (Named p) (λ q. Agrees q (read_piece leading (behind_trait (mod_path_of p)) r)) (lower_path p)
+      (read_trait i at (at_first leading w)) (path_named p) (λ o named. agrees_trait leading w r e h i o (mod_path_of p) named at))
 
   behind_goes : (s : Segment) → Going (read_piece false (piece false s)) (read_segment false s)
   behind_goes tree.absent_segment w r e h = λ b. agrees_named false w r e h missing_name None
@@ -427,14 +428,19 @@ mutual
 
   each_goes : (ss : Segments) → Going (read_rest ss) (read_each ss)
   each_goes tree.no_segments w r e h = λ b. (e, h)
-  each_goes (tree.more_segments s ss) w r e h = gives_bind (λ q. Agrees q (read_rest ss r)) _ (read_each ss w) _ (each_goes ss w r e h)
+  each_goes (tree.more_segments s ss) w r e h =
+      gives_bind (λ q. Agrees q (read_rest ss r)) (λ q. Agrees q (read_piece false (piece false s) (read_rest ss r))) (read_each ss w)
+      (λ q. proceed q (read_segment false s)) (each_goes ss w r e h)
       (λ q a. goes_on false (piece false s) (read_segment false s) (behind_goes s) q (read_rest ss r) a)
 
   path_goes : (p : Path) → Going (read_outward p) (read_path p)
   path_goes (tree.path leading first rest use_) w r e h =
       let own = read_piece leading (piece true first) (read_rest rest r) in
-      gives_bind (λ q. Agrees q own) _ _ _
-      (gives_bind (λ q. Agrees q (read_rest rest r)) _ (read_each rest w) _ (each_goes rest w r e h)
+      let first_steps = λ (v : PathWalk). read_segment true first (at_first leading v) in
+      gives_bind (λ q. Agrees q own) (λ q. Agrees q (read_use use_ own)) (read_each rest w >>= (λ q. proceed q first_steps))
+      (λ q. proceed q (read_option use_))
+      (gives_bind (λ q. Agrees q (read_rest rest r)) (λ q. Agrees q own) (read_each rest w) (λ q. proceed q first_steps)
+      (each_goes rest w r e h)
       (λ q a. goes_on leading (piece true first) (λ v. read_segment true first (at_first leading v)) (first_goes leading first) q
       (read_rest rest r) a))
       (λ q a. outer_goes use_ q own a)
@@ -448,7 +454,8 @@ mutual
 
   path_named : (o : OptionPath) → Gives (Named o) (lower_path o)
   path_named tree.no_path = λ b. refl
-  path_named (tree.some_path p) = gives_bind (λ q. Agrees q (read_outward p nothing_read)) _ (read_path p start) _
+  path_named (tree.some_path p) = gives_bind (λ q. Agrees q (read_outward p nothing_read)) (Named (tree.some_path p))
+      (read_path p start) (λ q. pure (walks.path_read q))
       (path_goes p start nothing_read start_agrees.0 start_agrees.1)
       (λ q a b. agreed_names q (read_outward p nothing_read) a)
 

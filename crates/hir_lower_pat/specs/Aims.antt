@@ -26,12 +26,12 @@ use Rattle.hir_env.specs.Whole.{written, answered, fields_part, path_part, sprea
 use Rattle.hir_env.specs.Answered as tree
 use Rattle.hir_env.specs.Answered.{Expr, Exprs, OptionPath, Path, Target}
 use Rattle.hir_env.specs.Targets.{before_dots, behind_dots, dots_pointer, each_target, names_target, resolves, spread_pointer}
-use Rattle.hir_env.specs.Targets.{target_fields, target_or}
+use Rattle.hir_env.specs.Targets.{is_dots, pointer_of, target_fields, target_of, target_or}
 use Rattle.hir_lower_form.specs.Builder.{Builder}
 use Rattle.hir_lower_form.specs.Lowering.{Checked, Lowering, Lowers, ◌>>=◌, ◌>>◌, pure, alloc_expr, alloc_pat, point}
 use Rattle.hir_lower_form.specs.Lower.{lower, lower_path, lower_target, lower_targets, path_hygiene}
 use Rattle.hir_lower_form.specs.Pats.{Elements}
-use Rattle.hir_lower_form.specs.Targets.{add_target, add_target_dots}
+use Rattle.hir_lower_form.specs.Targets.{add_target, add_target_dots, rest_target}
 use Rattle.hir_lower_form.specs.Nests.{Each, IfPresent}
 use Rattle.hir_lower_form.specs.declared.parts.Lowerer.{Lowerer}
 use Rattle.hir_lower_pat.specs.declared.aims.Aim.{Aim}
@@ -190,6 +190,32 @@ array_steps false r at part = do
 abbrev pub is_first : Option Pointer → Bool → Bool
 is_first None dots = dots
 is_first (Some at) dots = false
+
+-- ---- one part after another
+
+module _ (is_found : Path → Bool) where
+  abbrev pub elements_read : Elements → Exprs → Lowering Elements
+  elements_read done tree.no_exprs = pure done
+  elements_read done (tree.more_exprs e es) = do
+    d ← element_steps (is_dots e) done (lower_target (target_of is_found (tree.some_expr e)))
+    elements_read d es
+
+  abbrev pub array_read : ArrayParts → Exprs → Lowering ArrayParts
+  array_read done tree.no_exprs = pure done
+  array_read done (tree.more_exprs e es) = do
+    d ← array_steps (is_first done.1 (is_dots e)) done (pointer_of e) (lower_target (target_of is_found (tree.some_expr e)))
+    array_read d es
+
+-- what is made of the parts of an array
+abbrev pub array_of : Pointer → ArrayParts → Lowering PatId
+array_of at r = do
+  m ← rest_target r.1
+  alloc_pat (pat.Slice r.0 m r.2) (Some at)
+
+abbrev pub array_made : (Path → Bool) → Pointer → Exprs → Lowering PatId
+array_made is_found at es = do
+  r ← array_read is_found ([], None, []) es
+  array_of at r
 
 -- ---- two dots as they are written
 

@@ -5,15 +5,15 @@ ghost use Rattle.hir_syntax.specs.declared.ast.ExprKind.{out-ExprKind};
 ghost use Rattle.hir_store.specs.Range.{HasPat, HasPatOption, HasPath, HasPats};
 ghost use Rattle.hir_env.specs.Answered as tree;
 ghost use Rattle.hir_env.specs.Targets as of;
-ghost use Rattle.hir_env.specs.Whole.{answered, args_part, expr_part, exprs_part, own_pointer, path_part, target_part};
+ghost use Rattle.hir_env.specs.Whole.{answered, args_part, expr_part, exprs_part, path_part, target_part};
 ghost use Rattle.hir_lower_form.specs.Lowering.{Lowers};
 ghost use Rattle.hir_lower_form.specs.Lower as spec;
 ghost use Rattle.hir_lower_form.specs.Methods.{LowersTarget};
 ghost use Rattle.hir_lower_form.specs.Nests.{Each, IfPresent};
 ghost use Rattle.hir_lower_form.specs.Pats.{no_elements};
 ghost use Rattle.hir_lower_form.specs.Targets as steps;
-ghost use Rattle.hir_lower_pat.specs.Aims.{Aims, HasAim, HasArrayParts, KidsOfCallee, array_rest, array_steps};
-ghost use Rattle.hir_lower_pat.specs.Aims.{element_steps, found_at, is_first, path_of_callee, patterned};
+ghost use Rattle.hir_lower_pat.specs.Aims.{Aims, HasAim, HasArrayParts, KidsOfCallee, array_made, array_read};
+ghost use Rattle.hir_lower_pat.specs.Aims.{array_steps, element_steps, elements_read, found_at, is_first, path_of_callee, patterned};
 ghost use Rattle.hir_lower_pat.specs.Methods.{HasElements};
 
 use crate::aims::{Aim, TargetParts, is_dots, place, pointer_of, target};
@@ -54,16 +54,15 @@ fn element<T: TargetParts>(
     Ok((ids, dots))
 }
 
-/// The parts, and how many stand in front of the first two dots.
-fn elements<T: TargetParts>(
+/// One part after another.
+fn each_element<T: TargetParts>(
     parts: &T,
     state: &mut BodyBuilder,
     mut left: &[ast::Expr],
 ) -> Result<(Seq<PatId>, Option<usize>), StoreFault>
     requires { Each (T.can_target parts.now) left.now }
     ensures { let spot = T.spot parts.now in
-        let read = of.elements (found_at spot) (exprs_part spot left.entry.now) in
-        Lowers HasElements (spec.lower_targets no_elements read) state.old result state.new }
+        Lowers HasElements (elements_read (found_at spot) no_elements (exprs_part spot left.entry.now)) state.old result state.new }
 {
     let mut done = (Seq::new(parts.alloc()), None);
     while let [one, rest @ ..] = left {
@@ -71,6 +70,20 @@ fn elements<T: TargetParts>(
         left = rest;
     }
     Ok(done)
+}
+
+/// The parts, and how many stand in front of the first two dots.
+fn elements<T: TargetParts>(
+    parts: &T,
+    state: &mut BodyBuilder,
+    all: &[ast::Expr],
+) -> Result<(Seq<PatId>, Option<usize>), StoreFault>
+    requires { Each (T.can_target parts.now) all.now }
+    ensures { let spot = T.spot parts.now in
+        let read = of.elements (found_at spot) (exprs_part spot all.now) in
+        Lowers HasElements (spec.lower_targets no_elements read) state.old result state.new }
+{
+    each_element(parts, state, all)
 }
 
 /// A leading comma adds nothing.
@@ -162,6 +175,13 @@ fn are_first_dots<T: TargetParts>(parts: &T, dots: Option<InFile<AstPtr>>, node:
     }
 }
 
+/// The node of an expression, whatever disables it.
+fn node_of<T: TargetParts>(parts: &T, node: &ast::Expr) -> InFile<AstPtr>
+    ensures { result ≡ of.pointer_of (answered (T.spot parts.now) node.now) }
+{
+    pointer_of(parts, node)
+}
+
 /// The parts with one more, or with the node of the first two dots.
 fn array_element<T: TargetParts>(
     parts: &T,
@@ -173,12 +193,12 @@ fn array_element<T: TargetParts>(
     requires done { HasArrayParts state.old.stored done }
     ensures { let spot = T.spot parts.now in
         let part = spec.lower_target (target_part spot (Some node.now)) in
-        let first = is_first done.1 (of.is_dots (answered spot node.now)) in
-        Lowers HasArrayParts (array_steps first done (own_pointer spot node.now) part) state.old result state.new }
+        let read = answered spot node.now in
+        Lowers HasArrayParts (array_steps (is_first done.1 (of.is_dots read)) done (of.pointer_of read) part) state.old result state.new }
 {
     let (mut prefix, dots, mut suffix) = done;
     if are_first_dots(parts, dots, node) {
-        return Ok((prefix, Some(pointer_of(parts, node)), suffix));
+        return Ok((prefix, Some(node_of(parts, node)), suffix));
     }
     let id = target(parts, state, node)?;
     match dots {
@@ -193,16 +213,15 @@ fn array_element<T: TargetParts>(
     }
 }
 
-/// The parts in front of the first two dots, the node of these, and the parts behind them.
-fn array_parts<T: TargetParts>(
+/// One part after another.
+fn each_of_array<T: TargetParts>(
     parts: &T,
     state: &mut BodyBuilder,
     mut left: &[ast::Expr],
 ) -> Result<(Seq<PatId>, Option<InFile<AstPtr>>, Seq<PatId>), StoreFault>
     requires { Each (T.can_target parts.now) left.now }
     ensures { let spot = T.spot parts.now in
-        let read = exprs_part spot left.entry.now in
-        Lowers HasArrayParts (array_rest (found_at spot) [] None [] read) state.old result state.new }
+        Lowers HasArrayParts (array_read (found_at spot) ([], None, []) (exprs_part spot left.entry.now)) state.old result state.new }
 {
     let mut done = (Seq::new(parts.alloc()), None, Seq::new(parts.alloc()));
     while let [one, rest @ ..] = left {
@@ -223,20 +242,17 @@ fn rest(state: &mut BodyBuilder, dots: Option<InFile<AstPtr>>) -> Result<Option<
 }
 
 /// The dots come behind the parts on both sides of them.
-#[tactic(auto, using(crate::proofs::AimLemmas::array_is))]
-fn array_form<T: TargetParts>(
+fn array_of<T: TargetParts>(
     parts: &T,
     state: &mut BodyBuilder,
     at: InFile<AstPtr>,
-    elems: &Seq<ast::Expr>,
+    elems: &[ast::Expr],
 ) -> Result<PatId, StoreFault>
     requires { Each (T.can_target parts.now) elems.now }
     ensures { let spot = T.spot parts.now in
-        let read = exprs_part spot elems.now in
-        let before = of.before_dots (found_at spot) read in
-        LowersTarget (tree.array_target at before (of.dots_pointer read) (of.behind_dots (found_at spot) read)) state.old result state.new }
+        Lowers HasPat (array_made (found_at spot) at (exprs_part spot elems.now)) state.old result state.new }
 {
-    let (prefix, dots, suffix) = array_parts(parts, state, elems.as_slice())?;
+    let (prefix, dots, suffix) = each_of_array(parts, state, elems)?;
     let slice = rest(state, dots)?;
     let pat = Pat::Slice {
         prefix,
@@ -244,6 +260,22 @@ fn array_form<T: TargetParts>(
         suffix,
     };
     state.alloc_pat(pat, Some(at))
+}
+
+/// The parts in front of the first two dots, the node of these, and the parts behind them.
+fn array_form<T: TargetParts>(
+    parts: &T,
+    state: &mut BodyBuilder,
+    at: InFile<AstPtr>,
+    elems: &[ast::Expr],
+) -> Result<PatId, StoreFault>
+    requires { Each (T.can_target parts.now) elems.now }
+    ensures { let spot = T.spot parts.now in
+        let read = exprs_part spot elems.now in
+        let before = of.before_dots (found_at spot) read in
+        LowersTarget (tree.array_target at before (of.dots_pointer read) (of.behind_dots (found_at spot) read)) state.old result state.new }
+{
+    array_of(parts, state, at, elems)
 }
 
 pub(crate) fn tuple_aim<T: TargetParts>(
@@ -270,7 +302,7 @@ pub(crate) fn array_aim<T: TargetParts>(
     ensures { let spot = T.spot parts.now in
         Aims spot (tree.list_expr at tree.array_of (exprs_part spot elems.now)) state.old result state.new }
 {
-    Ok(Aim::Pat(array_form(parts, state, at, elems)?))
+    Ok(Aim::Pat(array_form(parts, state, at, elems.as_slice())?))
 }
 
 /// The path of a callee that is a path as it stands.
