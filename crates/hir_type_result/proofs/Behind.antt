@@ -48,22 +48,22 @@ module _ {A : Type 0} {p : Lowering A} (b c : Builder) (a : A) (paired : Paired 
       let x = (after_lowering h b a c paired is c.stored (extends_refl c.stored)).told some_around.0 some_around.1 in
       x.is ∙ ap (λ ks. b.stored.block_scopes ++ ks) (sym x.like)
 
-  pub roots_behind : {es : Bodies} → Notes es p → (later : Stored) → Extends c.stored later → Settled c.stored later
+  pub roots_behind : {es : Bodies} → Notes es p → (later : Stored) → Extends c.stored later
       → RootsOf b.scopes b.stored c.stored later (recorded b.in_root es)
-  roots_behind {es = es} h later stays settled = by b.in_root refl (subst (λ q. Noted es b q.0 q.1) is (h.notes b))
+  roots_behind {es = es} h later stays = by b.in_root refl (subst (λ q. Noted es b q.0 q.1) is (h.notes b))
     where
       by : (inside : Bool) → b.in_root ≡ inside → Noting es b c → RootsOf b.scopes b.stored c.stored later (recorded inside es)
       by true e n = no_roots (further_stored n.kept.stays (n.settled paired)) (n.kept.roots e)
-      by false e n = n.noted e paired later stays settled
+      by false e n = n.noted e paired later stays
 
 pub type_roots : TypeRoots
 unfolding type_inner_bodies
 type_roots binder t b c i paired is later stays =
     let held = in_frames (part_holds binder t) (frames b.scopes) b c i (ribs_frames b.scopes) paired is later stays in
-    ((λ settled. roots_behind b c i paired is (type_notes binder t) later stays settled), held_whole held)
+    (roots_behind b c i paired is (type_notes binder t) later stays, held_whole held)
 
 pub path_roots : PathRoots
 unfolding path_inner_bodies
 path_roots p b c r paired is later stays =
     let held = in_frames (path_holds p) (frames b.scopes) b c r (ribs_frames b.scopes) paired is later stays in
-    ((λ settled. roots_behind b c r paired is (path_notes p) later stays settled), held_whole held)
+    (roots_behind b c r paired is (path_notes p) later stays, held_whole held)

@@ -47,8 +47,10 @@ use Rattle.hir_same_meaning.specs.Reached.{of_each, reached_to, Spread}
 use Rattle.hir_type_result.specs.Inside.{InsideReachedOnce, TypeInsideReachedOnce, PathInsideReachedOnce}
 use Rattle.hir_type_result.proofs.Meaning.{held_deep}
 use Rattle.hir_type_result.proofs.Counted.{times, times_append, counted_spread}
-use Rattle.hir_type_result.proofs.Weighed.{Cost, view, free, an_expr, a_type, a_type_pat, a_pat, a_limit, a_target, a_constant, sum, Adds, adds_pure}
-use Rattle.hir_type_result.proofs.Weighed.{adds_then, adds_beside, adds_any, adds_from, adds_type, adds_expr, adds_constant, adds_limit, adds_pat, adds_target}
+use Rattle.hir_type_result.proofs.Weighed.{Cost, view, free, an_expr, a_type, a_type_pat, a_pat, a_limit, a_target, a_constant, sum}
+use Rattle.hir_type_result.proofs.Weighed.{Adds, adds_pure}
+use Rattle.hir_type_result.proofs.Weighed.{adds_then, adds_beside, adds_any, adds_from, adds_type, adds_expr, adds_constant}
+use Rattle.hir_type_result.proofs.Weighed.{adds_limit, adds_pat, adds_target}
 use Rattle.hir_type_result.proofs.Weighed.{adds_type_pat}
 use Rattle.hir_type_result.proofs.Weights as weights
 use Rattle.hir_type_result.proofs.InsideTypes.{maybe_type, types, a_bound, bounds, arguments, lists, maybe_path, walk, reading}

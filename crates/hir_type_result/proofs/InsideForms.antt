@@ -46,7 +46,8 @@ abbrev pub each : {A : Type 0} → (A → Cost) → List A → Cost
 each cost [] v = 0
 each cost (a ∷ as') v = cost a v + each cost as' v
 
-pub each_push : {A : Type 0} (cost : A → Cost) (done : List A) (a : A) (v : View) → each cost (done ++ a ∷ []) v ≡ each cost done v + cost a v
+pub each_push : {A : Type 0} (cost : A → Cost) (done : List A) (a : A) (v : View)
+    → each cost (done ++ a ∷ []) v ≡ each cost done v + cost a v
 each_push cost [] a v = omega arith
 each_push cost (b ∷ done) a v = let e = each_push cost done a v in omega arith
 

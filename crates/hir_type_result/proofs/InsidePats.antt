@@ -281,7 +281,7 @@ module _ (at : Pointer) where
   pub limits_adds : {s e : ExprSteps} → Correct s (Adds free a_limit) → Correct e (Adds free a_limit)
       → Correct (ranges.limits_form at s e) (Adds free a_type_pat)
   unfolding ranges.limits_form
-  limits_adds hs he = adds_then hs (λ s. adds_then (adds_beside (a_limit s) he) 
+  limits_adds hs he = adds_then hs (λ s. adds_then (adds_beside (a_limit s) he)
       (λ e. adds_type_pat (pat.Range op.Inclusive (Some s) (Some e)) (Some at) (limits_less op.Inclusive s e)))
 
   pub type_alternatives_adds : {ps : Lowering (List PatId)} → Correct ps (Adds free type_pats)

@@ -74,7 +74,7 @@ pub pushed : (is : List PatId) (i : PatId) (v : View) → all_targets (is ++ i �
 pushed is i v =
     let e = weights.each_push v.weight v.held.pat is i in
     let x = times_each v.number v.reach (places_in_each (part v) is []) (part v i [])
-        (each_push (part v) is i ∙ each_front (part v) (front v) is (part v i [])) in omega (arith, e, x)
+    (each_push (part v) is i ∙ each_front (part v) (front v) is (part v i [])) in omega (arith, e, x)
 
 pub field_pushed : (fs : List RecordFieldPat) (o : Option RecordFieldPat) (v : View)
     → target_fields (push_some fs o) v ≤ target_fields fs v + maybe_target_field o v
@@ -82,7 +82,7 @@ field_pushed fs None v = omega arith
 field_pushed fs (Some f) v =
     let e = weights.each_push v.weight (of_pat_field v.held) fs f in
     let x = times_each v.number v.reach (places_in_fields (part v) fs []) (part v f.pat [])
-        (fields_push (part v) fs f ∙ fields_front (part v) (front v) fs (part v f.pat [])) in omega (arith, e, x)
+    (fields_push (part v) fs f ∙ fields_front (part v) (front v) fs (part v f.pat [])) in omega (arith, e, x)
 
 -- ---- forms
 

@@ -26,7 +26,8 @@ use Rattle.hir_lower_form.specs.declared.walk.Reading.TheVariants.{Refused, Ende
 use Rattle.hir_lower_form.specs.Lowering.{Lowering, ◌>>=◌, pure, alloc_type}
 use Rattle.hir_lower_form.specs.Walks.{at_first, no_names, self_read, super_read, one_more_super, named}
 use Rattle.hir_lower_form.specs.Paths.{proceed, whole, counted, read_trait, with_trait, parens_form, or_else, segment_args_form}
-use Rattle.hir_lower_form.specs.Types.{TypeSteps, error_type, unit_type, lower_lifetime_option, over_form, array_type_form, pattern_type_form}
+use Rattle.hir_lower_form.specs.Types.{TypeSteps, error_type, unit_type, lower_lifetime_option, over_form, array_type_form}
+use Rattle.hir_lower_form.specs.Types.{pattern_type_form}
 use Rattle.hir_lower_form.specs.Types.{tuple_type_form, path_type_form, ref_type_form, fn_type_form, impl_type_form, dyn_type_form}
 use Rattle.hir_lower_form.specs.Types.{stored_leaf_type, stored_over_type, path_or_error, stored_impl}
 use Rattle.hir_lower_form.specs.Types.{binding_form, path_bound_of, path_bound_form}
@@ -35,7 +36,8 @@ use Rattle.hir_steps.proofs.Steps.{Correct, correct_alloc_type, correct_count_ou
 use Rattle.hir_steps.proofs.TypeAny.{lifetime_option_any}
 use Rattle.hir_same_meaning.proofs.HeldArgs.{of_binding}
 use Rattle.hir_type_result.proofs.Counted.{either}
-use Rattle.hir_type_result.proofs.Weighed.{View, Cost, free, beside, a_type, a_type_pat, a_constant, sum, sum_append, Adds, adds_pure, adds_then}
+use Rattle.hir_type_result.proofs.Weighed.{View, Cost, free, beside, a_type, a_type_pat, a_constant, sum, sum_append, Adds}
+use Rattle.hir_type_result.proofs.Weighed.{adds_pure, adds_then}
 use Rattle.hir_type_result.proofs.Weighed.{adds_beside, adds_any, adds_from, adds_type}
 use Rattle.hir_type_result.proofs.Weights as weights
 

@@ -48,7 +48,7 @@ pub constant_means : (e : OptionExpr) (ps : List Frame) (b c : Builder) (x : Con
 unfolding inner_bodies
 constant_means e ps b c x scopes paired is later stays =
     let row = in_frames (correct_constant (correct_both (correct_in_store (part_fine e)) (body_holds e))) ps b c x scopes paired is later
-        stays in
+    stays in
     let n = row.nodes in
     let t = row.entries in
     let inside = row.rel in

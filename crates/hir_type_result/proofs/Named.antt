@@ -141,7 +141,7 @@ each_formal_adds : (skipped : Bool) (done : List PatId) (fs : List Formal) → C
 each_formal_adds skipped done [] = adds_pure done (λ l k. omega arith)
 each_formal_adds skipped done (f ∷ fs) = some_then (λ l. l.pats) (formal_adds skipped f) (λ is. each_formal_adds skipped is fs) done
 
-abbrev given : Given → Numbers
+abbrev pub given : Given → Numbers
 given g = pats g.1
 
 formals_add : (skipped : Bool) (f : Formals) → Correct (lower_formals skipped f) (Adds none given)
@@ -149,7 +149,7 @@ unfolding lower_formals
 formals_add skipped f = adds_then (self_quiet f.receiver) (λ s. adds_then (each_formal_adds skipped [] f.formals)
     (λ ps. adds_pure (s, ps) (λ l k. omega arith)))
 
-body_adds : (skipped : Bool) (f : Formals) (e : OptionExpr) → Correct (lower_body skipped f e) (Adds none (λ r. given r.0))
+pub body_adds : (skipped : Bool) (f : Formals) (e : OptionExpr) → Correct (lower_body skipped f e) (Adds none (λ r. given r.0))
 unfolding lower_body
 body_adds skipped f e = adds_then (formals_add skipped f) (λ g. adds_then (adds_quiet (part_quiet e))
     (λ root. adds_pure (g, root) (λ l k. omega arith)))

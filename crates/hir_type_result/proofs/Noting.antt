@@ -74,7 +74,7 @@ settled_trans g h = prefix_trans g h
 pub record Noting (es : Bodies) (b c : Builder) : Type 0 where
   pub kept : KeepsAll b c
   pub settled : Paired b.stored → Settled b.stored c.stored
-  pub noted : b.in_root ≡ false → Paired b.stored → (later : Stored) → Extends c.stored later → Settled c.stored later
+  pub noted : b.in_root ≡ false → Paired b.stored → (later : Stored) → Extends c.stored later
       → RootsOf b.scopes b.stored c.stored later es
 
 abbrev pub Noted : {A : Type 0} → Bodies → Builder → Checked A → Builder → Type 0
@@ -122,15 +122,16 @@ roots_append store source_map around lo hi (r ∷ rs) [] ss fs le g h = absurd g
 roots_append store source_map around lo hi (r ∷ rs) (e ∷ es) ss fs le g h =
     (g.0, roots_append store source_map around (ends_of r) hi rs es ss fs le g.1 h)
 
-roots_then : {around : Open} {a b c later : Stored} {es fs : Bodies} → RootsOf around a b later es → RootsOf around b c later fs
-    → RootsOf around a c later (es ++ fs)
-roots_then {around = around} {a = a} {b = b} {c = c} {later = later} {es = es} {fs = fs} g h =
+roots_then : {around : Open} {a b c later : Stored} {es fs : Bodies} → Settled b c → RootsOf around a b later es
+    → RootsOf around b c later fs → RootsOf around a c later (es ++ fs)
+roots_then {around = around} {a = a} {b = b} {c = c} {later = later} {es = es} {fs = fs} settled g h =
     let from = ends_now a in
     let to = ends_now b in
     let after = ends_later (last_end from g.roots) to h.roots g.ends in record {
       roots = g.roots ++ h.roots;
       is = h.is ∙ (ap (λ rs. rs ++ h.roots) g.is ∙ append_assoc a.roots g.roots h.roots);
-      each = roots_append (store_of later) (map_of later) around from to g.roots es h.roots fs g.ends g.each h.each;
+      each = λ s. roots_append (store_of later) (map_of later) around from to g.roots es h.roots fs g.ends
+          (g.each (settled_trans settled s)) (h.each s);
       ends = subst (λ x. Further x (ends_now c)) (sym (ends_append from g.roots h.roots)) (further_trans after h.ends);
     }
 
@@ -138,10 +139,10 @@ noting_then : {es fs : Bodies} {a b c : Builder} → Noting es a b → Noting fs
 noting_then {fs = fs} {b = b} {c = c} g h = record {
   kept = kept_trans g.kept h.kept;
   settled = λ d. settled_trans (g.settled d) (h.settled (g.kept.paired d));
-  noted = λ outside d later x s.
-      roots_then (g.noted outside d later (extends_trans h.kept.stays x) (settled_trans (h.settled (g.kept.paired d)) s))
+  noted = λ outside d later x.
+      roots_then (h.settled (g.kept.paired d)) (g.noted outside d later (extends_trans h.kept.stays x))
       (subst (λ rs. RootsOf rs b.stored c.stored later fs) g.kept.scopes
-      (h.noted (g.kept.in_root ∙ outside) (g.kept.paired d) later x s));
+      (h.noted (g.kept.in_root ∙ outside) (g.kept.paired d) later x));
 }
 
 then_noted : {B : Type 0} {es : Bodies} (fs : Bodies) {b b' : Builder} → Noting es b b' → (o : Checked B) (c : Builder)
@@ -179,7 +180,7 @@ notes_end {es = es} h k = notes_as (append-nil es) (notes_then h k)
 
 pub no_roots : {around : Open} {a b later : Stored} → Further (ends_now a) (ends_now b) → b.roots ≡ a.roots
     → RootsOf around a b later []
-no_roots {a = a} le e = record { roots = []; is = e ∙ sym (append-nil a.roots); each = tt; ends = le }
+no_roots {a = a} le e = record { roots = []; is = e ∙ sym (append-nil a.roots); each = λ s. tt; ends = le }
 
 -- neither roots nor bindings come
 record Aside (m m' : Mark) : Type 0 where
@@ -203,7 +204,7 @@ notes_none {A = A} {R = R} {p = p} h still =
         λ d. as_settled b.stored c.stored (aside c.stored d (extends_refl c.stored)).bindings in record {
           kept = kept;
           settled = settled;
-          noted = λ outside d later e s. no_roots (further_stored kept.stays (settled d)) (aside later d e).roots;
+          noted = λ outside d later e. no_roots (further_stored kept.stays (settled d)) (aside later d e).roots;
         }
     by b (Err f) c x = tt
 
@@ -258,7 +259,7 @@ reached_pats a b later es more new behind deep k ns spread =
     let x = times_total k (λ n. pats_of_found (store_of later) deep (slice_get later.exprs.entries n)) ns in
     let y = times_total k (of_expr l) es in
     let z = in_range (λ e. times k (of_expr l e)) (λ n. times k (pats_of_found (store_of later) deep (slice_get later.exprs.entries n)))
-        es (length a.exprs.entries) (length b.exprs.entries) ns (omega (arith, n, n')) found spread.within spread.distinct in
+    es (length a.exprs.entries) (length b.exprs.entries) ns (omega (arith, n, n')) found spread.within spread.distinct in
     omega (arith, x, y, z)
   where
     all : later.exprs.entries ≡ (a.exprs.entries ++ es) ++ more
@@ -289,9 +290,10 @@ module _ {A : Type 0} {p : Lowering A} (x : InnerBody) (b c : Builder) (a : A) (
         same = same;
         reached_once = once;
         pats_reached_once = λ depth deep le le'. counted_spread _ _ _ (λ k.
-            let u = pats_counted (λ a. []) quiet (λ a l k. omega arith) b c a paired is later stays deep le' es.more es.is ts.more ts.is k in
+            let u = pats_counted (λ a. []) quiet (λ a l k. omega arith) b c a paired is later stays deep le' es.more es.is ts.more ts.is k
+            in
             let v = reached_pats b.stored c.stored later es.more behind.more es.is behind.is deep k
-                (reached_to (store_of later) depth i) (once depth le) in
+            (reached_to (store_of later) depth i) (once depth le) in
             let l = of_pats_alone (pats_reached later.pats.entries deep) in
             let w = times_append k (of_exprs l es.more) (of_types l ts.more) in omega (arith, u, v, w));
       }
@@ -331,12 +333,12 @@ module _ {A : Type 0} (make : ExprId → A) (x : InnerBody) where
           let left = (go_on {B = A} (Ok i) c (leaving false)).1 in record {
             kept = kept;
             settled = λ d. root_settles x (entered b) c i d is;
-            noted = λ outside d later e s.
+            noted = λ outside d later e.
                 let stays = extends_trans (extends_root c.stored root) e in
-                let shown = rooted x (entered b) c i d is later stays s in
                 let f = facts left i d refl later e in
                 let goes_on = further_stored inner.stays (root_settles x (entered b) c i d is) in
-                let whole : RootIs (store_of later) (map_of later) b.scopes (ends_now b.stored) root x = record {
+                let whole : Settled c.stored later → RootIs (store_of later) (map_of later) b.scopes (ends_now b.stored) root x =
+                λ s. let shown = rooted x (entered b) c i d is later stays s in record {
                   same = f.same;
                   ways = shown.ways;
                   stands = shown.stands;
@@ -347,7 +349,7 @@ module _ {A : Type 0} (make : ExprId → A) (x : InnerBody) where
                 record {
                   roots = root ∷ [];
                   is = ap (λ rs. rs ++ root ∷ []) (inner.roots refl);
-                  each = (whole, tt);
+                  each = λ s. (whole s, tt);
                   ends = further_refl (ends_of root);
                 };
           }
@@ -373,7 +375,8 @@ limit_facts l b c i paired is kept later stays =
     (limit_means l (frames b.scopes) b c i (ribs_frames b.scopes) paired is later stays)
     (λ depth le. one_spread (inside_once (limit_adds l) b c i paired is later stays depth le (i ∷ []) (λ k. omega arith)))
 
-limit_notes : (l : Limit) → lower_limit l ≡ inner_form (contents (limit_body l)) → Notes (limit_body l ∷ []) (inner_form (contents (limit_body l)))
+limit_notes : (l : Limit) → lower_limit l ≡ inner_form (contents (limit_body l))
+    → Notes (limit_body l ∷ []) (inner_form (contents (limit_body l)))
 unfolding inner_form
 limit_notes l is_form =
     let inside = contents_any (limit_body l) in

@@ -24,7 +24,8 @@ use Rattle.hir_lower_form.specs.Ranges.{limits_form, type_alternatives_form}
 use Rattle.hir_lower_form.specs.Walks as walks
 use Rattle.hir_lower_form.specs.Paths.{proceed, whole, counted, read_trait, with_trait, parens_form, or_else, segment_args_form}
 use Rattle.hir_lower_form.specs.Types.{TypeSteps, error_type, unit_type, lower_lifetime, lower_lifetime_option, lower_use, lower_uses}
-use Rattle.hir_lower_form.specs.Types.{over_form, pattern_type_form, array_type_form, tuple_type_form, path_type_form, ref_type_form, fn_type_form}
+use Rattle.hir_lower_form.specs.Types.{over_form, pattern_type_form, array_type_form, tuple_type_form, path_type_form}
+use Rattle.hir_lower_form.specs.Types.{ref_type_form, fn_type_form}
 use Rattle.hir_lower_form.specs.Types.{impl_type_form, dyn_type_form, binding_form, path_bound_of, path_bound_form}
 use Rattle.hir_meaning.specs.Inner.{Bodies}
 use Rattle.hir_one_result.specs.Size.{Size, a_type, if_so}

@@ -29,11 +29,10 @@ without_total f n (j ∷ js) = by (nat_eq j n) refl
     by false e = let r = without_total f n js in omega arith
 
 -- those behind it, where each stands once
-Behind : ℕ → ℕ → ℕ → Type 0
+abbrev Behind : ℕ → ℕ → ℕ → Type 0
 Behind n hi j = (suc n ≤ j) × (j < hi)
 
 behind_each : (n hi : ℕ) (js : List ℕ) → Each (Between n hi) js → Each (λ j. n ≢ j) js → Each (Behind n hi) js
-unfolding Behind
 behind_each n hi [] h d = tt
 behind_each n hi (j ∷ js) h d = (((not_same n j h.0.0 d.0), h.0.1), behind_each n hi js h.1 d.1)
   where
@@ -42,10 +41,6 @@ behind_each n hi (j ∷ js) h d = (((not_same n j h.0.0 d.0), h.0.1), behind_eac
     not_same zero (suc j) le d = omega arith
     not_same (suc n) zero le d = absurd (omega (arith, le))
     not_same (suc n) (suc j) le d = let r = not_same n j (omega (arith, le)) (λ e. d (ap suc e)) in omega (arith, r)
-
-each_less : {P Q : ℕ → Type 0} (js : List ℕ) → ((j : ℕ) → P j → Q j) → Each P js → Each Q js
-each_less [] f h = tt
-each_less (j ∷ js) f h = (f j h.0, each_less js f h.1)
 
 without_each : (P : ℕ → Type 0) (n : ℕ) (ns : List ℕ) → Each P ns → Each P (without n ns)
 without_each P n [] h = tt
@@ -83,16 +78,12 @@ in_range {A = A} g f (x ∷ xs) lo hi (n ∷ ns) le h e d =
     let js = without lo (n ∷ ns) in
     let behind = behind_each lo hi js (without_each (Between lo hi) lo (n ∷ ns) e) (without_it lo (n ∷ ns) d) in
     let r = in_range g f xs (suc lo) hi js (omega (arith, le)) (λ i m y at is. h i (suc m) y (omega (arith, at)) is)
-        (each_less js (λ j b. between lo hi j b) behind) (without_distinct lo (n ∷ ns) d) in
+    behind (without_distinct lo (n ∷ ns) d) in
     let s = without_total f lo (n ∷ ns) in
     let t = h lo 0 x (omega arith) refl in omega (arith, r, s, t)
-  where
-    between : (lo hi j : ℕ) → Behind lo hi j → Between (suc lo) hi j
-    unfolding Behind
-    between lo hi j b = b
 
 -- what stands between others
-found_between : {A : Type 0} (before xs behind : List A) (n m : ℕ) (x : A) → n ≡ length before + m → slice_get xs m ≡ Some x
+pub found_between : {A : Type 0} (before xs behind : List A) (n m : ℕ) (x : A) → n ≡ length before + m → slice_get xs m ≡ Some x
     → slice_get ((before ++ xs) ++ behind) n ≡ Some x
 found_between [] xs behind n m x e h =
     let s : m ≡ n = omega (arith, e) in subst (λ k. slice_get (xs ++ behind) k ≡ Some x) s (found_behind xs behind m x h)

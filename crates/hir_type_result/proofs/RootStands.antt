@@ -77,7 +77,7 @@ pub rooted : (x : InnerBody) (b c : Builder) (i : ExprId) → Paired b.stored �
 rooted x b c i paired is later stays settled =
     let lasts = after_lowering (inner_shows x) b i c paired is later stays in
     let y = subst (λ rs. Shown (StandsInner (store_of later) (map_of later) rs x i) b.stored c.stored) (sym (ribs_frames b.scopes))
-        (lasts.rel (unchanged_settled (bound b.stored) settled)).shown in
+    (lasts.rel (unchanged_settled (bound b.stored) settled)).shown in
     record { ways = y.ways; stands = y.shown }
 
 -- what was settled of the bindings stays

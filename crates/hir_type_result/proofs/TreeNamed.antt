@@ -72,7 +72,8 @@ some_then {A = A} {now = now} names {q = q} h k done = adds_then (adds_beside (�
         (k (done ++ a ∷ []))
 
 -- an expression is no statement that names anything
-expr_statement : (semi : Bool) (o : Option ExprId) → Correct (pure (option_map (λ i. statement.Expr i semi) o)) (Adds none pats.maybe_statement)
+expr_statement : (semi : Bool) (o : Option ExprId)
+    → Correct (pure (option_map (λ i. statement.Expr i semi) o)) (Adds none pats.maybe_statement)
 expr_statement semi None = adds_pure None (λ l k. omega arith)
 expr_statement semi (Some i) = adds_pure (Some (statement.Expr i semi)) (λ l k. omega arith)
 

@@ -53,7 +53,7 @@ type_results limit t i new is =
     let settled : Settled new.stored new.stored = prefix_refl new.stored.bindings.entries in
     let left = ways_behind old new i none is (type_left None t) new.stored stays settled in
     let rooted = type_roots None t old new i none is new.stored stays in
-    let r : RootsOf [] old.stored new.stored new.stored (type_part_size t).inner = rooted.0 settled in
+    let r : RootsOf [] old.stored new.stored new.stored (type_part_size t).inner = rooted.0 in
     let faults = faults_behind old new i none is (type_reports None t) [] refl in record {
       reads_back = type_law t old new i none is new.stored stays;
       inner = rooted.1;
@@ -82,7 +82,7 @@ type_results limit t i new is =
       inside_reached_once = type_inside None t old new i none is new.stored stays;
       pats_reached_once = λ depth le.
           type_pats_once None t old new i none is new.stored stays depth le new.stored.exprs.entries refl new.stored.types.entries refl;
-      roots = subst (λ rs. RootsAre (store_of new.stored) (map_of new.stored) [] no_ends rs (type_part_size t).inner) (sym r.is) r.each;
+      roots = subst (λ rs. RootsAre (store_of new.stored) (map_of new.stored) [] no_ends rs (type_part_size t).inner) (sym r.is) (r.each settled);
       roots_end = subst (λ rs. Further (last_end no_ends rs) (ends_of_store (store_of new.stored))) (sym r.is) r.ends;
       blocks = blocks_behind old new i none is (type_enters None t);
       faults = subst (IsPermutation (type_part_faults [] t)) (sym faults.is) faults.like;

@@ -98,11 +98,12 @@ abbrev pub last_end : Ends → List ExprRoot → Ends
 last_end begins [] = begins
 last_end begins (r ∷ rs) = last_end (ends_of r) rs
 
--- behind the roots that were recorded before comes one for each of these bodies
+-- Behind the roots that were recorded before comes one for each of these bodies. In a later store each stands there as long as what
+-- was settled of the bindings stays.
 pub record RootsOf (around : Open) (old new later : Stored) (bs : Bodies) : Type 0 where
   pub roots : List ExprRoot
   pub is : new.roots ≡ old.roots ++ roots
-  pub each : RootsAre (store_of later) (map_of later) around (ends_now old) roots bs
+  pub each : Settled new later → RootsAre (store_of later) (map_of later) around (ends_now old) roots bs
   pub ends : Further (last_end (ends_now old) roots) (ends_now new)
 
 -- inside of another root none is recorded
@@ -110,13 +111,13 @@ abbrev pub recorded : Bool → Bodies → Bodies
 recorded true bs = []
 recorded false bs = bs
 
--- The bodies inside a lowered type are recorded, those too that nothing reaches afterwards. In a later store they stand there as
--- long as what was settled of the bindings stays. Each that the type reaches is like the written one.
+-- The bodies inside a lowered type are recorded, those too that nothing reaches afterwards. Each that it reaches is like the
+-- written one.
 abbrev pub TypeRoots : Type 0
 TypeRoots =
     (binder : Option Binder) (t : OptionType) (b b' : Builder) (i : TypeRefId) → Paired b.stored → type_part binder t b ≡ (Ok i, b')
     → (later : Stored) → Extends b'.stored later
-    → (Settled b'.stored later → RootsOf b.scopes b.stored b'.stored later (recorded b.in_root (type_part_size t).inner))
+    → RootsOf b.scopes b.stored b'.stored later (recorded b.in_root (type_part_size t).inner)
     × SameBodies (store_of later) (map_of later) (type_inner_bodies (store_of later) i) (part_bodies t)
 
 -- So it is of paths. A refused one reaches nothing, but its constants are recorded.
@@ -124,5 +125,5 @@ abbrev pub PathRoots : Type 0
 PathRoots =
     (p : OptionPath) (b b' : Builder) (r : Option Path) → Paired b.stored → lower_path p b ≡ (Ok r, b')
     → (later : Stored) → Extends b'.stored later
-    → (Settled b'.stored later → RootsOf b.scopes b.stored b'.stored later (recorded b.in_root (whole_size p).inner))
+    → RootsOf b.scopes b.stored b'.stored later (recorded b.in_root (whole_size p).inner)
     × SameBodies (store_of later) (map_of later) (of_present (path_inner_bodies (store_of later)) r) (path_bodies p)
