@@ -124,7 +124,6 @@ fn said_with(
 }
 
 /// What an entry says of a path.
-#[tactic(auto, using(crate::proofs::Tuples::under_five, crate::proofs::Tuples::over_five))]
 fn said_in(
     alloc: Global,
     items: &[Value],
