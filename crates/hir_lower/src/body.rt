@@ -1,20 +1,19 @@
 //! Bodies of items.
 
 ghost use Rattle.std.specs.Prelude.{◌≡◌, ◌≢◌, Bool, false, is_some, map, IfOk, IsErrOf, option_copied, option_map};
-ghost use Rattle.hir_store.specs.Range.{HasNone, InRange};
+ghost use Rattle.hir_store.specs.Range.{InRange};
 ghost use Rattle.hir_store.specs.Stored.{map_of, store_of};
 ghost use Rattle.hir_store.specs.Storing.{empty};
 ghost use Rattle.hir_env.specs.Formals.{answered_formals};
-ghost use Rattle.hir_env.specs.Spot.{Spot};
 ghost use Rattle.hir_env.specs.Whole.{expr_part};
 ghost use Rattle.hir_lower_form.specs.Lowering.{Lowers};
 ghost use Rattle.hir_one_result.specs.OneResult.{OneResult};
 ghost use Rattle.hir_one_result.specs.Room.{BodyTooLarge};
 ghost use Rattle.hir_lower_handlers.specs.Spots.{spot_at};
 ghost use Rattle.hir_lower.specs.Formals.{are_read, item_formals, lower_formals, outside_place, outside_the_body, self_source};
-ghost use Rattle.hir_lower.specs.Means.{HasBody, HasParams, body_fault, body_owes, body_read, required_body};
-ghost use Rattle.hir_lower.specs.Roots.{GivenFromNothing, HasBehind, RefusedAtEnd, StoresFromNothing, await_location, behind, body_spot};
-ghost use Rattle.hir_lower.specs.Roots.{given_of, item_of, report_missing};
+ghost use Rattle.hir_lower.specs.Means.{HasBody, HasParams, body_owes, body_read, required_body};
+ghost use Rattle.hir_lower.specs.Roots.{GivenFromNothing, HasBehind, RefusedAtEnd, StoresFromNothing, await_location, behind, body_of};
+ghost use Rattle.hir_lower.specs.Roots.{body_spot, given_of, item_of};
 ghost use Rattle.hir_lower.specs.Roots.{as_written as written};
 
 use crate::collector::collect_expr_opt;
@@ -154,23 +153,29 @@ fn behind_formals<E: LowerEnv>(
     Ok((given, root))
 }
 
-/// Reports that a body is missing where it must be there.
-#[tactic(auto, unfolding(crate::specs::Roots::report_missing))]
-fn report_if_missing(
+/// Lowers the parameters and the body of an item that isn't skipped, where a body that must be there may be missing.
+#[tactic(auto, unfolding(crate::specs::Roots::body_of, crate::specs::Roots::report_missing))]
+fn kept_item<E: LowerEnv>(
+    alloc: Global,
+    env: &E,
+    place: Place,
     state: &mut BodyBuilder,
+    bare: bool,
     node: InFile<AstPtr>,
     required: Option<MissingBodyItemKind>,
+    params: Option<&ast::ParamList>,
     body: Option<&ast::Expr>,
-) -> Result<(), StoreFault>
-    ensures { (at : Spot) → let fault = body_fault required (expr_part at (option_copied body.entry)) in
-        Lowers HasNone (report_missing node fault) state.old result state.new }
+) -> Result<((Option<BindingId>, Seq<PatId>), ExprId), StoreFault>
+    ensures { let at = spot_at (E.answers env.now) place in
+        let formals = answered_formals (outside_the_body at) bare (option_copied params.entry) in
+        Lowers HasBehind (body_of false node required formals (expr_part at (option_copied body.entry))) state.old result state.new }
 {
     if body.is_none()
         && let Some(kind) = required
     {
         state.report(ExpressionStoreDiagnostics::MissingBody { node, kind })?;
     }
-    Ok(())
+    behind_formals(alloc, env, place, state, false, bare, params, body)
 }
 
 /// Lowers the parameters and the body of an item. Where the item is skipped, its body is absent and no pattern is read.
@@ -194,13 +199,16 @@ fn lower_item<E: LowerEnv>(
     if env.skip(owner) {
         return behind_formals(alloc, env, place, state, true, bare, params, None);
     }
+    let required = required_body_kind(owner, container);
     let node = InFile {
         file_id: place.file_id,
         value: node,
     };
-    report_if_missing(state, node, required_body_kind(owner, container), body)?;
-    let params = if is_function(owner) { params } else { None };
-    behind_formals(alloc, env, place, state, false, bare, params, body)
+    if is_function(owner) {
+        kept_item(alloc, env, place, state, bare, node, required, params, body)
+    } else {
+        kept_item(alloc, env, place, state, bare, node, required, None, body)
+    }
 }
 
 /// The node of the `self` that the item's body has.
@@ -252,17 +260,17 @@ fn finished(
     alloc: Global,
     state: BodyBuilder,
     receiver: Option<BindingId>,
-    pats: &[PatId],
+    pats: Seq<PatId>,
     self_param: Option<InFile<AstPtr>>,
 ) -> Result<(Body, BodySourceMap), AllocError>
     ensures store { IfOk result (λ r. r.0.store ≡ store_of state.stored) }
     ensures source_map { IfOk result (λ r. r.1.store ≡ map_of state.stored) }
-    ensures params { IfOk result (λ r. r.0.params ≡ map written pats.now) }
+    ensures params { IfOk result (λ r. r.0.params ≡ map written pats) }
     ensures receiver { IfOk result (λ r. r.0.self_param ≡ option_map written receiver) }
     ensures self_param { IfOk result (λ r. r.1.self_param ≡ self_param) }
     ensures in_range { IfOk result (λ r. InRange r.0.store r.1.store) }
 {
-    match as_written(pats, alloc) {
+    match as_written(pats.as_slice(), alloc) {
         Ok(params) => {
             let (store, source_map) = state.into_store().finish();
             let body = Body {
@@ -330,7 +338,7 @@ fn body_steps<E: LowerEnv>(
     ) {
         Ok(((receiver, pats), _root)) => {
             let self_param = item_self(db, place, owner, params);
-            match finished(alloc, state, receiver, pats.as_slice(), self_param) {
+            match finished(alloc, state, receiver, pats, self_param) {
                 Ok(lowered) => Ok(lowered),
                 Err(_) => Err(LowerError::Memory),
             }

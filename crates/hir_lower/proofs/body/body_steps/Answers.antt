@@ -16,5 +16,5 @@ returns-in-Ok-finished-clause-given g c = record {
   builder = c.lower_item.new.state;
   done = rw (c.new-state.ensures, c.await_location_of.ensures) at c.in-Ok.ensures.0;
   receiver = c.in-Ok-finished.ensures.receiver;
-  params = rw c.as_slice.ensures at c.in-Ok-finished.ensures.params;
+  params = c.in-Ok-finished.ensures.params;
 }
