@@ -126,7 +126,7 @@ abbrev literal_of : LiteralData → Literal
 literal_of d = record { negative = d.negative; kind = d.kind; text = d.text; suffix = d.suffix }
 
 module _ (store : Store) (source_map : SourceMap) where
-  literal_stored : (p : Pointer) (l : AstLiteral) (i : ExprId) (ws : List Way) → StandsLiteral store source_map p l i ws
+  pub literal_stored : (p : Pointer) (l : AstLiteral) (i : ExprId) (ws : List Way) → StandsLiteral store source_map p l i ws
       → slice_get store.exprs i.0 ≡ Some (hir.Literal (literal_of (literal_data l)))
   literal_stored p l i ws h = h.2.0.stored ∙ ap (λ d. Some (hir.Literal (literal_of d))) h.1
 
