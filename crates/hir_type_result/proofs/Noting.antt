@@ -67,8 +67,8 @@ further_trans g h = record {
 pub further_stored : {a b : Stored} → Extends a b → Settled a b → Further (ends_now a) (ends_now b)
 further_stored e s = record { exprs = longer e.exprs.entries; pats = longer e.pats.entries; bindings = longer s }
 
-settled_trans : {a b c : Stored} → Settled a b → Settled b c → Settled a c
-settled_trans g h = prefix_trans g h
+settled_trans : (a b c : Stored) → Settled a b → Settled b c → Settled a c
+settled_trans a b c g h = prefix_trans g h
 
 -- Nothing is lost, and outside of a root these bodies are recorded.
 pub record Noting (es : Bodies) (b c : Builder) : Type 0 where
@@ -131,14 +131,14 @@ roots_then {around = around} {a = a} {b = b} {c = c} {later = later} {es = es} {
       roots = g.roots ++ h.roots;
       is = h.is ∙ (ap (λ rs. rs ++ h.roots) g.is ∙ append_assoc a.roots g.roots h.roots);
       each = λ s. roots_append (store_of later) (map_of later) around from to g.roots es h.roots fs g.ends
-          (g.each (settled_trans settled s)) (h.each s);
+          (g.each (settled_trans b c later settled s)) (h.each s);
       ends = subst (λ x. Further x (ends_now c)) (sym (ends_append from g.roots h.roots)) (further_trans after h.ends);
     }
 
 noting_then : {es fs : Bodies} {a b c : Builder} → Noting es a b → Noting fs b c → Noting (es ++ fs) a c
-noting_then {fs = fs} {b = b} {c = c} g h = record {
+noting_then {fs = fs} {a = a} {b = b} {c = c} g h = record {
   kept = kept_trans g.kept h.kept;
-  settled = λ d. settled_trans (g.settled d) (h.settled (g.kept.paired d));
+  settled = λ d. settled_trans a.stored b.stored c.stored (g.settled d) (h.settled (g.kept.paired d));
   noted = λ outside d later x.
       roots_then (h.settled (g.kept.paired d)) (g.noted outside d later (extends_trans h.kept.stays x))
       (subst (λ rs. RootsOf rs b.stored c.stored later fs) g.kept.scopes

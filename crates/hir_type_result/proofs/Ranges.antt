@@ -22,11 +22,12 @@ without n (j ∷ js) = if nat_eq j n then js else (j ∷ without n js)
 
 without_total : (f : ℕ → ℕ) (n : ℕ) (ns : List ℕ) → total f ns ≤ f n + total f (without n ns)
 without_total f n [] = omega arith
-without_total f n (j ∷ js) = by (nat_eq j n) refl
+without_total f n (j ∷ js) = by (nat_eq j n) refl (without_total f n js)
   where
-    by : (t : Bool) → nat_eq j n ≡ t → f j + total f js ≤ f n + total f (if t then js else (j ∷ without n js))
-    by true e = let s = ap f (eqb-true j n e) in omega arith
-    by false e = let r = without_total f n js in omega arith
+    by : (t : Bool) → nat_eq j n ≡ t → total f js ≤ f n + total f (without n js)
+        → f j + total f js ≤ f n + total f (if t then js else (j ∷ without n js))
+    by true e r = let s = ap f (eqb-true j n e) in omega (arith, s)
+    by false e r = omega (arith, r)
 
 -- those behind it, where each stands once
 abbrev Behind : ℕ → ℕ → ℕ → Type 0
@@ -44,27 +45,27 @@ behind_each n hi (j ∷ js) h d = (((not_same n j h.0.0 d.0), h.0.1), behind_eac
 
 without_each : (P : ℕ → Type 0) (n : ℕ) (ns : List ℕ) → Each P ns → Each P (without n ns)
 without_each P n [] h = tt
-without_each P n (j ∷ js) h = by (nat_eq j n)
+without_each P n (j ∷ js) h = by (nat_eq j n) (without_each P n js h.1)
   where
-    by : (t : Bool) → Each P (if t then js else (j ∷ without n js))
-    by true = h.1
-    by false = (h.0, without_each P n js h.1)
+    by : (t : Bool) → Each P (without n js) → Each P (if t then js else (j ∷ without n js))
+    by true r = h.1
+    by false r = (h.0, r)
 
 without_distinct : (n : ℕ) (ns : List ℕ) → Distinct ns → Distinct (without n ns)
 without_distinct n [] h = tt
-without_distinct n (j ∷ js) h = by (nat_eq j n)
+without_distinct n (j ∷ js) h = by (nat_eq j n) (without_distinct n js h.1)
   where
-    by : (t : Bool) → Distinct (if t then js else (j ∷ without n js))
-    by true = h.1
-    by false = (without_each (λ i. j ≢ i) n js h.0, without_distinct n js h.1)
+    by : (t : Bool) → Distinct (without n js) → Distinct (if t then js else (j ∷ without n js))
+    by true r = h.1
+    by false r = (without_each (λ i. j ≢ i) n js h.0, r)
 
 without_it : (n : ℕ) (ns : List ℕ) → Distinct ns → Each (λ j. n ≢ j) (without n ns)
 without_it n [] h = tt
-without_it n (j ∷ js) h = by (nat_eq j n) refl
+without_it n (j ∷ js) h = by (nat_eq j n) refl (without_it n js h.1)
   where
-    by : (t : Bool) → nat_eq j n ≡ t → Each (λ i. n ≢ i) (if t then js else (j ∷ without n js))
-    by true e = subst (λ m. Each (λ i. m ≢ i) js) (eqb-true j n e) h.0
-    by false e = ((λ s. eqb-false j n e (sym s)), without_it n js h.1)
+    by : (t : Bool) → nat_eq j n ≡ t → Each (λ i. n ≢ i) (without n js) → Each (λ i. n ≢ i) (if t then js else (j ∷ without n js))
+    by true e r = subst (λ m. Each (λ i. m ≢ i) js) (eqb-true j n e) h.0
+    by false e r = ((λ s. eqb-false j n e (sym s)), r)
 
 -- entry m of xs has number lo + m
 pub in_range : {A : Type 0} (g : A → ℕ) (f : ℕ → ℕ) (xs : List A) (lo hi : ℕ) (ns : List ℕ) → hi ≤ lo + length xs

@@ -1,5 +1,5 @@
 -- What stands for a body inside, in its root.
-use Rattle.std.proofs.Common.{◌≡◌, sym, subst, List, Ok}
+use Rattle.std.proofs.Common.{◌≡◌, sym, subst, List, None, Ok}
 use Rattle.hir_store.specs.Stored.{Stored, store_of, map_of}
 use Rattle.hir_store.specs.Storing.{Extends}
 use Rattle.hir_store.specs.declared.ids.ExprId.{ExprId}

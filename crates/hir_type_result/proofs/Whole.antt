@@ -12,7 +12,7 @@ use Rattle.hir_one_result.specs.Diagnostics.{type_part_faults}
 use Rattle.hir_one_result.specs.Laws.{Defined, Grown, GrownUnless, Settled}
 use Rattle.hir_one_result.specs.Room.{type_part_size}
 use Rattle.hir_one_result.proofs.Fits.{types_fit}
-use Rattle.hir_one_result.proofs.Leading.{leads_nowhere}
+use Rattle.hir_one_result.proofs.Led.{leads_nowhere}
 use Rattle.hir_one_result.proofs.TreeBlocks.{type_enters}
 use Rattle.hir_one_result.proofs.TreeFaults.{type_reports}
 use Rattle.hir_one_result.proofs.TreeStands.{type_left}
@@ -82,7 +82,8 @@ type_results limit t i new is =
       inside_reached_once = type_inside None t old new i none is new.stored stays;
       pats_reached_once = λ depth le.
           type_pats_once None t old new i none is new.stored stays depth le new.stored.exprs.entries refl new.stored.types.entries refl;
-      roots = subst (λ rs. RootsAre (store_of new.stored) (map_of new.stored) [] no_ends rs (type_part_size t).inner) (sym r.is) (r.each settled);
+      roots = subst (λ rs. RootsAre (store_of new.stored) (map_of new.stored) [] no_ends rs (type_part_size t).inner) (sym r.is)
+          (r.each settled);
       roots_end = subst (λ rs. Further (last_end no_ends rs) (ends_of_store (store_of new.stored))) (sym r.is) r.ends;
       blocks = blocks_behind old new i none is (type_enters None t);
       faults = subst (IsPermutation (type_part_faults [] t)) (sym faults.is) faults.like;
