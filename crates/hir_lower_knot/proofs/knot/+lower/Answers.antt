@@ -11,6 +11,7 @@ use Rattle.hir_env.specs.Whole.{answered_path, answered_plain, expr_part, pointe
 use Rattle.hir_env.proofs.Levels.{expr_is_level, plain_is_level}
 use Rattle.hir_env.proofs.PathLevels.{path_is_level, type_is_level}
 use Rattle.hir_lower_handlers.specs.Nests.{HandlesArgs, HandlesBlock, HandlesConstant, HandlesExpr, HandlesPat, HandlesPath, HandlesType}
+use Rattle.hir_lower_handlers.specs.Nests.{HandlesTarget}
 use Rattle.hir_lower_handlers.specs.Spots.{spot_at}
 use Rattle.hir_lower_pat.proofs.AimLemmas.{kept_below}
 use Rattle.hir_lower_knot.proofs.Kids.{kids_expr, kids_block, in_inside}
@@ -189,8 +190,8 @@ lower_arg_list-args_node-requires g t c =
       type_ = HandlesType g.E.LowerEnv.answers _ _ c.args.env.now;
       args = HandlesArgs g.E.LowerEnv.answers _ _ c.args.env.now;
       constant = HandlesConstant g.E.LowerEnv.answers _ _ c.args.env.now;
-      pat = λ p x. Unit {0};
-      target = λ p e. Unit {0};
+      pat = HandlesPat g.E.LowerEnv.answers _ _ c.args.env.now;
+      target = HandlesTarget g.E.LowerEnv.answers _ _ _ _ c.args.env.now;
     }) t
     (record {
       types = λ p x h. record {
@@ -206,7 +207,10 @@ lower_arg_list-args_node-requires g t c =
         lowers = λ alloc v old new b r same is q. rw (← is) (rw (← same) q.2);
       };
       no_constant = λ p. tt;
-      pats = λ p x h. tt;
+      pats = λ p x h q less. let m : count_path (answered_path (spot_at env (inside_constant p)) q) < t = omega (arith, h, less) in record {
+        callable = λ alloc v old walk b same is has. (rw same (rw is m), ((λ a m. m), has));
+        reads = λ alloc v old new walk b r same is q. rw (← is) (rw (← same) q.3);
+      };
       lists = λ p x h. record {
         callable = λ alloc v old b same is. (rw same (rw is h), λ a m. m);
         lowers = λ alloc v old new b r same is q. args_read g.E.LowerEnv.answers p old.now new.now r same is q.2;
