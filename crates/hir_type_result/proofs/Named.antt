@@ -1,4 +1,5 @@
 -- Each type and each pattern that is stored is named in one way.
+use Rattle.std.proofs.Common.{◌∙◌, sym, suc, ◌<◌, slice_get, append_assoc, append-nil, length-append}
 use Rattle.std.proofs.Common.{◌≡◌, ◌≤◌, ap, arith, refl, ℕ, ◌+◌, Bool, true, false, length, List, [], ◌∷◌, ◌++◌, Option, Some, None, Ok}
 use Rattle.hir_store.specs.Stored.{Stored}
 use Rattle.hir_store.specs.Storing.{Extends}
@@ -18,16 +19,20 @@ use Rattle.hir_steps.specs.Keeps.{Paired}
 use Rattle.hir_steps.proofs.Steps.{Correct, correct_in_store}
 use Rattle.hir_one_result.specs.Formals.{Given, each_formal, lower_body, lower_formal, lower_formals, lower_self}
 use Rattle.hir_one_result.proofs.AfterLowering.{after_lowering}
-use Rattle.hir_same_meaning.specs.Reached.{Spread}
+use Rattle.hir_scope.specs.Each.{Each}
+use Rattle.hir_same_meaning.specs.Reached.{Between, Spread}
+use Rattle.hir_store.proofs.Extending.{extends_refl}
 use Rattle.hir_type_result.specs.Reached.{of_each, types_reached, TypesReachedOnce}
-use Rattle.hir_type_result.specs.Named.{Look, of_types_alone, of_pats_alone, of_expr, of_exprs, of_pat, of_pats}
+use Rattle.hir_type_result.specs.Named.{Look, of_types_alone, of_pats_alone, of_bindings_alone, of_expr, of_exprs, of_pat, of_pats}
 use Rattle.hir_type_result.specs.Named.{ExprTypesReachedOnce, PathTypesReachedOnce}
 use Rattle.hir_type_result.specs.Pats.{of_type, of_types, pats_reached, PatsSpread, ExprPatsReachedOnce, TypePatsReachedOnce}
-use Rattle.hir_type_result.specs.Pats.{PathPatsReachedOnce, BodyPatsReachedOnce}
+use Rattle.hir_type_result.specs.Pats.{PathPatsReachedOnce, BodyPatsReachedOnce, BindingsCame, ExprBindingsCame, TypeBindingsCame}
+use Rattle.hir_type_result.specs.Pats.{PathBindingsCame, BodyBindingsCame}
 use Rattle.hir_type_result.proofs.Counted.{times, less, times_append, counted_spread}
 use Rattle.hir_type_result.proofs.Numbers.{each_append}
 use Rattle.hir_type_result.proofs.Adding.{Numbers, none, Adds, Quiet, the_types, the_pats, adds_pure, adds_then, adds_beside, adds_quiet}
-use Rattle.hir_type_result.proofs.Adding.{adds_to, no_pats_named}
+use Rattle.hir_type_result.proofs.Adding.{both, no_pats_named}
+use Rattle.hir_type_result.proofs.Ranges.{found_between}
 use Rattle.hir_type_result.proofs.Naming.{quiet_pure, quiet_then, quiet_report, quiet_binding, quiet_some}
 use Rattle.hir_type_result.proofs.OwnedPats.{pats, maybe_pat, missing_named}
 use Rattle.hir_type_result.proofs.TreeNamed.{part_adds, part_quiet, path_adds, some_then, top_adds}
@@ -157,3 +162,40 @@ body_adds skipped f e = adds_then (formals_add skipped f) (λ g. adds_then (adds
 pub body_pats_once : BodyPatsReachedOnce
 body_pats_once skipped f e b b' g i paired is final stays =
     pats_once (λ r. r.0.1) (body_adds skipped f e) (λ r l k. omega arith) b b' (g, i) paired is final stays
+
+-- ---- bindings
+
+-- what is so of each that came
+each_came : (lo hi : ℕ) (final old : List Pat) (ps more : List Pat) (n : ℕ) → final ≡ (old ++ ps) ++ more → n ≡ length old
+    → ((k : ℕ) (p : Pat) → n ≤ k → k < n + length ps → slice_get final k ≡ Some p → Each (Between lo hi) (of_pat of_bindings_alone p))
+    → Each (Between lo hi) (of_pats of_bindings_alone ps)
+each_came lo hi final old [] more n is at h = tt
+each_came lo hi final old (p ∷ ps) more n is at h =
+    both (Between lo hi) (of_pat of_bindings_alone p) (of_pats of_bindings_alone ps)
+    (h n p (omega arith) (omega arith) (ap (λ xs. slice_get xs n) is ∙ found_between old (p ∷ ps) more n 0 p (omega (arith, at)) refl))
+    (each_came lo hi final (old ++ p ∷ []) ps more (suc n) (is ∙ ap (λ xs. xs ++ more) (sym (append_assoc old (p ∷ []) ps)))
+    (let l = length-append old (p ∷ []) in omega (arith, at, l)) (λ k q from to. h k q (omega (arith, from)) (omega (arith, to))))
+
+module _ {A : Type 0} {now : A → Numbers} {p : Lowering A} (h : Correct p (Adds none now)) (b b' : Builder) (a : A)
+    (paired : Paired b.stored) (is : p b ≡ (Ok a, b')) where
+  bindings_came : BindingsCame b.stored b'.stored
+  bindings_came ps new =
+      let r = after_lowering h b a b' paired is b'.stored (extends_refl b'.stored) in
+      let x = r.bound (length b.stored.bindings.entries) (omega arith) tt tt in
+      let l = ap length new in
+      let l' = length-append b.stored.pats.entries ps in
+      each_came (length b.stored.bindings.entries) (length b'.stored.bindings.entries) b'.stored.pats.entries b.stored.pats.entries ps []
+      (length b.stored.pats.entries) (new ∙ sym (append-nil (b.stored.pats.entries ++ ps))) refl
+      (λ k q from to found. x.made k q from (omega (arith, to, l, l')) found)
+
+pub expr_bindings_came : ExprBindingsCame
+expr_bindings_came e b b' i paired is = bindings_came (part_quiet e) b b' i paired is
+
+pub type_bindings_came : TypeBindingsCame
+type_bindings_came binder t b b' i paired is = bindings_came (part_adds binder t) b b' i paired is
+
+pub path_bindings_came : PathBindingsCame
+path_bindings_came p b b' r paired is = bindings_came (path_adds p) b b' r paired is
+
+pub body_bindings_came : BodyBindingsCame
+body_bindings_came skipped f e b b' g i paired is = bindings_came (body_adds skipped f e) b b' (g, i) paired is

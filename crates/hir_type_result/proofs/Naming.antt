@@ -1,5 +1,10 @@
 -- Steps that name no type and no pattern: each by what it does to what is stored.
-use Rattle.std.proofs.Common.{◌≡◌, ◌∙◌, ◌⊎◌, inl, inr, refl, sym, ap, ℕ, suc, List, [], ◌∷◌, length, Option, Some, None, arith}
+use Rattle.std.proofs.Common.{◌≡◌, ◌∙◌, ◌⊎◌, inl, inr, refl, sym, ap, subst, ℕ, suc, Bool, true, false, true≢false, if◌then◌else◌}
+use Rattle.std.proofs.Common.{List, [], ◌∷◌, ◌++◌, length, map, Option, Some, None, is_some, arith}
+use Rattle.std.proofs.lemmas.Option.{same_Some}
+use Rattle.std.specs.Map.{lookup}
+use Rattle.hir_scope.specs.Each.{Each}
+use Rattle.hir_same_meaning.specs.Reached.{Between}
 use Rattle.hir_store.specs.Pointers.{Pointer}
 use Rattle.hir_store.specs.Stored.{Stored}
 use Rattle.hir_store.specs.declared.diagnostics.AwaitLocation.{AwaitLocation}
@@ -17,18 +22,19 @@ use Rattle.hir_scope.specs.Ribs.{Rib, Target, reachable, unreachable, undeclared
 use Rattle.hir_lower_form.specs.Lowering.{Lowering, ◌>>=◌, pure, alloc_binding, alloc_expr, define, point, point_field, point_pat_field}
 use Rattle.hir_lower_form.specs.Lowering.{report, report_await, enter_block, open_label, close, jump_target}
 use Rattle.hir_lower_form.specs.Lower.{ExprSteps, constant_form, some}
-use Rattle.hir_lower_form.specs.Pats.{Key, Notes, Table, binding_of, key_of, settle, settle_from, use_name, use_of_known}
+use Rattle.hir_lower_form.specs.Pats.{Key, Notes, Table, binding_of, key_of, new_binding, number_of, same_key, settle}
+use Rattle.hir_lower_form.specs.Pats.{settle_from, use_name, use_of_known, with_use}
 use Rattle.hir_lower_form.specs.Ranges.{inner_form}
 use Rattle.hir_steps.proofs.Constants.{correct_constant, correct_inner, with_root}
 use Rattle.hir_steps.proofs.Frames.{Frame, rib, ribs}
 use Rattle.hir_steps.proofs.PatSteps.{PatWrites, correct_alloc_binding, correct_define, correct_point_pat_field, correct_set_problem}
-use Rattle.hir_steps.proofs.Steps.{Mark, Grows, Correct, correct_as, correct_point, correct_point_field, correct_report}
+use Rattle.hir_steps.proofs.Steps.{Mark, Grows, Correct, correct_as, correct_pure, correct_point, correct_point_field, correct_report}
 use Rattle.hir_steps.proofs.Steps.{correct_report_await, correct_enter_block, correct_opened, correct_target}
 use Rattle.hir_steps.proofs.Steps.{with_await, with_block, with_jump, with_label, with_target}
 use Rattle.hir_type_result.specs.Named.{Look, of_expr}
-use Rattle.hir_type_result.proofs.Counted.{less, ◌⊑◌, less_grows}
+use Rattle.hir_type_result.proofs.Counted.{times, less, ◌⊑◌, less_grows}
 use Rattle.hir_type_result.proofs.Adding.{Sort, the_types, the_pats, known, grows, named, Quiet, Linked, linked, adds_pure, adds_then}
-use Rattle.hir_type_result.proofs.Adding.{adds_still, adds_expr}
+use Rattle.hir_type_result.proofs.Adding.{adds_still, adds_expr, adds_done, Numbers, none, Steps, look, made_then, none_made, wider}
 
 pub quiet_pure : {A : Type 0} (a : A) → Correct (pure a) Quiet
 quiet_pure a = adds_pure a (λ f k. omega arith)
@@ -45,15 +51,41 @@ quiet_alloc e at h = adds_expr e at h
 
 pub quiet_report : (d : ExpressionStoreDiagnostics) → Correct (report d) Quiet
 quiet_report d = correct_as (correct_report d)
-    (λ final ps m m' u g row. adds_still g (λ s d k. ap (λ x. named s final d x k) row.stored) (λ l k. omega arith))
+    (λ final ps m m' u g row. adds_still g (ap (λ x. x.pats.entries) row.stored)
+    (λ s d k. ap (λ x. named s final d x k) row.stored) (λ l k. omega arith))
 
 pub quiet_point : (at : Pointer) (i : ExprId) → Correct (point at i) Quiet
 quiet_point at i = correct_as (correct_point at i)
-    (λ final ps m m' u g row. adds_still g (λ s d k. ap (λ x. named s final d x k) row.stored) (λ l k. omega arith))
+    (λ final ps m m' u g row. adds_still g (ap (λ x. x.pats.entries) row.stored)
+    (λ s d k. ap (λ x. named s final d x k) row.stored) (λ l k. omega arith))
 
 pub quiet_point_field : (i : ExprId) (at : Pointer) → Correct (point_field i at) Quiet
 quiet_point_field i at = correct_as (correct_point_field i at)
-    (λ final ps m m' u g row. adds_still g (λ s d k. ap (λ x. named s final d x k) row.stored) (λ l k. omega arith))
+    (λ final ps m m' u g row. adds_still g (ap (λ x. x.pats.entries) row.stored)
+    (λ s d k. ap (λ x. named s final d x k) row.stored) (λ l k. omega arith))
+
+-- no pattern comes
+
+entered_pats : (n : Option BlockId) (x : Stored) → (with_block n x).pats.entries ≡ x.pats.entries
+entered_pats None x = refl
+entered_pats (Some n) x = refl
+
+awaited_pats : (at : Pointer) (location : Option AwaitLocation) (x : Stored) → (with_await at location x).pats.entries ≡ x.pats.entries
+awaited_pats at None x = refl
+awaited_pats at (Some l) x = refl
+
+targeted_pats : {A : Type 0} (j : Jump) (t : Target A) (x : Stored) → (with_target j t x).pats.entries ≡ x.pats.entries
+targeted_pats j (reachable n) x = refl
+targeted_pats j unreachable x = refl
+targeted_pats j undeclared x = refl
+
+jumped_pats : {A : Type 0} (j : Option Jump) (rs : List (Rib A)) (x : Stored) → (with_jump j rs x).pats.entries ≡ x.pats.entries
+jumped_pats None rs x = refl
+jumped_pats (Some j) rs x = targeted_pats j (target j rs) x
+
+recorded_pats : (i : ExprId) (x y : Stored) → (x ≡ y) ⊎ (x ≡ with_root i y) → x.pats.entries ≡ y.pats.entries
+recorded_pats i x y (inl e) = ap (λ s. s.pats.entries) e
+recorded_pats i x y (inr e) = ap (λ s. s.pats.entries) e
 
 module _ (s : Sort) (final : Stored) (d k : ℕ) where
   -- how often it is named by what this holds
@@ -83,47 +115,116 @@ module _ (s : Sort) (final : Stored) (d k : ℕ) where
 
 pub quiet_enter_block : (n : Option BlockId) → Correct (enter_block n) Quiet
 quiet_enter_block n = correct_as (correct_enter_block n)
-    (λ final ps m m' u g row. adds_still g (λ s d k. ap (λ x. named s final d x k) row.stored ∙ entered s final d k n m.stored)
+    (λ final ps m m' u g row. adds_still g (ap (λ x. x.pats.entries) row.stored ∙ entered_pats n m.stored)
+    (λ s d k. ap (λ x. named s final d x k) row.stored ∙ entered s final d k n m.stored)
     (λ l k. omega arith))
 
 pub quiet_report_await : (at : Pointer) (location : Option AwaitLocation) → Correct (report_await at location) Quiet
 quiet_report_await at l = correct_as (correct_report_await at l)
-    (λ final ps m m' u g row. adds_still g (λ s d k. ap (λ x. named s final d x k) row.stored ∙ awaited s final d k at l m.stored)
+    (λ final ps m m' u g row. adds_still g (ap (λ x. x.pats.entries) row.stored ∙ awaited_pats at l m.stored)
+    (λ s d k. ap (λ x. named s final d x k) row.stored ∙ awaited s final d k at l m.stored)
     (λ l k. omega arith))
 
 pub quiet_target : (j : Option Jump) → Correct (jump_target j) Quiet
 quiet_target j = correct_as (correct_target j)
-    (λ final ps m m' n g row. adds_still g (λ s d k. ap (λ x. named s final d x k) row.stored ∙ jumped s final d k j (ribs ps) m.stored)
+    (λ final ps m m' n g row. adds_still g (ap (λ x. x.pats.entries) row.stored ∙ jumped_pats j (ribs ps) m.stored)
+    (λ s d k. ap (λ x. named s final d x k) row.stored ∙ jumped s final d k j (ribs ps) m.stored)
     (λ l k. omega arith))
 
 -- ---- what is written of patterns and bindings
 
 quiet_writes : {p : Lowering (Unit {0})} {f : Stored → Stored} → Correct p (PatWrites f)
+    → ((x : Stored) → (f x).pats.entries ≡ x.pats.entries)
     → ((s : Sort) (final : Stored) (d k : ℕ) (x : Stored) → named s final d (f x) k ≡ named s final d x k) → Correct p Quiet
-quiet_writes h still = correct_as h (λ final ps m m' u g row. adds_still g
+quiet_writes h none still = correct_as h (λ final ps m m' u g row. adds_still g
+    (ap (λ x. x.pats.entries) row.stored ∙ none m.stored)
     (λ s d k. ap (λ x. named s final d x k) row.stored ∙ still s final d k m.stored) (λ l k. omega arith))
 
 pub quiet_point_pat_field : (i : PatId) (at : Pointer) → Correct (point_pat_field i at) Quiet
-quiet_point_pat_field i at = quiet_writes (correct_point_pat_field i at) (λ s final d k x. refl)
+quiet_point_pat_field i at = quiet_writes (correct_point_pat_field i at) (λ x. refl) (λ s final d k x. refl)
 
 pub quiet_define : (b : BindingId) (i : PatId) → Correct (define b i) Quiet
-quiet_define b i = quiet_writes (correct_define b i) (λ s final d k x. refl)
+quiet_define b i = quiet_writes (correct_define b i) (λ x. refl) (λ s final d k x. refl)
 
 pub quiet_binding : (x : Binding) → Correct (alloc_binding x) Quiet
 quiet_binding x = correct_as (correct_alloc_binding x)
-    (λ final ps m m' u g row. adds_still g (λ s d k. ap (λ x. named s final d x k) row.stored) (λ l k. omega arith))
+    (λ final ps m m' u g row. adds_still g (ap (λ x. x.pats.entries) row.stored)
+    (λ s d k. ap (λ x. named s final d x k) row.stored) (λ l k. omega arith))
 
-quiet_known : (u : Use) (t : Table) (b : Option BindingId) → Correct (use_of_known u t b) Quiet
-quiet_known u t (Some b) = quiet_pure _
-quiet_known u t None = quiet_then (quiet_binding _) (λ b. quiet_pure _)
+-- ---- names
 
-pub quiet_name : (u : Use) (t : Table) → Correct (use_name u t) Quiet
+-- the numbers of the bindings in a table
+abbrev pub ids : Table → List ℕ
+ids t = map (λ e. e.1.0) t.bindings
+
+-- a binding that is found is in it
+found_in : (P : ℕ → Type 0) (is : Key → Bool) (es : List (Key × BindingId)) (b : BindingId) → lookup is es ≡ Some b
+    → Each P (map (λ e. e.1.0) es) → P b.0
+found_in P is [] b e h = absurd (true≢false (sym (ap is_some e)))
+found_in P is (x ∷ es) b e h = by (is x.0) e (found_in P is es b)
+  where
+    by : (t : Bool) → (if t then Some x.1 else lookup is es) ≡ Some b → (lookup is es ≡ Some b → Each P (map (λ e. e.1.0) es) → P b.0)
+        → P b.0
+    by true e later = subst (λ c. P c.0) (same_Some x.1 b e) h.0
+    by false e later = later e h.1
+
+pushed_in : (P : ℕ → Type 0) (es : List (Key × BindingId)) (x : Key × BindingId) → P x.1.0 → Each P (map (λ e. e.1.0) es)
+    → Each P (map (λ e. e.1.0) (es ++ x ∷ []))
+pushed_in P [] x p h = (p, tt)
+pushed_in P (y ∷ es) x p h = (h.0, pushed_in P es x p h.1)
+
+-- no binding is counted
+no_bindings : (s : Sort) (final : Stored) (d k : ℕ) (b : BindingId) → times k ((look s final d).bindings b) ≡ 0
+no_bindings the_types final d k b = refl
+no_bindings the_pats final d k b = refl
+
+-- the binding that is answered
+abbrev pub a_binding : {A : Type 0} → BindingId × A → Numbers
+a_binding r l = l.bindings r.0
+
+known_name : (u : Use) (t : Table) (b : BindingId) → binding_of (key_of u) t ≡ Some b
+    → Correct (use_of_known u t (Some b)) (Steps (ids t) none (λ r. ids r.1) a_binding)
+known_name u t b is = correct_as (correct_pure (b, with_use (number_of (key_of u) t) u.mode t)) (λ final ps m m' r g row.
+    rw (row.is, row.still) (record {
+      bound = λ lo le x w. record {
+        known = x;
+        named = (found_in (Between lo m.bindings) (same_key (key_of u)) t.bindings b is x, tt);
+        made = λ n p from to here. absurd (omega (arith, from, to));
+      };
+      grown = λ s d k. omega arith;
+      earlier = λ s d all le le'. record { depth = d; deep = le; counted = λ k. let z = no_bindings s final d k b in omega arith };
+    }))
+
+new_name : (u : Use) (bs : List ℕ) → Correct (alloc_binding (new_binding u)) (Steps bs none (λ b. b.0 ∷ bs) (λ b l. l.bindings b))
+new_name u bs = correct_as (correct_alloc_binding (new_binding u)) (λ final ps m m' b g row.
+    let still : Quiet final ps m m' b = adds_still g (ap (λ x. x.pats.entries) row.stored)
+    (λ s d k. ap (λ x. named s final d x k) row.stored) (λ l k. omega arith) in record {
+      bound = λ lo le x w.
+          let y = still.bound lo le tt tt in
+          let here : Between lo m'.bindings b.0 = (omega (arith, le, row.number), omega (arith, row.number, row.next)) in
+          record { known = (here, wider lo m.bindings m'.bindings bs g.bindings x); named = (here, tt); made = y.made };
+      grown = still.grown;
+      earlier = λ s d all le le'.
+          let x = still.earlier s d all le le' in record {
+            depth = x.depth;
+            deep = x.deep;
+            counted = λ k. let z = no_bindings s final d k b in let e = x.counted k in omega arith;
+          };
+    })
+
+name_of : (u : Use) (t : Table) (b : Option BindingId) → binding_of (key_of u) t ≡ b
+    → Correct (use_of_known u t b) (Steps (ids t) none (λ r. ids r.1) a_binding)
+name_of u t (Some b) e = known_name u t b e
+name_of u t None e = adds_then (new_name u (ids t)) (λ b. adds_done _ (λ l k. omega arith)
+    (λ P x. pushed_in P t.bindings (key_of u, b) x.0 x.1))
+
+pub name_adds : (u : Use) (t : Table) → Correct (use_name u t) (Steps (ids t) none (λ r. ids r.1) a_binding)
 unfolding use_name
-quiet_name u t = quiet_known u t (binding_of (key_of u) t)
+name_adds u t = name_of u t (binding_of (key_of u) t) refl
 
 quiet_settle_from : (notes : Notes) (number : ℕ) (es : List (Key × BindingId)) → Correct (settle_from notes number es) Quiet
 quiet_settle_from notes number [] = quiet_pure tt
-quiet_settle_from notes number (e ∷ es) = quiet_then (quiet_writes (correct_set_problem e.1 _) (λ s final d k x. refl))
+quiet_settle_from notes number (e ∷ es) = quiet_then (quiet_writes (correct_set_problem e.1 _) (λ x. refl) (λ s final d k x. refl))
     (λ u. quiet_settle_from notes (suc number) es)
 
 pub quiet_settle : (t : Table) → Correct (settle t) Quiet
@@ -143,6 +244,17 @@ pub quiet_opened : {A B : Type 0} (at : Label → LabelId → Frame) (l : Label)
     → Correct (open_label l >>= (λ n. p n >>= (λ a. close >>= (λ _. f n a)))) Quiet
 quiet_opened at l frame hp hf = correct_as (linked (correct_opened at l frame (λ n. linked (hp n)) hf)) (λ final ps m m' b g linked.
     let row = linked.rel in record {
+      bound = λ lo le t w.
+          let q : row.entered.bindings ≡ m.bindings =
+          row.first.bindings ∙ (ap (λ x. length x.bindings.entries) row.stored ∙ sym linked.bindings) in
+          let none = ap (λ x. length x.pats.entries) row.stored in
+          let x = row.first.rel.bound lo (omega (arith, le, q)) tt tt in
+          let y = row.second.bound lo (omega (arith, le, q, row.before.bindings)) x.known x.named in record {
+            known = y.known;
+            named = y.named;
+            made = made_then lo final m row.left m' row.after.bindings
+                (λ n p from to is. x.made n p (omega (arith, from, none)) to is) y.made;
+          };
       grown = λ s d k.
           let n = ap (λ x. named s final d x k) row.stored in
           let x = row.first.rel.grown s d k in
@@ -167,6 +279,10 @@ quiet_opened at l frame hp hf = correct_as (linked (correct_opened at l frame (�
 behind : {A : Type 0} {final : Stored} {ps qs : List Frame} {m m' left : Mark} {a : A} {i : ExprId} → Grows m m' → Grows left m'
     → Quiet final qs m left i → (m'.stored ≡ left.stored) ⊎ (m'.stored ≡ with_root i left.stored) → Quiet final ps m m' a
 behind {final = final} {m = m} {m' = m'} {left = left} {i = i} g after first stored = record {
+  bound = λ lo le t w.
+      let x = first.bound lo le tt tt in
+      let none = recorded_pats i m'.stored left.stored stored in
+      record { known = tt; named = tt; made = made_then lo final m left m' after.bindings x.made (none_made lo final left m' none) };
   grown = λ s d k.
       let n = recorded s final d k i m'.stored left.stored stored in
       let x = first.grown s d k in omega arith;

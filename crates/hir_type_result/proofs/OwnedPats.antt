@@ -6,6 +6,7 @@ use Rattle.hir_store.specs.declared.hir.Expr.TheVariants as hir
 use Rattle.hir_store.specs.declared.hir.MatchArm.{MatchArm}
 use Rattle.hir_store.specs.declared.hir.Statement.{Statement}
 use Rattle.hir_store.specs.declared.hir.Statement.TheVariants as statement
+use Rattle.hir_store.specs.declared.ids.BindingId.{BindingId}
 use Rattle.hir_store.specs.declared.ids.ExprId.{ExprId}
 use Rattle.hir_store.specs.declared.ids.HygieneId.{HygieneId}
 use Rattle.hir_store.specs.declared.ids.LangItemId.{LangItemId}
@@ -30,9 +31,9 @@ use Rattle.hir_type_result.specs.Named.{Look, of_arm, of_expr, of_pat, of_pat_fi
 use Rattle.hir_type_result.proofs.Counted.{times, ◌⊑◌, times_append}
 use Rattle.hir_type_result.proofs.Numbers.{each_push}
 use Rattle.hir_type_result.proofs.Adding.{Numbers, none, Adds, Quiet, adds_pure, adds_then, adds_beside, adds_quiet, adds_from}
-use Rattle.hir_type_result.proofs.Adding.{adds_expr, adds_pat}
+use Rattle.hir_type_result.proofs.Adding.{adds_expr, adds_pat, adds_done, framed, Steps}
 use Rattle.hir_type_result.proofs.Naming.{quiet_pure, quiet_then, quiet_alloc, quiet_report, quiet_point_pat_field, quiet_define}
-use Rattle.hir_type_result.proofs.Naming.{quiet_name}
+use Rattle.hir_type_result.proofs.Naming.{ids, name_adds}
 use Rattle.hir_type_result.proofs.Owned.{a_pat, maybe_path, maybe_type, beside}
 
 -- what each kind of answer names
@@ -70,7 +71,7 @@ first now r l = now r.0 l
 
 -- steps that hand a table on
 abbrev pub Each : {A : Type 0} → Numbers → (A → Numbers) → (Table → Lowering (A × Table)) → Type 0
-Each was now p = (t : Table) → Correct (p t) (Adds was (first now))
+Each was now p = (t : Table) → Correct (p t) (Steps (ids t) was (λ r. ids r.1) (first now))
 
 missing_adds : {was : Numbers} → Correct missing_pat (Adds was a_pat)
 unfolding missing_pat
@@ -80,7 +81,7 @@ pub missing_named : Correct missing_pat (Adds none a_pat)
 missing_named = missing_adds
 
 pub alone_adds : {was : Numbers} {p : Lowering PatId} → Correct p (Adds was a_pat) → Each was a_pat (forms.alone p)
-alone_adds h t = adds_then h (λ i. adds_pure (i, t) (λ l k. omega arith))
+alone_adds h t = adds_then (framed h) (λ i. adds_done (i, t) (λ l k. omega arith) (λ P x. x))
 
 pub leaf_pat_adds : (at : Pointer) (form : PatLeaf) → Correct (alloc_pat (forms.stored_pat_leaf form) (Some at)) (Adds none a_pat)
 leaf_pat_adds at tree.wild_leaf = adds_pat _ (Some at) (λ l k. omega arith)
@@ -96,8 +97,8 @@ pushed is i l k = let e = each_push l.pats is i k in let s = times_append k (of_
 
 pub element_adds : (dots : Bool) (done : Elements) {p : PatSteps} → Each none a_pat p
     → Each (elements done) elements (forms.element_form dots done p)
-element_adds true done h t = adds_pure _ (λ l k. omega arith)
-element_adds false done h t = adds_then (adds_beside (elements done) (h t)) (λ r. adds_pure _ (λ l. pushed done.0 r.0 l))
+element_adds true done h t = adds_done _ (λ l k. omega arith) (λ P x. x)
+element_adds false done h t = adds_then (adds_beside (elements done) (h t)) (λ r. adds_done _ (λ l. pushed done.0 r.0 l) (λ P x. x))
 
 place_quiet : (place : Option ℕ) → Correct (forms.counted_place place) Quiet
 place_quiet None = correct_count_out _
@@ -132,7 +133,8 @@ named_part_adds at (Some n) i = adds_then (adds_quiet (quiet_point_pat_field i a
 pub pat_field_adds : (at : Pointer) (n : Option Name) {p : PatSteps} → Each none a_pat p
     → Each none maybe_field (forms.pat_field_form at n p)
 unfolding forms.pat_field_form
-pat_field_adds at n h t = adds_then (h t) (λ r. adds_then (named_part_adds at n r.0) (λ f. adds_pure (f, r.1) (λ l k. omega arith)))
+pat_field_adds at n h t = adds_then (h t) (λ r. adds_then (framed (named_part_adds at n r.0))
+    (λ f. adds_done (f, r.1) (λ l k. omega arith) (λ P x. x)))
 
 -- one more, where there is one
 pub field_pushed : (fs : List RecordFieldPat) (o : Option RecordFieldPat) (l : Look)
@@ -152,6 +154,11 @@ unary_pat tree.deref_of i l k = omega arith
 path_pat : (o : Option HirPath) (l : Look) → of_pat l (forms.path_pat_of o) ⊑ maybe_path o l
 path_pat None l k = omega arith
 path_pat (Some p) l k = omega arith
+
+bind_named : (b : BindingId) (o : Option PatId) (l : Look) → of_pat l (pat.Bind b o) ⊑ maybe_pat o l ++ l.bindings b
+bind_named b o l k =
+    let x = times_append k (l.bindings b) (of_present l.pats o) in
+    let y = times_append k (of_present l.pats o) (l.bindings b) in omega arith
 
 range_pat : (op : Option RangeOp) (s e : Option ExprId) (l : Look) → of_pat l (forms.stored_range op s e) ⊑ []
 range_pat None s e l k = omega arith
@@ -175,45 +182,46 @@ module _ (at : Pointer) where
   pub bind_adds : (u : Use) {s : Table → Lowering (Option PatId × Table)} → Each none maybe_pat s
       → Each none a_pat (forms.bind_form at u s)
   unfolding forms.bind_form
-  bind_adds u h t = adds_then (h t) (λ s. adds_then (adds_quiet (quiet_name u s.1))
-      (λ b. adds_then (adds_pat (pat.Bind b.0 s.0) (Some at) (λ l k. omega arith))
-      (λ i. adds_then (adds_quiet (quiet_define b.0 i)) (λ v. adds_pure (i, b.1) (λ l k. omega arith)))))
+  bind_adds u h t = adds_then (h t) (λ s. adds_then (adds_beside (maybe_pat s.0) (name_adds u s.1))
+      (λ b. adds_then (framed (adds_pat (pat.Bind b.0 s.0) (Some at) (bind_named b.0 s.0)))
+      (λ i. adds_then (framed (adds_quiet (quiet_define b.0 i))) (λ v. adds_done (i, b.1) (λ l k. omega arith) (λ P x. x)))))
 
   pub over_pat_adds : (form : PatUnary) {p : PatSteps} → Each none a_pat p → Each none a_pat (forms.over_pat_form at form p)
   unfolding forms.over_pat_form
-  over_pat_adds form h t = adds_then (h t) (λ r. adds_then (adds_pat _ (Some at) (unary_pat form r.0))
-      (λ i. adds_pure (i, r.1) (λ l k. omega arith)))
+  over_pat_adds form h t = adds_then (h t) (λ r. adds_then (framed (adds_pat _ (Some at) (unary_pat form r.0)))
+      (λ i. adds_done (i, r.1) (λ l k. omega arith) (λ P x. x)))
 
   pub tuple_pat_adds : (comma : Bool) {p : Table → Lowering (Elements × Table)} → Each none elements p
       → Each none a_pat (forms.tuple_pat_form at comma p)
   unfolding forms.tuple_pat_form
-  tuple_pat_adds comma h t = adds_then (h t) (λ r. adds_then (elements_add none comma r.0)
-      (λ es. adds_then (adds_pat (pat.Tuple es.0 es.1) (Some at) (λ l k. omega arith)) (λ i. adds_pure (i, r.1) (λ l k. omega arith))))
+  tuple_pat_adds comma h t = adds_then (h t) (λ r. adds_then (framed (elements_add none comma r.0))
+      (λ es. adds_then (framed (adds_pat (pat.Tuple es.0 es.1) (Some at) (λ l k. omega arith)))
+      (λ i. adds_done (i, r.1) (λ l k. omega arith) (λ P x. x))))
 
   tuple_struct_of_adds : (comma : Bool) {p : Table → Lowering (Elements × Table)} → Each none elements p → (o : Option HirPath)
       → Each (maybe_path o) a_pat (forms.tuple_struct_of at comma p o)
   tuple_struct_of_adds comma h None t = alone_adds missing_adds t
   tuple_struct_of_adds comma h (Some o) t = adds_then (adds_beside (maybe_path (Some o)) (h t))
-      (λ r. adds_then (elements_add (maybe_path (Some o)) comma r.0)
-      (λ es. adds_then (adds_pat (pat.TupleStruct o es.0 es.1) (Some at) (λ l k. omega arith))
-      (λ i. adds_pure (i, r.1) (λ l k. omega arith))))
+      (λ r. adds_then (framed (elements_add (maybe_path (Some o)) comma r.0))
+      (λ es. adds_then (framed (adds_pat (pat.TupleStruct o es.0 es.1) (Some at) (λ l k. omega arith)))
+      (λ i. adds_done (i, r.1) (λ l k. omega arith) (λ P x. x))))
 
   pub tuple_struct_adds : (comma : Bool) {p : Table → Lowering (Elements × Table)} {q : Lowering (Option HirPath)}
       → Each none elements p → Correct q (Adds none maybe_path) → Each none a_pat (forms.tuple_struct_form at comma p q)
   unfolding forms.tuple_struct_form
-  tuple_struct_adds comma h hq t = adds_then hq (λ o. tuple_struct_of_adds comma h o t)
+  tuple_struct_adds comma h hq t = adds_then (framed hq) (λ o. tuple_struct_of_adds comma h o t)
 
   record_pat_of_adds : (dots : Bool) {fs : Table → Lowering (List RecordFieldPat × Table)} → Each none fields fs
       → (o : Option HirPath) → Each (maybe_path o) a_pat (forms.record_pat_of at dots fs o)
   record_pat_of_adds dots h None t = alone_adds missing_adds t
   record_pat_of_adds dots h (Some o) t = adds_then (adds_beside (maybe_path (Some o)) (h t))
-      (λ r. adds_then (adds_pat (pat.Record o r.0 dots) (Some at) (λ l k. omega arith))
-      (λ i. adds_pure (i, r.1) (λ l k. omega arith)))
+      (λ r. adds_then (framed (adds_pat (pat.Record o r.0 dots) (Some at) (λ l k. omega arith)))
+      (λ i. adds_done (i, r.1) (λ l k. omega arith) (λ P x. x)))
 
   pub record_pat_adds : (dots : Bool) {fs : Table → Lowering (List RecordFieldPat × Table)} {q : Lowering (Option HirPath)}
       → Each none fields fs → Correct q (Adds none maybe_path) → Each none a_pat (forms.record_pat_form at dots fs q)
   unfolding forms.record_pat_form
-  record_pat_adds dots h hq t = adds_then hq (λ o. record_pat_of_adds dots h o t)
+  record_pat_adds dots h hq t = adds_then (framed hq) (λ o. record_pat_of_adds dots h o t)
 
   slice_named : (b : List PatId) (m : Option PatId) (a : List PatId) (l : Look)
       → of_pat l (pat.Slice b m a) ⊑ (pats b l ++ maybe_pat m l) ++ pats a l
@@ -228,15 +236,15 @@ module _ (at : Pointer) where
   unfolding forms.slice_pat_form
   slice_pat_adds hb hm ha t = adds_then (hb t) (λ b. adds_then (adds_beside (pats b.0) (hm b.1))
       (λ m. adds_then (adds_beside (beside (pats b.0) (maybe_pat m.0)) (ha m.1))
-      (λ a. adds_then (adds_pat (pat.Slice b.0 m.0 a.0) (Some at) (slice_named b.0 m.0 a.0))
-      (λ i. adds_pure (i, a.1) (λ l k. omega arith)))))
+      (λ a. adds_then (framed (adds_pat (pat.Slice b.0 m.0 a.0) (Some at) (slice_named b.0 m.0 a.0)))
+      (λ i. adds_done (i, a.1) (λ l k. omega arith) (λ P x. x)))))
 
   pub or_adds : {p : PatSteps} {later : List PatId → Table → Lowering (List PatId × Table)} → Each none a_pat p
       → ((done : List PatId) → Each (pats done) pats (later done)) → Each none a_pat (forms.or_form at p later)
   unfolding forms.or_form
   or_adds h hs t = adds_then (h (forms.enter_or t)) (λ r. adds_then
       (adds_from (λ l k. let s = times_append k (l.pats r.0) [] in omega arith) (hs (r.0 ∷ []) r.1))
-      (λ rs. adds_then (or_of_adds rs.0) (λ i. adds_pure (i, forms.leave_or rs.1) (λ l k. omega arith))))
+      (λ rs. adds_then (framed (or_of_adds rs.0)) (λ i. adds_done (i, forms.leave_or rs.1) (λ l k. omega arith) (λ P x. x))))
 
   pub literal_pat_adds : (own : Option Pointer) (s : Signed) → Correct (forms.literal_pat_form at own s) (Adds none a_pat)
   unfolding forms.literal_pat_form

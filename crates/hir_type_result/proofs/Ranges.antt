@@ -16,7 +16,7 @@ times_total k f [] = refl
 times_total k f (x ∷ xs) = let a = times_append k (f x) (of_each f xs) in let r = times_total k f xs in omega arith
 
 -- without the first that is this
-without : ℕ → List ℕ → List ℕ
+abbrev without : ℕ → List ℕ → List ℕ
 without n [] = []
 without n (j ∷ js) = if nat_eq j n then js else (j ∷ without n js)
 

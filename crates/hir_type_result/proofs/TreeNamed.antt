@@ -42,7 +42,7 @@ use Rattle.hir_type_result.specs.Named.{Look, of_arm, of_pat_field, of_statement
 use Rattle.hir_type_result.proofs.Counted.{times, times_append}
 use Rattle.hir_type_result.proofs.Numbers as numbers
 use Rattle.hir_type_result.proofs.Adding.{Numbers, none, Adds, Quiet, adds_pure, adds_then, adds_beside, adds_quiet, adds_from}
-use Rattle.hir_type_result.proofs.Adding.{adds_type, adds_expr, adds_pat}
+use Rattle.hir_type_result.proofs.Adding.{adds_type, adds_expr, adds_pat, adds_done, framed, tabled}
 use Rattle.hir_type_result.proofs.Owned.{a_type, maybe_type, types, a_bound, bounds, arguments, lists, maybe_path, walk, reading, a_pat}
 use Rattle.hir_type_result.proofs.Owned.{uses_add, leaf_below, error_adds, unit_adds, over_adds, array_adds, tuple_adds, path_type_adds}
 use Rattle.hir_type_result.proofs.Owned.{ref_adds, fn_adds, impl_adds, dyn_adds, path_bound_adds, proceed_adds, whole_adds, super_adds}
@@ -325,7 +325,7 @@ mutual
 
   pub top_adds : (p : OptionPat) → Correct (lower_top p) (Adds none a_pat)
   top_adds tree.no_pat = pats.missing_named
-  top_adds (tree.some_pat p) = adds_then (pat_adds p no_names) (λ r. adds_then (adds_quiet (quiet_settle r.1))
+  top_adds (tree.some_pat p) = adds_then (tabled (pat_adds p no_names)) (λ r. adds_then (adds_quiet (quiet_settle r.1))
       (λ u. adds_pure r.0 (λ l k. omega arith)))
 
   pat_adds : (p : Pat) → pats.Each none a_pat (lower_pat p)
@@ -349,16 +349,16 @@ mutual
   pat_part_adds (tree.some_pat p) t = pat_adds p t
 
   subpat_adds : (p : OptionPat) → pats.Each none pats.maybe_pat (present_pat p)
-  subpat_adds tree.no_pat t = adds_pure (None, t) (λ l k. omega arith)
-  subpat_adds (tree.some_pat p) t = adds_then (pat_adds p t) (λ r. adds_pure (Some r.0, r.1) (λ l k. omega arith))
+  subpat_adds tree.no_pat t = adds_done (None, t) (λ l k. omega arith) (λ P x. x)
+  subpat_adds (tree.some_pat p) t = adds_then (pat_adds p t) (λ r. adds_done (Some r.0, r.1) (λ l k. omega arith) (λ P x. x))
 
   pats_add : (done : List PatId) (ps : Pats) → pats.Each (pats.pats done) pats.pats (lower_pats done ps)
-  pats_add done tree.no_pats t = adds_pure (done, t) (λ l k. omega arith)
+  pats_add done tree.no_pats t = adds_done (done, t) (λ l k. omega arith) (λ P x. x)
   pats_add done (tree.more_pats p ps) t = adds_then (adds_beside (pats.pats done) (pat_adds p t))
       (λ r. adds_from (λ l. pats.pushed done r.0 l) (pats_add (done ++ r.0 ∷ []) ps r.1))
 
   elements_add : (done : Elements) (ps : Pats) → pats.Each (pats.elements done) pats.elements (lower_elements done ps)
-  elements_add done tree.no_pats t = adds_pure (done, t) (λ l k. omega arith)
+  elements_add done tree.no_pats t = adds_done (done, t) (λ l k. omega arith) (λ P x. x)
   elements_add done (tree.more_pats p ps) t =
       adds_then (pats.element_adds (is_dots p) done (pat_adds p) t) (λ r. elements_add r.0 ps r.1)
 
@@ -367,18 +367,19 @@ mutual
   alternatives_add at (tree.more_pats p ps) t = pats.or_adds at (pat_adds p) (λ done. later_add ps done) t
 
   later_add : (ps : Pats) (done : List PatId) → pats.Each (pats.pats done) pats.pats (lower_later ps done)
-  later_add tree.no_pats done t = adds_pure (done, t) (λ l k. omega arith)
+  later_add tree.no_pats done t = adds_done (done, t) (λ l k. omega arith) (λ P x. x)
   later_add (tree.more_pats p ps) done t = adds_then (adds_beside (pats.pats done) (pat_adds p (next_alternative t)))
       (λ r. adds_from (λ l. pats.pushed done r.0 l) (later_add ps (done ++ r.0 ∷ []) r.1))
 
   pat_fields_add : (done : List RecordFieldPat) (fs : PatFields) → pats.Each (pats.fields done) pats.fields (lower_pat_fields done fs)
-  pat_fields_add done tree.no_pat_fields t = adds_pure (done, t) (λ l k. omega arith)
+  pat_fields_add done tree.no_pat_fields t = adds_done (done, t) (λ l k. omega arith) (λ P x. x)
   pat_fields_add done (tree.more_pat_fields f fs) t = adds_then (adds_beside (pats.fields done) (pat_field_add f t))
       (λ r. adds_from (λ l. pats.field_pushed done r.0 l) (pat_fields_add (push_some done r.0) fs r.1))
 
   pat_field_add : (f : PatField) → pats.Each none pats.maybe_field (lower_pat_field f)
-  pat_field_add (tree.disabled_pat_field at by f) t = adds_then (quiet_report _) (λ u. adds_pure (None, t) (λ l k. omega arith))
-  pat_field_add tree.partless_pat_field t = adds_pure (None, t) (λ l k. omega arith)
+  pat_field_add (tree.disabled_pat_field at by f) t = adds_then (framed (quiet_report _))
+      (λ u. adds_done (None, t) (λ l k. omega arith) (λ P x. x))
+  pat_field_add tree.partless_pat_field t = adds_done (None, t) (λ l k. omega arith) (λ P x. x)
   pat_field_add (tree.pat_field at n p) t = pats.pat_field_adds at n (pat_adds p) t
 
   side_quiet : (s : Side) → Correct (lower_side s) Quiet

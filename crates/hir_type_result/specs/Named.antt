@@ -1,5 +1,5 @@
 -- Which types paths, expressions and patterns reach that are stored, and that each is reached in one way only.
-use Rattle.std.specs.Prelude.{◌≡◌, ℕ, ◌≤◌, length, List, [], ◌++◌, Option, Ok}
+use Rattle.std.specs.Prelude.{◌≡◌, ℕ, ◌≤◌, length, List, [], ◌∷◌, ◌++◌, Option, Ok}
 use Rattle.hir_store.specs.Storing.{Extends}
 use Rattle.hir_store.specs.Stored.{Stored}
 use Rattle.hir_store.specs.declared.hir.Expr.{Expr as HirExpr}
@@ -7,6 +7,7 @@ use Rattle.hir_store.specs.declared.hir.Expr.TheVariants as hir
 use Rattle.hir_store.specs.declared.hir.MatchArm.{MatchArm}
 use Rattle.hir_store.specs.declared.hir.Statement.{Statement}
 use Rattle.hir_store.specs.declared.hir.Statement.TheVariants as statement
+use Rattle.hir_store.specs.declared.ids.BindingId.{BindingId}
 use Rattle.hir_store.specs.declared.ids.ExprId.{ExprId}
 use Rattle.hir_store.specs.declared.ids.PatId.{PatId}
 use Rattle.hir_store.specs.declared.ids.TypeRefId.{TypeRefId}
@@ -21,18 +22,23 @@ use Rattle.hir_steps.specs.Keeps.{Paired}
 use Rattle.hir_same_meaning.specs.Reached.{Spread}
 use Rattle.hir_type_result.specs.Reached.{of_args, of_each, of_path, of_present, types_reached}
 
--- what is reached from each type, and from each pattern
+-- what is reached from each type, from each pattern, and from each binding
 pub record Look : Type 0 where
   pub types : TypeRefId → List ℕ
   pub pats : PatId → List ℕ
+  pub bindings : BindingId → List ℕ
 
 -- of types alone
 abbrev pub of_types_alone : (TypeRefId → List ℕ) → Look
-of_types_alone f = record { types = f; pats = λ i. [] }
+of_types_alone f = record { types = f; pats = λ i. []; bindings = λ b. [] }
 
 -- of patterns alone
 abbrev pub of_pats_alone : (PatId → List ℕ) → Look
-of_pats_alone f = record { types = λ i. []; pats = f }
+of_pats_alone f = record { types = λ i. []; pats = f; bindings = λ b. [] }
+
+-- of bindings alone, their numbers
+abbrev pub of_bindings_alone : Look
+of_bindings_alone = record { types = λ i. []; pats = λ i. []; bindings = λ b. b.0 ∷ [] }
 
 -- but through expressions that are parts
 module _ (l : Look) where
@@ -62,13 +68,13 @@ module _ (l : Look) where
   abbrev pub of_pat_field : RecordFieldPat → List ℕ
   of_pat_field f = l.pats f.pat
 
-  -- through its path and its parts
+  -- through its path, its binding and its parts
   abbrev pub of_pat : HirPat → List ℕ
   of_pat pat.Missing = []
   of_pat pat.Wild = []
   of_pat pat.Rest = []
   of_pat pat.NotNull = []
-  of_pat (pat.Bind b sub) = of_present l.pats sub
+  of_pat (pat.Bind b sub) = l.bindings b ++ of_present l.pats sub
   of_pat (pat.Path p h) = of_path l.types p
   of_pat (pat.TupleStruct p dots ps) = of_path l.types p ++ of_each l.pats ps
   of_pat (pat.Tuple dots ps) = of_each l.pats ps

@@ -15,10 +15,11 @@ use Rattle.hir_env.specs.Answered.{Binder, Formals, OptionExpr, OptionPath, Opti
 use Rattle.hir_lower_form.specs.Builder.{Builder}
 use Rattle.hir_lower_form.specs.Lower.{lower_part, lower_path, type_part}
 use Rattle.hir_steps.specs.Keeps.{Paired}
-use Rattle.hir_same_meaning.specs.Reached.{Spread}
+use Rattle.hir_scope.specs.Each.{Each}
+use Rattle.hir_same_meaning.specs.Reached.{Between, Spread}
 use Rattle.hir_one_result.specs.Formals.{Given, lower_body}
 use Rattle.hir_type_result.specs.Reached.{of_each}
-use Rattle.hir_type_result.specs.Named.{Look, of_exprs, of_pat, of_pats_alone}
+use Rattle.hir_type_result.specs.Named.{Look, of_bindings_alone, of_exprs, of_pat, of_pats, of_pats_alone}
 
 abbrev pub pats_below : (PatId → List ℕ) → Option HirPat → List ℕ
 pats_below f None = []
@@ -72,3 +73,29 @@ BodyPatsReachedOnce =
     (skipped : Bool) (f : Formals) (e : OptionExpr) (b b' : Builder) (given : Given) (i : ExprId) → Paired b.stored
     → lower_body skipped f e b ≡ (Ok (given, i), b')
     → (final : Stored) → Extends b'.stored final → PatsSpread b.stored b'.stored final given.1
+
+-- Each binding that a pattern makes which came is one that came with it, or with others of its tree.
+abbrev pub BindingsCame : Stored → Stored → Type 0
+BindingsCame old new =
+    (ps : List HirPat) → new.pats.entries ≡ old.pats.entries ++ ps
+    → Each (Between (length old.bindings.entries) (length new.bindings.entries)) (of_pats of_bindings_alone ps)
+
+-- so it is of a lowered tree, of a type, of a path, and of a body behind its parameters
+
+abbrev pub ExprBindingsCame : Type 0
+ExprBindingsCame =
+    (e : OptionExpr) (b b' : Builder) (i : ExprId) → Paired b.stored → lower_part e b ≡ (Ok i, b') → BindingsCame b.stored b'.stored
+
+abbrev pub TypeBindingsCame : Type 0
+TypeBindingsCame =
+    (binder : Option Binder) (t : OptionType) (b b' : Builder) (i : TypeRefId) → Paired b.stored → type_part binder t b ≡ (Ok i, b')
+    → BindingsCame b.stored b'.stored
+
+abbrev pub PathBindingsCame : Type 0
+PathBindingsCame =
+    (p : OptionPath) (b b' : Builder) (r : Option Path) → Paired b.stored → lower_path p b ≡ (Ok r, b') → BindingsCame b.stored b'.stored
+
+abbrev pub BodyBindingsCame : Type 0
+BodyBindingsCame =
+    (skipped : Bool) (f : Formals) (e : OptionExpr) (b b' : Builder) (given : Given) (i : ExprId) → Paired b.stored
+    → lower_body skipped f e b ≡ (Ok (given, i), b') → BindingsCame b.stored b'.stored

@@ -6,6 +6,7 @@ ghost use Rattle.hir_type_result.specs.TypeResult.{TypeResults, RefusedTypes};
 ghost use Rattle.hir_type_result.specs.Reached.{TypesReachedOnce};
 ghost use Rattle.hir_type_result.specs.Named.{ExprTypesReachedOnce, PathTypesReachedOnce};
 ghost use Rattle.hir_type_result.specs.Pats.{BodyPatsReachedOnce, ExprPatsReachedOnce, PathPatsReachedOnce, TypePatsReachedOnce};
+ghost use Rattle.hir_type_result.specs.Pats.{BodyBindingsCame, ExprBindingsCame, PathBindingsCame, TypeBindingsCame};
 ghost use Rattle.hir_type_result.specs.Roots.{PathRoots, TypeRoots};
 ghost use Rattle.hir_type_result.specs.Inside.{InsideReachedOnce, TypeInsideReachedOnce, PathInsideReachedOnce};
 
@@ -28,6 +29,15 @@ pub fn pats_reached_once()
     ensures types { TypePatsReachedOnce }
     ensures paths { PathPatsReachedOnce }
     ensures bodies { BodyPatsReachedOnce }
+{}
+
+/// Each binding that a pattern of a lowered tree, type or path makes is one that its lowering stored. So it is of a body behind its
+/// parameters.
+pub fn bindings_came()
+    ensures exprs { ExprBindingsCame }
+    ensures types { TypeBindingsCame }
+    ensures paths { PathBindingsCame }
+    ensures bodies { BodyBindingsCame }
 {}
 
 /// Each expression that a lowered tree reaches, or that a constant inside it does, is one that its lowering stored, and is reached
