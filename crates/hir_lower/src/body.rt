@@ -4,6 +4,7 @@ ghost use Rattle.std.specs.Prelude.{◌≡◌, ◌≢◌, Bool, false, is_some, 
 ghost use Rattle.hir_store.specs.Range.{InRange};
 ghost use Rattle.hir_store.specs.Stored.{map_of, store_of};
 ghost use Rattle.hir_store.specs.Storing.{empty};
+ghost use Rattle.hir_env.specs.Answered as tree;
 ghost use Rattle.hir_env.specs.Formals.{answered_formals};
 ghost use Rattle.hir_env.specs.Whole.{expr_part};
 ghost use Rattle.hir_lower_form.specs.Lowering.{Lowers};
@@ -153,7 +154,29 @@ fn behind_formals<E: LowerEnv>(
     Ok((given, root))
 }
 
-/// Lowers the parameters and the body of an item that isn't skipped, where a body that must be there may be missing.
+/// Lowers the parameters of an item without a body, which is missing where it must be there.
+#[tactic(auto, unfolding(crate::specs::Roots::body_of, crate::specs::Roots::report_missing))]
+fn missing_item<E: LowerEnv>(
+    alloc: Global,
+    env: &E,
+    place: Place,
+    state: &mut BodyBuilder,
+    bare: bool,
+    node: InFile<AstPtr>,
+    required: Option<MissingBodyItemKind>,
+    params: Option<&ast::ParamList>,
+) -> Result<((Option<BindingId>, Seq<PatId>), ExprId), StoreFault>
+    ensures { let at = spot_at (E.answers env.now) place in
+        let formals = answered_formals (outside_the_body at) bare (option_copied params.entry) in
+        Lowers HasBehind (body_of false node required formals tree.no_expr) state.old result state.new }
+{
+    if let Some(kind) = required {
+        state.report(ExpressionStoreDiagnostics::MissingBody { node, kind })?;
+    }
+    behind_formals(alloc, env, place, state, false, bare, params, None)
+}
+
+/// Lowers the parameters and the body of an item that isn't skipped.
 #[tactic(auto, unfolding(crate::specs::Roots::body_of, crate::specs::Roots::report_missing))]
 fn kept_item<E: LowerEnv>(
     alloc: Global,
@@ -170,12 +193,10 @@ fn kept_item<E: LowerEnv>(
         let formals = answered_formals (outside_the_body at) bare (option_copied params.entry) in
         Lowers HasBehind (body_of false node required formals (expr_part at (option_copied body.entry))) state.old result state.new }
 {
-    if body.is_none()
-        && let Some(kind) = required
-    {
-        state.report(ExpressionStoreDiagnostics::MissingBody { node, kind })?;
+    match body {
+        None => missing_item(alloc, env, place, state, bare, node, required, params),
+        Some(_) => behind_formals(alloc, env, place, state, false, bare, params, body),
     }
-    behind_formals(alloc, env, place, state, false, bare, params, body)
 }
 
 /// Lowers the parameters and the body of an item. Where the item is skipped, its body is absent and no pattern is read.
