@@ -1,5 +1,5 @@
 -- Lists that have not the length that is wanted.
-use Rattle.std.proofs.Common.{◌≡◌, ◌<◌, ◌≤◌, List, [], ◌∷◌, length, refl, arith, Some, None}
+use Rattle.std.proofs.Common.{◌≡◌, ◌≢◌, ◌<◌, ◌≤◌, List, [], ◌∷◌, length, refl, arith, Some, None}
 use Rattle.serde_json.specs.View.{items_view}
 use Rattle.serde_json.specs.declared.value.Value.{Value}
 use Rattle.lower_json.specs.Tables.{alias_of, decided_of, triple_of, quadruple_of, said_of, context_of}
@@ -73,19 +73,11 @@ alias_over_two (v ∷ []) h = absurd (omega arith)
 alias_over_two (v ∷ w ∷ []) h = absurd (omega arith)
 alias_over_two (v ∷ w ∷ x ∷ vs) h = refl
 
-pub under_five : (vs : List Value) → length vs < 5 → None ≡ said_of (Some (items_view vs))
-under_five [] h = refl
-under_five (v ∷ []) h = refl
-under_five (v ∷ w ∷ []) h = refl
-under_five (v ∷ w ∷ x ∷ []) h = refl
-under_five (v ∷ w ∷ x ∷ y ∷ []) h = refl
-under_five (v ∷ w ∷ x ∷ y ∷ z ∷ vs) h = absurd (omega arith)
-
-pub over_five : (vs : List Value) → 6 ≤ length vs → None ≡ said_of (Some (items_view vs))
-over_five [] h = absurd (omega arith)
-over_five (v ∷ []) h = absurd (omega arith)
-over_five (v ∷ w ∷ []) h = absurd (omega arith)
-over_five (v ∷ w ∷ x ∷ []) h = absurd (omega arith)
-over_five (v ∷ w ∷ x ∷ y ∷ []) h = absurd (omega arith)
-over_five (v ∷ w ∷ x ∷ y ∷ z ∷ []) h = absurd (omega arith)
-over_five (v ∷ w ∷ x ∷ y ∷ z ∷ u ∷ vs) h = refl
+pub not_five : (vs : List Value) → length vs ≢ 5 → None ≡ said_of (Some (items_view vs))
+not_five [] h = refl
+not_five (v ∷ []) h = refl
+not_five (v ∷ w ∷ []) h = refl
+not_five (v ∷ w ∷ x ∷ []) h = refl
+not_five (v ∷ w ∷ x ∷ y ∷ []) h = refl
+not_five (v ∷ w ∷ x ∷ y ∷ z ∷ []) h = absurd (omega (arith, h))
+not_five (v ∷ w ∷ x ∷ y ∷ z ∷ u ∷ vs) h = refl
