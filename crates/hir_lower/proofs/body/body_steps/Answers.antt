@@ -1,5 +1,4 @@
-use Rattle.std.proofs.Common.{◌≡◌, ◌∙◌, ap, map}
-use Rattle.hir_lower.specs.Roots.{as_written}
+use Rattle.std.proofs.Common.{rules}
 use Rattle.hir_lower.proofs.body.body_steps.Goals as goal
 
 pub returns-in-Ok-finished-clause-stores : goal.returns-in-Ok-finished-clause-stores
@@ -18,8 +17,5 @@ returns-in-Ok-finished-clause-given g c = record {
   builder = c.lower_item.new.state;
   done = rw (c.new-state.ensures, c.await_location_of.ensures) at c.in-Ok.ensures.0;
   receiver = c.in-Ok-finished.ensures.receiver;
-  params =
-      let is = c.in-Ok.is in
-      let same : c.in-Ok.pats-in-Ok-1-own.given.0.0.0.1 ≡ c.in-Ok.pats = cc in
-      c.in-Ok-finished.ensures.params ∙ ap (map as_written) same;
+  params = search rules;
 }
