@@ -1,6 +1,6 @@
 -- Steps by the bodies inside that they record as roots, where no root is being lowered.
 use Rattle.std.proofs.Common.{◌≡◌, ◌∙◌, refl, sym, ap, subst, arith, ℕ, ◌+◌, ◌≤◌, length, Bool, true, false, true≢false, List, [], ◌∷◌}
-use Rattle.std.proofs.Common.{◌++◌, append_assoc, append-nil, length-append, slice_get, Option, Some, Ok, Err}
+use Rattle.std.proofs.Common.{◌++◌, append_assoc, append-nil, length-append, slice_get, Option, Some, None, Ok, Err}
 use Rattle.hir_store.specs.Arenas.{Prefix}
 use Rattle.hir_store.specs.Pointers.{Pointer}
 use Rattle.hir_store.specs.Stored.{Store, SourceMap, Stored, store_of, map_of}
@@ -35,14 +35,17 @@ use Rattle.hir_steps.proofs.TypeAny.{Any, any}
 use Rattle.hir_one_result.specs.Laws.{Settled}
 use Rattle.hir_one_result.specs.Size.{Size}
 use Rattle.hir_one_result.specs.Stands.{Open}
+use Rattle.hir_one_result.proofs.AfterLowering.{after_lowering}
 use Rattle.hir_one_result.proofs.Tellings.{Told, Tells}
-use Rattle.hir_same_meaning.specs.Reached.{Spread, reached_to}
+use Rattle.hir_scope.specs.Each.{Each}
+use Rattle.hir_same_meaning.specs.Reached.{Between, Spread, reached_to}
 use Rattle.hir_same_meaning.proofs.Spread.{spread_wider}
 use Rattle.hir_type_result.specs.Named.{of_expr, of_exprs, of_pats_alone}
 use Rattle.hir_type_result.specs.Pats.{of_types, pats_reached}
 use Rattle.hir_type_result.specs.Roots.{Ends, ends_now, ends_of, Further, RootIs, RootsAre, RootsOf, SameInner, last_end, pats_of_exprs}
+use Rattle.hir_type_result.specs.Roots.{bindings_of_found, bindings_of_pats}
 use Rattle.hir_type_result.specs.Roots.{pats_of_found}
-use Rattle.hir_type_result.proofs.Adding.{Quiet}
+use Rattle.hir_type_result.proofs.Adding.{Made, Quiet, both}
 use Rattle.hir_type_result.proofs.Counted.{times, times_append, counted_spread}
 use Rattle.hir_type_result.proofs.Inside.{constant_adds, inside_once, limit_adds}
 use Rattle.hir_type_result.proofs.Meaning.{constant_means, limit_means}
@@ -86,6 +89,10 @@ pub record Notes {A : Type 0} (es : Bodies) (p : Lowering A) : Type 0 where
 
 -- ---- one after another
 
+lower : (lo lo' hi : ℕ) (ks : List ℕ) → lo ≤ lo' → Each (Between lo' hi) ks → Each (Between lo hi) ks
+lower lo lo' hi [] le h = tt
+lower lo lo' hi (k ∷ ks) le h = let a : lo' ≤ k = h.0.0 in ((omega (arith, le, a), h.0.1), lower lo lo' hi ks le h.1)
+
 -- what begins later begins earlier too
 root_earlier : {store : Store} {source_map : SourceMap} {around : Open} (lo hi : Ends) (r : ExprRoot) (x : InnerBody) → Further lo hi
     → RootIs store source_map around hi r x → RootIs store source_map around lo r x
@@ -96,6 +103,7 @@ root_earlier lo hi r x le h = record {
   goes_on = further_trans le h.goes_on;
   reached_once = λ depth d. spread_wider lo.exprs r.exprs_end.0 le.exprs (omega arith) (h.reached_once depth d);
   pats_reached_once = λ depth deep d d'. spread_wider lo.pats r.pats_end.0 le.pats (omega arith) (h.pats_reached_once depth deep d d');
+  bindings_reached = λ depth deep d d'. lower lo.bindings hi.bindings r.bindings_end.0 _ le.bindings (h.bindings_reached depth deep d d');
 }
 
 roots_earlier : (store : Store) (source_map : SourceMap) (around : Open) (lo hi : Ends) (rs : List ExprRoot) (es : Bodies) → Further lo hi
@@ -246,6 +254,22 @@ record Facts (x : InnerBody) (b c : Builder) (i : ExprId) (later : Stored) : Typ
   pats_reached_once : (depth deep : ℕ) → length later.exprs.entries ≤ depth → length later.pats.entries ≤ deep
       → Spread (length b.stored.pats.entries) (length c.stored.pats.entries)
       (pats_of_exprs (store_of later) deep (reached_to (store_of later) depth i))
+  bindings_reached : (depth deep : ℕ) → length later.exprs.entries ≤ depth → length later.pats.entries ≤ deep
+      → Each (Between (length b.stored.bindings.entries) (length c.stored.bindings.entries))
+      (bindings_of_pats (store_of later) (pats_of_exprs (store_of later) deep (reached_to (store_of later) depth i)))
+
+-- patterns that came make bindings that came
+bindings_made : (lo : ℕ) (final : Stored) (m m' : Mark) → Made lo final m m' → (ns : List ℕ)
+    → Each (Between (length m.stored.pats.entries) (length m'.stored.pats.entries)) ns
+    → Each (Between lo m'.bindings) (bindings_of_pats (store_of final) ns)
+bindings_made lo final m m' made [] h = tt
+bindings_made lo final m m' made (n ∷ ns) h =
+    both (Between lo m'.bindings) (bindings_of_found (slice_get final.pats.entries n)) (bindings_of_pats (store_of final) ns)
+    (by (slice_get final.pats.entries n) refl) (bindings_made lo final m m' made ns h.1)
+  where
+    by : (o : Option Pat) → slice_get final.pats.entries n ≡ o → Each (Between lo m'.bindings) (bindings_of_found o)
+    by None e = tt
+    by (Some p) e = made n p h.0.0 h.0.1 e
 
 -- of expressions that came, each reached once, no pattern is reached more often than of all that came
 reached_pats : (a b later : Stored) (es more : List HirExpr) → b.exprs.entries ≡ a.exprs.entries ++ es
@@ -286,16 +310,26 @@ module _ {A : Type 0} {p : Lowering A} (x : InnerBody) (b c : Builder) (a : A) (
   facts_of quiet kept same once =
       let es = kept.stays.exprs.entries in
       let ts = kept.stays.types.entries in
-      let behind = stays.exprs.entries in record {
+      let behind = stays.exprs.entries in
+      let row = after_lowering quiet b a c paired is later stays in
+      let pats : (depth deep : ℕ) → length later.exprs.entries ≤ depth → length later.pats.entries ≤ deep
+      → Spread (length b.stored.pats.entries) (length c.stored.pats.entries)
+      (pats_of_exprs (store_of later) deep (reached_to (store_of later) depth i)) =
+      λ depth deep le le'. counted_spread _ _ _ (λ k.
+      let u = pats_counted (λ a. []) quiet (λ a l k. omega arith) b c a paired is later stays deep le' es.more es.is ts.more ts.is k
+      in
+      let v = reached_pats b.stored c.stored later es.more behind.more es.is behind.is deep k
+      (reached_to (store_of later) depth i) (once depth le) in
+      let l = of_pats_alone (pats_reached later.pats.entries deep) in
+      let w = times_append k (of_exprs l es.more) (of_types l ts.more) in omega (arith, u, v, w)) in
+      record {
         same = same;
         reached_once = once;
-        pats_reached_once = λ depth deep le le'. counted_spread _ _ _ (λ k.
-            let u = pats_counted (λ a. []) quiet (λ a l k. omega arith) b c a paired is later stays deep le' es.more es.is ts.more ts.is k
-            in
-            let v = reached_pats b.stored c.stored later es.more behind.more es.is behind.is deep k
-            (reached_to (store_of later) depth i) (once depth le) in
-            let l = of_pats_alone (pats_reached later.pats.entries deep) in
-            let w = times_append k (of_exprs l es.more) (of_types l ts.more) in omega (arith, u, v, w));
+        pats_reached_once = pats;
+        bindings_reached = λ depth deep le le'.
+            let x = row.bound (length b.stored.bindings.entries) (omega arith) tt tt in
+            bindings_made (length b.stored.bindings.entries) later (mark b) (mark c) x.made
+            (pats_of_exprs (store_of later) deep (reached_to (store_of later) depth i)) (pats depth deep le le').within;
       }
 
 -- behind the barrier, in a root
@@ -345,6 +379,7 @@ module _ {A : Type 0} (make : ExprId → A) (x : InnerBody) where
                   goes_on = goes_on;
                   reached_once = f.reached_once;
                   pats_reached_once = f.pats_reached_once;
+                  bindings_reached = f.bindings_reached;
                 } in
                 record {
                   roots = root ∷ [];

@@ -5,6 +5,7 @@ use Rattle.hir_store.specs.Stored.{Store, SourceMap, Stored, store_of, map_of}
 use Rattle.hir_store.specs.declared.hir.Expr.{Expr as HirExpr}
 use Rattle.hir_store.specs.declared.ids.ExprId.{ExprId}
 use Rattle.hir_store.specs.declared.ids.TypeRefId.{TypeRefId}
+use Rattle.hir_store.specs.declared.pat.Pat.{Pat as HirPat}
 use Rattle.hir_store.specs.declared.path.Path.{Path}
 use Rattle.hir_store.specs.declared.roots.ExprRoot.{ExprRoot}
 use Rattle.hir_scope.specs.Ribs.{barrier_rib}
@@ -18,12 +19,13 @@ use Rattle.hir_meaning.specs.Limits.{written_inner}
 use Rattle.hir_meaning.specs.Same.{SameBody, SameBodies}
 use Rattle.hir_meaning.specs.Store.{stored_body}
 use Rattle.hir_steps.specs.Keeps.{Paired}
-use Rattle.hir_same_meaning.specs.Reached.{Spread, reached_to}
+use Rattle.hir_scope.specs.Each.{Each}
+use Rattle.hir_same_meaning.specs.Reached.{Between, Spread, reached_to}
 use Rattle.hir_one_result.specs.Laws.{Settled}
 use Rattle.hir_one_result.specs.Leads.{Way, Ways}
 use Rattle.hir_one_result.specs.Room.{type_part_size, whole_size}
 use Rattle.hir_one_result.specs.Stands.{Open, StandsLimit, StandsPart}
-use Rattle.hir_type_result.specs.Named.{of_expr, of_pats_alone}
+use Rattle.hir_type_result.specs.Named.{of_bindings_alone, of_expr, of_pat, of_pats_alone}
 use Rattle.hir_type_result.specs.Pats.{pats_reached}
 use Rattle.hir_type_result.specs.Reached.{of_each}
 
@@ -74,8 +76,17 @@ pats_of_found store depth (Some e) = of_expr (of_pats_alone (pats_reached store.
 abbrev pub pats_of_exprs : Store → ℕ → List ℕ → List ℕ
 pats_of_exprs store depth = of_each (λ n. pats_of_found store depth (slice_get store.exprs n))
 
+-- the bindings that the patterns of these numbers make
+abbrev pub bindings_of_found : Option HirPat → List ℕ
+bindings_of_found None = []
+bindings_of_found (Some p) = of_pat of_bindings_alone p
+
+abbrev pub bindings_of_pats : Store → List ℕ → List ℕ
+bindings_of_pats store = of_each (λ n. bindings_of_found (slice_get store.pats n))
+
 -- A root that begins where the one before it ended, as a body with this around it: it does what the body does and stands for it,
--- and each expression that it reaches is reached in one way, and belongs to it. So do the patterns that these expressions reach.
+-- and each expression that it reaches is reached in one way, and belongs to it. So do the patterns that these expressions reach,
+-- and the bindings that those make.
 pub record RootIs (store : Store) (source_map : SourceMap) (around : Open) (begins : Ends) (r : ExprRoot) (b : InnerBody) : Type 0 where
   pub same : SameInner store source_map r.root b
   pub ways : List Way
@@ -84,6 +95,9 @@ pub record RootIs (store : Store) (source_map : SourceMap) (around : Open) (begi
   pub reached_once : (depth : ℕ) → length store.exprs ≤ depth → Spread begins.exprs r.exprs_end.0 (reached_to store depth r.root)
   pub pats_reached_once : (depth deep : ℕ) → length store.exprs ≤ depth → length store.pats ≤ deep
       → Spread begins.pats r.pats_end.0 (pats_of_exprs store deep (reached_to store depth r.root))
+  pub bindings_reached : (depth deep : ℕ) → length store.exprs ≤ depth → length store.pats ≤ deep
+      → Each (Between begins.bindings r.bindings_end.0)
+      (bindings_of_pats store (pats_of_exprs store deep (reached_to store depth r.root)))
 
 -- each is for the body in the same place of the list
 abbrev pub RootsAre : Store → SourceMap → Open → Ends → List ExprRoot → Bodies → Type 0
