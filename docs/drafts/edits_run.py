@@ -10,7 +10,7 @@ name, *only = sys.argv[1:]
 folder = f"{root}/crates/{name}"
 os.chdir(folder)
 c = m.Crate(folder, root, {})
-edits = [e for e in m.edits_of(c)[1]] if isinstance(m.edits_of(c), tuple) else m.edits_of(c)
+edits = m.edits_of(c)[0]
 for e in edits:
     b = os.path.basename(e)[:-5]
     if only and b not in only: continue
