@@ -131,6 +131,8 @@ mutual
     range_pattern : RangeOp → OptionSideData → OptionSideData → PatShape
     -- a place that is assigned to: which one, the operands of the assignment tell
     place_pattern : PatShape
+    -- what is stored for no tree: a binding that isn't there, or a literal that is none
+    unwritten_pattern : PatShape
 
   pub data OptionPatData : Type 0 where
     no_pattern : OptionPatData

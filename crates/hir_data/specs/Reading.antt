@@ -209,12 +209,12 @@ module _ (store : Store) (source_map : SourceMap) where
 
     -- a binding has the mode of its first use
     abbrev pub bind_layer : Option Binding → OptionPatData → PatShape
-    bind_layer None sub = datum.missing_pattern
+    bind_layer None sub = datum.unwritten_pattern
     bind_layer (Some b) sub = datum.bind_pattern b.name b.hygiene b.mode sub
 
     abbrev pub literal_layer : Option Expr → PatShape
     literal_layer (Some (hir.Literal l)) = datum.literal_pattern (literal_read l)
-    literal_layer e = datum.missing_pattern
+    literal_layer e = datum.unwritten_pattern
 
     -- a side that is a literal or a path
     abbrev pub plain_side_layer : Option Expr → SideData
@@ -255,7 +255,7 @@ module _ (store : Store) (source_map : SourceMap) where
     pattern_layer (pat.Expr e) = datum.place_pattern
 
     abbrev pub pattern_found : Option Pat → PatShape
-    pattern_found None = datum.missing_pattern
+    pattern_found None = datum.unwritten_pattern
     pattern_found (Some p) = pattern_layer p
 
   -- ---- all

@@ -301,7 +301,7 @@ mutual
 
   -- ---- patterns
 
-  top_holds : (p : OptionPat) → Correct (lower.lower_top p) (Holds a_pat (inner.pat_part_bodies p))
+  pub top_holds : (p : OptionPat) → Correct (lower.lower_top p) (Holds a_pat (inner.pat_part_bodies p))
   top_holds tree.no_pat = pats.absent_held
   top_holds (tree.some_pat p) = patterned.top_held (lower.lower_pat p) (pat_holds p no_names)
 
