@@ -20,7 +20,8 @@ use Rattle.hir_env.specs.Answered.{Jump, Label}
 use Rattle.hir_scope.specs.Ribs.{Rib, Target, reachable, unreachable, undeclared, target}
 use Rattle.hir_lower_form.specs.Lower.{ExprSteps, constant_form}
 use Rattle.hir_lower_form.specs.Lowering.{Lowering, ◌>>=◌, pure, alloc_binding, alloc_expr, alloc_lifetime, alloc_pat, alloc_type, close}
-use Rattle.hir_lower_form.specs.Lowering.{count_out, enter_block, jump_target, open_label, point, point_field, point_pat_field, report, report_await}
+use Rattle.hir_lower_form.specs.Lowering.{count_out, enter_block, jump_target, open_label, point, point_field, point_pat_field}
+use Rattle.hir_lower_form.specs.Lowering.{report, report_await}
 use Rattle.hir_lower_form.specs.Ranges.{inner_form}
 use Rattle.hir_steps.proofs.Constants as constants
 use Rattle.hir_steps.proofs.Constants.{Constant, Inner}
@@ -29,7 +30,8 @@ use Rattle.hir_steps.proofs.Logic.{longer}
 use Rattle.hir_steps.proofs.PatSteps as pats
 use Rattle.hir_steps.proofs.PatSteps.{AllocatedBinding, AllocatedPat, PatWrites, with_field_pat}
 use Rattle.hir_steps.proofs.Steps as steps
-use Rattle.hir_steps.proofs.Steps.{Allocated, AllocatedLifetime, AllocatedType, Both, IsPure, Mark, Opened, Rel, Seq, Targeted, Writes, Grows}
+use Rattle.hir_steps.proofs.Steps.{Allocated, AllocatedLifetime, AllocatedType, Both, IsPure, Mark, Opened, Rel, Seq, Targeted}
+use Rattle.hir_steps.proofs.Steps.{Writes, Grows}
 use Rattle.hir_steps.proofs.Steps.{pointing, with_await, with_block, with_fault, with_field, with_jump, with_target}
 use Rattle.hir_one_result.specs.Laws.{Settled}
 
@@ -106,7 +108,8 @@ pub correct_count_out : {A : Type 0} (R : Rel A) → Correct {A = A} count_out R
 correct_count_out R = steps.correct_count_out (Lasts R)
 
 pub correct_pure : {A : Type 0} (a : A) → Correct (pure a) (IsPure a)
-correct_pure a = keeping (steps.correct_pure a) (λ final ps m m' b row. settled_as m.stored m'.stored (ap (λ x. x.stored.bindings) row.still))
+correct_pure a = keeping (steps.correct_pure a)
+    (λ final ps m m' b row. settled_as m.stored m'.stored (ap (λ x. x.stored.bindings) row.still))
 
 pub correct_alloc : (e : Expr) (source : Option Pointer) → Correct (alloc_expr e source) (Allocated e source)
 correct_alloc e source =
@@ -132,10 +135,12 @@ pub correct_report : (d : ExpressionStoreDiagnostics) → Correct (report d) (Wr
 correct_report d = keeping (steps.correct_report d) (λ final ps m m' u row. settled_as m.stored m'.stored (ap (λ s. s.bindings) row.stored))
 
 pub correct_point : (at : Pointer) (i : ExprId) → Correct (point at i) (Writes tt (pointing at i))
-correct_point at i = keeping (steps.correct_point at i) (λ final ps m m' u row. settled_as m.stored m'.stored (ap (λ s. s.bindings) row.stored))
+correct_point at i = keeping (steps.correct_point at i)
+    (λ final ps m m' u row. settled_as m.stored m'.stored (ap (λ s. s.bindings) row.stored))
 
 pub correct_point_field : (i : ExprId) (at : Pointer) → Correct (point_field i at) (Writes tt (with_field i at))
-correct_point_field i at = keeping (steps.correct_point_field i at) (λ final ps m m' u row. settled_as m.stored m'.stored (ap (λ s. s.bindings) row.stored))
+correct_point_field i at = keeping (steps.correct_point_field i at)
+    (λ final ps m m' u row. settled_as m.stored m'.stored (ap (λ s. s.bindings) row.stored))
 
 pub correct_point_pat_field : (i : PatId) (at : Pointer) → Correct (point_pat_field i at) (PatWrites (with_field_pat i at))
 correct_point_pat_field i at =
@@ -177,7 +182,8 @@ pub correct_opened : {A B : Type 0} (at : Label → LabelId → Frame) (l : Labe
     → ((n : LabelId) → Correct (p n) (R n)) → ((n : LabelId) (a : A) → Correct (f n a) (Q n a))
     → Correct (open_label l >>= (λ n. p n >>= (λ a. close >>= (λ _. f n a)))) (Opened at l R Q)
 correct_opened at l frame hp hf = steps.correct_as (steps.correct_opened at l frame hp hf) (λ final ps m m' b g row. record {
-  settled = prefix_trans (settled_as m.stored row.entered.stored (ap (λ s. s.bindings) row.stored)) (prefix_trans row.first.settled row.second.settled);
+  settled = prefix_trans (settled_as m.stored row.entered.stored (ap (λ s. s.bindings) row.stored))
+      (prefix_trans row.first.settled row.second.settled);
   rel = λ s. record {
     number = row.number;
     entered = row.entered;
@@ -194,8 +200,10 @@ correct_opened at l frame hp hf = steps.correct_as (steps.correct_opened at l fr
     stored = row.stored;
     before = row.before;
     after = row.after;
-    first = row.first.rel (unchanged_first row.second.settled (unchanged_behind (settled_as m.stored row.entered.stored (ap (λ s. s.bindings) row.stored)) s));
-    second = row.second.rel (unchanged_behind (prefix_trans (settled_as m.stored row.entered.stored (ap (λ s. s.bindings) row.stored)) row.first.settled) s);
+    first = row.first.rel (unchanged_first row.second.settled
+        (unchanged_behind (settled_as m.stored row.entered.stored (ap (λ s. s.bindings) row.stored)) s));
+    second = row.second.rel (unchanged_behind
+        (prefix_trans (settled_as m.stored row.entered.stored (ap (λ s. s.bindings) row.stored)) row.first.settled) s);
   };
 })
 

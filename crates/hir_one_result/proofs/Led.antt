@@ -114,7 +114,8 @@ module _ (map : SourceMap) (before : List Way) (h : MapLeads map before) (w : Wa
       → FieldsLead same_pat map.pat_field_map_back pat_field_way (before ++ w ∷ [])
   beside_pat_fields other = fields_beside same_pat pat_is pat_self pat_field_way map.pat_field_map_back before h.pat_fields w other
 
-pub led_expr : (e : Expr) (p : Pointer) (a : Stored) → Led (map_of a) (map_of (with_expr e (Some p) a)) (expr_way p (expr_id (length a.exprs.entries)) ∷ [])
+pub led_expr : (e : Expr) (p : Pointer) (a : Stored)
+    → Led (map_of a) (map_of (with_expr e (Some p) a)) (expr_way p (expr_id (length a.exprs.entries)) ∷ [])
 led_expr e p a = λ before h. record {
   exprs = leads_more expr_way a.exprs.map before h.exprs (λ p q t u w. (cc, cc)) p (expr_id (length a.exprs.entries));
   labels = beside_labels (map_of a) before h (expr_way p (expr_id (length a.exprs.entries))) (λ q u w. cc);
@@ -138,7 +139,8 @@ led_unled e a = λ before h. record {
   pat_fields = beside_pat_fields (map_of a) before h (unled_way (expr_id (length a.exprs.entries))) (λ q u w. cc);
 }
 
-pub led_binding : (x : Binding) (a : Stored) → Led (map_of a) (map_of (with_new_binding x a)) (binding_way (binding_id (length a.bindings.entries)) ∷ [])
+pub led_binding : (x : Binding) (a : Stored)
+    → Led (map_of a) (map_of (with_new_binding x a)) (binding_way (binding_id (length a.bindings.entries)) ∷ [])
 led_binding x a = λ before h. record {
   exprs = beside_exprs (map_of a) before h (binding_way (binding_id (length a.bindings.entries))) (λ q u w. cc);
   labels = beside_labels (map_of a) before h (binding_way (binding_id (length a.bindings.entries))) (λ q u w. cc);
@@ -146,7 +148,8 @@ led_binding x a = λ before h. record {
   pat_fields = beside_pat_fields (map_of a) before h (binding_way (binding_id (length a.bindings.entries))) (λ q u w. cc);
 }
 
-pub led_label : (l : Label) (a : Stored) → Led (map_of a) (map_of (with_label l a)) (label_way l.pointer (label_id (length a.labels.entries)) ∷ [])
+pub led_label : (l : Label) (a : Stored)
+    → Led (map_of a) (map_of (with_label l a)) (label_way l.pointer (label_id (length a.labels.entries)) ∷ [])
 led_label l a = λ before h. record {
   exprs = beside_exprs (map_of a) before h (label_way l.pointer (label_id (length a.labels.entries))) (λ q u w. cc);
   labels = leads_more label_way a.labels.map before h.labels (λ p q t u w. (cc, cc)) l.pointer (label_id (length a.labels.entries));

@@ -31,7 +31,8 @@ use Rattle.hir_one_result.specs.PatRoom.{is_known}
 use Rattle.hir_one_result.specs.Stands.{Names, Open, NewName, PatIs, StandsName}
 use Rattle.hir_one_result.proofs.Defining.{MakesNone}
 use Rattle.hir_one_result.proofs.Lasting.{Correct, Lasts, bound, correct_alloc_pat, correct_as, correct_bind, correct_pure, in_prefix}
-use Rattle.hir_one_result.proofs.Leading.{Shown, shown_as, shown_none, shown_both, shown_before, shown_binding, Moved, moved_pat, moved_same}
+use Rattle.hir_one_result.proofs.Leading.{Shown, shown_as, shown_none, shown_both, shown_before, shown_binding}
+use Rattle.hir_one_result.proofs.Leading.{Moved, moved_pat, moved_same}
 use Rattle.hir_one_result.proofs.Leading.{moved_then, moved_to}
 use Rattle.hir_one_result.proofs.Standing.{Of, Shows, Facts, moved_pure}
 use Rattle.hir_one_result.proofs.Tables.{Entries, Keyed, KnownBy, Further, Rising, Apart, ids, known, keyed_more, apart_between}
@@ -320,7 +321,8 @@ record UsedBy (u : Use) (t : Table) (o : Option BindingId) (final : Stored) (ps 
   further : Further t.bindings r.1.bindings m.stored m'.stored
   keyed : (us w : FirstUses) (k : Bool) (n p : ℕ) → Keyed us t.bindings → KnownBy us t.bindings u o w k n p → Keyed w r.1.bindings
   noted : (us w : FirstUses) (k : Bool) (n : ℕ) → KnownBy us t.bindings u o w k n
-      (position_or_len (same_key (key_of u)) (keys_of t.bindings)) → (j : ℕ) → r.1.noted j ≡ after over_recent j (name_use n u.mode) (t.noted j)
+      (position_or_len (same_key (key_of u)) (keys_of t.bindings))
+      → (j : ℕ) → r.1.noted j ≡ after over_recent j (name_use n u.mode) (t.noted j)
   below : (us w : FirstUses) (k : Bool) (n p : ℕ) → Rising 0 (bound m.stored) t.bindings → KnownBy us t.bindings u o w k n p
       → r.0.0 < bound m'.stored
   shown : (us w : FirstUses) (k : Bool) (n p : ℕ) → KnownBy us t.bindings u o w k n p → (ks : Names) → Prefix (ids r.1.bindings) ks

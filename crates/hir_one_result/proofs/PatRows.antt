@@ -62,7 +62,8 @@ binds_twice store source_map q ws h =
     let bound = one.3.second.0 in
     let same : other.0 ≡ one.0 = same_Some other.0 one.0 (sym other.3.second.0 ∙ bound) in
     let begins : Some (made_for store one.0) ≡ Some (Some use_x) =
-    ap (λ o. option_map (made_for store) o) (sym bound) ∙ (sym (slice_get-map (made_for store) ks 0) ∙ ap (λ l. slice_get l 0) named.one_for_each) in
+    ap (λ o. option_map (made_for store) o) (sym bound)
+    ∙ (sym (slice_get-map (made_for store) ks 0) ∙ ap (λ l. slice_get l 0) named.one_for_each) in
     record {
       one = one.0;
       first = first.0;

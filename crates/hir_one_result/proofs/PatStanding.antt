@@ -205,7 +205,8 @@ signed_stands at s = correct_as (alone_stands (hir.Literal (signed_literal s)) a
     (λ final ps m m' i g row. record { shown = shown_as row.shown (λ ws y. (signed_literal s, refl, y)) })
 
 -- one part, and the pattern that is made of it
-pub part_then : {A : Type 0} {X : Of A} {q : Lowering A} (con : A → HirPat) (at : Pointer) → ((a : A) → MakesNone (con a)) → Correct q (Shows X)
+pub part_then : {A : Type 0} {X : Of A} {q : Lowering A} (con : A → HirPat) (at : Pointer) → ((a : A) → MakesNone (con a))
+    → Correct q (Shows X)
     → Correct (q >>= (λ a. alloc_pat (con a) (Some at)))
     (Shows (λ final rs i ws. (a : A) × PatIs (store_of final) (map_of final) i (con a) × X final rs a ws))
 part_then con at none h = correct_as (correct_bind h (λ a. pat_facts (con a) (Some at) (none a)))

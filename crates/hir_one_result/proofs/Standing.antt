@@ -414,7 +414,9 @@ module _ (at : Pointer) where
   unfolding continue_form
   continue_stands j = correct_as (correct_bind (correct_target j) (λ n. correct_alloc (hir.Continue n) (Some at))) (λ final ps m m' i g row.
       let node = subst (λ n. Placed final i (hir.Continue n) (Some at)) row.first.is (expr_at row.second) in
-      record { shown = shown_after (moved_to row.first.stored (jump_leads j (ribs ps) m.stored)) (shown_as (own row.second) (λ ws x. (node, x))) })
+      record {
+        shown = shown_after (moved_to row.first.stored (jump_leads j (ribs ps) m.stored)) (shown_as (own row.second) (λ ws x. (node, x)));
+      })
 
   pub break_stands : (j : Option Jump) {e : Lowering (Option ExprId)} {E : Of (Option ExprId)} → Correct e (Shows E)
       → Correct (break_form at j e) (Shows (λ final rs i ws. (value : Option ExprId)

@@ -66,7 +66,8 @@ module _ (final : Stored) where
   abbrev pub contents : Open → Stmts → OptionExpr → List Statement → Option ExprId → Ways
   contents rs ss e = StandsContents (store_of final) (map_of final) rs ss (λ around o. kept_or_none around e o)
 
-pub all_fields_stand : (fs : Fields) {p : Lowering (List RecordLitField)} → Correct p (Shows (λ final rs is. Behind [] (fields final rs fs) is))
+pub all_fields_stand : (fs : Fields) {p : Lowering (List RecordLitField)}
+    → Correct p (Shows (λ final rs is. Behind [] (fields final rs fs) is))
     → Correct p (Shows (λ final rs is. fields final rs fs is))
 all_fields_stand fs h =
     correct_as h (λ final ps m m' is g row. record { shown = behind_none (fields final (ribs ps) fs) row.shown })

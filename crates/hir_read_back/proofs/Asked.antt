@@ -306,7 +306,8 @@ kind_own rule.broken ns k n r = counted_is k n
 kind_own (rule.named x) ns k n r = counted_is k n
 kind_own (rule.root x) ns k n r = counted_is k n
 kind_own rule.self_ [] k n r = counted_is k n
-kind_own rule.self_ (x ∷ ns) k n r = ap kind.Super (supers_in_is (asked.counted k n)) ∙ ap (λ y. kind.Super (rule.supers y)) (counted_is k n)
+kind_own rule.self_ (x ∷ ns) k n r =
+    ap kind.Super (supers_in_is (asked.counted k n)) ∙ ap (λ y. kind.Super (rule.supers y)) (counted_is k n)
 kind_own rule.super_ ns k n r = counted_is k n
 kind_own (rule.anchor t) ns k n r = counted_is k n
 kind_own (rule.projection t p) ns k n r = counted_is k n

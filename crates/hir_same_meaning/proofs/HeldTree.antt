@@ -359,7 +359,8 @@ mutual
   pat_fields_hold (tree.more_pat_fields tree.partless_pat_field fs) done t =
       added_some field_kept done (holds_none (None, t) (λ r. refl)) (λ r. pat_fields_hold fs (push_some done r.0) r.1)
   pat_fields_hold (tree.more_pat_fields (tree.pat_field at None p) fs) done t =
-      added_some field_kept done (pats.nameless_held at (lower.lower_pat p) t (pat_holds p t)) (λ r. pat_fields_hold fs (push_some done r.0) r.1)
+      added_some field_kept done (pats.nameless_held at (lower.lower_pat p) t (pat_holds p t))
+      (λ r. pat_fields_hold fs (push_some done r.0) r.1)
   pat_fields_hold (tree.more_pat_fields (tree.pat_field at (Some n) p) fs) done t =
       added_some field_kept done (pats.field_held at n (pat_holds p) t) (λ r. pat_fields_hold fs (push_some done r.0) r.1)
 

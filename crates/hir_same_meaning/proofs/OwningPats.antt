@@ -276,7 +276,8 @@ module _ (at : Pointer) {b : Lowering Elements} (hb : Correct b (ElementsOwn no_
         each_append f (places_in_present part u.one []) (places_in_each part y.new []),
       )
       (spread_append m.nodes u.middle.nodes (inl (omega arith)) (omega (s.before.nodes, u.before.nodes, row.before.nodes, arith))
-      (x.rel.spread c d (omega (le, s.before.pats, u.before.pats, arith)) (omega (le', s.before.nodes, u.before.nodes, u.after.nodes, arith)))
+      (x.rel.spread c d (omega (le, s.before.pats, u.before.pats, arith))
+      (omega (le', s.before.nodes, u.before.nodes, u.after.nodes, arith)))
       (spread_append row.middle.nodes u.middle.nodes (inr (omega arith)) (omega (s.before.nodes, u.before.nodes, arith))
       (u.first.spread c d le (omega (le', u.after.nodes, arith)))
       (y.rel.spread c d (omega (le, u.before.pats, arith)) (omega (le', u.before.nodes, u.after.nodes, arith)))))))
@@ -370,7 +371,8 @@ unfolding arm_form
 arm_owns p he hg = correct_as (correct_bind (top_any p) (λ i. correct_bind he (λ e. correct_bind hg
     (λ g. correct_pure (Some (record { pat = i; guard = g; expr = e }))))))
     (λ final ps m m' a g row. let s = row.second in let u = s.second in rw (u.second.is, u.second.still) (record {
-      spread = λ d le. spread_append m.nodes u.middle.nodes (inl (omega arith)) (omega (row.before.nodes, s.before.nodes, u.before.nodes, arith))
+      spread = λ d le. spread_append m.nodes u.middle.nodes (inl (omega arith))
+      (omega (row.before.nodes, s.before.nodes, u.before.nodes, arith))
           (s.first.spread d (omega (le, u.before.nodes, arith))) (u.first.spread d le);
     }))
 
