@@ -15,6 +15,7 @@ use Rattle.hir_store.proofs.Arenas.{prefix_refl, prefix_push, prefix_trans}
 use Rattle.hir_store.specs.Pointers.{Pointer}
 use Rattle.hir_env.specs.Answered.{Use}
 use Rattle.hir_data.specs.Uses.{FirstUses, number_of, with_use}
+use Rattle.hir_read_back.proofs.Names.{AreFor, correct_use_name}
 use Rattle.hir_lower_form.specs.Lowering.{Lowering, ◌>>=◌, pure, alloc_pat}
 use Rattle.hir_lower_form.specs.Pats as forms
 use Rattle.hir_lower_form.specs.Pats.{Table, same_key, key_of, enter_or, next_alternative, leave_or, new_binding}
@@ -35,22 +36,22 @@ use Rattle.hir_one_result.proofs.Leading.{Shown, shown_as, shown_none, shown_bot
 use Rattle.hir_one_result.proofs.Leading.{Moved, moved_pat, moved_same}
 use Rattle.hir_one_result.proofs.Leading.{moved_then, moved_to}
 use Rattle.hir_one_result.proofs.Standing.{Of, Shows, Facts, moved_pure}
-use Rattle.hir_one_result.proofs.Tables.{Entries, Keyed, KnownBy, Further, Rising, Apart, ids, known, keyed_more, apart_between}
+use Rattle.hir_one_result.proofs.Tables.{Entries, KnownBy, Further, Rising, Apart, ids, known, apart_between}
 use Rattle.hir_one_result.proofs.Tables.{apart_first, apart_later, further_none, further_then, prefix_ids, risen, rising_found}
 
 -- of the bindings of a top pattern, and of the names that have a use before
 abbrev pub Within : Type 0 → Type 1
 Within A = Names → FirstUses → Of A
 
--- Where the table has these names, the ones that f tells are known, N tells what is noted, and the answer stands for what is written,
--- in a final store in which the bindings of other patterns stay.
+-- Where the bindings of the table are for these uses, the ones by then are for those that f tells, N tells what is noted, and the answer
+-- stands for what is written, in a final store in which the bindings of other patterns stay.
 pub record PatShows {A : Type 0} (S : Within A) (f : FirstUses → FirstUses) (N : FirstUses → ℕ → Noted → Noted) (t : Table)
     (final : Stored) (ps : List Frame) (m m' : Mark) (r : A × Table) : Type 0 where
   pub settled : Settled m.stored m'.stored
   pub further : Further t.bindings r.1.bindings m.stored m'.stored
-  pub keyed : (us : FirstUses) → Keyed us t.bindings → Keyed (f us) r.1.bindings
-  pub noted : (us : FirstUses) → Keyed us t.bindings → (n : ℕ) → r.1.noted n ≡ N us n (t.noted n)
-  pub shown : (us : FirstUses) → Keyed us t.bindings → Rising 0 (bound m.stored) t.bindings → (ks : Names)
+  pub uses : (us : FirstUses) → AreFor final us t.bindings → AreFor final (f us) r.1.bindings
+  pub noted : (us : FirstUses) → AreFor final us t.bindings → (n : ℕ) → r.1.noted n ≡ N us n (t.noted n)
+  pub shown : (us : FirstUses) → AreFor final us t.bindings → Rising 0 (bound m.stored) t.bindings → (ks : Names)
       → Prefix (ids r.1.bindings) ks → Apart r.1.bindings (bound m.stored) m'.stored final
       → Shown (S ks us final (ribs ps) r.0) m.stored m'.stored
 
@@ -95,7 +96,7 @@ module _ {A : Type 0} {S : Within A} {f : FirstUses → FirstUses} {N : FirstUse
   as_row row less = record {
     settled = row.settled;
     further = row.further;
-    keyed = row.keyed;
+    uses = row.uses;
     noted = row.noted;
     shown = λ us c below ks pre apart. shown_as (row.shown us c below ks pre apart) (less ks us);
   }
@@ -105,10 +106,10 @@ module _ {A : Type 0} {S : Within A} {f : FirstUses → FirstUses} {N : FirstUse
       → ((us : FirstUses) → f us ≡ g us) → ((us : FirstUses) (n : ℕ) (x : Noted) → N us n x ≡ M us n x)
       → ((ks : Names) (us : FirstUses) (ws : List Way) → S ks us final (ribs ps) r.0 ws → S' ks us final (ribs ps) r.0 ws)
       → PatShows S' g M t final ps m m' r
-  like_row row uses notes less = record {
+  like_row row same notes less = record {
     settled = row.settled;
     further = row.further;
-    keyed = λ us c. subst (λ vs. Keyed vs r.1.bindings) (uses us) (row.keyed us c);
+    uses = λ us c. subst (λ vs. AreFor final vs r.1.bindings) (same us) (row.uses us c);
     noted = λ us c n. row.noted us c n ∙ notes us n (t.noted n);
     shown = λ us c below ks pre apart. shown_as (row.shown us c below ks pre apart) (less ks us);
   }
@@ -121,11 +122,11 @@ module _ {A : Type 0} {S : Within A} {f : FirstUses → FirstUses} {N : FirstUse
   then_row {M = M} x y = record {
     settled = prefix_trans x.settled y.settled;
     further = further_then x.further y.further;
-    keyed = λ us c. y.keyed (f us) (x.keyed us c);
-    noted = λ us c n. y.noted (f us) (x.keyed us c) n ∙ ap (M (f us) n) (x.noted us c n);
+    uses = λ us c. y.uses (f us) (x.uses us c);
+    noted = λ us c n. y.noted (f us) (x.uses us c) n ∙ ap (M (f us) n) (x.noted us c n);
     shown = λ us c below ks pre apart. shown_both
         (x.shown us c below ks (prefix_ids y.further pre) (apart_first y.further y.settled apart))
-        (y.shown (f us) (x.keyed us c) (risen x.further below) ks pre (apart_later x.settled apart));
+        (y.shown (f us) (x.uses us c) (risen x.further below) ks pre (apart_later x.settled apart));
   }
 
   -- behind steps that know nothing of names
@@ -134,7 +135,7 @@ module _ {A : Type 0} {S : Within A} {f : FirstUses → FirstUses} {N : FirstUse
   behind_row {m0 = m0} x y = record {
     settled = prefix_trans x.settled y.settled;
     further = further_then (further_none t.bindings (longer x.settled)) y.further;
-    keyed = y.keyed;
+    uses = y.uses;
     noted = y.noted;
     shown = λ us c below ks pre apart.
         let known = x.rel (apart_between y.further y.settled below apart) in
@@ -145,12 +146,12 @@ module _ {A : Type 0} {S : Within A} {f : FirstUses → FirstUses} {N : FirstUse
 
   -- what follows is led to by nothing and uses no name, where it is known how far the bindings go
   pub before_row : {m'' : Mark} → PatShows S f N t final ps m m' r → Settled m'.stored m''.stored
-      → ((us : FirstUses) → Keyed us t.bindings → Rising 0 (bound m.stored) t.bindings → Moved m'.stored m''.stored [])
+      → ((us : FirstUses) → AreFor final us t.bindings → Rising 0 (bound m.stored) t.bindings → Moved m'.stored m''.stored [])
       → PatShows S f N t final ps m m'' r
   before_row {m'' = m''} x settled moved = record {
     settled = prefix_trans x.settled settled;
     further = further_then x.further (further_none r.1.bindings (longer settled));
-    keyed = x.keyed;
+    uses = x.uses;
     noted = x.noted;
     shown = λ us c below ks pre apart.
         shown_before (x.shown us c below ks pre
@@ -164,7 +165,7 @@ module _ {A : Type 0} {S : Within A} {f : FirstUses → FirstUses} {N : FirstUse
   answer_row b row less = record {
     settled = row.settled;
     further = row.further;
-    keyed = row.keyed;
+    uses = row.uses;
     noted = row.noted;
     shown = λ us c below ks pre apart. shown_as (row.shown us c below ks pre apart) (less ks us);
   }
@@ -174,7 +175,7 @@ pure_row : {A : Type 0} (a : A) (t : Table) (final : Stored) (ps : List Frame) (
 pure_row a t final ps m = record {
   settled = prefix_refl m.stored.bindings.entries;
   further = further_none t.bindings (omega arith);
-  keyed = λ us c. c;
+  uses = λ us c. c;
   noted = λ us c n. refl;
   shown = λ us c below ks pre apart. shown_none (moved_same refl) (refl, refl);
 }
@@ -278,7 +279,7 @@ module _ {A : Type 0} {S : Within A} {f : FirstUses → FirstUses} {N : FirstUse
   pat_enter h t = steps.correct_as (h (enter_or t)) (λ final ps m m' r g row. record {
     settled = row.settled;
     further = row.further;
-    keyed = row.keyed;
+    uses = row.uses;
     noted = row.noted;
     shown = row.shown;
   })
@@ -287,7 +288,7 @@ module _ {A : Type 0} {S : Within A} {f : FirstUses → FirstUses} {N : FirstUse
   pat_next h t = steps.correct_as (h (next_alternative t)) (λ final ps m m' r g row. record {
     settled = row.settled;
     further = row.further;
-    keyed = row.keyed;
+    uses = row.uses;
     noted = row.noted;
     shown = row.shown;
   })
@@ -297,7 +298,7 @@ left_row : {A : Type 0} (a : A) (t : Table) (final : Stored) (ps : List Frame) (
 left_row a t final ps m = record {
   settled = prefix_refl m.stored.bindings.entries;
   further = further_none t.bindings (omega arith);
-  keyed = λ us c. c;
+  uses = λ us c. c;
   noted = λ us c n. refl;
   shown = λ us c below ks pre apart. shown_none (moved_same refl) (refl, refl);
 }
@@ -319,7 +320,6 @@ record UsedBy (u : Use) (t : Table) (o : Option BindingId) (final : Stored) (ps 
     : Type 0 where
   settled : Settled m.stored m'.stored
   further : Further t.bindings r.1.bindings m.stored m'.stored
-  keyed : (us w : FirstUses) (k : Bool) (n p : ℕ) → Keyed us t.bindings → KnownBy us t.bindings u o w k n p → Keyed w r.1.bindings
   noted : (us w : FirstUses) (k : Bool) (n : ℕ) → KnownBy us t.bindings u o w k n
       (position_or_len (same_key (key_of u)) (keys_of t.bindings))
       → (j : ℕ) → r.1.noted j ≡ after over_recent j (name_use n u.mode) (t.noted j)
@@ -333,7 +333,6 @@ known_row : (u : Use) (t : Table) (b : BindingId) (final : Stored) (ps : List Fr
 known_row u t b final ps m = record {
   settled = prefix_refl m.stored.bindings.entries;
   further = further_none t.bindings (omega arith);
-  keyed = λ us w k n p c h. subst (λ v. Keyed v t.bindings) (sym h.0) c;
   noted = λ us w k n h j. ap (λ i. after over_recent j (name_use i u.mode) (t.noted j)) h.3;
   below = λ us w k n p r h. rising_found 0 (bound m.stored) t.bindings n b r h.2;
   shown = λ us w k n p h ks pre.
@@ -354,7 +353,6 @@ new_row u t b final ps m m' number is =
         is = refl;
         range = (omega (arith, number), omega (arith, number, ends, long));
       };
-      keyed = λ us w k n p c h. subst (λ v. Keyed v (t.bindings ++ (key_of u, b) ∷ [])) (sym h.0) (keyed_more u b us t.bindings c);
       noted = λ us w k n h j. ap (λ i. after over_recent j (name_use i u.mode) (t.noted j)) (sym h.2);
       below = λ us w k n p r h. omega (arith, number, ends, long);
       shown = λ us w k n p h ks pre.
@@ -383,18 +381,20 @@ used_by u t None = steps.correct_as (steps.correct_bind (pats.correct_alloc_bind
 pub record Used (u : Use) (t : Table) (final : Stored) (ps : List Frame) (m m' : Mark) (r : BindingId × Table) : Type 0 where
   pub named : PatShows (λ ks us final rs b. StandsName ks us u b) (λ us. with_use us u)
       (λ us n x. after over_recent n (name_use (number_of us u) u.mode) x) t final ps m m' r
-  pub below : (us : FirstUses) → Keyed us t.bindings → Rising 0 (bound m.stored) t.bindings → r.0.0 < bound m'.stored
+  pub below : (us : FirstUses) → AreFor final us t.bindings → Rising 0 (bound m.stored) t.bindings → r.0.0 < bound m'.stored
 
 pub name_shows : (u : Use) (t : Table) → steps.Correct (forms.use_name u t) (Used u t)
 unfolding forms.use_name
-name_shows u t = steps.correct_as (used_by u t (forms.binding_of (key_of u) t)) (λ final ps m m' r g row. record {
-  named = record {
-    settled = row.settled;
-    further = row.further;
-    keyed = λ us c. row.keyed us (with_use us u) (is_known us u) (number_of us u) _ c (known u us t.bindings c);
-    noted = λ us c n. row.noted us (with_use us u) (is_known us u) (number_of us u) (known u us t.bindings c) n;
-    shown = λ us c below ks pre apart.
-        row.shown us (with_use us u) (is_known us u) (number_of us u) _ (known u us t.bindings c) ks pre;
-  };
-  below = λ us c below. row.below us (with_use us u) (is_known us u) (number_of us u) _ below (known u us t.bindings c);
-})
+name_shows u t = steps.correct_as
+    (steps.correct_both (used_by u t (forms.binding_of (key_of u) t)) (correct_use_name u t))
+    (λ final ps m m' r g both. let row = both.one in record {
+      named = record {
+        settled = row.settled;
+        further = row.further;
+        uses = λ us c. (both.other.uses us (record { each = c })).each;
+        noted = λ us c n. row.noted us (with_use us u) (is_known us u) (number_of us u) (known final u us t.bindings c) n;
+        shown = λ us c below ks pre apart.
+            row.shown us (with_use us u) (is_known us u) (number_of us u) _ (known final u us t.bindings c) ks pre;
+      };
+      below = λ us c below. row.below us (with_use us u) (is_known us u) (number_of us u) _ below (known final u us t.bindings c);
+    })

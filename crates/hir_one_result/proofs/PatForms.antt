@@ -1,6 +1,6 @@
 -- What the forms of patterns over patterns answer stands for what is written, of what their parts answer.
 use Rattle.std.proofs.Common.{◌≡◌, ◌∙◌, refl, sym, ap, subst, ℕ, Bool, false, List, [], ◌∷◌, ◌++◌, append_assoc, append-nil}
-use Rattle.std.proofs.Common.{Option, Some, None}
+use Rattle.std.proofs.Common.{◌+◌, length, Option, Some, None}
 use Rattle.hir_binding.specs.Steps.{Noted, over_recent, after, after_parts, entered, left}
 use Rattle.hir_binding.specs.Uses.{Parts, name_use}
 use Rattle.hir_store.specs.Pointers.{Pointer}
@@ -16,24 +16,29 @@ use Rattle.hir_store.specs.declared.ids.CfgId.{CfgId}
 use Rattle.hir_store.specs.declared.diagnostics.ExpressionStoreDiagnostics.TheVariants.{InactiveCode}
 use Rattle.hir_store.proofs.Arenas.{prefix_refl}
 use Rattle.hir_env.specs.Answered as tree
-use Rattle.hir_env.specs.Answered.{OptionPath, PatUnary, Use}
+use Rattle.hir_env.specs.Answered.{OptionPath, Pat, PatUnary, Use}
+use Rattle.hir_data.specs.Data.{PatData}
+use Rattle.hir_data.specs.Reading.{stored_pat}
 use Rattle.hir_data.specs.Uses.{FirstUses, number_of, with_use}
+use Rattle.hir_read_back.proofs.Names.{AreFor}
+use Rattle.hir_read_back.proofs.PatTree.{pat_reads}
 use Rattle.hir_lower_form.specs.Forms.{push_some}
-use Rattle.hir_lower_form.specs.Lower.{lower_path}
+use Rattle.hir_lower_form.specs.Lower.{lower_path, lower_pat}
 use Rattle.hir_lower_form.specs.Lowering.{Lowering, ◌>>=◌, ◌>>◌, pure, alloc_pat, define, report}
 use Rattle.hir_lower_form.specs.Pats as forms
 use Rattle.hir_lower_form.specs.Pats.{Table, Elements, PatSteps, missing_pat}
+use Rattle.hir_steps.proofs.Frames.{Frame}
 use Rattle.hir_steps.proofs.PatSteps as pats
 use Rattle.hir_steps.proofs.PatSteps.{defining, with_pat}
 use Rattle.hir_steps.proofs.Steps as steps
 use Rattle.hir_steps.proofs.Steps.{Mark}
-use Rattle.hir_data.specs.Patterns.{if_path}
+use Rattle.hir_data.specs.Patterns.{if_path, pattern_data}
 use Rattle.hir_data.specs.Written.{path_of, written_path}
 use Rattle.hir_binding.specs.Uses.{product, no_parts}
 use Rattle.hir_one_result.specs.Forms.{pat_unary_form}
 use Rattle.hir_one_result.specs.Laws.{Settled}
 use Rattle.hir_one_result.specs.Leads.{Way, Ways, No, OnePatFieldWay, ◌&◌}
-use Rattle.hir_one_result.specs.Stands.{Open, Absent, There, PatIs, OrIs, StandsBefore, StandsName, StandsTuple, WherePath}
+use Rattle.hir_one_result.specs.Stands.{Open, Absent, There, PatIs, OrIs, ReadsAsPat, StandsBefore, StandsName, StandsTuple, WherePath}
 use Rattle.hir_one_result.proofs.Defining.{MakesNone}
 use Rattle.hir_one_result.proofs.Lasting.{Correct, correct_as, correct_bind, correct_point_pat_field, correct_pure, correct_report}
 use Rattle.hir_one_result.proofs.Leading.{shown_as, shown_before, shown_to, shown_pat_field, moved_bind, moved_report, moved_to}
@@ -230,6 +235,29 @@ module _ {S : Within PatId} {T : Within (List PatId)} {f g : FirstUses → First
       (pat_bind (pat_bind h (λ i. pat_pure {A = Elements} (done.0 ++ i ∷ [], done.1))) hs)
 
 -- ---- fields
+
+-- what is stored reads back, where the bindings of the table are for these uses
+record ReadsFor (x : FirstUses → PatData) (t : Table) (final : Stored) (ps : List Frame) (m m' : Mark) (r : PatId × Table) : Type 0 where
+  is : (us : FirstUses) → AreFor final us t.bindings → stored_pat (store_of final) (map_of final) r.0 ≡ x us
+
+pat_now : (p : Pat) (t : Table) → steps.Correct (lower_pat p t) (ReadsFor (pattern_data p) t)
+unfolding stored_pat
+pat_now p t = steps.correct_as (steps.correct_in_store (pat_reads p t)) (λ final ps m m' r g row. record {
+  is = λ us c. row.rel.reads us (record { each = c }) (length final.types.entries + length final.pats.entries) row.entries;
+})
+
+-- one that is no part of the record reads back by itself
+pub read_stands : (p : Pat) {S : Within PatId} {f : FirstUses → FirstUses} {N : FirstUses → ℕ → Noted → Noted}
+    → PatFine S f N (lower_pat p)
+    → PatFine (λ ks us final rs i. ReadsAsPat (store_of final) (map_of final) (pattern_data p us) (S ks us final rs i) i) f N
+    (lower_pat p)
+read_stands p h t = steps.correct_as (steps.correct_both (h t) (pat_now p t)) (λ final ps m m' r g row. record {
+  settled = row.one.settled;
+  further = row.one.further;
+  uses = row.one.uses;
+  noted = row.one.noted;
+  shown = λ us c below ks pre apart. shown_as (row.one.shown us c below ks pre apart) (λ ws z. (row.other.is us c, z));
+})
 
 pub named_stands : (at : Pointer) (n : Name) (i : PatId) → Correct (forms.named_part at (Some n) i)
     (Shows (λ final rs o ws. (o ≡ Some (record { name = n; pat = i })) × OnePatFieldWay i at ws))

@@ -16,9 +16,8 @@ use Rattle.hir_env.specs.Answered.{Pat, Use}
 use Rattle.hir_data.specs.BindingRule.{made_for}
 use Rattle.hir_data.specs.Patterns.{uses_after, uses_of}
 use Rattle.hir_data.specs.Uses.{FirstUses, use_of}
-use Rattle.hir_read_back.proofs.Names as names
 use Rattle.hir_read_back.proofs.Names.{AreFor, found_in}
-use Rattle.hir_read_back.proofs.PatTree.{pat_reads, top_now}
+use Rattle.hir_read_back.proofs.PatTree.{top_now}
 use Rattle.hir_lower_form.specs.Lower.{lower_pat, lower_top}
 use Rattle.hir_lower_form.specs.Pats as forms
 use Rattle.hir_lower_form.specs.Pats.{Key, Notes, Table, new_binding, no_names}
@@ -162,12 +161,12 @@ pub some_top_stands : (p : Pat)
 unfolding forms.settle
 some_top_stands p h = steps.correct_as
     (steps.correct_both
-    (steps.correct_bind (steps.correct_both (h no_names) (pat_reads p no_names))
+    (steps.correct_bind (h no_names)
     (λ r. steps.correct_bind (settle_writes r.1.noted 0 r.1.bindings) (λ u. steps.correct_pure r.0)))
     (top_now (tree.some_pat p)))
     (λ final ps m m' i g both.
     let row = both.one in
-    let x = row.first.one in
+    let x = row.first in
     let es = row.one.1.bindings in
     let notes = row.one.1.noted in
     let before = row.middle.stored in
@@ -186,7 +185,7 @@ some_top_stands p h = steps.correct_as
           let body = x.shown [] tt (omega arith) (ids es) (prefix_refl (ids es)) apart in
           let named : NamesOf (store_of final) (map_of final) (tree.some_pat p) i (ids es) = record {
             is_read = both.other.is;
-            one_for_each = all_made final (uses_after p []) es (row.first.other.uses [] (names.none_named final)).each;
+            one_for_each = all_made final (uses_after p []) es (x.uses [] tt);
             shown = λ k b y e there.
                 let r = problem_at notes 0 es before.bindings.entries (bound m.stored) (bound before) rising (omega arith) k b e in
                 let least = rising_least (bound m.stored) (bound before) es k b rising e in

@@ -14,6 +14,7 @@ use Rattle.hir_store.specs.declared.pat.Binding.{Binding}
 use Rattle.hir_store.proofs.Arenas.{prefix_trans}
 use Rattle.hir_env.specs.Answered.{Use}
 use Rattle.hir_data.specs.Uses.{FirstUses, is_of, number_of, with_use}
+use Rattle.hir_read_back.proofs.Names.{AreFor}
 use Rattle.hir_lower_form.specs.Pats.{Key, same_key, key_of}
 use Rattle.hir_steps.proofs.Logic.{longer}
 use Rattle.hir_one_result.specs.Laws.{Settled}
@@ -26,19 +27,6 @@ Entries = List (Key × BindingId)
 -- the bindings of the names
 abbrev pub ids : Entries → List BindingId
 ids es = map (λ e. e.1) es
-
--- the names that have a binding are these, in the same order
-abbrev pub Keyed : FirstUses → Entries → Type 0
-Keyed [] [] = Unit {0}
-Keyed (u ∷ us) (e ∷ es) = (e.0 ≡ key_of u) × Keyed us es
-Keyed [] (e ∷ es) = ⊥
-Keyed (u ∷ us) [] = ⊥
-
-pub keyed_more : (u : Use) (b : BindingId) (us : FirstUses) (es : Entries) → Keyed us es → Keyed (us ++ u ∷ []) (es ++ (key_of u, b) ∷ [])
-keyed_more u b [] [] h = (refl, tt)
-keyed_more u b [] (e ∷ es) h = absurd h
-keyed_more u b (f ∷ us) [] h = absurd h
-keyed_more u b (f ∷ us) (e ∷ es) h = (h.0, keyed_more u b us es h.1)
 
 -- What is known of a name, where w are the names with this one, and n is its number: it has a binding, or it is the next one.
 abbrev pub KnownBy : FirstUses → Entries → Use → Option BindingId → FirstUses → Bool → ℕ → ℕ → Type 0
@@ -53,13 +41,13 @@ known_later f u us e es (Some b) w k n p h =
     (ap (λ v. f ∷ v) h.0, h.1, h.2, next)
 known_later f u us e es None w k n p h = (ap (λ v. f ∷ v) h.0, h.1, ap suc h.2)
 
-pub known : (u : Use) (us : FirstUses) (es : Entries) → Keyed us es
+pub known : (final : Stored) (u : Use) (us : FirstUses) (es : Entries) → AreFor final us es
     → KnownBy us es u (lookup (same_key (key_of u)) es) (with_use us u) (is_known us u) (number_of us u)
     (position_or_len (same_key (key_of u)) (keys_of es))
-known u [] [] h = (refl, refl, refl)
-known u [] (e ∷ es) h = absurd h
-known u (f ∷ us) [] h = absurd h
-known u (f ∷ us) (e ∷ es) h = rw h.0 (by (is_of u.name u.hygiene f) (known u us es h.1))
+known final u [] [] h = (refl, refl, refl)
+known final u [] (e ∷ es) h = absurd h
+known final u (f ∷ us) [] h = absurd h
+known final u (f ∷ us) (e ∷ es) h = rw h.0 (by (is_of u.name u.hygiene f) (known final u us es h.2))
   where
     by : (t : Bool)
         → KnownBy us es u (lookup (same_key (key_of u)) es) (with_use us u) (is_known us u) (number_of us u)

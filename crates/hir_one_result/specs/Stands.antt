@@ -2,8 +2,8 @@
 -- its own node and whose parts stand for its parts. An absent or disabled part is a missing expression that came from no
 -- node, or none where the form knows none. With it stand the ways of the tree: from the node of each written expression
 -- and label to what it became, and to each missing one from no node. What its constants became stands for them, also where
--- nothing names it. A top pattern reads back as it is written; its names have one binding each, and what is in it stands for what
--- is written there.
+-- nothing names it. A top pattern reads back as it is written, and so does one in a field without a name, which is part of nothing; the
+-- names of a top pattern have one binding each, and what is in it stands for what is written there.
 use Rattle.std.specs.Prelude.{◌≡◌, ℕ, Bool, true, false, List, [], ◌∷◌, ◌++◌, map, Option, Some, None, option_to_list}
 use Rattle.std.specs.Prelude.{slice_get, unwrap_or}
 use Rattle.hir_base.specs.declared.op.RangeOp.{RangeOp}
@@ -43,8 +43,9 @@ use Rattle.hir_env.specs.Answered.{OptionRet, OptionArgs, Args, Arg, Bounds, Bou
 use Rattle.hir_env.specs.Answered.{Fields, Spread, Block, OptionBlock, Stmts, Arms, Guard, RangeForm, Signed, Pat, OptionPat, Pats}
 use Rattle.hir_env.specs.Answered.{PatFields, Side, TypePat, OptionTypePat, TypePats, Limit, Target, Targets, TargetFields}
 use Rattle.hir_data.specs.BindingRule.{made_for}
-use Rattle.hir_data.specs.Data.{PathData}
-use Rattle.hir_data.specs.Patterns.{is_dots, first_uses, uses_after, uses_after_part, uses_after_each, written_pat, written_uses}
+use Rattle.hir_data.specs.Data.{PathData, PatData}
+use Rattle.hir_data.specs.Patterns.{is_dots, first_uses, pattern_data, uses_after, uses_after_part, uses_after_each, written_pat}
+use Rattle.hir_data.specs.Patterns.{written_uses}
 use Rattle.hir_data.specs.Reading.{stored_path, stored_type, stored_option_type, stored_args, stored_pat}
 use Rattle.hir_data.specs.Targets.{target_data}
 use Rattle.hir_data.specs.Uses.{FirstUses}
@@ -180,9 +181,13 @@ module _ (store : Store) (source_map : SourceMap) where
   abbrev pub WithNames : OptionPat → (Names → Ways) → PatId → Ways
   WithNames p S i = λ ws. (ks : Names) × NamesOf p i ks × S ks ws
 
+  -- one that is no part of a pattern reads back by itself
+  abbrev pub ReadsAsPat : PatData → Ways → PatId → Ways
+  ReadsAsPat d S i = λ ws. (stored_pat store source_map i ≡ d) × S ws
+
   -- a whole target reads back as it is written
   abbrev pub ReadsAsTarget : Target → Ways → PatId → Ways
-  ReadsAsTarget t S i = λ ws. (stored_pat store source_map i ≡ target_data t) × S ws
+  ReadsAsTarget t S i = ReadsAsPat (target_data t) S i
 
   abbrev mutual
     -- ---- what stands for the constants of types, paths, arguments and bounds
@@ -500,7 +505,7 @@ module _ (store : Store) (source_map : SourceMap) where
     pub StandsPatFields : Names → Open → PatFields → FirstUses → List RecordFieldPat → Ways
     StandsPatFields ks rs tree.no_pat_fields us is = λ ws. (is ≡ []) × No ws
     StandsPatFields ks rs (tree.more_pat_fields (tree.pat_field at None p) fs) us is = λ ws.
-        (i : PatId) × (StandsPat ks rs p us i & StandsPatFields ks rs fs (uses_after p us) is) ws
+        (i : PatId) × (ReadsAsPat (pattern_data p us) (StandsPat ks rs p us i) i & StandsPatFields ks rs fs (uses_after p us) is) ws
     StandsPatFields ks rs (tree.more_pat_fields (tree.pat_field at (Some n) p) fs) us is = λ ws.
         (i : PatId) × (others : List RecordFieldPat) × (is ≡ record { name = n; pat = i } ∷ others)
         × ((StandsPat ks rs p us i & OnePatFieldWay i at) & StandsPatFields ks rs fs (uses_after p us) others) ws
@@ -544,7 +549,7 @@ module _ (store : Store) (source_map : SourceMap) where
     pub StandsTargetFields : Open → TargetFields → List RecordFieldPat → Ways
     StandsTargetFields rs tree.no_target_fields is = λ ws. (is ≡ []) × No ws
     StandsTargetFields rs (tree.more_target_fields (tree.target_field at None t) fs) is = λ ws.
-        (i : PatId) × (StandsTarget rs t i & StandsTargetFields rs fs is) ws
+        (i : PatId) × (ReadsAsTarget t (StandsTarget rs t i) i & StandsTargetFields rs fs is) ws
     StandsTargetFields rs (tree.more_target_fields (tree.target_field at (Some n) t) fs) is = λ ws.
         (i : PatId) × (others : List RecordFieldPat) × (is ≡ record { name = n; pat = i } ∷ others)
         × ((StandsTarget rs t i & OnePatFieldWay i at) & StandsTargetFields rs fs others) ws
