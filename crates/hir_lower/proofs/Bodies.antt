@@ -1,5 +1,5 @@
 -- What is lowered as the body of an item, behind its parameters, is what is written.
-use Rattle.std.proofs.Common.{arith, ◌≡◌, ◌∙◌, refl, sym, ap, subst, ℕ, Bool, List, [], ◌∷◌, ◌++◌, map, Option, Some, None, option_map}
+use Rattle.std.proofs.Common.{◌≡◌, ◌∙◌, refl, sym, ap, subst, ℕ, Bool, List, [], ◌∷◌, ◌++◌, map, Option, Some, None, option_map}
 use Rattle.std.proofs.Common.{Result, Ok, Err}
 use Rattle.std.specs.Prelude.{IfOk}
 use Rattle.hir_store.specs.Pointers.{Pointer}
@@ -16,11 +16,9 @@ use Rattle.hir_store.proofs.Extending.{extends_refl, extends_root}
 use Rattle.hir_env.specs.Answered.{Formals, OptionExpr}
 use Rattle.hir_lower_form.specs.Builder.{Builder}
 use Rattle.hir_lower_form.specs.Lowering.{Checked}
-use Rattle.hir_scope.specs.Each.{Each}
 use Rattle.hir_steps.specs.Keeps.{Keeps, KeepsAll}
 use Rattle.hir_steps.proofs.Keeping.{kept_by}
 use Rattle.hir_steps.proofs.TypeAny.{any}
-use Rattle.hir_same_meaning.specs.Reached.{Between, Spread}
 use Rattle.hir_one_result.specs.Diagnostics.{Faults}
 use Rattle.hir_one_result.specs.Formals.{lower_body}
 use Rattle.hir_one_result.specs.Laws.{GrownUnless}
@@ -28,6 +26,7 @@ use Rattle.hir_one_result.specs.OneResult.{OneResult, fresh_owing}
 use Rattle.hir_one_result.specs.Room.{BodyTooLarge, body_size}
 use Rattle.hir_one_result.proofs.Fits.{bodies_fit}
 use Rattle.hir_one_result.proofs.Whole.{one_results}
+use Rattle.hir_type_result.proofs.InsideBody.{body_inside}
 use Rattle.hir_lower.specs.Formals.{Given, lower_formals}
 use Rattle.hir_lower.specs.Means.{HasBody, owed_faults, unless_skipped}
 use Rattle.hir_lower.specs.Roots.{GivenFromNothing, RefusedAtEnd, StoresFromNothing, as_written, behind, body_of, given_of}
@@ -36,13 +35,6 @@ use Rattle.hir_lower.proofs.BodyTypes.{body_types_once}
 use Rattle.hir_lower.proofs.Behind.{Steps, closed, item_is, lowered, refused, rooted, steps}
 use Rattle.hir_lower.proofs.Meanings.{rooted_inside}
 use Rattle.hir_lower.proofs.Params.{given_now}
-
-each_from_zero : (lo hi : ℕ) (ks : List ℕ) → Each (Between lo hi) ks → Each (Between 0 hi) ks
-each_from_zero lo hi [] h = tt
-each_from_zero lo hi (k ∷ ks) h = ((omega arith, h.0.1), each_from_zero lo hi ks h.1)
-
-from_zero : (lo hi : ℕ) (ks : List ℕ) → Spread lo hi ks → Spread 0 hi ks
-from_zero lo hi ks s = record { within = each_from_zero lo hi ks s.within; distinct = s.distinct }
 
 -- from nothing, but for the faults that are owed
 
@@ -60,7 +52,7 @@ module _ (skipped : Bool) (f : Formals) (e : OptionExpr) (limit : ℕ) (owed : F
         let P : Builder → Type 0 = λ x. OneResult (store_of x.stored) (map_of x.stored) owed skipped f given e in
         subst P s.left (one_results limit owed skipped f e given i s.inner (lowered skipped f e start b' given i s))
 
-    body : HasBody (store_of b'.stored) (map_of b'.stored) e
+    body : HasBody (store_of b'.stored) (map_of b'.stored) given.1 e
     body =
         let kept : KeepsAll (closed start) s.middle =
         subst (λ r. Keeps (closed start) r.0 r.1) s.formals (kept_by (any (given_now skipped f)) (closed start)) in
@@ -69,12 +61,14 @@ module _ (skipped : Bool) (f : Formals) (e : OptionExpr) (limit : ℕ) (owed : F
         let root = root_at (store_of s.inner.stored) i in
         let end = (rooted s.inner i).stored in
         let live = rooted_here.lives end (extends_refl end) (prefix_refl end.bindings.entries) in
-        let P : Builder → Type 0 = λ x. HasBody (store_of x.stored) (map_of x.stored) e in
+        let P : Builder → Type 0 = λ x. HasBody (store_of x.stored) (map_of x.stored) given.1 e in
         subst P s.left (record {
           root = root_at (store_of (rooted s.inner i).stored) i;
           only = rooted_here.roots ∙ ap (λ rs. rs ++ root_at (store_of (rooted s.inner i).stored) i ∷ []) (kept.roots refl);
           same = live.same;
-          reached_once = λ depth le. from_zero _ _ _ (live.reached_once depth le);
+          reached_once = λ depth le. body_inside skipped f e (closed start) s.inner given i
+              (record { exprs = refl; labels = refl; pats = refl; types = refl; lifetimes = refl })
+              (lowered skipped f e start b' given i s) end (extends_root s.inner.stored root) depth le;
           types_reached_once = λ depth le. body_types_once skipped f e (closed start) s.inner given i
               (record { exprs = refl; labels = refl; pats = refl; types = refl; lifetimes = refl })
               (record { exprs = refl; pats = refl; types = refl }) (lowered skipped f e start b' given i s) end
@@ -104,10 +98,6 @@ given_is b given receiver params =
     let other = ap (λ ps. map (λ p. p.user_written) ps) params ∙ params_back given.1 in
     λ j. (one j, other j)
 
-if_ok : {A E : Type 0} (P Q : A → Type 0) → ((a : A) → P a → Q a) → (r : Result A E) → IfOk r P → IfOk r Q
-if_ok P Q f (Ok a) p = f a p
-if_ok P Q f (Err e) p = tt
-
 module _ (skipped : Bool) (node : Pointer) (k : Option MissingBodyItemKind) (f : Formals) (e : OptionExpr) (limit : ℕ) where
   abbrev item : Builder → Checked (Given × ExprId) × Builder
   item = body_of skipped node k f e
@@ -118,12 +108,17 @@ module _ (skipped : Bool) (node : Pointer) (k : Option MissingBodyItemKind) (f :
   abbrev read : OptionExpr
   read = unless_skipped skipped e
 
-  has_body : (store : Store) (source_map : SourceMap) → StoresFromNothing item limit store source_map → HasBody store source_map read
-  has_body store source_map s =
-      let w = body skipped f read limit owed s.builder s.answer.0 s.answer.1 (sym (item_is skipped node k f e limit) ∙ s.done) in
-      let P : Store → Type 0 = λ x. HasBody x source_map read in
-      let Q : SourceMap → Type 0 = λ m. HasBody (store_of s.builder.stored) m read in
-      subst P (sym s.store_is) (subst Q (sym s.source_map_is) w)
+  has_body : (b : Body) (store : Store) (source_map : SourceMap) → StoresFromNothing item limit store source_map
+      → GivenFromNothing item limit b → HasBody store source_map (given_of b).1 read
+  has_body b store source_map s g =
+      let now = g.builder.stored in
+      let same : s.builder.stored ≡ now = ap (λ (q : Checked (Given × ExprId) × Builder). q.1.stored) (sym s.done ∙ g.done) in
+      let w = body skipped f read limit owed g.builder g.given g.root (sym (item_is skipped node k f e limit) ∙ g.done) in
+      let P : Store → Type 0 = λ x. HasBody x source_map (given_of b).1 read in
+      let Q : SourceMap → Type 0 = λ x. HasBody (store_of now) x (given_of b).1 read in
+      let R : Given → Type 0 = λ x. HasBody (store_of now) (map_of now) x.1 read in
+      subst P (sym (s.store_is ∙ ap store_of same)) (subst Q (sym (s.source_map_is ∙ ap map_of same))
+      (subst R (sym (given_is b g.given g.receiver g.params)) w))
 
   one_result : (b : Body) (store : Store) (source_map : SourceMap) → StoresFromNothing item limit store source_map
       → GivenFromNothing item limit b → OneResult store source_map owed skipped f (given_of b) read
@@ -141,9 +136,10 @@ module _ (skipped : Bool) (node : Pointer) (k : Option MissingBodyItemKind) (f :
   body_too_large r = too_large skipped f read limit owed r.builder (sym (item_is skipped node k f e limit) ∙ r.refused)
 
   module _ {A E : Type 0} (store : A → Store) (source_map : A → SourceMap) where
-    pub has_body_if : (r : Result A E) → IfOk r (λ a. StoresFromNothing item limit (store a) (source_map a))
-        → IfOk r (λ a. HasBody (store a) (source_map a) read)
-    has_body_if r h = if_ok _ _ (λ a s. has_body (store a) (source_map a) s) r h
+    pub has_body_if : (b : A → Body) (r : Result A E) → IfOk r (λ a. StoresFromNothing item limit (store a) (source_map a))
+        → IfOk r (λ a. GivenFromNothing item limit (b a)) → IfOk r (λ a. HasBody (store a) (source_map a) (given_of (b a)).1 read)
+    has_body_if b (Ok a) s g = has_body (b a) (store a) (source_map a) s g
+    has_body_if b (Err x) s g = tt
 
     pub one_result_if : (b : A → Body) (r : Result A E) → IfOk r (λ a. StoresFromNothing item limit (store a) (source_map a))
         → IfOk r (λ a. GivenFromNothing item limit (b a))

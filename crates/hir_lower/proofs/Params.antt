@@ -28,11 +28,11 @@ use Rattle.hir_steps.specs.Keeps.{Keeps, KeepsAll, Paired}
 use Rattle.hir_steps.proofs.Frames.{Frame, frames, ribs_frames}
 use Rattle.hir_steps.proofs.Keeping.{keeping}
 use Rattle.hir_steps.proofs.Logic.{in_prefix}
-use Rattle.hir_steps.proofs.PatSteps.{correct_alloc_binding}
 use Rattle.hir_steps.proofs.Steps.{Mark, mark, Rel, Holds, Correct, correct_as, correct_bind, correct_pure, correct_report}
-use Rattle.hir_steps.proofs.TypeAny.{Any, any, pure_any, then_any}
 use Rattle.hir_read_back.proofs.PatTree.{PatNow, top_now}
 use Rattle.hir_same_meaning.specs.Reached.{Spread}
+use Rattle.hir_same_meaning.proofs.Holding.{SameIn}
+use Rattle.hir_type_result.specs.Inside.{pats_inner_bodies}
 use Rattle.hir_type_result.specs.Named.{of_exprs, of_pats_alone}
 use Rattle.hir_type_result.specs.Pats.{of_types, pats_reached}
 use Rattle.hir_type_result.specs.Reached.{of_each}
@@ -43,6 +43,7 @@ use Rattle.hir_lower.specs.Roots.{GivenFromNothing, StoresFromNothing, as_writte
 use Rattle.hir_lower.specs.declared.body.Body.{Body}
 use Rattle.hir_lower.proofs.Behind.{Steps, closed, item_is, lowered, rooted, steps}
 use Rattle.hir_lower.proofs.BodyTypes.{Bare, all_pats_once}
+use Rattle.hir_lower.proofs.ParamBodies.{bodies_inside, read_bodies, self_any}
 use Rattle.hir_lower.proofs.TreeWays.{part_leads, top_leads}
 use Rattle.hir_lower.proofs.Ways.{Leading, Went, bound_if, any as whatever, then', went, leading_pure, leading_report}
 
@@ -100,11 +101,6 @@ each_now skipped done (f ∷ fs) =
       reads = map-append read own others.more ∙ (ap (λ ds. ds ++ map read others.more) row.first.is
           ∙ (ap (λ ds. data_of skipped (f ∷ []) ++ ds) others.reads ∙ sym (read_apart skipped f fs)));
     })
-
-self_any : (s : SelfFormal) → Correct (lower_self s) Any
-self_any tree.no_self = pure_any None
-self_any (tree.disabled_self at by) = then_any (any (correct_report _)) (λ u. pure_any None)
-self_any (tree.self_formal at u) = then_any (any (correct_alloc_binding _)) (λ i. pure_any (Some i))
 
 pub record GivenNow (xs : List PatData) (final : Stored) (ps : List Frame) (m m' : Mark) (given : Given) : Type 0 where
   pub reads : map (stored_pat (store_of final) (map_of final)) given.1 ≡ xs
@@ -178,6 +174,7 @@ PatsOnce s ps = (depth : ℕ) → length s.pats.entries ≤ depth → let l = of
 
 record ReadAs (skipped : Bool) (f : Formals) (given : Given) (s : Stored) : Type 0 where
   patterns : map (stored_pat (store_of s) (map_of s)) given.1 ≡ data_of skipped f.formals
+  inner : SameIn s (pats_inner_bodies (store_of s) given.1) (read_bodies skipped f.formals)
   pats_once : PatsOnce s given.1
   binding : option_and_then (λ i. slice_get s.bindings.entries i.0) given.0 ≡ receiver_read f.receiver
 
@@ -204,6 +201,7 @@ behind_reads skipped f e b b' given i d bare h =
     let self : SelfReads f.receiver (Ok given.0, s.middle) = subst (GivenSelf f.receiver) s.formals (given_self skipped f (closed b)) in
     record {
       patterns = (answered (given_now skipped f) (closed b) s.middle given d s.formals b'.stored later).reads;
+      inner = bodies_inside skipped f (closed b) s.middle given d s.formals b'.stored later;
       pats_once = subst (λ t. PatsOnce t.stored given.1) s.left (λ depth le. once depth le);
       binding = self b'.stored.bindings.entries bindings;
     }
@@ -254,6 +252,7 @@ module _ (skipped : Bool) (node : Pointer) (k : Option MissingBodyItemKind) (f :
       subst P (sym (s.store_is ∙ ap store_of same)) (subst Q (sym (s.source_map_is ∙ ap map_of same)) (rw (g.params, g.receiver) (record {
         patterns = written_of (stored_pat (store_of now) (map_of now)) g.given.1 ∙ read.patterns;
         binding = self_written (λ i. slice_get now.bindings.entries i.0) g.given.0 ∙ read.binding;
+        inner = rw (written_back g.given.1) read.inner;
         pats_reached_once = λ depth le. rw (written_back g.given.1) (read.pats_once depth le);
         handed_in = formal_is_written g.given.1;
         handed_self = self_handed_in g.given.0;

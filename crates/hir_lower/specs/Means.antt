@@ -40,7 +40,8 @@ use Rattle.hir_data.specs.Patterns.{written_pat}
 use Rattle.hir_data.specs.Reading.{stored_pat, stored_path}
 use Rattle.hir_data.specs.Written.{written_path}
 use Rattle.hir_data.specs.Segments.{PlainTrait, Whole, first_trait, named_segments, segment_name}
-use Rattle.hir_meaning.specs.Inner.{inner_bodies, path_bodies, path_inner_bodies}
+use Rattle.hir_data.specs.Tops.{Tops}
+use Rattle.hir_meaning.specs.Inner.{Bodies, inner_bodies, pat_part_bodies, path_bodies, path_inner_bodies}
 use Rattle.hir_meaning.specs.Inner.{of_present as of_some}
 use Rattle.hir_meaning.specs.Same.{SameBodies, SameMeaning}
 use Rattle.hir_same_meaning.specs.Reached.{Spread, of_each, reached_to}
@@ -53,6 +54,7 @@ use Rattle.hir_one_result.specs.Leads.{Way}
 use Rattle.hir_one_result.specs.Stands.{StandsPart, WholeWays}
 use Rattle.hir_lower.specs.declared.body.Param.{Param}
 use Rattle.hir_lower.specs.Formals.{formals_read}
+use Rattle.hir_type_result.specs.Inside.{pats_inner_bodies}
 use Rattle.hir_type_result.specs.Named.{of_exprs, of_pats, of_pats_alone, of_types_alone}
 use Rattle.hir_type_result.specs.Pats.{PatsSpread, of_types, pats_reached}
 use Rattle.hir_type_result.specs.Roots.{RootsOf}
@@ -94,14 +96,15 @@ pub record Rooted (old new : Stored) (i : ExprId) (e : OptionExpr) : Type 0 wher
   pub paired : Paired new
   pub mapped : Mapped old → Mapped new
 
--- The one recorded root does what the written body does, and reaches each expression in one way only. The expressions and patterns
--- reach each type in one way only.
-pub record HasBody (store : Store) (source_map : SourceMap) (e : OptionExpr) : Type 0 where
+-- The one recorded root does what the written body does. It, the bodies inside it and those inside the patterns of its parameters
+-- reach each expression in one way only. The expressions and patterns reach each type in one way only.
+pub record HasBody (store : Store) (source_map : SourceMap) (params : List PatId) (e : OptionExpr) : Type 0 where
   pub root : ExprRoot
   pub only : store.roots ≡ root ∷ []
   pub same : SameMeaning store source_map root.root e
   pub reached_once : (depth : ℕ) → length store.exprs ≤ depth
-      → Spread 0 (length store.exprs) (of_each (reached_to store depth) (root.root ∷ inner_bodies store root.root))
+      → Spread 0 (length store.exprs)
+      (of_each (reached_to store depth) (pats_inner_bodies store params ++ root.root ∷ inner_bodies store root.root))
   pub types_reached_once : (depth : ℕ) → length store.types ≤ depth → let l = of_types_alone (types_reached store.types depth) in
       Spread 0 (length store.types) (of_exprs l store.exprs ++ of_pats l store.pats)
 
@@ -209,12 +212,20 @@ abbrev pub receiver_read : SelfFormal → Option Binding
 receiver_read (tree.self_formal at u) = Some (record { name = u.name; mode = u.mode; hygiene = u.hygiene; problems = None })
 receiver_read _ = None
 
--- Each parameter is read back as the written pattern, in order, and `self` is its binding. Each is handed in as it was written. They
--- and the expressions and types reach each pattern in one way only.
+-- the bodies inside written patterns
+abbrev pub tops_bodies : Tops → Bodies
+tops_bodies [] = []
+tops_bodies (p ∷ ps) = pat_part_bodies p ++ tops_bodies ps
+
+-- Each parameter is read back as the written pattern, in order, and `self` is its binding. Each body inside these patterns, which
+-- is a constant in one of their paths, does what the written one in its place does. Each parameter is handed in as it was written.
+-- They and the expressions and types reach each pattern in one way only.
 pub record HasParams (store : Store) (source_map : SourceMap) (params : List (Param PatId)) (receiver : Option (Param BindingId))
     (skipped : Bool) (formals : Formals) : Type 0 where
   pub patterns : map (λ p. stored_pat store source_map p.user_written) params ≡ map written_pat (formals_read skipped formals.formals)
   pub binding : option_and_then (λ p. slice_get store.bindings p.user_written.0) receiver ≡ receiver_read formals.receiver
+  pub inner : SameBodies store source_map (pats_inner_bodies store (map (λ p. p.user_written) params))
+      (tops_bodies (formals_read skipped formals.formals))
   pub pats_reached_once : (depth : ℕ) → length store.pats ≤ depth → let l = of_pats_alone (pats_reached store.pats depth) in
       Spread 0 (length store.pats)
       (of_all l.pats (map (λ p. p.user_written) params) ++ (of_exprs l store.exprs ++ of_types l store.types))

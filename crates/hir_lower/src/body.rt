@@ -374,8 +374,8 @@ fn body_steps<E: LowerEnv>(
 /// Lowers the body of an item (upstream's function of this name).
 ///
 /// The stored body does what the written one does, for every answerer and every number of turns that a loop may take,
-/// and so does each body inside it. Each expression that it reaches, or that a body inside it does, is reached in one way only; so is
-/// each type that the expressions and patterns reach, and each pattern that the parameters, expressions and types do.
+/// and so does each body inside it or inside the pattern of a parameter. Each expression that one of these reaches is reached in one
+/// way only; so is each type that the expressions and patterns reach, and each pattern that the parameters, expressions and types do.
 /// Store, source map and diagnostics are one result of the parameters and the tree: what is stored stands for them and no more is
 /// stored, each expression and pattern with its source, all in the range of the one root; the source map leads from each written
 /// expression, label, pattern, type and lifetime to what it became, from the values and patterns of a record's kept fields to
@@ -403,7 +403,7 @@ pub fn lower_body<E: LowerEnv>(
     requires no_async { is_async_fn ≡ false }
     requires no_gen { is_gen_fn ≡ false }
     ensures same_meaning { let at = body_spot (E.answers db.now) owner current_file_id inside in
-        IfOk result (λ r. HasBody r.0.store r.1.store (body_read at owner (option_copied body.entry))) }
+        IfOk result (λ r. HasBody r.0.store r.1.store (given_of r.0).1 (body_read at owner (option_copied body.entry))) }
     ensures one_result { let at = body_spot (E.answers db.now) owner current_file_id inside in
         let owed = body_owes at owner syntax_node (option_copied body.entry) in
         let formals = item_formals at owner (option_copied params.entry) (is_some (option_copied body.entry)) in

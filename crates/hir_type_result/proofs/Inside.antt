@@ -248,7 +248,7 @@ mutual
   node_adds (tree.range_expr at form low high) = pats.range_adds at form (present_expr_adds low) (present_expr_adds high)
   node_adds (tree.assign_expr at own target e) = aims.assign_adds at (target_adds target) (body_adds e)
 
-  body_adds : (e : OptionExpr) → Correct (lower_part e) (Adds free an_expr)
+  pub body_adds : (e : OptionExpr) → Correct (lower_part e) (Adds free an_expr)
   body_adds tree.no_expr = missing_adds
   body_adds (tree.some_expr e) = node_adds e
 
@@ -315,7 +315,7 @@ mutual
 
   -- patterns
 
-  top_adds : (p : OptionPat) → Correct (lower_top p) (Adds free a_pat)
+  pub top_adds : (p : OptionPat) → Correct (lower_top p) (Adds free a_pat)
   top_adds tree.no_pat = pats.missing_pat_adds
   top_adds (tree.some_pat p) = adds_then (pat_adds p no_names) (λ r. adds_then (adds_any (settle_any r.1))
       (λ u. adds_pure r.0 (λ v. omega arith)))

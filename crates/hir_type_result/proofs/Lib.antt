@@ -23,3 +23,4 @@ pub mod Fronts
 pub mod InsidePats
 pub mod InsideTargets
 pub mod Inside
+pub mod InsideBody

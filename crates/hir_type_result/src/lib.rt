@@ -8,7 +8,7 @@ ghost use Rattle.hir_type_result.specs.Named.{ExprTypesReachedOnce, PathTypesRea
 ghost use Rattle.hir_type_result.specs.Pats.{BodyPatsReachedOnce, ExprPatsReachedOnce, PathPatsReachedOnce, TypePatsReachedOnce};
 ghost use Rattle.hir_type_result.specs.Pats.{BodyBindingsCame, ExprBindingsCame, PathBindingsCame, TypeBindingsCame};
 ghost use Rattle.hir_type_result.specs.Roots.{PathRoots, TypeRoots};
-ghost use Rattle.hir_type_result.specs.Inside.{InsideReachedOnce, TypeInsideReachedOnce, PathInsideReachedOnce};
+ghost use Rattle.hir_type_result.specs.Inside.{BodyInsideReachedOnce, InsideReachedOnce, PathInsideReachedOnce, TypeInsideReachedOnce};
 
 /// Each type that a lowered one reaches, through its parts, is one that its lowering stored, and is reached in one way.
 pub fn types_reached_once()
@@ -41,11 +41,13 @@ pub fn bindings_came()
 {}
 
 /// Each expression that a lowered tree reaches, or that a constant inside it does, is one that its lowering stored, and is reached
-/// in one way by one of them. So it is of the constants inside a type or a path.
+/// in one way by one of them. So it is of the constants inside a type or a path, and of a body behind its parameters, with the
+/// constants inside the patterns of these.
 pub fn inside_reached_once()
     ensures exprs { InsideReachedOnce }
     ensures types { TypeInsideReachedOnce }
     ensures paths { PathInsideReachedOnce }
+    ensures bodies { BodyInsideReachedOnce }
 {}
 
 /// Where no root is being lowered, each body inside a lowered type is recorded as one, in the order in which they are done, and

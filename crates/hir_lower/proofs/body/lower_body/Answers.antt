@@ -4,7 +4,8 @@ use Rattle.hir_lower.proofs.body.lower_body.Goals as goal
 
 pub returns-clause-same_meaning : goal.returns-clause-same_meaning
 returns-clause-same_meaning g c =
-    has_body_if _ _ _ _ _ 4294967295 (λ r. r.0.store) (λ r. r.1.store) c.body_steps.result c.body_steps.ensures.stores
+    has_body_if _ _ _ _ _ 4294967295 (λ r. r.0.store) (λ r. r.1.store) (λ r. r.0) c.body_steps.result c.body_steps.ensures.stores
+    c.body_steps.ensures.given
 
 pub returns-clause-one_result : goal.returns-clause-one_result
 returns-clause-one_result g c =
