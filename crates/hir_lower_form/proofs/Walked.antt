@@ -118,7 +118,8 @@ module _ (s : Stored) where
   pub anchored_has : (t : TypeRefId) (w : PathWalk) → HasWalk s w → HasType s t → HasReading s (anchored t w)
   anchored_has t w h k =
       let old = past_present past_type_id w.type_anchor in
-      has_join s (past_type_id t) (past_arg_lists w.args) (omega arith, k, omega arith, omega arith) (join_right s old (past_arg_lists w.args) h)
+      has_join s (past_type_id t) (past_arg_lists w.args) (omega arith, k, omega arith, omega arith)
+      (join_right s old (past_arg_lists w.args) h)
 
   pub projected_has : (t : TypeRefId) (p : Path) (w : PathWalk) → HasWalk s w → HasType s t → HasPath s p → HasReading s (projected t p w)
   projected_has t p w h k m = by (no_names (mod_path p).segments)

@@ -83,7 +83,8 @@ impl Bindings {
         requires new { binding_of key (table_of self.old) ≡ None }
         requires names { HasNames state.old.stored self.old }
         ensures { LowersNamed HasBindingId
-            (λ t. spec.use_of_known (record { name = key.0; hygiene = key.1; mode = mode }) t None) self.old state.old result self.new state.new }
+            (λ t. spec.use_of_known (record { name = key.0; hygiene = key.1; mode = mode }) t None)
+            self.old state.old result self.new state.new }
     {
         let number = self.ids.len();
         let id = state.alloc_binding(Binding {

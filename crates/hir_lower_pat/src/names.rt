@@ -142,7 +142,8 @@ pub(crate) fn ident_form<S: PatParts>(
     requires names { HasNames state.old.stored bindings.old }
     ensures { let here = S.spot parts.now in
         let use_ = use_with here name.now mode in
-        LowersPat (of.ident_pat here.answers here.place at use_ (pat_part here part.now)) bindings.old state.old result bindings.new state.new }
+        LowersPat (of.ident_pat here.answers here.place at use_ (pat_part here part.now))
+        bindings.old state.old result bindings.new state.new }
 {
     let hygiene = hygiene_of(parts, name);
     let name = name_of(name)?;

@@ -59,7 +59,8 @@ fn present_field<S: PatParts>(
     requires part { S.can_pat parts.now part.now }
     requires names { HasNames state.old.stored bindings.old }
     ensures { let read = answered_pat (S.spot parts.now) part.now in
-        LowersNamed HasPatField (spec.pat_field_form at (field_name name.now) (lower_pat read)) bindings.old state.old result bindings.new state.new }
+        LowersNamed HasPatField (spec.pat_field_form at (field_name name.now) (lower_pat read))
+        bindings.old state.old result bindings.new state.new }
 {
     let pat = parts.lower_pat(state, bindings, part)?;
     named_part(state, at, name, pat)

@@ -45,7 +45,8 @@ fn element<S: PatParts>(
     requires names { HasNames state.old.stored bindings.old }
     requires done { HasPats state.old.stored done.0 }
     ensures { let read = answered_pat (S.spot parts.now) node.now in
-        LowersNamed HasElements (spec.element_form (is_dots read) done (lower_pat read)) bindings.old state.old result bindings.new state.new }
+        LowersNamed HasElements (spec.element_form (is_dots read) done (lower_pat read))
+        bindings.old state.old result bindings.new state.new }
 {
     let (mut ids, dots) = done;
     if stands_for_rest(node) {
