@@ -214,9 +214,9 @@ impl<'db, E: LowerEnv> ExprCollector<'db, E> {
 
     /// Lowers a constant as a root of its own.
     ///
-    /// In each later store its expression does what the constant does, for every answerer and every number of turns
-    /// that a loop may take; what is stored stands for the tree, and faults, blocks and ways of the source map come
-    /// behind those of before. `Memory` where a growth was refused, `Full` where an arena has no room for the tree, or
+    /// In each later store that keeps the problems of its bindings its expression does what the constant does, for every
+    /// answerer and every number of turns that a loop may take; what is stored stands for the tree, and faults, blocks and
+    /// ways of the source map come behind those of before. `Memory` where a growth was refused, `Full` where an arena has no room for the tree, or
     /// a path in the tree has more `super`s, or a pattern more parts in front of its two dots, than 32 bits count,
     /// `Failed` after an error, and then nothing changes. All that was stored is stored still, unless memory was
     /// refused, and a node leads to where it led, or to what came since.
