@@ -216,10 +216,10 @@ impl<'db, E: LowerEnv> ExprCollector<'db, E> {
     ///
     /// In each later store that keeps the problems of its bindings its expression does what the constant does, for every
     /// answerer and every number of turns that a loop may take; what is stored stands for the tree, and faults, blocks and
-    /// ways of the source map come behind those of before. `Memory` where a growth was refused, `Full` where an arena has no room for the tree, or
-    /// a path in the tree has more `super`s, or a pattern more parts in front of its two dots, than 32 bits count,
-    /// `Failed` after an error, and then nothing changes. All that was stored is stored still, unless memory was
-    /// refused, and a node leads to where it led, or to what came since.
+    /// ways of the source map come behind those of before. `Memory` where a growth was refused, `Full` where an arena has no
+    /// room for the tree, or a path in the tree has more `super`s, or a pattern more parts in front of its two dots, than
+    /// 32 bits count, `Failed` after an error, and then nothing changes. All that was stored is stored still, unless memory
+    /// was refused, and a node leads to where it led, or to what came since.
     pub fn lower_const_arg(&mut self, arg: &ast::ConstArg) -> Result<ConstRef, LowerError>
         ensures calls { Calls self.old.failed self.old.state result self.new.state self.new.failed }
         ensures rooted { let e = expr_part (spot_at (E.answers self.old.db.now) self.old.place) arg.now in
