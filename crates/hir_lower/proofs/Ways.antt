@@ -4,6 +4,7 @@ use Rattle.std.proofs.Common.{length-append}
 use Rattle.std.proofs.Common.{List, [], ◌∷◌, Option, Some, None, Ok, Err, ◌⊎◌, inl, inr, ⊎_elim, true≢false, is_some}
 use Rattle.hir_store.specs.Pointers.{Pointer, same_pointer, found}
 use Rattle.hir_store.specs.Arenas.{Prefix, Sourced, pointed, with_entry}
+use Rattle.hir_store.proofs.Extending.{extends_refl}
 use Rattle.hir_store.proofs.Arenas.{prefix_push, prefix_refl, prefix_trans}
 use Rattle.hir_store.specs.Stored.{Stored}
 use Rattle.hir_store.specs.Storing as storing
@@ -32,7 +33,7 @@ use Rattle.hir_lower_form.specs.Lowering.{Checked, go_on, Lowering, ◌>>=◌, p
 use Rattle.hir_lower_form.specs.Lowering.{alloc_binding, alloc_pat, define, point_pat_field}
 use Rattle.hir_lower_form.specs.Lowering.{point_field, open_barrier, enter_root, outside_root, leave_root, record_root}
 use Rattle.hir_lower_form.specs.Lowering.{enter_block, open_label, close, jump_target, found_or_fault, open_as, report_await, count_out}
-use Rattle.hir_lower.specs.Stays.{LeadsOn}
+use Rattle.hir_lower.specs.Stays.{LeadsOn, Stays}
 
 -- maps
 
@@ -136,6 +137,17 @@ went_refl a = record {
   types = onward_refl type_place _;
   lifetimes = onward_refl lifetime_place _;
   bindings = prefix_refl _;
+}
+
+pub stays_refl : (a : Stored) → Stays a a
+stays_refl a = record {
+  extends = extends_refl a;
+  bindings = prefix_refl _;
+  exprs = on_refl expr_place _ _;
+  labels = on_refl label_place _ _;
+  pats = on_refl pat_place _ _;
+  types = on_refl type_place _ _;
+  lifetimes = on_refl lifetime_place _ _;
 }
 
 -- the arenas are those of before, and so are the bindings
