@@ -1,3 +1,4 @@
+use Rattle.std.proofs.Common.{ap, Err}
 use Rattle.hir_lower.proofs.PathMeanings.{full_before}
 use Rattle.hir_lower.proofs.Ways.{stays_refl}
 use Rattle.hir_lower.proofs.collector.ExprCollector.lower_path.Goals as goal
@@ -15,4 +16,4 @@ returns-then-self-clause-stays g c = λ n. stays_refl _
 
 pub returns-in_err-lowered-clause-too_large : goal.returns-in_err-lowered-clause-too_large
 returns-in_err-lowered-clause-too_large g c =
-    full_before _ _ c.from_residual.ensures.1 (rw (← c.mode.ensures) c.in_err-lowered.ensures.too_large)
+    full_before _ _ c.from_residual.ensures.1 (λ is. rw (← c.mode.ensures) (c.in_err-lowered.ensures.too_large (ap Err is)))
