@@ -61,7 +61,7 @@ unfolding jump_target
 missed_lowers b env source name hygiene cause e r new h =
     let j : Jump = jump env source name hygiene in
     let is : found_or_fault j (target j b.scopes) b ≡ no_target cause source name b =
-        subst (JumpMissed b j (target j b.scopes)) e (by j (target j b.scopes)) in
+    subst (JumpMissed b j (target j b.scopes)) e (by j (target j b.scopes)) in
     lowers_as HasLabelOption (jump_target (Some j)) (no_target cause source name) b is r new h
   where
     by : (j : Jump) (t : Target LabelId) → JumpMissed b j t (answer t)

@@ -372,7 +372,7 @@ arm_owns p he hg = correct_as (correct_bind (top_any p) (λ i. correct_bind he (
     (λ g. correct_pure (Some (record { pat = i; guard = g; expr = e }))))))
     (λ final ps m m' a g row. let s = row.second in let u = s.second in rw (u.second.is, u.second.still) (record {
       spread = λ d le. spread_append m.nodes u.middle.nodes (inl (omega arith))
-      (omega (row.before.nodes, s.before.nodes, u.before.nodes, arith))
+          (omega (row.before.nodes, s.before.nodes, u.before.nodes, arith))
           (s.first.spread d (omega (le, u.before.nodes, arith))) (u.first.spread d le);
     }))
 

@@ -38,6 +38,6 @@ loop-left-preserved-in_ok-push_pat_field g c =
       placed = (
         grows_on c.args.state.now.stored l.state.stored new.stored l.invariant.placed.0 put.1,
         fields_has l.state.stored new.stored l.done c.push_pat_field.new.fields c.in-Some.field
-        pushed.past put.1 l.invariant.placed.1 put.2,
+            pushed.past put.1 l.invariant.placed.1 put.2,
       );
     }
