@@ -378,7 +378,7 @@ fn body_steps<E: LowerEnv>(
 /// way only; so is each type that the expressions and patterns reach, and each pattern that the parameters, expressions and types do.
 /// Store, source map and diagnostics are one result of the parameters and the tree: what is stored stands for them and no more is
 /// stored, each expression and pattern with its source, all in the range of the one root; the source map leads from each written
-/// expression, label, pattern, type and lifetime to what it became, from the values and patterns of a record's kept fields to
+/// expression and label to what it became, from the nodes of patterns, types and lifetimes to them, from the values and patterns of a record's kept fields to
 /// their fields, and from nothing else; the numbers of blocks come in the order of entering; the diagnostics are those that body,
 /// parameters and tree owe. Each number in store and source map is in range. A skipped body is a missing expression and owes no
 /// fault. `Memory` where a growth was refused; `Full` only where parameters and tree become more expressions, labels, patterns,

@@ -51,7 +51,7 @@ struct Defined {
     bindings: u32,
 }
 
-fn defined(body: &Body, source_map: &BodySourceMap) -> Defined {
+fn what_is_defined(body: &Body, source_map: &BodySourceMap) -> Defined {
     Defined {
         first: definitions(source_map, BindingId(0)),
         second: definitions(source_map, BindingId(1)),
@@ -63,7 +63,7 @@ fn defined(body: &Body, source_map: &BodySourceMap) -> Defined {
 fn defined_in_text(alloc: Global, text: &str) -> Result<Option<Defined>, ReadError> {
     match lowered_text(alloc, text)? {
         Some((body, source_map)) => {
-            let defined = defined(&body, &source_map);
+            let defined = what_is_defined(&body, &source_map);
             drop(body);
             drop(source_map);
             Ok(Some(defined))

@@ -37,7 +37,7 @@ struct Led {
     lengths: [u32; 4],
 }
 
-fn led(body: &Body, source_map: &BodySourceMap) -> Led {
+fn where_led(body: &Body, source_map: &BodySourceMap) -> Led {
     let map = &source_map.store;
     Led {
         label: map.node_label(node(3)),
@@ -60,7 +60,7 @@ fn led(body: &Body, source_map: &BodySourceMap) -> Led {
 fn led_in_text(alloc: Global, text: &str) -> Result<Option<Led>, ReadError> {
     match lowered_text(alloc, text)? {
         Some((body, source_map)) => {
-            let led = led(&body, &source_map);
+            let led = where_led(&body, &source_map);
             drop(body);
             drop(source_map);
             Ok(Some(led))

@@ -53,7 +53,7 @@ fn receiver(body: &Body) -> Option<(BindingId, BindingId)> {
     Some((param.formal, param.user_written))
 }
 
-fn parts(body: &Body, source_map: &BodySourceMap) -> Parts {
+fn parts_of(body: &Body, source_map: &BodySourceMap) -> Parts {
     Parts {
         ways: [
             way(source_map, 5),
@@ -74,7 +74,7 @@ fn parts(body: &Body, source_map: &BodySourceMap) -> Parts {
 fn parts_of_patterns(alloc: Global) -> Result<Option<Parts>, ReadError> {
     match lowered_text(alloc, PATTERNS)? {
         Some((body, source_map)) => {
-            let parts = parts(&body, &source_map);
+            let parts = parts_of(&body, &source_map);
             drop(body);
             drop(source_map);
             Ok(Some(parts))
