@@ -218,7 +218,7 @@ tops_bodies [] = []
 tops_bodies (p ∷ ps) = pat_part_bodies p ++ tops_bodies ps
 
 -- Each parameter is read back as the written pattern, in order, and `self` is its binding. Each body inside these patterns, which
--- is a constant in one of their paths, does what the written one in its place does. Each parameter is handed in as it was written.
+-- is a constant or an end of a range in one of their paths, does what the written one in its place does. Each parameter is handed in as it was written.
 -- They and the expressions and types reach each pattern in one way only.
 pub record HasParams (store : Store) (source_map : SourceMap) (params : List (Param PatId)) (receiver : Option (Param BindingId))
     (skipped : Bool) (formals : Formals) : Type 0 where
