@@ -218,8 +218,8 @@ tops_bodies [] = []
 tops_bodies (p ∷ ps) = pat_part_bodies p ++ tops_bodies ps
 
 -- Each parameter is read back as the written pattern, in order, and `self` is its binding. Each body inside these patterns, which
--- is a constant or an end of a range in one of their paths, does what the written one in its place does. Each parameter is handed in as it was written.
--- They and the expressions and types reach each pattern in one way only.
+-- is a constant or an end of a range in one of their paths, does what the written one in its place does. Each parameter is handed in
+-- as it was written. They and the expressions and types reach each pattern in one way only.
 pub record HasParams (store : Store) (source_map : SourceMap) (params : List (Param PatId)) (receiver : Option (Param BindingId))
     (skipped : Bool) (formals : Formals) : Type 0 where
   pub patterns : map (λ p. stored_pat store source_map p.user_written) params ≡ map written_pat (formals_read skipped formals.formals)
