@@ -27,6 +27,8 @@ SIZES = [1_000, 10_000, 100_000, 1_000_000]
 CHAIN = 252
 # A chain of types stands on the tuple around it, and has a type of one word at its end.
 TYPE_CHAIN = 254
+# So many names are bound by each alternative of an or-pattern.
+NAMES = 100
 
 
 class Nodes:
@@ -159,6 +161,44 @@ def nested(size):
     return nodes
 
 
+def alternatives(size):
+    """One or-pattern of very many alternatives that bind the same names, 1,000 of them at 101,000 nodes."""
+    nodes = Nodes()
+    pats = nodes.add("OrPat", pats=[])
+    while len(nodes.all) + NAMES + 1 <= size:
+        fields = nodes.add("TuplePat", fields=[])
+        nodes.all[pats]["pats"].append(fields)
+        for name in range(NAMES):
+            nodes.all[fields]["fields"].append(nodes.add("IdentPat", name="x%d" % name))
+    return nodes
+
+
+def absences(size):
+    """One or-pattern whose first alternative binds very many names, and as many alternatives that bind none of them."""
+    nodes = Nodes()
+    pats = nodes.add("OrPat", pats=[1])
+    fields = nodes.add("TuplePat", fields=[])
+    while len(nodes.all) < size // 2:
+        nodes.all[fields]["fields"].append(nodes.add("IdentPat", name="x%d" % len(nodes.all)))
+    while len(nodes.all) < size:
+        nodes.all[pats]["pats"].append(nodes.add("WildcardPat"))
+    return nodes
+
+
+def arms(size):
+    """One match of very many arms that bind a name, 100,000 of them at 300,000 nodes."""
+    nodes, block = body()
+    nodes.statement(block)
+    match = nodes.add("MatchExpr", arms=[])
+    nodes.all[match]["expr"] = nodes.add("UnderscoreExpr")
+    while len(nodes.all) + 3 <= size:
+        arm = nodes.add("MatchArm")
+        nodes.all[arm]["pat"] = nodes.add("IdentPat", name="x")
+        nodes.all[arm]["expr"] = nodes.add("Literal", lit="int", t="1")
+        nodes.all[match]["arms"].append(arm)
+    return nodes
+
+
 SHAPES = {
     "wide": wide,
     "calls": calls,
@@ -168,10 +208,20 @@ SHAPES = {
     "arguments": arguments,
     "constants": constants,
     "nested": nested,
+    "alternatives": alternatives,
+    "absences": absences,
+    "arms": arms,
 }
 
 # The shapes whose root is no function.
-MODES = {"segments": "path", "arguments": "type", "constants": "type", "nested": "type"}
+MODES = {
+    "segments": "path",
+    "arguments": "type",
+    "constants": "type",
+    "nested": "type",
+    "alternatives": "pat",
+    "absences": "pat",
+}
 
 
 HEADS = ("shape", "nodes", "MB", "seconds", "peak MB", "parse us", "rest us", "parse B", "rest B")
@@ -221,7 +271,7 @@ def main():
         return write(given.make[0], int(given.make[1]), given.make[2])
     if not os.access(given.program, os.X_OK):
         sys.exit("bench: no program %s; `rt run` in crates/lower_tool builds it" % given.program)
-    print("%-9s %9s %9s %8s %9s %9s %9s %9s %9s" % HEADS)
+    print("%-12s %9s %9s %8s %9s %9s %9s %9s %9s" % HEADS)
     failed = False
     for name in [given.shape] if given.shape else list(SHAPES):
         for size in [size for size in SIZES if size <= given.most]:
@@ -245,7 +295,7 @@ def line(program, name, size):
         wrong.append("parsing: status %d %s" % (parse_status, parse_said))
     parts = [1e6 * parse_seconds, 1e6 * (seconds - parse_seconds), parse_peak, peak - parse_peak]
     shown = (name, count, length / 1e6, seconds, peak / 1e6, *[part / count for part in parts])
-    print("%-9s %9d %9.1f %8.3f %9.1f %9.2f %9.2f %9.0f %9.0f" % shown, *wrong, flush=True)
+    print("%-12s %9d %9.1f %8.3f %9.1f %9.2f %9.2f %9.0f %9.0f" % shown, *wrong, flush=True)
     return bool(wrong)
 
 

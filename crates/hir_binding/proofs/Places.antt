@@ -1,7 +1,7 @@
 -- Where names were marked.
-use Rattle.std.proofs.Common.{zero, suc, Result, Ok, Err, OnOk, OnErr, ◌≡◌, ℕ, ◌<◌, ◌≤◌, Bool, true, false, cond}
-use Rattle.std.proofs.Common.{refl, sym, ◌∙◌, List, [], ◌∷◌, ◌++◌, length, slice_get, Option, Some, None, nat_eq, nat_lt}
-use Rattle.std.proofs.Common.{if◌then◌else◌, ◌⊎◌, inl, inr, arith, length-append}
+use Rattle.std.proofs.Common.{zero, suc, Result, Ok, Err, OnOk, OnErr, ◌≡◌, ℕ, ◌<◌, ◌≤◌, Bool, true, false, cond, refl, sym, ◌∙◌, List}
+use Rattle.std.proofs.Common.{[], ◌∷◌, ◌++◌, length, slice_get, Option, Some, None, nat_eq, nat_lt, if◌then◌else◌, ◌⊎◌, inl, inr, arith}
+use Rattle.std.proofs.Common.{length-append}
 use Rattle.std.proofs.lemmas.Option.{slice_get_within, slice_get_read, get_or_from_slice_get}
 use Rattle.std.proofs.lemmas.List.{get_or_push}
 use Rattle.std.proofs.Math.ListN.{get_or-append}
@@ -22,18 +22,17 @@ unmark_either false false h = refl
 earlier : (p previous start : ℕ) → previous ≤ start → nat_lt p previous ≡ true → nat_lt p start ≡ true
 earlier p previous start h e = let f : p < previous = ltb-true p previous e in lt-ltb p start (omega arith)
 
-unmark_all : (xs : List ℕ) (previous start k : ℕ) (o : Option ℕ) → previous ≤ start →
-    ((p : ℕ) → o ≡ Some p → slice_get xs p ≡ Some k) → mark_at start (length xs) o ≡ unmark (mark_at previous start o)
+unmark_all : (xs : List ℕ) (previous start k : ℕ) (o : Option ℕ) → previous ≤ start → ((p : ℕ) → o ≡ Some p → slice_get xs p ≡ Some k) →
+    mark_at start (length xs) o ≡ unmark (mark_at previous start o)
 unmark_all xs previous start k None g h = refl
 unmark_all xs previous start k (Some p) g h = rw (lt-ltb p (length xs) (slice_get_within xs p k (h p refl)))
     (unmark_either (nat_lt p previous) (nat_lt p start) (earlier p previous start g))
 
-pub pushed_last : {X : Type 0} (xs : List X) (y : X) → slice_get (xs ++ y ∷ []) (length xs) ≡ Some y
+pub pushed_last : (xs : List ℕ) (y : ℕ) → slice_get (xs ++ y ∷ []) (length xs) ≡ Some y
 pushed_last xs y = slice_get_read (xs ++ y ∷ []) (length (xs ++ y ∷ [])) (length xs) y refl (omega (arith, length-append xs (y ∷ [])))
     (sym (get_or_push xs y y (length xs) refl))
 
-pub pushed_before : {X : Type 0} (xs : List X) (y : X) (p : ℕ) (q : X) → slice_get xs p ≡ Some q →
-    slice_get (xs ++ y ∷ []) p ≡ Some q
+pub pushed_before : {X : Type 0} (xs : List X) (y : X) (p : ℕ) (q : X) → slice_get xs p ≡ Some q → slice_get (xs ++ y ∷ []) p ≡ Some q
 pushed_before xs y p q e =
     let h : p < length xs = slice_get_within xs p q e in
     slice_get_read (xs ++ y ∷ []) (length (xs ++ y ∷ [])) p q refl (omega (arith, length-append xs (y ∷ [])))
@@ -43,8 +42,7 @@ pushed_before xs y p q e =
 pub placed_push : (xs : List ℕ) (name q p : ℕ) (old new : Option ℕ) → new ≡ cond (nat_eq name q) (Some (length xs)) old →
     (old ≡ Some p → slice_get xs p ≡ Some q) → new ≡ Some p → slice_get (xs ++ name ∷ []) p ≡ Some q
 placed_push xs name q p old new e h n = elim (eqb_tells name q) [
-  | inl t ↦ let s : Some (length xs) ≡ Some p = rw t.0 at (sym e ∙ n) in
-      let l : length xs ≡ p = cc in rw (← t.1, ← l) (pushed_last xs name)
+  | inl t ↦ let s : Some (length xs) ≡ Some p = rw t.0 at (sym e ∙ n) in let l : length xs ≡ p = cc in rw (← t.1, ← l) (pushed_last xs name)
   | inr t ↦ let s : old ≡ Some p = rw t.0 at (sym e ∙ n) in pushed_before xs name p q (h s)
 ]
 
@@ -58,12 +56,10 @@ pub mark_begun : (xs : List ℕ) (n previous start k : ℕ) (o : Option ℕ) →
 mark_begun xs n previous start k o e g h = rw e (unmark_all xs previous start k o g h)
 
 pub placed_last : (xs ys : List ℕ) (name place q p : ℕ) (old new : Option ℕ) → ys ≡ xs ++ name ∷ [] → place ≡ length xs →
-    new ≡ cond (nat_eq name q) (Some place) old → (old ≡ Some p → slice_get xs p ≡ Some q) → new ≡ Some p →
-    slice_get ys p ≡ Some q
+    new ≡ cond (nat_eq name q) (Some place) old → (old ≡ Some p → slice_get xs p ≡ Some q) → new ≡ Some p → slice_get ys p ≡ Some q
 placed_last xs ys name place q p old new e l u h n = rw e (placed_push xs name q p old new (rw l at u) h n)
 
-pub placed_still : (xs ys : List ℕ) (name p q : ℕ) → ys ≡ xs ++ name ∷ [] → slice_get xs p ≡ Some q →
-    slice_get ys p ≡ Some q
+pub placed_still : (xs ys : List ℕ) (name p q : ℕ) → ys ≡ xs ++ name ∷ [] → slice_get xs p ≡ Some q → slice_get ys p ≡ Some q
 placed_still xs ys name p q e h = rw e (pushed_before xs name p q h)
 
 -- an element after a push is an old one or the new one
@@ -73,3 +69,7 @@ pushed_cases [] y zero s e = let f : y ≡ s = cc in inr f
 pushed_cases [] y (suc i) s e = cc
 pushed_cases (x ∷ xs) y zero s e = inl e
 pushed_cases (x ∷ xs) y (suc i) s e = pushed_cases xs y i s e
+
+pub pushed_end : {X : Type 0} (xs : List X) (y : X) → slice_get (xs ++ y ∷ []) (length xs) ≡ Some y
+pushed_end xs y = slice_get_read (xs ++ y ∷ []) (length (xs ++ y ∷ [])) (length xs) y refl (omega (arith, length-append xs (y ∷ [])))
+    (sym (get_or_push xs y y (length xs) refl))

@@ -6,14 +6,14 @@ use Rattle.hir_syntax.specs.declared.ast.Lifetime.{Lifetime as AstLifetime}
 use Rattle.hir_syntax.specs.declared.types.GenericArg.{GenericArg as AstGenericArg, out-GenericArg}
 use Rattle.hir_syntax.specs.declared.ast.ElseBranch.TheOpen.{GenericArg-F}
 use Rattle.hir_syntax.specs.declared.types.AssocTypeArg.{AssocTypeArg as AstAssocTypeArg, out-AssocTypeArg}
-use Rattle.hir_syntax.specs.declared.types.GenericArgList.{GenericArgList as AstGenericArgList, out-GenericArgList}
 use Rattle.hir_env.specs.Spot.{Spot}
+use Rattle.hir_env.specs.Wrapped.{AstGenericArgList}
 use Rattle.hir_env.specs.declared.place.Place.{Place}
 use Rattle.hir_env.specs.Answered.{OptionArgs, OptionType, Args, Bounds}
 use Rattle.hir_env.specs.TypeLayers.{GenericArgLayer}
 use Rattle.hir_env.specs.Paths as of
 use Rattle.hir_env.specs.Whole.{written, reader, read_generic_arg, answered_arg, answered_assoc_arg, answered_arg_list}
-use Rattle.hir_env.proofs.PathLevels.{arg_list_is_level, arg_is_level, assoc_arg_is_level}
+use Rattle.hir_env.proofs.PathLevels.{arg_is_level, assoc_arg_is_level}
 use Rattle.hir_data.specs.Data.{ArgumentData, ArgumentsData, BindingData, BindingsData}
 use Rattle.hir_data.specs.Written.{arguments_of, argument_of, put_argument, bindings_of, binding_of, put_binding}
 use Rattle.hir_data.specs.Arguments.{argument_stands, arguments_among, kept_args, binding_stands, put_written, bindings_among}
@@ -124,7 +124,4 @@ all_bindings at (a ∷ as') = one_binding at a (bindings_among as') (bindings_of
 pub argument_law : (at : Spot) (l : AstGenericArgList)
     → (map Some (arguments_in (arguments_of (answered_arg_list at l))) ≡ map (λ a. argument_of (answered_arg at a)) (kept_args l))
     × (map Some (bindings_in (bindings_of (answered_arg_list at l))) ≡ map (λ b. binding_of (answered_assoc_arg at b)) (kept_bindings l))
-argument_law at l = (
-  ap (λ x. map Some (arguments_in (arguments_of x))) (arg_list_is_level at l) ∙ all_arguments at (out-GenericArgList l).args,
-  ap (λ x. map Some (bindings_in (bindings_of x))) (arg_list_is_level at l) ∙ all_bindings at (out-GenericArgList l).args,
-)
+argument_law at l = (all_arguments at l, all_bindings at l)

@@ -2,3 +2,4 @@ pub mod Segments
 mod Arguments
 mod Worked
 mod Trees
+mod PatternRows

@@ -5,12 +5,8 @@ use Rattle.hir_syntax.specs.declared.ast.PathSegment.{PathSegment as AstPathSegm
 use Rattle.hir_syntax.specs.declared.types.AssocTypeArg.{roll-AssocTypeArg, out-roll-AssocTypeArg}
 use Rattle.hir_syntax.specs.declared.types.GenericArg.{GenericArg as AstGenericArg, roll-GenericArg, out-roll-GenericArg}
 use Rattle.hir_syntax.specs.declared.ast.ElseBranch.TheOpen.{GenericArg-F}
-use Rattle.hir_syntax.specs.declared.types.GenericArgList.{roll-GenericArgList, out-roll-GenericArgList}
 use Rattle.hir_syntax.specs.declared.types.Param.{Param as AstParam, roll-Param, out-roll-Param}
-use Rattle.hir_syntax.specs.declared.types.ParenArgs.{roll-ParenArgs, out-roll-ParenArgs}
 use Rattle.hir_syntax.specs.declared.types.PathType.{roll-PathType, out-roll-PathType}
-use Rattle.hir_syntax.specs.declared.types.RetType.{roll-RetType, out-roll-RetType}
-use Rattle.hir_syntax.specs.declared.types.TypeArg.{roll-TypeArg, out-roll-TypeArg}
 use Rattle.hir_syntax.specs.declared.types.TypeBound.{roll-TypeBound, out-roll-TypeBound}
 use Rattle.hir_syntax.specs.declared.types.TypeKind.{out-roll-TypeKind}
 use Rattle.hir_syntax.specs.declared.types.Type_.{Type_ as AstType_}
@@ -19,20 +15,19 @@ use Rattle.hir_store.specs.declared.name.Name.TheVariants as name
 use Rattle.hir_env.specs.declared.place.ImplTrait.TheVariants as impl
 use Rattle.hir_env.specs.Spot.{Spot}
 use Rattle.hir_env.specs.TypeLayers.{ParamReading, TypeKindLayer, PathLayer, PathSegmentLayer, AssocTypeArgLayer, GenericArgLayer}
-use Rattle.hir_env.specs.TypeLayers.{GenericArgListLayer, ParamLayer, ParenArgsLayer, PathTypeLayer, RetTypeLayer, TypeArgLayer}
-use Rattle.hir_env.specs.TypeLayers.{TypeBoundLayer}
+use Rattle.hir_env.specs.TypeLayers.{ParamLayer, PathTypeLayer, TypeBoundLayer}
 use Rattle.hir_env.specs.Paths as of
 use Rattle.hir_env.specs.Answered as tree
-use Rattle.hir_env.specs.Answered.{Type_, OptionType, Parts, Segment, SegmentArgs, Arg}
+use Rattle.hir_env.specs.Answered.{FnHead, Type_, OptionType, Parts, Segment, SegmentArgs, Arg}
 use Rattle.hir_env.specs.Whole.{written, reader}
-use Rattle.hir_env.specs.Whole.{answered_type, answered_param, answered_ret, answered_path, answered_segment, answered_path_type}
-use Rattle.hir_env.specs.Whole.{answered_paren_args, answered_arg_list, answered_arg, answered_type_arg, answered_assoc_arg}
+use Rattle.hir_env.specs.Whole.{answered_type, answered_param, answered_path, answered_segment, answered_path_type}
+use Rattle.hir_env.specs.Whole.{answered_arg, answered_assoc_arg}
 use Rattle.hir_env.specs.Whole.{answered_bound, in_impl, in_binding}
-use Rattle.hir_env.proofs.PathLevels.{type_is_level, param_is_level, ret_is_level, path_is_level, segment_is_level, path_type_is_level}
-use Rattle.hir_env.proofs.PathLevels.{paren_args_is_level, arg_list_is_level, arg_is_level, type_arg_is_level, assoc_arg_is_level}
+use Rattle.hir_env.proofs.PathLevels.{type_is_level, param_is_level, path_is_level, segment_is_level, path_type_is_level}
+use Rattle.hir_env.proofs.PathLevels.{arg_is_level, assoc_arg_is_level}
 use Rattle.hir_env.proofs.PathLevels.{bound_is_level}
 use Rattle.hir_data.specs.Written.{type_data}
-use Rattle.hir_data.specs.Trees.{type_at, with_argument, type_arg_of, binding_of, ret_of, fn_trait, impl_at, never_at, bare}
+use Rattle.hir_data.specs.Trees.{type_at, with_argument, type_arg_of, binding_of, fn_trait, impl_at, never_at, bare}
 use Rattle.hir_data.specs.Trees.{free, pointer, ImplsInside, reads_lifetime, LifetimesOfTexts, reads_abi, AbisOfTexts, fn_at}
 use Rattle.hir_data.specs.Trees.{plain_param, dots_param, VarargsAtTheEnd}
 
@@ -64,35 +59,15 @@ module _ (at : Spot) where
   bound_made x = bound_is_level at (roll-TypeBound x)
       ∙ ap (λ l. of.type_bound_step at.answers (reader at.answers) l at.place) (out-roll-TypeBound x)
 
-  arg_list_made : (x : GenericArgListLayer written)
-      → answered_arg_list at (roll-GenericArgList x) ≡ of.generic_arg_list_step at.answers (reader at.answers) x at.place
-  arg_list_made x = arg_list_is_level at (roll-GenericArgList x)
-      ∙ ap (λ l. of.generic_arg_list_step at.answers (reader at.answers) l at.place) (out-roll-GenericArgList x)
-
   arg_made : (x : GenericArgLayer written)
       → answered_arg at (roll-GenericArg x) ≡ of.generic_arg_step at.answers (reader at.answers) x at.place
   arg_made x = arg_is_level at (roll-GenericArg x)
       ∙ ap (λ l. of.generic_arg_step at.answers (reader at.answers) l at.place) (out-roll-GenericArg x)
 
-  type_arg_made : (x : TypeArgLayer written)
-      → answered_type_arg at (roll-TypeArg x) ≡ of.type_arg_step at.answers (reader at.answers) x at.place
-  type_arg_made x = type_arg_is_level at (roll-TypeArg x)
-      ∙ ap (λ l. of.type_arg_step at.answers (reader at.answers) l at.place) (out-roll-TypeArg x)
-
   assoc_arg_made : (x : AssocTypeArgLayer written)
       → answered_assoc_arg at (roll-AssocTypeArg x) ≡ of.assoc_type_arg_step at.answers (reader at.answers) x at.place
   assoc_arg_made x = assoc_arg_is_level at (roll-AssocTypeArg x)
       ∙ ap (λ l. of.assoc_type_arg_step at.answers (reader at.answers) l at.place) (out-roll-AssocTypeArg x)
-
-  paren_args_made : (x : ParenArgsLayer written)
-      → answered_paren_args at (roll-ParenArgs x) ≡ of.paren_args_step at.answers (reader at.answers) x at.place
-  paren_args_made x = paren_args_is_level at (roll-ParenArgs x)
-      ∙ ap (λ l. of.paren_args_step at.answers (reader at.answers) l at.place) (out-roll-ParenArgs x)
-
-  ret_made : (x : RetTypeLayer written)
-      → answered_ret at (roll-RetType x) ≡ of.ret_type_step at.answers (reader at.answers) x at.place
-  ret_made x = ret_is_level at (roll-RetType x)
-      ∙ ap (λ l. of.ret_type_step at.answers (reader at.answers) l at.place) (out-roll-RetType x)
 
   param_made : (x : ParamLayer written)
       → answered_param at (roll-Param x) ≡ of.param_step at.answers (reader at.answers) x at.place
@@ -143,11 +118,10 @@ module _ (at : Spot) where
   with_argument_is : (a : AstGenericArg)
       → answered_segment at (with_argument (codes "A") a) ≡ segment_with (codes "A") (list_with (answered_arg at a))
   with_argument_is a = segment_made at _
-      ∙ ap (λ l. segment_with (codes "A") (tree.segment_args (tree.some_arg_list l) tree.no_parens false)) (arg_list_made at _)
 
   type_argument_is : (t : AstType_)
       → answered_arg at (roll-GenericArg (GenericArg-F.TypeArg (type_arg_of t))) ≡ tree.type_arg (tree.some_type (answered_type at t))
-  type_argument_is t = arg_made at _ ∙ ap tree.type_arg (type_arg_made at _)
+  type_argument_is t = arg_made at _
 
   binding_is : (n : List ℕ) (t : AstType_)
       → answered_arg at (binding_of n t)
@@ -158,9 +132,6 @@ module _ (at : Spot) where
       → answered_segment at (fn_trait (codes "Fn") a b)
       ≡ segment_with (codes "Fn") (parens_with (only_part (tree.some_type (answered_type at a))) (tree.some_type (answered_type at b)))
   fn_trait_is a b = segment_made at _
-      ∙ (ap (λ ps. segment_with (codes "Fn") (parens_with ps (answered_ret at (ret_of b))))
-      (paren_args_made at _ ∙ ap only_part (type_arg_made at _))
-      ∙ ap (λ r. segment_with (codes "Fn") (parens_with (only_part (tree.some_type (answered_type at a))) r)) (ret_made at _))
 
 -- `Fn(t) -> r`
 abbrev fn_of : Type_ → Type_ → Segment
@@ -216,21 +187,26 @@ reads_abis at = (
   abi_is at (Some (codes "x")),
 )
 
--- a function pointer of two parameters that are read
+-- the head of a function pointer of two parameters that are read, and the function pointer
+abbrev head_of_two : ParamReading → ParamReading → FnHead
+head_of_two r q =
+    let last = if q.variadic then [] else q.name ∷ [] in
+    let names = if r.variadic then last else r.name ∷ last in
+    record { is_unsafe = false; abi = of.abi_of None; is_varargs = q.variadic; names = names }
+
 abbrev of_two : Spot → ParamReading → ParamReading → Type_
 of_two at r q =
     let rest = if q.variadic then tree.no_parts else only_part q.ty in
-    tree.fn_type (pointer at 0) (record { is_unsafe = false; abi = of.abi_of None; is_varargs = q.variadic })
-    (if r.variadic then rest else tree.more_parts r.ty rest) tree.no_type
+    tree.fn_type (pointer at 0) (head_of_two r q) (if r.variadic then rest else tree.more_parts r.ty rest) tree.no_type
 
 abbrev of_type : Type_ → ParamReading
-of_type t = record { variadic = false; ty = tree.some_type t }
+of_type t = record { variadic = false; name = None; ty = tree.some_type t }
 
 abbrev plain_reading : Spot → ParamReading
 plain_reading at = of_type (tree.leaf_type (pointer at 1) tree.never_leaf)
 
 abbrev dots_reading : ParamReading
-dots_reading = record { variadic = true; ty = tree.no_type }
+dots_reading = record { variadic = true; name = None; ty = tree.no_type }
 
 module _ (at : Spot) where
   of_two_is : (x y : AstParam) (r q : ParamReading) → answered_param at x ≡ r → answered_param at y ≡ q

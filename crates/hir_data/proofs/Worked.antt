@@ -51,4 +51,4 @@ pub reads_bindings : BindingsOfLists
 reads_bindings t u n l = (refl, refl, refl)
 
 pub names_lengths_by_sites : LengthsBySites
-names_lengths_by_sites at here around t p h by fs s = (refl, refl, refl, refl, refl)
+names_lengths_by_sites at here around t p h by head fs s = (refl, refl, refl, refl, refl)

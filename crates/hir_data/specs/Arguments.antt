@@ -3,8 +3,8 @@ use Rattle.std.specs.Prelude.{◌≡◌, if◌then◌else◌, Bool, true, false,
 use Rattle.hir_syntax.specs.declared.types.GenericArg.{GenericArg as AstGenericArg, out-GenericArg}
 use Rattle.hir_syntax.specs.declared.ast.ElseBranch.TheOpen.{GenericArg-F}
 use Rattle.hir_syntax.specs.declared.types.AssocTypeArg.{AssocTypeArg as AstAssocTypeArg, out-AssocTypeArg}
-use Rattle.hir_syntax.specs.declared.types.GenericArgList.{GenericArgList as AstGenericArgList, out-GenericArgList}
 use Rattle.hir_env.specs.Spot.{Spot}
+use Rattle.hir_env.specs.Wrapped.{AstGenericArgList}
 use Rattle.hir_env.specs.TypeLayers.{GenericArgLayer}
 use Rattle.hir_env.specs.Whole.{written, answered_arg, answered_assoc_arg, answered_arg_list}
 use Rattle.hir_data.specs.Data.{ArgumentData, ArgumentsData, no_arguments, more_arguments, BindingData, BindingsData, no_bindings}
@@ -23,7 +23,7 @@ arguments_among [] = []
 arguments_among (a ∷ as') = if argument_stands (out-GenericArg a) then a ∷ arguments_among as' else arguments_among as'
 
 abbrev pub kept_args : AstGenericArgList → List AstGenericArg
-kept_args l = arguments_among (out-GenericArgList l).args
+kept_args l = arguments_among l
 
 -- one that has a name and no parameter list
 abbrev pub binding_stands : AstAssocTypeArg → Bool
@@ -38,7 +38,7 @@ bindings_among [] = []
 bindings_among (a ∷ as') = put_written (out-GenericArg a) (bindings_among as')
 
 abbrev pub kept_bindings : AstGenericArgList → List AstAssocTypeArg
-kept_bindings l = bindings_among (out-GenericArgList l).args
+kept_bindings l = bindings_among l
 
 abbrev pub arguments_in : ArgumentsData → List ArgumentData
 arguments_in no_arguments = []

@@ -1,9 +1,16 @@
+pub mod Literals
 pub mod Data
 pub mod Rule
 pub mod Written
+pub mod Uses
+pub mod Patterns
+pub mod Targets
+pub mod Tops
 pub mod Reading
+pub mod BindingRule
 pub mod Lookup
 pub mod Worked
+pub mod PatternRows
 pub mod Trees
 pub mod Segments
 pub mod Arguments

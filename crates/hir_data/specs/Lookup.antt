@@ -2,7 +2,7 @@
 use Rattle.std.specs.Prelude.{true, false, List, [], ◌∷◌}
 use Rattle.hir_store.specs.declared.name.Name.{Name}
 use Rattle.hir_store.specs.declared.ids.HygieneId.{HygieneId}
-use Rattle.hir_data.specs.Data.{PathData, path_data, names_in}
+use Rattle.hir_data.specs.Data.{PathData, path_data, item_path, names_in}
 
 -- one of at most one name with the hygiene of its node, a longer one with the root's
 abbrev pub hygiene_for : List Name → HygieneId → HygieneId
@@ -14,3 +14,4 @@ hygiene_for (n ∷ m ∷ ns) h = record { 0 = 0 }
 abbrev pub lookup_hygiene : PathData → HygieneId → HygieneId
 lookup_hygiene (path_data k anchor ns true) h = hygiene_for (names_in ns) h
 lookup_hygiene (path_data k anchor ns false) h = record { 0 = 0 }
+lookup_hygiene (item_path i) h = record { 0 = 0 }

@@ -1,7 +1,7 @@
 -- Worked trees: where an `impl` may stand, what texts of lifetimes and of ABIs are, and which parameter makes varargs.
 use Rattle.std.specs.Prelude.{◌≡◌, ℕ, codes, Bool, true, false, List, [], ◌∷◌, Option, Some, None}
-use Rattle.hir_syntax.specs.declared.node.NodeId.{NodeId}
-use Rattle.hir_syntax.specs.declared.node.TextRange.{TextRange}
+use Rattle.hir_base.specs.declared.node.NodeId.{NodeId}
+use Rattle.hir_base.specs.declared.node.TextRange.{TextRange}
 use Rattle.hir_syntax.specs.declared.ast.Name.{Name as AstName}
 use Rattle.hir_syntax.specs.declared.ast.SegmentKind.TheVariants as segment
 use Rattle.hir_syntax.specs.declared.ast.Path.{roll-Path}
@@ -10,12 +10,8 @@ use Rattle.hir_syntax.specs.declared.types.AssocTypeArg.{roll-AssocTypeArg}
 use Rattle.hir_syntax.specs.declared.types.BoundKind.TheVariants as bound
 use Rattle.hir_syntax.specs.declared.types.GenericArg.{GenericArg as AstGenericArg, roll-GenericArg}
 use Rattle.hir_syntax.specs.declared.ast.ElseBranch.TheOpen.{GenericArg-F, TypeKind-F}
-use Rattle.hir_syntax.specs.declared.types.GenericArgList.{GenericArgList as AstGenericArgList, roll-GenericArgList}
 use Rattle.hir_syntax.specs.declared.types.Param.{Param as AstParam, roll-Param}
-use Rattle.hir_syntax.specs.declared.types.ParenArgs.{ParenArgs as AstParenArgs, roll-ParenArgs}
 use Rattle.hir_syntax.specs.declared.types.PathType.{roll-PathType}
-use Rattle.hir_syntax.specs.declared.types.RetType.{RetType as AstRetType, roll-RetType}
-use Rattle.hir_syntax.specs.declared.types.TypeArg.{TypeArg as AstTypeArg, roll-TypeArg}
 use Rattle.hir_syntax.specs.declared.types.TypeBound.{roll-TypeBound}
 use Rattle.hir_syntax.specs.declared.types.TypeKind.{roll-TypeKind}
 use Rattle.hir_syntax.specs.declared.types.Type_.{Type_ as AstType_}
@@ -31,6 +27,7 @@ use Rattle.hir_store.specs.declared.type_ref.LifetimeRef.TheVariants as lifetime
 use Rattle.hir_store.specs.declared.type_ref.TraitBoundModifier.TheVariants as modifier
 use Rattle.hir_env.specs.declared.place.ImplTrait.TheVariants as impl
 use Rattle.hir_env.specs.Spot.{Spot}
+use Rattle.hir_env.specs.Wrapped.{AstGenericArgList, AstParenArgs, AstRetType, AstTypeArg}
 use Rattle.hir_env.specs.TypeLayers.{TypeKindLayer}
 use Rattle.hir_env.specs.Whole.{written, answered_type, pointer_at}
 use Rattle.hir_data.specs.Data as datum
@@ -72,10 +69,10 @@ bare t = segment_of t None None None
 
 -- `t<a>`
 abbrev pub with_argument : List ℕ → AstGenericArg → AstPathSegment
-with_argument t a = segment_of t (Some (roll-GenericArgList (record { id = node 9; range = no_range; args = a ∷ [] }))) None None
+with_argument t a = segment_of t (Some (a ∷ [])) None None
 
 abbrev pub type_arg_of : AstType_ → AstTypeArg
-type_arg_of t = roll-TypeArg (record { id = node 9; range = no_range; ty = Some t })
+type_arg_of t = Some t
 
 -- `n = t`
 abbrev pub binding_of : List ℕ → AstType_ → AstGenericArg
@@ -91,12 +88,11 @@ binding_of n t = roll-GenericArg (GenericArg-F.AssocTypeArg (roll-AssocTypeArg (
 })))
 
 abbrev pub ret_of : AstType_ → AstRetType
-ret_of t = roll-RetType (record { id = node 9; range = no_range; ty = Some t })
+ret_of t = Some t
 
 -- `t(a) -> b`
 abbrev pub fn_trait : List ℕ → AstType_ → AstType_ → AstPathSegment
-fn_trait t a b = segment_of t None
-    (Some (roll-ParenArgs (record { id = node 9; range = no_range; args = type_arg_of a ∷ [] }))) (Some (ret_of b))
+fn_trait t a b = segment_of t None (Some (type_arg_of a ∷ [])) (Some (ret_of b))
 
 -- `impl s`
 abbrev pub impl_at : ℕ → AstPathSegment → AstType_
@@ -192,7 +188,8 @@ fn_at a ps = type_at 0 (TypeKind-F.FnPtrType false a (Some ps) None)
 
 abbrev pub reads_abi : Spot → Option (List ℕ) → ExternAbi → Type 0
 reads_abi at t a = type_data None (answered_type at (fn_at t [])) ≡ datum.typed (Some (pointer at 0))
-    (datum.fn_shape (record { is_unsafe = false; abi = a; is_varargs = false }) None (datum.more_types unit_data datum.no_types))
+    (datum.fn_shape (record { is_unsafe = false; abi = a; is_varargs = false; names = [] }) None
+    (datum.more_types unit_data datum.no_types))
 
 -- `fn()`, `extern fn()`, and `extern "C" fn()`, with "efiapi" and with "x" for "C"
 abbrev pub AbisOfTexts : Type 0
@@ -204,15 +201,15 @@ AbisOfTexts = (at : Spot)
     × reads_abi at (Some (codes "x")) abi.C
 
 abbrev pub plain_param : AstParam
-plain_param = roll-Param (record { id = node 9; range = no_range; ty = Some (never_at 1); variadic = false })
+plain_param = roll-Param (record { id = node 9; range = no_range; pat = None; ty = Some (never_at 1); variadic = false })
 
 abbrev pub dots_param : AstParam
-dots_param = roll-Param (record { id = node 9; range = no_range; ty = None; variadic = true })
+dots_param = roll-Param (record { id = node 9; range = no_range; pat = None; ty = None; variadic = true })
 
 -- a function pointer with `!` as its one parameter that isn't variadic
 abbrev pub reads_params : Spot → List AstParam → Bool → Type 0
 reads_params at ps varargs = type_data None (answered_type at (fn_at None ps)) ≡ datum.typed (Some (pointer at 0))
-    (datum.fn_shape (record { is_unsafe = false; abi = abi.Rust; is_varargs = varargs }) None
+    (datum.fn_shape (record { is_unsafe = false; abi = abi.Rust; is_varargs = varargs; names = None ∷ [] }) None
     (datum.more_types (never_data at 1) (datum.more_types unit_data datum.no_types)))
 
 -- `fn(!, ...)` has varargs, `fn(..., !)` has none

@@ -10,7 +10,7 @@ use Rattle.hir_store.specs.declared.path.GenericArgsParentheses.TheVariants as p
 use Rattle.hir_store.specs.declared.type_ref.TraitBoundModifier.TheVariants as modifier
 use Rattle.hir_env.specs.Answered as tree
 use Rattle.hir_env.specs.Answered.{Binder, FnHead, Lifetime, Type_, OptionArgs, OptionParens, OptionPath, OptionRet, Segments, Segment}
-use Rattle.hir_env.specs.Answered.{OptionExpr, Fields, Spread}
+use Rattle.hir_env.specs.Answered.{OptionExpr, RecordHead, Fields, Spread}
 use Rattle.hir_env.specs.NodeMap.{Site}
 use Rattle.hir_env.specs.Spot.{site_of}
 use Rattle.hir_store.specs.declared.ids.CfgId.{CfgId}
@@ -231,11 +231,11 @@ is_long at array t length = type_data None array ≡ datum.typed (Some at) (datu
 -- `[T; a]`, `[T; (a)]`, `[T; ]`, the first with a disabled length, and `[T; crate::crate { .. }]`
 abbrev pub LengthsBySites : Type 0
 LengthsBySites = (at here around : Pointer) (t : Type_) (p : OptionPath) (h : HygieneId) (by : CfgId)
-    (fs : Fields) (s : Spread)
+    (head : RecordHead) (fs : Fields) (s : Spread)
     → is_long at (array_of at (tree.some_expr (tree.path_expr here p h)) t) t (Some (site_of here))
     × is_long at (array_of at (tree.some_expr (tree.paren_expr around (tree.some_expr (tree.path_expr here p h)))) t) t
     (Some (site_of here))
     × is_long at (array_of at tree.no_expr t) t None
     × is_long at (array_of at (tree.some_expr (tree.disabled_expr around by (tree.path_expr here p h))) t) t None
     × is_long at (array_of at
-    (tree.some_expr (tree.record_expr here (whole tree.crate_segment (tree.crate_segment ∷ [])) fs s)) t) t None
+    (tree.some_expr (tree.record_expr here (whole tree.crate_segment (tree.crate_segment ∷ [])) head fs s)) t) t None

@@ -1,7 +1,10 @@
--- The data of what is written.
+-- The data of what is written, patterns that bind apart.
 use Rattle.std.specs.Prelude.{codes, Bool, true, false, List, [], ◌∷◌, map, Option, Some, None, option_map}
 use Rattle.hir_store.specs.Pointers.{Pointer}
+use Rattle.hir_base.specs.declared.op.RangeOp.TheVariants.{Inclusive}
 use Rattle.hir_store.specs.declared.ids.CrateId.{CrateId}
+use Rattle.hir_store.specs.declared.ids.HygieneId.{HygieneId}
+use Rattle.hir_store.specs.declared.ids.LangItemId.{LangItemId}
 use Rattle.hir_store.specs.declared.name.Name.TheVariants as name
 use Rattle.hir_store.specs.declared.path.PathKind.{PathKind}
 use Rattle.hir_store.specs.declared.path.PathKind.TheVariants as kind
@@ -13,13 +16,15 @@ use Rattle.hir_env.specs.declared.place.ImplTrait.TheVariants.{Error, Opaque}
 use Rattle.hir_env.specs.Answered as tree
 use Rattle.hir_env.specs.Answered.{Lifetime, Binder, UseRead, TypeLeaf, TypeUnary, Type_, OptionType, Parts, Path, OptionPath}
 use Rattle.hir_env.specs.Answered.{Segments, Segment, SegmentArgs, OptionParens, OptionRet, OptionArgs, Args, Arg, Bounds, Bound}
-use Rattle.hir_env.specs.Answered.{Constant, Expr, OptionExpr, Block}
+use Rattle.hir_env.specs.Answered.{Constant, Expr, OptionExpr, Block, Side, Limit, TypePat, OptionTypePat, TypePats, Signed}
 use Rattle.hir_env.specs.NodeMap.{Site}
 use Rattle.hir_env.specs.Spot.{site_of}
 use Rattle.hir_data.specs.Data as datum
 use Rattle.hir_data.specs.Data.{LifetimeData, UseData, TypeData, typed, Shape, OptionTypeData, TypesData, PathData}
 use Rattle.hir_data.specs.Data.{OptionArgsData, no_args, some_args, args_data, ArgumentData, ArgumentsData}
-use Rattle.hir_data.specs.Data.{BindingData, BindingsData, BoundsData, BoundData}
+use Rattle.hir_data.specs.Data.{BindingData, BindingsData, BoundsData, BoundData, bare_path}
+use Rattle.hir_data.specs.Data.{PatData, pat_at, absent_pattern, PatsData, SideData}
+use Rattle.hir_data.specs.Literals.{LiteralData, signed_literal}
 use Rattle.hir_data.specs.Rule.{PathRead, What, broken, named, root, self_, super_, anchor, projection, Item}
 use Rattle.hir_data.specs.Rule.{read, path_read, data_of}
 
@@ -81,6 +86,24 @@ abbrev pub record_site : Pointer → Option PathRead → Option Site
 record_site at None = None
 record_site at (Some p) = Some (site_of at)
 
+-- ---- sides of ranges
+
+-- A path in a pattern is looked up with the root's hygiene.
+abbrev pub root_hygiene : HygieneId
+root_hygiene = record { 0 = 0 }
+
+abbrev pub signed_data : Signed → LiteralData
+signed_data l = signed_literal l.minus l.literal
+
+abbrev pub side_of_path : Option PathRead → SideData
+side_of_path None = datum.missing_side
+side_of_path (Some p) = datum.path_side (data_of p) root_hygiene
+
+-- the item that stands for an absent end, which may be absent itself
+abbrev pub side_of_item : Option LangItemId → SideData
+side_of_item None = datum.missing_side
+side_of_item (Some i) = datum.path_side (datum.item_path i) root_hygiene
+
 abbrev pub block_site : Block → Option Site
 block_site (tree.block at is_unsafe label number ss e) = Some (site_of at)
 
@@ -136,6 +159,7 @@ abbrev mutual
   type_data b (tree.impl_type at mode bs) = typed (Some at) (impl_shape_of mode (bounds_data bs))
   type_data b (tree.nested_impl at) = typed (Some at) datum.error_shape
   type_data b (tree.dyn_type at bs) = typed (Some at) (datum.dyn_shape (bounds_data bs))
+  type_data b (tree.pattern_type at t p q) = typed (Some at) (datum.pattern_shape (part_data None t) (type_pat_part_data q))
 
   pub part_data : Option Binder → OptionType → TypeData
   part_data b tree.no_type = absent_data
@@ -248,6 +272,36 @@ abbrev mutual
   path_of tree.no_path = None
   path_of (tree.some_path p) = path_read (read (segments p []))
 
+  -- ---- patterns of types: in them a range has both ends, and each is part of it
+
+  pub type_pat_data : TypePat → PatData
+  type_pat_data (tree.not_null_type_pat at) = pat_at (Some at) datum.not_null_pattern
+  type_pat_data (tree.or_type_pat at ps) = pat_at (Some at) (datum.or_pattern (type_pats_data ps))
+  type_pat_data (tree.range_type_pat at start end) =
+      pat_at (Some at) (datum.range_pattern Inclusive (datum.some_side (limit_data start)) (datum.some_side (limit_data end)))
+  type_pat_data (tree.other_type_pat at) = pat_at (Some at) datum.missing_pattern
+
+  pub type_pat_part_data : OptionTypePat → PatData
+  type_pat_part_data tree.no_type_pat = absent_pattern
+  type_pat_part_data (tree.some_type_pat p) = type_pat_data p
+
+  pub type_pats_data : TypePats → PatsData
+  type_pats_data tree.no_type_pats = datum.no_patterns
+  type_pats_data (tree.more_type_pats p ps) = datum.more_patterns (type_pat_data p) (type_pats_data ps)
+
+  -- the last before an excluded end is found by a call
+  pub limit_data : Limit → SideData
+  limit_data (tree.item_limit i) = side_of_item i
+  limit_data (tree.side_limit s) = limit_side s
+  limit_data (tree.before_limit i s) = datum.called_side i (limit_side s)
+
+  pub limit_side : Side → SideData
+  limit_side tree.no_side = datum.missing_side
+  limit_side (tree.literal_side at l) = datum.literal_side (signed_data l)
+  limit_side (tree.name_side at n) = datum.path_side (bare_path n) root_hygiene
+  limit_side (tree.path_side at p) = side_of_path (path_of p)
+  limit_side tree.other_side = datum.missing_side
+
   -- ---- constants, by the node that the expression comes from which they become
 
   pub constant_site : Constant → Option Site
@@ -263,10 +317,10 @@ abbrev mutual
   expr_site (tree.disabled_expr at by e) = None
   expr_site (tree.paren_expr at e) = part_site e
   expr_site (tree.block_expr b) = block_site b
-  expr_site (tree.record_expr at p fs s) = record_site at (path_of p)
+  expr_site (tree.record_expr at p head fs s) = record_site at (path_of p)
   expr_site (tree.if_expr at c t e) = Some (site_of at)
   expr_site (tree.loop_expr at label b) = Some (site_of at)
-  expr_site (tree.call_expr at f es) = Some (site_of at)
+  expr_site (tree.call_expr at f has_list es) = Some (site_of at)
   expr_site (tree.path_expr at p h) = Some (site_of at)
   expr_site (tree.continue_expr at jump) = Some (site_of at)
   expr_site (tree.break_expr at jump e) = Some (site_of at)
@@ -284,11 +338,19 @@ abbrev mutual
   expr_site (tree.cast_expr at e t) = Some (site_of at)
   expr_site (tree.offset_of_expr at t names) = Some (site_of at)
   expr_site (tree.nameless_expr at e) = Some (site_of at)
+  expr_site (tree.let_expr at p e) = Some (site_of at)
+  expr_site (tree.match_expr at e arms) = Some (site_of at)
+  expr_site (tree.range_expr at form start end) = Some (site_of at)
+  expr_site (tree.assign_expr at e t v) = Some (site_of at)
 
 -- ---- by their names for those above
 
 abbrev pub written_type : OptionType → TypeData
 written_type t = part_data None t
+
+-- one that may stay absent
+abbrev pub written_option_type : OptionType → OptionTypeData
+written_option_type t = present_data t
 
 abbrev pub written_args : OptionArgs → OptionArgsData
 written_args as' = list_data as'

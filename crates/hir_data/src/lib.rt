@@ -1,5 +1,5 @@
-//! What is written and what is stored as data, the same on both sides: lifetimes, types, paths, arguments and bounds. A
-//! law is a function whose contract is the law; those of single paths and types are computed.
+//! What is written and what is stored as data, the same on both sides: lifetimes, types, paths, arguments, bounds and patterns. A
+//! law is a function whose contract is the law; those of single paths, types and patterns are computed.
 #![tactic(auto)]
 
 ghost use Rattle.hir_data.specs.Arguments.{ArgumentLaw};
@@ -9,6 +9,9 @@ ghost use Rattle.hir_data.specs.Worked.{SelfAlone, UseTreesStandInFront, AbsentI
 ghost use Rattle.hir_data.specs.Worked.{TraitInPlace, TypeInFront, OutputIsBound, BinderOfFunctions, LengthsBySites};
 ghost use Rattle.hir_data.specs.Worked.{BoundsOfKinds, FirstOfLists, BindingsOfLists};
 ghost use Rattle.hir_data.specs.Trees.{ImplsInside, LifetimesOfTexts, AbisOfTexts, VarargsAtTheEnd};
+ghost use Rattle.hir_data.specs.PatternRows.{ModesOfFirstUses, NamelessFieldsBind, RefusedBindsNothing, DotsHaveAPlace};
+ghost use Rattle.hir_data.specs.PatternRows.{DotsElsewhere, OneAlternative, SidesOfRanges, LimitsOfTypes, DataOfTargets};
+ghost use Rattle.hir_data.specs.PatternRows.{ProblemsOfPatterns};
 
 /// The names of a path are those of its named segments, where no use tree stands around it or its trait, no segment of
 /// either is missing, and the trait has no qualified type.
@@ -121,4 +124,54 @@ pub fn reads_abis()
 /// `fn(!, ...)` has varargs, and `fn(..., !)` has none: a variadic parameter is no type, wherever it stands.
 pub fn reads_varargs()
     ensures { VarargsAtTheEnd }
+{}
+
+/// A name has the mode of its first use in a pattern, and what stands behind `@` is used first; two hygienes are two names.
+pub fn gives_the_first_mode()
+    ensures { ModesOfFirstUses }
+{}
+
+/// A field of a record pattern that has no name is no part of it, but what it uses counts; one that is disabled does not.
+pub fn counts_nameless_fields()
+    ensures { NamelessFieldsBind }
+{}
+
+/// A call or a record pattern whose path is refused is missing from no node and binds nothing.
+pub fn binds_nothing_where_refused()
+    ensures { RefusedBindsNothing }
+{}
+
+/// In a tuple the first two dots are a place among the parts, later ones are nothing, and a comma in front has a part before it.
+pub fn places_two_dots()
+    ensures { DotsHaveAPlace }
+{}
+
+/// Two dots in a slice or among alternatives are a pattern.
+pub fn keeps_other_dots()
+    ensures { DotsElsewhere }
+{}
+
+/// An or-pattern of one alternative is that pattern, with its node; one without any stays.
+pub fn drops_the_or_of_one()
+    ensures { OneAlternative }
+{}
+
+/// A side of a range pattern is a literal, a name or a path; another one and a refused one are absent.
+pub fn reads_sides()
+    ensures { SidesOfRanges }
+{}
+
+/// In a type with a pattern a range has both ends, by an item where one is absent, and an excluded end is that and a call.
+pub fn reads_limits_of_types()
+    ensures { LimitsOfTypes }
+{}
+
+/// What is assigned to is read as a pattern, whose places only say that one is there; `(..)` is the tuple of no parts.
+pub fn reads_targets()
+    ensures { DataOfTargets }
+{}
+
+/// Small patterns and the problem that their name shows.
+pub fn finds_problems()
+    ensures { ProblemsOfPatterns }
 {}

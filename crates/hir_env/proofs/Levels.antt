@@ -1,37 +1,40 @@
 -- An answered tree is one level of it around its answered parts.
 use Rattle.std.proofs.Common.{◌≡◌, ◌∙◌, refl, ap, Bool, true, false, Option, Some, None, List, [], ◌∷◌}
 use Rattle.std.specs.Prelude.{option_map}
-use Rattle.hir_syntax.specs.declared.node.AstPtr.{AstPtr}
+use Rattle.hir_base.specs.declared.node.AstPtr.{AstPtr}
 use Rattle.hir_syntax.specs.declared.ast.ElseBranch.{ElseBranch as AstElseBranch, out-ElseBranch}
 use Rattle.hir_syntax.specs.declared.ast.ExprKind.{ExprKind as AstExprKind, out-ExprKind}
 use Rattle.hir_syntax.specs.declared.ast.StmtKind.{StmtKind as AstStmtKind, out-StmtKind}
 use Rattle.hir_syntax.specs.declared.ast.BlockExpr.{BlockExpr as AstBlockExpr, out-BlockExpr}
-use Rattle.hir_syntax.specs.declared.ast.ConstArg.{ConstArg as AstConstArg, out-ConstArg}
 use Rattle.hir_syntax.specs.declared.ast.Expr.{Expr as AstExpr}
 use Rattle.hir_syntax.specs.declared.ast.RecordExprField.{RecordExprField as AstRecordExprField, out-RecordExprField}
 use Rattle.hir_syntax.specs.declared.ast.RecordExprFieldList.{RecordExprFieldList as AstRecordExprFieldList, out-RecordExprFieldList}
 use Rattle.hir_syntax.specs.declared.ast.Stmt.{Stmt as AstStmt}
+use Rattle.hir_syntax.specs.declared.branches.MatchArm.{MatchArm as AstMatchArm, out-MatchArm}
 use Rattle.hir_syntax.specs.declared.ast.ElseBranch.TheOpen.{ElseBranch-F, ExprKind-F, StmtKind-F}
 use Rattle.hir_store.specs.Pointers.{Pointer}
 use Rattle.hir_env.specs.declared.place.Place.{Place}
 use Rattle.hir_env.specs.Answers.{Answers}
+use Rattle.hir_env.specs.Wrapped.{AstConstArg, AstGuard, AstLetElse}
 use Rattle.hir_env.specs.Spot.{Spot}
 use Rattle.hir_env.specs.Layers.{BlockReading, StmtReading, RecordReading, Reader, ElseBranchLayer, ExprKindLayer, StmtKindLayer}
-use Rattle.hir_env.specs.Layers.{BlockExprLayer, ConstArgLayer, RecordExprFieldLayer, RecordExprFieldListLayer, itself}
+use Rattle.hir_env.specs.Layers.{BlockExprLayer, RecordExprFieldLayer, RecordExprFieldListLayer}
+use Rattle.hir_env.specs.Layers.{MatchArmLayer, itself}
 use Rattle.hir_env.specs.Answering as of
-use Rattle.hir_env.specs.Paths.{inside_constant}
-use Rattle.hir_env.specs.Folds.{written, reader, read_else_branch, read_expr_kind, read_stmt_kind, read_block, read_constant}
-use Rattle.hir_env.specs.Folds.{read_expr, read_field, read_record, read_stmt}
+use Rattle.hir_env.specs.Folds.{written, reader, read_else_branch, read_expr_kind, read_stmt_kind, read_block}
+use Rattle.hir_env.specs.Folds.{read_expr, read_field, read_record, read_stmt, read_arm}
 use Rattle.hir_env.specs.Answered as tree
-use Rattle.hir_env.specs.Answered.{Label, Expr, OptionExpr, Field}
+use Rattle.hir_env.specs.Answered.{Label, Expr, OptionExpr, Field, OptionBlock, Arm}
+use Rattle.hir_env.specs.Targets.{resolves}
 use Rattle.hir_env.specs.Whole.{answered, answered_plain, answered_block, answered_else, answered_constant, answered_field}
 use Rattle.hir_env.specs.Whole.{answered_record, block_head, stmts_part, in_block, block_number, pointer_at, asked_expr}
-use Rattle.hir_env.specs.Whole.{block_level, stmt_level, else_level, constant_level, field_level, record_level}
-use Rattle.hir_env.proofs.Mapped.{optional, listed, mapped_else, mapped_kind, mapped_stmt_kind, mapped_block, mapped_constant}
-use Rattle.hir_env.proofs.Mapped.{mapped_field, mapped_record}
-use Rattle.hir_env.proofs.Opened.{opened_else_branch, opened_expr_kind, opened_stmt_kind, opened_block, opened_constant}
-use Rattle.hir_env.proofs.Opened.{opened_expr, opened_field, opened_record, opened_stmt}
-use Rattle.hir_env.proofs.PathLevels.{type_is, path_is, arg_list_is}
+use Rattle.hir_env.specs.Whole.{block_level, stmt_level, else_level, constant_level, field_level, record_level, guard_level}
+use Rattle.hir_env.specs.Whole.{let_else_level, arm_level, answered_guard, answered_let_else, answered_arm}
+use Rattle.hir_env.proofs.Mapped.{optional, listed, mapped_else, mapped_kind, mapped_stmt_kind, mapped_block}
+use Rattle.hir_env.proofs.Mapped.{mapped_field, mapped_record, mapped_arm}
+use Rattle.hir_env.proofs.Opened.{opened_else_branch, opened_expr_kind, opened_stmt_kind, opened_block}
+use Rattle.hir_env.proofs.Opened.{opened_expr, opened_field, opened_record, opened_stmt, opened_arm}
+use Rattle.hir_env.proofs.PathLevels.{type_is, path_is, pat_is, arg_list_is}
 
 -- parts that may be absent, and lists
 
@@ -63,6 +66,22 @@ record_is : {A : Type 0} (h : A → Place → RecordReading) (x : Option A) (p :
 record_is h None p = refl
 record_is h (Some x) p = refl
 
+arms_is : {A : Type 0} (h : A → Place → Arm) (xs : List A) (p : Place) → of.arms_of (λ y. y) (listed h xs) p ≡ of.arms_of h xs p
+arms_is h [] p = refl
+arms_is h (x ∷ xs) p = λ j. tree.more_arms (h x p) (arms_is h xs p j)
+
+guard_is : {A : Type 0} (h : A → Place → Expr) (x : Option (Option A)) (p : Place)
+    → of.guard_or_none (of.expr_or_none (λ y. y)) (optional (optional h) x) p ≡ of.guard_or_none (of.expr_or_none h) x p
+guard_is h None p = refl
+guard_is h (Some None) p = refl
+guard_is h (Some (Some x)) p = refl
+
+let_else_is : {A : Type 0} (h : A → BlockReading) (x : Option (Option A)) (p : Place)
+    → of.let_else_or_none (of.plain_or_none (λ y. y)) (optional (optional h) x) p ≡ of.let_else_or_none (of.plain_or_none h) x p
+let_else_is h None p = refl
+let_else_is h (Some None) p = refl
+let_else_is h (Some (Some x)) p = refl
+
 contents_is : {A : Type 0} (h : A → Place → StmtReading) (xs : List A) (t t' : Place → OptionExpr)
     → ((p : Place) → t p ≡ t' p) → (p : Place) → of.contents_of (λ y. y) (listed h xs) t p ≡ of.contents_of h xs t' p
 contents_is h [] t t' e p = λ j. (tree.no_stmts, e p j)
@@ -78,8 +97,8 @@ module _ (env : Answers) where
       tree.if_expr s (expr_is rd.expr c p j) (plain_is rd.block_expr t p j) (expr_is rd.else_branch e p j)
   expr_at_is (ExprKind-F.BlockExpr b) p s = refl
   expr_at_is (ExprKind-F.LoopExpr l b) p s = λ j. tree.loop_expr s (option_map (of.label_of env p) l) (plain_is rd.block_expr b p j)
-  expr_at_is (ExprKind-F.CallExpr f None) p s = λ j. tree.call_expr s (expr_is rd.expr f p j) tree.no_exprs
-  expr_at_is (ExprKind-F.CallExpr f (Some es)) p s = λ j. tree.call_expr s (expr_is rd.expr f p j) (exprs_is rd.expr es p j)
+  expr_at_is (ExprKind-F.CallExpr f None) p s = λ j. tree.call_expr s (expr_is rd.expr f p j) false tree.no_exprs
+  expr_at_is (ExprKind-F.CallExpr f (Some es)) p s = λ j. tree.call_expr s (expr_is rd.expr f p j) true (exprs_is rd.expr es p j)
   expr_at_is (ExprKind-F.PathExpr x) p s = λ j. tree.path_expr s (path_is rd.path x p j) (env.hygiene (of.site_of s))
   expr_at_is (ExprKind-F.ContinueExpr l) p s = refl
   expr_at_is (ExprKind-F.BreakExpr l e) p s = λ j. tree.break_expr s (option_map (of.jump_of env p) l) (expr_is rd.expr e p j)
@@ -87,13 +106,14 @@ module _ (env : Answers) where
   expr_at_is (ExprKind-F.Literal l) p s = refl
   expr_at_is (ExprKind-F.MethodCallExpr e n as' None) p s = λ j.
       tree.method_call_expr s (expr_is rd.expr e p j) (of.name_or_missing n) tree.no_exprs
-      (arg_list_is rd.generic_arg_list as' p j)
+      (arg_list_is rd.generic_arg as' p j)
   expr_at_is (ExprKind-F.MethodCallExpr e n as' (Some es)) p s = λ j.
       tree.method_call_expr s (expr_is rd.expr e p j) (of.name_or_missing n) (exprs_is rd.expr es p j)
-      (arg_list_is rd.generic_arg_list as' p j)
+      (arg_list_is rd.generic_arg as' p j)
   expr_at_is (ExprKind-F.FieldExpr e n) p s = λ j. tree.unary_expr s (tree.field_of (of.name_or_missing n)) (expr_is rd.expr e p j)
   expr_at_is (ExprKind-F.PrefixExpr o e) p s = λ j. of.prefix_expr s o (expr_is rd.expr e p j)
-  expr_at_is (ExprKind-F.BinExpr o a b) p s = λ j. of.bin_expr s o (expr_is rd.expr a p j) (expr_is rd.expr b p j)
+  expr_at_is (ExprKind-F.BinExpr o a b) p s = λ j.
+      of.bin_expr (resolves env p) s o (expr_is rd.expr a p j) (expr_is rd.expr b p j)
   expr_at_is (ExprKind-F.IndexExpr a b) p s = λ j. tree.binary_expr s tree.index_of (expr_is rd.expr a p j) (expr_is rd.expr b p j)
   expr_at_is (ExprKind-F.RefExpr r m e) p s = λ j.
       tree.unary_expr s (tree.reference_to (of.rawness r) (of.mutability m)) (expr_is rd.expr e p j)
@@ -106,9 +126,16 @@ module _ (env : Answers) where
   expr_at_is (ExprKind-F.AwaitExpr e) p s = λ j. tree.await_expr s p.await_location (expr_is rd.expr e p j)
   expr_at_is (ExprKind-F.CastExpr e t) p s = λ j. tree.cast_expr s (expr_is rd.expr e p j) (type_is rd.type_ t p j)
   expr_at_is (ExprKind-F.RecordExpr x l) p s = λ j. let r = record_is rd.field_list l p j in
-      tree.record_expr s (path_is rd.path x p j) r.fields r.spread
+      tree.record_expr s (path_is rd.path x p j) r.head r.fields r.spread
   expr_at_is (ExprKind-F.OffsetOfExpr t ns) p s = λ j. tree.offset_of_expr s (type_is rd.type_ t p j) (of.names_of ns)
   expr_at_is (ExprKind-F.CfgPredExpr pred) p s = refl
+  expr_at_is (ExprKind-F.LetExpr x e) p s = λ j. tree.let_expr s (pat_is rd.pat x p j) (expr_is rd.expr e p j)
+  expr_at_is (ExprKind-F.MatchExpr e None) p s = λ j. tree.match_expr s (expr_is rd.expr e p j) tree.no_arms
+  expr_at_is (ExprKind-F.MatchExpr e (Some xs)) p s = λ j. tree.match_expr s (expr_is rd.expr e p j) (arms_is rd.arm xs p j)
+  expr_at_is (ExprKind-F.RangeExpr o None None) p s = refl
+  expr_at_is (ExprKind-F.RangeExpr o None (Some b)) p s = refl
+  expr_at_is (ExprKind-F.RangeExpr o (Some a) None) p s = refl
+  expr_at_is (ExprKind-F.RangeExpr o (Some a) (Some b)) p s = refl
   expr_at_is ExprKind-F.UnderscoreExpr p s = refl
   expr_at_is ExprKind-F.IncludeBytesExpr p s = refl
   expr_at_is ExprKind-F.AsmExpr p s = refl
@@ -118,10 +145,6 @@ module _ (env : Answers) where
       → of.expr_kind env itself (mapped_kind env k) n p ≡ of.expr_kind env rd k n p
   expr_kind_is k n p = λ j. let s = of.in_file p n in of.asked s (env.cfg (of.site_of s)) (expr_at_is k p s j)
 
-  constant_step_is : (x : ConstArgLayer written) (p : Place)
-      → of.constant_step env itself (mapped_constant env x) p ≡ of.constant_step env rd x p
-  constant_step_is x p = λ j. tree.constant (expr_is rd.expr x.expr (inside_constant p) j)
-
   field_step_is : (x : RecordExprFieldLayer written) (p : Place)
       → of.field_step env itself (mapped_field env x) p ≡ of.field_step env rd x p
   field_step_is x p = λ j. let s = of.in_file p (of.ptr x.id x.range) in
@@ -129,7 +152,15 @@ module _ (env : Answers) where
 
   record_step_is : (x : RecordExprFieldListLayer written) (p : Place)
       → of.record_step env itself (mapped_record env x) p ≡ of.record_step env rd x p
-  record_step_is x p = λ j. record { fields = fields_is rd.field x.fields p j; spread = spread_is rd.expr x.spread x.dotdot p j }
+  record_step_is x p = λ j. record {
+    head = of.list_with x.dotdot;
+    fields = fields_is rd.field x.fields p j;
+    spread = spread_is rd.expr x.spread x.dotdot p j;
+  }
+
+  arm_step_is : (x : MatchArmLayer written) (p : Place) → of.arm_step env itself (mapped_arm env x) p ≡ of.arm_step env rd x p
+  arm_step_is x p = λ j. let s = of.in_file p (of.ptr x.id x.range) in of.asked_arm s (env.cfg (of.site_of s))
+      (tree.arm (pat_is rd.pat x.pat p j) (expr_is rd.expr x.expr p j) (guard_is rd.expr x.guard p j))
 
   block_at_is : (b : BlockExprLayer written) (head : Bool × Option Label) (p : Place)
       → of.block_at env itself (mapped_block env b) head p ≡ of.block_at env rd b head p
@@ -139,10 +170,16 @@ module _ (env : Answers) where
       (of.expr_or_none rd.expr b.tail) (expr_is rd.expr b.tail) (of.inside number p) j in
       tree.block (of.in_file p (of.ptr b.id b.range)) head.0 head.1 (option_map (λ n. n.0) number) c.0 c.1
 
-  stmt_kind_is : (k : StmtKindLayer written) (p : Place) → of.stmt_kind env itself (mapped_stmt_kind env k) p ≡ of.stmt_kind env rd k p
-  stmt_kind_is (StmtKind-F.ExprStmt e semi) p = λ j.
-      record { before = tree.more_stmts (tree.expr_stmt (expr_is rd.expr e p j) semi); place = p }
-  stmt_kind_is StmtKind-F.Item p = refl
+  stmt_at_is : (k : StmtKindLayer written) (p : Place) (s : Pointer)
+      → of.stmt_at env itself (mapped_stmt_kind env k) p s ≡ of.stmt_at env rd k p s
+  stmt_at_is (StmtKind-F.LetStmt x t e b) p s = λ j. of.asked_stmt s (env.cfg (of.site_of s))
+      (tree.let_stmt (pat_is rd.pat x p j) (type_is rd.type_ t p j) (expr_is rd.expr e p j) (let_else_is rd.block_expr b p j))
+  stmt_at_is (StmtKind-F.ExprStmt e semi) p s = λ j. tree.expr_stmt (expr_is rd.expr e p j) semi
+  stmt_at_is StmtKind-F.Item p s = refl
+
+  stmt_kind_is : (k : StmtKindLayer written) (n : AstPtr) (p : Place)
+      → of.stmt_kind env itself (mapped_stmt_kind env k) n p ≡ of.stmt_kind env rd k n p
+  stmt_kind_is k n p = λ j. record { before = tree.more_stmts (stmt_at_is k p (of.in_file p n) j); place = p }
 
   else_is : (k : ElseBranchLayer written) (p : Place) → of.else_branch env itself (mapped_else env k) p ≡ of.else_branch env rd k p
   else_is (ElseBranch-F.ElseBlock b) p = refl
@@ -166,17 +203,17 @@ module _ (env : Answers) where
   read_own_is b p = (λ j. (opened_block env b j).own p)
       ∙ (λ j. tree.block_expr (block_at_is (out-BlockExpr b) (own_head (out-BlockExpr b) p) p j))
 
-  read_stmt_kind_is : (k : AstStmtKind) (p : Place) → read_stmt_kind env k p ≡ of.stmt_kind env rd (out-StmtKind k) p
-  read_stmt_kind_is k p = opened_stmt_kind env k p ∙ stmt_kind_is (out-StmtKind k) p
+  read_stmt_kind_is : (k : AstStmtKind) (n : AstPtr) (p : Place) → read_stmt_kind env k n p ≡ of.stmt_kind env rd (out-StmtKind k) n p
+  read_stmt_kind_is k n p = opened_stmt_kind env k n p ∙ stmt_kind_is (out-StmtKind k) n p
 
-  read_stmt_is : (s : AstStmt) (p : Place) → read_stmt env s p ≡ of.stmt_kind env rd (out-StmtKind s.kind) p
-  read_stmt_is s p = opened_stmt env s p ∙ read_stmt_kind_is s.kind p
+  read_stmt_is : (s : AstStmt) (p : Place) → read_stmt env s p ≡ of.stmt_kind env rd (out-StmtKind s.kind) (of.ptr s.id s.range) p
+  read_stmt_is s p = opened_stmt env s p ∙ read_stmt_kind_is s.kind (of.ptr s.id s.range) p
+
+  read_arm_is : (x : AstMatchArm) (p : Place) → read_arm env x p ≡ of.arm_step env rd (out-MatchArm x) p
+  read_arm_is x p = opened_arm env x p ∙ arm_step_is (out-MatchArm x) p
 
   read_else_is : (e : AstElseBranch) (p : Place) → read_else_branch env e p ≡ of.else_branch env rd (out-ElseBranch e) p
   read_else_is e p = opened_else_branch env e p ∙ else_is (out-ElseBranch e) p
-
-  read_constant_is : (x : AstConstArg) (p : Place) → read_constant env x p ≡ of.constant_step env rd (out-ConstArg x) p
-  read_constant_is x p = opened_constant env x p ∙ constant_step_is (out-ConstArg x) p
 
   read_field_is : (x : AstRecordExprField) (p : Place) → read_field env x p ≡ of.field_step env rd (out-RecordExprField x) p
   read_field_is x p = opened_field env x p ∙ field_step_is (out-RecordExprField x) p
@@ -212,10 +249,19 @@ pub else_is_level : (at : Spot) (e : AstElseBranch) → answered_else at e ≡ e
 else_is_level at e = read_else_is at.answers e at.place
 
 pub constant_is_level : (at : Spot) (x : AstConstArg) → answered_constant at x ≡ constant_level at x
-constant_is_level at x = read_constant_is at.answers x at.place
+constant_is_level at x = refl
 
 pub field_is_level : (at : Spot) (x : AstRecordExprField) → answered_field at x ≡ field_level at x
 field_is_level at x = read_field_is at.answers x at.place
 
 pub record_is_level : (at : Spot) (x : AstRecordExprFieldList) → answered_record at x ≡ record_level at x
 record_is_level at x = read_record_is at.answers x at.place
+
+pub guard_is_level : (at : Spot) (x : AstGuard) → answered_guard at x ≡ guard_level at x
+guard_is_level at x = refl
+
+pub let_else_is_level : (at : Spot) (x : AstLetElse) → answered_let_else at x ≡ let_else_level at x
+let_else_is_level at x = refl
+
+pub arm_is_level : (at : Spot) (x : AstMatchArm) → answered_arm at x ≡ arm_level at x
+arm_is_level at x = read_arm_is at.answers x at.place

@@ -1,28 +1,18 @@
--- What is read of a tree is one step over what is read of its parts.
+-- What is read of an expression or a pattern is one step over what is read of its parts.
 use Rattle.std.proofs.Common.{◌≡◌}
-use Rattle.hir_syntax.specs.declared.node.AstPtr.{AstPtr}
+use Rattle.hir_base.specs.declared.node.AstPtr.{AstPtr}
 use Rattle.hir_syntax.specs.declared.ast.ElseBranch.{ElseBranch as AstElseBranch, out-ElseBranch}
 use Rattle.hir_syntax.specs.declared.ast.ExprKind.{ExprKind as AstExprKind, out-ExprKind}
 use Rattle.hir_syntax.specs.declared.ast.StmtKind.{StmtKind as AstStmtKind, out-StmtKind}
-use Rattle.hir_syntax.specs.declared.types.GenericArg.{GenericArg as AstGenericArg, out-GenericArg}
-use Rattle.hir_syntax.specs.declared.types.TypeKind.{TypeKind as AstTypeKind, out-TypeKind}
+use Rattle.hir_syntax.specs.declared.pats.PatKind.{PatKind as AstPatKind, out-PatKind}
 use Rattle.hir_syntax.specs.declared.ast.BlockExpr.{BlockExpr as AstBlockExpr, out-BlockExpr}
-use Rattle.hir_syntax.specs.declared.ast.ConstArg.{ConstArg as AstConstArg, out-ConstArg}
 use Rattle.hir_syntax.specs.declared.ast.Expr.{Expr as AstExpr}
-use Rattle.hir_syntax.specs.declared.ast.Path.{Path as AstPath, out-Path}
-use Rattle.hir_syntax.specs.declared.ast.PathSegment.{PathSegment as AstPathSegment, out-PathSegment}
 use Rattle.hir_syntax.specs.declared.ast.RecordExprField.{RecordExprField as AstRecordExprField, out-RecordExprField}
 use Rattle.hir_syntax.specs.declared.ast.RecordExprFieldList.{RecordExprFieldList as AstRecordExprFieldList, out-RecordExprFieldList}
 use Rattle.hir_syntax.specs.declared.ast.Stmt.{Stmt as AstStmt}
-use Rattle.hir_syntax.specs.declared.types.AssocTypeArg.{AssocTypeArg as AstAssocTypeArg, out-AssocTypeArg}
-use Rattle.hir_syntax.specs.declared.types.GenericArgList.{GenericArgList as AstGenericArgList, out-GenericArgList}
-use Rattle.hir_syntax.specs.declared.types.Param.{Param as AstParam, out-Param}
-use Rattle.hir_syntax.specs.declared.types.ParenArgs.{ParenArgs as AstParenArgs, out-ParenArgs}
-use Rattle.hir_syntax.specs.declared.types.PathType.{PathType as AstPathType, out-PathType}
-use Rattle.hir_syntax.specs.declared.types.RetType.{RetType as AstRetType, out-RetType}
-use Rattle.hir_syntax.specs.declared.types.TypeArg.{TypeArg as AstTypeArg, out-TypeArg}
-use Rattle.hir_syntax.specs.declared.types.TypeBound.{TypeBound as AstTypeBound, out-TypeBound}
-use Rattle.hir_syntax.specs.declared.types.Type_.{Type_ as AstType_}
+use Rattle.hir_syntax.specs.declared.branches.MatchArm.{MatchArm as AstMatchArm, out-MatchArm}
+use Rattle.hir_syntax.specs.declared.pats.Pat.{Pat as AstPat}
+use Rattle.hir_syntax.specs.declared.pats.RecordPatField.{RecordPatField as AstRecordPatField, out-RecordPatField}
 use Rattle.hir_syntax.specs.declared.ast.ElseBranch.TheFolds as folds
 use Rattle.hir_env.specs.declared.place.Place.{Place}
 use Rattle.hir_env.specs.Answers.{Answers}
@@ -30,403 +20,211 @@ use Rattle.hir_env.specs.Spot.{ptr}
 use Rattle.hir_env.specs.Layers.{readings, itself}
 use Rattle.hir_env.specs.Answering as of
 use Rattle.hir_env.specs.Paths as of_types
-use Rattle.hir_env.specs.Folds.{read_else_branch, read_expr_kind, read_stmt_kind, read_generic_arg, read_type_kind, read_block}
-use Rattle.hir_env.specs.Folds.{read_constant, read_expr, read_path, read_segment, read_field, read_record, read_stmt}
-use Rattle.hir_env.specs.Folds.{read_assoc_type_arg, read_generic_arg_list, read_param, read_paren_args, read_path_type}
-use Rattle.hir_env.specs.Folds.{read_ret_type, read_type_arg, read_type_bound, read_type}
-use Rattle.hir_env.proofs.Mapped.{mapped_else, mapped_kind, mapped_stmt_kind, mapped_generic_arg, mapped_type_kind, mapped_block}
-use Rattle.hir_env.proofs.Mapped.{mapped_constant, mapped_path, mapped_segment, mapped_field, mapped_record}
-use Rattle.hir_env.proofs.Mapped.{mapped_assoc_type_arg, mapped_generic_arg_list, mapped_param, mapped_paren_args}
-use Rattle.hir_env.proofs.Mapped.{mapped_path_type, mapped_ret_type, mapped_type_arg, mapped_type_bound}
+use Rattle.hir_env.specs.Pats as of_pats
+use Rattle.hir_env.specs.Folds.{read_else_branch, read_expr_kind, read_stmt_kind, read_pat_kind, read_generic_arg, read_type_kind}
+use Rattle.hir_env.specs.Folds.{read_block, read_expr, read_path, read_segment, read_field, read_record, read_stmt}
+use Rattle.hir_env.specs.Folds.{read_arm, read_pat, read_pat_field, read_assoc_type_arg}
+use Rattle.hir_env.specs.Folds.{read_param, read_path_type}
+use Rattle.hir_env.specs.Folds.{read_type_bound, read_type}
+use Rattle.hir_env.proofs.Mapped.{mapped_else, mapped_kind, mapped_stmt_kind, mapped_pat_kind, mapped_block}
+use Rattle.hir_env.proofs.Mapped.{mapped_field, mapped_record, mapped_arm, mapped_pat_field}
 
 module _ (env : Answers) where
   pub opened_else_branch : (x : AstElseBranch) (p : Place)
       → read_else_branch env x p ≡ of.else_branch env itself (mapped_else env (out-ElseBranch x)) p
-  unfolding read_else_branch read_expr_kind read_stmt_kind read_generic_arg read_type_kind read_block read_constant read_expr
-      read_path read_segment read_field read_record read_stmt read_assoc_type_arg read_generic_arg_list read_param read_paren_args
-      read_path_type read_ret_type read_type_arg read_type_bound read_type
+  unfolding read_else_branch read_expr_kind read_stmt_kind read_pat_kind read_generic_arg read_type_kind read_block read_expr
+      read_path read_segment read_field read_record read_stmt read_arm read_pat read_pat_field read_assoc_type_arg read_param
+      read_path_type read_type_bound read_type
   opened_else_branch x p = λ j. folds.fold_out-ElseBranch
-      readings.ElseBranch readings.ExprKind readings.StmtKind readings.GenericArg readings.TypeKind readings.BlockExpr
-      readings.ConstArg readings.Expr readings.Path readings.PathSegment readings.RecordExprField readings.RecordExprFieldList
-      readings.Stmt readings.AssocTypeArg readings.GenericArgList readings.Param readings.ParenArgs readings.PathType
-      readings.RetType readings.TypeArg readings.TypeBound readings.Type_
-      (of.else_branch env itself) (of.expr_kind env itself) (of.stmt_kind env itself) (of_types.generic_arg_step env itself)
-      (of_types.type_kind_step env itself) (of.block_step env itself) (of.constant_step env itself) (of.expr_step env itself)
-      (of_types.path_step env itself) (of_types.segment_step env itself) (of.field_step env itself) (of.record_step env itself)
-      (of.stmt_step env itself) (of_types.assoc_type_arg_step env itself) (of_types.generic_arg_list_step env itself)
-      (of_types.param_step env itself) (of_types.paren_args_step env itself) (of_types.path_type_step env itself)
-      (of_types.ret_type_step env itself) (of_types.type_arg_step env itself) (of_types.type_bound_step env itself)
-      (of_types.type_step env itself) x j p
+      readings.ElseBranch readings.ExprKind readings.StmtKind readings.PatKind readings.GenericArg readings.TypeKind
+      readings.BlockExpr readings.Expr readings.Path readings.PathSegment readings.RecordExprField readings.RecordExprFieldList
+      readings.Stmt readings.MatchArm readings.Pat readings.RecordPatField readings.AssocTypeArg readings.Param readings.PathType
+      readings.TypeBound readings.Type_
+      (of.else_branch env itself) (of.expr_kind env itself) (of.stmt_kind env itself) (of_pats.pat_kind_step env itself)
+      (of_types.generic_arg_step env itself) (of_types.type_kind_step env itself) (of.block_step env itself)
+      (of.expr_step env itself) (of_types.path_step env itself) (of_types.segment_step env itself) (of.field_step env itself)
+      (of.record_step env itself) (of.stmt_step env itself) (of.arm_step env itself) (of_pats.pat_step env itself)
+      (of_pats.pat_field_step env itself) (of_types.assoc_type_arg_step env itself) (of_types.param_step env itself)
+      (of_types.path_type_step env itself) (of_types.type_bound_step env itself) (of_types.type_step env itself) x j p
 
   pub opened_expr_kind : (x : AstExprKind) (at : AstPtr) (p : Place)
       → read_expr_kind env x at p ≡ of.expr_kind env itself (mapped_kind env (out-ExprKind x)) at p
-  unfolding read_else_branch read_expr_kind read_stmt_kind read_generic_arg read_type_kind read_block read_constant read_expr
-      read_path read_segment read_field read_record read_stmt read_assoc_type_arg read_generic_arg_list read_param read_paren_args
-      read_path_type read_ret_type read_type_arg read_type_bound read_type
+  unfolding read_else_branch read_expr_kind read_stmt_kind read_pat_kind read_generic_arg read_type_kind read_block read_expr
+      read_path read_segment read_field read_record read_stmt read_arm read_pat read_pat_field read_assoc_type_arg read_param
+      read_path_type read_type_bound read_type
   opened_expr_kind x at p = λ j. folds.fold_out-ExprKind
-      readings.ElseBranch readings.ExprKind readings.StmtKind readings.GenericArg readings.TypeKind readings.BlockExpr
-      readings.ConstArg readings.Expr readings.Path readings.PathSegment readings.RecordExprField readings.RecordExprFieldList
-      readings.Stmt readings.AssocTypeArg readings.GenericArgList readings.Param readings.ParenArgs readings.PathType
-      readings.RetType readings.TypeArg readings.TypeBound readings.Type_
-      (of.else_branch env itself) (of.expr_kind env itself) (of.stmt_kind env itself) (of_types.generic_arg_step env itself)
-      (of_types.type_kind_step env itself) (of.block_step env itself) (of.constant_step env itself) (of.expr_step env itself)
-      (of_types.path_step env itself) (of_types.segment_step env itself) (of.field_step env itself) (of.record_step env itself)
-      (of.stmt_step env itself) (of_types.assoc_type_arg_step env itself) (of_types.generic_arg_list_step env itself)
-      (of_types.param_step env itself) (of_types.paren_args_step env itself) (of_types.path_type_step env itself)
-      (of_types.ret_type_step env itself) (of_types.type_arg_step env itself) (of_types.type_bound_step env itself)
-      (of_types.type_step env itself) x j at p
+      readings.ElseBranch readings.ExprKind readings.StmtKind readings.PatKind readings.GenericArg readings.TypeKind
+      readings.BlockExpr readings.Expr readings.Path readings.PathSegment readings.RecordExprField readings.RecordExprFieldList
+      readings.Stmt readings.MatchArm readings.Pat readings.RecordPatField readings.AssocTypeArg readings.Param readings.PathType
+      readings.TypeBound readings.Type_
+      (of.else_branch env itself) (of.expr_kind env itself) (of.stmt_kind env itself) (of_pats.pat_kind_step env itself)
+      (of_types.generic_arg_step env itself) (of_types.type_kind_step env itself) (of.block_step env itself)
+      (of.expr_step env itself) (of_types.path_step env itself) (of_types.segment_step env itself) (of.field_step env itself)
+      (of.record_step env itself) (of.stmt_step env itself) (of.arm_step env itself) (of_pats.pat_step env itself)
+      (of_pats.pat_field_step env itself) (of_types.assoc_type_arg_step env itself) (of_types.param_step env itself)
+      (of_types.path_type_step env itself) (of_types.type_bound_step env itself) (of_types.type_step env itself) x j at p
 
-  pub opened_stmt_kind : (x : AstStmtKind) (p : Place)
-      → read_stmt_kind env x p ≡ of.stmt_kind env itself (mapped_stmt_kind env (out-StmtKind x)) p
-  unfolding read_else_branch read_expr_kind read_stmt_kind read_generic_arg read_type_kind read_block read_constant read_expr
-      read_path read_segment read_field read_record read_stmt read_assoc_type_arg read_generic_arg_list read_param read_paren_args
-      read_path_type read_ret_type read_type_arg read_type_bound read_type
-  opened_stmt_kind x p = λ j. folds.fold_out-StmtKind
-      readings.ElseBranch readings.ExprKind readings.StmtKind readings.GenericArg readings.TypeKind readings.BlockExpr
-      readings.ConstArg readings.Expr readings.Path readings.PathSegment readings.RecordExprField readings.RecordExprFieldList
-      readings.Stmt readings.AssocTypeArg readings.GenericArgList readings.Param readings.ParenArgs readings.PathType
-      readings.RetType readings.TypeArg readings.TypeBound readings.Type_
-      (of.else_branch env itself) (of.expr_kind env itself) (of.stmt_kind env itself) (of_types.generic_arg_step env itself)
-      (of_types.type_kind_step env itself) (of.block_step env itself) (of.constant_step env itself) (of.expr_step env itself)
-      (of_types.path_step env itself) (of_types.segment_step env itself) (of.field_step env itself) (of.record_step env itself)
-      (of.stmt_step env itself) (of_types.assoc_type_arg_step env itself) (of_types.generic_arg_list_step env itself)
-      (of_types.param_step env itself) (of_types.paren_args_step env itself) (of_types.path_type_step env itself)
-      (of_types.ret_type_step env itself) (of_types.type_arg_step env itself) (of_types.type_bound_step env itself)
-      (of_types.type_step env itself) x j p
+  pub opened_stmt_kind : (x : AstStmtKind) (at : AstPtr) (p : Place)
+      → read_stmt_kind env x at p ≡ of.stmt_kind env itself (mapped_stmt_kind env (out-StmtKind x)) at p
+  unfolding read_else_branch read_expr_kind read_stmt_kind read_pat_kind read_generic_arg read_type_kind read_block read_expr
+      read_path read_segment read_field read_record read_stmt read_arm read_pat read_pat_field read_assoc_type_arg read_param
+      read_path_type read_type_bound read_type
+  opened_stmt_kind x at p = λ j. folds.fold_out-StmtKind
+      readings.ElseBranch readings.ExprKind readings.StmtKind readings.PatKind readings.GenericArg readings.TypeKind
+      readings.BlockExpr readings.Expr readings.Path readings.PathSegment readings.RecordExprField readings.RecordExprFieldList
+      readings.Stmt readings.MatchArm readings.Pat readings.RecordPatField readings.AssocTypeArg readings.Param readings.PathType
+      readings.TypeBound readings.Type_
+      (of.else_branch env itself) (of.expr_kind env itself) (of.stmt_kind env itself) (of_pats.pat_kind_step env itself)
+      (of_types.generic_arg_step env itself) (of_types.type_kind_step env itself) (of.block_step env itself)
+      (of.expr_step env itself) (of_types.path_step env itself) (of_types.segment_step env itself) (of.field_step env itself)
+      (of.record_step env itself) (of.stmt_step env itself) (of.arm_step env itself) (of_pats.pat_step env itself)
+      (of_pats.pat_field_step env itself) (of_types.assoc_type_arg_step env itself) (of_types.param_step env itself)
+      (of_types.path_type_step env itself) (of_types.type_bound_step env itself) (of_types.type_step env itself) x j at p
 
-  pub opened_generic_arg : (x : AstGenericArg) (p : Place)
-      → read_generic_arg env x p ≡ of_types.generic_arg_step env itself (mapped_generic_arg env (out-GenericArg x)) p
-  unfolding read_else_branch read_expr_kind read_stmt_kind read_generic_arg read_type_kind read_block read_constant read_expr
-      read_path read_segment read_field read_record read_stmt read_assoc_type_arg read_generic_arg_list read_param read_paren_args
-      read_path_type read_ret_type read_type_arg read_type_bound read_type
-  opened_generic_arg x p = λ j. folds.fold_out-GenericArg
-      readings.ElseBranch readings.ExprKind readings.StmtKind readings.GenericArg readings.TypeKind readings.BlockExpr
-      readings.ConstArg readings.Expr readings.Path readings.PathSegment readings.RecordExprField readings.RecordExprFieldList
-      readings.Stmt readings.AssocTypeArg readings.GenericArgList readings.Param readings.ParenArgs readings.PathType
-      readings.RetType readings.TypeArg readings.TypeBound readings.Type_
-      (of.else_branch env itself) (of.expr_kind env itself) (of.stmt_kind env itself) (of_types.generic_arg_step env itself)
-      (of_types.type_kind_step env itself) (of.block_step env itself) (of.constant_step env itself) (of.expr_step env itself)
-      (of_types.path_step env itself) (of_types.segment_step env itself) (of.field_step env itself) (of.record_step env itself)
-      (of.stmt_step env itself) (of_types.assoc_type_arg_step env itself) (of_types.generic_arg_list_step env itself)
-      (of_types.param_step env itself) (of_types.paren_args_step env itself) (of_types.path_type_step env itself)
-      (of_types.ret_type_step env itself) (of_types.type_arg_step env itself) (of_types.type_bound_step env itself)
-      (of_types.type_step env itself) x j p
-
-  pub opened_type_kind : (x : AstTypeKind) (at : AstPtr) (p : Place)
-      → read_type_kind env x at p ≡ of_types.type_kind_step env itself (mapped_type_kind env (out-TypeKind x)) at p
-  unfolding read_else_branch read_expr_kind read_stmt_kind read_generic_arg read_type_kind read_block read_constant read_expr
-      read_path read_segment read_field read_record read_stmt read_assoc_type_arg read_generic_arg_list read_param read_paren_args
-      read_path_type read_ret_type read_type_arg read_type_bound read_type
-  opened_type_kind x at p = λ j. folds.fold_out-TypeKind
-      readings.ElseBranch readings.ExprKind readings.StmtKind readings.GenericArg readings.TypeKind readings.BlockExpr
-      readings.ConstArg readings.Expr readings.Path readings.PathSegment readings.RecordExprField readings.RecordExprFieldList
-      readings.Stmt readings.AssocTypeArg readings.GenericArgList readings.Param readings.ParenArgs readings.PathType
-      readings.RetType readings.TypeArg readings.TypeBound readings.Type_
-      (of.else_branch env itself) (of.expr_kind env itself) (of.stmt_kind env itself) (of_types.generic_arg_step env itself)
-      (of_types.type_kind_step env itself) (of.block_step env itself) (of.constant_step env itself) (of.expr_step env itself)
-      (of_types.path_step env itself) (of_types.segment_step env itself) (of.field_step env itself) (of.record_step env itself)
-      (of.stmt_step env itself) (of_types.assoc_type_arg_step env itself) (of_types.generic_arg_list_step env itself)
-      (of_types.param_step env itself) (of_types.paren_args_step env itself) (of_types.path_type_step env itself)
-      (of_types.ret_type_step env itself) (of_types.type_arg_step env itself) (of_types.type_bound_step env itself)
-      (of_types.type_step env itself) x j at p
+  pub opened_pat_kind : (x : AstPatKind) (at : AstPtr) (p : Place)
+      → read_pat_kind env x at p ≡ of_pats.pat_kind_step env itself (mapped_pat_kind env (out-PatKind x)) at p
+  unfolding read_else_branch read_expr_kind read_stmt_kind read_pat_kind read_generic_arg read_type_kind read_block read_expr
+      read_path read_segment read_field read_record read_stmt read_arm read_pat read_pat_field read_assoc_type_arg read_param
+      read_path_type read_type_bound read_type
+  opened_pat_kind x at p = λ j. folds.fold_out-PatKind
+      readings.ElseBranch readings.ExprKind readings.StmtKind readings.PatKind readings.GenericArg readings.TypeKind
+      readings.BlockExpr readings.Expr readings.Path readings.PathSegment readings.RecordExprField readings.RecordExprFieldList
+      readings.Stmt readings.MatchArm readings.Pat readings.RecordPatField readings.AssocTypeArg readings.Param readings.PathType
+      readings.TypeBound readings.Type_
+      (of.else_branch env itself) (of.expr_kind env itself) (of.stmt_kind env itself) (of_pats.pat_kind_step env itself)
+      (of_types.generic_arg_step env itself) (of_types.type_kind_step env itself) (of.block_step env itself)
+      (of.expr_step env itself) (of_types.path_step env itself) (of_types.segment_step env itself) (of.field_step env itself)
+      (of.record_step env itself) (of.stmt_step env itself) (of.arm_step env itself) (of_pats.pat_step env itself)
+      (of_pats.pat_field_step env itself) (of_types.assoc_type_arg_step env itself) (of_types.param_step env itself)
+      (of_types.path_type_step env itself) (of_types.type_bound_step env itself) (of_types.type_step env itself) x j at p
 
   pub opened_block : (x : AstBlockExpr) → read_block env x ≡ of.block_step env itself (mapped_block env (out-BlockExpr x))
-  unfolding read_else_branch read_expr_kind read_stmt_kind read_generic_arg read_type_kind read_block read_constant read_expr
-      read_path read_segment read_field read_record read_stmt read_assoc_type_arg read_generic_arg_list read_param read_paren_args
-      read_path_type read_ret_type read_type_arg read_type_bound read_type
+  unfolding read_else_branch read_expr_kind read_stmt_kind read_pat_kind read_generic_arg read_type_kind read_block read_expr
+      read_path read_segment read_field read_record read_stmt read_arm read_pat read_pat_field read_assoc_type_arg read_param
+      read_path_type read_type_bound read_type
   opened_block x = λ j. folds.fold_out-BlockExpr
-      readings.ElseBranch readings.ExprKind readings.StmtKind readings.GenericArg readings.TypeKind readings.BlockExpr
-      readings.ConstArg readings.Expr readings.Path readings.PathSegment readings.RecordExprField readings.RecordExprFieldList
-      readings.Stmt readings.AssocTypeArg readings.GenericArgList readings.Param readings.ParenArgs readings.PathType
-      readings.RetType readings.TypeArg readings.TypeBound readings.Type_
-      (of.else_branch env itself) (of.expr_kind env itself) (of.stmt_kind env itself) (of_types.generic_arg_step env itself)
-      (of_types.type_kind_step env itself) (of.block_step env itself) (of.constant_step env itself) (of.expr_step env itself)
-      (of_types.path_step env itself) (of_types.segment_step env itself) (of.field_step env itself) (of.record_step env itself)
-      (of.stmt_step env itself) (of_types.assoc_type_arg_step env itself) (of_types.generic_arg_list_step env itself)
-      (of_types.param_step env itself) (of_types.paren_args_step env itself) (of_types.path_type_step env itself)
-      (of_types.ret_type_step env itself) (of_types.type_arg_step env itself) (of_types.type_bound_step env itself)
-      (of_types.type_step env itself) x j
-
-  pub opened_constant : (x : AstConstArg) (p : Place)
-      → read_constant env x p ≡ of.constant_step env itself (mapped_constant env (out-ConstArg x)) p
-  unfolding read_else_branch read_expr_kind read_stmt_kind read_generic_arg read_type_kind read_block read_constant read_expr
-      read_path read_segment read_field read_record read_stmt read_assoc_type_arg read_generic_arg_list read_param read_paren_args
-      read_path_type read_ret_type read_type_arg read_type_bound read_type
-  opened_constant x p = λ j. folds.fold_out-ConstArg
-      readings.ElseBranch readings.ExprKind readings.StmtKind readings.GenericArg readings.TypeKind readings.BlockExpr
-      readings.ConstArg readings.Expr readings.Path readings.PathSegment readings.RecordExprField readings.RecordExprFieldList
-      readings.Stmt readings.AssocTypeArg readings.GenericArgList readings.Param readings.ParenArgs readings.PathType
-      readings.RetType readings.TypeArg readings.TypeBound readings.Type_
-      (of.else_branch env itself) (of.expr_kind env itself) (of.stmt_kind env itself) (of_types.generic_arg_step env itself)
-      (of_types.type_kind_step env itself) (of.block_step env itself) (of.constant_step env itself) (of.expr_step env itself)
-      (of_types.path_step env itself) (of_types.segment_step env itself) (of.field_step env itself) (of.record_step env itself)
-      (of.stmt_step env itself) (of_types.assoc_type_arg_step env itself) (of_types.generic_arg_list_step env itself)
-      (of_types.param_step env itself) (of_types.paren_args_step env itself) (of_types.path_type_step env itself)
-      (of_types.ret_type_step env itself) (of_types.type_arg_step env itself) (of_types.type_bound_step env itself)
-      (of_types.type_step env itself) x j p
+      readings.ElseBranch readings.ExprKind readings.StmtKind readings.PatKind readings.GenericArg readings.TypeKind
+      readings.BlockExpr readings.Expr readings.Path readings.PathSegment readings.RecordExprField readings.RecordExprFieldList
+      readings.Stmt readings.MatchArm readings.Pat readings.RecordPatField readings.AssocTypeArg readings.Param readings.PathType
+      readings.TypeBound readings.Type_
+      (of.else_branch env itself) (of.expr_kind env itself) (of.stmt_kind env itself) (of_pats.pat_kind_step env itself)
+      (of_types.generic_arg_step env itself) (of_types.type_kind_step env itself) (of.block_step env itself)
+      (of.expr_step env itself) (of_types.path_step env itself) (of_types.segment_step env itself) (of.field_step env itself)
+      (of.record_step env itself) (of.stmt_step env itself) (of.arm_step env itself) (of_pats.pat_step env itself)
+      (of_pats.pat_field_step env itself) (of_types.assoc_type_arg_step env itself) (of_types.param_step env itself)
+      (of_types.path_type_step env itself) (of_types.type_bound_step env itself) (of_types.type_step env itself) x j
 
   pub opened_expr : (x : AstExpr) (p : Place) → read_expr env x p ≡ read_expr_kind env x.kind (ptr x.id x.range) p
-  unfolding read_else_branch read_expr_kind read_stmt_kind read_generic_arg read_type_kind read_block read_constant read_expr
-      read_path read_segment read_field read_record read_stmt read_assoc_type_arg read_generic_arg_list read_param read_paren_args
-      read_path_type read_ret_type read_type_arg read_type_bound read_type
+  unfolding read_else_branch read_expr_kind read_stmt_kind read_pat_kind read_generic_arg read_type_kind read_block read_expr
+      read_path read_segment read_field read_record read_stmt read_arm read_pat read_pat_field read_assoc_type_arg read_param
+      read_path_type read_type_bound read_type
   opened_expr x p = λ j. folds.fold_out-Expr
-      readings.ElseBranch readings.ExprKind readings.StmtKind readings.GenericArg readings.TypeKind readings.BlockExpr
-      readings.ConstArg readings.Expr readings.Path readings.PathSegment readings.RecordExprField readings.RecordExprFieldList
-      readings.Stmt readings.AssocTypeArg readings.GenericArgList readings.Param readings.ParenArgs readings.PathType
-      readings.RetType readings.TypeArg readings.TypeBound readings.Type_
-      (of.else_branch env itself) (of.expr_kind env itself) (of.stmt_kind env itself) (of_types.generic_arg_step env itself)
-      (of_types.type_kind_step env itself) (of.block_step env itself) (of.constant_step env itself) (of.expr_step env itself)
-      (of_types.path_step env itself) (of_types.segment_step env itself) (of.field_step env itself) (of.record_step env itself)
-      (of.stmt_step env itself) (of_types.assoc_type_arg_step env itself) (of_types.generic_arg_list_step env itself)
-      (of_types.param_step env itself) (of_types.paren_args_step env itself) (of_types.path_type_step env itself)
-      (of_types.ret_type_step env itself) (of_types.type_arg_step env itself) (of_types.type_bound_step env itself)
-      (of_types.type_step env itself) x j p
-
-  pub opened_path : (x : AstPath) (p : Place) → read_path env x p ≡ of_types.path_step env itself (mapped_path env (out-Path x)) p
-  unfolding read_else_branch read_expr_kind read_stmt_kind read_generic_arg read_type_kind read_block read_constant read_expr
-      read_path read_segment read_field read_record read_stmt read_assoc_type_arg read_generic_arg_list read_param read_paren_args
-      read_path_type read_ret_type read_type_arg read_type_bound read_type
-  opened_path x p = λ j. folds.fold_out-Path
-      readings.ElseBranch readings.ExprKind readings.StmtKind readings.GenericArg readings.TypeKind readings.BlockExpr
-      readings.ConstArg readings.Expr readings.Path readings.PathSegment readings.RecordExprField readings.RecordExprFieldList
-      readings.Stmt readings.AssocTypeArg readings.GenericArgList readings.Param readings.ParenArgs readings.PathType
-      readings.RetType readings.TypeArg readings.TypeBound readings.Type_
-      (of.else_branch env itself) (of.expr_kind env itself) (of.stmt_kind env itself) (of_types.generic_arg_step env itself)
-      (of_types.type_kind_step env itself) (of.block_step env itself) (of.constant_step env itself) (of.expr_step env itself)
-      (of_types.path_step env itself) (of_types.segment_step env itself) (of.field_step env itself) (of.record_step env itself)
-      (of.stmt_step env itself) (of_types.assoc_type_arg_step env itself) (of_types.generic_arg_list_step env itself)
-      (of_types.param_step env itself) (of_types.paren_args_step env itself) (of_types.path_type_step env itself)
-      (of_types.ret_type_step env itself) (of_types.type_arg_step env itself) (of_types.type_bound_step env itself)
-      (of_types.type_step env itself) x j p
-
-  pub opened_segment : (x : AstPathSegment) (p : Place)
-      → read_segment env x p ≡ of_types.segment_step env itself (mapped_segment env (out-PathSegment x)) p
-  unfolding read_else_branch read_expr_kind read_stmt_kind read_generic_arg read_type_kind read_block read_constant read_expr
-      read_path read_segment read_field read_record read_stmt read_assoc_type_arg read_generic_arg_list read_param read_paren_args
-      read_path_type read_ret_type read_type_arg read_type_bound read_type
-  opened_segment x p = λ j. folds.fold_out-PathSegment
-      readings.ElseBranch readings.ExprKind readings.StmtKind readings.GenericArg readings.TypeKind readings.BlockExpr
-      readings.ConstArg readings.Expr readings.Path readings.PathSegment readings.RecordExprField readings.RecordExprFieldList
-      readings.Stmt readings.AssocTypeArg readings.GenericArgList readings.Param readings.ParenArgs readings.PathType
-      readings.RetType readings.TypeArg readings.TypeBound readings.Type_
-      (of.else_branch env itself) (of.expr_kind env itself) (of.stmt_kind env itself) (of_types.generic_arg_step env itself)
-      (of_types.type_kind_step env itself) (of.block_step env itself) (of.constant_step env itself) (of.expr_step env itself)
-      (of_types.path_step env itself) (of_types.segment_step env itself) (of.field_step env itself) (of.record_step env itself)
-      (of.stmt_step env itself) (of_types.assoc_type_arg_step env itself) (of_types.generic_arg_list_step env itself)
-      (of_types.param_step env itself) (of_types.paren_args_step env itself) (of_types.path_type_step env itself)
-      (of_types.ret_type_step env itself) (of_types.type_arg_step env itself) (of_types.type_bound_step env itself)
-      (of_types.type_step env itself) x j p
+      readings.ElseBranch readings.ExprKind readings.StmtKind readings.PatKind readings.GenericArg readings.TypeKind
+      readings.BlockExpr readings.Expr readings.Path readings.PathSegment readings.RecordExprField readings.RecordExprFieldList
+      readings.Stmt readings.MatchArm readings.Pat readings.RecordPatField readings.AssocTypeArg readings.Param readings.PathType
+      readings.TypeBound readings.Type_
+      (of.else_branch env itself) (of.expr_kind env itself) (of.stmt_kind env itself) (of_pats.pat_kind_step env itself)
+      (of_types.generic_arg_step env itself) (of_types.type_kind_step env itself) (of.block_step env itself)
+      (of.expr_step env itself) (of_types.path_step env itself) (of_types.segment_step env itself) (of.field_step env itself)
+      (of.record_step env itself) (of.stmt_step env itself) (of.arm_step env itself) (of_pats.pat_step env itself)
+      (of_pats.pat_field_step env itself) (of_types.assoc_type_arg_step env itself) (of_types.param_step env itself)
+      (of_types.path_type_step env itself) (of_types.type_bound_step env itself) (of_types.type_step env itself) x j p
 
   pub opened_field : (x : AstRecordExprField) (p : Place)
       → read_field env x p ≡ of.field_step env itself (mapped_field env (out-RecordExprField x)) p
-  unfolding read_else_branch read_expr_kind read_stmt_kind read_generic_arg read_type_kind read_block read_constant read_expr
-      read_path read_segment read_field read_record read_stmt read_assoc_type_arg read_generic_arg_list read_param read_paren_args
-      read_path_type read_ret_type read_type_arg read_type_bound read_type
+  unfolding read_else_branch read_expr_kind read_stmt_kind read_pat_kind read_generic_arg read_type_kind read_block read_expr
+      read_path read_segment read_field read_record read_stmt read_arm read_pat read_pat_field read_assoc_type_arg read_param
+      read_path_type read_type_bound read_type
   opened_field x p = λ j. folds.fold_out-RecordExprField
-      readings.ElseBranch readings.ExprKind readings.StmtKind readings.GenericArg readings.TypeKind readings.BlockExpr
-      readings.ConstArg readings.Expr readings.Path readings.PathSegment readings.RecordExprField readings.RecordExprFieldList
-      readings.Stmt readings.AssocTypeArg readings.GenericArgList readings.Param readings.ParenArgs readings.PathType
-      readings.RetType readings.TypeArg readings.TypeBound readings.Type_
-      (of.else_branch env itself) (of.expr_kind env itself) (of.stmt_kind env itself) (of_types.generic_arg_step env itself)
-      (of_types.type_kind_step env itself) (of.block_step env itself) (of.constant_step env itself) (of.expr_step env itself)
-      (of_types.path_step env itself) (of_types.segment_step env itself) (of.field_step env itself) (of.record_step env itself)
-      (of.stmt_step env itself) (of_types.assoc_type_arg_step env itself) (of_types.generic_arg_list_step env itself)
-      (of_types.param_step env itself) (of_types.paren_args_step env itself) (of_types.path_type_step env itself)
-      (of_types.ret_type_step env itself) (of_types.type_arg_step env itself) (of_types.type_bound_step env itself)
-      (of_types.type_step env itself) x j p
+      readings.ElseBranch readings.ExprKind readings.StmtKind readings.PatKind readings.GenericArg readings.TypeKind
+      readings.BlockExpr readings.Expr readings.Path readings.PathSegment readings.RecordExprField readings.RecordExprFieldList
+      readings.Stmt readings.MatchArm readings.Pat readings.RecordPatField readings.AssocTypeArg readings.Param readings.PathType
+      readings.TypeBound readings.Type_
+      (of.else_branch env itself) (of.expr_kind env itself) (of.stmt_kind env itself) (of_pats.pat_kind_step env itself)
+      (of_types.generic_arg_step env itself) (of_types.type_kind_step env itself) (of.block_step env itself)
+      (of.expr_step env itself) (of_types.path_step env itself) (of_types.segment_step env itself) (of.field_step env itself)
+      (of.record_step env itself) (of.stmt_step env itself) (of.arm_step env itself) (of_pats.pat_step env itself)
+      (of_pats.pat_field_step env itself) (of_types.assoc_type_arg_step env itself) (of_types.param_step env itself)
+      (of_types.path_type_step env itself) (of_types.type_bound_step env itself) (of_types.type_step env itself) x j p
 
   pub opened_record : (x : AstRecordExprFieldList) (p : Place)
       → read_record env x p ≡ of.record_step env itself (mapped_record env (out-RecordExprFieldList x)) p
-  unfolding read_else_branch read_expr_kind read_stmt_kind read_generic_arg read_type_kind read_block read_constant read_expr
-      read_path read_segment read_field read_record read_stmt read_assoc_type_arg read_generic_arg_list read_param read_paren_args
-      read_path_type read_ret_type read_type_arg read_type_bound read_type
+  unfolding read_else_branch read_expr_kind read_stmt_kind read_pat_kind read_generic_arg read_type_kind read_block read_expr
+      read_path read_segment read_field read_record read_stmt read_arm read_pat read_pat_field read_assoc_type_arg read_param
+      read_path_type read_type_bound read_type
   opened_record x p = λ j. folds.fold_out-RecordExprFieldList
-      readings.ElseBranch readings.ExprKind readings.StmtKind readings.GenericArg readings.TypeKind readings.BlockExpr
-      readings.ConstArg readings.Expr readings.Path readings.PathSegment readings.RecordExprField readings.RecordExprFieldList
-      readings.Stmt readings.AssocTypeArg readings.GenericArgList readings.Param readings.ParenArgs readings.PathType
-      readings.RetType readings.TypeArg readings.TypeBound readings.Type_
-      (of.else_branch env itself) (of.expr_kind env itself) (of.stmt_kind env itself) (of_types.generic_arg_step env itself)
-      (of_types.type_kind_step env itself) (of.block_step env itself) (of.constant_step env itself) (of.expr_step env itself)
-      (of_types.path_step env itself) (of_types.segment_step env itself) (of.field_step env itself) (of.record_step env itself)
-      (of.stmt_step env itself) (of_types.assoc_type_arg_step env itself) (of_types.generic_arg_list_step env itself)
-      (of_types.param_step env itself) (of_types.paren_args_step env itself) (of_types.path_type_step env itself)
-      (of_types.ret_type_step env itself) (of_types.type_arg_step env itself) (of_types.type_bound_step env itself)
-      (of_types.type_step env itself) x j p
+      readings.ElseBranch readings.ExprKind readings.StmtKind readings.PatKind readings.GenericArg readings.TypeKind
+      readings.BlockExpr readings.Expr readings.Path readings.PathSegment readings.RecordExprField readings.RecordExprFieldList
+      readings.Stmt readings.MatchArm readings.Pat readings.RecordPatField readings.AssocTypeArg readings.Param readings.PathType
+      readings.TypeBound readings.Type_
+      (of.else_branch env itself) (of.expr_kind env itself) (of.stmt_kind env itself) (of_pats.pat_kind_step env itself)
+      (of_types.generic_arg_step env itself) (of_types.type_kind_step env itself) (of.block_step env itself)
+      (of.expr_step env itself) (of_types.path_step env itself) (of_types.segment_step env itself) (of.field_step env itself)
+      (of.record_step env itself) (of.stmt_step env itself) (of.arm_step env itself) (of_pats.pat_step env itself)
+      (of_pats.pat_field_step env itself) (of_types.assoc_type_arg_step env itself) (of_types.param_step env itself)
+      (of_types.path_type_step env itself) (of_types.type_bound_step env itself) (of_types.type_step env itself) x j p
 
-  pub opened_stmt : (x : AstStmt) (p : Place) → read_stmt env x p ≡ read_stmt_kind env x.kind p
-  unfolding read_else_branch read_expr_kind read_stmt_kind read_generic_arg read_type_kind read_block read_constant read_expr
-      read_path read_segment read_field read_record read_stmt read_assoc_type_arg read_generic_arg_list read_param read_paren_args
-      read_path_type read_ret_type read_type_arg read_type_bound read_type
+  pub opened_stmt : (x : AstStmt) (p : Place) → read_stmt env x p ≡ read_stmt_kind env x.kind (ptr x.id x.range) p
+  unfolding read_else_branch read_expr_kind read_stmt_kind read_pat_kind read_generic_arg read_type_kind read_block read_expr
+      read_path read_segment read_field read_record read_stmt read_arm read_pat read_pat_field read_assoc_type_arg read_param
+      read_path_type read_type_bound read_type
   opened_stmt x p = λ j. folds.fold_out-Stmt
-      readings.ElseBranch readings.ExprKind readings.StmtKind readings.GenericArg readings.TypeKind readings.BlockExpr
-      readings.ConstArg readings.Expr readings.Path readings.PathSegment readings.RecordExprField readings.RecordExprFieldList
-      readings.Stmt readings.AssocTypeArg readings.GenericArgList readings.Param readings.ParenArgs readings.PathType
-      readings.RetType readings.TypeArg readings.TypeBound readings.Type_
-      (of.else_branch env itself) (of.expr_kind env itself) (of.stmt_kind env itself) (of_types.generic_arg_step env itself)
-      (of_types.type_kind_step env itself) (of.block_step env itself) (of.constant_step env itself) (of.expr_step env itself)
-      (of_types.path_step env itself) (of_types.segment_step env itself) (of.field_step env itself) (of.record_step env itself)
-      (of.stmt_step env itself) (of_types.assoc_type_arg_step env itself) (of_types.generic_arg_list_step env itself)
-      (of_types.param_step env itself) (of_types.paren_args_step env itself) (of_types.path_type_step env itself)
-      (of_types.ret_type_step env itself) (of_types.type_arg_step env itself) (of_types.type_bound_step env itself)
-      (of_types.type_step env itself) x j p
+      readings.ElseBranch readings.ExprKind readings.StmtKind readings.PatKind readings.GenericArg readings.TypeKind
+      readings.BlockExpr readings.Expr readings.Path readings.PathSegment readings.RecordExprField readings.RecordExprFieldList
+      readings.Stmt readings.MatchArm readings.Pat readings.RecordPatField readings.AssocTypeArg readings.Param readings.PathType
+      readings.TypeBound readings.Type_
+      (of.else_branch env itself) (of.expr_kind env itself) (of.stmt_kind env itself) (of_pats.pat_kind_step env itself)
+      (of_types.generic_arg_step env itself) (of_types.type_kind_step env itself) (of.block_step env itself)
+      (of.expr_step env itself) (of_types.path_step env itself) (of_types.segment_step env itself) (of.field_step env itself)
+      (of.record_step env itself) (of.stmt_step env itself) (of.arm_step env itself) (of_pats.pat_step env itself)
+      (of_pats.pat_field_step env itself) (of_types.assoc_type_arg_step env itself) (of_types.param_step env itself)
+      (of_types.path_type_step env itself) (of_types.type_bound_step env itself) (of_types.type_step env itself) x j p
 
-  pub opened_assoc_type_arg : (x : AstAssocTypeArg) (p : Place)
-      → read_assoc_type_arg env x p ≡ of_types.assoc_type_arg_step env itself (mapped_assoc_type_arg env (out-AssocTypeArg x)) p
-  unfolding read_else_branch read_expr_kind read_stmt_kind read_generic_arg read_type_kind read_block read_constant read_expr
-      read_path read_segment read_field read_record read_stmt read_assoc_type_arg read_generic_arg_list read_param read_paren_args
-      read_path_type read_ret_type read_type_arg read_type_bound read_type
-  opened_assoc_type_arg x p = λ j. folds.fold_out-AssocTypeArg
-      readings.ElseBranch readings.ExprKind readings.StmtKind readings.GenericArg readings.TypeKind readings.BlockExpr
-      readings.ConstArg readings.Expr readings.Path readings.PathSegment readings.RecordExprField readings.RecordExprFieldList
-      readings.Stmt readings.AssocTypeArg readings.GenericArgList readings.Param readings.ParenArgs readings.PathType
-      readings.RetType readings.TypeArg readings.TypeBound readings.Type_
-      (of.else_branch env itself) (of.expr_kind env itself) (of.stmt_kind env itself) (of_types.generic_arg_step env itself)
-      (of_types.type_kind_step env itself) (of.block_step env itself) (of.constant_step env itself) (of.expr_step env itself)
-      (of_types.path_step env itself) (of_types.segment_step env itself) (of.field_step env itself) (of.record_step env itself)
-      (of.stmt_step env itself) (of_types.assoc_type_arg_step env itself) (of_types.generic_arg_list_step env itself)
-      (of_types.param_step env itself) (of_types.paren_args_step env itself) (of_types.path_type_step env itself)
-      (of_types.ret_type_step env itself) (of_types.type_arg_step env itself) (of_types.type_bound_step env itself)
-      (of_types.type_step env itself) x j p
+  pub opened_arm : (x : AstMatchArm) (p : Place) → read_arm env x p ≡ of.arm_step env itself (mapped_arm env (out-MatchArm x)) p
+  unfolding read_else_branch read_expr_kind read_stmt_kind read_pat_kind read_generic_arg read_type_kind read_block read_expr
+      read_path read_segment read_field read_record read_stmt read_arm read_pat read_pat_field read_assoc_type_arg read_param
+      read_path_type read_type_bound read_type
+  opened_arm x p = λ j. folds.fold_out-MatchArm
+      readings.ElseBranch readings.ExprKind readings.StmtKind readings.PatKind readings.GenericArg readings.TypeKind
+      readings.BlockExpr readings.Expr readings.Path readings.PathSegment readings.RecordExprField readings.RecordExprFieldList
+      readings.Stmt readings.MatchArm readings.Pat readings.RecordPatField readings.AssocTypeArg readings.Param readings.PathType
+      readings.TypeBound readings.Type_
+      (of.else_branch env itself) (of.expr_kind env itself) (of.stmt_kind env itself) (of_pats.pat_kind_step env itself)
+      (of_types.generic_arg_step env itself) (of_types.type_kind_step env itself) (of.block_step env itself)
+      (of.expr_step env itself) (of_types.path_step env itself) (of_types.segment_step env itself) (of.field_step env itself)
+      (of.record_step env itself) (of.stmt_step env itself) (of.arm_step env itself) (of_pats.pat_step env itself)
+      (of_pats.pat_field_step env itself) (of_types.assoc_type_arg_step env itself) (of_types.param_step env itself)
+      (of_types.path_type_step env itself) (of_types.type_bound_step env itself) (of_types.type_step env itself) x j p
 
-  pub opened_generic_arg_list : (x : AstGenericArgList) (p : Place)
-      → read_generic_arg_list env x p ≡ of_types.generic_arg_list_step env itself (mapped_generic_arg_list env (out-GenericArgList x)) p
-  unfolding read_else_branch read_expr_kind read_stmt_kind read_generic_arg read_type_kind read_block read_constant read_expr
-      read_path read_segment read_field read_record read_stmt read_assoc_type_arg read_generic_arg_list read_param read_paren_args
-      read_path_type read_ret_type read_type_arg read_type_bound read_type
-  opened_generic_arg_list x p = λ j. folds.fold_out-GenericArgList
-      readings.ElseBranch readings.ExprKind readings.StmtKind readings.GenericArg readings.TypeKind readings.BlockExpr
-      readings.ConstArg readings.Expr readings.Path readings.PathSegment readings.RecordExprField readings.RecordExprFieldList
-      readings.Stmt readings.AssocTypeArg readings.GenericArgList readings.Param readings.ParenArgs readings.PathType
-      readings.RetType readings.TypeArg readings.TypeBound readings.Type_
-      (of.else_branch env itself) (of.expr_kind env itself) (of.stmt_kind env itself) (of_types.generic_arg_step env itself)
-      (of_types.type_kind_step env itself) (of.block_step env itself) (of.constant_step env itself) (of.expr_step env itself)
-      (of_types.path_step env itself) (of_types.segment_step env itself) (of.field_step env itself) (of.record_step env itself)
-      (of.stmt_step env itself) (of_types.assoc_type_arg_step env itself) (of_types.generic_arg_list_step env itself)
-      (of_types.param_step env itself) (of_types.paren_args_step env itself) (of_types.path_type_step env itself)
-      (of_types.ret_type_step env itself) (of_types.type_arg_step env itself) (of_types.type_bound_step env itself)
-      (of_types.type_step env itself) x j p
+  pub opened_pat : (x : AstPat) (p : Place) → read_pat env x p ≡ read_pat_kind env x.kind (ptr x.id x.range) p
+  unfolding read_else_branch read_expr_kind read_stmt_kind read_pat_kind read_generic_arg read_type_kind read_block read_expr
+      read_path read_segment read_field read_record read_stmt read_arm read_pat read_pat_field read_assoc_type_arg read_param
+      read_path_type read_type_bound read_type
+  opened_pat x p = λ j. folds.fold_out-Pat
+      readings.ElseBranch readings.ExprKind readings.StmtKind readings.PatKind readings.GenericArg readings.TypeKind
+      readings.BlockExpr readings.Expr readings.Path readings.PathSegment readings.RecordExprField readings.RecordExprFieldList
+      readings.Stmt readings.MatchArm readings.Pat readings.RecordPatField readings.AssocTypeArg readings.Param readings.PathType
+      readings.TypeBound readings.Type_
+      (of.else_branch env itself) (of.expr_kind env itself) (of.stmt_kind env itself) (of_pats.pat_kind_step env itself)
+      (of_types.generic_arg_step env itself) (of_types.type_kind_step env itself) (of.block_step env itself)
+      (of.expr_step env itself) (of_types.path_step env itself) (of_types.segment_step env itself) (of.field_step env itself)
+      (of.record_step env itself) (of.stmt_step env itself) (of.arm_step env itself) (of_pats.pat_step env itself)
+      (of_pats.pat_field_step env itself) (of_types.assoc_type_arg_step env itself) (of_types.param_step env itself)
+      (of_types.path_type_step env itself) (of_types.type_bound_step env itself) (of_types.type_step env itself) x j p
 
-  pub opened_param : (x : AstParam) (p : Place)
-      → read_param env x p ≡ of_types.param_step env itself (mapped_param env (out-Param x)) p
-  unfolding read_else_branch read_expr_kind read_stmt_kind read_generic_arg read_type_kind read_block read_constant read_expr
-      read_path read_segment read_field read_record read_stmt read_assoc_type_arg read_generic_arg_list read_param read_paren_args
-      read_path_type read_ret_type read_type_arg read_type_bound read_type
-  opened_param x p = λ j. folds.fold_out-Param
-      readings.ElseBranch readings.ExprKind readings.StmtKind readings.GenericArg readings.TypeKind readings.BlockExpr
-      readings.ConstArg readings.Expr readings.Path readings.PathSegment readings.RecordExprField readings.RecordExprFieldList
-      readings.Stmt readings.AssocTypeArg readings.GenericArgList readings.Param readings.ParenArgs readings.PathType
-      readings.RetType readings.TypeArg readings.TypeBound readings.Type_
-      (of.else_branch env itself) (of.expr_kind env itself) (of.stmt_kind env itself) (of_types.generic_arg_step env itself)
-      (of_types.type_kind_step env itself) (of.block_step env itself) (of.constant_step env itself) (of.expr_step env itself)
-      (of_types.path_step env itself) (of_types.segment_step env itself) (of.field_step env itself) (of.record_step env itself)
-      (of.stmt_step env itself) (of_types.assoc_type_arg_step env itself) (of_types.generic_arg_list_step env itself)
-      (of_types.param_step env itself) (of_types.paren_args_step env itself) (of_types.path_type_step env itself)
-      (of_types.ret_type_step env itself) (of_types.type_arg_step env itself) (of_types.type_bound_step env itself)
-      (of_types.type_step env itself) x j p
-
-  pub opened_paren_args : (x : AstParenArgs) (p : Place)
-      → read_paren_args env x p ≡ of_types.paren_args_step env itself (mapped_paren_args env (out-ParenArgs x)) p
-  unfolding read_else_branch read_expr_kind read_stmt_kind read_generic_arg read_type_kind read_block read_constant read_expr
-      read_path read_segment read_field read_record read_stmt read_assoc_type_arg read_generic_arg_list read_param read_paren_args
-      read_path_type read_ret_type read_type_arg read_type_bound read_type
-  opened_paren_args x p = λ j. folds.fold_out-ParenArgs
-      readings.ElseBranch readings.ExprKind readings.StmtKind readings.GenericArg readings.TypeKind readings.BlockExpr
-      readings.ConstArg readings.Expr readings.Path readings.PathSegment readings.RecordExprField readings.RecordExprFieldList
-      readings.Stmt readings.AssocTypeArg readings.GenericArgList readings.Param readings.ParenArgs readings.PathType
-      readings.RetType readings.TypeArg readings.TypeBound readings.Type_
-      (of.else_branch env itself) (of.expr_kind env itself) (of.stmt_kind env itself) (of_types.generic_arg_step env itself)
-      (of_types.type_kind_step env itself) (of.block_step env itself) (of.constant_step env itself) (of.expr_step env itself)
-      (of_types.path_step env itself) (of_types.segment_step env itself) (of.field_step env itself) (of.record_step env itself)
-      (of.stmt_step env itself) (of_types.assoc_type_arg_step env itself) (of_types.generic_arg_list_step env itself)
-      (of_types.param_step env itself) (of_types.paren_args_step env itself) (of_types.path_type_step env itself)
-      (of_types.ret_type_step env itself) (of_types.type_arg_step env itself) (of_types.type_bound_step env itself)
-      (of_types.type_step env itself) x j p
-
-  pub opened_path_type : (x : AstPathType) (p : Place)
-      → read_path_type env x p ≡ of_types.path_type_step env itself (mapped_path_type env (out-PathType x)) p
-  unfolding read_else_branch read_expr_kind read_stmt_kind read_generic_arg read_type_kind read_block read_constant read_expr
-      read_path read_segment read_field read_record read_stmt read_assoc_type_arg read_generic_arg_list read_param read_paren_args
-      read_path_type read_ret_type read_type_arg read_type_bound read_type
-  opened_path_type x p = λ j. folds.fold_out-PathType
-      readings.ElseBranch readings.ExprKind readings.StmtKind readings.GenericArg readings.TypeKind readings.BlockExpr
-      readings.ConstArg readings.Expr readings.Path readings.PathSegment readings.RecordExprField readings.RecordExprFieldList
-      readings.Stmt readings.AssocTypeArg readings.GenericArgList readings.Param readings.ParenArgs readings.PathType
-      readings.RetType readings.TypeArg readings.TypeBound readings.Type_
-      (of.else_branch env itself) (of.expr_kind env itself) (of.stmt_kind env itself) (of_types.generic_arg_step env itself)
-      (of_types.type_kind_step env itself) (of.block_step env itself) (of.constant_step env itself) (of.expr_step env itself)
-      (of_types.path_step env itself) (of_types.segment_step env itself) (of.field_step env itself) (of.record_step env itself)
-      (of.stmt_step env itself) (of_types.assoc_type_arg_step env itself) (of_types.generic_arg_list_step env itself)
-      (of_types.param_step env itself) (of_types.paren_args_step env itself) (of_types.path_type_step env itself)
-      (of_types.ret_type_step env itself) (of_types.type_arg_step env itself) (of_types.type_bound_step env itself)
-      (of_types.type_step env itself) x j p
-
-  pub opened_ret_type : (x : AstRetType) (p : Place)
-      → read_ret_type env x p ≡ of_types.ret_type_step env itself (mapped_ret_type env (out-RetType x)) p
-  unfolding read_else_branch read_expr_kind read_stmt_kind read_generic_arg read_type_kind read_block read_constant read_expr
-      read_path read_segment read_field read_record read_stmt read_assoc_type_arg read_generic_arg_list read_param read_paren_args
-      read_path_type read_ret_type read_type_arg read_type_bound read_type
-  opened_ret_type x p = λ j. folds.fold_out-RetType
-      readings.ElseBranch readings.ExprKind readings.StmtKind readings.GenericArg readings.TypeKind readings.BlockExpr
-      readings.ConstArg readings.Expr readings.Path readings.PathSegment readings.RecordExprField readings.RecordExprFieldList
-      readings.Stmt readings.AssocTypeArg readings.GenericArgList readings.Param readings.ParenArgs readings.PathType
-      readings.RetType readings.TypeArg readings.TypeBound readings.Type_
-      (of.else_branch env itself) (of.expr_kind env itself) (of.stmt_kind env itself) (of_types.generic_arg_step env itself)
-      (of_types.type_kind_step env itself) (of.block_step env itself) (of.constant_step env itself) (of.expr_step env itself)
-      (of_types.path_step env itself) (of_types.segment_step env itself) (of.field_step env itself) (of.record_step env itself)
-      (of.stmt_step env itself) (of_types.assoc_type_arg_step env itself) (of_types.generic_arg_list_step env itself)
-      (of_types.param_step env itself) (of_types.paren_args_step env itself) (of_types.path_type_step env itself)
-      (of_types.ret_type_step env itself) (of_types.type_arg_step env itself) (of_types.type_bound_step env itself)
-      (of_types.type_step env itself) x j p
-
-  pub opened_type_arg : (x : AstTypeArg) (p : Place)
-      → read_type_arg env x p ≡ of_types.type_arg_step env itself (mapped_type_arg env (out-TypeArg x)) p
-  unfolding read_else_branch read_expr_kind read_stmt_kind read_generic_arg read_type_kind read_block read_constant read_expr
-      read_path read_segment read_field read_record read_stmt read_assoc_type_arg read_generic_arg_list read_param read_paren_args
-      read_path_type read_ret_type read_type_arg read_type_bound read_type
-  opened_type_arg x p = λ j. folds.fold_out-TypeArg
-      readings.ElseBranch readings.ExprKind readings.StmtKind readings.GenericArg readings.TypeKind readings.BlockExpr
-      readings.ConstArg readings.Expr readings.Path readings.PathSegment readings.RecordExprField readings.RecordExprFieldList
-      readings.Stmt readings.AssocTypeArg readings.GenericArgList readings.Param readings.ParenArgs readings.PathType
-      readings.RetType readings.TypeArg readings.TypeBound readings.Type_
-      (of.else_branch env itself) (of.expr_kind env itself) (of.stmt_kind env itself) (of_types.generic_arg_step env itself)
-      (of_types.type_kind_step env itself) (of.block_step env itself) (of.constant_step env itself) (of.expr_step env itself)
-      (of_types.path_step env itself) (of_types.segment_step env itself) (of.field_step env itself) (of.record_step env itself)
-      (of.stmt_step env itself) (of_types.assoc_type_arg_step env itself) (of_types.generic_arg_list_step env itself)
-      (of_types.param_step env itself) (of_types.paren_args_step env itself) (of_types.path_type_step env itself)
-      (of_types.ret_type_step env itself) (of_types.type_arg_step env itself) (of_types.type_bound_step env itself)
-      (of_types.type_step env itself) x j p
-
-  pub opened_type_bound : (x : AstTypeBound) (p : Place)
-      → read_type_bound env x p ≡ of_types.type_bound_step env itself (mapped_type_bound env (out-TypeBound x)) p
-  unfolding read_else_branch read_expr_kind read_stmt_kind read_generic_arg read_type_kind read_block read_constant read_expr
-      read_path read_segment read_field read_record read_stmt read_assoc_type_arg read_generic_arg_list read_param read_paren_args
-      read_path_type read_ret_type read_type_arg read_type_bound read_type
-  opened_type_bound x p = λ j. folds.fold_out-TypeBound
-      readings.ElseBranch readings.ExprKind readings.StmtKind readings.GenericArg readings.TypeKind readings.BlockExpr
-      readings.ConstArg readings.Expr readings.Path readings.PathSegment readings.RecordExprField readings.RecordExprFieldList
-      readings.Stmt readings.AssocTypeArg readings.GenericArgList readings.Param readings.ParenArgs readings.PathType
-      readings.RetType readings.TypeArg readings.TypeBound readings.Type_
-      (of.else_branch env itself) (of.expr_kind env itself) (of.stmt_kind env itself) (of_types.generic_arg_step env itself)
-      (of_types.type_kind_step env itself) (of.block_step env itself) (of.constant_step env itself) (of.expr_step env itself)
-      (of_types.path_step env itself) (of_types.segment_step env itself) (of.field_step env itself) (of.record_step env itself)
-      (of.stmt_step env itself) (of_types.assoc_type_arg_step env itself) (of_types.generic_arg_list_step env itself)
-      (of_types.param_step env itself) (of_types.paren_args_step env itself) (of_types.path_type_step env itself)
-      (of_types.ret_type_step env itself) (of_types.type_arg_step env itself) (of_types.type_bound_step env itself)
-      (of_types.type_step env itself) x j p
-
-  pub opened_type : (x : AstType_) (p : Place) → read_type env x p ≡ read_type_kind env x.kind (ptr x.id x.range) p
-  unfolding read_else_branch read_expr_kind read_stmt_kind read_generic_arg read_type_kind read_block read_constant read_expr
-      read_path read_segment read_field read_record read_stmt read_assoc_type_arg read_generic_arg_list read_param read_paren_args
-      read_path_type read_ret_type read_type_arg read_type_bound read_type
-  opened_type x p = λ j. folds.fold_out-Type_
-      readings.ElseBranch readings.ExprKind readings.StmtKind readings.GenericArg readings.TypeKind readings.BlockExpr
-      readings.ConstArg readings.Expr readings.Path readings.PathSegment readings.RecordExprField readings.RecordExprFieldList
-      readings.Stmt readings.AssocTypeArg readings.GenericArgList readings.Param readings.ParenArgs readings.PathType
-      readings.RetType readings.TypeArg readings.TypeBound readings.Type_
-      (of.else_branch env itself) (of.expr_kind env itself) (of.stmt_kind env itself) (of_types.generic_arg_step env itself)
-      (of_types.type_kind_step env itself) (of.block_step env itself) (of.constant_step env itself) (of.expr_step env itself)
-      (of_types.path_step env itself) (of_types.segment_step env itself) (of.field_step env itself) (of.record_step env itself)
-      (of.stmt_step env itself) (of_types.assoc_type_arg_step env itself) (of_types.generic_arg_list_step env itself)
-      (of_types.param_step env itself) (of_types.paren_args_step env itself) (of_types.path_type_step env itself)
-      (of_types.ret_type_step env itself) (of_types.type_arg_step env itself) (of_types.type_bound_step env itself)
-      (of_types.type_step env itself) x j p
+  pub opened_pat_field : (x : AstRecordPatField) (p : Place)
+      → read_pat_field env x p ≡ of_pats.pat_field_step env itself (mapped_pat_field env (out-RecordPatField x)) p
+  unfolding read_else_branch read_expr_kind read_stmt_kind read_pat_kind read_generic_arg read_type_kind read_block read_expr
+      read_path read_segment read_field read_record read_stmt read_arm read_pat read_pat_field read_assoc_type_arg read_param
+      read_path_type read_type_bound read_type
+  opened_pat_field x p = λ j. folds.fold_out-RecordPatField
+      readings.ElseBranch readings.ExprKind readings.StmtKind readings.PatKind readings.GenericArg readings.TypeKind
+      readings.BlockExpr readings.Expr readings.Path readings.PathSegment readings.RecordExprField readings.RecordExprFieldList
+      readings.Stmt readings.MatchArm readings.Pat readings.RecordPatField readings.AssocTypeArg readings.Param readings.PathType
+      readings.TypeBound readings.Type_
+      (of.else_branch env itself) (of.expr_kind env itself) (of.stmt_kind env itself) (of_pats.pat_kind_step env itself)
+      (of_types.generic_arg_step env itself) (of_types.type_kind_step env itself) (of.block_step env itself)
+      (of.expr_step env itself) (of_types.path_step env itself) (of_types.segment_step env itself) (of.field_step env itself)
+      (of.record_step env itself) (of.stmt_step env itself) (of.arm_step env itself) (of_pats.pat_step env itself)
+      (of_pats.pat_field_step env itself) (of_types.assoc_type_arg_step env itself) (of_types.param_step env itself)
+      (of_types.path_type_step env itself) (of_types.type_bound_step env itself) (of_types.type_step env itself) x j p

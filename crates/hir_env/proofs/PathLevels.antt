@@ -1,41 +1,39 @@
 -- An answered type, path, argument or bound is one level of it around its answered parts.
 use Rattle.std.proofs.Common.{◌≡◌, ◌∙◌, refl, Bool, false, Option, Some, None, List, [], ◌∷◌}
 use Rattle.std.specs.Prelude.{option_map, map, if◌then◌else◌}
-use Rattle.hir_syntax.specs.declared.node.AstPtr.{AstPtr}
+use Rattle.hir_base.specs.declared.node.AstPtr.{AstPtr}
 use Rattle.hir_syntax.specs.declared.types.GenericArg.{GenericArg as AstGenericArg, out-GenericArg}
 use Rattle.hir_syntax.specs.declared.types.TypeKind.{TypeKind as AstTypeKind, out-TypeKind}
 use Rattle.hir_syntax.specs.declared.ast.Path.{Path as AstPath, out-Path}
 use Rattle.hir_syntax.specs.declared.ast.PathSegment.{PathSegment as AstPathSegment, out-PathSegment}
 use Rattle.hir_syntax.specs.declared.types.AssocTypeArg.{AssocTypeArg as AstAssocTypeArg, out-AssocTypeArg}
-use Rattle.hir_syntax.specs.declared.types.GenericArgList.{GenericArgList as AstGenericArgList, out-GenericArgList}
 use Rattle.hir_syntax.specs.declared.types.Param.{Param as AstParam, out-Param}
-use Rattle.hir_syntax.specs.declared.types.ParenArgs.{ParenArgs as AstParenArgs, out-ParenArgs}
 use Rattle.hir_syntax.specs.declared.types.PathType.{PathType as AstPathType, out-PathType}
-use Rattle.hir_syntax.specs.declared.types.RetType.{RetType as AstRetType, out-RetType}
-use Rattle.hir_syntax.specs.declared.types.TypeArg.{TypeArg as AstTypeArg, out-TypeArg}
 use Rattle.hir_syntax.specs.declared.types.TypeBound.{TypeBound as AstTypeBound, out-TypeBound}
 use Rattle.hir_syntax.specs.declared.types.Type_.{Type_ as AstType_}
 use Rattle.hir_syntax.specs.declared.ast.ElseBranch.TheOpen.{GenericArg-F, TypeKind-F}
 use Rattle.hir_store.specs.Pointers.{Pointer}
 use Rattle.hir_env.specs.declared.place.Place.{Place}
 use Rattle.hir_env.specs.Answers.{Answers}
+use Rattle.hir_env.specs.Wrapped.{AstGenericArgList, AstParenArgs, AstRetType, AstTypeArg}
 use Rattle.hir_env.specs.Spot.{Spot, in_file, ptr}
 use Rattle.hir_env.specs.Layers.{Reader, itself}
 use Rattle.hir_env.specs.TypeLayers.{ParamReading, PathTypeReading, GenericArgLayer, TypeKindLayer, PathLayer, PathSegmentLayer}
-use Rattle.hir_env.specs.TypeLayers.{AssocTypeArgLayer, GenericArgListLayer, ParamLayer, ParenArgsLayer, PathTypeLayer}
-use Rattle.hir_env.specs.TypeLayers.{RetTypeLayer, TypeArgLayer, TypeBoundLayer}
+use Rattle.hir_env.specs.TypeLayers.{AssocTypeArgLayer, ParamLayer, PathTypeLayer}
+use Rattle.hir_env.specs.TypeLayers.{TypeBoundLayer}
 use Rattle.hir_env.specs.Paths as of
 use Rattle.hir_env.specs.Folds.{written, reader, read_generic_arg, read_type_kind, read_path, read_segment, read_assoc_type_arg}
-use Rattle.hir_env.specs.Folds.{read_generic_arg_list, read_param, read_paren_args, read_path_type, read_ret_type, read_type_arg}
+use Rattle.hir_env.specs.Folds.{read_param, read_path_type}
 use Rattle.hir_env.specs.Folds.{read_type_bound, read_type}
 use Rattle.hir_env.proofs.Mapped.{optional, listed, listed_options, mapped_generic_arg, mapped_type_kind, mapped_path}
-use Rattle.hir_env.proofs.Mapped.{mapped_segment, mapped_assoc_type_arg, mapped_generic_arg_list, mapped_param, mapped_paren_args}
-use Rattle.hir_env.proofs.Mapped.{mapped_path_type, mapped_ret_type, mapped_type_arg, mapped_type_bound}
-use Rattle.hir_env.proofs.Opened.{opened_generic_arg, opened_type_kind, opened_path, opened_segment, opened_assoc_type_arg}
-use Rattle.hir_env.proofs.Opened.{opened_generic_arg_list, opened_param, opened_paren_args, opened_path_type, opened_ret_type}
-use Rattle.hir_env.proofs.Opened.{opened_type_arg, opened_type_bound, opened_type}
+use Rattle.hir_env.proofs.Mapped.{mapped_segment, mapped_assoc_type_arg, mapped_param}
+use Rattle.hir_env.proofs.Mapped.{mapped_path_type, mapped_type_bound}
+use Rattle.hir_env.proofs.OpenedTypes.{opened_generic_arg, opened_type_kind, opened_path, opened_segment, opened_assoc_type_arg}
+use Rattle.hir_env.proofs.OpenedTypes.{opened_param, opened_path_type}
+use Rattle.hir_env.proofs.OpenedTypes.{opened_type_bound, opened_type}
 use Rattle.hir_env.specs.Answered as tree
-use Rattle.hir_env.specs.Answered.{Type_, OptionType, Parts, Path, Segment, OptionRet, Args, Arg, Bound, Constant}
+use Rattle.hir_env.specs.Answered.{Expr, Type_, OptionType, Parts, Path, Segment, OptionRet, Args, Arg, Bound, Constant, Pat}
+use Rattle.hir_env.specs.TypePats.{type_pat_or_none, name_given}
 use Rattle.hir_env.specs.Whole.{answered_type, answered_param, answered_ret, answered_path, answered_segment, answered_path_type}
 use Rattle.hir_env.specs.Whole.{answered_paren_args, answered_arg_list, answered_arg, answered_type_arg, answered_assoc_arg}
 use Rattle.hir_env.specs.Whole.{answered_bound, type_level, param_level, ret_level, path_level, segment_level, path_type_level}
@@ -53,49 +51,60 @@ pub path_is : {A : Type 0} (h : A → Place → Path) (x : Option A) (p : Place)
 path_is h None p = refl
 path_is h (Some x) p = refl
 
+pub pat_is : {A : Type 0} (h : A → Place → Pat) (x : Option A) (p : Place)
+    → of.pat_or_none (λ y. y) (optional h x) p ≡ of.pat_or_none h x p
+pat_is h None p = refl
+pat_is h (Some x) p = refl
+
 path_type_is : {A : Type 0} (h : A → Place → PathTypeReading) (x : Option A) (p : Place)
     → of.path_type_or_none (λ y. y) (optional h x) p ≡ of.path_type_or_none h x p
 path_type_is h None p = refl
 path_type_is h (Some x) p = refl
 
-answer_is : {A : Type 0} (h : A → Place → OptionType) (x : Option A) (p : Place)
-    → of.answer_or_none (λ y. y) (optional h x) p ≡ of.answer_or_none h x p
+answer_is : {A : Type 0} (h : A → Place → Type_) (x : Option (Option A)) (p : Place)
+    → of.answer_or_none (of.type_or_none (λ y. y)) (optional (optional h) x) p ≡ of.answer_or_none (of.type_or_none h) x p
 answer_is h None p = refl
-answer_is h (Some x) p = refl
+answer_is h (Some None) p = refl
+answer_is h (Some (Some x)) p = refl
 
-ret_is : {A : Type 0} (h : A → Place → OptionType) (x : Option A) (p : Place)
-    → of.ret_or_none (λ y. y) (optional h x) p ≡ of.ret_or_none h x p
+ret_is : {A : Type 0} (h : A → Place → Type_) (x : Option (Option A)) (p : Place)
+    → of.ret_or_none (of.type_or_none (λ y. y)) (optional (optional h) x) p ≡ of.ret_or_none (of.type_or_none h) x p
 ret_is h None p = refl
-ret_is h (Some x) p = refl
+ret_is h (Some None) p = refl
+ret_is h (Some (Some x)) p = refl
 
-pub arg_list_is : {A : Type 0} (h : A → Place → Args) (x : Option A) (p : Place)
-    → of.arg_list_or_none (λ y. y) (optional h x) p ≡ of.arg_list_or_none h x p
-arg_list_is h None p = refl
-arg_list_is h (Some x) p = refl
-
-parens_is : {A : Type 0} (h : A → Place → Parts) (x : Option A) (r : OptionRet) (p : Place)
-    → of.parens_or_none (λ y. y) (optional h x) r p ≡ of.parens_or_none h x r p
-parens_is h None r p = refl
-parens_is h (Some x) r p = refl
-
-constant_is : {A : Type 0} (h : A → Place → Constant) (x : Option A) (p : Place)
-    → of.constant_or_absent (λ y. y) (optional h x) p ≡ of.constant_or_absent h x p
+constant_is : {A : Type 0} (h : A → Place → Expr) (x : Option (Option A)) (p : Place)
+    → of.constant_or_absent (λ y q. tree.constant (of.expr_or_none (λ z. z) y (of.inside_constant q))) (optional (optional h) x) p
+    ≡ of.constant_or_absent (λ y q. tree.constant (of.expr_or_none h y (of.inside_constant q))) x p
 constant_is h None p = refl
-constant_is h (Some x) p = refl
+constant_is h (Some None) p = refl
+constant_is h (Some (Some x)) p = refl
 
 types_is : {A : Type 0} (h : A → Place → Type_) (xs : List A) (p : Place) → of.types_of (λ y. y) (listed h xs) p ≡ of.types_of h xs p
 types_is h [] p = refl
 types_is h (x ∷ xs) p = λ j. tree.more_parts (tree.some_type (h x p)) (types_is h xs p j)
 
-parts_is : {A : Type 0} (h : A → Place → OptionType) (xs : List A) (p : Place)
-    → of.parts_of (λ y. y) (listed h xs) p ≡ of.parts_of h xs p
+parts_is : {A : Type 0} (h : A → Place → Type_) (xs : List (Option A)) (p : Place)
+    → of.parts_of (of.type_or_none (λ y. y)) (listed_options h xs) p ≡ of.parts_of (of.type_or_none h) xs p
 parts_is h [] p = refl
-parts_is h (x ∷ xs) p = λ j. tree.more_parts (h x p) (parts_is h xs p j)
+parts_is h (None ∷ xs) p = λ j. tree.more_parts tree.no_type (parts_is h xs p j)
+parts_is h (Some x ∷ xs) p = λ j. tree.more_parts (tree.some_type (h x p)) (parts_is h xs p j)
+
+parens_is : {A : Type 0} (h : A → Place → Type_) (x : Option (List (Option A))) (r : OptionRet) (p : Place)
+    → of.parens_or_none (of.parts_of (of.type_or_none (λ y. y))) (optional (listed_options h) x) r p
+    ≡ of.parens_or_none (of.parts_of (of.type_or_none h)) x r p
+parens_is h None r p = refl
+parens_is h (Some xs) r p = λ j. of.parens_or_none (λ y q. y) (Some (parts_is h xs p j)) r p
 
 generic_args_is : {A : Type 0} (h : A → Place → Arg) (xs : List A) (p : Place)
     → of.generic_args_of (λ y. y) (listed h xs) p ≡ of.generic_args_of h xs p
 generic_args_is h [] p = refl
 generic_args_is h (x ∷ xs) p = λ j. tree.more_args (h x p) (generic_args_is h xs p j)
+
+pub arg_list_is : {A : Type 0} (h : A → Place → Arg) (x : Option (List A)) (p : Place)
+    → of.arg_list_or_none (of.generic_args_of (λ y. y)) (optional (listed h) x) p ≡ of.arg_list_or_none (of.generic_args_of h) x p
+arg_list_is h None p = refl
+arg_list_is h (Some xs) p = λ j. tree.some_arg_list (generic_args_is h xs p j)
 
 bounds_is : {A : Type 0} (h : A → Place → Bound) (xs : List A) (p : Place)
     → of.bounds_of (λ y. y) (listed h xs) p ≡ of.bounds_of h xs p
@@ -106,6 +115,11 @@ params_is : {A : Type 0} (h : A → Place → ParamReading) (xs : List A) (p : P
     → of.params_of (λ y. y) (listed h xs) p ≡ of.params_of h xs p
 params_is h [] p = refl
 params_is h (x ∷ xs) p = λ j. let r = h x p in if r.variadic then params_is h xs p j else tree.more_parts r.ty (params_is h xs p j)
+
+names_is : {A : Type 0} (h : A → Place → ParamReading) (xs : List A) (p : Place)
+    → of.names_given (λ y. y) (listed h xs) p ≡ of.names_given h xs p
+names_is h [] p = refl
+names_is h (x ∷ xs) p = λ j. let r = h x p in if r.variadic then names_is h xs p j else r.name ∷ names_is h xs p j
 
 last_is : {A : Type 0} (h : A → Place → ParamReading) (b : Bool) (xs : List A) (p : Place)
     → of.last_variadic (λ y. y) b (listed h xs) p ≡ of.last_variadic h b xs p
@@ -138,22 +152,23 @@ module _ (env : Answers) where
       → of.type_at env itself (mapped_type_kind env k) p s ≡ of.type_at env rd k p s
   type_at_is (TypeKind-F.ParenType t) p s = λ j. tree.paren_type (type_is rd.type_ t p j)
   type_at_is (TypeKind-F.SliceType t) p s = λ j. tree.over_type s tree.slice_of (type_is rd.type_ t p j)
-  type_at_is (TypeKind-F.ArrayType t c) p s = λ j. tree.array_type s (constant_is rd.constant c p j) (type_is rd.type_ t p j)
+  type_at_is (TypeKind-F.ArrayType t c) p s = λ j. tree.array_type s (constant_is rd.expr c p j) (type_is rd.type_ t p j)
   type_at_is (TypeKind-F.TupleType ts) p s = λ j. tree.tuple_type s (types_is rd.type_ ts p j)
   type_at_is (TypeKind-F.PathType x) p s = λ j. tree.path_type s (path_is rd.path x p j)
   type_at_is (TypeKind-F.PtrType m t) p s = λ j. tree.over_type s (tree.pointer_to (of.mutability m)) (type_is rd.type_ t p j)
   type_at_is (TypeKind-F.RefType l m t) p s = λ j.
       tree.ref_type s (option_map (of.lifetime_of p) l) (of.mutability m) (type_is rd.type_ t p j)
   type_at_is (TypeKind-F.FnPtrType is_unsafe text None r) p s = λ j.
-      tree.fn_type s (record { is_unsafe = is_unsafe; abi = of.abi_of text; is_varargs = false }) tree.no_parts
-      (answer_is rd.ret_type r p j)
+      tree.fn_type s (of.fn_head is_unsafe text false []) tree.no_parts (answer_is rd.type_ r p j)
   type_at_is (TypeKind-F.FnPtrType is_unsafe text (Some ps) r) p s = λ j.
-      tree.fn_type s (record { is_unsafe = is_unsafe; abi = of.abi_of text; is_varargs = last_is rd.param false ps p j })
-      (params_is rd.param ps p j) (answer_is rd.ret_type r p j)
+      tree.fn_type s (of.fn_head is_unsafe text (last_is rd.param false ps p j) (names_is rd.param ps p j))
+      (params_is rd.param ps p j) (answer_is rd.type_ r p j)
   type_at_is (TypeKind-F.ForType b t) p s = λ j. tree.for_type (of.binder_of b) (type_is rd.type_ t p j)
   type_at_is (TypeKind-F.ImplTraitType bs) p s = λ j.
       of.impl_at p.in_impl p.impl_trait s (bounds_is rd.type_bound bs (of.inside_impl p) j)
   type_at_is (TypeKind-F.DynTraitType bs) p s = λ j. tree.dyn_type s (bounds_is rd.type_bound bs p j)
+  type_at_is (TypeKind-F.PatternType t x) p s = λ j. let q = pat_is rd.pat x (of.inside_constant p) j in
+      tree.pattern_type s (type_is rd.type_ t p j) q (type_pat_or_none env.lang_items q)
   type_at_is TypeKind-F.NeverType p s = refl
   type_at_is TypeKind-F.InferType p s = refl
 
@@ -163,25 +178,26 @@ module _ (env : Answers) where
 
   param_step_is : (x : ParamLayer written) (p : Place)
       → of.param_step env itself (mapped_param env x) p ≡ of.param_step env rd x p
-  param_step_is x p = λ j. record { variadic = x.variadic; ty = type_is rd.type_ x.ty p j }
-
-  ret_type_step_is : (x : RetTypeLayer written) (p : Place)
-      → of.ret_type_step env itself (mapped_ret_type env x) p ≡ of.ret_type_step env rd x p
-  ret_type_step_is x p = type_is rd.type_ x.ty p
+  param_step_is x p = λ j. record {
+    variadic = x.variadic;
+    name = name_given (pat_is rd.pat x.pat p j);
+    ty = type_is rd.type_ x.ty p j;
+  }
 
   path_step_is : (x : PathLayer written) (p : Place) → of.path_step env itself (mapped_path env x) p ≡ of.path_step env rd x p
   path_step_is x p = λ j. tree.path x.leading (first_is rd.segment x.segs p j) (rest_is rd.segment x.segs p j) (path_is rd.path x.use_ p j)
 
   parens_then : (x : Option AstParenArgs) (r : Option AstRetType) (p : Place)
-      → of.parens_or_none (λ y. y) (optional rd.paren_args x) (of.ret_or_none (λ y. y) (optional rd.ret_type r) p) p
-      ≡ of.parens_or_none rd.paren_args x (of.ret_or_none rd.ret_type r p) p
-  parens_then x r p = parens_is rd.paren_args x (of.ret_or_none (λ y. y) (optional rd.ret_type r) p) p
-      ∙ (λ j. of.parens_or_none rd.paren_args x (ret_is rd.ret_type r p j) p)
+      → of.parens_or_none (of.paren_args_step env itself) (optional (listed_options rd.type_) x)
+      (of.ret_or_none (of.ret_type_step env itself) (optional (optional rd.type_) r) p) p
+      ≡ of.parens_or_none (of.paren_args_step env rd) x (of.ret_or_none (of.ret_type_step env rd) r p) p
+  parens_then x r p = parens_is rd.type_ x (of.ret_or_none (of.ret_type_step env itself) (optional (optional rd.type_) r) p) p
+      ∙ (λ j. of.parens_or_none (of.paren_args_step env rd) x (ret_is rd.type_ r p j) p)
 
   segment_step_is : (x : PathSegmentLayer written) (p : Place)
       → of.segment_step env itself (mapped_segment env x) p ≡ of.segment_step env rd x p
   segment_step_is x p = λ j. of.kinded_segment env p x.seg x.name
-      (tree.segment_args (arg_list_is rd.generic_arg_list x.generics p j)
+      (tree.segment_args (arg_list_is rd.generic_arg x.generics p j)
       (parens_then x.parens x.ret p j) x.rtn)
       (type_is rd.type_ x.ty p j) (path_type_is rd.path_type x.trait_ p j)
 
@@ -189,29 +205,19 @@ module _ (env : Answers) where
       → of.path_type_step env itself (mapped_path_type env x) p ≡ of.path_type_step env rd x p
   path_type_step_is x p = λ j. record { pointer = in_file p (ptr x.id x.range); path = path_is rd.path x.path p j }
 
-  paren_args_step_is : (x : ParenArgsLayer written) (p : Place)
-      → of.paren_args_step env itself (mapped_paren_args env x) p ≡ of.paren_args_step env rd x p
-  paren_args_step_is x p = parts_is rd.type_arg x.args p
-
-  generic_arg_list_step_is : (x : GenericArgListLayer written) (p : Place)
-      → of.generic_arg_list_step env itself (mapped_generic_arg_list env x) p ≡ of.generic_arg_list_step env rd x p
-  generic_arg_list_step_is x p = generic_args_is rd.generic_arg x.args p
-
   generic_arg_step_is : (x : GenericArgLayer written) (p : Place)
       → of.generic_arg_step env itself (mapped_generic_arg env x) p ≡ of.generic_arg_step env rd x p
-  generic_arg_step_is (GenericArg-F.TypeArg x) p = refl
+  generic_arg_step_is (GenericArg-F.TypeArg None) p = refl
+  generic_arg_step_is (GenericArg-F.TypeArg (Some x)) p = refl
   generic_arg_step_is (GenericArg-F.AssocTypeArg x) p = refl
   generic_arg_step_is (GenericArg-F.LifetimeArg x) p = refl
-  generic_arg_step_is (GenericArg-F.ConstArg x) p = refl
-
-  type_arg_step_is : (x : TypeArgLayer written) (p : Place)
-      → of.type_arg_step env itself (mapped_type_arg env x) p ≡ of.type_arg_step env rd x p
-  type_arg_step_is x p = type_is rd.type_ x.ty p
+  generic_arg_step_is (GenericArg-F.ConstArg None) p = refl
+  generic_arg_step_is (GenericArg-F.ConstArg (Some x)) p = refl
 
   assoc_type_arg_step_is : (x : AssocTypeArgLayer written) (p : Place)
       → of.assoc_type_arg_step env itself (mapped_assoc_type_arg env x) p ≡ of.assoc_type_arg_step env rd x p
   assoc_type_arg_step_is x p = λ j. let inner = of.outside_impl p in
-      of.binding_of x.params x.name (arg_list_is rd.generic_arg_list x.generics inner j) x.rtn
+      of.binding_of x.params x.name (arg_list_is rd.generic_arg x.generics inner j) x.rtn
       (type_is rd.type_ x.ty inner j) (bounds_is rd.type_bound x.bounds inner j)
 
   type_bound_step_is : (x : TypeBoundLayer written) (p : Place)
@@ -228,9 +234,6 @@ module _ (env : Answers) where
   read_param_is : (x : AstParam) (p : Place) → read_param env x p ≡ of.param_step env rd (out-Param x) p
   read_param_is x p = opened_param env x p ∙ param_step_is (out-Param x) p
 
-  read_ret_type_is : (x : AstRetType) (p : Place) → read_ret_type env x p ≡ of.ret_type_step env rd (out-RetType x) p
-  read_ret_type_is x p = opened_ret_type env x p ∙ ret_type_step_is (out-RetType x) p
-
   read_path_is : (x : AstPath) (p : Place) → read_path env x p ≡ of.path_step env rd (out-Path x) p
   read_path_is x p = opened_path env x p ∙ path_step_is (out-Path x) p
 
@@ -240,18 +243,8 @@ module _ (env : Answers) where
   read_path_type_is : (x : AstPathType) (p : Place) → read_path_type env x p ≡ of.path_type_step env rd (out-PathType x) p
   read_path_type_is x p = opened_path_type env x p ∙ path_type_step_is (out-PathType x) p
 
-  read_paren_args_is : (x : AstParenArgs) (p : Place) → read_paren_args env x p ≡ of.paren_args_step env rd (out-ParenArgs x) p
-  read_paren_args_is x p = opened_paren_args env x p ∙ paren_args_step_is (out-ParenArgs x) p
-
-  read_generic_arg_list_is : (x : AstGenericArgList) (p : Place)
-      → read_generic_arg_list env x p ≡ of.generic_arg_list_step env rd (out-GenericArgList x) p
-  read_generic_arg_list_is x p = opened_generic_arg_list env x p ∙ generic_arg_list_step_is (out-GenericArgList x) p
-
   read_generic_arg_is : (x : AstGenericArg) (p : Place) → read_generic_arg env x p ≡ of.generic_arg_step env rd (out-GenericArg x) p
   read_generic_arg_is x p = opened_generic_arg env x p ∙ generic_arg_step_is (out-GenericArg x) p
-
-  read_type_arg_is : (x : AstTypeArg) (p : Place) → read_type_arg env x p ≡ of.type_arg_step env rd (out-TypeArg x) p
-  read_type_arg_is x p = opened_type_arg env x p ∙ type_arg_step_is (out-TypeArg x) p
 
   read_assoc_type_arg_is : (x : AstAssocTypeArg) (p : Place)
       → read_assoc_type_arg env x p ≡ of.assoc_type_arg_step env rd (out-AssocTypeArg x) p
@@ -267,7 +260,7 @@ pub param_is_level : (at : Spot) (x : AstParam) → answered_param at x ≡ para
 param_is_level at x = read_param_is at.answers x at.place
 
 pub ret_is_level : (at : Spot) (x : AstRetType) → answered_ret at x ≡ ret_level at x
-ret_is_level at x = read_ret_type_is at.answers x at.place
+ret_is_level at x = refl
 
 pub path_is_level : (at : Spot) (x : AstPath) → answered_path at x ≡ path_level at x
 path_is_level at x = read_path_is at.answers x at.place
@@ -279,16 +272,16 @@ pub path_type_is_level : (at : Spot) (x : AstPathType) → answered_path_type at
 path_type_is_level at x = read_path_type_is at.answers x at.place
 
 pub paren_args_is_level : (at : Spot) (x : AstParenArgs) → answered_paren_args at x ≡ paren_args_level at x
-paren_args_is_level at x = read_paren_args_is at.answers x at.place
+paren_args_is_level at x = refl
 
 pub arg_list_is_level : (at : Spot) (x : AstGenericArgList) → answered_arg_list at x ≡ arg_list_level at x
-arg_list_is_level at x = read_generic_arg_list_is at.answers x at.place
+arg_list_is_level at x = refl
 
 pub arg_is_level : (at : Spot) (x : AstGenericArg) → answered_arg at x ≡ arg_level at x
 arg_is_level at x = read_generic_arg_is at.answers x at.place
 
 pub type_arg_is_level : (at : Spot) (x : AstTypeArg) → answered_type_arg at x ≡ type_arg_level at x
-type_arg_is_level at x = read_type_arg_is at.answers x at.place
+type_arg_is_level at x = refl
 
 pub assoc_arg_is_level : (at : Spot) (x : AstAssocTypeArg) → answered_assoc_arg at x ≡ assoc_arg_level at x
 assoc_arg_is_level at x = read_assoc_type_arg_is at.answers x at.place

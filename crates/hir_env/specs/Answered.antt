@@ -1,15 +1,18 @@
 -- A tree with all that the environment says of it written into it. What lowering does, how a body runs and what is
 -- wrong with it are each a recursion over this one family.
 use Rattle.std.specs.Prelude.{List, Option, Bool}
-use Rattle.hir_syntax.specs.declared.ast.UnaryOp.{UnaryOp}
-use Rattle.hir_syntax.specs.declared.ast.LogicOp.{LogicOp}
-use Rattle.hir_syntax.specs.declared.ast.BinaryOp.{BinaryOp}
+use Rattle.hir_base.specs.declared.op.UnaryOp.{UnaryOp}
+use Rattle.hir_base.specs.declared.op.LogicOp.{LogicOp}
+use Rattle.hir_base.specs.declared.op.BinaryOp.{BinaryOp}
 use Rattle.hir_syntax.specs.declared.ast.Literal.{Literal}
+use Rattle.hir_base.specs.declared.op.RangeOp.{RangeOp}
+use Rattle.hir_binding.specs.declared.binding.BindingAnnotation.{BindingAnnotation}
 use Rattle.hir_store.specs.Pointers.{Pointer}
 use Rattle.hir_store.specs.declared.ids.CfgId.{CfgId}
 use Rattle.hir_store.specs.declared.ids.CrateId.{CrateId}
 use Rattle.hir_store.specs.declared.ids.HygieneId.{HygieneId}
 use Rattle.hir_store.specs.declared.ids.BlockId.{BlockId}
+use Rattle.hir_store.specs.declared.ids.LangItemId.{LangItemId}
 use Rattle.hir_store.specs.declared.name.Name.{Name}
 use Rattle.hir_store.specs.declared.hir.Rawness.{Rawness}
 use Rattle.hir_store.specs.declared.hir.Mutability.{Mutability}
@@ -46,11 +49,29 @@ pub data UseRead : Type 0 where
   used_name : Name → UseRead
   used_lifetime : Lifetime → UseRead
 
--- how a function pointer is written around its types; it has varargs where the last of its parameters is variadic
+-- How a function pointer is written around its types; it has varargs where the last of its parameters is variadic. A name for
+-- each of those that aren't: the one that its pattern gives it.
 pub record FnHead : Type 0 where
   pub is_unsafe : Bool
   pub abi : ExternAbi
   pub is_varargs : Bool
+  pub names : List (Option Name)
+
+-- one use of a name that is bound, with the hygiene of its node
+pub record Use : Type 0 where
+  pub name : Name
+  pub hygiene : HygieneId
+  pub mode : BindingAnnotation
+
+-- the literal of a pattern, and whether a minus stands in front of it
+pub record Signed : Type 0 where
+  pub minus : Bool
+  pub literal : Literal
+
+-- what stands around the fields of a record: whether it has a list of them, and whether two dots stand in that
+pub record RecordHead : Type 0 where
+  pub has_list : Bool
+  pub has_dots : Bool
 
 -- families of types, by their parts
 
@@ -91,6 +112,29 @@ pub data Leaving : Type 0 where
   returning : Leaving
   yeeting : Leaving
 
+-- what a range is made as
+pub data RangeForm : Type 0 where
+  -- a record of the item, whose field for the start is `start`, with the name of the one for the end
+  record_range : LangItemId → Name → RangeForm
+  -- a call of the item, or of nothing where that is none
+  call_range : Option LangItemId → RangeForm
+  -- there is no item to make a record of, so it is missing
+  itemless_range : RangeForm
+
+-- families of patterns, by their parts
+
+-- a broken one is missing: a block of a constant, and a literal that isn't there
+pub data PatLeaf : Type 0 where
+  wild_leaf : PatLeaf
+  rest_leaf : PatLeaf
+  not_null_leaf : PatLeaf
+  broken_leaf : PatLeaf
+
+pub data PatUnary : Type 0 where
+  ref_to : Mutability → PatUnary
+  box_of : PatUnary
+  deref_of : PatUnary
+
 mutual
   pub data Type_ : Type 0 where
     paren_type : OptionType → Type_
@@ -109,6 +153,8 @@ mutual
     -- an `impl` inside of an `impl`
     nested_impl : Pointer → Type_
     dyn_type : Pointer → Bounds → Type_
+    -- what the pattern is as such, and what it is in a type
+    pattern_type : Pointer → OptionType → OptionPat → OptionTypePat → Type_
 
   pub data OptionType : Type 0 where
     no_type : OptionType
@@ -198,7 +244,8 @@ mutual
     if_expr : Pointer → OptionExpr → OptionBlock → OptionExpr → Expr
     block_expr : Block → Expr
     loop_expr : Pointer → Option Label → OptionBlock → Expr
-    call_expr : Pointer → OptionExpr → Exprs → Expr
+    -- with whether it has a list of arguments
+    call_expr : Pointer → OptionExpr → Bool → Exprs → Expr
     path_expr : Pointer → OptionPath → HygieneId → Expr
     continue_expr : Pointer → Option Jump → Expr
     break_expr : Pointer → Option Jump → OptionExpr → Expr
@@ -216,10 +263,16 @@ mutual
     -- with what it stands in, where that isn't async
     await_expr : Pointer → Option AwaitLocation → OptionExpr → Expr
     cast_expr : Pointer → OptionExpr → OptionType → Expr
-    record_expr : Pointer → OptionPath → Fields → Spread → Expr
+    record_expr : Pointer → OptionPath → RecordHead → Fields → Spread → Expr
     offset_of_expr : Pointer → OptionType → List Name → Expr
     -- a prefix without its operator
     nameless_expr : Pointer → OptionExpr → Expr
+    -- a `let` that is a condition
+    let_expr : Pointer → OptionPat → OptionExpr → Expr
+    match_expr : Pointer → OptionExpr → Arms → Expr
+    range_expr : Pointer → RangeForm → OptionExpr → OptionExpr → Expr
+    -- what is assigned to, as an expression and as a target, and the value
+    assign_expr : Pointer → OptionExpr → Target → OptionExpr → Expr
 
   pub data OptionExpr : Type 0 where
     no_expr : OptionExpr
@@ -237,10 +290,24 @@ mutual
   pub data Field : Type 0 where
     -- with the condition that disables it
     disabled_field : Pointer → CfgId → Field → Field
-    nameless_field : Field
+    nameless_field : Pointer → OptionExpr → Field
     named_field : Pointer → Name → OptionExpr → Field
 
-  -- what stands behind them: nothing, two dots, or two dots with an expression
+  pub data Arms : Type 0 where
+    no_arms : Arms
+    more_arms : Arm → Arms → Arms
+
+  -- an arm of a `match`
+  pub data Arm : Type 0 where
+    disabled_arm : Pointer → CfgId → Arm → Arm
+    arm : OptionPat → OptionExpr → Guard → Arm
+
+  -- `if` behind the pattern of an arm, whose condition may be absent
+  pub data Guard : Type 0 where
+    no_guard : Guard
+    guard : OptionExpr → Guard
+
+  -- what stands behind the fields of a record: nothing, two dots, or two dots with an expression
   pub data Spread : Type 0 where
     no_spread : Spread
     field_defaults : Spread
@@ -259,7 +326,134 @@ mutual
     no_stmts : Stmts
     more_stmts : Stmt → Stmts → Stmts
 
-  -- an expression with or without a semicolon, or an item
+  -- an expression with or without a semicolon, an item, or a `let` with its pattern, type, initializer and `else`
   pub data Stmt : Type 0 where
+    disabled_stmt : Pointer → CfgId → Stmt → Stmt
     expr_stmt : OptionExpr → Bool → Stmt
     item_stmt : Stmt
+    let_stmt : OptionPat → OptionType → OptionExpr → OptionBlock → Stmt
+
+  pub data Pat : Type 0 where
+    leaf_pat : Pointer → PatLeaf → Pat
+    -- a name that is bound, with what stands behind `@`
+    bind_pat : Pointer → Use → OptionPat → Pat
+    -- A plain name that stands for a constant, a variant or a struct: a path. Where names always bind it is the use.
+    name_pat : Pointer → Use → Pat
+    path_pat : Pointer → OptionPath → Pat
+    -- with whether a comma stands in front of all parts
+    tuple_struct_pat : Pointer → OptionPath → Bool → Pats → Pat
+    tuple_pat : Pointer → Bool → Pats → Pat
+    -- with whether two dots stand behind the fields
+    record_pat : Pointer → OptionPath → PatFields → Bool → Pat
+    or_pat : Pointer → Pats → Pat
+    paren_pat : Pointer → OptionPat → Pat
+    -- those in front of the middle, the middle, and those behind it
+    slice_pat : Pointer → Pats → OptionPat → Pats → Pat
+    over_pat : Pointer → PatUnary → OptionPat → Pat
+    -- with the node of the literal, where that isn't the pattern's own
+    literal_pat : Pointer → Option Pointer → Signed → Pat
+    -- without its operator it is missing
+    range_pat : Pointer → Option RangeOp → Side → Side → Pat
+
+  pub data OptionPat : Type 0 where
+    no_pat : OptionPat
+    some_pat : Pat → OptionPat
+
+  pub data Pats : Type 0 where
+    no_pats : Pats
+    more_pats : Pat → Pats → Pats
+
+  pub data PatFields : Type 0 where
+    no_pat_fields : PatFields
+    more_pat_fields : PatField → PatFields → PatFields
+
+  pub data PatField : Type 0 where
+    disabled_pat_field : Pointer → CfgId → PatField → PatField
+    -- without its pattern
+    partless_pat_field : PatField
+    -- one without a name is no part of the record, but its pattern is read
+    pat_field : Pointer → Option Name → Pat → PatField
+
+  -- a side of a range, with the node of its pattern
+  pub data Side : Type 0 where
+    no_side : Side
+    literal_side : Pointer → Signed → Side
+    -- a plain name, always a path; it is missing where the text lacks it
+    name_side : Pointer → Name → Side
+    path_side : Pointer → OptionPath → Side
+    -- another pattern
+    other_side : Side
+
+  -- a pattern in a type
+  pub data TypePat : Type 0 where
+    not_null_type_pat : Pointer → TypePat
+    or_type_pat : Pointer → TypePats → TypePat
+    range_type_pat : Pointer → Limit → Limit → TypePat
+    -- another one, which is missing
+    other_type_pat : Pointer → TypePat
+
+  pub data OptionTypePat : Type 0 where
+    no_type_pat : OptionTypePat
+    some_type_pat : TypePat → OptionTypePat
+
+  pub data TypePats : Type 0 where
+    no_type_pats : TypePats
+    more_type_pats : TypePat → TypePats → TypePats
+
+  -- an end of a range in a type, which is itself part of the range
+  pub data Limit : Type 0 where
+    -- the item that stands for an absent one
+    item_limit : Option LangItemId → Limit
+    side_limit : Side → Limit
+    -- the last before the side, found by a call of the item
+    before_limit : Option LangItemId → Side → Limit
+
+  -- what is assigned to
+  pub data Target : Type 0 where
+    absent_target : Target
+    -- any other expression, in its outermost parentheses, and the node of these
+    place_target : Pointer → Expr → Target
+    wild_target : Pointer → Target
+    -- a path that stands for a constant, a variant, a struct, a union or an enum, with the hygiene of its node
+    path_target : Pointer → Path → HygieneId → Target
+    tuple_target : Pointer → Targets → Target
+    call_target : Pointer → OptionPath → Targets → Target
+    -- those in front of the first two dots, the node of the dots, and those behind
+    array_target : Pointer → Targets → Option Pointer → Targets → Target
+    -- with whether two dots stand behind the fields, and the node of an expression behind these
+    record_target : Pointer → OptionPath → TargetFields → Bool → Option Pointer → Target
+
+  pub data Targets : Type 0 where
+    no_targets : Targets
+    more_targets : Target → Targets → Targets
+    -- two dots stand in front of these
+    dots_targets : Targets → Targets
+
+  pub data TargetFields : Type 0 where
+    no_target_fields : TargetFields
+    more_target_fields : TargetField → TargetFields → TargetFields
+
+  pub data TargetField : Type 0 where
+    disabled_target_field : Pointer → CfgId → TargetField
+    -- without its expression
+    partless_target_field : TargetField
+    -- one without a name is no part of the record, but its expression is read
+    target_field : Pointer → Option Name → Target → TargetField
+
+-- the parameters of a body
+
+-- `self` binds that name
+pub data SelfFormal : Type 0 where
+  no_self : SelfFormal
+  disabled_self : Pointer → CfgId → SelfFormal
+  self_formal : Pointer → Use → SelfFormal
+
+pub data Formal : Type 0 where
+  disabled_formal : Pointer → CfgId → Formal
+  formal : OptionPat → Formal
+  -- a pattern where only a plain name or `_` may stand
+  fault_formal : Pointer → Formal
+
+pub record Formals : Type 0 where
+  pub receiver : SelfFormal
+  pub formals : List Formal

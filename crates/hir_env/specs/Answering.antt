@@ -1,16 +1,16 @@
 -- How the answers are written into one level of a tree. The steps ask; nothing above them does.
-use Rattle.std.specs.Prelude.{List, [], ◌∷◌, Bool, true, false, codes, Option, Some, None, Result, Ok, Err, option_map, map}
-use Rattle.hir_syntax.specs.declared.ast.UnaryOp.{UnaryOp}
-use Rattle.hir_syntax.specs.declared.ast.BinaryOp.{BinaryOp}
-use Rattle.hir_syntax.specs.declared.ast.BinaryOp.TheVariants as op
+use Rattle.std.specs.Prelude.{List, [], ◌∷◌, Bool, true, false, codes, Option, Some, None, is_some, Result, Ok, Err, option_map, map}
+use Rattle.hir_base.specs.declared.op.UnaryOp.{UnaryOp}
+use Rattle.hir_base.specs.declared.op.BinaryOp.{BinaryOp}
+use Rattle.hir_base.specs.declared.op.BinaryOp.TheVariants as op
 use Rattle.hir_syntax.specs.declared.ast.BlockModifier.{BlockModifier}
 use Rattle.hir_syntax.specs.declared.ast.BlockModifier.TheVariants as modifier
 use Rattle.hir_syntax.specs.declared.ast.Literal.{Literal}
-use Rattle.hir_syntax.specs.declared.ast.LiteralKind.TheVariants as literal
+use Rattle.hir_base.specs.declared.op.LiteralKind.TheVariants as literal
 use Rattle.hir_store.specs.declared.hir.Rawness.{Rawness}
 use Rattle.hir_store.specs.declared.hir.Rawness.TheVariants as raw
-use Rattle.hir_syntax.specs.declared.node.NodeId.{NodeId}
-use Rattle.hir_syntax.specs.declared.node.AstPtr.{AstPtr}
+use Rattle.hir_base.specs.declared.node.NodeId.{NodeId}
+use Rattle.hir_base.specs.declared.node.AstPtr.{AstPtr}
 use Rattle.hir_syntax.specs.declared.ast.Name.{Name as AstName}
 use Rattle.hir_syntax.specs.declared.ast.Label.{Label as AstLabel}
 use Rattle.hir_syntax.specs.declared.ast.Lifetime.{Lifetime as AstLifetime}
@@ -27,14 +27,16 @@ use Rattle.hir_env.specs.declared.place.LoweringMode.{LoweringMode}
 use Rattle.hir_env.specs.declared.place.LoweringMode.TheVariants as mode
 use Rattle.hir_env.specs.Answers.{Answers}
 pub use Rattle.hir_env.specs.Spot.{in_file, ptr, site_of}
-pub use Rattle.hir_env.specs.Paths.{mutability}
-use Rattle.hir_env.specs.Paths.{path_or_none, type_or_none, arg_list_or_none, inside_constant}
+pub use Rattle.hir_env.specs.Paths.{mutability, expr_or_none, constant_step, generic_arg_list_step}
+use Rattle.hir_env.specs.Paths.{path_or_none, type_or_none, pat_or_none, arg_list_or_none}
+use Rattle.hir_env.specs.Ranges.{range_form}
+use Rattle.hir_env.specs.Targets.{resolves, target_of}
 use Rattle.hir_env.specs.Layers.{BlockReading, StmtReading, RecordReading, Sorts, Reader, ElseBranchLayer, ExprKindLayer}
-use Rattle.hir_env.specs.Layers.{StmtKindLayer, BlockExprLayer, ConstArgLayer, ExprLayer, RecordExprFieldLayer}
-use Rattle.hir_env.specs.Layers.{RecordExprFieldListLayer, StmtLayer}
+use Rattle.hir_env.specs.Layers.{StmtKindLayer, BlockExprLayer, ExprLayer, RecordExprFieldLayer}
+use Rattle.hir_env.specs.Layers.{RecordExprFieldListLayer, StmtLayer, MatchArmLayer}
 use Rattle.hir_env.specs.Answered as tree
-use Rattle.hir_env.specs.Answered.{Label, Jump, Expr, OptionExpr, Exprs, Fields, Field, Spread, Block, OptionBlock, Stmts, Stmt}
-use Rattle.hir_env.specs.Answered.{Constant}
+use Rattle.hir_env.specs.Answered.{Label, Jump, Path, Expr, OptionExpr, Exprs, RecordHead, Fields, Field, Spread, Block, OptionBlock}
+use Rattle.hir_env.specs.Answered.{Stmts, Stmt, Constant, Arms, Arm, Guard}
 
 -- names and labels
 
@@ -64,10 +66,11 @@ names_of ns = map (λ n. name.Text n.t) ns
 
 -- operators
 
--- `&&` and `||` have a meaning of their own
-abbrev pub bin_expr : Pointer → Option BinaryOp → OptionExpr → OptionExpr → Expr
-bin_expr s (Some (op.LogicOp o)) a b = tree.lazy_expr s o a b
-bin_expr s o a b = tree.binary_expr s (tree.operator o) a b
+-- `&&`, `||` and `=` have a meaning of their own; what is assigned to depends on which paths are no places
+abbrev pub bin_expr : (Path → Bool) → Pointer → Option BinaryOp → OptionExpr → OptionExpr → Expr
+bin_expr is_found s (Some (op.LogicOp o)) a b = tree.lazy_expr s o a b
+bin_expr is_found s (Some op.Assign) a b = tree.assign_expr s a (target_of is_found a) b
+bin_expr is_found s o a b = tree.binary_expr s (tree.operator o) a b
 
 abbrev pub prefix_expr : Pointer → Option UnaryOp → OptionExpr → Expr
 prefix_expr s None e = tree.nameless_expr s e
@@ -103,10 +106,6 @@ inside (Some n) p = record p { module_id = n.1 }
 
 -- parts that may be absent, and lists
 
-abbrev pub expr_or_none : {A : Type 0} → (A → Place → Expr) → Option A → Place → OptionExpr
-expr_or_none read None p = tree.no_expr
-expr_or_none read (Some e) p = tree.some_expr (read e p)
-
 abbrev pub plain_or_none : {A : Type 0} → (A → BlockReading) → Option A → Place → OptionBlock
 plain_or_none read None p = tree.no_block
 plain_or_none read (Some b) p = tree.some_block ((read b).plain p)
@@ -129,9 +128,32 @@ spread_or_none read (Some e) dots p = tree.spread_of (read e p)
 spread_or_none read None true p = tree.field_defaults
 spread_or_none read None false p = tree.no_spread
 
+abbrev pub no_list : RecordHead
+no_list = record { has_list = false; has_dots = false }
+
+abbrev pub list_with : Bool → RecordHead
+list_with dots = record { has_list = true; has_dots = dots }
+
 abbrev pub record_or_empty : {A : Type 0} → (A → Place → RecordReading) → Option A → Place → RecordReading
-record_or_empty read None p = record { fields = tree.no_fields; spread = tree.no_spread }
+record_or_empty read None p = record { head = no_list; fields = tree.no_fields; spread = tree.no_spread }
 record_or_empty read (Some x) p = read x p
+
+abbrev pub arms_of : {A : Type 0} → (A → Place → Arm) → List A → Place → Arms
+arms_of read [] p = tree.no_arms
+arms_of read (x ∷ xs) p = tree.more_arms (read x p) (arms_of read xs p)
+
+abbrev pub arms_or_none : {A : Type 0} → (A → Place → Arm) → Option (List A) → Place → Arms
+arms_or_none read None p = tree.no_arms
+arms_or_none read (Some xs) p = arms_of read xs p
+
+abbrev pub guard_or_none : {A : Type 0} → (A → Place → OptionExpr) → Option A → Place → Guard
+guard_or_none read None p = tree.no_guard
+guard_or_none read (Some x) p = tree.guard (read x p)
+
+-- the block behind the `else` of a `let`
+abbrev pub let_else_or_none : {A : Type 0} → (A → Place → OptionBlock) → Option A → Place → OptionBlock
+let_else_or_none read None p = tree.no_block
+let_else_or_none read (Some x) p = read x p
 
 -- what is in a block: its statements, and its written tail, which is read where the last of them leaves off
 abbrev pub Contents : Type 0
@@ -156,8 +178,18 @@ abbrev pub asked_field : Pointer → Result (Unit {0}) CfgId → Field → Field
 asked_field s (Ok _) f = f
 asked_field s (Err by) f = tree.disabled_field s by f
 
+-- the arm, with the condition that disables it
+abbrev pub asked_arm : Pointer → Result (Unit {0}) CfgId → Arm → Arm
+asked_arm s (Ok _) a = a
+asked_arm s (Err by) a = tree.disabled_arm s by a
+
+-- the statement, with the condition that disables it
+abbrev pub asked_stmt : Pointer → Result (Unit {0}) CfgId → Stmt → Stmt
+asked_stmt s (Ok _) st = st
+asked_stmt s (Err by) st = tree.disabled_stmt s by st
+
 abbrev pub field_of : Pointer → Option AstName → OptionExpr → Field
-field_of s None e = tree.nameless_field
+field_of s None e = tree.nameless_field s e
 field_of s (Some n) e = tree.named_field s (name.Text n.t) e
 
 module _ (env : Answers) {S : Sorts} (part : Reader S) where
@@ -170,7 +202,7 @@ module _ (env : Answers) {S : Sorts} (part : Reader S) where
       tree.if_expr s (expr_or_none part.expr c p) (plain_or_none part.block_expr t p) (expr_or_none part.else_branch e p)
   expr_at (ExprKind-F.BlockExpr b) p s = (part.block_expr b).own p
   expr_at (ExprKind-F.LoopExpr l b) p s = tree.loop_expr s (option_map (label_of env p) l) (plain_or_none part.block_expr b p)
-  expr_at (ExprKind-F.CallExpr f es) p s = tree.call_expr s (expr_or_none part.expr f p) (exprs_or_none part.expr es p)
+  expr_at (ExprKind-F.CallExpr f es) p s = tree.call_expr s (expr_or_none part.expr f p) (is_some es) (exprs_or_none part.expr es p)
   expr_at (ExprKind-F.PathExpr x) p s = tree.path_expr s (path_or_none part.path x p) (env.hygiene (site_of s))
   expr_at (ExprKind-F.ContinueExpr l) p s = tree.continue_expr s (option_map (jump_of env p) l)
   expr_at (ExprKind-F.BreakExpr l e) p s = tree.break_expr s (option_map (jump_of env p) l) (expr_or_none part.expr e p)
@@ -178,10 +210,10 @@ module _ (env : Answers) {S : Sorts} (part : Reader S) where
   expr_at (ExprKind-F.Literal l) p s = tree.literal_expr s l
   expr_at (ExprKind-F.MethodCallExpr e n as' es) p s =
       tree.method_call_expr s (expr_or_none part.expr e p) (name_or_missing n) (exprs_or_none part.expr es p)
-      (arg_list_or_none part.generic_arg_list as' p)
+      (arg_list_or_none (generic_arg_list_step env part) as' p)
   expr_at (ExprKind-F.FieldExpr e n) p s = tree.unary_expr s (tree.field_of (name_or_missing n)) (expr_or_none part.expr e p)
   expr_at (ExprKind-F.PrefixExpr o e) p s = prefix_expr s o (expr_or_none part.expr e p)
-  expr_at (ExprKind-F.BinExpr o a b) p s = bin_expr s o (expr_or_none part.expr a p) (expr_or_none part.expr b p)
+  expr_at (ExprKind-F.BinExpr o a b) p s = bin_expr (resolves env p) s o (expr_or_none part.expr a p) (expr_or_none part.expr b p)
   expr_at (ExprKind-F.IndexExpr a b) p s = tree.binary_expr s tree.index_of (expr_or_none part.expr a p) (expr_or_none part.expr b p)
   expr_at (ExprKind-F.RefExpr r m e) p s = tree.unary_expr s (tree.reference_to (rawness r) (mutability m)) (expr_or_none part.expr e p)
   expr_at (ExprKind-F.TupleExpr comma es) p s = tree.list_expr s (tree.tuple_of comma) (exprs_of part.expr es p)
@@ -193,9 +225,14 @@ module _ (env : Answers) {S : Sorts} (part : Reader S) where
   expr_at (ExprKind-F.AwaitExpr e) p s = tree.await_expr s p.await_location (expr_or_none part.expr e p)
   expr_at (ExprKind-F.CastExpr e t) p s = tree.cast_expr s (expr_or_none part.expr e p) (type_or_none part.type_ t p)
   expr_at (ExprKind-F.RecordExpr x l) p s = let r = record_or_empty part.field_list l p in
-      tree.record_expr s (path_or_none part.path x p) r.fields r.spread
+      tree.record_expr s (path_or_none part.path x p) r.head r.fields r.spread
   expr_at (ExprKind-F.OffsetOfExpr t ns) p s = tree.offset_of_expr s (type_or_none part.type_ t p) (names_of ns)
   expr_at (ExprKind-F.CfgPredExpr pred) p s = tree.literal_expr s (truth (env.cfg_pred pred))
+  expr_at (ExprKind-F.LetExpr x e) p s = tree.let_expr s (pat_or_none part.pat x p) (expr_or_none part.expr e p)
+  expr_at (ExprKind-F.MatchExpr e as') p s = tree.match_expr s (expr_or_none part.expr e p) (arms_or_none part.arm as' p)
+  expr_at (ExprKind-F.RangeExpr o a b) p s =
+      tree.range_expr s (range_form env.lang_items (env.new_range p.module_id) o (is_some a) (is_some b))
+      (expr_or_none part.expr a p) (expr_or_none part.expr b p)
   expr_at ExprKind-F.UnderscoreExpr p s = tree.leaf_expr s tree.underscore
   expr_at ExprKind-F.IncludeBytesExpr p s = tree.leaf_expr s tree.include_bytes
   expr_at ExprKind-F.AsmExpr p s = tree.leaf_expr s tree.left_out
@@ -207,9 +244,6 @@ module _ (env : Answers) {S : Sorts} (part : Reader S) where
   abbrev pub expr_step : ExprLayer S → Place → Expr
   expr_step e = part.expr_kind e.kind (ptr e.id e.range)
 
-  abbrev pub constant_step : ConstArgLayer S → Place → Constant
-  constant_step x p = tree.constant (expr_or_none part.expr x.expr (inside_constant p))
-
   abbrev pub field_at : RecordExprFieldLayer S → Place → Pointer → Field
   field_at x p s = asked_field s (env.cfg (site_of s)) (field_of s x.name (expr_or_none part.expr x.expr p))
 
@@ -217,7 +251,21 @@ module _ (env : Answers) {S : Sorts} (part : Reader S) where
   field_step x p = field_at x p (in_file p (ptr x.id x.range))
 
   abbrev pub record_step : RecordExprFieldListLayer S → Place → RecordReading
-  record_step x p = record { fields = fields_of part.field x.fields p; spread = spread_or_none part.expr x.spread x.dotdot p }
+  record_step x p = record {
+    head = list_with x.dotdot;
+    fields = fields_of part.field x.fields p;
+    spread = spread_or_none part.expr x.spread x.dotdot p;
+  }
+
+  abbrev pub guard_step : Option S.Expr → Place → OptionExpr
+  guard_step x p = expr_or_none part.expr x p
+
+  abbrev pub arm_at : MatchArmLayer S → Place → Pointer → Arm
+  arm_at x p s = asked_arm s (env.cfg (site_of s))
+      (tree.arm (pat_or_none part.pat x.pat p) (expr_or_none part.expr x.expr p) (guard_or_none guard_step x.guard p))
+
+  abbrev pub arm_step : MatchArmLayer S → Place → Arm
+  arm_step x p = arm_at x p (in_file p (ptr x.id x.range))
 
   abbrev pub block_at : BlockExprLayer S → Bool × Option Label → Place → Block
   block_at b head p =
@@ -231,13 +279,19 @@ module _ (env : Answers) {S : Sorts} (part : Reader S) where
     own = λ p. tree.block_expr (block_at b (modified b.mod_ (option_map (label_of env p) b.label)) p);
   }
 
-  -- the one statement that it stands for
-  abbrev pub stmt_at : StmtKindLayer S → Place → Stmt
-  stmt_at (StmtKind-F.ExprStmt e semi) p = tree.expr_stmt (expr_or_none part.expr e p) semi
-  stmt_at StmtKind-F.Item p = tree.item_stmt
+  abbrev pub let_else_step : Option S.BlockExpr → Place → OptionBlock
+  let_else_step x p = plain_or_none part.block_expr x p
 
-  abbrev pub stmt_kind : StmtKindLayer S → Place → StmtReading
-  stmt_kind k p = record { before = tree.more_stmts (stmt_at k p); place = p }
+  -- the one statement that it stands for
+  abbrev pub stmt_at : StmtKindLayer S → Place → Pointer → Stmt
+  stmt_at (StmtKind-F.LetStmt x t e b) p s = asked_stmt s (env.cfg (site_of s))
+      (tree.let_stmt (pat_or_none part.pat x p) (type_or_none part.type_ t p) (expr_or_none part.expr e p)
+      (let_else_or_none let_else_step b p))
+  stmt_at (StmtKind-F.ExprStmt e semi) p s = tree.expr_stmt (expr_or_none part.expr e p) semi
+  stmt_at StmtKind-F.Item p s = tree.item_stmt
+
+  abbrev pub stmt_kind : StmtKindLayer S → AstPtr → Place → StmtReading
+  stmt_kind k n p = record { before = tree.more_stmts (stmt_at k p (in_file p n)); place = p }
 
   abbrev pub stmt_step : StmtLayer S → Place → StmtReading
-  stmt_step s = part.stmt_kind s.kind
+  stmt_step s = part.stmt_kind s.kind (ptr s.id s.range)

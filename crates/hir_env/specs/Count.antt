@@ -1,9 +1,11 @@
--- The size of an answered tree: what lowering it steps down by.
+-- The size of an answered tree: what lowering it steps down by. Of what is assigned to the expression counts, and of the pattern of
+-- a type the pattern.
 use Rattle.std.specs.Prelude.{ℕ, suc, ◌+◌}
 use Rattle.hir_env.specs.Answered as tree
 use Rattle.hir_env.specs.Answered.{Type_, OptionType, Parts, Path, OptionPath, Segments, Segment, SegmentArgs, OptionParens}
 use Rattle.hir_env.specs.Answered.{OptionRet, OptionArgs, Args, Arg, Bounds, Bound, Constant}
-use Rattle.hir_env.specs.Answered.{Expr, OptionExpr, Exprs, Fields, Field, Spread, Block, OptionBlock, Stmts, Stmt}
+use Rattle.hir_env.specs.Answered.{Expr, OptionExpr, Exprs, Fields, Field, Spread, Block, OptionBlock, Stmts, Stmt, Arms, Arm}
+use Rattle.hir_env.specs.Answered.{Guard, Pat, OptionPat, Pats, PatFields, PatField, Side}
 
 abbrev mutual
   pub count_type : Type_ → ℕ
@@ -19,6 +21,7 @@ abbrev mutual
   count_type (tree.impl_type at mode bs) = suc (count_bounds bs)
   count_type (tree.nested_impl at) = 1
   count_type (tree.dyn_type at bs) = suc (count_bounds bs)
+  count_type (tree.pattern_type at t p q) = suc (count_option_type t + count_option_pat p)
 
   pub count_option_type : OptionType → ℕ
   count_option_type tree.no_type = 0
@@ -95,7 +98,7 @@ abbrev mutual
   count_expr (tree.if_expr at c t e) = suc (count_option_expr c + (count_option_block t + count_option_expr e))
   count_expr (tree.block_expr b) = suc (count_block b)
   count_expr (tree.loop_expr at label b) = suc (count_option_block b)
-  count_expr (tree.call_expr at f es) = suc (count_option_expr f + count_exprs es)
+  count_expr (tree.call_expr at f has_list es) = suc (count_option_expr f + count_exprs es)
   count_expr (tree.path_expr at x h) = suc (count_option_path x)
   count_expr (tree.continue_expr at jump) = 1
   count_expr (tree.break_expr at jump e) = suc (count_option_expr e)
@@ -112,9 +115,13 @@ abbrev mutual
   count_expr (tree.yield_expr at e) = suc (count_option_expr e)
   count_expr (tree.await_expr at location e) = suc (count_option_expr e)
   count_expr (tree.cast_expr at e t) = suc (count_option_expr e + count_option_type t)
-  count_expr (tree.record_expr at x fs spread) = suc (count_option_path x + (count_fields fs + count_spread spread))
+  count_expr (tree.record_expr at x head fs spread) = suc (count_option_path x + (count_fields fs + count_spread spread))
   count_expr (tree.offset_of_expr at t names) = suc (count_option_type t)
   count_expr (tree.nameless_expr at e) = suc (count_option_expr e)
+  count_expr (tree.let_expr at p e) = suc (count_option_pat p + count_option_expr e)
+  count_expr (tree.match_expr at e arms) = suc (count_option_expr e + count_arms arms)
+  count_expr (tree.range_expr at form a b) = suc (count_option_expr a + count_option_expr b)
+  count_expr (tree.assign_expr at a target b) = suc (count_option_expr a + count_option_expr b)
 
   pub count_option_expr : OptionExpr → ℕ
   count_option_expr tree.no_expr = 0
@@ -130,8 +137,20 @@ abbrev mutual
 
   pub count_field : Field → ℕ
   count_field (tree.disabled_field at by f) = count_field f
-  count_field tree.nameless_field = 0
+  count_field (tree.nameless_field at e) = count_option_expr e
   count_field (tree.named_field at name e) = count_option_expr e
+
+  pub count_arms : Arms → ℕ
+  count_arms tree.no_arms = 0
+  count_arms (tree.more_arms a as') = count_arm a + count_arms as'
+
+  pub count_arm : Arm → ℕ
+  count_arm (tree.disabled_arm at by a) = count_arm a
+  count_arm (tree.arm p e g) = count_option_pat p + (count_option_expr e + count_guard g)
+
+  pub count_guard : Guard → ℕ
+  count_guard tree.no_guard = 0
+  count_guard (tree.guard c) = count_option_expr c
 
   pub count_spread : Spread → ℕ
   count_spread tree.no_spread = 0
@@ -150,5 +169,46 @@ abbrev mutual
   count_stmts (tree.more_stmts s ss) = count_stmt s + count_stmts ss
 
   pub count_stmt : Stmt → ℕ
+  count_stmt (tree.disabled_stmt at by s) = count_stmt s
   count_stmt (tree.expr_stmt e semi) = count_option_expr e
   count_stmt tree.item_stmt = 0
+  count_stmt (tree.let_stmt p t e b) = count_option_pat p + (count_option_type t + (count_option_expr e + count_option_block b))
+
+  pub count_pat : Pat → ℕ
+  count_pat (tree.leaf_pat at form) = 1
+  count_pat (tree.bind_pat at u p) = suc (count_option_pat p)
+  count_pat (tree.name_pat at u) = 1
+  count_pat (tree.path_pat at x) = suc (count_option_path x)
+  count_pat (tree.tuple_struct_pat at x comma ps) = suc (count_option_path x + count_pats ps)
+  count_pat (tree.tuple_pat at comma ps) = suc (count_pats ps)
+  count_pat (tree.record_pat at x fs dots) = suc (count_option_path x + count_pat_fields fs)
+  count_pat (tree.or_pat at ps) = suc (count_pats ps)
+  count_pat (tree.paren_pat at p) = suc (count_option_pat p)
+  count_pat (tree.slice_pat at ps p qs) = suc (count_pats ps + (count_option_pat p + count_pats qs))
+  count_pat (tree.over_pat at form p) = suc (count_option_pat p)
+  count_pat (tree.literal_pat at from l) = 1
+  count_pat (tree.range_pat at o a b) = suc (count_side a + count_side b)
+
+  pub count_option_pat : OptionPat → ℕ
+  count_option_pat tree.no_pat = 0
+  count_option_pat (tree.some_pat p) = count_pat p
+
+  pub count_pats : Pats → ℕ
+  count_pats tree.no_pats = 0
+  count_pats (tree.more_pats p ps) = count_pat p + count_pats ps
+
+  pub count_pat_fields : PatFields → ℕ
+  count_pat_fields tree.no_pat_fields = 0
+  count_pat_fields (tree.more_pat_fields f fs) = count_pat_field f + count_pat_fields fs
+
+  pub count_pat_field : PatField → ℕ
+  count_pat_field (tree.disabled_pat_field at by f) = count_pat_field f
+  count_pat_field tree.partless_pat_field = 0
+  count_pat_field (tree.pat_field at n p) = count_pat p
+
+  pub count_side : Side → ℕ
+  count_side tree.no_side = 0
+  count_side (tree.literal_side at l) = 0
+  count_side (tree.name_side at n) = 0
+  count_side (tree.path_side at x) = count_option_path x
+  count_side tree.other_side = 0

@@ -1,8 +1,8 @@
 -- How the answers are written into paths and types.
 use Rattle.std.specs.Prelude.{ℕ, List, [], ◌∷◌, map, Bool, true, false, ◌||◌, if◌then◌else◌, codes, bytes_eq}
 use Rattle.std.specs.Prelude.{Option, Some, None, option_map}
-use Rattle.hir_syntax.specs.declared.node.NodeId.{NodeId}
-use Rattle.hir_syntax.specs.declared.node.AstPtr.{AstPtr}
+use Rattle.hir_base.specs.declared.node.NodeId.{NodeId}
+use Rattle.hir_base.specs.declared.node.AstPtr.{AstPtr}
 use Rattle.hir_syntax.specs.declared.ast.Name.{Name as AstName}
 use Rattle.hir_syntax.specs.declared.ast.Lifetime.{Lifetime as AstLifetime}
 use Rattle.hir_syntax.specs.declared.ast.SegmentKind.{SegmentKind}
@@ -15,6 +15,7 @@ use Rattle.hir_syntax.specs.declared.types.UseArg.TheVariants as used
 use Rattle.hir_syntax.specs.declared.ast.ElseBranch.TheOpen.{GenericArg-F, TypeKind-F}
 use Rattle.hir_store.specs.Pointers.{Pointer}
 use Rattle.hir_store.specs.declared.ids.CrateId.{CrateId}
+use Rattle.hir_store.specs.declared.name.Name.{Name}
 use Rattle.hir_store.specs.declared.name.Name.TheVariants as name
 use Rattle.hir_store.specs.declared.hir.Mutability.{Mutability}
 use Rattle.hir_store.specs.declared.hir.Mutability.TheVariants as mutable
@@ -28,12 +29,14 @@ use Rattle.hir_env.specs.declared.place.ImplTrait.TheVariants as becomes
 use Rattle.hir_env.specs.Answers.{Answers}
 use Rattle.hir_env.specs.Spot.{in_file, ptr}
 use Rattle.hir_env.specs.Layers.{Sorts, Reader}
+use Rattle.hir_env.specs.TypePats.{type_pat_or_none, name_given}
 use Rattle.hir_env.specs.TypeLayers.{ParamReading, PathTypeReading, GenericArgLayer, TypeKindLayer, PathLayer, PathSegmentLayer}
-use Rattle.hir_env.specs.TypeLayers.{AssocTypeArgLayer, GenericArgListLayer, ParamLayer, ParenArgsLayer, PathTypeLayer}
-use Rattle.hir_env.specs.TypeLayers.{RetTypeLayer, TypeArgLayer, TypeBoundLayer, Type_Layer}
+use Rattle.hir_env.specs.TypeLayers.{AssocTypeArgLayer, ParamLayer, PathTypeLayer}
+use Rattle.hir_env.specs.TypeLayers.{TypeBoundLayer, Type_Layer}
 use Rattle.hir_env.specs.Answered as tree
-use Rattle.hir_env.specs.Answered.{Lifetime, Binder, UseRead, Type_, OptionType, Parts, Path, OptionPath, Segments, Segment}
-use Rattle.hir_env.specs.Answered.{SegmentArgs, OptionParens, OptionRet, OptionArgs, Args, Arg, Bounds, Bound, Constant}
+use Rattle.hir_env.specs.Answered.{Lifetime, Binder, UseRead, FnHead, Type_, OptionType, Parts, Path, OptionPath, Segments, Segment}
+use Rattle.hir_env.specs.Answered.{SegmentArgs, OptionParens, OptionRet, OptionArgs, Args, Arg, Bounds, Bound, Constant, Pat}
+use Rattle.hir_env.specs.Answered.{OptionPat, Expr, OptionExpr}
 
 -- names, lifetimes and texts
 
@@ -88,6 +91,9 @@ abbrev pub abi_of : Option (List ℕ) → ExternAbi
 abi_of None = abi.Rust
 abi_of (Some t) = abi_named t
 
+abbrev pub fn_head : Bool → Option (List ℕ) → Bool → List (Option Name) → FnHead
+fn_head is_unsafe text is_varargs names = record { is_unsafe = is_unsafe; abi = abi_of text; is_varargs = is_varargs; names = names }
+
 -- places
 
 -- inside of an `impl`, and inside of a written binding, where another may stand
@@ -97,7 +103,7 @@ inside_impl p = record p { in_impl = true }
 abbrev pub outside_impl : Place → Place
 outside_impl p = record p { in_impl = false }
 
--- Inside of a constant, where an `impl` is an error. An `await` there stands in what the constant stands in.
+-- Inside of a constant, or of the pattern of a type, where an `impl` is an error. An `await` there stands in what the constant stands in.
 abbrev pub inside_constant : Place → Place
 inside_constant p = record p { impl_trait = becomes.Error }
 
@@ -159,6 +165,14 @@ module _ {A : Type 0} where
   type_or_none read None p = tree.no_type
   type_or_none read (Some x) p = tree.some_type (read x p)
 
+  abbrev pub pat_or_none : (A → Place → Pat) → Option A → Place → OptionPat
+  pat_or_none read None p = tree.no_pat
+  pat_or_none read (Some x) p = tree.some_pat (read x p)
+
+  abbrev pub expr_or_none : (A → Place → Expr) → Option A → Place → OptionExpr
+  expr_or_none read None p = tree.no_expr
+  expr_or_none read (Some x) p = tree.some_expr (read x p)
+
   -- a constant that a text lacks has no expression
   abbrev pub constant_or_absent : (A → Place → Constant) → Option A → Place → Constant
   constant_or_absent read None p = tree.constant tree.no_expr
@@ -181,6 +195,14 @@ module _ {A : Type 0} where
   abbrev pub params_or_none : (A → Place → ParamReading) → Option (List A) → Place → Parts
   params_or_none read None p = tree.no_parts
   params_or_none read (Some xs) p = params_of read xs p
+
+  abbrev pub names_given : (A → Place → ParamReading) → List A → Place → List (Option Name)
+  names_given read [] p = []
+  names_given read (x ∷ xs) p = let r = read x p in if r.variadic then names_given read xs p else r.name ∷ names_given read xs p
+
+  abbrev pub names_or_none : (A → Place → ParamReading) → Option (List A) → Place → List (Option Name)
+  names_or_none read None p = []
+  names_or_none read (Some xs) p = names_given read xs p
 
   -- whether the last is variadic, or else what is said where there is none
   abbrev pub last_variadic : (A → Place → ParamReading) → Bool → List A → Place → Bool
@@ -245,20 +267,37 @@ module _ {A : Type 0} where
 -- one level
 
 module _ (env : Answers) {S : Sorts} (part : Reader S) where
+  abbrev pub constant_step : Option S.Expr → Place → Constant
+  constant_step x p = tree.constant (expr_or_none part.expr x (inside_constant p))
+
+  abbrev pub ret_type_step : Option S.Type_ → Place → OptionType
+  ret_type_step x p = type_or_none part.type_ x p
+
+  abbrev pub type_arg_step : Option S.Type_ → Place → OptionType
+  type_arg_step x p = type_or_none part.type_ x p
+
+  abbrev pub paren_args_step : List (Option S.Type_) → Place → Parts
+  paren_args_step xs p = parts_of type_arg_step xs p
+
+  abbrev pub generic_arg_list_step : List S.GenericArg → Place → Args
+  generic_arg_list_step xs p = generic_args_of part.generic_arg xs p
+
   abbrev pub type_at : TypeKindLayer S → Place → Pointer → Type_
   type_at (TypeKind-F.ParenType t) p s = tree.paren_type (type_or_none part.type_ t p)
   type_at (TypeKind-F.SliceType t) p s = tree.over_type s tree.slice_of (type_or_none part.type_ t p)
-  type_at (TypeKind-F.ArrayType t c) p s = tree.array_type s (constant_or_absent part.constant c p) (type_or_none part.type_ t p)
+  type_at (TypeKind-F.ArrayType t c) p s = tree.array_type s (constant_or_absent constant_step c p) (type_or_none part.type_ t p)
   type_at (TypeKind-F.TupleType ts) p s = tree.tuple_type s (types_of part.type_ ts p)
   type_at (TypeKind-F.PathType x) p s = tree.path_type s (path_or_none part.path x p)
   type_at (TypeKind-F.PtrType m t) p s = tree.over_type s (tree.pointer_to (mutability m)) (type_or_none part.type_ t p)
   type_at (TypeKind-F.RefType l m t) p s = tree.ref_type s (option_map (lifetime_of p) l) (mutability m) (type_or_none part.type_ t p)
   type_at (TypeKind-F.FnPtrType is_unsafe text ps r) p s =
-      tree.fn_type s (record { is_unsafe = is_unsafe; abi = abi_of text; is_varargs = is_varargs part.param ps p })
-      (params_or_none part.param ps p) (answer_or_none part.ret_type r p)
+      tree.fn_type s (fn_head is_unsafe text (is_varargs part.param ps p) (names_or_none part.param ps p))
+      (params_or_none part.param ps p) (answer_or_none ret_type_step r p)
   type_at (TypeKind-F.ForType b t) p s = tree.for_type (binder_of b) (type_or_none part.type_ t p)
   type_at (TypeKind-F.ImplTraitType bs) p s = impl_at p.in_impl p.impl_trait s (bounds_of part.type_bound bs (inside_impl p))
   type_at (TypeKind-F.DynTraitType bs) p s = tree.dyn_type s (bounds_of part.type_bound bs p)
+  type_at (TypeKind-F.PatternType t x) p s = let q = pat_or_none part.pat x (inside_constant p) in
+      tree.pattern_type s (type_or_none part.type_ t p) q (type_pat_or_none env.lang_items q)
   type_at TypeKind-F.NeverType p s = tree.leaf_type s tree.never_leaf
   type_at TypeKind-F.InferType p s = tree.leaf_type s tree.infer_leaf
 
@@ -269,41 +308,30 @@ module _ (env : Answers) {S : Sorts} (part : Reader S) where
   type_step t = part.type_kind t.kind (ptr t.id t.range)
 
   abbrev pub param_step : ParamLayer S → Place → ParamReading
-  param_step x p = record { variadic = x.variadic; ty = type_or_none part.type_ x.ty p }
-
-  abbrev pub ret_type_step : RetTypeLayer S → Place → OptionType
-  ret_type_step r p = type_or_none part.type_ r.ty p
+  param_step x p =
+      record { variadic = x.variadic; name = name_given (pat_or_none part.pat x.pat p); ty = type_or_none part.type_ x.ty p }
 
   abbrev pub path_step : PathLayer S → Place → Path
   path_step x p = tree.path x.leading (first_of part.segment x.segs p) (rest_of part.segment x.segs p) (path_or_none part.path x.use_ p)
 
   abbrev pub segment_step : PathSegmentLayer S → Place → Segment
   segment_step s p = kinded_segment env p s.seg s.name
-      (tree.segment_args (arg_list_or_none part.generic_arg_list s.generics p)
-      (parens_or_none part.paren_args s.parens (ret_or_none part.ret_type s.ret p) p) s.rtn)
+      (tree.segment_args (arg_list_or_none generic_arg_list_step s.generics p)
+      (parens_or_none paren_args_step s.parens (ret_or_none ret_type_step s.ret p) p) s.rtn)
       (type_or_none part.type_ s.ty p) (path_type_or_none part.path_type s.trait_ p)
 
   abbrev pub path_type_step : PathTypeLayer S → Place → PathTypeReading
   path_type_step t p = record { pointer = in_file p (ptr t.id t.range); path = path_or_none part.path t.path p }
 
-  abbrev pub paren_args_step : ParenArgsLayer S → Place → Parts
-  paren_args_step x p = parts_of part.type_arg x.args p
-
-  abbrev pub generic_arg_list_step : GenericArgListLayer S → Place → Args
-  generic_arg_list_step x p = generic_args_of part.generic_arg x.args p
-
   abbrev pub generic_arg_step : GenericArgLayer S → Place → Arg
-  generic_arg_step (GenericArg-F.TypeArg x) p = tree.type_arg (part.type_arg x p)
+  generic_arg_step (GenericArg-F.TypeArg x) p = tree.type_arg (type_arg_step x p)
   generic_arg_step (GenericArg-F.AssocTypeArg x) p = part.assoc_type_arg x p
   generic_arg_step (GenericArg-F.LifetimeArg x) p = lifetime_arg_of p x.lifetime
-  generic_arg_step (GenericArg-F.ConstArg x) p = tree.const_arg (part.constant x p)
-
-  abbrev pub type_arg_step : TypeArgLayer S → Place → OptionType
-  type_arg_step x p = type_or_none part.type_ x.ty p
+  generic_arg_step (GenericArg-F.ConstArg x) p = tree.const_arg (constant_step x p)
 
   abbrev pub assoc_type_arg_step : AssocTypeArgLayer S → Place → Arg
   assoc_type_arg_step x p = let inner = outside_impl p in
-      binding_of x.params x.name (arg_list_or_none part.generic_arg_list x.generics inner) x.rtn
+      binding_of x.params x.name (arg_list_or_none generic_arg_list_step x.generics inner) x.rtn
       (type_or_none part.type_ x.ty inner) (bounds_of part.type_bound x.bounds inner)
 
   abbrev pub type_bound_step : TypeBoundLayer S → Place → Bound

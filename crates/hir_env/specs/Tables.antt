@@ -1,10 +1,18 @@
 -- The answers of tables.
-use Rattle.std.specs.Prelude.{Bool, false, List, [], Option, Some, None, Result, Ok, Err, unwrap_or}
+use Rattle.std.specs.Prelude.{Bool, true, false, ◌&&◌, nat_eq, List, [], find, Option, Some, None, Result, Ok, Err, unwrap_or}
+use lib.Pointwise.{pointwise}
 use Rattle.hir_env.specs.Answers.{Contexts, Answers}
 use Rattle.hir_env.specs.NodeMap.{Site, found, pred_found, context_found}
 use Rattle.hir_env.specs.declared.table.Context.{Context}
+use Rattle.hir_env.specs.declared.table.PathEntry.{PathEntry}
+use Rattle.hir_env.specs.declared.lang.LangItems.{LangItems}
+use Rattle.hir_env.specs.declared.resolved.Resolved.{Resolved}
+use Rattle.hir_store.specs.Names.{same_name}
+use Rattle.hir_store.specs.declared.path.ModPath.{ModPath}
+use Rattle.hir_store.specs.declared.path.PathKind.{PathKind}
+use Rattle.hir_store.specs.declared.path.PathKind.TheVariants as kind
 use Rattle.hir_store.specs.declared.ids.ItemContainerId.TheVariants as holder
-use Rattle.hir_syntax.specs.declared.node.PredId.{PredId}
+use Rattle.hir_base.specs.declared.node.PredId.{PredId}
 use Rattle.hir_store.specs.declared.ids.CfgId.{CfgId}
 use Rattle.hir_store.specs.declared.ids.HygieneId.{HygieneId}
 use Rattle.hir_store.specs.declared.ids.CtxId.{CtxId}
@@ -20,9 +28,51 @@ pub record Tables : Type 0 where
   pub blocks : List (Site × (BlockId × ModuleId))
   pub skip : Bool
   pub container : ItemContainerId
+  pub paths : List PathEntry
+  pub lang_items : LangItems
+  pub new_range : Bool
+
+-- each item has the number of its place
+abbrev pub numbered_items : LangItems
+numbered_items = record {
+  range_full = Some (record { 0 = 0 });
+  range_from = Some (record { 0 = 1 });
+  range_from_copy = Some (record { 0 = 2 });
+  range_to = Some (record { 0 = 3 });
+  range_copy = Some (record { 0 = 4 });
+  range = Some (record { 0 = 5 });
+  range_to_inclusive_copy = Some (record { 0 = 6 });
+  range_to_inclusive = Some (record { 0 = 7 });
+  range_inclusive_copy = Some (record { 0 = 8 });
+  range_inclusive_new = Some (record { 0 = 9 });
+  try_trait_from_output = Some (record { 0 = 10 });
+  try_trait_branch = Some (record { 0 = 11 });
+  control_flow_continue = Some (record { 0 = 12 });
+  control_flow_break = Some (record { 0 = 13 });
+  residual_into_try_type = Some (record { 0 = 14 });
+  try_trait_from_residual = Some (record { 0 = 15 });
+  into_iter_into_iter = Some (record { 0 = 16 });
+  iterator_next = Some (record { 0 = 17 });
+  option_some = Some (record { 0 = 18 });
+  option_none = Some (record { 0 = 19 });
+  range_min = Some (record { 0 = 20 });
+  range_max = Some (record { 0 = 21 });
+  range_sub = Some (record { 0 = 22 });
+}
 
 abbrev pub empty : ItemContainerId → Tables
-empty container = record { disabled = []; preds = []; hygiene = []; contexts = []; blocks = []; skip = false; container = container }
+empty container = record {
+  disabled = [];
+  preds = [];
+  hygiene = [];
+  contexts = [];
+  blocks = [];
+  skip = false;
+  container = container;
+  paths = [];
+  lang_items = numbered_items;
+  new_range = false;
+}
 
 abbrev pub enabled : Option CfgId → Result (Unit {0}) CfgId
 enabled None = Ok tt
@@ -57,6 +107,31 @@ abbrev pub module_in : ItemContainerId → ModuleId
 module_in (holder.ModuleId inside) = inside
 module_in _ = record { 0 = 0 }
 
+-- ---- paths
+
+abbrev pub entry : ModuleId → ModPath → Resolved → PathEntry
+entry inside p r = record { inside = inside; path = p; resolved = r }
+
+abbrev pub same_kind : PathKind → PathKind → Bool
+same_kind kind.Plain kind.Plain = true
+same_kind (kind.Super a) (kind.Super b) = nat_eq a b
+same_kind kind.Crate kind.Crate = true
+same_kind kind.Abs kind.Abs = true
+same_kind (kind.DollarCrate a) (kind.DollarCrate b) = nat_eq a.0 b.0
+same_kind _ _ = false
+
+abbrev pub same_path : ModPath → ModPath → Bool
+same_path a b = same_kind a.kind b.kind && pointwise same_name a.segments b.segments
+
+-- whether the entry says something of the path in the module
+abbrev pub says_of : ModuleId → ModPath → PathEntry → Bool
+says_of inside p e = nat_eq e.inside.0 inside.0 && same_path e.path p
+
+-- a path of which nothing is said stands for nothing
+abbrev pub resolved_by : Option PathEntry → Resolved
+resolved_by None = record { types = None; values = None; rest = None }
+resolved_by (Some e) = e.resolved
+
 abbrev pub answers_of : Tables → Answers
 answers_of t = record {
   cfg = λ s. enabled (found t.disabled s);
@@ -70,4 +145,7 @@ answers_of t = record {
   skip = λ _. t.skip;
   container = λ _. t.container;
   module_of = module_in;
+  resolve = λ inside p _. resolved_by (find (says_of inside p) t.paths);
+  lang_items = t.lang_items;
+  new_range = λ _. t.new_range;
 }

@@ -2,52 +2,61 @@
 use Rattle.std.specs.Prelude.{Bool, List, [], ◌∷◌, Option, option_map}
 use Rattle.hir_syntax.specs.declared.ast.ElseBranch.{ElseBranch as AstElseBranch, out-ElseBranch}
 use Rattle.hir_syntax.specs.declared.ast.ExprKind.{out-ExprKind}
+use Rattle.hir_syntax.specs.declared.ast.ElseBranch.TheOpen.{ExprKind-F}
 use Rattle.hir_syntax.specs.declared.ast.StmtKind.{out-StmtKind}
 use Rattle.hir_syntax.specs.declared.types.GenericArg.{GenericArg as AstGenericArg, out-GenericArg}
 use Rattle.hir_syntax.specs.declared.types.TypeKind.{out-TypeKind}
 use Rattle.hir_syntax.specs.declared.ast.BlockExpr.{BlockExpr as AstBlockExpr, out-BlockExpr}
-use Rattle.hir_syntax.specs.declared.ast.ConstArg.{ConstArg as AstConstArg, out-ConstArg}
 use Rattle.hir_syntax.specs.declared.ast.Expr.{Expr as AstExpr}
 use Rattle.hir_syntax.specs.declared.ast.Path.{Path as AstPath, out-Path}
 use Rattle.hir_syntax.specs.declared.ast.PathSegment.{PathSegment as AstPathSegment, out-PathSegment}
 use Rattle.hir_syntax.specs.declared.ast.RecordExprField.{RecordExprField as AstRecordExprField, out-RecordExprField}
 use Rattle.hir_syntax.specs.declared.ast.RecordExprFieldList.{RecordExprFieldList as AstRecordExprFieldList, out-RecordExprFieldList}
 use Rattle.hir_syntax.specs.declared.ast.Stmt.{Stmt as AstStmt}
+use Rattle.hir_syntax.specs.declared.branches.MatchArm.{MatchArm as AstMatchArm, out-MatchArm}
+use Rattle.hir_syntax.specs.declared.pats.PatKind.{out-PatKind}
+use Rattle.hir_syntax.specs.declared.pats.Pat.{Pat as AstPat}
+use Rattle.hir_syntax.specs.declared.pats.RecordPatField.{RecordPatField as AstRecordPatField, out-RecordPatField}
 use Rattle.hir_syntax.specs.declared.types.AssocTypeArg.{AssocTypeArg as AstAssocTypeArg, out-AssocTypeArg}
-use Rattle.hir_syntax.specs.declared.types.GenericArgList.{GenericArgList as AstGenericArgList, out-GenericArgList}
 use Rattle.hir_syntax.specs.declared.types.Param.{Param as AstParam, out-Param}
-use Rattle.hir_syntax.specs.declared.types.ParenArgs.{ParenArgs as AstParenArgs, out-ParenArgs}
 use Rattle.hir_syntax.specs.declared.types.PathType.{PathType as AstPathType, out-PathType}
-use Rattle.hir_syntax.specs.declared.types.RetType.{RetType as AstRetType, out-RetType}
-use Rattle.hir_syntax.specs.declared.types.TypeArg.{TypeArg as AstTypeArg, out-TypeArg}
 use Rattle.hir_syntax.specs.declared.types.TypeBound.{TypeBound as AstTypeBound, out-TypeBound}
 use Rattle.hir_syntax.specs.declared.types.Type_.{Type_ as AstType_}
 use Rattle.hir_syntax.specs.declared.ast.Label.{Label as AstLabel}
 use Rattle.hir_syntax.specs.declared.ast.Lifetime.{Lifetime as AstLifetime}
-use Rattle.hir_syntax.specs.declared.node.NodeId.{NodeId}
-use Rattle.hir_syntax.specs.declared.node.TextRange.{TextRange}
+use Rattle.hir_base.specs.declared.node.NodeId.{NodeId}
+use Rattle.hir_base.specs.declared.node.TextRange.{TextRange}
 use Rattle.hir_store.specs.Pointers.{Pointer}
 use Rattle.hir_env.specs.Spot.{Spot}
+use Rattle.hir_env.specs.Wrapped.{AstConstArg, AstGuard, AstLetElse, AstRetType, AstTypeArg, AstParenArgs, AstGenericArgList}
 use Rattle.hir_store.specs.declared.ids.BlockId.{BlockId}
-use Rattle.hir_env.specs.Layers.{RecordReading}
+use Rattle.hir_store.specs.declared.name.Name.{Name}
+use Rattle.hir_env.specs.declared.place.Place.{Place}
+use Rattle.hir_env.specs.Layers.{RecordReading, ExprKindLayer}
 use Rattle.hir_env.specs.Answering.{in_file, ptr, site_of, label_of, jump_of, modified, expr_or_none, plain_or_none, exprs_of}
 use Rattle.hir_env.specs.Answering.{exprs_or_none, numbered, inside, asked, else_branch, expr_at, constant_step, stmt_at}
-use Rattle.hir_env.specs.Answering.{field_step, record_step, fields_of, spread_or_none, record_or_empty}
+use Rattle.hir_env.specs.Answering.{field_step, record_step, fields_of, spread_or_none, record_or_empty, arms_of, arms_or_none}
+use Rattle.hir_env.specs.Answering.{guard_or_none, let_else_or_none, guard_step, let_else_step, arm_step}
+use Rattle.hir_env.specs.Pats.{pats_of, pat_fields_of, pat_at, pat_field_step}
+use Rattle.hir_env.specs.Targets.{resolves, target_of}
+use Rattle.hir_env.specs.TypePats.{type_pat_or_none}
 use Rattle.hir_env.specs.Paths.{inside_impl, outside_impl, inside_constant, path_or_none, segment_or_absent, segments_of}
 use Rattle.hir_env.specs.Paths.{first_of, rest_of, type_or_none, types_of, parts_of, params_or_none, is_varargs, answer_or_none}
 use Rattle.hir_env.specs.Paths.{ret_or_none, parens_or_none, path_type_or_none, arg_list_or_none, generic_args_of, bounds_of}
 use Rattle.hir_env.specs.Paths.{constant_or_absent, type_at, generic_arg_step, path_step, segment_step, assoc_type_arg_step}
 use Rattle.hir_env.specs.Paths.{generic_arg_list_step, param_step, paren_args_step, path_type_step, ret_type_step, type_arg_step}
-use Rattle.hir_env.specs.Paths.{type_bound_step}
+use Rattle.hir_env.specs.Paths.{type_bound_step, pat_or_none, names_or_none}
 use Rattle.hir_env.specs.TypeLayers.{ParamReading, PathTypeReading}
 pub use Rattle.hir_env.specs.Folds.{written, reader, read_else_branch, read_expr_kind, read_stmt_kind, read_generic_arg}
 pub use Rattle.hir_env.specs.Folds.{read_type_kind, read_block, read_constant, read_expr, read_path, read_segment, read_field}
 pub use Rattle.hir_env.specs.Folds.{read_record, read_stmt, read_assoc_type_arg, read_generic_arg_list, read_param, read_paren_args}
 pub use Rattle.hir_env.specs.Folds.{read_path_type, read_ret_type, read_type_arg, read_type_bound, read_type}
+pub use Rattle.hir_env.specs.Folds.{read_guard, read_let_else, read_arm, read_pat_kind, read_pat, read_pat_field}
 use Rattle.hir_env.specs.Answered as tree
 use Rattle.hir_env.specs.Answered.{Label, Jump, Type_, OptionType, Parts, Path, OptionPath, Segments, Segment}
 use Rattle.hir_env.specs.Answered.{SegmentArgs, OptionParens, OptionRet, OptionArgs, Args, Arg, Bounds, Bound}
 use Rattle.hir_env.specs.Answered.{Expr, OptionExpr, Exprs, Fields, Field, Spread, Block, OptionBlock, Stmts, Stmt, Constant}
+use Rattle.hir_env.specs.Answered.{Arms, Arm, Guard, Pat, OptionPat, Pats, PatFields, PatField, OptionTypePat, Target}
 
 -- read at a spot
 
@@ -71,6 +80,21 @@ answered_record at x = read_record at.answers x at.place
 
 abbrev pub answered_constant : Spot → AstConstArg → Constant
 answered_constant at x = read_constant at.answers x at.place
+
+abbrev pub answered_guard : Spot → AstGuard → OptionExpr
+answered_guard at x = read_guard at.answers x at.place
+
+abbrev pub answered_let_else : Spot → AstLetElse → OptionBlock
+answered_let_else at x = read_let_else at.answers x at.place
+
+abbrev pub answered_arm : Spot → AstMatchArm → Arm
+answered_arm at x = read_arm at.answers x at.place
+
+abbrev pub answered_pat : Spot → AstPat → Pat
+answered_pat at x = read_pat at.answers x at.place
+
+abbrev pub answered_pat_field : Spot → AstRecordPatField → PatField
+answered_pat_field at x = read_pat_field at.answers x at.place
 
 abbrev pub answered_type : Spot → AstType_ → Type_
 answered_type at x = read_type at.answers x at.place
@@ -136,6 +160,35 @@ record_part at x = record_or_empty (read_record at.answers) x at.place
 abbrev pub constant_part : Spot → Option AstConstArg → Constant
 constant_part at x = constant_or_absent (read_constant at.answers) x at.place
 
+abbrev pub arms_part : Spot → List AstMatchArm → Arms
+arms_part at xs = arms_of (read_arm at.answers) xs at.place
+
+abbrev pub arms_or_none_part : Spot → Option (List AstMatchArm) → Arms
+arms_or_none_part at xs = arms_or_none (read_arm at.answers) xs at.place
+
+abbrev pub guard_part : Spot → Option AstGuard → Guard
+guard_part at x = guard_or_none (read_guard at.answers) x at.place
+
+abbrev pub let_else_part : Spot → Option AstLetElse → OptionBlock
+let_else_part at x = let_else_or_none (read_let_else at.answers) x at.place
+
+abbrev pub pat_part : Spot → Option AstPat → OptionPat
+pat_part at x = pat_or_none (read_pat at.answers) x at.place
+
+abbrev pub pats_part : Spot → List AstPat → Pats
+pats_part at xs = pats_of (read_pat at.answers) xs at.place
+
+abbrev pub pat_fields_part : Spot → List AstRecordPatField → PatFields
+pat_fields_part at xs = pat_fields_of (read_pat_field at.answers) xs at.place
+
+-- what is assigned to
+abbrev pub target_part : Spot → Option AstExpr → Target
+target_part at e = target_of (resolves at.answers at.place) (expr_part at e)
+
+-- the pattern of a type
+abbrev pub type_pat_part : Spot → Option AstPat → OptionTypePat
+type_pat_part at x = type_pat_or_none at.answers.lang_items (pat_part at x)
+
 abbrev pub type_part : Spot → Option AstType_ → OptionType
 type_part at t = type_or_none (read_type at.answers) t at.place
 
@@ -170,6 +223,9 @@ params_part at ps = params_or_none (read_param at.answers) ps at.place
 abbrev pub varargs_part : Spot → Option (List AstParam) → Bool
 varargs_part at ps = is_varargs (read_param at.answers) ps at.place
 
+abbrev pub names_part : Spot → Option (List AstParam) → List (Option Name)
+names_part at ps = names_or_none (read_param at.answers) ps at.place
+
 abbrev pub answer_part : Spot → Option AstRetType → OptionType
 answer_part at r = answer_or_none (read_ret_type at.answers) r at.place
 
@@ -202,6 +258,14 @@ pointer_at at id range = in_file at.place (ptr id range)
 abbrev pub block_head : Spot → AstBlockExpr → Bool × Option Label
 block_head at b = let level = out-BlockExpr b in modified level.mod_ (label_part at level.label)
 
+-- the node of an expression, and of a block as an expression the block's
+abbrev pub kind_pointer : Place → ExprKindLayer written → Pointer → Pointer
+kind_pointer p (ExprKind-F.BlockExpr b) s = let level = out-BlockExpr b in in_file p (ptr level.id level.range)
+kind_pointer p _ s = s
+
+abbrev pub own_pointer : Spot → AstExpr → Pointer
+own_pointer at e = kind_pointer at.place (out-ExprKind e.kind) (pointer_at at e.id e.range)
+
 -- one level
 abbrev pub kept_expr : Spot → AstExpr → Expr
 kept_expr at e = expr_at at.answers (reader at.answers) (out-ExprKind e.kind) at.place (pointer_at at e.id e.range)
@@ -210,7 +274,7 @@ abbrev pub asked_expr : Spot → AstExpr → Expr
 asked_expr at e = let s = pointer_at at e.id e.range in asked s (at.answers.cfg (site_of s)) (kept_expr at e)
 
 abbrev pub stmt_level : Spot → AstStmt → Stmt
-stmt_level at s = stmt_at at.answers (reader at.answers) (out-StmtKind s.kind) at.place
+stmt_level at s = stmt_at at.answers (reader at.answers) (out-StmtKind s.kind) at.place (pointer_at at s.id s.range)
 
 -- so far each statement stands for itself alone, and those after it are read where it is
 abbrev pub stmts_part : Spot → List AstStmt → Stmts
@@ -241,7 +305,22 @@ abbrev pub record_level : Spot → AstRecordExprFieldList → RecordReading
 record_level at x = record_step at.answers (reader at.answers) (out-RecordExprFieldList x) at.place
 
 abbrev pub constant_level : Spot → AstConstArg → Constant
-constant_level at x = constant_step at.answers (reader at.answers) (out-ConstArg x) at.place
+constant_level at x = constant_step at.answers (reader at.answers) x at.place
+
+abbrev pub guard_level : Spot → AstGuard → OptionExpr
+guard_level at x = guard_step at.answers (reader at.answers) x at.place
+
+abbrev pub let_else_level : Spot → AstLetElse → OptionBlock
+let_else_level at x = let_else_step at.answers (reader at.answers) x at.place
+
+abbrev pub arm_level : Spot → AstMatchArm → Arm
+arm_level at x = arm_step at.answers (reader at.answers) (out-MatchArm x) at.place
+
+abbrev pub pat_level : Spot → AstPat → Pat
+pat_level at x = pat_at at.answers (reader at.answers) (out-PatKind x.kind) at.place (pointer_at at x.id x.range)
+
+abbrev pub pat_field_level : Spot → AstRecordPatField → PatField
+pat_field_level at x = pat_field_step at.answers (reader at.answers) (out-RecordPatField x) at.place
 
 -- one level of a type or a path
 
@@ -252,7 +331,7 @@ abbrev pub param_level : Spot → AstParam → ParamReading
 param_level at x = param_step at.answers (reader at.answers) (out-Param x) at.place
 
 abbrev pub ret_level : Spot → AstRetType → OptionType
-ret_level at x = ret_type_step at.answers (reader at.answers) (out-RetType x) at.place
+ret_level at x = ret_type_step at.answers (reader at.answers) x at.place
 
 abbrev pub path_level : Spot → AstPath → Path
 path_level at x = path_step at.answers (reader at.answers) (out-Path x) at.place
@@ -264,16 +343,16 @@ abbrev pub path_type_level : Spot → AstPathType → PathTypeReading
 path_type_level at x = path_type_step at.answers (reader at.answers) (out-PathType x) at.place
 
 abbrev pub paren_args_level : Spot → AstParenArgs → Parts
-paren_args_level at x = paren_args_step at.answers (reader at.answers) (out-ParenArgs x) at.place
+paren_args_level at x = paren_args_step at.answers (reader at.answers) x at.place
 
 abbrev pub arg_list_level : Spot → AstGenericArgList → Args
-arg_list_level at x = generic_arg_list_step at.answers (reader at.answers) (out-GenericArgList x) at.place
+arg_list_level at x = generic_arg_list_step at.answers (reader at.answers) x at.place
 
 abbrev pub arg_level : Spot → AstGenericArg → Arg
 arg_level at x = generic_arg_step at.answers (reader at.answers) (out-GenericArg x) at.place
 
 abbrev pub type_arg_level : Spot → AstTypeArg → OptionType
-type_arg_level at x = type_arg_step at.answers (reader at.answers) (out-TypeArg x) at.place
+type_arg_level at x = type_arg_step at.answers (reader at.answers) x at.place
 
 abbrev pub assoc_arg_level : Spot → AstAssocTypeArg → Arg
 assoc_arg_level at x = assoc_type_arg_step at.answers (reader at.answers) (out-AssocTypeArg x) at.place

@@ -1,15 +1,20 @@
 //! An environment of tables.
 
-ghost use Rattle.std.specs.Prelude.{◌≡◌, OnOk, OnErr, false};
+ghost use Rattle.std.specs.Prelude.{◌≡◌, ◌++◌, ◌∷◌, [], find, OnOk, OnErr, false};
+ghost use Rattle.std.specs.Option.{option_copied};
 ghost use Rattle.hir_env.specs.Tables as spec;
 ghost use Rattle.hir_env.specs.NodeMap.{with_first, with_first_pred, with_first_context};
 
 use crate::env::LowerEnv;
+use crate::lang::LangItems;
+use crate::resolved::{Resolved, Shadow};
+use hir_base::node::{InFile, NodeId, PredId};
 use hir_store::first_map::FirstMap;
 use hir_store::ids::{
     BlockId, CfgId, CrateId, CtxId, DefWithBodyId, HygieneId, ItemContainerId, MacroDefId, ModuleId,
 };
-use hir_syntax::node::{InFile, NodeId, PredId};
+use hir_store::path::ModPath;
+use hir_syntax::Seq;
 use std::alloc::{AllocError, Global};
 use std::marker::Model;
 
@@ -23,10 +28,28 @@ pub struct Context {
     pub crate_root: Option<CrateId>,
 }
 
+/// What is said of a path in a module.
+pub struct PathEntry {
+    pub inside: ModuleId,
+    pub path: ModPath,
+    pub resolved: Resolved,
+}
+
+impl Drop for PathEntry {
+    fn drop(self) {
+        let PathEntry {
+            inside: _,
+            path: _,
+            resolved: _,
+        } = self;
+    }
+}
+
 /// An environment that answers all from tables. A node that stands in none is enabled, has root hygiene and no
 /// block. A name's context has the number of its hygiene. A context that stands in no table was made in the root, has
-/// the hygiene of its own number, came from no macro, and its crate has no root. Of two entries for one node or one
-/// context the first counts.
+/// the hygiene of its own number, came from no macro, and its crate has no root. A path that stands in none stands for
+/// nothing, and one that does stands for the same in every way that it is looked up. Of two entries for one node, one
+/// context or one path the first counts.
 pub struct TableEnv {
     disabled: FirstMap<InFile<NodeId>, CfgId>,
     preds: FirstMap<PredId, Option<bool>>,
@@ -35,6 +58,9 @@ pub struct TableEnv {
     blocks: FirstMap<InFile<NodeId>, (BlockId, ModuleId)>,
     skip: bool,
     container: ItemContainerId,
+    paths: Seq<PathEntry>,
+    lang_items: LangItems,
+    new_range: bool,
 }
 
 impl Drop for TableEnv {
@@ -47,6 +73,9 @@ impl Drop for TableEnv {
             blocks: _,
             skip: _,
             container: _,
+            paths: _,
+            lang_items: _,
+            new_range: _,
         } = self;
     }
 }
@@ -64,11 +93,15 @@ impl Model for TableEnv {
       blocks = t.blocks;
       skip = t.skip;
       container = t.container;
+      paths = t.paths;
+      lang_items = t.lang_items;
+      new_range = t.new_range;
     } };
 }
 
 impl TableEnv {
-    /// Tables without entries, of a body that is not skipped and stands in the container.
+    /// Tables without entries, of a body that is not skipped and stands in the container. All items of the language are
+    /// there, numbered in their order, and ranges are made as the older ones.
     pub fn new(alloc: Global, container: ItemContainerId) -> TableEnv
         ensures { result ≡ spec.empty container }
     {
@@ -80,6 +113,9 @@ impl TableEnv {
             blocks: FirstMap::new(alloc),
             skip: false,
             container,
+            paths: Seq::new(alloc),
+            lang_items: LangItems::numbered(),
+            new_range: false,
         }
     }
 
@@ -151,6 +187,52 @@ impl TableEnv {
     {
         self.skip = skip;
     }
+
+    /// Says what a path stands for in a module.
+    pub fn set_resolved(
+        &mut self,
+        inside: ModuleId,
+        path: ModPath,
+        resolved: Resolved,
+    ) -> Result<(), AllocError>
+        ensures ok { OnOk result (self.new ≡ record self.old { paths = self.old.paths ++ spec.entry inside path resolved ∷ [] }) }
+        ensures err { OnErr result (self.new ≡ self.old) }
+    {
+        let entry = PathEntry {
+            inside,
+            path,
+            resolved,
+        };
+        self.paths.push(entry)
+    }
+
+    /// Says which items of the language are there.
+    pub fn set_lang_items(&mut self, items: LangItems)
+        ensures { self.new ≡ record self.old { lang_items = items } }
+    {
+        self.lang_items = items;
+    }
+
+    /// Says whether ranges are made as the newer items.
+    pub fn set_new_range(&mut self, new_range: bool)
+        ensures { self.new ≡ record self.old { new_range = new_range } }
+    {
+        self.new_range = new_range;
+    }
+}
+
+/// Whether the two are one path.
+fn same_path(a: &ModPath, b: &ModPath) -> bool
+    ensures { result ≡ spec.same_path a.now b.now }
+{
+    a.kind == b.kind && a.segments == b.segments
+}
+
+/// What is said first of the path in the module.
+fn entry_of<'a>(entries: &'a [PathEntry], inside: ModuleId, path: &ModPath) -> Option<&'a PathEntry>
+    ensures { option_copied result ≡ find (spec.says_of inside path.now) entries.now }
+{
+    entries.iter().find(|entry| entry.inside == inside && same_path(&entry.path, path))
 }
 
 impl LowerEnv for TableEnv {
@@ -216,5 +298,24 @@ impl LowerEnv for TableEnv {
             ItemContainerId::ModuleId(inside) => inside,
             _ => ModuleId(0),
         }
+    }
+
+    fn resolve(&self, inside: ModuleId, path: &ModPath, _shadow: Shadow) -> Resolved {
+        match entry_of(self.paths.as_slice(), inside, path) {
+            Some(entry) => entry.resolved,
+            None => Resolved {
+                types: None,
+                values: None,
+                rest: None,
+            },
+        }
+    }
+
+    fn lang_items(&self) -> &LangItems {
+        &self.lang_items
+    }
+
+    fn new_range(&self, _inside: ModuleId) -> bool {
+        self.new_range
     }
 }

@@ -1,6 +1,6 @@
 -- What is lowered as a path is what is written.
 use Rattle.std.proofs.Common.{◌≡◌, ◌≢◌, ◌∙◌, refl, sym, ap, subst, Bool, false, [], Option, Some, None, option_map, Result, Ok, Err}
-use Rattle.std.specs.Prelude.{IfOk, IsErrOf}
+use Rattle.std.specs.Prelude.{IfOk, IsErrAnd, IsErrOf}
 use Rattle.hir_syntax.specs.declared.ast.Path.{Path as AstPath}
 use Rattle.hir_store.specs.Stored.{Stored, store_of, map_of}
 use Rattle.hir_store.specs.Storing.{Extends}
@@ -18,7 +18,7 @@ use Rattle.hir_lower_form.specs.Methods.{LowersPath}
 use Rattle.hir_steps.specs.Keeps.{Keeps, KeepsAll, Paired}
 use Rattle.hir_steps.proofs.Keeping.{paths_keep}
 use Rattle.hir_read_back.proofs.Now.{path_law}
-use Rattle.hir_one_result.specs.Laws.{Grown, GrownUnless}
+use Rattle.hir_one_result.specs.Laws.{Grown, GrownUnless, Settled}
 use Rattle.hir_one_result.specs.Diagnostics.{Around}
 use Rattle.hir_one_result.specs.Room.{Short, whole_size}
 use Rattle.hir_one_result.specs.Stands.{Open, WholeWays}
@@ -30,8 +30,10 @@ use Rattle.hir_one_result.proofs.TreeStands.{whole_left}
 use Rattle.hir_type_result.specs.Roots.{RootsOf, recorded}
 use Rattle.hir_type_result.proofs.Behind.{blocks_behind, faults_behind, path_roots, ways_behind}
 use Rattle.hir_type_result.proofs.Inside.{path_inside}
-use Rattle.hir_type_result.proofs.Named.{path_types_once}
-use Rattle.hir_lower.specs.Calls.{Outside}
+use Rattle.hir_type_result.proofs.Named.{path_pats_once, path_types_once}
+use Rattle.hir_lower.specs.declared.error.LowerError.{LowerError}
+use Rattle.hir_lower.specs.declared.error.LowerError.TheVariants as refused
+use Rattle.hir_lower.specs.Calls.{Outside, refusal}
 use Rattle.hir_lower.specs.Means.{BearsNames, ConstantsLive, PathRooted, ReadsBack, whole_path}
 use Rattle.hir_lower.specs.Stays.{Stays}
 use Rattle.hir_lower.proofs.Ways.{Went, went}
@@ -40,6 +42,13 @@ use Rattle.hir_lower.proofs.TreeWays.{option_path_leads}
 extends_of : (b : Builder) (o : Checked (Option Path)) (c : Builder) → Keeps b o c → Extends b.stored c.stored
 extends_of b (Ok x) c h = h.stays
 extends_of b (Err e) c h = h
+
+-- `Full` behind a step that was refused is the step's own
+pub full_before : {A P : Type 0} (f : StoreFault) (r : Result A LowerError) → IsErrAnd r (λ e. e ≡ refusal f) → (f ≡ Full → P)
+    → IsErrOf r refused.Full → P
+full_before Full (Err e) is h full = h refl
+full_before Memory (Err e) is h full = cc
+full_before f (Ok x) is h full = cc
 
 -- what is so of a path that stands alone
 module _ (at : Spot) (x : AstPath) (b b' : Builder) where
@@ -62,20 +71,38 @@ module _ (at : Spot) (x : AstPath) (b b' : Builder) where
   none_around : b.scopes ≡ [] → Around [] b.scopes
   none_around none = subst (λ rs. Around [] rs) (sym none) refl
 
-  constants_live : (later : Stored) → b.scopes ≡ []
+  path_stays : Stays b.stored (lower_path (whole_path at x) b).1.stored
+  path_stays =
+      let o = lower_path (whole_path at x) b in
+      let ways : Went b.stored o.1.stored = went (option_path_leads (whole_path at x)) b in record {
+        extends = extends_of b o.0 o.1 (paths_keep (whole_path at x) b);
+        bindings = ways.bindings;
+        exprs = ways.exprs.ways;
+        labels = ways.labels.ways;
+        pats = ways.pats.ways;
+        types = ways.types.ways;
+        lifetimes = ways.lifetimes.ways;
+      }
+
+  constants_live : (later : Stored) → b.scopes ≡ [] → Settled b.stored b'.stored
       → Shown (WholeWays (store_of later) (map_of later) b.scopes (whole_path at x)) b.stored b'.stored
       → ConstantsLive b.stored b'.stored later (whole_path at x)
-  constants_live later none w = record {
+  constants_live later none settled w = record {
     ways = w.ways;
     stands = subst (λ rs. WholeWays (store_of later) (map_of later) rs (whole_path at x) w.ways) none w.shown;
-    covers = w.moved.covers;
-    covers_labels = w.moved.covers_labels;
-    led = w.moved.led;
-    labels = w.moved.labels;
+    reaches = record {
+      covers = w.moved.covers;
+      covers_labels = w.moved.covers_labels;
+      covers_bindings = w.moved.covers_bindings;
+      led = w.moved.led;
+      labels = w.moved.labels;
+      settled = settled;
+      defined = w.moved.defined;
+    };
   }
 
   abbrev RootsIn : Stored → Open → Bool → Type 0
-  RootsIn later around inside = RootsOf around b.stored b'.stored later (recorded inside (whole_size (whole_path at x)).constants)
+  RootsIn later around inside = RootsOf around b.stored b'.stored later (recorded inside (whole_size (whole_path at x)).inner)
 
   roots_outside : (later : Stored) → Outside b → RootsIn later b.scopes b.in_root → RootsIn later [] false
   roots_outside later out h =
@@ -86,19 +113,21 @@ module _ (at : Spot) (x : AstPath) (b b' : Builder) where
   rooted_path_if (Ok y) l d out =
       let p = whole_path at x in
       let none = out.scopes in
+      let stays : Stays b.stored b'.stored = subst (λ q. Stays b.stored q.1.stored) l.0 path_stays in
       let faults = faults_behind b b' y d l.0 (whole_reports p) [] (none_around none) in
       let kept : KeepsAll b b' = subst (λ q. Keeps b q.0 q.1) l.0 (paths_keep (whole_path at x) b) in
       let grown : Grown (whole_size (whole_path at x)) b.stored b'.stored =
       subst (λ q. GrownUnless (whole_size (whole_path at x)) b.stored q.0 q.1.stored) l.0 (paths_fit (whole_path at x) b) in
       record {
         inner = λ later ext. (path_roots p b b' y d l.0 later ext).1;
-        lives = λ later ext. constants_live later none (ways_behind b b' y d l.0 (whole_left p) later ext);
+        lives = λ later ext still. constants_live later none stays.bindings (ways_behind b b' y d l.0 (whole_left p) later ext still);
         roots = λ later ext. roots_outside later out (path_roots p b b' y d l.0 later ext).0;
         more = faults.more;
         faults = faults.is;
         permuted = faults.like;
         blocks = blocks_behind b b' y d l.0 (whole_enters p);
         reached_once = λ later ext depth le. path_types_once (whole_path at x) b b' y d l.0 later ext depth le;
+        pats_reached_once = λ later ext. path_pats_once (whole_path at x) b b' y d l.0 later ext;
         inside_reached_once = λ later ext depth le. path_inside p b b' y d l.0 later ext depth le;
         grown = grown;
         paired = kept.paired d;
@@ -122,17 +151,6 @@ module _ (at : Spot) (x : AstPath) (b b' : Builder) where
   pub path_too_large_if : (r : Checked (Option Path)) → Alone r → IsErrOf r Full → Short (whole_size (whole_path at x)) b.stored
   path_too_large_if (Ok y) l is = cc
   path_too_large_if (Err e) l is = let other : e ≢ Memory = λ m. cc in short_if e (l other).0
-
-  path_stays : Stays b.stored (lower_path (whole_path at x) b).1.stored
-  path_stays =
-      let o = lower_path (whole_path at x) b in
-      let ways : Went b.stored o.1.stored = went (option_path_leads (whole_path at x)) b in record {
-        extends = extends_of b o.0 o.1 (paths_keep (whole_path at x) b);
-        exprs = ways.exprs.ways;
-        labels = ways.labels.ways;
-        types = ways.types.ways;
-        lifetimes = ways.lifetimes.ways;
-      }
 
   pub path_stays_if : (r : Checked (Option Path)) → Alone r → r ≢ Err Memory → Stays b.stored b'.stored
   path_stays_if (Ok y) l n = subst (λ q. Stays b.stored q.1.stored) l.0 path_stays

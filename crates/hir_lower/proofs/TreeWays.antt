@@ -7,18 +7,23 @@ use Rattle.hir_store.specs.declared.path.GenericArgs.{GenericArgs}
 use Rattle.hir_store.specs.declared.hir.RecordLitField.{RecordLitField}
 use Rattle.hir_store.specs.declared.hir.RecordSpread.{RecordSpread}
 use Rattle.hir_store.specs.declared.hir.Statement.{Statement}
+use Rattle.hir_store.specs.declared.hir.MatchArm.{MatchArm}
+use Rattle.hir_store.specs.declared.pat.RecordFieldPat.{RecordFieldPat}
 use Rattle.hir_store.specs.declared.name.Name.{Name}
 use Rattle.hir_store.specs.declared.diagnostics.AwaitLocation.{AwaitLocation}
 use Rattle.hir_store.specs.declared.ids.ExprId.{ExprId}
 use Rattle.hir_store.specs.declared.ids.HygieneId.{HygieneId}
 use Rattle.hir_store.specs.declared.ids.LabelId.{LabelId}
 use Rattle.hir_store.specs.declared.ids.BlockId.{BlockId}
+use Rattle.hir_store.specs.declared.ids.PatId.{PatId}
 use Rattle.hir_store.specs.declared.ids.TypeRefId.{TypeRefId}
 use Rattle.hir_store.specs.declared.type_ref.TypeBound.{TypeBound}
 use Rattle.hir_env.specs.Answered as tree
 use Rattle.hir_env.specs.Answered.{Binder, Type_, OptionType, Parts, Path, OptionPath, Segments, Segment, SegmentArgs, OptionParens}
 use Rattle.hir_env.specs.Answered.{OptionRet, OptionArgs, Args, Arg, Bounds, Bound, Constant}
 use Rattle.hir_env.specs.Answered.{Listing, Label, Jump, Expr, OptionExpr, Exprs, Fields, Field, Spread, Block, OptionBlock, Stmts, Stmt}
+use Rattle.hir_env.specs.Answered.{Arms, Arm, Guard, Pat, OptionPat, Pats, PatFields, PatField, Side, OptionTypePat, TypePat, TypePats}
+use Rattle.hir_env.specs.Answered.{Limit, Target, Targets, TargetFields, TargetField}
 use Rattle.hir_lower_form.specs.declared.args.ArgLists.{ArgLists}
 use Rattle.hir_lower_form.specs.declared.walk.PathWalk.{PathWalk}
 use Rattle.hir_lower_form.specs.Lowering.{Lowering, ◌>>=◌}
@@ -32,14 +37,28 @@ use Rattle.hir_lower_form.specs.Lower.{lower_fields, lower_field, lower_spread}
 use Rattle.hir_lower_form.specs.Lower.{lower_type, type_part, present_type, type_or_unit, lower_parts, read_segment, read_each, read_path}
 use Rattle.hir_lower_form.specs.Lower.{read_option, lower_path, lower_segment_args, parens_part, output_part, args_part, lower_args}
 use Rattle.hir_lower_form.specs.Lower.{lower_arg, lower_bounds, lower_bound, constant_form, lower_constant}
-use Rattle.hir_lower_form.specs.Walks.{at_first}
+use Rattle.hir_lower_form.specs.Lower.{present_block, lower_arms, lower_arm, lower_guard, lower_top, lower_pat, pat_part}
+use Rattle.hir_lower_form.specs.Lower.{present_pat, lower_pats, lower_elements, lower_alternatives, lower_later, lower_pat_fields}
+use Rattle.hir_lower_form.specs.Lower.{lower_pat_field, lower_side, lower_type_pat_part, lower_type_pat, lower_type_pats, lower_limit}
+use Rattle.hir_lower_form.specs.Lower.{limit_side, lower_target, lower_targets, lower_target_fields, lower_target_field}
+use Rattle.hir_lower_form.specs.Pats.{Table, next_alternative, Elements, no_elements, is_dots}
+use Rattle.hir_lower_form.specs.Walks.{at_first, start, path_read}
 use Rattle.hir_lower.proofs.TypeWays.{error_leads, unit_leads, lifetime_leads, lifetime_option_leads, uses_lead, over_leads, array_leads}
 use Rattle.hir_lower.proofs.TypeWays.{tuple_leads, path_type_leads, ref_leads, fn_leads, impl_leads, dyn_leads, path_bound_leads}
 use Rattle.hir_lower.proofs.TypeWays.{binding_leads, counted_leads, proceed_leads, whole_leads, trait_leads, parens_leads}
-use Rattle.hir_lower.proofs.TypeWays.{segment_args_leads}
+use Rattle.hir_lower.proofs.TypeWays.{segment_args_leads, pattern_type_leads}
 use Rattle.hir_lower.proofs.Ways.{Leading, any, since, then', makes, leading_pure, leading_report, leading_block, leading_close}
 use Rattle.hir_lower.proofs.Ways.{leading_jump, leading_alloc, leading_open, leading_point, leading_closed, leading_report_await}
-use Rattle.hir_lower.proofs.Ways.{leading_point_field, leading_alloc_type, leading_barrier, leading_enter, leading_leave}
+use Rattle.hir_lower.proofs.Ways.{leading_point_field, leading_alloc_type, leading_alloc_pat, leading_barrier, leading_enter}
+use Rattle.hir_lower.proofs.Ways.{leading_leave, anyway}
+use Rattle.hir_lower.proofs.PatWays.{alone_leads, arm_leads, array_target_leads, assign_leads, before_leads, bind_leads, call_target_leads}
+use Rattle.hir_lower.proofs.PatWays.{element_leads, inner_leads, item_leads, let_leads, let_stmt_leads, limits_leads, literal_limit_leads}
+use Rattle.hir_lower.proofs.PatWays.{literal_pat_leads, literal_side_leads, match_leads, missing_pat_leads, name_limit_leads}
+use Rattle.hir_lower.proofs.PatWays.{name_side_leads, or_leads, over_pat_leads, pat_field_leads, path_limit_leads, path_pat_leads}
+use Rattle.hir_lower.proofs.PatWays.{path_side_leads, path_target_leads, place_target_leads, range_leads, range_pat_leads, record_pat_leads}
+use Rattle.hir_lower.proofs.PatWays.{record_target_leads, slice_pat_leads, target_field_leads, tuple_pat_leads}
+use Rattle.hir_lower.proofs.PatWays.{tuple_struct_leads, tuple_target_leads, type_alternatives_leads, names, unnamed, beside}
+use Rattle.hir_lower.proofs.PatWays.{then_names, top_form_leads}
 
 missing_leads : Leading since missing
 unfolding missing
@@ -168,6 +187,7 @@ mutual
   type_leads binder (tree.impl_type at mode bs) = impl_leads at mode (bounds_lead [] bs)
   type_leads binder (tree.nested_impl at) = leading_alloc_type _ (Some at)
   type_leads binder (tree.dyn_type at bs) = dyn_leads at (bounds_lead [] bs)
+  type_leads binder (tree.pattern_type at t own p) = pattern_type_leads at (type_part_leads None t) (type_pat_part_leads p)
 
   type_part_leads : (binder : Option Binder) (t : OptionType) → Leading any (type_part binder t)
   type_part_leads binder tree.no_type = error_leads
@@ -268,7 +288,7 @@ mutual
   node_leads (tree.if_expr at c t e) = if_leads at (part_leads c) (block_part_leads t) (present_leads e)
   node_leads (tree.block_expr b) = block_leads b
   node_leads (tree.loop_expr at label b) = loop_leads at label (block_part_leads b)
-  node_leads (tree.call_expr at f es) = call_leads at (part_leads f) (each_leads [] es)
+  node_leads (tree.call_expr at f has_list es) = call_leads at (part_leads f) (each_leads [] es)
   node_leads (tree.path_expr at x h) = path_leads at h (option_path_leads x)
   node_leads (tree.continue_expr at jump) = continue_leads at jump
   node_leads (tree.break_expr at jump e) = break_leads at jump (present_leads e)
@@ -286,10 +306,14 @@ mutual
   node_leads (tree.yield_expr at e) = value_leads at _ (present_leads e)
   node_leads (tree.await_expr at location e) = await_leads at location (part_leads e)
   node_leads (tree.cast_expr at e t) = cast_leads at (part_leads e) (type_part_leads None t)
-  node_leads (tree.record_expr at x fs s) =
+  node_leads (tree.record_expr at x head fs s) =
       record_leads at (option_path_leads x) (contents_lead (fields_lead [] fs) (spread_leads s))
   node_leads (tree.offset_of_expr at t names) = offset_of_leads at names (type_part_leads None t)
   node_leads (tree.nameless_expr at e) = operand_leads at _ (part_leads e)
+  node_leads (tree.let_expr at p e) = let_leads at (top_leads p) (part_leads e)
+  node_leads (tree.match_expr at e arms) = match_leads at (part_leads e) (arms_lead [] arms)
+  node_leads (tree.range_expr at form low high) = range_leads at form (present_leads low) (present_leads high)
+  node_leads (tree.assign_expr at own t v) = assign_leads at (target_leads t) (part_leads v)
 
   pub part_leads : (e : OptionExpr) → Leading since (lower_part e)
   part_leads tree.no_expr = missing_leads
@@ -313,7 +337,7 @@ mutual
 
   one_field_leads : (f : Field) → Leading any (lower_field f)
   one_field_leads (tree.disabled_field at by f) = then' (leading_report _) (λ u. leading_pure None)
-  one_field_leads tree.nameless_field = leading_pure None
+  one_field_leads (tree.nameless_field at e) = leading_pure None
   one_field_leads (tree.named_field at name e) = field_leads at name (part_leads e)
 
   spread_leads : (s : Spread) → Leading any (lower_spread s)
@@ -336,4 +360,142 @@ mutual
 
   stmt_leads : (s : Stmt) → Leading any (lower_stmt s)
   stmt_leads (tree.expr_stmt e semi) = then' (kept_part_leads e) (λ x. leading_pure _)
+  stmt_leads (tree.disabled_stmt at by s) = then' (leading_report _) (λ u. leading_pure None)
   stmt_leads tree.item_stmt = leading_pure _
+  stmt_leads (tree.let_stmt p t e b) = let_stmt_leads (top_leads p) (present_type_leads t) (present_leads e) (present_block_leads b)
+
+  present_block_leads : (b : OptionBlock) → Leading any (present_block b)
+  present_block_leads tree.no_block = leading_pure None
+  present_block_leads (tree.some_block b) = some_leads (block_leads b)
+
+  arms_lead : (done : List MatchArm) (arms : Arms) → Leading any (lower_arms done arms)
+  arms_lead done tree.no_arms = leading_pure done
+  arms_lead done (tree.more_arms a arms) = then' (one_arm_leads a) (λ x. arms_lead _ arms)
+
+  one_arm_leads : (a : Arm) → Leading any (lower_arm a)
+  one_arm_leads (tree.disabled_arm at by a) = then' (leading_report _) (λ u. leading_pure None)
+  one_arm_leads (tree.arm p e g) = arm_leads (top_leads p) (part_leads e) (guard_leads g)
+
+  guard_leads : (g : Guard) → Leading any (lower_guard g)
+  guard_leads tree.no_guard = leading_pure None
+  guard_leads (tree.guard e) = some_leads (part_leads e)
+
+  -- ---- patterns
+
+  pub top_leads : (p : OptionPat) → Leading any (lower_top p)
+  top_leads tree.no_pat = missing_pat_leads
+  top_leads (tree.some_pat p) = top_form_leads (pat_leads p)
+
+  pat_leads : (p : Pat) (t : Table) → Leading (names t) (lower_pat p t)
+  pat_leads (tree.leaf_pat at form) t = alone_leads (leading_alloc_pat _ (Some at)) t
+  pat_leads (tree.bind_pat at u p) t = bind_leads at u (present_pat_leads p) t
+  pat_leads (tree.name_pat at u) t = alone_leads (leading_alloc_pat _ (Some at)) t
+  pat_leads (tree.path_pat at p) t = alone_leads (path_pat_leads at (option_path_leads p)) t
+  pat_leads (tree.tuple_struct_pat at p comma ps) t =
+      tuple_struct_leads at comma (elements_part_leads no_elements ps) (option_path_leads p) t
+  pat_leads (tree.tuple_pat at comma ps) t = tuple_pat_leads at comma (elements_part_leads no_elements ps) t
+  pat_leads (tree.record_pat at p fs dots) t = record_pat_leads at dots (pat_fields_leads [] fs) (option_path_leads p) t
+  pat_leads (tree.or_pat at ps) t = alternatives_leads at ps t
+  pat_leads (tree.paren_pat at p) t = pat_part_leads p t
+  pat_leads (tree.slice_pat at before p behind) t =
+      slice_pat_leads at (pats_leads [] before) (present_pat_leads p) (pats_leads [] behind) t
+  pat_leads (tree.over_pat at form p) t = over_pat_leads at form (pat_part_leads p) t
+  pat_leads (tree.literal_pat at own l) t = alone_leads (literal_pat_leads at own l) t
+  pat_leads (tree.range_pat at op s e) t = alone_leads (range_pat_leads at op (side_leads s) (side_leads e)) t
+
+  pat_part_leads : (p : OptionPat) (t : Table) → Leading (names t) (pat_part p t)
+  pat_part_leads tree.no_pat t = alone_leads missing_pat_leads t
+  pat_part_leads (tree.some_pat p) t = pat_leads p t
+
+  present_pat_leads : (p : OptionPat) (t : Table) → Leading (names t) (present_pat p t)
+  present_pat_leads tree.no_pat t = unnamed _ t
+  present_pat_leads (tree.some_pat p) t = then_names t (pat_leads p t) (λ r. unnamed _ r.1)
+
+  pats_leads : (done : List PatId) (ps : Pats) (t : Table) → Leading (names t) (lower_pats done ps t)
+  pats_leads done tree.no_pats t = unnamed _ t
+  pats_leads done (tree.more_pats p ps) t = then_names t (pat_leads p t) (λ r. pats_leads _ ps r.1)
+
+  elements_part_leads : (done : Elements) (ps : Pats) (t : Table) → Leading (names t) (lower_elements done ps t)
+  elements_part_leads done tree.no_pats t = unnamed _ t
+  elements_part_leads done (tree.more_pats p ps) t =
+      then_names t (element_leads (is_dots p) done (pat_leads p) t) (λ r. elements_part_leads r.0 ps r.1)
+
+  alternatives_leads : (at : Pointer) (ps : Pats) (t : Table) → Leading (names t) (lower_alternatives at ps t)
+  alternatives_leads at tree.no_pats t = alone_leads (leading_alloc_pat _ (Some at)) t
+  alternatives_leads at (tree.more_pats p ps) t = or_leads at (pat_leads p) (later_leads ps) t
+
+  later_leads : (ps : Pats) (done : List PatId) (t : Table) → Leading (names t) (lower_later ps done t)
+  later_leads tree.no_pats done t = unnamed _ t
+  later_leads (tree.more_pats p ps) done t = then_names t (pat_leads p (next_alternative t)) (λ r. later_leads ps _ r.1)
+
+  pat_fields_leads : (done : List RecordFieldPat) (fs : PatFields) (t : Table) → Leading (names t) (lower_pat_fields done fs t)
+  pat_fields_leads done tree.no_pat_fields t = unnamed _ t
+  pat_fields_leads done (tree.more_pat_fields f fs) t = then_names t (one_pat_field_leads f t) (λ r. pat_fields_leads _ fs r.1)
+
+  one_pat_field_leads : (f : PatField) (t : Table) → Leading (names t) (lower_pat_field f t)
+  one_pat_field_leads (tree.disabled_pat_field at by f) t = beside t (leading_report _) (λ u. unnamed _ t)
+  one_pat_field_leads tree.partless_pat_field t = unnamed _ t
+  one_pat_field_leads (tree.pat_field at n p) t = pat_field_leads at n (pat_leads p) t
+
+  side_leads : (s : Side) → Leading any (lower_side s)
+  side_leads tree.no_side = leading_pure None
+  side_leads (tree.literal_side at l) = literal_side_leads at l
+  side_leads (tree.name_side at n) = name_side_leads at n
+  side_leads (tree.path_side at p) = path_side_leads at (option_path_leads p)
+  side_leads tree.other_side = leading_pure None
+
+  -- ---- patterns of types
+
+  type_pat_part_leads : (p : OptionTypePat) → Leading any (lower_type_pat_part p)
+  type_pat_part_leads tree.no_type_pat = missing_pat_leads
+  type_pat_part_leads (tree.some_type_pat p) = type_pat_leads p
+
+  type_pat_leads : (p : TypePat) → Leading any (lower_type_pat p)
+  type_pat_leads (tree.not_null_type_pat at) = leading_alloc_pat _ (Some at)
+  type_pat_leads (tree.or_type_pat at ps) = type_alternatives_leads at (type_pats_leads [] ps)
+  type_pat_leads (tree.range_type_pat at s e) = limits_leads at (limit_leads s) (limit_leads e)
+  type_pat_leads (tree.other_type_pat at) = leading_alloc_pat _ (Some at)
+
+  type_pats_leads : (done : List PatId) (ps : TypePats) → Leading any (lower_type_pats done ps)
+  type_pats_leads done tree.no_type_pats = leading_pure done
+  type_pats_leads done (tree.more_type_pats p ps) = then' (type_pat_leads p) (λ i. type_pats_leads _ ps)
+
+  limit_leads : (l : Limit) → Leading any (lower_limit l)
+  limit_leads (tree.item_limit item) = inner_leads (item_leads item)
+  limit_leads (tree.side_limit s) = inner_leads (limit_side_leads s)
+  limit_leads (tree.before_limit item s) = inner_leads (before_leads item (limit_side_leads s))
+
+  limit_side_leads : (s : Side) → Leading any (limit_side s)
+  limit_side_leads tree.no_side = anyway missing_leads
+  limit_side_leads (tree.literal_side at l) = literal_limit_leads at l
+  limit_side_leads (tree.name_side at n) = name_limit_leads at n
+  limit_side_leads (tree.path_side at p) = path_limit_leads at (option_path_leads p)
+  limit_side_leads tree.other_side = anyway missing_leads
+
+  -- ---- targets
+
+  pub target_leads : (t : Target) → Leading any (lower_target t)
+  target_leads tree.absent_target = missing_pat_leads
+  target_leads (tree.place_target at e) = place_target_leads at (node_leads e)
+  target_leads (tree.wild_target at) = leading_alloc_pat _ (Some at)
+  target_leads (tree.path_target at p h) = path_target_leads at h (then' (reading_leads p start) (λ r. leading_pure (path_read r)))
+  target_leads (tree.tuple_target at ts) = tuple_target_leads at (targets_leads no_elements ts)
+  target_leads (tree.call_target at p ts) = call_target_leads at (targets_leads no_elements ts) (option_path_leads p)
+  target_leads (tree.array_target at before dots behind) =
+      array_target_leads at dots (targets_leads no_elements before) (targets_leads no_elements behind)
+  target_leads (tree.record_target at p fs dots spread) =
+      record_target_leads at dots spread (target_fields_leads [] fs) (option_path_leads p)
+
+  targets_leads : (done : Elements) (ts : Targets) → Leading any (lower_targets done ts)
+  targets_leads done tree.no_targets = leading_pure done
+  targets_leads done (tree.more_targets t ts) = then' (target_leads t) (λ i. targets_leads _ ts)
+  targets_leads done (tree.dots_targets ts) = targets_leads _ ts
+
+  target_fields_leads : (done : List RecordFieldPat) (fs : TargetFields) → Leading any (lower_target_fields done fs)
+  target_fields_leads done tree.no_target_fields = leading_pure done
+  target_fields_leads done (tree.more_target_fields f fs) = then' (one_target_field_leads f) (λ x. target_fields_leads _ fs)
+
+  one_target_field_leads : (f : TargetField) → Leading any (lower_target_field f)
+  one_target_field_leads (tree.disabled_target_field at by) = then' (leading_report _) (λ u. leading_pure None)
+  one_target_field_leads tree.partless_target_field = leading_pure None
+  one_target_field_leads (tree.target_field at n t) = target_field_leads at n (target_leads t)

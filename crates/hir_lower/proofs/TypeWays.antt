@@ -3,6 +3,7 @@ use Rattle.std.proofs.Common.{Bool, true, false, List, [], ◌∷◌, ◌++◌, 
 use Rattle.hir_store.specs.Pointers.{Pointer}
 use Rattle.hir_store.specs.declared.hir.Mutability.{Mutability}
 use Rattle.hir_store.specs.declared.type_ref.ConstRef.{ConstRef}
+use Rattle.hir_store.specs.declared.ids.PatId.{PatId}
 use Rattle.hir_store.specs.declared.ids.TypeRefId.{TypeRefId}
 use Rattle.hir_store.specs.declared.ids.LifetimeRefId.{LifetimeRefId}
 use Rattle.hir_store.specs.declared.name.Name.{Name}
@@ -21,7 +22,7 @@ use Rattle.hir_lower_form.specs.Lowering.{Lowering, ◌>>=◌}
 use Rattle.hir_lower_form.specs.Paths.{proceed, whole, counted, read_trait, with_trait, parens_form, or_else, segment_args_form}
 use Rattle.hir_lower_form.specs.Types.{error_type, unit_type, lower_lifetime, lower_lifetime_option, lower_use, lower_uses, over_form}
 use Rattle.hir_lower_form.specs.Types.{TypeSteps, tuple_type_form, path_type_form, ref_type_form, fn_type_form}
-use Rattle.hir_lower_form.specs.Types.{impl_type_form, dyn_type_form}
+use Rattle.hir_lower_form.specs.Types.{impl_type_form, dyn_type_form, pattern_type_form}
 use Rattle.hir_lower_form.specs.Types.{array_type_form, binding_form, path_bound_of, path_bound_form}
 use Rattle.hir_lower.proofs.Ways.{Leading, any, then', leading_pure, leading_count_out, leading_alloc_type, leading_alloc_lifetime}
 
@@ -63,6 +64,10 @@ module _ (at : Pointer) where
   pub array_leads : {n : Lowering ConstRef} {t : TypeSteps} → Leading any n → Leading any t → Leading any (array_type_form at n t)
   unfolding array_type_form
   array_leads h k = then' h (λ i. then' k (λ j. leading_alloc_type _ (Some at)))
+
+  pub pattern_type_leads : {t : TypeSteps} {p : Lowering PatId} → Leading any t → Leading any p → Leading any (pattern_type_form at t p)
+  unfolding pattern_type_form
+  pattern_type_leads h k = then' h (λ i. then' k (λ p. leading_alloc_type _ (Some at)))
 
   pub path_type_leads : {p : Lowering (Option HirPath)} → Leading any p → Leading any (path_type_form at p)
   unfolding path_type_form

@@ -3,18 +3,25 @@ use Rattle.std.proofs.Common.{arith, ◌≡◌, ◌∙◌, refl, sym, ap, subst,
 use Rattle.std.proofs.Common.{length-append}
 use Rattle.std.proofs.Common.{List, [], ◌∷◌, Option, Some, None, Ok, Err, ◌⊎◌, inl, inr, ⊎_elim, true≢false, is_some}
 use Rattle.hir_store.specs.Pointers.{Pointer, same_pointer, found}
-use Rattle.hir_store.specs.Arenas.{Sourced, pointed, with_entry}
+use Rattle.hir_store.specs.Arenas.{Prefix, Sourced, pointed, with_entry}
+use Rattle.hir_store.proofs.Extending.{extends_refl}
+use Rattle.hir_store.proofs.Arenas.{prefix_push, prefix_refl, prefix_trans}
 use Rattle.hir_store.specs.Stored.{Stored}
 use Rattle.hir_store.specs.Storing as storing
-use Rattle.hir_store.specs.Storing.{expr_id, label_id, lifetime_id, type_id}
+use Rattle.hir_store.specs.Bindings.{Bindings, binding_id, with_binding}
+use Rattle.hir_store.specs.Storing.{expr_id, label_id, lifetime_id, pat_id, type_id}
 use Rattle.hir_store.specs.declared.fault.StoreFault.TheVariants.{Full}
 use Rattle.hir_store.specs.declared.diagnostics.ExpressionStoreDiagnostics.{ExpressionStoreDiagnostics}
 use Rattle.hir_store.specs.declared.diagnostics.AwaitLocation.{AwaitLocation}
 use Rattle.hir_store.specs.declared.hir.Expr.{Expr}
 use Rattle.hir_store.specs.declared.hir.Label.{Label as HirLabel}
+use Rattle.hir_store.specs.declared.pat.Binding.{Binding}
+use Rattle.hir_store.specs.declared.pat.Pat.{Pat as HirPat}
 use Rattle.hir_store.specs.declared.ids.ExprId.{ExprId}
 use Rattle.hir_store.specs.declared.ids.LabelId.{LabelId}
 use Rattle.hir_store.specs.declared.ids.LifetimeRefId.{LifetimeRefId}
+use Rattle.hir_store.specs.declared.ids.BindingId.{BindingId}
+use Rattle.hir_store.specs.declared.ids.PatId.{PatId}
 use Rattle.hir_store.specs.declared.ids.TypeRefId.{TypeRefId}
 use Rattle.hir_store.specs.declared.type_ref.LifetimeRef.{LifetimeRef}
 use Rattle.hir_store.specs.declared.type_ref.TypeRef.{TypeRef}
@@ -23,9 +30,10 @@ use Rattle.hir_env.specs.Answered.{Label, Jump}
 use Rattle.hir_scope.specs.Ribs.{Target, reachable, unreachable, undeclared, target}
 use Rattle.hir_lower_form.specs.Builder.{Builder}
 use Rattle.hir_lower_form.specs.Lowering.{Checked, go_on, Lowering, ◌>>=◌, pure, alloc_expr, alloc_lifetime, alloc_type, point, report}
+use Rattle.hir_lower_form.specs.Lowering.{alloc_binding, alloc_pat, define, point_pat_field}
 use Rattle.hir_lower_form.specs.Lowering.{point_field, open_barrier, enter_root, outside_root, leave_root, record_root}
 use Rattle.hir_lower_form.specs.Lowering.{enter_block, open_label, close, jump_target, found_or_fault, open_as, report_await, count_out}
-use Rattle.hir_lower.specs.Stays.{LeadsOn}
+use Rattle.hir_lower.specs.Stays.{LeadsOn, Stays}
 
 -- maps
 
@@ -104,6 +112,9 @@ expr_place i = i.0
 abbrev label_place : LabelId → ℕ
 label_place n = n.0
 
+abbrev pat_place : PatId → ℕ
+pat_place p = p.0
+
 abbrev type_place : TypeRefId → ℕ
 type_place i = i.0
 
@@ -113,52 +124,72 @@ lifetime_place i = i.0
 pub record Went (a b : Stored) : Type 0 where
   pub exprs : Onward expr_place a.exprs b.exprs
   pub labels : Onward label_place a.labels b.labels
+  pub pats : Onward pat_place a.pats b.pats
   pub types : Onward type_place a.types b.types
   pub lifetimes : Onward lifetime_place a.lifetimes b.lifetimes
+  pub bindings : Prefix a.bindings.entries b.bindings.entries
 
 went_refl : (a : Stored) → Went a a
 went_refl a = record {
   exprs = onward_refl expr_place _;
   labels = onward_refl label_place _;
+  pats = onward_refl pat_place _;
   types = onward_refl type_place _;
   lifetimes = onward_refl lifetime_place _;
+  bindings = prefix_refl _;
 }
 
--- the arenas are those of before
+pub stays_refl : (a : Stored) → Stays a a
+stays_refl a = record {
+  extends = extends_refl a;
+  bindings = prefix_refl _;
+  exprs = on_refl expr_place _ _;
+  labels = on_refl label_place _ _;
+  pats = on_refl pat_place _ _;
+  types = on_refl type_place _ _;
+  lifetimes = on_refl lifetime_place _ _;
+}
+
+-- the arenas are those of before, and so are the bindings
 abbrev Arenas : Stored → Stored → Type 0
-Arenas a b = (b.exprs ≡ a.exprs) × ((b.labels ≡ a.labels) × ((b.types ≡ a.types) × (b.lifetimes ≡ a.lifetimes)))
+Arenas a b = (b.exprs ≡ a.exprs) × ((b.labels ≡ a.labels) × ((b.pats ≡ a.pats)
+    × ((b.types ≡ a.types) × ((b.lifetimes ≡ a.lifetimes) × (b.bindings.entries ≡ a.bindings.entries)))))
 
 went_same : (a b : Stored) → Arenas a b → Went a b
-went_same a b e = rw (e.0, e.1.0, e.1.1.0, e.1.1.1) (record {
+went_same a b e = rw (e.0, e.1.0, e.1.1.0, e.1.1.1.0, e.1.1.1.1.0, e.1.1.1.1.1) (record {
   exprs = onward_refl expr_place _;
   labels = onward_refl label_place _;
+  pats = onward_refl pat_place _;
   types = onward_refl type_place _;
   lifetimes = onward_refl lifetime_place _;
+  bindings = prefix_refl _;
 })
 
 pub went_trans : (a b c : Stored) → Went a b → Went b c → Went a c
 went_trans a b c g h = record {
   exprs = onward_trans expr_place _ _ _ g.exprs h.exprs;
   labels = onward_trans label_place _ _ _ g.labels h.labels;
+  pats = onward_trans pat_place _ _ _ g.pats h.pats;
   types = onward_trans type_place _ _ _ g.types h.types;
   lifetimes = onward_trans lifetime_place _ _ _ g.lifetimes h.lifetimes;
+  bindings = prefix_trans g.bindings h.bindings;
 }
 
 -- steps
 
--- what is said of an answer, from the number of entries before
+-- what is said of an answer, of what was stored before
 abbrev pub Low : Type 0 → Type 1
-Low A = ℕ → A → Type 0
+Low A = Stored → A → Type 0
 
 abbrev pub any : {A : Type 0} → Low A
-any n a = Unit {0}
+any s a = Unit {0}
 
 -- it is an entry that came since
 abbrev pub since : Low ExprId
-since n i = n ≤ i.0
+since s i = length s.exprs.entries ≤ i.0
 
-abbrev Goes : {A : Type 0} → Low A → Builder → Checked A → Builder → Type 0
-Goes L b (Ok a) c = Went b.stored c.stored × L (length b.stored.exprs.entries) a
+abbrev pub Goes : {A : Type 0} → Low A → Builder → Checked A → Builder → Type 0
+Goes L b (Ok a) c = Went b.stored c.stored × L b.stored a
 Goes L b (Err e) c = Went b.stored c.stored
 
 pub record Leading {A : Type 0} (L : Low A) (p : Lowering A) : Type 0 where
@@ -171,42 +202,53 @@ went_of L b (Err e) c h = h
 pub went : {A : Type 0} {L : Low A} {p : Lowering A} → Leading L p → (b : Builder) → Went b.stored (p b).1.stored
 went {L = L} {p = p} h b = went_of L b (p b).0 (p b).1 (h.goes b)
 
-bound : {A B : Type 0} {L : Low A} {p : Lowering A} {f : A → Lowering B} (M : Low B)
-    → ((n m : ℕ) (x : B) → n ≤ m → M m x → M n x) → Leading L p → ((a : A) → Leading M (f a)) → Leading M (p >>= f)
-bound {A = A} {B = B} {L = L} {p = p} {f = f} M less h k = record { goes = λ b. first b (p b).0 (p b).1 (h.goes b) }
+-- one after another, of which the first says L and, after that, the other M
+pub in_turn : {A B : Type 0} {L : Low A} {p : Lowering A} {f : A → Lowering B} (M : A → Low B) (N : Low B)
+    → ((s t : Stored) (a : A) (x : B) → Went s t → L s a → M a t x → N s x)
+    → Leading L p → ((a : A) → Leading (M a) (f a)) → Leading N (p >>= f)
+in_turn {A = A} {B = B} {L = L} {p = p} {f = f} M N so h k = record { goes = λ b. first b (p b).0 (p b).1 (h.goes b) }
   where
-    second : (b b' : Builder) → Went b.stored b'.stored → (o : Checked B) (c : Builder) → Goes M b' o c → Goes M b o c
-    second b b' x (Ok e) c y = (went_trans _ _ _ x y.0, less _ _ e x.exprs.grown y.1)
-    second b b' x (Err e) c y = went_trans _ _ _ x y
+    second : (b b' : Builder) (a : A) → Went b.stored b'.stored → L b.stored a → (o : Checked B) (c : Builder) → Goes (M a) b' o c
+        → Goes N b o c
+    second b b' a x l (Ok e) c y = (went_trans _ _ _ x y.0, so _ _ a e x l y.1)
+    second b b' a x l (Err e) c y = went_trans _ _ _ x y
 
-    first : (b : Builder) (o : Checked A) (c : Builder) → Goes L b o c → Goes M b (go_on o c f).0 (go_on o c f).1
-    first b (Ok a) c x = second b c x.0 (f a c).0 (f a c).1 ((k a).goes c)
+    first : (b : Builder) (o : Checked A) (c : Builder) → Goes L b o c → Goes N b (go_on o c f).0 (go_on o c f).1
+    first b (Ok a) c x = second b c a x.0 x.1 (f a c).0 (f a c).1 ((k a).goes c)
     first b (Err e) c x = x
 
 pub then' : {A B : Type 0} {L : Low A} {p : Lowering A} {f : A → Lowering B} → Leading L p
     → ((a : A) → Leading any (f a)) → Leading any (p >>= f)
-then' h k = bound any (λ n m x le y. tt) h k
+then' h k = in_turn (λ a. any) any (λ s t a x w l y. tt) h k
 
 -- and what it answers came since
 pub makes : {A : Type 0} {L : Low A} {p : Lowering A} {f : A → Lowering ExprId} → Leading L p
     → ((a : A) → Leading since (f a)) → Leading since (p >>= f)
-makes h k = bound since (λ n m x le y. omega arith) h k
+makes h k = in_turn (λ a. since) since (λ s t a x w l y. let grown = w.exprs.grown in omega (arith, grown, y)) h k
+
+-- whatever is said of the answer
+pub anyway : {A : Type 0} {L : Low A} {p : Lowering A} → Leading L p → Leading any p
+anyway {A = A} {L = L} {p = p} h = record { goes = λ b. by b (p b).0 (p b).1 (h.goes b) }
+  where
+    by : (b : Builder) (o : Checked A) (c : Builder) → Goes L b o c → Goes any b o c
+    by b (Ok a) c x = (x.0, tt)
+    by b (Err e) c x = x
 
 pub leading_pure : {A : Type 0} (a : A) → Leading any (pure a)
-leading_pure a = record { goes = λ b. (went_same _ _ (refl, (refl, (refl, refl))), tt) }
+leading_pure a = record { goes = λ b. (went_same _ _ (refl, (refl, (refl, (refl, (refl, refl))))), tt) }
 
 pub leading_count_out : {A : Type 0} → Leading any (count_out {A = A})
 unfolding count_out
-leading_count_out = record { goes = λ b. went_same _ _ (refl, (refl, (refl, refl))) }
+leading_count_out = record { goes = λ b. went_same _ _ (refl, (refl, (refl, (refl, (refl, refl))))) }
 
 pub leading_report : (d : ExpressionStoreDiagnostics) → Leading any (report d)
 unfolding report storing.report
-leading_report d = record { goes = λ b. (went_same _ _ (refl, (refl, (refl, refl))), tt) }
+leading_report d = record { goes = λ b. (went_same _ _ (refl, (refl, (refl, (refl, (refl, refl))))), tt) }
 
 -- where a value leads to is no way of a node
 pub leading_point_field : (i : ExprId) (at : Pointer) → Leading any (point_field i at)
 unfolding point_field storing.point_field
-leading_point_field i at = record { goes = λ b. (went_same _ _ (refl, (refl, (refl, refl))), tt) }
+leading_point_field i at = record { goes = λ b. (went_same _ _ (refl, (refl, (refl, (refl, (refl, refl))))), tt) }
 
 pub leading_report_await : (at : Pointer) (location : Option AwaitLocation) → Leading any (report_await at location)
 unfolding report_await
@@ -216,23 +258,23 @@ leading_report_await at (Some l) = leading_report _
 pub leading_block : (n : Option BlockId) → Leading any (enter_block n)
 unfolding enter_block storing.enter_block
 leading_block None = leading_pure tt
-leading_block (Some n) = record { goes = λ b. (went_same _ _ (refl, (refl, (refl, refl))), tt) }
+leading_block (Some n) = record { goes = λ b. (went_same _ _ (refl, (refl, (refl, (refl, (refl, refl))))), tt) }
 
 pub leading_barrier : Leading any open_barrier
 unfolding open_barrier
-leading_barrier = record { goes = λ b. (went_same _ _ (refl, (refl, (refl, refl))), tt) }
+leading_barrier = record { goes = λ b. (went_same _ _ (refl, (refl, (refl, (refl, (refl, refl))))), tt) }
 
 pub leading_enter : Leading any enter_root
 unfolding enter_root
-leading_enter = record { goes = λ b. (went_same _ _ (refl, (refl, (refl, refl))), tt) }
+leading_enter = record { goes = λ b. (went_same _ _ (refl, (refl, (refl, (refl, (refl, refl))))), tt) }
 
 leading_outside : Leading any outside_root
 unfolding outside_root
-leading_outside = record { goes = λ b. (went_same _ _ (refl, (refl, (refl, refl))), tt) }
+leading_outside = record { goes = λ b. (went_same _ _ (refl, (refl, (refl, (refl, (refl, refl))))), tt) }
 
 leading_record : (i : ExprId) → Leading any (record_root i)
 unfolding record_root storing.record_root
-leading_record i = record { goes = λ b. (went_same _ _ (refl, (refl, (refl, refl))), tt) }
+leading_record i = record { goes = λ b. (went_same _ _ (refl, (refl, (refl, (refl, (refl, refl))))), tt) }
 
 pub leading_leave : (outer : Bool) (i : ExprId) → Leading any (leave_root outer i)
 unfolding leave_root
@@ -241,7 +283,7 @@ leading_leave false i = then' (leading_record i) (λ u. leading_outside)
 
 pub leading_close : Leading any close
 unfolding close
-leading_close = record { goes = λ b. (went_same _ _ (refl, (refl, (refl, refl))), tt) }
+leading_close = record { goes = λ b. (went_same _ _ (refl, (refl, (refl, (refl, (refl, refl))))), tt) }
 
 pub leading_jump : (j : Option Jump) → Leading any (jump_target j)
 unfolding jump_target report storing.report
@@ -249,9 +291,9 @@ leading_jump None = leading_pure None
 leading_jump (Some j) = record { goes = λ b. by b (target j b.scopes) }
   where
     by : (b : Builder) (t : Target LabelId) → Goes any b (found_or_fault j t b).0 (found_or_fault j t b).1
-    by b (reachable n) = (went_same _ _ (refl, (refl, (refl, refl))), tt)
-    by b unreachable = (went_same _ _ (refl, (refl, (refl, refl))), tt)
-    by b undeclared = (went_same _ _ (refl, (refl, (refl, refl))), tt)
+    by b (reachable n) = (went_same _ _ (refl, (refl, (refl, (refl, (refl, refl))))), tt)
+    by b unreachable = (went_same _ _ (refl, (refl, (refl, (refl, (refl, refl))))), tt)
+    by b undeclared = (went_same _ _ (refl, (refl, (refl, (refl, (refl, refl))))), tt)
 
 pub leading_alloc : (e : Expr) (source : Option Pointer) → Leading since (alloc_expr e source)
 unfolding alloc_expr storing.alloc_expr
@@ -264,12 +306,71 @@ leading_alloc e source = record { goes = λ b. by b (nat_lt (length b.stored.exp
       record {
         exprs = onward_entry expr_place expr_id (λ n. refl) b.stored.exprs e source;
         labels = onward_refl label_place _;
+        pats = onward_refl pat_place _;
         types = onward_refl type_place _;
         lifetimes = onward_refl lifetime_place _;
+        bindings = prefix_refl _;
       },
       omega arith,
     )
     by b false = went_refl b.stored
+
+pub leading_alloc_pat : (p : HirPat) (source : Option Pointer) → Leading any (alloc_pat p source)
+unfolding alloc_pat storing.alloc_pat
+leading_alloc_pat p source = record { goes = λ b. by b (nat_lt (length b.stored.pats.entries) b.stored.pats.limit) }
+  where
+    by : (b : Builder) (t : Bool)
+        → Goes any b (made pat_id t p source b.stored.pats).0
+        (record b { stored = record b.stored { pats = (made pat_id t p source b.stored.pats).1 } })
+    by b true = (
+      record {
+        exprs = onward_refl expr_place _;
+        labels = onward_refl label_place _;
+        pats = onward_entry pat_place pat_id (λ n. refl) b.stored.pats p source;
+        types = onward_refl type_place _;
+        lifetimes = onward_refl lifetime_place _;
+        bindings = prefix_refl _;
+      },
+      tt,
+    )
+    by b false = went_refl b.stored
+
+-- no node leads to a binding
+
+-- it is a binding that came since
+abbrev pub new : Low BindingId
+new s b = length s.bindings.entries ≤ b.0
+
+abbrev pub bound_if : Bool → Binding → Bindings → Checked BindingId × Bindings
+bound_if room x a = if room then (Ok (binding_id (length a.entries)), with_binding a x) else (Err Full, a)
+
+pub leading_alloc_binding : (x : Binding) → Leading new (alloc_binding x)
+unfolding alloc_binding storing.alloc_binding
+leading_alloc_binding x = record { goes = λ b. by b (nat_lt (length b.stored.bindings.entries) b.stored.bindings.limit) }
+  where
+    by : (b : Builder) (t : Bool)
+        → Goes new b (bound_if t x b.stored.bindings).0
+        (record b { stored = record b.stored { bindings = (bound_if t x b.stored.bindings).1 } })
+    by b true = (
+      record {
+        exprs = onward_refl expr_place _;
+        labels = onward_refl label_place _;
+        pats = onward_refl pat_place _;
+        types = onward_refl type_place _;
+        lifetimes = onward_refl lifetime_place _;
+        bindings = prefix_push b.stored.bindings.entries x;
+      },
+      omega arith,
+    )
+    by b false = went_refl b.stored
+
+pub leading_define : (id : BindingId) (p : PatId) → Leading any (define id p)
+unfolding define storing.define
+leading_define id p = record { goes = λ b. (went_same _ _ (refl, (refl, (refl, (refl, (refl, refl))))), tt) }
+
+pub leading_point_pat_field : (id : PatId) (at : Pointer) → Leading any (point_pat_field id at)
+unfolding point_pat_field storing.point_pat_field
+leading_point_pat_field id at = record { goes = λ b. (went_same _ _ (refl, (refl, (refl, (refl, (refl, refl))))), tt) }
 
 pub leading_alloc_type : (e : TypeRef) (source : Option Pointer) → Leading any (alloc_type e source)
 unfolding alloc_type storing.alloc_type
@@ -282,8 +383,10 @@ leading_alloc_type e source = record { goes = λ b. by b (nat_lt (length b.store
       record {
         exprs = onward_refl expr_place _;
         labels = onward_refl label_place _;
+        pats = onward_refl pat_place _;
         types = onward_entry type_place type_id (λ n. refl) b.stored.types e source;
         lifetimes = onward_refl lifetime_place _;
+        bindings = prefix_refl _;
       },
       tt,
     )
@@ -300,8 +403,10 @@ leading_alloc_lifetime e source = record { goes = λ b. by b (nat_lt (length b.s
       record {
         exprs = onward_refl expr_place _;
         labels = onward_refl label_place _;
+        pats = onward_refl pat_place _;
         types = onward_refl type_place _;
         lifetimes = onward_entry lifetime_place lifetime_id (λ n. refl) b.stored.lifetimes e source;
+        bindings = prefix_refl _;
       },
       tt,
     )
@@ -312,8 +417,10 @@ label_made : (l : HirLabel) (source : Option Pointer) (b : Builder) (t : Bool)
 label_made l source b true = record {
   exprs = onward_refl expr_place _;
   labels = onward_entry label_place label_id (λ n. refl) b.stored.labels l source;
+  pats = onward_refl pat_place _;
   types = onward_refl type_place _;
   lifetimes = onward_refl lifetime_place _;
+  bindings = prefix_refl _;
 }
 label_made l source b false = went_refl b.stored
 
@@ -345,8 +452,10 @@ leading_point at {p = p} h = record { goes = λ b. by b (p b).0 (p b).1 (h.goes 
           ways = on_trans expr_place _ _ _ _ x.0.exprs.ways (on_insert expr_place _ c.stored.exprs.map at i x.1);
         };
         labels = x.0.labels;
+        pats = x.0.pats;
         types = x.0.types;
         lifetimes = x.0.lifetimes;
+        bindings = x.0.bindings;
       },
       x.1,
     )

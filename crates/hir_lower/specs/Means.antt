@@ -1,7 +1,7 @@
 -- What a lowered constant and a lowered body are, in words of meaning.
 use Rattle.std.specs.Prelude.{◌≡◌, ◌≤◌, ◌+◌, ℕ, Bool, true, false, List, [], ◌∷◌, ◌++◌, length, map, option_map, Option}
-use Rattle.std.specs.Prelude.{Some, None, IsPermutation}
-use Rattle.hir_syntax.specs.declared.node.AstPtr.{AstPtr}
+use Rattle.std.specs.Prelude.{Some, None, IsPermutation, option_and_then, slice_get}
+use Rattle.hir_base.specs.declared.node.AstPtr.{AstPtr}
 use Rattle.hir_syntax.specs.declared.ast.Expr.{Expr as AstExpr}
 use Rattle.hir_syntax.specs.declared.ast.Path.{Path as AstPath, out-Path}
 use Rattle.hir_syntax.specs.declared.types.Type_.{Type_ as AstType_}
@@ -14,7 +14,11 @@ use Rattle.hir_store.specs.declared.type_ref.TypeBound.{TypeBound}
 use Rattle.hir_store.specs.declared.type_ref.TypeRef.{TypeRef}
 use Rattle.hir_store.specs.declared.type_ref.TypeRef.TheVariants as ty
 use Rattle.hir_store.specs.declared.hir.Expr.{Expr as HirExpr}
+use Rattle.hir_store.specs.declared.pat.Pat.{Pat as HirPat}
+use Rattle.hir_store.specs.declared.ids.BindingId.{BindingId}
 use Rattle.hir_store.specs.declared.ids.ExprId.{ExprId}
+use Rattle.hir_store.specs.declared.ids.PatId.{PatId}
+use Rattle.hir_store.specs.declared.pat.Binding.{Binding}
 use Rattle.hir_store.specs.declared.roots.ExprRoot.{ExprRoot}
 use Rattle.hir_store.specs.declared.path.Path.{Path}
 use Rattle.hir_store.specs.declared.ids.DefWithBodyId.{DefWithBodyId}
@@ -29,59 +33,62 @@ use Rattle.hir_env.specs.declared.place.ImplTrait.{ImplTrait}
 use Rattle.hir_env.specs.declared.place.ImplTrait.TheVariants as mode
 use Rattle.hir_env.specs.Answering.{in_file}
 use Rattle.hir_env.specs.Answered as tree
-use Rattle.hir_env.specs.Answered.{OptionExpr, OptionPath, OptionType}
+use Rattle.hir_env.specs.Answered.{Formals, OptionExpr, OptionPath, OptionType, SelfFormal}
 use Rattle.hir_env.specs.Whole.{answered_path, expr_part, type_part}
 use Rattle.hir_data.specs.Data.{path_names}
-use Rattle.hir_data.specs.Reading.{stored_path}
+use Rattle.hir_data.specs.Patterns.{written_pat}
+use Rattle.hir_data.specs.Reading.{stored_pat, stored_path}
 use Rattle.hir_data.specs.Written.{written_path}
 use Rattle.hir_data.specs.Segments.{PlainTrait, Whole, first_trait, named_segments, segment_name}
-use Rattle.hir_meaning.specs.Inner.{inner_bodies, path_bodies, path_inner_bodies}
+use Rattle.hir_data.specs.Tops.{Tops}
+use Rattle.hir_meaning.specs.Inner.{Bodies, inner_bodies, pat_part_bodies, path_bodies, path_inner_bodies}
 use Rattle.hir_meaning.specs.Inner.{of_present as of_some}
 use Rattle.hir_meaning.specs.Same.{SameBodies, SameMeaning}
 use Rattle.hir_same_meaning.specs.Reached.{Spread, of_each, reached_to}
 use Rattle.hir_steps.specs.Keeps.{Mapped, Paired}
 use Rattle.hir_one_result.specs.Blocks.{blocks_of_part, blocks_of_whole}
 use Rattle.hir_one_result.specs.Diagnostics.{Faults, part_diagnostics, whole_faults}
-use Rattle.hir_one_result.specs.Laws.{Grown}
-use Rattle.hir_one_result.specs.Room.{whole_size}
-use Rattle.hir_one_result.specs.Room.{count_of_exprs, count_of_lifetimes, count_of_types, lifetime_sources_of, type_sources_of}
-use Rattle.hir_one_result.specs.Leads.{Way, label_ways, Covers, CoversLabels, Led}
+use Rattle.hir_one_result.specs.Laws.{Grown, Reaches, Settled}
+use Rattle.hir_one_result.specs.Room.{size_part, whole_size}
+use Rattle.hir_one_result.specs.Leads.{Way}
 use Rattle.hir_one_result.specs.Stands.{StandsPart, WholeWays}
-use Rattle.hir_type_result.specs.Named.{of_exprs}
+use Rattle.hir_lower.specs.declared.body.Param.{Param}
+use Rattle.hir_lower.specs.Formals.{formals_read}
+use Rattle.hir_type_result.specs.Inside.{pats_inner_bodies}
+use Rattle.hir_type_result.specs.Named.{of_exprs, of_pats, of_pats_alone, of_types_alone}
+use Rattle.hir_type_result.specs.Pats.{PatsSpread, of_types, pats_reached}
 use Rattle.hir_type_result.specs.Roots.{RootsOf}
 use Rattle.hir_type_result.specs.Reached.{of_path, of_present, types_reached}
+use Rattle.hir_type_result.specs.Reached.{of_each as of_all}
 
 -- What is so of a root in a later store. Its expression does what the tree does; it stands for the tree, and each expression
 -- that came with it is what a written one became, or a missing one for an absent or disabled part or in front of a tuple with a
--- leading comma; where the source map led by then it leads still, or by the ways of the tree; each label more is what a written
--- one became, and there are as many; each number that it reaches is reached once, and is one that lowering it gave out, and so
--- is each type that the expressions reach that came with it.
+-- leading comma, or what is called for a range; where the source map led by then it leads still, or by the ways of the tree; each
+-- label and each binding more is what a written one became, and there are as many; each number that it reaches is reached once, and
+-- is one that lowering it gave out, and so is each type that the expressions and patterns reach that came with it, and each pattern
+-- that the expressions and types do.
 pub record Lives (old new later : Stored) (i : ExprId) (e : OptionExpr) : Type 0 where
   pub same : SameMeaning (store_of later) (map_of later) i e
   pub ways : List Way
   pub stands : StandsPart (store_of later) (map_of later) [] e i ways
-  pub covers : Covers ways (length old.exprs.entries) (length new.exprs.entries)
-  pub covers_labels : CoversLabels ways (length old.labels.entries) (length new.labels.entries)
-  pub led : Led (map_of old) (map_of new) ways
-  pub labels : length new.labels.entries ≡ length old.labels.entries + label_ways ways
+  pub reaches : Reaches old new ways
   pub reached_once : (depth : ℕ) → length later.exprs.entries ≤ depth
       → Spread (length old.exprs.entries) (length new.exprs.entries)
-      (of_each (reached_to later.exprs.entries depth) (i ∷ inner_bodies (store_of later) i))
+      (of_each (reached_to (store_of later) depth) (i ∷ inner_bodies (store_of later) i))
   pub types_reached_once : (depth : ℕ) → length later.types.entries ≤ depth
       → (more : List HirExpr) → new.exprs.entries ≡ old.exprs.entries ++ more
-      → Spread (length old.types.entries) (length new.types.entries) (of_exprs (types_reached later.types.entries depth) more)
+      → (pats : List HirPat) → new.pats.entries ≡ old.pats.entries ++ pats
+      → let l = of_types_alone (types_reached later.types.entries depth) in
+      Spread (length old.types.entries) (length new.types.entries) (of_exprs l more ++ of_pats l pats)
+  pub pats_reached_once : PatsSpread old new later []
 
 -- What lowering a root leaves. It is the last of the recorded roots, to which all belongs that was stored since the one before:
--- as many expressions as the tree becomes, and types and lifetimes from just those of its nodes that become one. Behind the
--- faults and the blocks that were noted before come those of the tree.
+-- as many expressions, labels and bindings as the tree becomes, and patterns, types and lifetimes from just those of its nodes that
+-- become one. Behind the faults and the blocks that were noted before come those of the tree.
 pub record Rooted (old new : Stored) (i : ExprId) (e : OptionExpr) : Type 0 where
-  pub lives : (later : Stored) → Extends new later → Lives old new later i e
-  pub exprs : length new.exprs.entries ≡ length old.exprs.entries + count_of_exprs e
-  pub types : length new.types.entries ≡ length old.types.entries + count_of_types e
-  pub lifetimes : length new.lifetimes.entries ≡ length old.lifetimes.entries + count_of_lifetimes e
-  pub type_sources : new.types.sources ≡ old.types.sources ++ type_sources_of e
-  pub lifetime_sources : new.lifetimes.sources ≡ old.lifetimes.sources ++ lifetime_sources_of e
-  pub roots : new.roots ≡ old.roots ++ root_at new.exprs.entries i ∷ []
+  pub lives : (later : Stored) → Extends new later → Settled new later → Lives old new later i e
+  pub grown : Grown (size_part e) old new
+  pub roots : new.roots ≡ old.roots ++ root_at (store_of new) i ∷ []
   pub more : Faults
   pub faults : new.diagnostics ≡ old.diagnostics ++ more
   pub permuted : IsPermutation (part_diagnostics [] e) more
@@ -89,16 +96,17 @@ pub record Rooted (old new : Stored) (i : ExprId) (e : OptionExpr) : Type 0 wher
   pub paired : Paired new
   pub mapped : Mapped old → Mapped new
 
--- The one recorded root does what the written body does, and reaches each expression in one way only. The expressions reach each
--- type in one way only.
-pub record HasBody (store : Store) (source_map : SourceMap) (e : OptionExpr) : Type 0 where
+-- The one recorded root does what the written body does. It, the bodies inside it and those inside the patterns of its parameters
+-- reach each expression in one way only. The expressions and patterns reach each type in one way only.
+pub record HasBody (store : Store) (source_map : SourceMap) (params : List PatId) (e : OptionExpr) : Type 0 where
   pub root : ExprRoot
   pub only : store.roots ≡ root ∷ []
   pub same : SameMeaning store source_map root.root e
   pub reached_once : (depth : ℕ) → length store.exprs ≤ depth
-      → Spread 0 (length store.exprs) (of_each (reached_to store.exprs depth) (root.root ∷ inner_bodies store root.root))
-  pub types_reached_once : (depth : ℕ) → length store.types ≤ depth
-      → Spread 0 (length store.types) (of_exprs (types_reached store.types depth) store.exprs)
+      → Spread 0 (length store.exprs)
+      (of_each (reached_to store depth) (pats_inner_bodies store params ++ root.root ∷ inner_bodies store root.root))
+  pub types_reached_once : (depth : ℕ) → length store.types ≤ depth → let l = of_types_alone (types_reached store.types depth) in
+      Spread 0 (length store.types) (of_exprs l store.exprs ++ of_pats l store.pats)
 
 -- paths and types
 
@@ -137,28 +145,27 @@ becomes mode.Opaque bounds = ty.ImplTrait bounds
 pub record ConstantsLive (old new later : Stored) (p : OptionPath) : Type 0 where
   pub ways : List Way
   pub stands : WholeWays (store_of later) (map_of later) [] p ways
-  pub covers : Covers ways (length old.exprs.entries) (length new.exprs.entries)
-  pub covers_labels : CoversLabels ways (length old.labels.entries) (length new.labels.entries)
-  pub led : Led (map_of old) (map_of new) ways
-  pub labels : length new.labels.entries ≡ length old.labels.entries + label_ways ways
+  pub reaches : Reaches old new ways
 
 -- What lowering a path to r leaves: types and lifetimes from just those of its nodes that become one, and its constants. Those are
 -- roots, also where r is none; behind the faults and the blocks that were noted before come theirs. In each later store each body
--- inside r does what the written one does, and r reaches each type in one way only, and none that was stored before.
+-- inside r does what the written one does, and r reaches each type in one way only, and none that was stored before; so do the
+-- expressions and types that came with it reach each pattern.
 pub record PathRooted (old new : Stored) (r : Option Path) (p : OptionPath) : Type 0 where
   pub inner : (later : Stored) → Extends new later
       → SameBodies (store_of later) (map_of later) (of_some (path_inner_bodies (store_of later)) r) (path_bodies p)
-  pub lives : (later : Stored) → Extends new later → ConstantsLive old new later p
-  pub roots : (later : Stored) → Extends new later → RootsOf [] old new later (whole_size p).constants
+  pub lives : (later : Stored) → Extends new later → Settled new later → ConstantsLive old new later p
+  pub roots : (later : Stored) → Extends new later → RootsOf [] old new later (whole_size p).inner
   pub more : Faults
   pub faults : new.diagnostics ≡ old.diagnostics ++ more
   pub permuted : IsPermutation (whole_faults [] p) more
   pub blocks : new.block_scopes ≡ old.block_scopes ++ blocks_of_whole p
   pub reached_once : (later : Stored) → Extends new later → (depth : ℕ) → length later.types.entries ≤ depth
       → Spread (length old.types.entries) (length new.types.entries) (of_present (of_path (types_reached later.types.entries depth)) r)
+  pub pats_reached_once : (later : Stored) → Extends new later → PatsSpread old new later []
   pub inside_reached_once : (later : Stored) → Extends new later → (depth : ℕ) → length later.exprs.entries ≤ depth
       → Spread (length old.exprs.entries) (length new.exprs.entries)
-      (of_each (reached_to later.exprs.entries depth) (of_some (path_inner_bodies (store_of later)) r))
+      (of_each (reached_to (store_of later) depth) (of_some (path_inner_bodies (store_of later)) r))
   pub grown : Grown (whole_size p) old new
   pub paired : Paired new
   pub mapped : Mapped old → Mapped new
@@ -197,3 +204,30 @@ owed_faults false node k e = missing_fault node (body_fault k e)
 abbrev pub body_owes : Spot → DefWithBodyId → AstPtr → Option AstExpr → Faults
 body_owes at owner node body =
     owed_faults (at.answers.skip owner) (in_file at.place node) (required_body owner (at.answers.container owner)) (expr_part at body)
+
+-- parameters of items
+
+-- the binding of a `self` that no condition disables
+abbrev pub receiver_read : SelfFormal → Option Binding
+receiver_read (tree.self_formal at u) = Some (record { name = u.name; mode = u.mode; hygiene = u.hygiene; problems = None })
+receiver_read _ = None
+
+-- the bodies inside written patterns
+abbrev pub tops_bodies : Tops → Bodies
+tops_bodies [] = []
+tops_bodies (p ∷ ps) = pat_part_bodies p ++ tops_bodies ps
+
+-- Each parameter is read back as the written pattern, in order, and `self` is its binding. Each body inside these patterns, which
+-- is a constant or an end of a range in one of their paths, does what the written one in its place does. Each parameter is handed in
+-- as it was written. They and the expressions and types reach each pattern in one way only.
+pub record HasParams (store : Store) (source_map : SourceMap) (params : List (Param PatId)) (receiver : Option (Param BindingId))
+    (skipped : Bool) (formals : Formals) : Type 0 where
+  pub patterns : map (λ p. stored_pat store source_map p.user_written) params ≡ map written_pat (formals_read skipped formals.formals)
+  pub binding : option_and_then (λ p. slice_get store.bindings p.user_written.0) receiver ≡ receiver_read formals.receiver
+  pub inner : SameBodies store source_map (pats_inner_bodies store (map (λ p. p.user_written) params))
+      (tops_bodies (formals_read skipped formals.formals))
+  pub pats_reached_once : (depth : ℕ) → length store.pats ≤ depth → let l = of_pats_alone (pats_reached store.pats depth) in
+      Spread 0 (length store.pats)
+      (of_all l.pats (map (λ p. p.user_written) params) ++ (of_exprs l store.exprs ++ of_types l store.types))
+  pub handed_in : map (λ p. p.formal) params ≡ map (λ p. p.user_written) params
+  pub handed_self : option_map (λ p. p.formal) receiver ≡ option_map (λ p. p.user_written) receiver

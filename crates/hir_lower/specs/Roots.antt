@@ -1,6 +1,7 @@
 -- What the entry functions make of a tree.
-use Rattle.std.specs.Prelude.{◌≡◌, ℕ, Bool, true, false, [], Option, Some, None, Ok, Err}
-use Rattle.hir_store.specs.Stored.{Store, SourceMap, store_of, map_of}
+use Rattle.std.specs.Prelude.{◌≡◌, ℕ, Bool, true, false, is_some, map, option_map, [], Option, Some, None, Ok, Err}
+use Rattle.hir_store.specs.Range.{HasExpr}
+use Rattle.hir_store.specs.Stored.{Store, SourceMap, Stored, store_of, map_of}
 use Rattle.hir_store.specs.declared.fault.StoreFault.TheVariants.{Full}
 use Rattle.hir_lower_form.specs.Builder.{Builder}
 pub use Rattle.hir_lower_form.specs.Builder.{fresh}
@@ -11,9 +12,11 @@ use Rattle.hir_store.specs.declared.diagnostics.MissingBodyItemKind.{MissingBody
 use Rattle.hir_store.specs.declared.diagnostics.ExpressionStoreDiagnostics.TheVariants.{MissingBody}
 use Rattle.hir_store.specs.declared.diagnostics.AwaitLocation.{AwaitLocation}
 use Rattle.hir_store.specs.declared.diagnostics.AwaitLocation.TheVariants as location
-use Rattle.hir_syntax.specs.declared.node.AstPtr.{AstPtr}
-use Rattle.hir_syntax.specs.declared.node.HirFileId.{HirFileId}
+use Rattle.hir_base.specs.declared.node.AstPtr.{AstPtr}
+use Rattle.hir_base.specs.declared.node.HirFileId.{HirFileId}
 use Rattle.hir_syntax.specs.declared.ast.Expr.{Expr as AstExpr}
+use Rattle.hir_syntax.specs.declared.params.ParamList.{ParamList as AstParamList}
+use Rattle.hir_store.specs.declared.ids.ExprId.{ExprId}
 use Rattle.hir_store.specs.declared.ids.ModuleId.{ModuleId}
 use Rattle.hir_env.specs.declared.place.Place.{Place}
 use Rattle.hir_env.specs.declared.place.ImplTrait.{ImplTrait}
@@ -25,9 +28,13 @@ use Rattle.hir_env.specs.Spot.{Spot}
 use Rattle.hir_env.specs.Answering.{in_file}
 use Rattle.hir_env.specs.Whole.{expr_part}
 use Rattle.hir_env.specs.Answered as tree
-use Rattle.hir_env.specs.Answered.{OptionExpr}
+use Rattle.hir_env.specs.Answered.{Formals, OptionExpr}
 use Rattle.hir_lower_form.specs.Lowering.{Lowering, SomeEnd, ◌>>=◌, ◌>>◌, pure, close_labels, report, record_root, enter_root, outside_root}
 use Rattle.hir_lower_form.specs.Lower.{ExprSteps, lower_part}
+use Rattle.hir_lower_handlers.specs.Spots.{spot_at}
+use Rattle.hir_lower.specs.declared.body.Body.{Body}
+use Rattle.hir_lower.specs.declared.body.Param.{Param}
+use Rattle.hir_lower.specs.Formals.{Given, HasGiven, item_formals, lower_formals}
 use Rattle.hir_lower.specs.Means.{required_body, body_fault}
 
 -- the expression as a root, in which no label around it is open
@@ -40,16 +47,30 @@ root_of e = do
   outside_root
   pure id
 
+-- a body as a root, behind its parameters
+unfoldable pub behind : Lowering Given → OptionExpr → Lowering (Given × ExprId)
+behind formals e = do
+  close_labels
+  enter_root
+  given ← formals
+  root ← lower_part e
+  record_root root
+  outside_root
+  pure (given, root)
+
+abbrev pub HasBehind : Stored → Given × ExprId → Type 0
+HasBehind s r = HasGiven s r.0 × HasExpr s r.1
+
 unfoldable pub report_missing : Pointer → Option MissingBodyItemKind → Lowering (Unit {0})
 report_missing at None = pure tt
 report_missing at (Some k) = report (MissingBody at k)
 
--- a body: a skipped one is a missing root
-unfoldable pub body_of : Bool → Pointer → Option MissingBodyItemKind → OptionExpr → ExprSteps
-body_of true at k e = root_of tree.no_expr
-body_of false at k e = do
+-- a body with its parameters: a skipped one is a missing root
+unfoldable pub body_of : Bool → Pointer → Option MissingBodyItemKind → Formals → OptionExpr → Lowering (Given × ExprId)
+body_of true at k formals e = behind (lower_formals true formals) tree.no_expr
+body_of false at k formals e = do
   report_missing at (body_fault k e)
-  root_of e
+  behind (lower_formals false formals) e
 
 -- what the steps store, from nothing
 pub record StoresFromNothing {A : Type 0} (p : Lowering A) (limit : ℕ) (store : Store) (source_map : SourceMap) : Type 0 where
@@ -59,22 +80,35 @@ pub record StoresFromNothing {A : Type 0} (p : Lowering A) (limit : ℕ) (store 
   pub store_is : store ≡ store_of builder.stored
   pub source_map_is : source_map ≡ map_of builder.stored
 
+-- a parameter that is handed in as it is written
+abbrev pub as_written : {A : Type 0} → A → Param A
+as_written x = record { formal = x; user_written = x }
+
+-- what a body is given, as it is written
+abbrev pub given_of : Body → Given
+given_of b = (option_map (λ p. p.user_written) b.self_param, map (λ p. p.user_written) b.params)
+
+-- the parameters of the body are what the steps answer, from nothing
+pub record GivenFromNothing (p : Lowering (Given × ExprId)) (limit : ℕ) (b : Body) : Type 0 where
+  pub given : Given
+  pub root : ExprId
+  pub builder : Builder
+  pub done : p (fresh limit) ≡ (Ok (given, root), builder)
+  pub receiver : b.self_param ≡ option_map as_written given.0
+  pub params : b.params ≡ map as_written given.1
+
 -- the steps find no room in an arena of this limit, or no number more in a counter
 pub record RefusedAtEnd {A : Type 0} (p : Lowering A) (limit : ℕ) : Type 0 where
   pub builder : Builder
   pub refused : p (fresh limit) ≡ (Err Full, builder)
   pub at_end : SomeEnd builder
 
--- read at a place
-
-abbrev pub spot_at : Answers → Place → Spot
-spot_at env p = record { answers = env; place = p }
-
 -- the body of an item
-abbrev pub item_of : Spot → DefWithBodyId → AstPtr → Option AstExpr → ExprSteps
-item_of at owner node body =
+abbrev pub item_of : Spot → DefWithBodyId → AstPtr → Option AstParamList → Option AstExpr → Lowering (Given × ExprId)
+item_of at owner node params body =
     let required = required_body owner (at.answers.container owner) in
-    body_of (at.answers.skip owner) (in_file at.place node) required (expr_part at body)
+    let formals = item_formals at owner params (is_some body) in
+    body_of (at.answers.skip owner) (in_file at.place node) required formals (expr_part at body)
 
 -- what an `await` in the body of an item stands in: so far no body is async
 abbrev pub await_location : DefWithBodyId → AwaitLocation

@@ -1,47 +1,76 @@
 //! Bodies of items.
 
-ghost use Rattle.std.specs.Prelude.{◌≡◌, ◌≢◌, None, false, IfOk, IsErrOf, option_copied};
-ghost use Rattle.hir_store.specs.Range.{HasExpr, InRange};
+ghost use Rattle.std.specs.Prelude.{◌≡◌, ◌≢◌, Bool, false, is_some, map, IfOk, IsErrOf, option_copied, option_map};
+ghost use Rattle.hir_store.specs.Range.{InRange};
+ghost use Rattle.hir_store.specs.Stored.{map_of, store_of};
 ghost use Rattle.hir_store.specs.Storing.{empty};
+ghost use Rattle.hir_env.specs.Answered as tree;
+ghost use Rattle.hir_env.specs.Formals.{answered_formals};
+ghost use Rattle.hir_env.specs.Whole.{expr_part};
 ghost use Rattle.hir_lower_form.specs.Lowering.{Lowers};
 ghost use Rattle.hir_one_result.specs.OneResult.{OneResult};
-ghost use Rattle.hir_one_result.specs.Room.{TooLarge};
-ghost use Rattle.hir_lower.specs.Means.{HasBody, body_owes, body_read, required_body};
-ghost use Rattle.hir_lower.specs.Roots.{RefusedAtEnd, StoresFromNothing, await_location, body_spot, item_of, spot_at};
+ghost use Rattle.hir_one_result.specs.Room.{BodyTooLarge};
+ghost use Rattle.hir_lower_handlers.specs.Spots.{spot_at};
+ghost use Rattle.hir_lower.specs.Formals.{are_read, item_formals, lower_formals, outside_place, outside_the_body, self_source};
+ghost use Rattle.hir_lower.specs.Means.{HasBody, HasParams, body_owes, body_read, required_body};
+ghost use Rattle.hir_lower.specs.Roots.{GivenFromNothing, HasBehind, RefusedAtEnd, StoresFromNothing, await_location, behind, body_of};
+ghost use Rattle.hir_lower.specs.Roots.{body_spot, given_of, item_of};
+ghost use Rattle.hir_lower.specs.Roots.{as_written as written};
 
-use crate::collector::lower_root;
+use crate::collector::collect_expr_opt;
 use crate::error::LowerError;
+use crate::formals::{formals_form, must_be_bare, self_node};
+use hir_base::Seq;
+use hir_base::node::{AstPtr, HirFileId, InFile};
 use hir_env::env::LowerEnv;
 use hir_env::place::{ImplTrait, LoweringMode, Place};
 use hir_lower_form::builder::BodyBuilder;
 use hir_store::diagnostics::{AwaitLocation, ExpressionStoreDiagnostics, MissingBodyItemKind};
 use hir_store::fault::StoreFault;
-use hir_store::ids::{DefWithBodyId, ExprId, ItemContainerId, ModuleId};
+use hir_store::ids::{BindingId, DefWithBodyId, ExprId, ItemContainerId, ModuleId, PatId};
 use hir_store::source_map::ExpressionStoreSourceMap;
 use hir_store::store::ExpressionStore;
 use hir_syntax::ast;
-use hir_syntax::node::{AstPtr, HirFileId, InFile};
-use std::alloc::Global;
+use std::alloc::{AllocError, Global};
 
-/// A lowered body. Its one recorded root is the body's expression.
+/// A parameter: what the caller hands its argument to, and what was written for it. The two differ where the body begins with
+/// `let`s of its parameters.
+#[derive_where(Clone, Copy; T)]
+pub struct Param<T> {
+    pub formal: T,
+    pub user_written: T,
+}
+
+/// A lowered body. Its one recorded root is the body's expression. The binding of `self` stands apart from the patterns of the
+/// other parameters that no condition disables.
 pub struct Body {
     pub store: ExpressionStore,
+    pub params: Seq<Param<PatId>>,
+    pub self_param: Option<Param<BindingId>>,
 }
 
 impl Drop for Body {
     fn drop(self) {
-        let Body { store: _ } = self;
+        let Body {
+            store: _,
+            params: _,
+            self_param: _,
+        } = self;
     }
 }
 
-/// From the written body to the lowered one, and back.
+/// From the written body to the lowered one, and back, with the node of `self`.
 pub struct BodySourceMap {
+    pub self_param: Option<InFile<AstPtr>>,
     pub store: ExpressionStoreSourceMap,
 }
 
 impl Drop for BodySourceMap {
     fn drop(self) {
-        let BodySourceMap { store: _ } = self;
+        let BodySourceMap {
+            self_param: _,
+            store: _,
+        } = self;
     }
 }
 
@@ -78,8 +107,100 @@ fn await_location_of(owner: DefWithBodyId) -> AwaitLocation
     }
 }
 
-/// Lowers the body of an item, which is absent where the item is skipped.
+/// Whether the parameters of the item are read, where its body isn't skipped.
+fn is_function(owner: DefWithBodyId) -> bool
+    ensures { result ≡ are_read false owner }
+{
+    match owner {
+        DefWithBodyId::FunctionId(_) => true,
+        DefWithBodyId::StaticId(_) | DefWithBodyId::ConstId(_) | DefWithBodyId::VariantId(_) => {
+            false
+        }
+    }
+}
+
+/// The place around a body: there no `await` stands in what is async.
+fn around(place: Place) -> Place
+    ensures { result ≡ outside_place place }
+{
+    Place {
+        await_location: Some(AwaitLocation::Unknown),
+        ..place
+    }
+}
+
+/// Lowers parameters, and behind them a body as a root.
+#[tactic(auto, unfolding(crate::specs::Roots::behind))]
+fn behind_formals<E: LowerEnv>(
+    alloc: Global,
+    env: &E,
+    place: Place,
+    state: &mut BodyBuilder,
+    skipped: bool,
+    bare: bool,
+    params: Option<&ast::ParamList>,
+    body: Option<&ast::Expr>,
+) -> Result<((Option<BindingId>, Seq<PatId>), ExprId), StoreFault>
+    ensures { let at = spot_at (E.answers env.now) place in
+        let formals = answered_formals (outside_the_body at) bare (option_copied params.entry) in
+        Lowers HasBehind (behind (lower_formals skipped formals) (expr_part at (option_copied body.entry))) state.old result state.new }
+{
+    state.close_labels(alloc);
+    let _ = state.enter_root();
+    let given = formals_form(alloc, env, around(place), state, skipped, bare, params)?;
+    let root = collect_expr_opt(alloc, env, place, state, body)?;
+    state.record_root(root)?;
+    state.outside_root();
+    Ok((given, root))
+}
+
+/// Lowers the parameters of an item without a body, which is missing where it must be there.
 #[tactic(auto, unfolding(crate::specs::Roots::body_of, crate::specs::Roots::report_missing))]
+fn missing_item<E: LowerEnv>(
+    alloc: Global,
+    env: &E,
+    place: Place,
+    state: &mut BodyBuilder,
+    bare: bool,
+    node: InFile<AstPtr>,
+    required: Option<MissingBodyItemKind>,
+    params: Option<&ast::ParamList>,
+) -> Result<((Option<BindingId>, Seq<PatId>), ExprId), StoreFault>
+    ensures { let at = spot_at (E.answers env.now) place in
+        let formals = answered_formals (outside_the_body at) bare (option_copied params.entry) in
+        Lowers HasBehind (body_of false node required formals tree.no_expr) state.old result state.new }
+{
+    if let Some(kind) = required {
+        state.report(ExpressionStoreDiagnostics::MissingBody { node, kind })?;
+    }
+    behind_formals(alloc, env, place, state, false, bare, params, None)
+}
+
+/// Lowers the parameters and the body of an item that isn't skipped.
+#[tactic(auto, unfolding(crate::specs::Roots::body_of, crate::specs::Roots::report_missing))]
+fn kept_item<E: LowerEnv>(
+    alloc: Global,
+    env: &E,
+    place: Place,
+    state: &mut BodyBuilder,
+    bare: bool,
+    node: InFile<AstPtr>,
+    required: Option<MissingBodyItemKind>,
+    params: Option<&ast::ParamList>,
+    body: Option<&ast::Expr>,
+) -> Result<((Option<BindingId>, Seq<PatId>), ExprId), StoreFault>
+    ensures { let at = spot_at (E.answers env.now) place in
+        let formals = answered_formals (outside_the_body at) bare (option_copied params.entry) in
+        Lowers HasBehind (body_of false node required formals (expr_part at (option_copied body.entry))) state.old result state.new }
+{
+    match body {
+        None => missing_item(alloc, env, place, state, bare, node, required, params),
+        Some(_) => behind_formals(alloc, env, place, state, false, bare, params, body),
+    }
+}
+
+/// Lowers the parameters and the body of an item. Where the item is skipped, its body is absent and no pattern is read.
+#[tactic(auto, unfolding(crate::specs::Roots::body_of))]
 fn lower_item<E: LowerEnv>(
     alloc: Global,
     env: &E,
@@ -87,25 +208,108 @@ fn lower_item<E: LowerEnv>(
     state: &mut BodyBuilder,
     owner: DefWithBodyId,
     node: AstPtr,
+    params: Option<&ast::ParamList>,
     body: Option<&ast::Expr>,
-) -> Result<ExprId, StoreFault>
-    ensures { let spot = spot_at (E.answers env.now) place in
-        Lowers HasExpr (item_of spot owner node (option_copied body.entry)) state.old result state.new }
+) -> Result<((Option<BindingId>, Seq<PatId>), ExprId), StoreFault>
+    ensures { let at = spot_at (E.answers env.now) place in
+        let item = item_of at owner node (option_copied params.entry) (option_copied body.entry) in
+        Lowers HasBehind item state.old result state.new }
 {
+    let container = env.container(owner);
+    let bare = must_be_bare(container, body.is_some());
     if env.skip(owner) {
-        return lower_root(alloc, env, place, state, None);
+        return behind_formals(alloc, env, place, state, true, bare, params, None);
     }
-    let required = required_body_kind(owner, env.container(owner));
-    if body.is_none()
-        && let Some(kind) = required
-    {
-        let node = InFile {
-            file_id: place.file_id,
-            value: node,
-        };
-        state.report(ExpressionStoreDiagnostics::MissingBody { node, kind })?;
+    let required = required_body_kind(owner, container);
+    let node = InFile {
+        file_id: place.file_id,
+        value: node,
+    };
+    if is_function(owner) {
+        kept_item(alloc, env, place, state, bare, node, required, params, body)
+    } else {
+        kept_item(alloc, env, place, state, bare, node, required, None, body)
     }
-    lower_root(alloc, env, place, state, body)
+}
+
+/// The node of the `self` that the item's body has.
+fn item_self<E: LowerEnv>(
+    env: &E,
+    place: Place,
+    owner: DefWithBodyId,
+    params: Option<&ast::ParamList>,
+) -> Option<InFile<AstPtr>>
+    ensures { (has_body : Bool) → let at = spot_at (E.answers env.now) place in
+        result ≡ self_source (item_formals at owner (option_copied params.entry) has_body).receiver }
+{
+    if env.skip(owner) || is_function(owner) {
+        self_node(env, place, params)
+    } else {
+        None
+    }
+}
+
+/// The same as written and as handed in.
+fn as_written(mut left: &[PatId], alloc: Global) -> Result<Seq<Param<PatId>>, AllocError>
+    ensures { IfOk result (λ ps. ps ≡ map written left.entry.now) }
+{
+    let mut params = Seq::new(alloc);
+    while let [one, rest @ ..] = left {
+        params.push(Param {
+            formal: *one,
+            user_written: *one,
+        })?;
+        left = rest;
+    }
+    Ok(params)
+}
+
+fn self_as_written(receiver: Option<BindingId>) -> Option<Param<BindingId>>
+    ensures { result ≡ option_map written receiver }
+{
+    match receiver {
+        None => None,
+        Some(id) => Some(Param {
+            formal: id,
+            user_written: id,
+        }),
+    }
+}
+
+/// The body of what is stored by then, with the node of `self`.
+fn finished(
+    alloc: Global,
+    state: BodyBuilder,
+    receiver: Option<BindingId>,
+    pats: Seq<PatId>,
+    self_param: Option<InFile<AstPtr>>,
+) -> Result<(Body, BodySourceMap), AllocError>
+    ensures store { IfOk result (λ r. r.0.store ≡ store_of state.stored) }
+    ensures source_map { IfOk result (λ r. r.1.store ≡ map_of state.stored) }
+    ensures params { IfOk result (λ r. r.0.params ≡ map written pats) }
+    ensures receiver { IfOk result (λ r. r.0.self_param ≡ option_map written receiver) }
+    ensures self_param { IfOk result (λ r. r.1.self_param ≡ self_param) }
+    ensures in_range { IfOk result (λ r. InRange r.0.store r.1.store) }
+{
+    match as_written(pats.as_slice(), alloc) {
+        Ok(params) => {
+            let (store, source_map) = state.into_store().finish();
+            let body = Body {
+                store,
+                params,
+                self_param: self_as_written(receiver),
+            };
+            let map = BodySourceMap {
+                self_param,
+                store: source_map,
+            };
+            Ok((body, map))
+        }
+        Err(refused) => {
+            drop(state);
+            Err(refused)
+        }
+    }
 }
 
 /// The steps of `lower_body`, with what they store.
@@ -116,13 +320,22 @@ fn body_steps<E: LowerEnv>(
     syntax_node: AstPtr,
     current_file_id: HirFileId,
     inside: ModuleId,
+    params: Option<&ast::ParamList>,
     body: Option<&ast::Expr>,
 ) -> Result<(Body, BodySourceMap), LowerError>
     ensures stores { let at = body_spot (E.answers db.now) owner current_file_id inside in
-        IfOk result (λ r. StoresFromNothing (item_of at owner syntax_node (option_copied body.entry)) 4294967295 r.0.store r.1.store) }
+        let item = item_of at owner syntax_node (option_copied params.entry) (option_copied body.entry) in
+        IfOk result (λ r. StoresFromNothing item 4294967295 r.0.store r.1.store) }
+    ensures given { let at = body_spot (E.answers db.now) owner current_file_id inside in
+        let item = item_of at owner syntax_node (option_copied params.entry) (option_copied body.entry) in
+        IfOk result (λ r. GivenFromNothing item 4294967295 r.0) }
+    ensures self_source { let at = body_spot (E.answers db.now) owner current_file_id inside in
+        let formals = item_formals at owner (option_copied params.entry) (is_some (option_copied body.entry)) in
+        IfOk result (λ r. r.1.self_param ≡ self_source formals.receiver) }
     ensures in_range { IfOk result (λ r. InRange r.0.store r.1.store) }
     ensures full { let at = body_spot (E.answers db.now) owner current_file_id inside in
-        IsErrOf result LowerError.Full → RefusedAtEnd (item_of at owner syntax_node (option_copied body.entry)) 4294967295 }
+        let item = item_of at owner syntax_node (option_copied params.entry) (option_copied body.entry) in
+        IsErrOf result LowerError.Full → RefusedAtEnd item 4294967295 }
     ensures own { result ≢ Err LowerError.Failed }
 {
     let place = Place {
@@ -134,10 +347,22 @@ fn body_steps<E: LowerEnv>(
         in_impl: false,
     };
     let mut state = BodyBuilder::new(alloc, u32::MAX);
-    match lower_item(alloc, db, place, &mut state, owner, syntax_node, body) {
-        Ok(_root) => {
-            let (store, source_map) = state.into_store().finish();
-            Ok((Body { store }, BodySourceMap { store: source_map }))
+    match lower_item(
+        alloc,
+        db,
+        place,
+        &mut state,
+        owner,
+        syntax_node,
+        params,
+        body,
+    ) {
+        Ok(((receiver, pats), _root)) => {
+            let self_param = item_self(db, place, owner, params);
+            match finished(alloc, state, receiver, pats, self_param) {
+                Ok(lowered) => Ok(lowered),
+                Err(_) => Err(LowerError::Memory),
+            }
         }
         Err(fault) => {
             drop(state);
@@ -149,15 +374,20 @@ fn body_steps<E: LowerEnv>(
 /// Lowers the body of an item (upstream's function of this name).
 ///
 /// The stored body does what the written one does, for every answerer and every number of turns that a loop may take,
-/// and so does each body inside it; each expression that it reaches, but through constants, is reached in one way only.
-/// Store, source map and diagnostics are one result of the tree: what is stored stands for it and no more is stored, each
-/// expression with its source, all in the range of the one root; the source map leads from each written expression,
-/// label, type and lifetime to what it became, from the values of a record's kept fields to their fields, and from
-/// nothing else; the numbers of blocks come in the order of entering; the diagnostics are those that body and tree owe.
-/// Each number in store and source map is in range. A skipped body is a missing expression and owes no fault. `Memory`
-/// where a growth was refused; `Full` only where the tree becomes more expressions, labels, types or lifetimes than the
-/// arenas have room for, or a path in it has more `super`s than 32 bits count; never `Failed`.
-/// Until patterns come the caller hands in no parameters, and until inner bodies come neither flag.
+/// and so does each body inside it or inside the pattern of a parameter. Each expression that one of these reaches is reached in one
+/// way only; so is each type that the expressions and patterns reach, and each pattern that the parameters, expressions and types do.
+/// Store, source map and diagnostics are one result of the parameters and the tree: what is stored stands for them and no more is
+/// stored, each expression and pattern with its source, all in the range of the one root; the source map leads from each written
+/// expression and label to what it became, from the nodes of patterns, types and lifetimes to them, from the values and patterns
+/// of a record's kept fields to their fields, and from nothing else; the numbers of blocks come in the order of entering; the
+/// diagnostics are those that body, parameters and tree owe. Each number in store and source map is in range. A skipped body is a
+/// missing expression and owes no fault. `Memory` where a growth was refused; `Full` only where parameters and tree become more
+/// expressions, labels, patterns, bindings, types or lifetimes than the arenas have room for, or a path in them has more `super`s,
+/// or a pattern more parts in front of its two dots, than 32 bits count; never `Failed`.
+/// Each parameter reads back as it is written, in order, and `self` is the binding of its name, of which nothing is wrong.
+/// Parameters are read of functions alone, and of each item that is skipped, `self` first and then those that no condition
+/// disables. In an extern block, and in a trait where the function has no body, a parameter is a plain name or `_`, and any other
+/// is missing and owes a fault. Of a skipped body each is missing. Until inner bodies come the caller hands in neither flag.
 pub fn lower_body<E: LowerEnv>(
     alloc: Global,
     db: &E,
@@ -170,18 +400,39 @@ pub fn lower_body<E: LowerEnv>(
     is_async_fn: bool,
     is_gen_fn: bool,
 ) -> Result<(Body, BodySourceMap), LowerError>
-    requires no_params { option_copied params ≡ None }
     requires no_async { is_async_fn ≡ false }
     requires no_gen { is_gen_fn ≡ false }
     ensures same_meaning { let at = body_spot (E.answers db.now) owner current_file_id inside in
-        IfOk result (λ r. HasBody r.0.store r.1.store (body_read at owner (option_copied body.entry))) }
+        IfOk result (λ r. HasBody r.0.store r.1.store (given_of r.0).1 (body_read at owner (option_copied body.entry))) }
     ensures one_result { let at = body_spot (E.answers db.now) owner current_file_id inside in
         let owed = body_owes at owner syntax_node (option_copied body.entry) in
-        IfOk result (λ r. OneResult r.0.store r.1.store owed (body_read at owner (option_copied body.entry))) }
+        let formals = item_formals at owner (option_copied params.entry) (is_some (option_copied body.entry)) in
+        let skipped = at.answers.skip owner in
+        let read = body_read at owner (option_copied body.entry) in
+        IfOk result (λ r. OneResult r.0.store r.1.store owed skipped formals (given_of r.0) read) }
+    ensures params { let at = body_spot (E.answers db.now) owner current_file_id inside in
+        let formals = item_formals at owner (option_copied params.entry) (is_some (option_copied body.entry)) in
+        let skipped = at.answers.skip owner in
+        IfOk result (λ r. HasParams r.0.store r.1.store r.0.params r.0.self_param skipped formals) }
+    ensures self_source { let at = body_spot (E.answers db.now) owner current_file_id inside in
+        let formals = item_formals at owner (option_copied params.entry) (is_some (option_copied body.entry)) in
+        IfOk result (λ r. r.1.self_param ≡ self_source formals.receiver) }
     ensures in_range { IfOk result (λ r. InRange r.0.store r.1.store) }
     ensures too_large { let at = body_spot (E.answers db.now) owner current_file_id inside in
-        IsErrOf result LowerError.Full → TooLarge (empty 4294967295) (body_read at owner (option_copied body.entry)) }
+        let formals = item_formals at owner (option_copied params.entry) (is_some (option_copied body.entry)) in
+        let skipped = at.answers.skip owner in
+        let read = body_read at owner (option_copied body.entry) in
+        IsErrOf result LowerError.Full → BodyTooLarge (empty 4294967295) skipped formals read }
     ensures own { result ≢ Err LowerError.Failed }
 {
-    body_steps(alloc, db, owner, syntax_node, current_file_id, inside, body)
+    body_steps(
+        alloc,
+        db,
+        owner,
+        syntax_node,
+        current_file_id,
+        inside,
+        params,
+        body,
+    )
 }

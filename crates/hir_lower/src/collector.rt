@@ -1,7 +1,6 @@
 //! The collector, which lowers trees into one store and stops for good after its first error.
 
 ghost use Rattle.std.specs.Prelude.{◌≡◌, ◌≢◌, false, true, Err, IfOk, IsErrOf, IsOkAnd, option_copied};
-ghost use Rattle.hir_syntax.specs.declared.ast.ConstArg.{out-ConstArg};
 ghost use Rattle.hir_store.specs.Range.{HasExpr, HasTypeParts, InRange};
 ghost use Rattle.hir_store.specs.Stored.{map_of, store_of};
 ghost use Rattle.hir_env.specs.Spot.{in_file};
@@ -11,17 +10,19 @@ ghost use Rattle.hir_lower_form.specs.Methods.{LowersExprOpt};
 ghost use Rattle.hir_steps.specs.Keeps.{Paired};
 ghost use Rattle.hir_one_result.specs.Room.{whole_size};
 ghost use Rattle.hir_one_result.specs.Room.{Short, TooLarge};
+ghost use Rattle.hir_lower_handlers.specs.Spots.{spot_at};
 ghost use Rattle.hir_lower.specs.Calls.{Calls, Outside};
 ghost use Rattle.hir_lower.specs.Means.{AddsType, BearsNames, NoRoomForType, PathRooted, ReadsBack, Rooted, whole_path};
-ghost use Rattle.hir_lower.specs.Roots.{becoming, fresh, outside_body, root_of, spot_at};
+ghost use Rattle.hir_lower.specs.Roots.{becoming, fresh, outside_body, root_of};
 ghost use Rattle.hir_lower.specs.Stays.{Stays};
 
 use crate::error::LowerError;
 use crate::impl_trait::ImplTraitLower;
-use crate::knot::{collect_expr, lower_path};
+use hir_base::node::{AstPtr, HirFileId, InFile};
 use hir_env::env::LowerEnv;
 use hir_env::place::{ImplTrait, LoweringMode, Place};
 use hir_lower_form::builder::BodyBuilder;
+use hir_lower_knot::knot::{collect_expr, lower_path};
 use hir_store::builder::ExpressionStoreBuilder;
 use hir_store::diagnostics::AwaitLocation;
 use hir_store::fault::StoreFault;
@@ -30,7 +31,6 @@ use hir_store::path::Path;
 use hir_store::source_map::ExpressionStoreSourceMap;
 use hir_store::store::ExpressionStore;
 use hir_store::type_ref::{ConstRef, TypeRef};
-use hir_syntax::node::{AstPtr, HirFileId, InFile};
 use hir_syntax::{Boxed, ast};
 use std::alloc::Global;
 
@@ -45,7 +45,7 @@ fn unboxed(expr: &Option<Boxed<ast::Expr>>) -> Option<&ast::Expr>
 }
 
 /// The expression, missing where it is absent or a condition disables it.
-fn collect_expr_opt<E: LowerEnv>(
+pub(crate) fn collect_expr_opt<E: LowerEnv>(
     alloc: Global,
     env: &E,
     place: Place,
@@ -214,18 +214,18 @@ impl<'db, E: LowerEnv> ExprCollector<'db, E> {
 
     /// Lowers a constant as a root of its own.
     ///
-    /// In each later store its expression does what the constant does, for every answerer and every number of turns
-    /// that a loop may take; what is stored stands for the tree, and faults, blocks and ways of the source map come
-    /// behind those of before. `Memory` where a growth was refused, `Full` where an arena has no room for the tree or
-    /// a path in the tree has more `super`s than 32 bits count, `Failed` after an error, and then nothing changes. All
-    /// that was stored is stored still, unless memory was refused, and a node leads to where it led, or to what came
-    /// since.
+    /// In each later store that keeps the problems of its bindings its expression does what the constant does, for every
+    /// answerer and every number of turns that a loop may take; what is stored stands for the tree, and faults, blocks and
+    /// ways of the source map come behind those of before. `Memory` where a growth was refused, `Full` where an arena has no
+    /// room for the tree, or a path in the tree has more `super`s, or a pattern more parts in front of its two dots, than
+    /// 32 bits count, `Failed` after an error, and then nothing changes. All that was stored is stored still, unless memory
+    /// was refused, and a node leads to where it led, or to what came since.
     pub fn lower_const_arg(&mut self, arg: &ast::ConstArg) -> Result<ConstRef, LowerError>
         ensures calls { Calls self.old.failed self.old.state result self.new.state self.new.failed }
-        ensures rooted { let e = expr_part (spot_at (E.answers self.old.db.now) self.old.place) (out-ConstArg arg.now).expr in
+        ensures rooted { let e = expr_part (spot_at (E.answers self.old.db.now) self.old.place) arg.now in
             IfOk result (λ c. Rooted self.old.state.stored self.new.state.stored c.expr e) }
         ensures full { IsErrOf result LowerError.Full → SomeEnd self.new.state }
-        ensures too_large { let e = expr_part (spot_at (E.answers self.old.db.now) self.old.place) (out-ConstArg arg.now).expr in
+        ensures too_large { let e = expr_part (spot_at (E.answers self.old.db.now) self.old.place) arg.now in
             IsErrOf result LowerError.Full → TooLarge self.old.state.stored e }
         ensures stays { result ≢ Err LowerError.Memory → Stays self.old.state.stored self.new.state.stored }
         ensures db { self.new.db ≡ self.old.db }
@@ -240,7 +240,7 @@ impl<'db, E: LowerEnv> ExprCollector<'db, E> {
             self.db,
             self.place,
             &mut self.state,
-            unboxed(&arg.expr),
+            unboxed(arg),
         )?;
         self.failed = false;
         Ok(ConstRef { expr })
@@ -252,10 +252,11 @@ impl<'db, E: LowerEnv> ExprCollector<'db, E> {
     /// It has the names of all segments that are read, those of use trees around it in front, with the arguments that stand
     /// beside them, and begins where they say. Where no use tree stands around it or its trait, no segment of either is missing,
     /// and the trait has no qualified type, its names are those of the written segments that bear one. `Memory` where a
-    /// growth was refused, `Full` where an arena has no room for its types, lifetimes and constants or it has more `super`s
-    /// than 32 bits count, `Failed` after an error. All that was stored is stored still, unless memory was refused, and nothing
-    /// comes behind it but the path's types, its lifetimes and its constants, each of which is recorded as a root, also
-    /// where the path is refused.
+    /// growth was refused, `Full` where an arena has no room for its types, lifetimes and constants and the patterns in
+    /// them, or it has more `super`s, or a pattern in it more parts in front of its two dots, than 32 bits count, `Failed`
+    /// after an error. All that was stored is stored still, unless memory was refused, and nothing comes behind it but the
+    /// path's types, its lifetimes and its constants, each of which is recorded as a root, also where the path is refused,
+    /// with the patterns and bindings in them.
     pub fn lower_path<I: ImplTraitLower>(
         &mut self,
         path: &ast::Path,

@@ -9,12 +9,12 @@ ghost use Rattle.hir_lower.specs.Means.{AddsType, NoRoomForType, becomes};
 
 use crate::collector::ExprCollector;
 use crate::error::LowerError;
+use hir_base::node::AstPtr;
 use hir_env::env::LowerEnv;
 use hir_env::place::ImplTrait;
 use hir_store::ids::TypeRefId;
 use hir_store::type_ref::{TypeBound, TypeRef};
 use hir_syntax::Seq;
-use hir_syntax::node::AstPtr;
 
 /// What an `impl` becomes, where the caller of `ExprCollector::lower_path` chooses.
 pub trait ImplTraitLower {

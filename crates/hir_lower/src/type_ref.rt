@@ -5,21 +5,22 @@ ghost use Rattle.hir_store.specs.Range.{HasType, InRange};
 ghost use Rattle.hir_lower_form.specs.Lower.{type_part};
 ghost use Rattle.hir_lower_form.specs.Lowering.{Lowers};
 ghost use Rattle.hir_type_result.specs.TypeResult.{TypeResult, TypeTooLarge};
+ghost use Rattle.hir_lower_handlers.specs.Spots.{spot_at};
 ghost use Rattle.hir_lower.specs.Means.{whole_type};
-ghost use Rattle.hir_lower.specs.Roots.{AnswersFromNothing, RefusedAtEnd, spot_at, type_spot};
+ghost use Rattle.hir_lower.specs.Roots.{AnswersFromNothing, RefusedAtEnd, type_spot};
 
 use crate::error::LowerError;
-use crate::knot::lower_type_node;
+use hir_base::node::InFile;
 use hir_env::env::LowerEnv;
 use hir_env::place::{ImplTrait, LoweringMode, Place};
 use hir_lower_form::builder::BodyBuilder;
+use hir_lower_knot::knot::lower_type_node;
 use hir_store::diagnostics::AwaitLocation;
 use hir_store::fault::StoreFault;
 use hir_store::ids::{ModuleId, TypeRefId};
 use hir_store::source_map::ExpressionStoreSourceMap;
 use hir_store::store::ExpressionStore;
 use hir_syntax::ast;
-use hir_syntax::node::InFile;
 use std::alloc::Global;
 
 /// The type, or an error without source where it is absent.
@@ -79,12 +80,13 @@ fn type_steps<E: LowerEnv>(
 /// Lowers a type that stands alone (upstream's function of this name); where it is absent it is an error without source.
 ///
 /// The stored type is what is written, with the node that each part came from. As many types and lifetimes are stored as the
-/// tree becomes, as many expressions and labels as its constants become, and nothing besides; the source map leads from the
-/// nodes of these to them, and from nowhere else; each type that the answered one names is named in one way only. Each constant
-/// runs as it is written and is a root, in the order in which they are done, also one that the type doesn't reach; the
-/// faults and the entered blocks are those of the constants. Each number in store and source map is in range. An `impl` stays
-/// one. `Memory` where a growth was refused; `Full` only where the tree becomes more types, lifetimes, expressions or labels
-/// than the arenas have room for, or a path in it has more `super`s than 32 bits count; never `Failed`.
+/// tree becomes, as many expressions, labels, patterns and bindings as its constants and the patterns of its types become, and
+/// nothing besides; the source map leads from the nodes of these to them, and from nowhere else; each type that the answered one
+/// names is named in one way only. Each constant runs as it is written and is a root, in the order in which they are done, also
+/// one that the type doesn't reach; the faults and the entered blocks are those of the constants. Each number in store and source
+/// map is in range. An `impl` stays one. `Memory` where a growth was refused; `Full` only where the tree becomes more types,
+/// lifetimes, expressions, labels, patterns or bindings than the arenas have room for, or a path in it has more `super`s, or a
+/// pattern more parts in front of its two dots, than 32 bits count; never `Failed`.
 pub fn lower_type_ref<E: LowerEnv>(
     alloc: Global,
     db: &E,

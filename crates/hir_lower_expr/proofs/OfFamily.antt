@@ -1,7 +1,8 @@
--- No kind of a family is left where each was taken.
+-- What a kind is made of, and that no kind of a family is left where each was taken.
 use Rattle.std.proofs.Common.{◌≡◌, ◌∙◌, ap, sym, refl, Bool, List, Option}
 use Rattle.hir_syntax.specs.declared.ast.ElseBranch.TheOpen.{ExprKind-F}
-use Rattle.hir_syntax.specs.declared.ast.ExprKind.{ExprKind as AstExprKind, out-ExprKind, roll-ExprKind, roll-out-ExprKind}
+use Rattle.hir_syntax.specs.declared.ast.ExprKind.{ExprKind as AstExprKind, out-ExprKind, roll-ExprKind}
+use Rattle.hir_syntax.specs.declared.ast.ExprKind.{out-roll-ExprKind, roll-out-ExprKind}
 use Rattle.hir_syntax.specs.declared.ast.ExprKind.TheVariants as kind
 use Rattle.hir_syntax.specs.declared.ast.Expr.{Expr as AstExpr}
 use Rattle.hir_syntax.specs.declared.ast.BlockExpr.{BlockExpr as AstBlockExpr}
@@ -13,16 +14,22 @@ use Rattle.hir_syntax.specs.declared.ast.Name.{Name as AstName}
 use Rattle.hir_syntax.specs.declared.ast.Path.{Path as AstPath}
 use Rattle.hir_syntax.specs.declared.ast.RecordExprFieldList.{RecordExprFieldList as AstFieldList}
 use Rattle.hir_syntax.specs.declared.types.Type_.{Type_ as AstType_}
-use Rattle.hir_syntax.specs.declared.types.GenericArgList.{GenericArgList as AstGenericArgList}
-use Rattle.hir_syntax.specs.declared.ast.BinaryOp.{BinaryOp}
-use Rattle.hir_syntax.specs.declared.ast.UnaryOp.{UnaryOp}
-use Rattle.hir_syntax.specs.declared.node.PredId.{PredId}
+use Rattle.hir_base.specs.declared.op.BinaryOp.{BinaryOp}
+use Rattle.hir_base.specs.declared.op.UnaryOp.{UnaryOp}
+use Rattle.hir_syntax.specs.declared.branches.MatchArm.{MatchArm as AstMatchArm}
+use Rattle.hir_syntax.specs.declared.pats.Pat.{Pat as AstPat}
+use Rattle.hir_base.specs.declared.op.RangeOp.{RangeOp}
+use Rattle.hir_base.specs.declared.node.PredId.{PredId}
 use Rattle.hir_env.specs.Layers.{ExprKindLayer}
 use Rattle.hir_env.specs.Whole.{written}
-use Rattle.hir_lower_form.specs.Families.{IsControl, IsListing, IsAccess, IsOperator, IsLeaving, IsTyped, IsLeaf}
+use Rattle.hir_env.specs.Wrapped.{AstGenericArgList}
+use Rattle.hir_lower_form.specs.Families.{IsControl, IsMatching, IsListing, IsAccess, IsOperator, IsLeaving, IsTyped, IsLeaf}
 
 made : (k : AstExprKind) (l : ExprKindLayer written) → out-ExprKind k ≡ l → k ≡ roll-ExprKind l
 made k l h = sym (roll-out-ExprKind k) ∙ ap roll-ExprKind h
+
+pub opened : {k : AstExprKind} {l : ExprKindLayer written} → roll-ExprKind l ≡ k → out-ExprKind k ≡ l
+opened {k} {l} h = ap out-ExprKind (sym h) ∙ out-roll-ExprKind l
 
 pub only_control : (k : AstExprKind) → IsControl (out-ExprKind k)
     → ((c : Option AstExpr) (t : Option AstBlockExpr) (e : Option AstElseBranch) → k ≡ kind.IfExpr c t e → ⊥)
@@ -38,6 +45,16 @@ only_control k is no_if no_block no_loop no_continue no_break = by (out-ExprKind
     by (ExprKind-F.LoopExpr l b) h is = no_loop l b (made k _ h ∙ kind.rolls-LoopExpr l b)
     by (ExprKind-F.ContinueExpr l) h is = no_continue l (made k _ h ∙ kind.rolls-ContinueExpr l)
     by (ExprKind-F.BreakExpr l e) h is = no_break l e (made k _ h ∙ kind.rolls-BreakExpr l e)
+    by _ h is = is
+
+pub only_matching : (k : AstExprKind) → IsMatching (out-ExprKind k)
+    → ((p : Option AstPat) (e : Option AstExpr) → k ≡ kind.LetExpr p e → ⊥)
+    → ((e : Option AstExpr) (as' : Option (List AstMatchArm)) → k ≡ kind.MatchExpr e as' → ⊥) → ⊥
+only_matching k is no_let no_match = by (out-ExprKind k) refl is
+  where
+    by : (l : ExprKindLayer written) → out-ExprKind k ≡ l → IsMatching l → ⊥
+    by (ExprKind-F.LetExpr p e) h is = no_let p e (made k _ h ∙ kind.rolls-LetExpr p e)
+    by (ExprKind-F.MatchExpr e as') h is = no_match e as' (made k _ h ∙ kind.rolls-MatchExpr e as')
     by _ h is = is
 
 pub only_listing : (k : AstExprKind) → IsListing (out-ExprKind k)
@@ -72,13 +89,15 @@ only_access k is no_paren no_field no_index no_ref = by (out-ExprKind k) refl is
 pub only_operator : (k : AstExprKind) → IsOperator (out-ExprKind k)
     → ((o : Option UnaryOp) (e : Option AstExpr) → k ≡ kind.PrefixExpr o e → ⊥)
     → ((o : Option BinaryOp) (a : Option AstExpr) (b : Option AstExpr) → k ≡ kind.BinExpr o a b → ⊥)
-    → ((e : Option AstExpr) → k ≡ kind.AwaitExpr e → ⊥) → ⊥
-only_operator k is no_prefix no_bin no_await = by (out-ExprKind k) refl is
+    → ((e : Option AstExpr) → k ≡ kind.AwaitExpr e → ⊥)
+    → ((o : Option RangeOp) (a : Option AstExpr) (b : Option AstExpr) → k ≡ kind.RangeExpr o a b → ⊥) → ⊥
+only_operator k is no_prefix no_bin no_await no_range = by (out-ExprKind k) refl is
   where
     by : (l : ExprKindLayer written) → out-ExprKind k ≡ l → IsOperator l → ⊥
     by (ExprKind-F.PrefixExpr o e) h is = no_prefix o e (made k _ h ∙ kind.rolls-PrefixExpr o e)
     by (ExprKind-F.BinExpr o a b) h is = no_bin o a b (made k _ h ∙ kind.rolls-BinExpr o a b)
     by (ExprKind-F.AwaitExpr e) h is = no_await e (made k _ h ∙ kind.rolls-AwaitExpr e)
+    by (ExprKind-F.RangeExpr o a b) h is = no_range o a b (made k _ h ∙ kind.rolls-RangeExpr o a b)
     by _ h is = is
 
 pub only_leaving : (k : AstExprKind) → IsLeaving (out-ExprKind k)

@@ -10,12 +10,13 @@ ghost use Rattle.hir_lower_form.specs.Lower as spec;
 ghost use Rattle.hir_lower_form.specs.Nests.{Each, KidsBlock, KidsStmt};
 ghost use Rattle.hir_lower_form.specs.Methods.{HasContents, LowersExpr, LowersStmt, LowersStmts, block_steps_at, contents_at, flat};
 
+use crate::kept::push_kept_statement;
+use crate::lets::let_stmt;
 use hir_lower_form::builder::BodyBuilder;
 use hir_lower_form::parts::{LowerParts, Lowerer};
 use hir_store::fault::StoreFault;
 use hir_store::hir::{Expr, Statement};
 use hir_store::ids::{BlockId, ExprId, LabelId};
-use hir_store::lists::push_statement;
 use hir_syntax::{Seq, ast};
 
 /// The expression of a last statement that has no semicolon.
@@ -60,6 +61,15 @@ fn collect_stmt<P: LowerParts>(
     ensures { LowersStmt (stmt_level (P.spot lowerer.now.parts) node.now) state.old result state.new }
 {
     match &node.kind {
+        ast::StmtKind::LetStmt {
+            pat,
+            ty,
+            init,
+            else_,
+        } => {
+            let at = lowerer.pointer(node.id, node.range);
+            let_stmt(lowerer, state, at, pat, ty, init, else_)
+        }
         ast::StmtKind::ExprStmt { expr, semi } => {
             match lowerer.maybe_collect_expr_opt(state, expr)? {
                 None => Ok(None),
@@ -83,9 +93,8 @@ fn collect_stmts<P: LowerParts>(
 {
     let mut done = Seq::new(lowerer.alloc);
     while let [one, rest @ ..] = all {
-        if let Some(statement) = collect_stmt(lowerer, state, one)? {
-            push_statement(&mut done, statement)?;
-        }
+        let statement = collect_stmt(lowerer, state, one)?;
+        push_kept_statement(&mut done, statement)?;
         all = rest;
     }
     Ok(done)
@@ -121,7 +130,7 @@ fn contents<P: LowerParts>(
 }
 
 /// A block that is read here, as one that is unsafe or isn't, inside the label of this number.
-#[tactic(auto, unfolding(hir_lower_form::specs::Lower::block_form))]
+#[tactic(auto, unfolding(hir_lower_form::specs::Forms::block_form))]
 pub fn block_node<P: LowerParts>(
     lowerer: &Lowerer<P>,
     state: &mut BodyBuilder,
@@ -148,7 +157,7 @@ pub fn block_node<P: LowerParts>(
 }
 
 /// A block with a label, if it has one, and with no modifier.
-#[tactic(auto, unfolding(hir_lower_form::specs::Lower::labelled))]
+#[tactic(auto, unfolding(hir_lower_form::specs::Forms::labelled))]
 fn labelled_block<P: LowerParts>(
     lowerer: &Lowerer<P>,
     state: &mut BodyBuilder,
@@ -172,7 +181,7 @@ fn labelled_block<P: LowerParts>(
 }
 
 /// A block with its modifier, beside which no label counts, or else with its label.
-#[tactic(auto, unfolding(hir_lower_form::specs::Lower::labelled))]
+#[tactic(auto, unfolding(hir_lower_form::specs::Forms::labelled))]
 fn headed_block<P: LowerParts>(
     lowerer: &Lowerer<P>,
     state: &mut BodyBuilder,

@@ -1,5 +1,6 @@
 //! Calls, and what stands around an operand.
 
+ghost use Rattle.std.specs.Prelude.{is_some};
 ghost use Rattle.hir_env.specs.Answered as tree;
 ghost use Rattle.hir_env.specs.Answering.{name_or_missing};
 ghost use Rattle.hir_env.specs.Whole.{arg_list_part, args_part, expr_part};
@@ -7,16 +8,16 @@ ghost use Rattle.hir_lower_form.specs.Nests.{Each, IfPresent};
 ghost use Rattle.hir_lower_form.specs.Methods.{LowersExpr};
 
 use crate::here::args_here;
+use hir_base::node::{AstPtr, InFile};
 use hir_lower_form::builder::BodyBuilder;
 use hir_lower_form::names::name_of;
 use hir_lower_form::parts::{LowerParts, Lowerer};
 use hir_store::fault::StoreFault;
 use hir_store::hir::Expr;
 use hir_store::ids::ExprId;
-use hir_syntax::node::{AstPtr, InFile};
 use hir_syntax::{Boxed, Seq, ast};
 
-#[tactic(auto, unfolding(hir_lower_form::specs::Lower::call_form))]
+#[tactic(auto, unfolding(hir_lower_form::specs::Forms::call_form))]
 pub(crate) fn call_form<P: LowerParts>(
     lowerer: &Lowerer<P>,
     state: &mut BodyBuilder,
@@ -28,6 +29,7 @@ pub(crate) fn call_form<P: LowerParts>(
     requires args { IfPresent (Each (P.can lowerer.now.parts).expr) args.now }
     ensures { LowersExpr (tree.call_expr at
         (expr_part (P.spot lowerer.now.parts) callee.now)
+        (is_some args.now)
         (args_part (P.spot lowerer.now.parts) args.now)) state.old result state.new }
 {
     let callee = lowerer.collect_expr_opt(state, callee)?;
@@ -36,7 +38,7 @@ pub(crate) fn call_form<P: LowerParts>(
 }
 
 /// The generic arguments behind the others.
-#[tactic(auto, unfolding(hir_lower_form::specs::Lower::method_call_form))]
+#[tactic(auto, unfolding(hir_lower_form::specs::Forms::method_call_form))]
 pub(crate) fn method_call_form<P: LowerParts>(
     lowerer: &Lowerer<P>,
     state: &mut BodyBuilder,
@@ -69,7 +71,7 @@ pub(crate) fn method_call_form<P: LowerParts>(
 }
 
 /// The parentheses lead to what is in them.
-#[tactic(auto, unfolding(hir_lower_form::specs::Lower::paren_form))]
+#[tactic(auto, unfolding(hir_lower_form::specs::Forms::paren_form))]
 pub(crate) fn paren_form<P: LowerParts>(
     lowerer: &Lowerer<P>,
     state: &mut BodyBuilder,

@@ -6,12 +6,12 @@ ghost use Rattle.hir_env.specs.Whole.{answered_else, block_part, else_level, els
 ghost use Rattle.hir_lower_form.specs.Nests.{IfPresent, KidsElse};
 ghost use Rattle.hir_lower_form.specs.Methods.{LowersExpr, LowersIfPresent};
 
+use hir_base::node::{AstPtr, InFile};
 use hir_lower_form::builder::BodyBuilder;
 use hir_lower_form::parts::{LowerParts, Lowerer};
 use hir_store::fault::StoreFault;
 use hir_store::hir::{Expr, LoopSource};
 use hir_store::ids::ExprId;
-use hir_syntax::node::{AstPtr, InFile};
 use hir_syntax::{Boxed, ast};
 
 fn else_node<P: LowerParts>(
@@ -54,7 +54,7 @@ fn else_if_present<P: LowerParts>(
 }
 
 /// The branches are lowered before the condition.
-#[tactic(auto, unfolding(hir_lower_form::specs::Lower::if_form))]
+#[tactic(auto, unfolding(hir_lower_form::specs::Forms::if_form))]
 pub(crate) fn if_form<P: LowerParts>(
     lowerer: &Lowerer<P>,
     state: &mut BodyBuilder,
@@ -82,7 +82,7 @@ pub(crate) fn if_form<P: LowerParts>(
     state.alloc_expr(expr, Some(at))
 }
 
-#[tactic(auto, unfolding(hir_lower_form::specs::Lower::loop_form))]
+#[tactic(auto, unfolding(hir_lower_form::specs::Forms::loop_form))]
 pub(crate) fn loop_form<P: LowerParts>(
     lowerer: &Lowerer<P>,
     state: &mut BodyBuilder,

@@ -6,7 +6,8 @@ ghost use Rattle.hir_lower_form.specs.Nests.{KidsExpr};
 ghost use Rattle.hir_lower_form.specs.Methods.{LowersExpr, MaybeLowersExpr};
 
 use crate::families::{
-    access_kind, control_kind, leaf_kind, leaving_kind, listing_kind, operator_kind, typed_kind,
+    access_kind, control_kind, leaf_kind, leaving_kind, listing_kind, matching_kind, operator_kind,
+    typed_kind,
 };
 use hir_lower_form::builder::BodyBuilder;
 use hir_lower_form::parts::{LowerParts, Lowerer, site};
@@ -41,7 +42,8 @@ fn expr_form<P: LowerParts>(
         | ast::ExprKind::RefExpr { .. } => access_kind(lowerer, state, at, &node.kind),
         ast::ExprKind::PrefixExpr { .. }
         | ast::ExprKind::BinExpr { .. }
-        | ast::ExprKind::AwaitExpr { .. } => operator_kind(lowerer, state, at, &node.kind),
+        | ast::ExprKind::AwaitExpr { .. }
+        | ast::ExprKind::RangeExpr { .. } => operator_kind(lowerer, state, at, &node.kind),
         ast::ExprKind::ReturnExpr { .. }
         | ast::ExprKind::BecomeExpr { .. }
         | ast::ExprKind::YieldExpr { .. }
@@ -50,6 +52,9 @@ fn expr_form<P: LowerParts>(
         | ast::ExprKind::CastExpr { .. }
         | ast::ExprKind::RecordExpr { .. }
         | ast::ExprKind::OffsetOfExpr { .. } => typed_kind(lowerer, state, at, &node.kind),
+        ast::ExprKind::LetExpr { .. } | ast::ExprKind::MatchExpr { .. } => {
+            matching_kind(lowerer, state, at, &node.kind)
+        }
         ast::ExprKind::Literal(_)
         | ast::ExprKind::CfgPredExpr { .. }
         | ast::ExprKind::UnderscoreExpr

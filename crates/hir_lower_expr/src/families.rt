@@ -1,10 +1,12 @@
 //! The kinds of expressions by family: a function that takes all kinds apart would be too much for one proof.
 
 ghost use Rattle.hir_syntax.specs.declared.ast.ExprKind.{out-ExprKind};
-ghost use Rattle.hir_lower_form.specs.Families.{IsAccess, IsControl, IsLeaf, IsLeaving, IsListing, IsOperator, IsTyped};
+ghost use Rattle.hir_lower_form.specs.Families.{IsAccess, IsControl, IsLeaf, IsLeaving, IsListing, IsMatching};
+ghost use Rattle.hir_lower_form.specs.Families.{IsOperator, IsTyped};
 ghost use Rattle.hir_lower_form.specs.Nests.{KidsExpr};
 ghost use Rattle.hir_lower_form.specs.Methods.{LowersExpr, kind_at};
 
+use crate::assignments::bin_form;
 use crate::blocks::block_form;
 use crate::calls::{call_form, method_call_form, paren_form};
 use crate::control::{if_form, loop_form};
@@ -13,18 +15,19 @@ use crate::leaves::{
     include_bytes_form, left_out_form, literal_form, predicate_form, underscore_form,
 };
 use crate::leaving::{become_form, return_form, yeet_form, yield_form};
+use crate::lets::let_form;
 use crate::lists::{array_form, tuple_form};
-use crate::operators::{
-    await_form, binary_form, field_form, index_form, prefix_form, reference_form,
-};
+use crate::matches::match_form;
+use crate::operators::{await_form, field_form, index_form, prefix_form, reference_form};
+use crate::ranges::range_form;
 use crate::records::record_form;
 use crate::typed::{cast_form, offset_of_form, path_form};
+use hir_base::node::{AstPtr, InFile};
 use hir_lower_form::builder::BodyBuilder;
 use hir_lower_form::parts::{LowerParts, Lowerer};
 use hir_store::fault::StoreFault;
 use hir_store::ids::ExprId;
 use hir_syntax::ast;
-use hir_syntax::node::{AstPtr, InFile};
 
 /// Blocks, branches, loops and jumps.
 #[tactic(auto, using(crate::proofs::OfFamily::only_control))]
@@ -50,6 +53,25 @@ pub(crate) fn control_kind<P: LowerParts>(
         ast::ExprKind::BreakExpr { lifetime, expr } => break_form(
             lowerer, state, at, lifetime, expr,
         ),
+        _ => unreachable!(),
+    }
+}
+
+/// What has patterns.
+#[tactic(auto, using(crate::proofs::OfFamily::only_matching))]
+pub(crate) fn matching_kind<P: LowerParts>(
+    lowerer: &Lowerer<P>,
+    state: &mut BodyBuilder,
+    at: InFile<AstPtr>,
+    kind: &ast::ExprKind,
+) -> Result<ExprId, StoreFault>
+    requires family { IsMatching (out-ExprKind kind.now) }
+    requires parts { KidsExpr (P.can lowerer.now.parts) (P.spot lowerer.now.parts).place (out-ExprKind kind.now) }
+    ensures { LowersExpr (kind_at (P.spot lowerer.now.parts) at kind.now) state.old result state.new }
+{
+    match kind {
+        ast::ExprKind::LetExpr { pat, expr } => let_form(lowerer, state, at, pat, expr),
+        ast::ExprKind::MatchExpr { expr, arms } => match_form(lowerer, state, at, expr, arms),
         _ => unreachable!(),
     }
 }
@@ -120,8 +142,11 @@ pub(crate) fn operator_kind<P: LowerParts>(
 {
     match kind {
         ast::ExprKind::PrefixExpr { op, expr } => prefix_form(lowerer, state, at, *op, expr),
-        ast::ExprKind::BinExpr { op, lhs, rhs } => binary_form(lowerer, state, at, *op, lhs, rhs),
+        ast::ExprKind::BinExpr { op, lhs, rhs } => bin_form(lowerer, state, at, *op, lhs, rhs),
         ast::ExprKind::AwaitExpr { expr } => await_form(lowerer, state, at, expr),
+        ast::ExprKind::RangeExpr { op, start, end } => {
+            range_form(lowerer, state, at, *op, start, end)
+        }
         _ => unreachable!(),
     }
 }

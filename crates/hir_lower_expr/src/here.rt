@@ -3,7 +3,7 @@
 ghost use Rattle.std.specs.Prelude.{None};
 ghost use Rattle.hir_env.specs.Whole.{arg_list_part, path_part, type_part};
 ghost use Rattle.hir_lower_form.specs.Nests.{IfPresent};
-ghost use Rattle.hir_lower_form.specs.Methods.{LowersArgs, LowersPath, LowersTypeOpt};
+ghost use Rattle.hir_lower_form.specs.Methods.{LowersArgs, LowersPath, LowersTypeIfPresent, LowersTypeOpt};
 
 use hir_lower_form::builder::BodyBuilder;
 use hir_lower_form::parts::{LowerParts, Lowerer};
@@ -34,6 +34,18 @@ pub(crate) fn type_here<P: LowerParts>(
     ensures { LowersTypeOpt None (type_part (P.spot lowerer.now.parts) ty.now) state.old result state.new }
 {
     lowerer.type_or_error(state, lowerer.parts.place(), &None, ty)
+}
+
+/// The type, none where it is absent.
+pub(crate) fn type_here_if_present<P: LowerParts>(
+    lowerer: &Lowerer<P>,
+    state: &mut BodyBuilder,
+    ty: &Option<Boxed<ast::Type_>>,
+) -> Result<Option<TypeRefId>, StoreFault>
+    requires { IfPresent ((P.can lowerer.now.parts).type_ (P.spot lowerer.now.parts).place) ty.now }
+    ensures { LowersTypeIfPresent (type_part (P.spot lowerer.now.parts) ty.now) state.old result state.new }
+{
+    lowerer.type_if_present(state, lowerer.parts.place(), ty)
 }
 
 /// The generic arguments, none where they are absent or yield nothing.

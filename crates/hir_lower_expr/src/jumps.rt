@@ -5,15 +5,15 @@ ghost use Rattle.hir_env.specs.Whole.{expr_part, jump_part};
 ghost use Rattle.hir_lower_form.specs.Nests.{IfPresent};
 ghost use Rattle.hir_lower_form.specs.Methods.{LowersExpr};
 
+use hir_base::node::{AstPtr, InFile};
 use hir_lower_form::builder::BodyBuilder;
 use hir_lower_form::parts::{LowerParts, Lowerer};
 use hir_store::fault::StoreFault;
 use hir_store::hir::Expr;
 use hir_store::ids::ExprId;
-use hir_syntax::node::{AstPtr, InFile};
 use hir_syntax::{Boxed, ast};
 
-#[tactic(auto, unfolding(hir_lower_form::specs::Lower::continue_form))]
+#[tactic(auto, unfolding(hir_lower_form::specs::Forms::continue_form))]
 pub(crate) fn continue_form<P: LowerParts>(
     lowerer: &Lowerer<P>,
     state: &mut BodyBuilder,
@@ -26,7 +26,7 @@ pub(crate) fn continue_form<P: LowerParts>(
     state.alloc_expr(Expr::Continue { label }, Some(at))
 }
 
-#[tactic(auto, unfolding(hir_lower_form::specs::Lower::break_form))]
+#[tactic(auto, unfolding(hir_lower_form::specs::Forms::break_form))]
 pub(crate) fn break_form<P: LowerParts>(
     lowerer: &Lowerer<P>,
     state: &mut BodyBuilder,

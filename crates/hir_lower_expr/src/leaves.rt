@@ -4,6 +4,7 @@ ghost use Rattle.hir_env.specs.Answered as tree;
 ghost use Rattle.hir_env.specs.Answering.{truth};
 ghost use Rattle.hir_lower_form.specs.Methods.{LowersExpr};
 
+use hir_base::node::{AstPtr, InFile, PredId};
 use hir_lower_form::builder::BodyBuilder;
 use hir_lower_form::names::{literal, truth_literal};
 use hir_lower_form::parts::{LowerParts, Lowerer};
@@ -11,7 +12,6 @@ use hir_store::fault::StoreFault;
 use hir_store::hir::Expr;
 use hir_store::ids::ExprId;
 use hir_syntax::ast;
-use hir_syntax::node::{AstPtr, InFile, PredId};
 
 pub(crate) fn literal_form<P: LowerParts>(
     lowerer: &Lowerer<P>,

@@ -5,15 +5,15 @@ ghost use Rattle.hir_env.specs.Whole.{expr_part};
 ghost use Rattle.hir_lower_form.specs.Nests.{IfPresent};
 ghost use Rattle.hir_lower_form.specs.Methods.{LowersExpr};
 
+use hir_base::node::{AstPtr, InFile};
 use hir_lower_form::builder::BodyBuilder;
 use hir_lower_form::parts::{LowerParts, Lowerer};
 use hir_store::fault::StoreFault;
 use hir_store::hir::Expr;
 use hir_store::ids::ExprId;
-use hir_syntax::node::{AstPtr, InFile};
 use hir_syntax::{Boxed, ast};
 
-#[tactic(auto, unfolding(hir_lower_form::specs::Lower::value_form))]
+#[tactic(auto, unfolding(hir_lower_form::specs::Forms::value_form))]
 pub(crate) fn return_form<P: LowerParts>(
     lowerer: &Lowerer<P>,
     state: &mut BodyBuilder,
@@ -29,7 +29,7 @@ pub(crate) fn return_form<P: LowerParts>(
     state.alloc_expr(Expr::Return { expr }, Some(at))
 }
 
-#[tactic(auto, unfolding(hir_lower_form::specs::Lower::value_form))]
+#[tactic(auto, unfolding(hir_lower_form::specs::Forms::value_form))]
 pub(crate) fn yeet_form<P: LowerParts>(
     lowerer: &Lowerer<P>,
     state: &mut BodyBuilder,
@@ -45,7 +45,7 @@ pub(crate) fn yeet_form<P: LowerParts>(
     state.alloc_expr(Expr::Yeet { expr }, Some(at))
 }
 
-#[tactic(auto, unfolding(hir_lower_form::specs::Lower::value_form))]
+#[tactic(auto, unfolding(hir_lower_form::specs::Forms::value_form))]
 pub(crate) fn yield_form<P: LowerParts>(
     lowerer: &Lowerer<P>,
     state: &mut BodyBuilder,
@@ -60,7 +60,7 @@ pub(crate) fn yield_form<P: LowerParts>(
 }
 
 /// The call that it becomes is missing where it is absent.
-#[tactic(auto, unfolding(hir_lower_form::specs::Lower::operand_form))]
+#[tactic(auto, unfolding(hir_lower_form::specs::Forms::operand_form))]
 pub(crate) fn become_form<P: LowerParts>(
     lowerer: &Lowerer<P>,
     state: &mut BodyBuilder,

@@ -2,6 +2,7 @@
 //! parts is handed in.
 #![tactic(auto)]
 
+mod assignments;
 pub mod blocks;
 mod calls;
 mod control;
@@ -9,9 +10,13 @@ pub mod exprs;
 mod families;
 mod here;
 mod jumps;
+mod kept;
 mod leaves;
 mod leaving;
+mod lets;
 mod lists;
+mod matches;
 mod operators;
+mod ranges;
 mod records;
 mod typed;

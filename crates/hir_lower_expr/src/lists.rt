@@ -6,12 +6,12 @@ ghost use Rattle.hir_env.specs.Whole.{exprs_part};
 ghost use Rattle.hir_lower_form.specs.Nests.{Each};
 ghost use Rattle.hir_lower_form.specs.Methods.{LowersExpr};
 
+use hir_base::node::{AstPtr, InFile};
 use hir_lower_form::builder::BodyBuilder;
 use hir_lower_form::parts::{LowerParts, Lowerer};
 use hir_store::fault::StoreFault;
 use hir_store::hir::Expr;
 use hir_store::ids::ExprId;
-use hir_syntax::node::{AstPtr, InFile};
 use hir_syntax::{Seq, ast};
 use std::alloc::{AllocError, Global};
 
@@ -26,7 +26,7 @@ fn with_first(alloc: Global, first: ExprId, rest: Seq<ExprId>) -> Result<Seq<Exp
 }
 
 /// A leading comma stands for a missing element in front, which is made last.
-#[tactic(auto, unfolding(hir_lower_form::specs::Lower::list_form))]
+#[tactic(auto, unfolding(hir_lower_form::specs::Forms::list_form))]
 pub(crate) fn tuple_form<P: LowerParts>(
     lowerer: &Lowerer<P>,
     state: &mut BodyBuilder,
@@ -48,7 +48,7 @@ pub(crate) fn tuple_form<P: LowerParts>(
     state.alloc_expr(Expr::Tuple { exprs }, Some(at))
 }
 
-#[tactic(auto, unfolding(hir_lower_form::specs::Lower::list_form))]
+#[tactic(auto, unfolding(hir_lower_form::specs::Forms::list_form))]
 pub(crate) fn array_form<P: LowerParts>(
     lowerer: &Lowerer<P>,
     state: &mut BodyBuilder,

@@ -1,19 +1,21 @@
 //! Operators, and what else is done with operands.
 
-ghost use Rattle.std.specs.Prelude.{◌≡◌};
+ghost use Rattle.std.specs.Prelude.{◌≡◌, ◌≢◌, Some};
+ghost use Rattle.hir_base.specs.declared.op.BinaryOp.TheVariants as operator;
 ghost use Rattle.hir_env.specs.Answered as tree;
 ghost use Rattle.hir_env.specs.Answering as of;
+ghost use Rattle.hir_env.specs.Targets.{resolves};
 ghost use Rattle.hir_env.specs.Whole.{expr_part};
 ghost use Rattle.hir_lower_form.specs.Nests.{IfPresent};
 ghost use Rattle.hir_lower_form.specs.Methods.{LowersExpr};
 
+use hir_base::node::{AstPtr, InFile};
 use hir_lower_form::builder::BodyBuilder;
 use hir_lower_form::names::name_of;
 use hir_lower_form::parts::{LowerParts, Lowerer};
 use hir_store::fault::StoreFault;
 use hir_store::hir::{Expr, Mutability, Rawness};
 use hir_store::ids::ExprId;
-use hir_syntax::node::{AstPtr, InFile};
 use hir_syntax::{Boxed, ast};
 
 /// What a reference makes.
@@ -33,7 +35,7 @@ fn mutability(is_mut: bool) -> Mutability
     }
 }
 
-#[tactic(auto, unfolding(hir_lower_form::specs::Lower::operand_form))]
+#[tactic(auto, unfolding(hir_lower_form::specs::Forms::operand_form))]
 pub(crate) fn field_form<P: LowerParts>(
     lowerer: &Lowerer<P>,
     state: &mut BodyBuilder,
@@ -52,7 +54,7 @@ pub(crate) fn field_form<P: LowerParts>(
 }
 
 /// Without its operator the expression is missing, and its operand stays.
-#[tactic(auto, unfolding(hir_lower_form::specs::Lower::operand_form))]
+#[tactic(auto, unfolding(hir_lower_form::specs::Forms::operand_form))]
 pub(crate) fn prefix_form<P: LowerParts>(
     lowerer: &Lowerer<P>,
     state: &mut BodyBuilder,
@@ -70,7 +72,7 @@ pub(crate) fn prefix_form<P: LowerParts>(
     }
 }
 
-#[tactic(auto, unfolding(hir_lower_form::specs::Lower::operand_form))]
+#[tactic(auto, unfolding(hir_lower_form::specs::Forms::operand_form))]
 pub(crate) fn reference_form<P: LowerParts>(
     lowerer: &Lowerer<P>,
     state: &mut BodyBuilder,
@@ -97,8 +99,8 @@ pub(crate) fn reference_form<P: LowerParts>(
     )
 }
 
-/// The operands from left to right, whatever the operator.
-#[tactic(auto, using(hir_lower_form::proofs::Binaries::binary_is), unfolding(hir_lower_form::specs::Lower::operands_form))]
+/// The operands from left to right, whatever the operator, which is no `=`.
+#[tactic(auto, using(hir_lower_form::proofs::Binaries::binary_is), unfolding(hir_lower_form::specs::Forms::operands_form))]
 pub(crate) fn binary_form<P: LowerParts>(
     lowerer: &Lowerer<P>,
     state: &mut BodyBuilder,
@@ -109,16 +111,18 @@ pub(crate) fn binary_form<P: LowerParts>(
 ) -> Result<ExprId, StoreFault>
     requires lhs { IfPresent (P.can lowerer.now.parts).expr lhs.now }
     requires rhs { IfPresent (P.can lowerer.now.parts).expr rhs.now }
-    ensures { LowersExpr (of.bin_expr at op
-        (expr_part (P.spot lowerer.now.parts) lhs.now)
-        (expr_part (P.spot lowerer.now.parts) rhs.now)) state.old result state.new }
+    requires other { op ≢ Some operator.Assign }
+    ensures { let spot = P.spot lowerer.now.parts in
+        LowersExpr (of.bin_expr (resolves spot.answers spot.place) at op
+        (expr_part spot lhs.now)
+        (expr_part spot rhs.now)) state.old result state.new }
 {
     let lhs = lowerer.collect_expr_opt(state, lhs)?;
     let rhs = lowerer.collect_expr_opt(state, rhs)?;
     state.alloc_expr(Expr::BinaryOp { op, lhs, rhs }, Some(at))
 }
 
-#[tactic(auto, unfolding(hir_lower_form::specs::Lower::operands_form))]
+#[tactic(auto, unfolding(hir_lower_form::specs::Forms::operands_form))]
 pub(crate) fn index_form<P: LowerParts>(
     lowerer: &Lowerer<P>,
     state: &mut BodyBuilder,
@@ -138,7 +142,7 @@ pub(crate) fn index_form<P: LowerParts>(
 }
 
 /// Outside of async code it is a fault, which comes behind those of the operand.
-#[tactic(auto, unfolding(hir_lower_form::specs::Lower::await_form))]
+#[tactic(auto, unfolding(hir_lower_form::specs::Forms::await_form))]
 pub(crate) fn await_form<P: LowerParts>(
     lowerer: &Lowerer<P>,
     state: &mut BodyBuilder,

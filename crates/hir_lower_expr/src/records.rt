@@ -14,19 +14,19 @@ ghost use Rattle.hir_lower_form.specs.Methods.{HasField, HasRecord, LowersExpr, 
 ghost use Rattle.hir_lower_form.specs.Nests.{IfPresent, KidsField, KidsFields, KidsRecord};
 
 use crate::here::path_here;
+use crate::kept::push_kept_field;
+use hir_base::node::{AstPtr, InFile};
 use hir_lower_form::builder::BodyBuilder;
 use hir_lower_form::parts::{LowerParts, Lowerer, site};
 use hir_store::diagnostics::ExpressionStoreDiagnostics;
 use hir_store::fault::StoreFault;
 use hir_store::hir::{Expr, RecordLitField, RecordSpread};
 use hir_store::ids::ExprId;
-use hir_store::lists::push_field;
 use hir_store::name::Name;
-use hir_syntax::node::{AstPtr, InFile};
 use hir_syntax::{Boxed, Seq, ast};
 
 /// A field with a name, whose value leads to it.
-#[tactic(auto, unfolding(hir_lower_form::specs::Lower::field_form))]
+#[tactic(auto, unfolding(hir_lower_form::specs::Forms::field_form))]
 fn named_field<P: LowerParts>(
     lowerer: &Lowerer<P>,
     state: &mut BodyBuilder,
@@ -87,9 +87,8 @@ fn fields<P: LowerParts>(
 {
     let mut done = Seq::new(lowerer.alloc);
     while let [one, rest @ ..] = left {
-        if let Some(field) = field(lowerer, state, one)? {
-            push_field(&mut done, field)?;
-        }
+        let field = field(lowerer, state, one)?;
+        push_kept_field(&mut done, field)?;
         left = rest;
     }
     Ok(done)
@@ -117,7 +116,7 @@ fn spread<P: LowerParts>(
     }
 }
 
-#[tactic(auto, unfolding(hir_lower_form::specs::Lower::record_contents))]
+#[tactic(auto, unfolding(hir_lower_form::specs::Forms::record_contents))]
 fn record_level_contents<P: LowerParts>(
     lowerer: &Lowerer<P>,
     state: &mut BodyBuilder,
@@ -143,7 +142,7 @@ fn listed<P: LowerParts>(
 }
 
 /// The fields and what the others come from, nothing where no list is written.
-#[tactic(auto, unfolding(hir_lower_form::specs::Lower::record_contents))]
+#[tactic(auto, unfolding(hir_lower_form::specs::Forms::record_contents))]
 fn contents<P: LowerParts>(
     lowerer: &Lowerer<P>,
     state: &mut BodyBuilder,
@@ -159,7 +158,7 @@ fn contents<P: LowerParts>(
 }
 
 /// Where the path is absent or refused the record is missing, and nothing else of it is read.
-#[tactic(auto, unfolding(hir_lower_form::specs::Lower::record_form))]
+#[tactic(auto, unfolding(hir_lower_form::specs::Forms::record_form))]
 pub(crate) fn record_form<P: LowerParts>(
     lowerer: &Lowerer<P>,
     state: &mut BodyBuilder,
@@ -171,7 +170,7 @@ pub(crate) fn record_form<P: LowerParts>(
     requires list { let place = (P.spot lowerer.now.parts).place in
         IfPresent (λ r. KidsRecord (P.can lowerer.now.parts) place (out-RecordExprFieldList r)) list.now }
     ensures { let spot = P.spot lowerer.now.parts in let read = record_part spot list.now in
-        LowersExpr (tree.record_expr at (path_part spot path.now) read.fields read.spread) state.old result state.new }
+        LowersExpr (tree.record_expr at (path_part spot path.now) read.head read.fields read.spread) state.old result state.new }
 {
     let Some(path) = path_here(lowerer, state, path)? else {
         return state.missing_expr();

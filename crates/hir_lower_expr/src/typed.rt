@@ -8,6 +8,7 @@ ghost use Rattle.hir_lower_form.specs.Nests.{IfPresent};
 ghost use Rattle.hir_lower_form.specs.Methods.{LowersExpr};
 
 use crate::here::{path_here, type_here};
+use hir_base::node::{AstPtr, InFile};
 use hir_lower_form::builder::BodyBuilder;
 use hir_lower_form::names::{names_of, path_expr};
 use hir_lower_form::parts::{LowerParts, Lowerer, site};
@@ -15,12 +16,11 @@ use hir_store::fault::StoreFault;
 use hir_store::hir::Expr;
 use hir_store::ids::ExprId;
 use hir_store::name::Name;
-use hir_syntax::node::{AstPtr, InFile};
 use hir_syntax::{Boxed, Seq, ast};
 use std::alloc::{AllocError, Global};
 
 /// A path that is absent or refused is missing.
-#[tactic(auto, unfolding(hir_lower_form::specs::Lower::path_form))]
+#[tactic(auto, unfolding(hir_lower_form::specs::Forms::path_form))]
 pub(crate) fn path_form<P: LowerParts>(
     lowerer: &Lowerer<P>,
     state: &mut BodyBuilder,
@@ -36,7 +36,7 @@ pub(crate) fn path_form<P: LowerParts>(
     state.alloc_expr(path_expr(path, hygiene), Some(at))
 }
 
-#[tactic(auto, unfolding(hir_lower_form::specs::Lower::cast_form))]
+#[tactic(auto, unfolding(hir_lower_form::specs::Forms::cast_form))]
 pub(crate) fn cast_form<P: LowerParts>(
     lowerer: &Lowerer<P>,
     state: &mut BodyBuilder,
@@ -61,7 +61,7 @@ fn field_names(alloc: Global, names: &Seq<ast::Name>) -> Result<Seq<Name>, Alloc
     names_of(alloc, names.as_slice())
 }
 
-#[tactic(auto, unfolding(hir_lower_form::specs::Lower::offset_of_form))]
+#[tactic(auto, unfolding(hir_lower_form::specs::Forms::offset_of_form))]
 pub(crate) fn offset_of_form<P: LowerParts>(
     lowerer: &Lowerer<P>,
     state: &mut BodyBuilder,

@@ -4,7 +4,8 @@ use Rattle.std.proofs.Common.{List, [], ◌∷◌, ◌++◌, length, length-appe
 use Rattle.std.specs.Prelude.{slice_get, MatchOption}
 use Rattle.hir_syntax.specs.declared.ast.BlockExpr.{BlockExpr as AstBlockExpr}
 use Rattle.hir_store.specs.Stored.{Stored}
-use Rattle.hir_store.specs.Range.{HasStatements, HasExprOption}
+use Rattle.hir_store.specs.Past.{past_statement}
+use Rattle.hir_store.specs.Range.{Has, HasStatements, HasExprOption}
 use Rattle.hir_store.specs.declared.hir.Statement.{Statement}
 use Rattle.hir_store.specs.declared.hir.Statement.TheVariants as statement
 use Rattle.hir_store.specs.declared.ids.ExprId.{ExprId}
@@ -13,7 +14,8 @@ use Rattle.hir_env.specs.Answered as tree
 use Rattle.hir_env.specs.Answered.{Block, Expr}
 use Rattle.hir_env.specs.Whole.{answered_block, answered_plain, block_head, block_level}
 use Rattle.hir_env.proofs.Levels.{block_is_level, plain_is_level}
-use Rattle.hir_lower_form.specs.Lower.{lower, lower_block, lower_inside, labelled, settled, value_of}
+use Rattle.hir_lower_form.specs.Forms.{labelled}
+use Rattle.hir_lower_form.specs.Lower.{lower, lower_block, lower_inside, settled, value_of}
 
 pub plain_inside : (at : Spot) (b : AstBlockExpr) → lower_block (answered_plain at b) ≡ lower_inside false None (answered_plain at b)
 unfolding labelled
@@ -41,12 +43,14 @@ settled_expr (statement.Expr i true ∷ ss) id = λ k. (statement.Expr i true �
 settled_expr (statement.Expr i false ∷ []) id = refl
 settled_expr (statement.Expr i false ∷ s ∷ ss) id =
     λ k. (statement.Expr i false ∷ (settled_expr (s ∷ ss) id k).0, (settled_expr (s ∷ ss) id k).1)
+settled_expr (statement.Let p t i b ∷ ss) id = λ k. (statement.Let p t i b ∷ (settled_expr ss id k).0, (settled_expr ss id k).1)
 settled_expr (statement.Item ∷ ss) id = λ k. (statement.Item ∷ (settled_expr ss id k).0, (settled_expr ss id k).1)
 
 settled_some : (ss : List Statement) (s : Statement) (id : ExprId)
     → value_of (Some s) ≡ Some id → settled (ss ++ s ∷ []) None ≡ (ss, Some id)
 settled_some ss (statement.Expr i false) id h = let e : i ≡ id = cc in rw e (settled_expr ss id)
 settled_some ss (statement.Expr i true) id h = cc
+settled_some ss (statement.Let p t i b) id h = cc
 settled_some ss statement.Item id h = cc
 
 pub settled_pop : (old new : List Statement) (r : Option Statement) (id : ExprId)
@@ -62,28 +66,48 @@ pub settled_none : (ss : List Statement) → value_of (slice_get ss (length ss -
 settled_none [] h = refl
 settled_none (statement.Expr i false ∷ []) h = cc
 settled_none (statement.Expr i true ∷ []) h = refl
+settled_none (statement.Let p x i b ∷ []) h = refl
 settled_none (statement.Item ∷ []) h = refl
 settled_none (statement.Expr i false ∷ t ∷ ss) h =
     let r = settled_none (t ∷ ss) (rw (get_last (statement.Expr i false) t ss) at h) in λ k. (statement.Expr i false ∷ (r k).0, (r k).1)
 settled_none (statement.Expr i true ∷ t ∷ ss) h =
     let r = settled_none (t ∷ ss) (rw (get_last (statement.Expr i true) t ss) at h) in λ k. (statement.Expr i true ∷ (r k).0, (r k).1)
+settled_none (statement.Let p x i b ∷ t ∷ ss) h =
+    let r = settled_none (t ∷ ss) (rw (get_last (statement.Let p x i b) t ss) at h) in
+    λ k. (statement.Let p x i b ∷ (r k).0, (r k).1)
 settled_none (statement.Item ∷ t ∷ ss) h =
     let r = settled_none (t ∷ ss) (rw (get_last statement.Item t ss) at h) in λ k. (statement.Item ∷ (r k).0, (r k).1)
 
 abbrev Settled : Stored → List Statement × Option ExprId → Type 0
 Settled s r = HasStatements s r.0 × HasExprOption s r.1
 
+-- the first statement exists, and so do the others
+first_has : (s : Stored) (x : Statement) (ss : List Statement) → HasStatements s (x ∷ ss) → Has s (past_statement x)
+first_has s x ss h = (omega (arith, h.0), omega (arith, h.1), omega (arith, h.2), omega (arith, h.3))
+
+others_have : (s : Stored) (x : Statement) (ss : List Statement) → HasStatements s (x ∷ ss) → HasStatements s ss
+others_have s x ss h = (omega (arith, h.0), omega (arith, h.1), omega (arith, h.2), omega (arith, h.3))
+
+both_have : (s : Stored) (x : Statement) (ss : List Statement) → Has s (past_statement x) → HasStatements s ss → HasStatements s (x ∷ ss)
+both_have s x ss h k = (omega (arith, h.0, k.0), omega (arith, h.1, k.1), omega (arith, h.2, k.2), omega (arith, h.3, k.3))
+
+-- behind the first statement a block is settled as without it
+settled_behind : (s : Stored) (x : Statement) (ss : List Statement)
+    → HasStatements s (x ∷ ss) → (HasStatements s ss → Settled s (settled ss None))
+    → Settled s (x ∷ (settled ss None).0, (settled ss None).1)
+settled_behind s x ss h rest =
+    let r = rest (others_have s x ss h) in (both_have s x (settled ss None).0 (first_has s x ss h) r.0, r.1)
+
 pub settled_range : (s : Stored) (ss : List Statement) (t : Option ExprId)
     → HasStatements s ss → HasExprOption s t → Settled s (settled ss t)
 settled_range s ss (Some t) h k = (h, k)
 settled_range s [] None h k = (h, k)
-settled_range s (statement.Expr i false ∷ []) None h k = (omega arith, omega arith)
+settled_range s (statement.Expr i false ∷ []) None h k = (others_have s (statement.Expr i false) [] h, omega (arith, h.0))
 settled_range s (statement.Expr i false ∷ x ∷ ss) None h k =
-    let r = settled_range s (x ∷ ss) None (omega arith) (omega arith) in (omega (arith, r.0), r.1)
-settled_range s (statement.Expr i true ∷ ss) None h k =
-    let r = settled_range s ss None (omega arith) (omega arith) in (omega (arith, r.0), r.1)
-settled_range s (statement.Item ∷ ss) None h k =
-    let r = settled_range s ss None (omega arith) (omega arith) in (omega (arith, r.0), r.1)
+    settled_behind s (statement.Expr i false) (x ∷ ss) h (λ m. settled_range s (x ∷ ss) None m k)
+settled_range s (statement.Expr i true ∷ ss) None h k = settled_behind s (statement.Expr i true) ss h (λ m. settled_range s ss None m k)
+settled_range s (statement.Let p t i b ∷ ss) None h k = settled_behind s (statement.Let p t i b) ss h (λ m. settled_range s ss None m k)
+settled_range s (statement.Item ∷ ss) None h k = settled_behind s statement.Item ss h (λ m. settled_range s ss None m k)
 
 pub settled_in_range : (s : Stored) (ss new : List Statement) (t u : Option ExprId)
     → settled ss t ≡ (new, u) → HasStatements s ss → HasExprOption s t → Settled s (new, u)

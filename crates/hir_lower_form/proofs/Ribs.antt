@@ -1,8 +1,8 @@
--- Labels that are found exist.
-use Rattle.std.proofs.Common.{arith, ◌≡◌, ◌≤◌, List, [], ◌∷◌, length, Some, Result, Ok, Err, refl, subst}
+-- Labels that are found exist, and a jump without a target is a fault.
+use Rattle.std.proofs.Common.{arith, ◌≡◌, ◌∙◌, ◌≤◌, List, [], ◌∷◌, length, Option, Some, Result, Ok, Err, refl, subst}
 use Rattle.hir_store.specs.Stored.{Stored}
 use Rattle.hir_store.specs.declared.ids.LabelId.{LabelId}
-use Rattle.hir_store.specs.Range.{HasLabel}
+use Rattle.hir_store.specs.Range.{HasLabel, HasLabelOption}
 use Rattle.hir_env.specs.Answered.{Jump}
 use Rattle.hir_env.specs.Answers.{Answers}
 use Rattle.hir_env.specs.Answering.{jump}
@@ -15,7 +15,7 @@ use Rattle.hir_store.specs.declared.ids.HygieneId.{HygieneId}
 use Rattle.hir_lower_scope.specs.declared.labels.NoTarget.{NoTarget}
 use Rattle.hir_lower_scope.specs.Labels.{answer}
 use Rattle.hir_lower_form.specs.Builder.{Builder, RibsExist, past_ribs}
-use Rattle.hir_lower_form.specs.Lowering.{jump_target, found_or_fault}
+use Rattle.hir_lower_form.specs.Lowering.{Checked, Lowering, Lowers, jump_target, found_or_fault, no_target}
 
 all_exist : (s : Stored) (rs : List (Rib LabelId)) → past_ribs rs ≤ length s.labels.entries → InReach (HasLabel s) rs
 all_exist s [] h = tt
@@ -40,3 +40,31 @@ found_lowers b env source name hygiene n e exist =
     by j (reachable k) h = (refl, h)
     by j unreachable h = tt
     by j undeclared h = tt
+
+-- ---- a jump without a target
+
+-- what steps answer and leave where they start at this builder is what equal steps do
+lowers_as : {A : Type 0} (Has : Stored → A → Type 0) (p q : Lowering A) (b : Builder) → p b ≡ q b
+    → (r : Checked A) (new : Builder) → Lowers Has q b r new → Lowers Has p b r new
+lowers_as Has p q b e (Ok a) new h = (e ∙ h.0, h.1, h.2)
+lowers_as Has p q b e (Err x) new h = λ k. (e ∙ (h k).0, (h k).1)
+
+abbrev JumpMissed : Builder → Jump → Target LabelId → Result LabelId NoTarget → Type 0
+JumpMissed b j t (Ok n) = Unit {0}
+JumpMissed b j t (Err cause) = found_or_fault j t b ≡ no_target cause j.pointer j.name b
+
+pub missed_lowers : (b : Builder) (env : Answers) (source : Pointer) (name : Name) (hygiene : HygieneId) (cause : NoTarget)
+    → answer (search env.contexts name (sought_first hygiene) b.scopes) ≡ Err cause
+    → (r : Checked (Option LabelId)) (new : Builder) → Lowers HasLabelOption (no_target cause source name) b r new
+    → Lowers HasLabelOption (jump_target (Some (jump env source name hygiene))) b r new
+unfolding jump_target
+missed_lowers b env source name hygiene cause e r new h =
+    let j : Jump = jump env source name hygiene in
+    let is : found_or_fault j (target j b.scopes) b ≡ no_target cause source name b =
+    subst (JumpMissed b j (target j b.scopes)) e (by j (target j b.scopes)) in
+    lowers_as HasLabelOption (jump_target (Some j)) (no_target cause source name) b is r new h
+  where
+    by : (j : Jump) (t : Target LabelId) → JumpMissed b j t (answer t)
+    by j (reachable k) = tt
+    by j unreachable = refl
+    by j undeclared = refl

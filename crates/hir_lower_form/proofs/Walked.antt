@@ -11,7 +11,7 @@ use Rattle.hir_store.proofs.Past.{self_alone_past, self_before_past}
 use Rattle.hir_store.specs.declared.ids.TypeRefId.{TypeRefId}
 use Rattle.hir_store.specs.declared.path.GenericArgs.{GenericArgs}
 use Rattle.hir_store.specs.declared.path.Path.{Path}
-use Rattle.hir_store.specs.declared.path.Path.TheVariants.{BarePath, Normal}
+use Rattle.hir_store.specs.declared.path.Path.TheVariants.{BarePath, Normal, LangItem}
 use Rattle.hir_lower_form.specs.Methods.{HasWalk, HasReading}
 use Rattle.hir_lower_form.specs.Walks.{with_self, args_of, without_last_self, has_self, finished, path_read, own_path}
 use Rattle.hir_lower_form.specs.Walks.{normal_path, self_read, super_read, self_kind, anchored, projected}
@@ -34,16 +34,16 @@ with_self_last t xs a = ap (with_self t) (reverse-append xs (a ∷ []))
 -- joined
 
 has_join : (s : Stored) (p q : Past) → Has s p → Has s q → Has s (join p q)
-has_join s p q h k = (omega (arith, h.0, k.0), omega (arith, h.1, k.1), omega (arith, h.2, k.2))
+has_join s p q h k = (omega (arith, h.0, k.0), omega (arith, h.1, k.1), omega (arith, h.2, k.2), omega (arith, h.3, k.3))
 
 join_left : (s : Stored) (p q : Past) → Has s (join p q) → Has s p
-join_left s p q h = (omega (arith, h.0), omega (arith, h.1), omega (arith, h.2))
+join_left s p q h = (omega (arith, h.0), omega (arith, h.1), omega (arith, h.2), omega (arith, h.3))
 
 join_right : (s : Stored) (p q : Past) → Has s (join p q) → Has s q
-join_right s p q h = (omega (arith, h.0), omega (arith, h.1), omega (arith, h.2))
+join_right s p q h = (omega (arith, h.0), omega (arith, h.1), omega (arith, h.2), omega (arith, h.3))
 
 has_nothing : (s : Stored) → Has s nothing
-has_nothing s = (omega arith, omega arith, omega arith)
+has_nothing s = (omega arith, omega arith, omega arith, omega arith)
 
 module _ {A : Type 0} (s : Stored) (past : A → Past) where
   each_append : (xs ys : List A) → Has s (past_each past xs) → Has s (past_each past ys) → Has s (past_each past (xs ++ ys))
@@ -72,6 +72,7 @@ module _ (s : Stored) where
   lists_of : (p : Path) → HasPath s p → Lists (args_of p)
   lists_of (BarePath p) h = absent_lists p.segments
   lists_of (Normal p) h = join_right s (past_present past_type_id p.type_anchor) (past_arg_lists p.generic_args) h
+  lists_of (LangItem item) h = has_nothing s
 
   has_self_first : (t : TypeRefId) (a : Option GenericArgs) → Has s (past_type_id t) → HasArgsOption s a
       → Has s (past_generic (self_first t a))
@@ -117,7 +118,8 @@ module _ (s : Stored) where
   pub anchored_has : (t : TypeRefId) (w : PathWalk) → HasWalk s w → HasType s t → HasReading s (anchored t w)
   anchored_has t w h k =
       let old = past_present past_type_id w.type_anchor in
-      has_join s (past_type_id t) (past_arg_lists w.args) (omega arith, k, omega arith) (join_right s old (past_arg_lists w.args) h)
+      has_join s (past_type_id t) (past_arg_lists w.args) (omega arith, k, omega arith, omega arith)
+      (join_right s old (past_arg_lists w.args) h)
 
   pub projected_has : (t : TypeRefId) (p : Path) (w : PathWalk) → HasWalk s w → HasType s t → HasPath s p → HasReading s (projected t p w)
   projected_has t p w h k m = by (no_names (mod_path p).segments)
@@ -126,7 +128,7 @@ module _ (s : Stored) where
       opened =
           let anchor = past_present past_type_id w.type_anchor in
           let turned = each_reverse s (past_present past_generic) (args_of p) (lists_of p m) in
-          let own = lists_with_self t (reverse (args_of p)) (omega arith, k, omega arith) turned in
+          let own = lists_with_self t (reverse (args_of p)) (omega arith, k, omega arith, omega arith) turned in
           let old = join_right s anchor (past_arg_lists w.args) h in
           let both = w.args ++ with_self t (reverse (args_of p)) in
           let all = each_append s (past_present past_generic) w.args (with_self t (reverse (args_of p))) old own in

@@ -28,11 +28,18 @@ IsAccess (ExprKind-F.IndexExpr a b) = Unit {0}
 IsAccess (ExprKind-F.RefExpr r m e) = Unit {0}
 IsAccess _ = ⊥
 
+-- with patterns
+abbrev pub IsMatching : ExprKindLayer written → Type 0
+IsMatching (ExprKind-F.LetExpr p e) = Unit {0}
+IsMatching (ExprKind-F.MatchExpr e arms) = Unit {0}
+IsMatching _ = ⊥
+
 -- what works on the values of operands
 abbrev pub IsOperator : ExprKindLayer written → Type 0
 IsOperator (ExprKind-F.PrefixExpr o e) = Unit {0}
 IsOperator (ExprKind-F.BinExpr o a b) = Unit {0}
 IsOperator (ExprKind-F.AwaitExpr e) = Unit {0}
+IsOperator (ExprKind-F.RangeExpr o a b) = Unit {0}
 IsOperator _ = ⊥
 
 -- by which the body is left, for good or for a while

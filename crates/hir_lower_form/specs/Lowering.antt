@@ -7,12 +7,18 @@ use Rattle.hir_store.specs.Storing as storing
 use Rattle.hir_store.specs.Storing.{Storing, SomeAtLimit}
 pub use Rattle.hir_store.specs.Storing.{Checked}
 use Rattle.hir_store.specs.declared.fault.StoreFault.TheVariants.{Memory, Full}
+use Rattle.hir_binding.specs.declared.binding.BindingProblems.{BindingProblems}
 use Rattle.hir_store.specs.declared.hir.Expr.{Expr}
+use Rattle.hir_store.specs.declared.name.Name.{Name}
+use Rattle.hir_store.specs.declared.pat.Binding.{Binding}
+use Rattle.hir_store.specs.declared.pat.Pat.{Pat}
 use Rattle.hir_store.specs.declared.type_ref.TypeRef.{TypeRef}
 use Rattle.hir_store.specs.declared.type_ref.LifetimeRef.{LifetimeRef}
 use Rattle.hir_store.specs.declared.ids.TypeRefId.{TypeRefId}
 use Rattle.hir_store.specs.declared.ids.LifetimeRefId.{LifetimeRefId}
+use Rattle.hir_store.specs.declared.ids.BindingId.{BindingId}
 use Rattle.hir_store.specs.declared.ids.ExprId.{ExprId}
+use Rattle.hir_store.specs.declared.ids.PatId.{PatId}
 use Rattle.hir_store.specs.declared.ids.LabelId.{LabelId}
 use Rattle.hir_store.specs.declared.ids.BlockId.{BlockId}
 use Rattle.hir_store.specs.declared.diagnostics.ExpressionStoreDiagnostics.{ExpressionStoreDiagnostics}
@@ -20,6 +26,8 @@ use Rattle.hir_store.specs.declared.diagnostics.ExpressionStoreDiagnostics.TheVa
 use Rattle.hir_store.specs.declared.diagnostics.ExpressionStoreDiagnostics.TheVariants.{UndeclaredLabel, UnreachableLabel}
 use Rattle.hir_store.specs.declared.diagnostics.AwaitLocation.{AwaitLocation}
 use Rattle.hir_scope.specs.Ribs.{label_rib, barrier_rib, Target, reachable, unreachable, undeclared, target}
+use Rattle.hir_lower_scope.specs.declared.labels.NoTarget.{NoTarget}
+use Rattle.hir_lower_scope.specs.declared.labels.NoTarget.TheVariants as no
 use Rattle.hir_lower_scope.specs.Labels.{rest}
 use Rattle.hir_env.specs.Answered.{Label, Jump}
 use Rattle.hir_lower_form.specs.Builder.{Builder}
@@ -49,6 +57,18 @@ stored p = λ b. ((p b.stored).0, record b { stored = (p b.stored).1 })
 unfoldable pub alloc_expr : Expr → Option Pointer → Lowering ExprId
 alloc_expr e source = stored (storing.alloc_expr e source)
 
+unfoldable pub alloc_pat : Pat → Option Pointer → Lowering PatId
+alloc_pat p source = stored (storing.alloc_pat p source)
+
+unfoldable pub alloc_binding : Binding → Lowering BindingId
+alloc_binding b = stored (storing.alloc_binding b)
+
+unfoldable pub define : BindingId → PatId → Lowering (Unit {0})
+define id p = stored (storing.define id p)
+
+unfoldable pub set_problem : BindingId → Option BindingProblems → Lowering (Unit {0})
+set_problem id problem = stored (storing.set_problem id problem)
+
 unfoldable pub alloc_type : TypeRef → Option Pointer → Lowering TypeRefId
 alloc_type t source = stored (storing.alloc_type t source)
 
@@ -60,6 +80,12 @@ point node id = stored (storing.point node id)
 
 unfoldable pub point_field : ExprId → Pointer → Lowering (Unit {0})
 point_field id node = stored (storing.point_field id node)
+
+unfoldable pub point_pat : Pointer → PatId → Lowering (Unit {0})
+point_pat node id = stored (storing.point_pat node id)
+
+unfoldable pub point_pat_field : PatId → Pointer → Lowering (Unit {0})
+point_pat_field id node = stored (storing.point_pat_field id node)
 
 unfoldable pub report : ExpressionStoreDiagnostics → Lowering (Unit {0})
 report fault = stored (storing.report fault)
@@ -117,14 +143,21 @@ close = λ b. (Ok tt, record b { scopes = rest b.scopes })
 unfoldable pub close_labels : Lowering (Unit {0})
 close_labels = λ b. (Ok tt, record b { scopes = [] })
 
+-- what is wrong with a jump that has no target
+abbrev pub jump_fault : NoTarget → Pointer → Name → ExpressionStoreDiagnostics
+jump_fault no.Unreachable node name = UnreachableLabel node name
+jump_fault no.Undeclared node name = UndeclaredLabel node name
+
+-- none, and a fault
+abbrev pub no_target : NoTarget → Pointer → Name → Lowering (Option LabelId)
+no_target cause node name = do
+  report (jump_fault cause node name)
+  pure None
+
 abbrev pub found_or_fault : Jump → Target LabelId → Lowering (Option LabelId)
 found_or_fault j (reachable id) = pure (Some id)
-found_or_fault j unreachable = do
-  report (UnreachableLabel j.pointer j.name)
-  pure None
-found_or_fault j undeclared = do
-  report (UndeclaredLabel j.pointer j.name)
-  pure None
+found_or_fault j unreachable = no_target no.Unreachable j.pointer j.name
+found_or_fault j undeclared = no_target no.Undeclared j.pointer j.name
 
 -- the label that the jump is for, or none and a fault; an unlabelled jump has none
 unfoldable pub jump_target : Option Jump → Lowering (Option LabelId)

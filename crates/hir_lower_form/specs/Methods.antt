@@ -4,7 +4,7 @@ use Rattle.hir_syntax.specs.declared.ast.BlockExpr.{BlockExpr as AstBlockExpr, o
 use Rattle.hir_syntax.specs.declared.ast.Expr.{Expr as AstExpr}
 use Rattle.hir_store.specs.Stored.{Stored}
 use Rattle.hir_store.specs.Range.{HasExpr, HasExprOption, HasExprs, HasStatements, HasStatementOption}
-use Rattle.hir_store.specs.Range.{HasFields, HasSpread, past_field}
+use Rattle.hir_store.specs.Range.{HasFields, HasSpread, past_field, HasPat}
 use Rattle.hir_store.specs.Arenas.{past_option}
 use Rattle.hir_store.specs.declared.hir.RecordLitField.{RecordLitField}
 use Rattle.hir_env.specs.Layers.{RecordReading}
@@ -14,9 +14,11 @@ use Rattle.hir_store.specs.declared.path.GenericArgs.{GenericArgs}
 use Rattle.hir_store.specs.declared.type_ref.ConstRef.{ConstRef}
 use Rattle.hir_store.specs.declared.type_ref.TypeBound.{TypeBound}
 use Rattle.hir_store.specs.declared.type_ref.UseArgRef.{UseArgRef}
-use Rattle.hir_store.specs.Past.{past_use_arg}
+use Rattle.hir_store.specs.Past.{past_arm, past_present, past_use_arg}
+use Rattle.hir_store.specs.declared.hir.MatchArm.{MatchArm}
 use Rattle.hir_store.specs.declared.hir.Statement.{Statement}
 use Rattle.hir_store.specs.declared.ids.ExprId.{ExprId}
+use Rattle.hir_store.specs.declared.ids.PatId.{PatId}
 use Rattle.hir_store.specs.declared.ids.LabelId.{LabelId}
 use Rattle.hir_store.specs.declared.ids.BlockId.{BlockId}
 use Rattle.hir_syntax.specs.declared.ast.ExprKind.{ExprKind as AstExprKind, out-ExprKind}
@@ -27,6 +29,7 @@ use Rattle.hir_env.specs.Answered as tree
 use Rattle.hir_env.specs.declared.place.Place.{Place}
 use Rattle.hir_env.specs.Answered.{Binder, Type_, OptionType, Parts, Path, OptionPath, Segment, OptionArgs, Bounds, Constant}
 use Rattle.hir_env.specs.Answered.{Expr, OptionExpr, Exprs, Block, OptionBlock, Stmts, Stmt}
+use Rattle.hir_env.specs.Answered.{OptionPat, Side, OptionTypePat, Limit, Target}
 use Rattle.hir_env.specs.Whole.{expr_part, in_constant, reader, stmts_part, pointer_at}
 use Rattle.hir_store.specs.declared.path.Path.{Path as HirPath}
 use Rattle.hir_lower_form.specs.Builder.{Builder}
@@ -76,8 +79,37 @@ LowersBlock b old result new = Lowers HasExpr (spec.lower_block b) old result ne
 abbrev pub LowersBlockOpt : OptionBlock → Builder → Checked ExprId → Builder → Type 0
 LowersBlockOpt b old result new = Lowers HasExpr (spec.lower_block_part b) old result new
 
+-- none where it is absent
+abbrev pub LowersBlockIfPresent : OptionBlock → Builder → Checked (Option ExprId) → Builder → Type 0
+LowersBlockIfPresent b old result new = Lowers HasExprOption (spec.present_block b) old result new
+
+abbrev pub HasArmOption : Stored → Option MatchArm → Type 0
+HasArmOption s a = Has s (past_present past_arm a)
+
 abbrev pub LowersStmt : Stmt → Builder → Checked (Option Statement) → Builder → Type 0
 LowersStmt s old result new = Lowers HasStatementOption (spec.lower_stmt s) old result new
+
+-- patterns
+
+-- as a whole pattern, which has bindings of its own
+abbrev pub LowersTop : OptionPat → Builder → Checked PatId → Builder → Type 0
+LowersTop p old result new = Lowers HasPat (spec.lower_top p) old result new
+
+-- as a side of a range, none where it is no side
+abbrev pub LowersSide : Side → Builder → Checked (Option ExprId) → Builder → Type 0
+LowersSide s old result new = Lowers HasExprOption (spec.lower_side s) old result new
+
+-- as a pattern of a type, missing where it is absent
+abbrev pub LowersTypePat : OptionTypePat → Builder → Checked PatId → Builder → Type 0
+LowersTypePat p old result new = Lowers HasPat (spec.lower_type_pat_part p) old result new
+
+-- as an end of a range in a type
+abbrev pub LowersLimit : Limit → Builder → Checked ExprId → Builder → Type 0
+LowersLimit l old result new = Lowers HasExpr (spec.lower_limit l) old result new
+
+-- as what is assigned to
+abbrev pub LowersTarget : Target → Builder → Checked PatId → Builder → Type 0
+LowersTarget t old result new = Lowers HasPat (spec.lower_target t) old result new
 
 -- types and paths
 

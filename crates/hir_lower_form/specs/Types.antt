@@ -6,6 +6,7 @@ use Rattle.hir_store.specs.Past.{Past, join, past_args, past_bindings}
 use Rattle.hir_store.specs.declared.hir.Mutability.{Mutability}
 use Rattle.hir_store.specs.declared.ids.TypeRefId.{TypeRefId}
 use Rattle.hir_store.specs.declared.ids.LifetimeRefId.{LifetimeRefId}
+use Rattle.hir_store.specs.declared.ids.PatId.{PatId}
 use Rattle.hir_store.specs.declared.name.Name.{Name}
 use Rattle.hir_store.specs.declared.path.Path.{Path as HirPath}
 use Rattle.hir_store.specs.declared.path.GenericArg.{GenericArg}
@@ -117,6 +118,7 @@ ref_type_form at mutability inner lifetime = do
 abbrev pub stored_fn : Option Binder → FnHead → List TypeRefId → TypeRef
 stored_fn binder head ts = ty.Fn (record {
   params = ts;
+  names = head.names;
   is_varargs = head.is_varargs;
   is_unsafe = head.is_unsafe;
   abi = head.abi;
@@ -144,6 +146,13 @@ unfoldable pub dyn_type_form : Pointer → Lowering (List TypeBound) → TypeSte
 dyn_type_form at bounds = do
   bs ← bounds
   alloc_type (ty.DynTrait bs) (Some at)
+
+-- a type with a pattern behind it
+unfoldable pub pattern_type_form : Pointer → TypeSteps → Lowering PatId → TypeSteps
+pattern_type_form at inner pattern = do
+  t ← inner
+  p ← pattern
+  alloc_type (ty.Pattern t p) (Some at)
 
 -- ---- lists of arguments
 

@@ -10,7 +10,7 @@ use Rattle.hir_store.specs.declared.path.PathKind.TheVariants as kind
 use Rattle.hir_store.specs.declared.path.ModPath.{ModPath}
 use Rattle.hir_store.specs.declared.path.NormalPath.{NormalPath}
 use Rattle.hir_store.specs.declared.path.Path.{Path}
-use Rattle.hir_store.specs.declared.path.Path.TheVariants.{BarePath, Normal}
+use Rattle.hir_store.specs.declared.path.Path.TheVariants.{BarePath, Normal, LangItem}
 use Rattle.hir_store.specs.declared.path.GenericArgs.{GenericArgs}
 use Rattle.hir_store.specs.declared.path.AssociatedTypeBinding.TheViews.{out-GenericArgs}
 use Rattle.hir_store.specs.Generics.{self_first}
@@ -75,14 +75,17 @@ anchored t w = Open (record w { kind = kind.Plain; type_anchor = Some t })
 
 -- ---- `<T as Trait>`
 
+-- an item of the language has none
 abbrev pub mod_path : Path → ModPath
 mod_path (BarePath p) = p
 mod_path (Normal p) = p.mod_path
+mod_path (LangItem item) = record { kind = kind.Plain; segments = [] }
 
 -- what stands beside each name
 abbrev pub args_of : Path → List (Option GenericArgs)
 args_of (BarePath p) = map (λ n. None) p.segments
 args_of (Normal p) = p.generic_args
+args_of (LangItem item) = []
 
 -- the arguments from the last to the first, the last behind the type for `Self`
 abbrev pub with_self : TypeRefId → List (Option GenericArgs) → List (Option GenericArgs)

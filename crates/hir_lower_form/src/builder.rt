@@ -1,26 +1,30 @@
 //! What lowering works on.
 
 ghost use Rattle.std.specs.Prelude.{◌≡◌, Ok, Some, true};
-ghost use Rattle.hir_store.specs.Range.{HasExpr, HasLabel, HasLabelOption, HasLifetime, HasNone, HasParts, HasType, HasTypeParts};
+ghost use Rattle.hir_store.specs.Range.{HasBindingId, HasExpr, HasLabel, HasLabelOption, HasLifetime, HasNone, HasParts};
+ghost use Rattle.hir_store.specs.Range.{HasPat, HasPatParts, HasType, HasTypeParts};
 ghost use Rattle.hir_store.specs.declared.fault.StoreFault.TheVariants.{Full};
 ghost use Rattle.hir_env.specs.Answering.{jump};
 ghost use Rattle.hir_lower_form.specs.Builder.{fresh};
 ghost use Rattle.hir_lower_form.specs.Lowering as spec;
 ghost use Rattle.hir_lower_form.specs.Lowering.{HasFlag, Lowers};
 ghost use Rattle.hir_lower_form.specs.Lower.{missing};
+ghost use Rattle.hir_lower_form.specs.Pats.{missing_pat};
 ghost use Rattle.hir_lower_form.specs.Types.{error_type, unit_type};
 
 use crate::parts::LowerParts;
+use hir_base::node::{AstPtr, InFile};
 use hir_lower_scope::labels::{LabelScopes, NoTarget};
 use hir_store::builder::ExpressionStoreBuilder;
 use hir_store::diagnostics::{AwaitLocation, ExpressionStoreDiagnostics};
 use hir_store::fault::StoreFault;
-use hir_store::hir::{Expr, Label};
-use hir_store::ids::{BlockId, ExprId, HygieneId, LabelId, LifetimeRefId, TypeRefId};
+use hir_store::hir::{Binding, BindingProblems, Expr, Label, Pat};
+use hir_store::ids::{
+    BindingId, BlockId, ExprId, HygieneId, LabelId, LifetimeRefId, PatId, TypeRefId,
+};
 use hir_store::name::Name;
 use hir_store::type_ref::{LifetimeRef, TypeRef};
 use hir_syntax::Seq;
-use hir_syntax::node::{AstPtr, InFile};
 use std::alloc::Global;
 use std::marker::Model;
 
@@ -61,6 +65,16 @@ impl Model for BodyBuilder {
         RibsExist (record { stored = b.store; scopes = b.scopes; counted_out = b.counted_out; in_root = b.in_root }) };
 }
 
+/// What is wrong with a jump of this name, at this node, that has no target.
+fn jump_fault(cause: NoTarget, name: Name, node: InFile<AstPtr>) -> ExpressionStoreDiagnostics
+    ensures { result ≡ spec.jump_fault cause node name }
+{
+    match cause {
+        NoTarget::Unreachable => ExpressionStoreDiagnostics::UnreachableLabel { node, name },
+        NoTarget::Undeclared => ExpressionStoreDiagnostics::UndeclaredLabel { node, name },
+    }
+}
+
 impl BodyBuilder {
     /// A builder that has stored nothing, with this limit for each arena. It takes no memory.
     pub fn new(alloc: Global, limit: u32) -> BodyBuilder
@@ -85,6 +99,53 @@ impl BodyBuilder {
         ensures { Lowers HasExpr (spec.alloc_expr expr source) self.old result self.new }
     {
         self.store.alloc_expr(expr, source)
+    }
+
+    /// Stores a pattern, to which its node, where it came from one, leads from now on.
+    #[tactic(auto, unfolding(crate::specs::Lowering::alloc_pat))]
+    pub fn alloc_pat(
+        &mut self,
+        pat: Pat,
+        source: Option<InFile<AstPtr>>,
+    ) -> Result<PatId, StoreFault>
+        requires { HasPatParts self.old.stored pat }
+        ensures { Lowers HasPat (spec.alloc_pat pat source) self.old result self.new }
+    {
+        self.store.alloc_pat(pat, source)
+    }
+
+    /// Stores a pattern that is not there, which comes from no node.
+    #[tactic(auto, unfolding(crate::specs::Pats::missing_pat))]
+    pub fn missing_pat(&mut self) -> Result<PatId, StoreFault>
+        ensures { Lowers HasPat missing_pat self.old result self.new }
+    {
+        self.alloc_pat(Pat::Missing, None)
+    }
+
+    /// Stores a binding, which no pattern makes yet.
+    #[tactic(auto, unfolding(crate::specs::Lowering::alloc_binding))]
+    pub fn alloc_binding(&mut self, binding: Binding) -> Result<BindingId, StoreFault>
+        ensures { Lowers HasBindingId (spec.alloc_binding binding) self.old result self.new }
+    {
+        self.store.alloc_binding(binding)
+    }
+
+    /// Says of a pattern that it makes a binding.
+    #[tactic(auto, unfolding(crate::specs::Lowering::define))]
+    pub fn define(&mut self, binding: BindingId, pat: PatId) -> Result<(), StoreFault>
+        requires { HasBindingId self.old.stored binding × HasPat self.old.stored pat }
+        ensures { Lowers HasNone (spec.define binding pat) self.old result self.new }
+    {
+        self.store.define(binding, pat)
+    }
+
+    /// Notes what is wrong with a binding, where something is.
+    #[tactic(auto, using(hir_store::proofs::BindingLemmas::length_at), unfolding(crate::specs::Lowering::set_problem))]
+    pub fn set_problem(&mut self, binding: BindingId, problem: Option<BindingProblems>)
+        requires { HasBindingId self.old.stored binding }
+        ensures { Lowers HasNone (spec.set_problem binding problem) self.old (Ok tt) self.new }
+    {
+        self.store.set_problem(binding, problem);
     }
 
     /// Stores a type, to which its node, where it came from one, leads from now on.
@@ -152,6 +213,24 @@ impl BodyBuilder {
         ensures { Lowers HasNone (spec.point_field id node) self.old result self.new }
     {
         self.store.point_field(id, node)
+    }
+
+    /// Lets a further node lead to a pattern.
+    #[tactic(auto, unfolding(crate::specs::Lowering::point_pat))]
+    pub fn point_pat(&mut self, node: InFile<AstPtr>, id: PatId) -> Result<(), StoreFault>
+        requires { HasPat self.old.stored id }
+        ensures { Lowers HasNone (spec.point_pat node id) self.old result self.new }
+    {
+        self.store.point_pat(node, id)
+    }
+
+    /// Notes the field that a pattern is the part of.
+    #[tactic(auto, unfolding(crate::specs::Lowering::point_pat_field))]
+    pub fn point_pat_field(&mut self, id: PatId, node: InFile<AstPtr>) -> Result<(), StoreFault>
+        requires { HasPat self.old.stored id }
+        ensures { Lowers HasNone (spec.point_pat_field id node) self.old result self.new }
+    {
+        self.store.point_pat_field(id, node)
     }
 
     #[tactic(auto, unfolding(crate::specs::Lowering::report))]
@@ -281,8 +360,20 @@ impl BodyBuilder {
         self.scopes = LabelScopes::new(alloc);
     }
 
+    /// Reports that a jump of this name has no target.
+    fn no_target(
+        &mut self,
+        cause: NoTarget,
+        name: Name,
+        source: InFile<AstPtr>,
+    ) -> Result<Option<LabelId>, StoreFault>
+        ensures { Lowers HasLabelOption (spec.no_target cause source name) self.old result self.new }
+    {
+        self.report(jump_fault(cause, name, source))?;
+        Ok(None)
+    }
+
     /// The label that a jump of this name and this hygiene is for, or none and a fault at the node.
-    #[tactic(auto, using(crate::proofs::Ribs::found_lowers), unfolding(crate::specs::Lowering::jump_target))]
     pub fn jump_target<P: LowerParts>(
         &mut self,
         parts: &P,
@@ -295,14 +386,7 @@ impl BodyBuilder {
     {
         match parts.find_label(&self.scopes, &name, hygiene) {
             Ok(label) => Ok(Some(label)),
-            Err(NoTarget::Unreachable) => {
-                self.report(ExpressionStoreDiagnostics::UnreachableLabel { node: source, name })?;
-                Ok(None)
-            }
-            Err(NoTarget::Undeclared) => {
-                self.report(ExpressionStoreDiagnostics::UndeclaredLabel { node: source, name })?;
-                Ok(None)
-            }
+            Err(cause) => self.no_target(cause, name, source),
         }
     }
 

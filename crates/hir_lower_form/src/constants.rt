@@ -1,7 +1,6 @@
 //! Constants: the lengths of arrays, and arguments.
 
-ghost use Rattle.hir_env.specs.Whole.{answered_constant, constant_level, constant_part};
-ghost use Rattle.hir_syntax.specs.declared.ast.ConstArg.{out-ConstArg};
+ghost use Rattle.hir_env.specs.Whole.{constant_part};
 ghost use Rattle.hir_lower_form.specs.Methods.{LowersConstant, at_place};
 ghost use Rattle.hir_lower_form.specs.Nests.{const_expr};
 
@@ -13,31 +12,6 @@ use hir_store::type_ref::ConstRef;
 use hir_syntax::ast;
 
 impl<P: LowerParts> Lowerer<P> {
-    fn constant_of_arg(
-        &self,
-        state: &mut BodyBuilder,
-        place: Place,
-        node: &ast::ConstArg,
-    ) -> Result<ConstRef, StoreFault>
-        requires { (P.can self.now.parts).constant place (out-ConstArg node.now).expr }
-        ensures { LowersConstant (constant_level (at_place (P.spot self.now.parts) place) node.now) state.old result state.new }
-    {
-        self.parts.collect_constant(state, place, &node.expr)
-    }
-
-    /// The constant that is written at this place.
-    pub fn constant_arg(
-        &self,
-        state: &mut BodyBuilder,
-        place: Place,
-        node: &ast::ConstArg,
-    ) -> Result<ConstRef, StoreFault>
-        requires { (P.can self.now.parts).constant place (out-ConstArg node.now).expr }
-        ensures { LowersConstant (answered_constant (at_place (P.spot self.now.parts) place) node.now) state.old result state.new }
-    {
-        self.constant_of_arg(state, place, node)
-    }
-
     /// The constant that is written at this place, missing where it is absent.
     pub fn constant_or_missing(
         &self,
@@ -50,7 +24,7 @@ impl<P: LowerParts> Lowerer<P> {
     {
         match part {
             None => self.parts.collect_constant(state, place, &None),
-            Some(part) => self.constant_arg(state, place, part),
+            Some(expr) => self.parts.collect_constant(state, place, expr),
         }
     }
 }

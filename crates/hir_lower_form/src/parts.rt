@@ -9,21 +9,23 @@ ghost use Rattle.hir_env.specs.Whole.{answered, answered_arg_list, answered_path
 ghost use Rattle.hir_env.specs.Whole.{block_part, expr_part, pointer_at};
 ghost use Rattle.hir_scope.specs.Ribs.{search, sought_first};
 ghost use Rattle.hir_lower_scope.specs.Labels.{answer};
-ghost use Rattle.hir_lower_form.specs.Nests.{Claims, IfPresent};
+ghost use Rattle.hir_lower_form.specs.Nests.{Claims, IfPresent, PatsNest, TargetsArePlaces, TargetsNest};
 ghost use Rattle.hir_lower_form.specs.Methods.{LowersBlock, LowersBlockOpt, LowersExpr, LowersExprOpt, LowersIfPresent, LowersInside};
 ghost use Rattle.hir_lower_form.specs.Methods.{MaybeLowersExpr, MaybeLowersExprOpt};
 ghost use Rattle.hir_lower_form.specs.Methods.{HasWalk, LowersArgs, LowersConstant, LowersType, ReadsPath, at_place, constant_at};
 
 use crate::builder::BodyBuilder;
 use crate::walk::{PathWalk, Reading};
+use hir_base::node::{AstPtr, InFile, NodeId, PredId, TextRange};
+use hir_env::lang::LangItems;
 use hir_env::place::Place;
+use hir_env::resolved::{Resolved, Shadow};
 use hir_lower_scope::labels::{LabelScopes, NoTarget};
 use hir_store::fault::StoreFault;
 use hir_store::ids::{CfgId, CrateId, ExprId, HygieneId, LabelId, TypeRefId};
 use hir_store::name::Name;
-use hir_store::path::GenericArgs;
+use hir_store::path::{GenericArgs, ModPath};
 use hir_store::type_ref::ConstRef;
-use hir_syntax::node::{AstPtr, InFile, NodeId, PredId, TextRange};
 use hir_syntax::{Boxed, Seq, ast};
 use std::alloc::Global;
 
@@ -52,6 +54,18 @@ pub trait LowerParts {
     /// The root of the crate that `$crate` at the name stands for.
     fn crate_root(&self, name: InFile<NodeId>) -> Option<CrateId>
         ensures { let answers = (spot self.now).answers in result ≡ answers.crate_root (answers.context name) };
+
+    /// What the path stands for.
+    fn resolve(&self, path: &ModPath, shadow: Shadow) -> Resolved
+        ensures { let at = spot self.now in result ≡ at.answers.resolve at.place.module_id path.now shadow };
+
+    /// The items that the language itself names.
+    fn lang_items(&self) -> &LangItems
+        ensures { result.now ≡ (spot self.now).answers.lang_items };
+
+    /// Whether ranges are made as the newer items.
+    fn new_range(&self) -> bool
+        ensures { let at = spot self.now in result ≡ at.answers.new_range at.place.module_id };
 
     /// The label that a jump of this name and this hygiene is for. It asks about contexts.
     fn find_label(
@@ -126,6 +140,14 @@ pub trait LowerParts {
     ) -> Result<ConstRef, StoreFault>
         requires { (can self.now).constant place expr.now }
         ensures { LowersConstant (constant_at (at_place (spot self.now) place) expr.now) state.old result state.new };
+
+    /// What is in a pattern that may be handed in may be handed in, too.
+    ghost pat_kids: { PatsNest can };
+
+    /// The same of what is assigned to, which may be handed in as an expression, too.
+    ghost target_kids: { TargetsNest can };
+
+    ghost target_place: { TargetsArePlaces can spot };
 }
 
 /// The node that a pointer leads to, as it is asked about.

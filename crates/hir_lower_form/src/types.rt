@@ -1,8 +1,7 @@
 //! Types, paths and arguments that may be absent.
 
-ghost use Rattle.std.specs.Prelude.{None};
-ghost use Rattle.hir_env.specs.Whole.{answered_type_arg, arg_list_part, path_part, type_arg_level, type_part};
-ghost use Rattle.hir_lower_form.specs.Nests.{IfPresent, KidsTypeArg};
+ghost use Rattle.hir_env.specs.Whole.{arg_list_part, path_part, type_part};
+ghost use Rattle.hir_lower_form.specs.Nests.{IfPresent};
 ghost use Rattle.hir_lower_form.specs.Methods.{LowersArgs, LowersPath, LowersTypeIfPresent, LowersTypeOpt, at_place};
 
 use crate::builder::BodyBuilder;
@@ -47,31 +46,6 @@ impl<P: LowerParts> Lowerer<P> {
             None => Ok(None),
             Some(part) => Ok(Some(self.parts.lower_type(state, place, &None, part.get())?)),
         }
-    }
-
-    fn type_arg_type(
-        &self,
-        state: &mut BodyBuilder,
-        place: Place,
-        part: &ast::TypeArg,
-    ) -> Result<TypeRefId, StoreFault>
-        requires { KidsTypeArg (P.can self.now.parts) place part.now }
-        ensures { LowersTypeOpt None (type_arg_level (at_place (P.spot self.now.parts) place) part.now) state.old result state.new }
-    {
-        self.type_or_error(state, place, &None, &part.ty)
-    }
-
-    /// The type of an argument, read at this place.
-    pub fn type_arg(
-        &self,
-        state: &mut BodyBuilder,
-        place: Place,
-        part: &ast::TypeArg,
-    ) -> Result<TypeRefId, StoreFault>
-        requires { KidsTypeArg (P.can self.now.parts) place part.now }
-        ensures { LowersTypeOpt None (answered_type_arg (at_place (P.spot self.now.parts) place) part.now) state.old result state.new }
-    {
-        self.type_arg_type(state, place, part)
     }
 
     /// The arguments, read at this place, or none where the list is absent or yields nothing.

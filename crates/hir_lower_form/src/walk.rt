@@ -67,7 +67,7 @@ fn absent_args(alloc: Global, names: &Seq<Name>) -> Result<Seq<Option<GenericArg
     Ok(args)
 }
 
-/// The names of a path and what stands beside each.
+/// The names of a path and what stands beside each. An item of the language has none.
 fn segments_of(alloc: Global, path: Path) -> Result<(ModPath, Seq<Option<GenericArgs>>), AllocError>
     ensures { IfOk result (λ it. it ≡ (spec.mod_path path, spec.args_of path)) }
 {
@@ -83,6 +83,13 @@ fn segments_of(alloc: Global, path: Path) -> Result<(ModPath, Seq<Option<Generic
                 generic_args,
             },
         ) => Ok((mod_path, generic_args)),
+        Path::LangItem(_) => {
+            let mod_path = ModPath {
+                kind: PathKind::Plain,
+                segments: Seq::new(alloc),
+            };
+            Ok((mod_path, Seq::new(alloc)))
+        }
     }
 }
 

@@ -15,4 +15,4 @@ sugared_has s t o h k =
     let b = of_binding output_name None (Some o) [] in
     let all = generic_roll (arg.Type_ t ∷ []) false (b ∷ []) ParenSugar
     ∙ ap (λ p. join (past_args (arg.Type_ t ∷ [])) (join p nothing)) (binding_roll output_name None (Some o) []) in
-    subst (Has s) (sym all) (omega arith, omega (arith, h, k), omega arith)
+    subst (Has s) (sym all) (omega arith, omega (arith, h, k), omega arith, omega arith)

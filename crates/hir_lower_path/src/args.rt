@@ -1,15 +1,13 @@
 //! What stands behind the name of a segment: `<..>`, `(A) -> C` or `(..)`.
 
-ghost use Rattle.std.specs.Prelude.{◌≡◌, IfOk, None};
+ghost use Rattle.std.specs.Prelude.{◌≡◌, IfOk};
 ghost use Rattle.hir_syntax.specs.declared.ast.PathSegment.{out-PathSegment};
-ghost use Rattle.hir_syntax.specs.declared.types.ParenArgs.{out-ParenArgs};
 ghost use Rattle.hir_store.specs.Range.{HasArgsOption, HasType};
-ghost use Rattle.hir_env.specs.Whole.{answered_paren_args, parens_part, paren_args_level, ret_level, ret_part, segment_args_level};
-ghost use Rattle.hir_env.specs.Whole.{type_args_part};
+ghost use Rattle.hir_env.specs.Whole.{parens_part, ret_part, segment_args_level, type_args_part};
 ghost use Rattle.hir_lower_form.specs.Lowering.{Lowers};
 ghost use Rattle.hir_lower_form.specs.Lower as spec;
 ghost use Rattle.hir_lower_form.specs.Paths as forms;
-ghost use Rattle.hir_lower_form.specs.Methods.{LowersParts, LowersTypeOpt};
+ghost use Rattle.hir_lower_form.specs.Methods.{LowersParts};
 ghost use Rattle.hir_lower_form.specs.Nests.{Each, IfPresent, KidsParens, KidsRet, KidsSegmentArgs, KidsTypeArg};
 
 use hir_lower_form::args::or_notation;
@@ -24,6 +22,7 @@ use hir_store::type_ref::TypeRef;
 use hir_syntax::{Seq, Text, ast};
 use std::alloc::{AllocError, Global};
 
+/// The types in `(A, B)`.
 fn type_args<P: LowerParts>(
     lowerer: &Lowerer<P>,
     state: &mut BodyBuilder,
@@ -34,49 +33,14 @@ fn type_args<P: LowerParts>(
 {
     let mut done = Seq::new(lowerer.alloc);
     while let [one, rest @ ..] = left {
-        let id = lowerer.type_arg(state, lowerer.parts.place(), one)?;
+        let id = lowerer.type_or_error(state, lowerer.parts.place(), &None, one)?;
         push_type(&mut done, id)?;
         left = rest;
     }
     Ok(done)
 }
 
-fn types_inside<P: LowerParts>(
-    lowerer: &Lowerer<P>,
-    state: &mut BodyBuilder,
-    node: &ast::ParenArgs,
-) -> Result<Seq<TypeRefId>, StoreFault>
-    requires { Each (KidsTypeArg (P.can lowerer.now.parts) (P.spot lowerer.now.parts).place) (out-ParenArgs node.now).args }
-    ensures { LowersParts (paren_args_level (P.spot lowerer.now.parts) node.now) state.old result state.new }
-{
-    type_args(lowerer, state, node.args.as_slice())
-}
-
-/// The types in `(A, B)`.
-fn paren_types<P: LowerParts>(
-    lowerer: &Lowerer<P>,
-    state: &mut BodyBuilder,
-    node: &ast::ParenArgs,
-) -> Result<Seq<TypeRefId>, StoreFault>
-    requires { Each (KidsTypeArg (P.can lowerer.now.parts) (P.spot lowerer.now.parts).place) (out-ParenArgs node.now).args }
-    ensures { LowersParts (answered_paren_args (P.spot lowerer.now.parts) node.now) state.old result state.new }
-{
-    types_inside(lowerer, state, node)
-}
-
-fn output_type<P: LowerParts>(
-    lowerer: &Lowerer<P>,
-    state: &mut BodyBuilder,
-    node: &ast::RetType,
-) -> Result<TypeRefId, StoreFault>
-    requires { KidsRet (P.can lowerer.now.parts) (P.spot lowerer.now.parts).place node.now }
-    ensures { LowersTypeOpt None (ret_level (P.spot lowerer.now.parts) node.now) state.old result state.new }
-{
-    lowerer.type_or_error(state, lowerer.parts.place(), &None, &node.ty)
-}
-
 /// What `-> C` says: `()` where it is absent, and an error where it has no type.
-#[tactic(auto, using(hir_env::proofs::PathLevels::ret_is_level))]
 fn output<P: LowerParts>(
     lowerer: &Lowerer<P>,
     state: &mut BodyBuilder,
@@ -87,7 +51,7 @@ fn output<P: LowerParts>(
 {
     match ret {
         None => state.unit_type(lowerer.alloc),
-        Some(ret) => output_type(lowerer, state, ret),
+        Some(ty) => lowerer.type_or_error(state, lowerer.parts.place(), &None, ty),
     }
 }
 
@@ -122,7 +86,7 @@ fn parens<P: LowerParts>(
     let Some(parens) = parens else {
         return Ok(None);
     };
-    let types = paren_types(lowerer, state, parens)?;
+    let types = type_args(lowerer, state, parens.as_slice())?;
     let tuple = state.alloc_type(TypeRef::Tuple(types), None)?;
     let output = output(lowerer, state, ret)?;
     Ok(Some(sugared_args(lowerer.alloc, tuple, output)?))

@@ -16,6 +16,7 @@ ghost use Rattle.hir_lower_form.specs.Paths as forms;
 ghost use Rattle.hir_lower_form.specs.Walks.{super_read};
 
 use crate::args::segment_args;
+use hir_base::node::InFile;
 use hir_lower_form::builder::BodyBuilder;
 use hir_lower_form::parts::{LowerParts, Lowerer};
 use hir_lower_form::walk::{PathWalk, Reading, crate_kind};
@@ -25,7 +26,6 @@ use hir_store::name::Name;
 use hir_store::path::{Path, PathKind};
 use hir_store::type_ref::TypeRef;
 use hir_syntax::ast::SegmentKind;
-use hir_syntax::node::InFile;
 use hir_syntax::{Boxed, Text, ast};
 
 /// A name with what stands behind it, or `$crate`, which may only be the first.

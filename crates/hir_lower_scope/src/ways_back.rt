@@ -133,7 +133,7 @@ pub fn hir_generic_arg_to_ast(
     } else {
         arg_index
     };
-    nth_argument(args.args.as_slice(), index)
+    nth_argument(args.as_slice(), index)
 }
 
 /// Whether the binding stands in the stored list: it has a name and no parameter list.
@@ -152,7 +152,7 @@ pub fn hir_assoc_type_binding_to_ast(
     ensures { option_copied result ≡ slice_get (kept_bindings args.now) binding_index }
 {
     let mut before = binding_index;
-    for arg in args.args.as_slice() {
+    for arg in args.as_slice() {
         if let GenericArg::AssocTypeArg(binding) = arg
             && binding_stands(binding)
         {

@@ -8,5 +8,5 @@ use Rattle.hir_lower_form.specs.Types.{stored_path_bound}
 
 pub path_bound_has : (s : Stored) (maybe : Bool) (ns : List Name) (id : TypeRefId) → HasType s id
     → HasBound s (stored_path_bound maybe ns id)
-path_bound_has s maybe [] id h = (omega arith, h, omega arith)
-path_bound_has s maybe (n ∷ ns) id h = (omega arith, h, omega arith)
+path_bound_has s maybe [] id h = (omega arith, h, omega arith, omega arith)
+path_bound_has s maybe (n ∷ ns) id h = (omega arith, h, omega arith, omega arith)

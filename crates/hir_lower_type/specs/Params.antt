@@ -1,12 +1,18 @@
 -- The parameters of a function pointer, read at a spot.
-use Rattle.std.specs.Prelude.{if◌then◌else◌, Bool, List, [], ◌∷◌, Option, None}
+use Rattle.std.specs.Prelude.{if◌then◌else◌, Bool, List, [], ◌∷◌, Option, Some, None}
+use Rattle.hir_syntax.specs.declared.ast.ElseBranch.TheOpen.{PatKind-F}
+use Rattle.hir_syntax.specs.declared.pats.Pat.{Pat as AstPat}
+use Rattle.hir_syntax.specs.declared.pats.PatKind.{out-PatKind}
 use Rattle.hir_syntax.specs.declared.types.Param.{Param as AstParam, out-Param}
+use Rattle.hir_store.specs.declared.name.Name.{Name}
 use Rattle.hir_store.specs.declared.ids.TypeRefId.{TypeRefId}
 use Rattle.hir_env.specs.Spot.{Spot}
 use Rattle.hir_env.specs.Answered.{Parts}
 use Rattle.hir_env.specs.TypeLayers.{ParamReading}
 use Rattle.hir_env.specs.Paths.{params_of}
-use Rattle.hir_env.specs.Whole.{read_param}
+use Rattle.hir_env.specs.Answering.{name_or_missing}
+use Rattle.hir_env.specs.PatLayers.{PatKindLayer}
+use Rattle.hir_env.specs.Whole.{read_param, written}
 use Rattle.hir_lower_form.specs.Lowering.{Lowering, pure}
 use Rattle.hir_lower_form.specs.Lower.{some, type_part}
 
@@ -21,3 +27,22 @@ variadic_last b (x ∷ xs) = variadic_last (out-Param x).variadic xs
 -- none where it is variadic
 abbrev pub lower_param : ParamReading → Lowering (Option TypeRefId)
 lower_param r = if r.variadic then pure None else some (type_part None r.ty)
+
+-- ---- names
+
+-- a name, in whatever way it binds
+abbrev pub name_of_kind : PatKindLayer written → Option Name
+name_of_kind (PatKind-F.IdentPat n is_ref is_mut p) = Some (name_or_missing n)
+name_of_kind _ = None
+
+abbrev pub name_of_pat : Option AstPat → Option Name
+name_of_pat None = None
+name_of_pat (Some p) = name_of_kind (out-PatKind p.kind)
+
+abbrev pub name_written : AstParam → Option Name
+name_written x = name_of_pat (out-Param x).pat
+
+-- of those that aren't variadic
+abbrev pub names_written : List AstParam → List (Option Name)
+names_written [] = []
+names_written (x ∷ xs) = if (out-Param x).variadic then names_written xs else name_written x ∷ names_written xs

@@ -3,7 +3,6 @@
 ghost use Rattle.std.specs.Prelude.{[]};
 ghost use Rattle.hir_syntax.specs.declared.types.AssocTypeArg.{out-AssocTypeArg};
 ghost use Rattle.hir_syntax.specs.declared.types.GenericArg.{out-GenericArg};
-ghost use Rattle.hir_syntax.specs.declared.types.GenericArgList.{out-GenericArgList};
 ghost use Rattle.hir_store.specs.declared.name.Name.TheVariants as name;
 ghost use Rattle.hir_store.specs.Range.{HasBinding};
 ghost use Rattle.hir_env.specs.Answered as tree;
@@ -98,7 +97,7 @@ fn arg_form<P: LowerParts>(
 {
     match node {
         ast::GenericArg::TypeArg(node) => {
-            let id = lowerer.type_arg(state, lowerer.parts.place(), node)?;
+            let id = lowerer.type_or_error(state, lowerer.parts.place(), &None, node)?;
             Ok(lists.with_arg(GenericArg::Type_(id))?)
         }
         ast::GenericArg::AssocTypeArg(node) => assoc_arg(lowerer, state, lists, node),
@@ -110,7 +109,8 @@ fn arg_form<P: LowerParts>(
             }
         },
         ast::GenericArg::ConstArg(node) => {
-            let constant = lowerer.constant_arg(state, lowerer.parts.place(), node)?;
+            let place = lowerer.parts.place();
+            let constant = lowerer.parts.collect_constant(state, place, node)?;
             Ok(lists.with_arg(GenericArg::Const(constant))?)
         }
     }
@@ -154,10 +154,10 @@ pub fn args_node<P: LowerParts>(
     state: &mut BodyBuilder,
     node: &ast::GenericArgList,
 ) -> Result<Option<GenericArgs>, StoreFault>
-    requires { KidsArgs (P.can lowerer.now.parts) (P.spot lowerer.now.parts).place (out-GenericArgList node.now) }
+    requires { KidsArgs (P.can lowerer.now.parts) (P.spot lowerer.now.parts).place node.now }
     ensures { LowersArgs (tree.some_arg_list (arg_list_level (P.spot lowerer.now.parts) node.now)) state.old result state.new }
 {
     let lists = ArgLists::new(lowerer.alloc);
-    let lists = args(lowerer, state, lists, node.args.as_slice())?;
+    let lists = args(lowerer, state, lists, node.as_slice())?;
     Ok(lists.yielded())
 }

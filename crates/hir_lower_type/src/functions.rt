@@ -4,26 +4,26 @@ ghost use Rattle.std.specs.Prelude.{◌≡◌, IfOk, false};
 ghost use Rattle.hir_syntax.specs.declared.types.Param.{out-Param};
 ghost use Rattle.hir_store.specs.Range.{HasType, HasTypeOption};
 ghost use Rattle.hir_env.specs.Answered as tree;
-ghost use Rattle.hir_env.specs.Answered.{FnHead};
 ghost use Rattle.hir_env.specs.Paths as of;
-ghost use Rattle.hir_env.specs.Whole.{answer_part, answered_param, param_level, params_part, ret_level, varargs_part};
+ghost use Rattle.hir_env.specs.Whole.{answer_part, answered_param, names_part, param_level, params_part, varargs_part};
 ghost use Rattle.hir_lower_form.specs.Lowering.{Lowers};
 ghost use Rattle.hir_lower_form.specs.Lower as spec;
 ghost use Rattle.hir_lower_form.specs.Methods.{LowersParts, LowersType};
 ghost use Rattle.hir_lower_form.specs.Nests.{Each, IfPresent, KidsParam, KidsRet};
 ghost use Rattle.hir_lower_type.specs.Abis.{abi_later};
-ghost use Rattle.hir_lower_type.specs.Params.{lower_param, params_at, variadic_last};
+ghost use Rattle.hir_lower_type.specs.Params.{lower_param, name_written, names_written, params_at, variadic_last};
 
+use hir_base::node::{AstPtr, InFile};
 use hir_lower_form::builder::BodyBuilder;
+use hir_lower_form::names::name_of;
 use hir_lower_form::parts::{LowerParts, Lowerer};
 use hir_store::fault::StoreFault;
 use hir_store::ids::TypeRefId;
 use hir_store::lists::push_type;
 use hir_store::name::{Name, copy_names};
 use hir_store::type_ref::{ExternAbi, FnType, TypeRef};
-use hir_syntax::node::{AstPtr, InFile};
 use hir_syntax::{Seq, Text, ast};
-use std::alloc::AllocError;
+use std::alloc::{AllocError, Global};
 
 /// The ABI of this text, where it is one of the later half; any other is `C`.
 fn later_abi(text: &Text) -> ExternAbi
@@ -167,25 +167,7 @@ fn is_varargs<P: LowerParts>(lowerer: &Lowerer<P>, all: &Option<Seq<ast::Param>>
     }
 }
 
-fn answer_type<P: LowerParts>(
-    lowerer: &Lowerer<P>,
-    state: &mut BodyBuilder,
-    node: &ast::RetType,
-) -> Result<TypeRefId, StoreFault>
-    requires { KidsRet (P.can lowerer.now.parts) (P.spot lowerer.now.parts).place node.now }
-    ensures { Lowers HasType (spec.type_or_unit (ret_level (P.spot lowerer.now.parts) node.now)) state.old result state.new }
-{
-    match &node.ty {
-        None => state.unit_type(lowerer.alloc),
-        Some(ty) => {
-            let place = lowerer.parts.place();
-            lowerer.parts.lower_type(state, place, &None, ty.get())
-        }
-    }
-}
-
 /// What a function pointer returns: `()` where no type is written.
-#[tactic(auto, using(hir_env::proofs::PathLevels::ret_is_level))]
 fn answer<P: LowerParts>(
     lowerer: &Lowerer<P>,
     state: &mut BodyBuilder,
@@ -195,8 +177,52 @@ fn answer<P: LowerParts>(
     ensures { Lowers HasType (spec.type_or_unit (answer_part (P.spot lowerer.now.parts) ret.now)) state.old result state.new }
 {
     match ret {
-        None => state.unit_type(lowerer.alloc),
-        Some(ret) => answer_type(lowerer, state, ret),
+        None | Some(None) => state.unit_type(lowerer.alloc),
+        Some(Some(ty)) => {
+            let place = lowerer.parts.place();
+            lowerer.parts.lower_type(state, place, &None, ty.get())
+        }
+    }
+}
+
+/// The name that the pattern of a parameter gives it: any that is one name.
+#[tactic(auto, using(crate::proofs::Params::no_name_left))]
+fn param_name(node: &ast::Param) -> Result<Option<Name>, AllocError>
+    ensures { IfOk result (λ name. name ≡ name_written node.now) }
+{
+    let Some(pat) = &node.pat else {
+        return Ok(None);
+    };
+    match &pat.get().kind {
+        ast::PatKind::IdentPat { name, .. } => Ok(Some(name_of(name)?)),
+        _ => Ok(None),
+    }
+}
+
+/// The names of the parameters that aren't variadic.
+fn names(alloc: Global, mut left: &[ast::Param]) -> Result<Seq<Option<Name>>, AllocError>
+    ensures { IfOk result (λ names. names ≡ names_written left.entry.now) }
+{
+    let mut names = Seq::new(alloc);
+    while let [one, rest @ ..] = left {
+        if !one.variadic {
+            names.push(param_name(one)?)?;
+        }
+        left = rest;
+    }
+    Ok(names)
+}
+
+#[tactic(auto, using(crate::proofs::Params::names_are))]
+fn names_if_present<P: LowerParts>(
+    lowerer: &Lowerer<P>,
+    all: &Option<Seq<ast::Param>>,
+) -> Result<Seq<Option<Name>>, AllocError>
+    ensures { IfOk result (λ names. names ≡ names_part (P.spot lowerer.now.parts) all.now) }
+{
+    match all {
+        None => Ok(Seq::new(lowerer.alloc)),
+        Some(all) => names(lowerer.alloc, all.as_slice()),
     }
 }
 
@@ -224,15 +250,17 @@ pub(crate) fn fn_form<P: LowerParts>(
     requires params { IfPresent (Each (λ x. KidsParam (P.can lowerer.now.parts) (P.spot lowerer.now.parts).place (out-Param x))) all.now }
     requires ret { IfPresent (KidsRet (P.can lowerer.now.parts) (P.spot lowerer.now.parts).place) ret.now }
     ensures { let spot = P.spot lowerer.now.parts in
-        let head : FnHead = record { is_unsafe = is_unsafe; abi = of.abi_of written.now; is_varargs = varargs_part spot all.now } in
+        let head = of.fn_head is_unsafe written.now (varargs_part spot all.now) (names_part spot all.now) in
         LowersType binder.now (tree.fn_type at head (params_part spot all.now) (answer_part spot ret.now)) state.old result state.new }
 {
     let output = answer(lowerer, state, ret)?;
     let mut params = params_if_present(lowerer, state, all)?;
     push_type(&mut params, output)?;
+    let names = names_if_present(lowerer, all)?;
     let binder = binder_copy(binder)?;
     let ty = TypeRef::Fn(FnType {
         params,
+        names,
         is_varargs: is_varargs(lowerer, all),
         is_unsafe,
         abi: abi(written),

@@ -5,6 +5,6 @@ pub mod args;
 mod bounds;
 mod functions;
 mod lifetimes;
-mod places;
+pub mod places;
 mod simple;
 pub mod types;

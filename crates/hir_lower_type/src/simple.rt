@@ -5,25 +5,26 @@ ghost use Rattle.hir_store.specs.Range.{HasConst, HasType};
 ghost use Rattle.hir_env.specs.Answered as tree;
 ghost use Rattle.hir_env.specs.Paths.{binder_of, impl_at, lifetime_of, mutability};
 ghost use Rattle.hir_env.specs.Paths as of;
-ghost use Rattle.hir_env.specs.Whole.{bounds_part, constant_part, path_part, type_part, types_part};
+ghost use Rattle.hir_env.specs.Whole.{bounds_part, constant_part, pat_part, path_part, type_part, type_pat_part, types_part};
 ghost use Rattle.hir_lower_form.specs.Lower as steps;
 ghost use Rattle.hir_lower_form.specs.Lowering.{Lowers};
-ghost use Rattle.hir_lower_form.specs.Methods.{LowersParts, LowersType, LowersTypeOpt, at_place};
+ghost use Rattle.hir_lower_form.specs.Methods.{LowersParts, LowersType, LowersTypeOpt, LowersTypePat, at_place};
 ghost use Rattle.hir_lower_form.specs.Types as steps_of;
 ghost use Rattle.hir_lower_form.specs.Nests.{Each, IfPresent, KidsBounds, KidsImpl, const_expr};
 
 use crate::bounds::bounds;
 use crate::lifetimes::{binder, lifetime_if_present};
-use crate::places::inside_impl;
+use crate::places::{inside_constant, inside_impl};
+use hir_base::node::{AstPtr, InFile};
 use hir_env::place::ImplTrait;
 use hir_lower_form::builder::BodyBuilder;
 use hir_lower_form::parts::{LowerParts, Lowerer};
+use hir_lower_pat::type_pats::lower_type_pat;
 use hir_store::fault::StoreFault;
 use hir_store::hir::Mutability;
-use hir_store::ids::TypeRefId;
+use hir_store::ids::{PatId, TypeRefId};
 use hir_store::lists::push_type;
 use hir_store::type_ref::{ArrayType, ConstRef, RefType, TypeRef};
-use hir_syntax::node::{AstPtr, InFile};
 use hir_syntax::{Boxed, Seq, ast};
 
 fn written_mutability(mut_: bool) -> Mutability
@@ -227,4 +228,40 @@ pub(crate) fn dyn_form<P: LowerParts>(
 {
     let read = bounds(lowerer, state, lowerer.parts.place(), written)?;
     state.alloc_type(TypeRef::DynTrait(read), Some(at))
+}
+
+/// The pattern of a type, the ends of whose ranges are constants.
+fn inner_pattern<P: LowerParts>(
+    lowerer: &Lowerer<P>,
+    state: &mut BodyBuilder,
+    pat: &Option<Boxed<ast::Pat>>,
+) -> Result<PatId, StoreFault>
+    requires { IfPresent ((P.can lowerer.now.parts).pat (of.inside_constant (P.spot lowerer.now.parts).place)) pat.now }
+    ensures { let spot = P.spot lowerer.now.parts in
+        LowersTypePat (type_pat_part (at_place spot (of.inside_constant spot.place)) pat.now) state.old result state.new }
+{
+    lower_type_pat(lowerer, state, inside_constant(lowerer.parts.place()), pat)
+}
+
+/// The type before its pattern.
+#[tactic(auto, unfolding(hir_lower_form::specs::Types::pattern_type_form))]
+pub(crate) fn pattern_form<P: LowerParts>(
+    lowerer: &Lowerer<P>,
+    state: &mut BodyBuilder,
+    at: InFile<AstPtr>,
+    ty: &Option<Boxed<ast::Type_>>,
+    pat: &Option<Boxed<ast::Pat>>,
+) -> Result<TypeRefId, StoreFault>
+    requires ty { IfPresent ((P.can lowerer.now.parts).type_ (P.spot lowerer.now.parts).place) ty.now }
+    requires pat { IfPresent ((P.can lowerer.now.parts).pat (of.inside_constant (P.spot lowerer.now.parts).place)) pat.now }
+    ensures { let spot = P.spot lowerer.now.parts in
+        let inner = at_place spot (of.inside_constant spot.place) in
+        LowersType None (tree.pattern_type at
+        (type_part spot ty.now)
+        (pat_part inner pat.now)
+        (type_pat_part inner pat.now)) state.old result state.new }
+{
+    let ty = lowerer.type_or_error(state, lowerer.parts.place(), &None, ty)?;
+    let pat = inner_pattern(lowerer, state, pat)?;
+    state.alloc_type(TypeRef::Pattern(ty, pat), Some(at))
 }

@@ -7,8 +7,8 @@ ghost use Rattle.hir_lower_form.specs.Nests.{KidsType};
 
 use crate::functions::fn_form;
 use crate::simple::{
-    array_form, dyn_form, for_form, impl_form, path_form, pointer_form, ref_form, slice_form,
-    tuple_form,
+    array_form, dyn_form, for_form, impl_form, path_form, pattern_form, pointer_form, ref_form,
+    slice_form, tuple_form,
 };
 use hir_lower_form::builder::BodyBuilder;
 use hir_lower_form::parts::{LowerParts, Lowerer};
@@ -50,6 +50,7 @@ pub fn type_node<P: LowerParts>(
         } => fn_form(lowerer, state, at, binder, *unsafe_, abi, params, ret),
         ast::TypeKind::ImplTraitType { bounds } => impl_form(lowerer, state, at, bounds),
         ast::TypeKind::DynTraitType { bounds } => dyn_form(lowerer, state, at, bounds),
+        ast::TypeKind::PatternType { ty, pat } => pattern_form(lowerer, state, at, ty, pat),
         ast::TypeKind::NeverType => state.alloc_type(TypeRef::Never, Some(at)),
         ast::TypeKind::InferType => state.alloc_type(TypeRef::Placeholder, Some(at)),
     }

@@ -1,17 +1,22 @@
 -- A body behind a barrier runs as if nothing were outside.
-use Rattle.std.proofs.Common.{◌≡◌, ℕ, Bool, if◌then◌else◌, List, [], ◌∷◌, ◌++◌, Option, Some, None, refl, ap}
+use Rattle.std.proofs.Common.{◌≡◌, ℕ, Bool, true, false, if◌then◌else◌, List, [], ◌∷◌, ◌++◌, Option, Some, None, refl, ap}
+use Rattle.hir_env.specs.NodeMap.{Site}
 use Rattle.hir_env.specs.Answering.{site_of}
 use Rattle.hir_env.specs.Answered as tree
-use Rattle.hir_env.specs.Answered.{Label, Expr, OptionExpr, Exprs, Fields, Spread, Block, OptionBlock, Stmts}
+use Rattle.hir_env.specs.Answered.{Label, Expr, OptionExpr, Exprs, Fields, Spread, Block, OptionBlock, Stmts, Arms, Guard}
+use Rattle.hir_env.specs.Answered.{Target, Targets, TargetFields}
 use Rattle.hir_scope.specs.Scopes.{Scope, loop_scope, barrier, outward, scopes_in_block}
 use Rattle.hir_scope.proofs.Alone.{nothing_outside}
-use Rattle.hir_data.specs.Written.{written_path, written_type, written_args}
-use Rattle.hir_meaning.specs.Run.{Value, unit, is_true, call, method_call, cast, yielding, awaiting, break, continue, leave, became}
-use Rattle.hir_meaning.specs.Run.{ends, pure, ◌>>=◌, ◌>>◌, ask, tests, entering}
+use Rattle.hir_data.specs.Patterns.{written_pat}
+use Rattle.hir_data.specs.Targets.{target_data}
+use Rattle.hir_data.specs.Written.{path_of, written_path, written_type, written_option_type, written_args}
+use Rattle.hir_meaning.specs.Run.{Value, unit, truth, is_true, call, method_call, cast, yielding, awaiting, break, continue, leave}
+use Rattle.hir_meaning.specs.Run.{became, unmatched, ends, pure, ◌>>=◌, ◌>>◌, ask, tests, tests_pattern, binds, assigns, entering}
 use Rattle.hir_meaning.specs.Catching.{turn, loop}
 use Rattle.hir_meaning.specs.Left.{is_kept, is_left, is_last, field_names}
 use Rattle.hir_meaning.specs.Syntax.{SyntaxRun, catching, run_expr, run_part, run_block_part, run_or_unit, run_each}
-use Rattle.hir_meaning.specs.Syntax.{spread_form, run_record, run_fields, run_spread}
+use Rattle.hir_meaning.specs.Syntax.{spread_form, run_record, run_fields, run_spread, run_range, if_read, run_present, run_arms}
+use Rattle.hir_meaning.specs.Syntax.{run_guarded, run_else, run_places, run_each_place, run_field_places}
 use Rattle.hir_meaning.specs.Syntax.{run_block, run_tail, run_stmts, unary_operation, run_binary, run_lazy, run_list, leaves_with}
 use Rattle.hir_meaning.specs.Rows.{RunsAlone}
 
@@ -27,7 +32,7 @@ module _ (turns : ℕ) (outer : List Scope) where
     expr_alone (tree.literal_expr at l) inner = refl
     expr_alone (tree.path_expr at x h) inner = refl
     expr_alone (tree.paren_expr at e) inner = part_alone e inner
-    expr_alone (tree.call_expr at f es) inner = λ i.
+    expr_alone (tree.call_expr at f has_list es) inner = λ i.
         part_alone f inner i >>= (λ v. each_alone es inner i >>= (λ vs. ask call (v ∷ vs) (Some (site_of at))))
     expr_alone (tree.if_expr at c t e) inner = λ i.
         part_alone c inner i >>= (λ v. tests is_true v (Some (site_of at))
@@ -49,7 +54,7 @@ module _ (turns : ℕ) (outer : List Scope) where
         >>= (λ vs. ask (method_call name (written_args generics)) (v ∷ vs) (Some (site_of at))))
     expr_alone (tree.cast_expr at e t) inner = λ i.
         part_alone e inner i >>= (λ v. ask (cast (written_type t)) (v ∷ []) (Some (site_of at)))
-    expr_alone (tree.record_expr at p fs s) inner = λ i.
+    expr_alone (tree.record_expr at p head fs s) inner = λ i.
         run_record (written_path p) (field_names fs) (spread_form s) (fields_alone fs inner i) (spread_alone s inner i) (Some (site_of at))
     expr_alone (tree.offset_of_expr at t names) inner = refl
     expr_alone (tree.leaving_expr at form e) inner = λ i. or_unit_alone e inner i >>= (λ v. ends (leave (leaves_with form v)))
@@ -58,6 +63,15 @@ module _ (turns : ℕ) (outer : List Scope) where
     expr_alone (tree.await_expr at location e) inner = λ i.
         part_alone e inner i >>= (λ v. ask awaiting (v ∷ []) (Some (site_of at)))
     expr_alone (tree.nameless_expr at e) inner = refl
+    expr_alone (tree.let_expr at p e) inner = λ i.
+        part_alone e inner i >>= (λ v. tests_pattern (written_pat p) v >>= (λ fits. pure (truth fits)))
+    expr_alone (tree.match_expr at e arms) inner = λ i.
+        part_alone e inner i >>= (λ v. arms_alone arms v (Some (site_of at)) inner i)
+    expr_alone (tree.range_expr at form start end) inner = λ i.
+        run_range form start end (present_alone start inner i) (present_alone end inner i) (Some (site_of at))
+    expr_alone (tree.assign_expr at e t v) inner = λ i.
+        part_alone v inner i >>= (λ w. places_alone t inner (pure []) (pure []) refl i
+        >>= (λ ws. assigns (target_data t) (w ∷ ws) (Some (site_of at))))
 
     pub part_alone : (e : OptionExpr) (inner : List Scope) → run_part turns e (inner ++ barrier ∷ outer) ≡ run_part turns e inner
     part_alone tree.no_expr inner = refl
@@ -72,6 +86,60 @@ module _ (turns : ℕ) (outer : List Scope) where
     or_unit_alone tree.no_expr inner = refl
     or_unit_alone (tree.some_expr e) inner = expr_alone e inner
 
+    present_alone : (e : OptionExpr) (inner : List Scope) → run_present turns e (inner ++ barrier ∷ outer) ≡ run_present turns e inner
+    present_alone tree.no_expr inner = refl
+    present_alone (tree.some_expr e) inner = λ i. expr_alone e inner i >>= (λ v. pure (v ∷ []))
+
+    arms_alone : (arms : Arms) (v : Value) (site : Option Site) (inner : List Scope)
+        → run_arms turns arms v site (inner ++ barrier ∷ outer) ≡ run_arms turns arms v site inner
+    arms_alone tree.no_arms v site inner = refl
+    arms_alone (tree.more_arms (tree.disabled_arm at by a) arms) v site inner = arms_alone arms v site inner
+    arms_alone (tree.more_arms (tree.arm p e g) arms) v site inner = λ i.
+        tests_pattern (written_pat p) v >>= (λ fits. if fits
+        then guarded_alone g site inner (part_alone e inner) (arms_alone arms v site inner) i
+        else arms_alone arms v site inner i)
+
+    -- where the body and the arms behind it are alike
+    guarded_alone : (g : Guard) (site : Option Site) (inner : List Scope) {body body' others others' : SyntaxRun Value}
+        → body ≡ body' → others ≡ others'
+        → run_guarded turns g site body others (inner ++ barrier ∷ outer) ≡ run_guarded turns g site body' others' inner
+    guarded_alone tree.no_guard site inner h k = h
+    guarded_alone (tree.guard c) site inner h k = λ i.
+        part_alone c inner i >>= (λ v. tests is_true v site >>= (λ holds. if holds then h i else k i))
+
+    else_alone : (b : OptionBlock) (fits : Bool) (inner : List Scope) {others others' : SyntaxRun Value} → others ≡ others'
+        → run_else turns b fits others (inner ++ barrier ∷ outer) ≡ run_else turns b fits others' inner
+    else_alone tree.no_block fits inner h = h
+    else_alone (tree.some_block b) true inner h = h
+    else_alone (tree.some_block b) false inner h = λ i. block_alone b inner i >> ends (leave unmatched)
+
+    places_alone : (t : Target) (inner : List Scope) (m n : SyntaxRun (List Value)) → m ≡ n
+        → run_places turns t (inner ++ barrier ∷ outer) m ≡ run_places turns t inner n
+    places_alone tree.absent_target inner m n h = h
+    places_alone (tree.place_target at e) inner m n h = λ i. expr_alone e inner i >>= (λ v. h i >>= (λ vs. pure (v ∷ vs)))
+    places_alone (tree.wild_target at) inner m n h = h
+    places_alone (tree.path_target at p l) inner m n h = h
+    places_alone (tree.tuple_target at ts) inner m n h = each_place_alone ts inner m n h
+    places_alone (tree.call_target at p ts) inner m n h = λ i. if_read (path_of p) (each_place_alone ts inner m n h i) (h i)
+    places_alone (tree.array_target at before dots after) inner m n h =
+        each_place_alone before inner _ _ (each_place_alone after inner m n h)
+    places_alone (tree.record_target at p fs dots spread) inner m n h = λ i. if_read (path_of p) (field_places_alone fs inner m n h i) (h i)
+
+    each_place_alone : (ts : Targets) (inner : List Scope) (m n : SyntaxRun (List Value)) → m ≡ n
+        → run_each_place turns ts (inner ++ barrier ∷ outer) m ≡ run_each_place turns ts inner n
+    each_place_alone tree.no_targets inner m n h = h
+    each_place_alone (tree.more_targets t ts) inner m n h = places_alone t inner _ _ (each_place_alone ts inner m n h)
+    each_place_alone (tree.dots_targets ts) inner m n h = each_place_alone ts inner m n h
+
+    field_places_alone : (fs : TargetFields) (inner : List Scope) (m n : SyntaxRun (List Value)) → m ≡ n
+        → run_field_places turns fs (inner ++ barrier ∷ outer) m ≡ run_field_places turns fs inner n
+    field_places_alone tree.no_target_fields inner m n h = h
+    field_places_alone (tree.more_target_fields (tree.target_field at (Some k) t) fs) inner m n h =
+        places_alone t inner _ _ (field_places_alone fs inner m n h)
+    field_places_alone (tree.more_target_fields (tree.target_field at None t) fs) inner m n h = field_places_alone fs inner m n h
+    field_places_alone (tree.more_target_fields (tree.disabled_target_field at by) fs) inner m n h = field_places_alone fs inner m n h
+    field_places_alone (tree.more_target_fields tree.partless_target_field fs) inner m n h = field_places_alone fs inner m n h
+
     each_alone : (es : Exprs) (inner : List Scope) → run_each turns es (inner ++ barrier ∷ outer) ≡ run_each turns es inner
     each_alone tree.no_exprs inner = refl
     each_alone (tree.more_exprs e es) inner = λ i.
@@ -83,7 +151,7 @@ module _ (turns : ℕ) (outer : List Scope) where
     fields_alone tree.no_fields inner = refl
     fields_alone (tree.more_fields (tree.named_field at name e) fs) inner = λ i.
         part_alone e inner i >>= (λ v. fields_alone fs inner i >>= (λ vs. pure (v ∷ vs)))
-    fields_alone (tree.more_fields tree.nameless_field fs) inner = fields_alone fs inner
+    fields_alone (tree.more_fields (tree.nameless_field at e) fs) inner = fields_alone fs inner
     fields_alone (tree.more_fields (tree.disabled_field at by f) fs) inner = fields_alone fs inner
 
     spread_alone : (s : Spread) (inner : List Scope) → run_spread turns s (inner ++ barrier ∷ outer) ≡ run_spread turns s inner
@@ -104,7 +172,11 @@ module _ (turns : ℕ) (outer : List Scope) where
         → ((inner : List Scope) → tail (inner ++ barrier ∷ outer) ≡ tail inner) → (inner : List Scope)
         → run_stmts turns ss has_tail tail (inner ++ barrier ∷ outer) ≡ run_stmts turns ss has_tail tail inner
     stmts_alone tree.no_stmts has_tail tail h inner = h inner
+    stmts_alone (tree.more_stmts (tree.disabled_stmt at by s) ss) has_tail tail h inner = stmts_alone ss has_tail tail h inner
     stmts_alone (tree.more_stmts tree.item_stmt ss) has_tail tail h inner = stmts_alone ss has_tail tail h inner
+    stmts_alone (tree.more_stmts (tree.let_stmt p t e b) ss) has_tail tail h inner = λ i.
+        present_alone e inner i >>= (λ vs. binds (written_pat p) (written_option_type t) vs
+        >>= (λ fits. else_alone b fits inner (stmts_alone ss has_tail tail h inner) i))
     stmts_alone (tree.more_stmts (tree.expr_stmt e semi) ss) has_tail tail h inner = λ i.
         if is_left e
         then (if is_last semi ss has_tail then part_alone e inner i else (part_alone e inner i >> stmts_alone ss has_tail tail h inner i))

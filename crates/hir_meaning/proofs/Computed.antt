@@ -5,12 +5,14 @@ use Rattle.hir_store.specs.declared.ids.CfgId.{CfgId}
 use Rattle.hir_env.specs.Answering.{site_of}
 use Rattle.hir_env.specs.Answered as tree
 use Rattle.hir_env.specs.Answered.{Expr, OptionExpr, Stmts, Stmt}
+use Rattle.hir_data.specs.Patterns.{written_pat}
 use Rattle.hir_data.specs.Reading.{stored_path}
-use Rattle.hir_meaning.specs.Run.{Value, Event, entering, ends, event, ◌>>=◌, ◌>>◌}
+use Rattle.hir_data.specs.Written.{written_option_type}
+use Rattle.hir_meaning.specs.Run.{Value, Event, entering, ends, event, ◌>>=◌, ◌>>◌, binds}
 use Rattle.hir_meaning.specs.Catching.{loop, block}
 use Rattle.hir_scope.specs.Scopes.{Scope, scopes_in_block}
 use Rattle.hir_meaning.specs.Left.{is_left, stmt_is_left, none_left}
-use Rattle.hir_meaning.specs.Syntax.{SyntaxRun, run_part, run_stmts, run_tail, catching}
+use Rattle.hir_meaning.specs.Syntax.{SyntaxRun, run_part, run_present, run_else, run_stmts, run_tail, catching}
 use Rattle.hir_meaning.specs.Store.{run_store, run_to}
 use Rattle.hir_meaning.specs.Worked.{RunsAsWorked}
 use Rattle.hir_meaning.specs.Rows.{LeavesTheLoop, LeavesTheBlock, HasNoTurn, StraysFromBlock, HasTwoSites, EntersItsNumber}
@@ -106,6 +108,10 @@ module _ (q : Pointer) (by : CfgId) (e : Expr) (semi : Bool) (after : Stmts) whe
       → run_stmts turns (more before) has_tail tail scopes ≡ run_stmts turns (joined before after) has_tail tail scopes
   run_more turns has_tail tail scopes tree.no_stmts = refl
   run_more turns has_tail tail scopes (tree.more_stmts tree.item_stmt ss) = run_more turns has_tail tail scopes ss
+  run_more turns has_tail tail scopes (tree.more_stmts (tree.disabled_stmt at c s) ss) = run_more turns has_tail tail scopes ss
+  run_more turns has_tail tail scopes (tree.more_stmts (tree.let_stmt p t x b) ss) =
+      ap (λ m. run_present turns x scopes >>= (λ vs. binds (written_pat p) (written_option_type t) vs
+      >>= (λ fits. run_else turns b fits m scopes))) (run_more turns has_tail tail scopes ss)
   run_more turns has_tail tail scopes (tree.more_stmts (tree.expr_stmt x s) ss) =
       ap (λ t. before_others turns has_tail scopes x s t (run_stmts turns (more ss) has_tail tail scopes)) (none_more ss)
       ∙ ap (λ m. before_others turns has_tail scopes x s (none_left (joined ss after)) m) (run_more turns has_tail tail scopes ss)

@@ -7,7 +7,8 @@ use Rattle.hir_store.specs.declared.path.GenericArgsParentheses.TheVariants.{No}
 use Rattle.hir_store.specs.declared.path.AssociatedTypeBinding.TheFolds.{fold-roll-GenericArgs}
 use Rattle.std.specs.Prelude.{List}
 use Rattle.hir_meaning.specs.Inner.{Inners, of_args, binding_step, args_step, inners, inner_bodies}
-use Rattle.hir_meaning.specs.InnerRows.{TypesInOrder, PathsInOrder, ExprsInOrder, StoredInOrder, constant_of_method}
+use Rattle.hir_meaning.specs.InnerRows.{TypesInOrder, PathsInOrder, ExprsInOrder, PatternsInOrder, StoredInOrder}
+use Rattle.hir_meaning.specs.InnerRows.{constant_of_method}
 use Rattle.hir_meaning.specs.Small.{id}
 use Rattle.hir_meaning.specs.Typed.{store_with}
 
@@ -19,6 +20,9 @@ paths_in_order at a b c d = (refl, refl, refl, refl, refl, refl)
 
 pub exprs_in_order : ExprsInOrder
 exprs_in_order at a b e f n = (refl, refl)
+
+pub patterns_in_order : PatternsInOrder
+patterns_in_order at a b c d l i = (refl, refl, refl, refl, refl)
 
 -- in the list of one constant, by one step
 one_constant : (r : Inners) (i : ExprId)

@@ -1,19 +1,2 @@
--- Literals as data of events, read from the tree and from the store (Rust Reference, literal expressions).
-use Rattle.std.specs.Prelude.{ℕ, Bool, false, List, Option}
-use Rattle.hir_syntax.specs.declared.ast.Literal.{Literal as AstLiteral}
-use Rattle.hir_syntax.specs.declared.ast.LiteralKind.{LiteralKind}
-use Rattle.hir_store.specs.declared.hir.Literal.{Literal}
-
--- a literal, its text and its suffix as bytes; `negative` where a minus belongs to it
-pub record LiteralData : Type 0 where
-  pub negative : Bool
-  pub kind : LiteralKind
-  pub text : List ℕ
-  pub suffix : Option (List ℕ)
-
--- a literal of an expression has no minus before it
-abbrev pub literal_data : AstLiteral → LiteralData
-literal_data l = record { negative = false; kind = l.lit; text = l.t; suffix = l.suffix }
-
-abbrev pub literal_read : Literal → LiteralData
-literal_read l = record { negative = l.negative; kind = l.kind; text = l.text; suffix = l.suffix }
+-- Literals as data of events.
+pub use Rattle.hir_data.specs.Literals.{LiteralData, literal_data, literal_read}

@@ -110,4 +110,4 @@ foreign_jump = (hir.Continue (Some (number 0)), Some 0) ∷ (stored_block (Some 
 
 -- Neither names what encloses it.
 abbrev pub ForeignIsNotEnclosed : Type 0
-ForeignIsNotEnclosed = (Enclosed (only foreign_jump).exprs (id 0) → ⊥) × (Enclosed (only foreign_jump).exprs (id 1) → ⊥)
+ForeignIsNotEnclosed = (Enclosed (only foreign_jump) (id 0) → ⊥) × (Enclosed (only foreign_jump) (id 1) → ⊥)

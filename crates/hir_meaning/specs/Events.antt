@@ -2,24 +2,27 @@
 use Rattle.std.specs.Prelude.{ℕ, Bool, List, Option}
 use Rattle.hir_store.specs.declared.ids.HygieneId.{HygieneId}
 use Rattle.hir_store.specs.declared.ids.BlockId.{BlockId}
-use Rattle.hir_syntax.specs.declared.ast.UnaryOp.{UnaryOp}
-use Rattle.hir_syntax.specs.declared.ast.BinaryOp.{BinaryOp}
+use Rattle.hir_store.specs.declared.ids.LangItemId.{LangItemId}
+use Rattle.hir_base.specs.declared.op.UnaryOp.{UnaryOp}
+use Rattle.hir_base.specs.declared.op.BinaryOp.{BinaryOp}
 use Rattle.hir_store.specs.declared.hir.Rawness.{Rawness}
 use Rattle.hir_store.specs.declared.hir.Mutability.{Mutability}
 use Rattle.hir_store.specs.declared.name.Name.{Name}
 use Rattle.hir_env.specs.NodeMap.{Site}
-use Rattle.hir_data.specs.Data.{TypeData, PathData, OptionArgsData}
-use Rattle.hir_meaning.specs.Data.{LiteralData}
+use Rattle.hir_data.specs.Data.{TypeData, OptionTypeData, PathData, PatData, OptionArgsData}
+use Rattle.hir_data.specs.Literals.{LiteralData}
 
--- a value: what an event was answered, `()`, or `true` or `false`
+-- a value: what an event was answered, `()`, `true` or `false`, or what the language itself names
 pub data Value : Type 0 where
   answered : ℕ → Value
   unit : Value
   truth : Bool → Value
+  item : LangItemId → Value
 
--- what is asked of a value (Rust Reference, `if` expressions)
+-- what is asked of a value (Rust Reference, `if` expressions and patterns)
 pub data Test : Type 0 where
   is_true : Test
+  matches : PatData → Test
 
 -- what stands behind the fields of a record: nothing, two dots, or two dots with a record, whose value is the last operand
 pub data SpreadForm : Type 0 where
@@ -28,8 +31,8 @@ pub data SpreadForm : Type 0 where
   rest_of : SpreadForm
 
 -- what happens: a literal with its data, the read of a path with the hygiene that it is looked up with, a call, the
--- entering of a block with its number and whether it is unsafe, a test; and what is done with the values of operands
--- (Rust Reference, the expressions of these names)
+-- entering of a block with its number and whether it is unsafe, a test, a `let` statement and an assignment; and what is done with
+-- the values of operands (Rust Reference, the expressions and statements of these names)
 pub data Operation : Type 0 where
   literal : LiteralData → Operation
   read : PathData → HygieneId → Operation
@@ -52,6 +55,10 @@ pub data Operation : Type 0 where
   yielding : Operation
   awaiting : Operation
   test : Test → Operation
+  -- to a pattern and a type, where one is written; its operand is the initializer, where there is one
+  bound : PatData → OptionTypeData → Operation
+  -- its operands are the value and the places in what is assigned to, in their order
+  assigned : PatData → Operation
 
 -- what happens to which values, and at which node of which file, where it has one
 pub record Event : Type 0 where

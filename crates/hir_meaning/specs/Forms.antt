@@ -1,10 +1,10 @@
 -- Small bodies of operators, lists, `return` and unsafe blocks, and what they do.
 use Rattle.std.specs.Prelude.{◌≡◌, ℕ, true, false, List, [], ◌∷◌, Option, Some, None}
-use Rattle.hir_syntax.specs.declared.ast.ArithOp.TheVariants as arith
-use Rattle.hir_syntax.specs.declared.ast.BinaryOp.{BinaryOp}
-use Rattle.hir_syntax.specs.declared.ast.BinaryOp.TheVariants as ast
-use Rattle.hir_syntax.specs.declared.ast.LogicOp.{LogicOp}
-use Rattle.hir_syntax.specs.declared.ast.LogicOp.TheVariants as logic
+use Rattle.hir_base.specs.declared.op.ArithOp.TheVariants as arith
+use Rattle.hir_base.specs.declared.op.BinaryOp.{BinaryOp}
+use Rattle.hir_base.specs.declared.op.BinaryOp.TheVariants as ast
+use Rattle.hir_base.specs.declared.op.LogicOp.{LogicOp}
+use Rattle.hir_base.specs.declared.op.LogicOp.TheVariants as logic
 use Rattle.hir_store.specs.Pointers.{Pointer}
 use Rattle.hir_store.specs.declared.hir.Expr.{Expr as Stored}
 use Rattle.hir_store.specs.declared.hir.Expr.TheVariants as hir
@@ -95,7 +95,7 @@ DecidesByRight =
 
 abbrev pub return_inside : Example
 return_inside = record {
-  written = tree.some_expr (tree.call_expr (at 0) (tree.some_expr (name_at 102 1))
+  written = tree.some_expr (tree.call_expr (at 0) (tree.some_expr (name_at 102 1)) true
       (tree.more_exprs
       (loop_of 2 None (in_braces 3 None (tree.leaving_expr (at 4) tree.returning (tree.some_expr (literal_at 5 one)))))
       tree.no_exprs));
@@ -189,7 +189,7 @@ CallsTheMethod = BothDo method_called 0 (no 11 ∷ no 12 ∷ no 13 ∷ [])
 
 abbrev pub record_made : Example
 record_made = record {
-  written = tree.some_expr (tree.record_expr (at 0) (path_of 99)
+  written = tree.some_expr (tree.record_expr (at 0) (path_of 99) (record { has_list = true; has_dots = true })
       (tree.more_fields (tree.named_field (at 3) name_m (tree.some_expr name_a))
       (tree.more_fields (tree.disabled_field (at 4) (record { 0 = 0 }) (tree.named_field (at 4) name_m (tree.some_expr name_a)))
       tree.no_fields))
@@ -212,7 +212,7 @@ MakesARecord = BothDo record_made 0 (no 11 ∷ no 12 ∷ no 13 ∷ [])
 
 abbrev pub record_of_defaults : Example
 record_of_defaults = record {
-  written = tree.some_expr (tree.record_expr (at 0) (path_of 99)
+  written = tree.some_expr (tree.record_expr (at 0) (path_of 99) (record { has_list = true; has_dots = true })
       (tree.more_fields (tree.named_field (at 3) name_m (tree.some_expr name_a)) tree.no_fields) tree.field_defaults);
   nodes = (stored_a, Some 1)
       ∷ (hir.RecordLit (stored_name 99) (record { name = name_m; expr = id 0 } ∷ []) spread.FieldDefaults, Some 0)

@@ -1,22 +1,27 @@
 -- Worked lists of the bodies inside types, paths and expressions.
-use Rattle.std.specs.Prelude.{◌≡◌, codes, false, List, [], ◌∷◌, Some}
+use Rattle.std.specs.Prelude.{◌≡◌, codes, true, false, List, [], ◌∷◌, map, Some, None}
 use Rattle.hir_syntax.specs.declared.ast.Literal.{Literal}
 use Rattle.hir_store.specs.Generics.{of_args}
 use Rattle.hir_store.specs.Pointers.{Pointer}
 use Rattle.hir_store.specs.declared.hir.Expr.TheVariants as hir
 use Rattle.hir_store.specs.declared.ids.ExprId.{ExprId}
+use Rattle.hir_store.specs.declared.ids.LangItemId.{LangItemId}
 use Rattle.hir_store.specs.declared.name.Name.{Name}
 use Rattle.hir_store.specs.declared.name.Name.TheVariants as name
 use Rattle.hir_store.specs.declared.path.GenericArg.TheVariants as arg
 use Rattle.hir_store.specs.declared.path.GenericArgsParentheses.TheVariants as parens
 use Rattle.hir_store.specs.declared.type_ref.TypeRef.TheVariants as ty
 use Rattle.hir_env.specs.Answered as tree
-use Rattle.hir_env.specs.Answered.{Type_, OptionType, OptionExpr, OptionPath, OptionArgs, Arg, FnHead, SegmentArgs, Segment}
-use Rattle.hir_meaning.specs.Inner.{Bodies, bodies_in, inner_bodies, path_bodies, type_bodies}
+use Rattle.hir_env.specs.Answered.{Type_, OptionType, OptionExpr, OptionPat, OptionPath, OptionArgs, Arg, FnHead, SegmentArgs, Segment}
+use Rattle.hir_env.specs.Answered.{Signed}
+use Rattle.hir_meaning.specs.Inner.{Bodies, constant_body, limit_body, bodies_in, inner_bodies, path_bodies, pat_part_bodies, type_bodies}
 use Rattle.hir_meaning.specs.Small.{id, literal_at, name_at, one, two, stored_one, stored_two}
 use Rattle.hir_meaning.specs.Small.{at as node}
 use Rattle.hir_meaning.specs.Forms.{name_a, stored_a, name_m}
 use Rattle.hir_meaning.specs.Typed.{StoredTypes, TypedExample, store_with, type_number}
+
+abbrev pub constants : List OptionExpr → Bodies
+constants es = map constant_body es
 
 abbrev pub body : Pointer → Literal → OptionExpr
 body at l = tree.some_expr (tree.literal_expr at l)
@@ -75,10 +80,11 @@ in_trait_then at e = tree.some_path (tree.path false (tree.trait_segment (array 
 -- `[[!; a]; b]`, `[!; a as [!; b]]` and `fn([!; a]) -> [!; b]`
 abbrev pub TypesInOrder : Type 0
 TypesInOrder = (at : Pointer) (a b : Literal) (head : FnHead)
-    → (type_bodies (array at (array at (never at) (body at a)) (body at b)) ≡ body at a ∷ body at b ∷ [])
-    × (type_bodies (array at (never at) (cast_to at (body at a) (body at b))) ≡ cast_to at (body at a) (body at b) ∷ body at b ∷ [])
+    → (type_bodies (array at (array at (never at) (body at a)) (body at b)) ≡ constants (body at a ∷ body at b ∷ []))
+    × (type_bodies (array at (never at) (cast_to at (body at a) (body at b)))
+    ≡ constants (cast_to at (body at a) (body at b) ∷ body at b ∷ []))
     × (type_bodies (tree.fn_type at head (tree.more_parts (nevers at (body at a)) tree.no_parts) (nevers at (body at b)))
-    ≡ body at a ∷ body at b ∷ [])
+    ≡ constants (body at a ∷ body at b ∷ []))
 
 -- `([!; a]) -> [!; b]` behind a name
 abbrev pub with_parens : Pointer → OptionExpr → OptionExpr → SegmentArgs
@@ -96,13 +102,13 @@ bound_first at a b c d =
 -- `A<B<{a}> = [!; b]: A<{c}>, {d}>`
 abbrev pub PathsInOrder : Type 0
 PathsInOrder = (at : Pointer) (a b c d : Literal)
-    → (path_bodies (one_segment (with_array at (body at a))) ≡ body at a ∷ [])
+    → (path_bodies (one_segment (with_array at (body at a))) ≡ constants (body at a ∷ []))
     × (path_bodies (then_another (with_array at (body at a)) tree.crate_segment) ≡ [])
     × (path_bodies (in_trait at (body at a)) ≡ [])
-    × (path_bodies (in_trait_then at (body at a)) ≡ body at a ∷ [])
-    × (path_bodies (one_segment (with_parens at (body at a) (body at b))) ≡ body at a ∷ body at b ∷ [])
+    × (path_bodies (in_trait_then at (body at a)) ≡ constants (body at a ∷ []))
+    × (path_bodies (one_segment (with_parens at (body at a) (body at b))) ≡ constants (body at a ∷ body at b ∷ []))
     × (path_bodies (one_segment (with_list (bound_first at (body at a) (body at b) (body at c) (body at d))))
-    ≡ body at d ∷ body at a ∷ body at b ∷ body at c ∷ [])
+    ≡ constants (body at d ∷ body at a ∷ body at b ∷ body at c ∷ []))
 
 -- `e.n::<{a}>(f as [!; b])`
 abbrev pub method_of : Pointer → Name → OptionExpr → OptionExpr → OptionExpr → OptionExpr → OptionExpr
@@ -112,16 +118,50 @@ method_of at n e a f b = tree.some_expr (tree.method_call_expr at e n
 -- `A::<{a}> { n: e as [!; b] }`
 abbrev pub record_of : Pointer → Name → OptionExpr → OptionExpr → OptionExpr → OptionExpr
 record_of at n a e b = tree.some_expr (tree.record_expr at (one_segment (with_list (just (constant a))))
+    (record { has_list = true; has_dots = false })
     (tree.more_fields (tree.named_field at n (cast_to at e b)) tree.no_fields) tree.no_spread)
 
 abbrev pub ExprsInOrder : Type 0
 ExprsInOrder = (at : Pointer) (a b e f : Literal) (n : Name)
-    → (bodies_in (method_of at n (body at e) (body at a) (body at f) (body at b)) ≡ body at a ∷ body at b ∷ [])
-    × (bodies_in (record_of at n (body at a) (body at e) (body at b)) ≡ body at a ∷ body at b ∷ [])
+    → (bodies_in (method_of at n (body at e) (body at a) (body at f) (body at b)) ≡ constants (body at a ∷ body at b ∷ []))
+    × (bodies_in (record_of at n (body at a) (body at e) (body at b)) ≡ constants (body at a ∷ body at b ∷ []))
+
+-- `A::<{a}>(..)` with a part `A::<{b}>`, and the same behind a path that is refused
+abbrev pub call_of : Pointer → OptionPath → OptionExpr → OptionPat
+call_of at p b = tree.some_pat (tree.tuple_struct_pat at p false
+    (tree.more_pats (tree.path_pat at (one_segment (with_list (just (constant b))))) tree.no_pats))
+
+-- `match l { p if l as [!; a] => l as [!; b] }`
+abbrev pub match_of : Pointer → OptionExpr → OptionPat → OptionExpr → OptionExpr → OptionExpr
+match_of at l p a b = tree.some_expr (tree.match_expr at l
+    (tree.more_arms (tree.arm p (cast_to at l b) (tree.guard (cast_to at l a))) tree.no_arms))
+
+-- `[!; a] is ..l`
+abbrev pub limited_type : Pointer → OptionExpr → LangItemId → Signed → Type_
+limited_type at a i l = tree.pattern_type at (nevers at a) tree.no_pat
+    (tree.some_type_pat (tree.range_type_pat at (tree.item_limit (Some i)) (tree.before_limit None (tree.literal_side at l))))
+
+-- `l as [!; a] = l as [!; b]`
+abbrev pub assigned_of : Pointer → Literal → OptionExpr → OptionExpr → OptionExpr
+assigned_of at l a b = tree.some_expr (tree.assign_expr at tree.no_expr
+    (tree.place_target at (tree.cast_expr at (body at l) (nevers at a))) (cast_to at (body at l) b))
+
+-- An arm has those of its pattern, of its guard and of its body, and what is assigned to comes first. In a type both ends of a range
+-- are bodies. A range that isn't made has none.
+abbrev pub PatternsInOrder : Type 0
+PatternsInOrder = (at : Pointer) (a b c d l : Literal) (i : LangItemId)
+    → (bodies_in (match_of at (body at l) (call_of at (one_segment (with_list (just (constant (body at a))))) (body at b))
+    (body at c) (body at d)) ≡ constants (body at a ∷ body at b ∷ body at c ∷ body at d ∷ []))
+    × (pat_part_bodies (call_of at (then_another (with_list (just (constant (body at a)))) tree.crate_segment) (body at b)) ≡ [])
+    × (type_bodies (limited_type at (body at a) i (record { minus = true; literal = l }))
+    ≡ constant_body (body at a) ∷ limit_body (tree.item_limit (Some i))
+    ∷ limit_body (tree.before_limit None (tree.literal_side at (record { minus = true; literal = l }))) ∷ [])
+    × (bodies_in (assigned_of at l (body at a) (body at b)) ≡ constants (body at a ∷ body at b ∷ []))
+    × (bodies_in (tree.some_expr (tree.range_expr at tree.itemless_range (cast_to at (body at l) (body at a)) tree.no_expr)) ≡ [])
 
 -- as they are written and as they are stored
-pub record BothList (x : TypedExample) (es : Bodies) (is : List ExprId) : Type 0 where
-  pub written : bodies_in x.written ≡ es
+pub record BothList (x : TypedExample) (es : List OptionExpr) (is : List ExprId) : Type 0 where
+  pub written : bodies_in x.written ≡ constants es
   pub stored : inner_bodies (store_with x) (id x.root) ≡ is
 
 -- `1 as [!; 2]`, whose length is stored before what the array is of

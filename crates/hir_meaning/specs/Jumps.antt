@@ -2,6 +2,8 @@
 use Rattle.std.specs.Prelude.{◌≡◌, ◌⊎◌, ℕ, zero, suc, length, map, List, [], ◌∷◌, Option, Some, None, slice_get}
 use Rattle.hir_store.specs.declared.hir.Expr.{Expr}
 use Rattle.hir_store.specs.declared.hir.Expr.TheVariants as hir
+use Rattle.hir_store.specs.Stored.{Store}
+use Rattle.hir_store.specs.declared.hir.MatchArm.{MatchArm}
 use Rattle.hir_store.specs.declared.hir.Statement.{Statement}
 use Rattle.hir_store.specs.declared.hir.Statement.TheVariants as statement
 use Rattle.hir_store.specs.declared.hir.RecordSpread.{RecordSpread}
@@ -9,6 +11,7 @@ use Rattle.hir_store.specs.declared.hir.RecordSpread.TheVariants as spread
 use Rattle.hir_store.specs.declared.ids.ExprId.{ExprId}
 use Rattle.hir_store.specs.declared.ids.LabelId.{LabelId}
 use Rattle.hir_scope.specs.Each.{Each, IfPresent}
+use Rattle.hir_meaning.specs.Places.{places}
 
 -- a number among others
 abbrev pub Among : List LabelId → LabelId → Type 0
@@ -27,13 +30,18 @@ abbrev pub EachStatement : (ExprId → Type 0) → List Statement → Type 0
 EachStatement P [] = Unit {0}
 EachStatement P (statement.Item ∷ ss) = EachStatement P ss
 EachStatement P (statement.Expr i semi ∷ ss) = P i × EachStatement P ss
+EachStatement P (statement.Let p t e b ∷ ss) = IfPresent P e × IfPresent P b × EachStatement P ss
+
+abbrev pub EachArm : (ExprId → Type 0) → List MatchArm → Type 0
+EachArm P [] = Unit {0}
+EachArm P (a ∷ arms) = IfPresent P a.guard × P a.expr × EachArm P arms
 
 abbrev pub OthersEnclosed : (ExprId → Type 0) → RecordSpread → Type 0
 OthersEnclosed P (spread.Expr i) = P i
 OthersEnclosed P others = Unit {0}
 
 -- The jumps of a node and of its parts name what encloses them; `ls` are the numbers around the node.
-module _ (Part : List LabelId → ExprId → Type 0) (ls : List LabelId) where
+module _ (store : Store) (Part : List LabelId → ExprId → Type 0) (ls : List LabelId) where
   abbrev pub StoredEnclosed : Expr → Type 0
   StoredEnclosed hir.Missing = Unit {0}
   StoredEnclosed (hir.Literal l) = Unit {0}
@@ -62,16 +70,19 @@ module _ (Part : List LabelId → ExprId → Type 0) (ls : List LabelId) where
   StoredEnclosed (hir.Return e) = IfPresent (Part ls) e
   StoredEnclosed (hir.Yeet e) = IfPresent (Part ls) e
   StoredEnclosed (hir.Yield e) = IfPresent (Part ls) e
+  StoredEnclosed (hir.Let p e) = Part ls e
+  StoredEnclosed (hir.Match e arms) = Part ls e × EachArm (Part ls) arms
+  StoredEnclosed (hir.Assignment t v) = Part ls v × Each (Part ls) (places store t [])
 
   abbrev pub FoundEnclosed : Option Expr → Type 0
   FoundEnclosed None = Unit {0}
   FoundEnclosed (Some e) = StoredEnclosed e
 
-module _ (exprs : List Expr) where
+module _ (store : Store) where
   unfoldable pub EnclosedTo : ℕ → List LabelId → ExprId → Type 0
   EnclosedTo zero ls i = Unit {0}
-  EnclosedTo (suc depth) ls i = FoundEnclosed (EnclosedTo depth) ls (slice_get exprs i.0)
+  EnclosedTo (suc depth) ls i = FoundEnclosed store (EnclosedTo depth) ls (slice_get store.exprs i.0)
 
   -- around the body itself stands nothing
   unfoldable pub Enclosed : ExprId → Type 0
-  Enclosed i = EnclosedTo (length exprs) [] i
+  Enclosed i = EnclosedTo (length store.exprs) [] i

@@ -20,8 +20,10 @@ field_names (tree.more_fields (tree.named_field at n e) fs) = n ∷ field_names 
 field_names (tree.more_fields f fs) = field_names fs
 
 abbrev pub stmt_is_left : Stmt → Bool
+stmt_is_left (tree.disabled_stmt at by s) = false
 stmt_is_left (tree.expr_stmt e semi) = is_left e
 stmt_is_left tree.item_stmt = true
+stmt_is_left (tree.let_stmt p t e b) = true
 
 abbrev pub none_left : Stmts → Bool
 none_left tree.no_stmts = true
@@ -35,5 +37,5 @@ is_last semi after has_tail = not semi && (none_left after && not has_tail)
 -- whether a statement that is left gives the block its value
 abbrev pub gives_value : Stmts → Bool → Bool
 gives_value tree.no_stmts has_tail = false
-gives_value (tree.more_stmts tree.item_stmt ss) has_tail = gives_value ss has_tail
 gives_value (tree.more_stmts (tree.expr_stmt e semi) ss) has_tail = (is_left e && is_last semi ss has_tail) || gives_value ss has_tail
+gives_value (tree.more_stmts s ss) has_tail = gives_value ss has_tail

@@ -5,9 +5,12 @@ pub mod Catching
 pub mod Left
 pub mod Contents
 pub mod Syntax
+pub mod Places
 pub mod Store
 pub mod Jumps
+pub mod InnerWritten
 pub mod Inner
+pub mod Limits
 pub mod Same
 pub mod Small
 pub mod Rows
@@ -17,3 +20,4 @@ pub mod Forms
 pub mod Typed
 pub mod InnerRows
 pub mod Endings
+pub mod Patterned

@@ -76,8 +76,8 @@ StraysFromBlock = BothDo continue_block 1 [] [] stray_continue
 
 abbrev pub two_calls : Example
 two_calls = record {
-  written = tree.some_expr (tree.call_expr (at 0) (tree.some_expr (name_at 102 1))
-      (tree.more_exprs (tree.call_expr (at 2) (tree.some_expr (name_at 103 3)) tree.no_exprs) tree.no_exprs));
+  written = tree.some_expr (tree.call_expr (at 0) (tree.some_expr (name_at 102 1)) true
+      (tree.more_exprs (tree.call_expr (at 2) (tree.some_expr (name_at 103 3)) true tree.no_exprs) tree.no_exprs));
   nodes = (hir.Path (stored_name 102) root, Some 1)
       ∷ (hir.Path (stored_name 103) root, Some 3)
       ∷ (hir.Call (id 1) [], Some 2)

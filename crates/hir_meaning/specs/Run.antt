@@ -2,10 +2,13 @@
 -- the store, are made of these steps.
 use Rattle.std.specs.Prelude.{ℕ, Bool, true, false, List, [], ◌∷◌, ◌++◌, Option, None}
 use Rattle.hir_store.specs.declared.ids.BlockId.{BlockId}
-use Rattle.hir_syntax.specs.declared.ast.LogicOp.{LogicOp}
-use Rattle.hir_syntax.specs.declared.ast.LogicOp.TheVariants as logic
+use Rattle.hir_store.specs.declared.ids.HygieneId.{HygieneId}
+use Rattle.hir_base.specs.declared.op.LogicOp.{LogicOp}
+use Rattle.hir_base.specs.declared.op.LogicOp.TheVariants as logic
 use Rattle.hir_env.specs.NodeMap.{Site}
-pub use Rattle.hir_meaning.specs.Events.{Value, answered, unit, truth, Test, is_true, Operation, literal, read, call, enter, test, Event}
+use Rattle.hir_data.specs.Data.{PathData, path_data, item_path, OptionTypeData, PatData, pattern_site}
+pub use Rattle.hir_meaning.specs.Events.{Value, answered, unit, truth, item, Test, is_true, matches, Operation, literal, read, call}
+pub use Rattle.hir_meaning.specs.Events.{enter, test, bound, assigned, Event}
 pub use Rattle.hir_meaning.specs.Events.{underscore, include_bytes, field, prefix, reference, operator, index, tuple, array}
 pub use Rattle.hir_meaning.specs.Events.{method_call, cast, SpreadForm, no_spread, field_defaults, rest_of, made_record, offset_of}
 pub use Rattle.hir_meaning.specs.Events.{yielding}
@@ -80,7 +83,27 @@ entering is_unsafe number site m = do
   event (enter number is_unsafe) [] site
   m
 
+-- The value fits the pattern. That is asked at the pattern.
+abbrev pub tests_pattern : {T J : Type 0} → PatData → Value → Run T J Bool
+tests_pattern p v = tests (matches p) v (pattern_site p)
+
+-- A `let` statement binds its pattern to a value, where it has one, and is told whether that fits.
+abbrev pub binds : {T J : Type 0} → PatData → OptionTypeData → List Value → Run T J Bool
+binds p t vs = do
+  a ← event (bound p t) vs (pattern_site p)
+  pure a.yes
+
+abbrev pub assigns : {T J : Type 0} → PatData → List Value → Option Site → Run T J Value
+assigns p vs site = do
+  event (assigned p) vs site
+  pure unit
+
 -- what the forms of both readings do with values
+
+-- what the language itself names is a value, and nothing happens
+abbrev pub read_path : {T J : Type 0} → PathData → HygieneId → Option Site → Run T J Value
+read_path (item_path i) h site = pure (item i)
+read_path (path_data k anchor ns bare) h site = ask (read (path_data k anchor ns bare) h) [] site
 
 -- an empty tuple is silent
 abbrev pub made_tuple : {T J : Type 0} → List Value → Option Site → Run T J Value

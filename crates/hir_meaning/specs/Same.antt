@@ -8,6 +8,7 @@ use Rattle.hir_meaning.specs.Syntax.{SyntaxBody, written_body}
 use Rattle.hir_meaning.specs.Store.{StoreBody, stored_body}
 use Rattle.hir_meaning.specs.Jumps.{Enclosed}
 use Rattle.hir_meaning.specs.Inner.{Bodies, bodies_in, inner_bodies}
+use Rattle.hir_meaning.specs.Limits.{written_inner}
 
 -- the same run
 
@@ -45,7 +46,7 @@ pub record SameRun (stored : StoreBody) (written : SyntaxBody) : Type 0 where
 -- The stored body, which runs the expression `root`, runs as the written one, and its labelled jumps are for what encloses them.
 pub record SameBody (store : Store) (stored : StoreBody) (root : ExprId) (written : SyntaxBody) : Type 0 where
   pub runs : SameRun stored written
-  pub jumps : Enclosed store.exprs root
+  pub jumps : Enclosed store root
 
 -- the stored expression, as a body by itself
 abbrev pub SameAlone : Store → SourceMap → ExprId → OptionExpr → Type 0
@@ -54,8 +55,9 @@ SameAlone store source_map i e = SameBody store (stored_body store source_map i)
 -- each like the written one in the same place of the list
 abbrev pub SameBodies : Store → SourceMap → List ExprId → Bodies → Type 0
 SameBodies store source_map [] [] = Unit {0}
-SameBodies store source_map (i ∷ is) (e ∷ es) = SameAlone store source_map i e × SameBodies store source_map is es
-SameBodies store source_map [] (e ∷ es) = ⊥
+SameBodies store source_map (i ∷ is) (b ∷ bs) =
+    SameBody store (stored_body store source_map i) i (written_inner b) × SameBodies store source_map is bs
+SameBodies store source_map [] (b ∷ bs) = ⊥
 SameBodies store source_map (i ∷ is) [] = ⊥
 
 -- the stored expression does what the written one does, and so does each body inside it

@@ -1,7 +1,7 @@
 -- What small bodies are made of, as they are written and as they are stored.
 use Rattle.std.specs.Prelude.{◌≡◌, ℕ, true, false, List, [], ◌∷◌, map, Option, Some, None, option_map}
 use Rattle.hir_syntax.specs.declared.ast.Literal.{Literal as AstLiteral}
-use Rattle.hir_syntax.specs.declared.ast.LiteralKind.TheVariants.{Int}
+use Rattle.hir_base.specs.declared.op.LiteralKind.TheVariants.{Int}
 use Rattle.hir_store.specs.Pointers.{Pointer}
 use Rattle.hir_store.specs.Stored.{Store, SourceMap}
 use Rattle.hir_store.specs.declared.hir.Expr.{Expr as Stored}
@@ -100,19 +100,23 @@ StoredExprs = List (Stored × Option ℕ)
 
 -- a store of these alone
 abbrev pub only : StoredExprs → Store
-only ns = record { exprs = map (λ n. n.0) ns; labels = []; types = []; lifetimes = []; roots = [] }
+only ns = record { exprs = map (λ n. n.0) ns; labels = []; pats = []; bindings = []; types = []; lifetimes = []; roots = [] }
 
 abbrev pub from : StoredExprs → SourceMap
 from ns = record {
   expr_sources = map (λ n. option_map at n.1) ns;
   label_sources = [];
+  pat_sources = [];
   type_sources = [];
   lifetime_sources = [];
   expr_map = [];
   label_map = [];
+  pat_map = [];
+  binding_definitions = [];
   types_map = [];
   lifetime_map = [];
   field_map_back = [];
+  pat_field_map_back = [];
   block_scopes = [];
   diagnostics = [];
 }

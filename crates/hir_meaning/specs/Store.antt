@@ -1,27 +1,30 @@
 -- How a stored body runs: over a store and the sources of its expressions. It knows the stored forms and the
 -- numbers of labels, and nothing of the tree (rust-analyzer, `hir_def::hir::Expr`).
-use Rattle.std.specs.Prelude.{ℕ, zero, suc, Bool, false, nat_eq, if◌then◌else◌, List, [], ◌∷◌, ◌++◌, map, length, slice_get}
+use Rattle.std.specs.Prelude.{ℕ, zero, suc, Bool, true, false, nat_eq, if◌then◌else◌, List, [], ◌∷◌, ◌++◌, map, length, slice_get}
 use Rattle.std.specs.Prelude.{Option, Some, None, option_map}
 use Rattle.hir_store.specs.Pointers.{flattened}
 use Rattle.hir_store.specs.Stored.{Store, SourceMap}
 use Rattle.hir_store.specs.declared.hir.Expr.{Expr}
 use Rattle.hir_store.specs.declared.hir.Expr.TheVariants as hir
+use Rattle.hir_store.specs.declared.hir.MatchArm.{MatchArm}
 use Rattle.hir_store.specs.declared.hir.Statement.{Statement}
 use Rattle.hir_store.specs.declared.hir.Statement.TheVariants as statement
 use Rattle.hir_store.specs.declared.ids.ExprId.{ExprId}
 use Rattle.hir_store.specs.declared.ids.LabelId.{LabelId}
+use Rattle.hir_store.specs.declared.ids.PatId.{PatId}
 use Rattle.hir_env.specs.NodeMap.{Site}
 use Rattle.hir_env.specs.Answering.{site_of}
 use Rattle.hir_store.specs.declared.hir.RecordSpread.{RecordSpread}
 use Rattle.hir_store.specs.declared.hir.RecordSpread.TheVariants as spread
-use Rattle.hir_data.specs.Reading.{stored_path, stored_type, stored_args}
-use Rattle.hir_meaning.specs.Data.{literal_read}
-use Rattle.hir_meaning.specs.Run.{Value, unit, is_true, Operation, literal, read, call, break, continue, leave, missing, Body, Run}
+use Rattle.hir_data.specs.Literals.{literal_read}
+use Rattle.hir_data.specs.Reading.{stored_path, stored_type, stored_option_type, stored_args, stored_pat}
+use Rattle.hir_meaning.specs.Places.{places}
+use Rattle.hir_meaning.specs.Run.{Value, unit, truth, is_true, Operation, literal, call, break, continue, leave, missing, Body, Run}
 use Rattle.hir_meaning.specs.Run.{underscore, include_bytes, field, prefix, reference, operator, index, array, method_call}
 use Rattle.hir_meaning.specs.Run.{yielding, awaiting, cast, SpreadForm, no_spread, field_defaults, rest_of, made_record, offset_of}
-use Rattle.hir_meaning.specs.Run.{returned, became, yeeted, made_tuple, lazily}
-use Rattle.hir_syntax.specs.declared.ast.BinaryOp.TheVariants as ast
-use Rattle.hir_meaning.specs.Run.{ends, pure, ◌>>=◌, ◌>>◌, ask, tests, entering}
+use Rattle.hir_meaning.specs.Run.{returned, became, yeeted, unmatched, made_tuple, lazily, read_path, binds, assigns}
+use Rattle.hir_base.specs.declared.op.BinaryOp.TheVariants as ast
+use Rattle.hir_meaning.specs.Run.{ends, pure, ◌>>=◌, ◌>>◌, ask, tests, tests_pattern, entering}
 use Rattle.hir_meaning.specs.Catching.{turn, loop, block}
 
 -- the label that a jump names; None: a plain jump
@@ -84,13 +87,28 @@ module _ (turns : ℕ) (part : ExprId → StoreRun Value) where
     v ← part i
     pure (v ∷ [])
 
-  -- the statements in order, and then the tail
-  abbrev pub run_statements : List Statement → Option ExprId → StoreRun Value
-  run_statements [] tail = run_or_unit tail
-  run_statements (statement.Item ∷ ss) tail = run_statements ss tail
-  run_statements (statement.Expr i semi ∷ ss) tail = do
-    part i
-    run_statements ss tail
+  -- an absent initializer is no operand
+  abbrev pub run_present : Option ExprId → StoreRun (List Value)
+  run_present None = pure []
+  run_present (Some i) = do
+    v ← part i
+    pure (v ∷ [])
+
+  -- the body of an arm, or the arms behind it where its guard doesn't hold
+  abbrev pub run_guarded : Option ExprId → Option Site → StoreRun Value → StoreRun Value → StoreRun Value
+  run_guarded None site body others = body
+  run_guarded (Some c) site body others = do
+    v ← part c
+    holds ← tests is_true v site
+    if holds then body else others
+
+  -- what follows a `let` statement, or its `else`
+  abbrev pub run_else : Option ExprId → Bool → StoreRun Value → StoreRun Value
+  run_else None fits others = others
+  run_else (Some b) true others = others
+  run_else (Some b) false others = do
+    part b
+    ends (leave unmatched)
 
 -- the store
 
@@ -109,10 +127,29 @@ module _ (store : Store) (source_map : SourceMap) where
       w ← part b
       ask operation (v ∷ w ∷ []) site
 
+    -- the statements in order, and then the tail
+    abbrev pub run_statements : List Statement → Option ExprId → StoreRun Value
+    run_statements [] tail = run_or_unit turns part tail
+    run_statements (statement.Item ∷ ss) tail = run_statements ss tail
+    run_statements (statement.Expr i semi ∷ ss) tail = do
+      part i
+      run_statements ss tail
+    run_statements (statement.Let p t e b ∷ ss) tail = do
+      vs ← run_present turns part e
+      fits ← binds (stored_pat store source_map p) (stored_option_type store source_map t) vs
+      run_else turns part b fits (run_statements ss tail)
+
+    -- the arms are tried in order, the first that fits runs
+    abbrev pub run_arms : List MatchArm → Value → Option Site → StoreRun Value
+    run_arms [] v site = ends (leave unmatched)
+    run_arms (a ∷ arms) v site = do
+      fits ← tests_pattern (stored_pat store source_map a.pat) v
+      if fits then run_guarded turns part a.guard site (part a.expr) (run_arms arms v site) else run_arms arms v site
+
     abbrev pub run_stored : Expr → Option Site → StoreRun Value
     run_stored hir.Missing site = ends (leave missing)
     run_stored (hir.Literal l) site = ask (literal (literal_read l)) [] site
-    run_stored (hir.Path p h) site = ask (read (stored_path store source_map p) h) [] site
+    run_stored (hir.Path p h) site = read_path (stored_path store source_map p) h site
     run_stored (hir.Call f xs) site = do
       v ← part f
       vs ← run_each turns part xs
@@ -123,7 +160,7 @@ module _ (store : Store) (source_map : SourceMap) where
       if holds then part t else run_or_unit turns part e
     run_stored (hir.Loop b l source) site = loop (past_loop l) turns (turn (part b))
     run_stored (hir.Block is_unsafe l number statements tail) site =
-        entering is_unsafe number site (block (past_block l) (λ j. j) (run_statements turns part statements tail))
+        entering is_unsafe number site (block (past_block l) (λ j. j) (run_statements statements tail))
     run_stored (hir.Break l e) site = do
       v ← run_or_unit turns part e
       ends (break l v)
@@ -168,6 +205,17 @@ module _ (store : Store) (source_map : SourceMap) where
     run_stored (hir.Yield e) site = do
       v ← run_or_unit turns part e
       ask yielding (v ∷ []) site
+    run_stored (hir.Let p e) site = do
+      v ← part e
+      fits ← tests_pattern (stored_pat store source_map p) v
+      pure (truth fits)
+    run_stored (hir.Match e arms) site = do
+      v ← part e
+      run_arms arms v site
+    run_stored (hir.Assignment t v) site = do
+      w ← part v
+      ws ← run_each turns part (places store t [])
+      assigns (stored_pat store source_map t) (w ∷ ws) site
 
   -- the node that an expression came from, where it came from one
   abbrev pub site_at : ExprId → Option Site

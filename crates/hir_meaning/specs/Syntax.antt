@@ -1,26 +1,31 @@
 -- How a written body runs: over the answered tree, by the rules of the Rust Reference for each form. It knows no store, no
 -- numbers and no stack of labels.
-use Rattle.std.specs.Prelude.{ℕ, Bool, true, false, List, [], ◌∷◌, ◌++◌, Option, Some, None, if◌then◌else◌}
+use Rattle.std.specs.Prelude.{ℕ, Bool, true, false, codes, List, [], ◌∷◌, ◌++◌, Option, Some, None, if◌then◌else◌}
 use Rattle.hir_store.specs.declared.name.Name.{Name}
+use Rattle.hir_store.specs.declared.name.Name.TheVariants as name
 use Rattle.hir_store.specs.declared.ids.HygieneId.{HygieneId}
-use Rattle.hir_syntax.specs.declared.ast.LogicOp.{LogicOp}
-use Rattle.hir_syntax.specs.declared.ast.BinaryOp.TheVariants as ast
+use Rattle.hir_base.specs.declared.op.LogicOp.{LogicOp}
+use Rattle.hir_base.specs.declared.op.BinaryOp.TheVariants as ast
 use Rattle.hir_env.specs.NodeMap.{Site}
 use Rattle.hir_env.specs.Answering.{site_of}
 use Rattle.hir_env.specs.Answered as tree
-use Rattle.hir_env.specs.Answered.{Leaf, Unary, Binary, Listing, Leaving}
-use Rattle.hir_env.specs.Answered.{Label, Expr, OptionExpr, Exprs, Fields, Spread, Block, OptionBlock, Stmts}
-use Rattle.hir_meaning.specs.Run.{Value, unit, is_true, Operation, literal, read, call, break, continue, leave, missing, Body, Run}
+use Rattle.hir_env.specs.Answered.{Leaf, Unary, Binary, Listing, Leaving, RangeForm}
+use Rattle.hir_env.specs.Answered.{Label, Expr, OptionExpr, Exprs, Fields, Spread, Block, OptionBlock, Stmts, Arms, Guard}
+use Rattle.hir_env.specs.Answered.{Target, Targets, TargetFields}
+use Rattle.hir_meaning.specs.Run.{Value, unit, item, truth, is_true, Operation, literal, call, break, continue, leave, missing, Body, Run}
 use Rattle.hir_meaning.specs.Run.{underscore, include_bytes, field, prefix, reference, operator, index, array, method_call}
 use Rattle.hir_meaning.specs.Run.{yielding, awaiting, cast, SpreadForm, no_spread, field_defaults, rest_of, made_record, offset_of}
-use Rattle.hir_meaning.specs.Run.{Leave, returned, became, yeeted, made_tuple, lazily}
-use Rattle.hir_meaning.specs.Run.{ends, pure, ◌>>=◌, ◌>>◌, ask, tests, entering}
+use Rattle.hir_meaning.specs.Run.{Leave, returned, became, yeeted, unmatched, made_tuple, lazily, read_path, binds, assigns}
+use Rattle.hir_meaning.specs.Run.{ends, pure, ◌>>=◌, ◌>>◌, ask, tests, tests_pattern, entering}
 use Rattle.hir_meaning.specs.Catching.{turn, loop, block}
 use Rattle.hir_scope.specs.Scopes.{Scope, loop_scope, Count, break_target, continue_target, outward, continue_past_block, scopes_in_block}
-use Rattle.hir_data.specs.Data.{PathData}
-use Rattle.hir_data.specs.Written.{written_path, written_type, written_args}
+use Rattle.hir_data.specs.Data.{PathData, item_path}
+use Rattle.hir_data.specs.Literals.{literal_data}
 use Rattle.hir_data.specs.Lookup.{lookup_hygiene}
-use Rattle.hir_meaning.specs.Data.{literal_data}
+use Rattle.hir_data.specs.Patterns.{written_pat}
+use Rattle.hir_data.specs.Rule.{PathRead}
+use Rattle.hir_data.specs.Targets.{target_data}
+use Rattle.hir_data.specs.Written.{path_of, written_path, written_type, written_option_type, written_args}
 use Rattle.hir_meaning.specs.Left.{is_kept, is_left, is_last, field_names}
 
 -- it keeps nothing besides
@@ -33,7 +38,7 @@ SyntaxBody = Body (Unit {0}) Count
 -- a path that is absent or refused is missing
 abbrev pub run_path : Option PathData → HygieneId → Option Site → SyntaxRun Value
 run_path None h site = ends (leave missing)
-run_path (Some p) h site = ask (read p (lookup_hygiene p h)) [] site
+run_path (Some p) h site = read_path p (lookup_hygiene p h) site
 
 -- what is left out does nothing that is known
 abbrev pub run_leaf : Leaf → Option Site → SyntaxRun Value
@@ -99,6 +104,30 @@ run_record (Some p) names form fields others site = do
   ws ← others
   ask (made_record p names form) (vs ++ ws) site
 
+-- A range has the values of its ends, where they are there. It is made as a record of an item, or as what a call of one answers.
+abbrev pub end_name : Name → OptionExpr → List Name
+end_name n tree.no_expr = []
+end_name n (tree.some_expr e) = n ∷ []
+
+abbrev pub range_names : Name → OptionExpr → OptionExpr → List Name
+range_names last start end = end_name (name.Text (codes "start")) start ++ end_name last end
+
+abbrev pub run_range : RangeForm → OptionExpr → OptionExpr → SyntaxRun (List Value) → SyntaxRun (List Value) → Option Site
+    → SyntaxRun Value
+run_range (tree.record_range i last) start end of_start of_end site =
+    run_record (Some (item_path i)) (range_names last start end) no_spread of_start of_end site
+run_range (tree.call_range None) start end of_start of_end site = ends (leave missing)
+run_range (tree.call_range (Some i)) start end of_start of_end site = do
+  vs ← of_start
+  ws ← of_end
+  ask call (item i ∷ (vs ++ ws)) site
+run_range tree.itemless_range start end of_start of_end site = ends (leave missing)
+
+-- parts beside a path that is absent or refused don't run
+abbrev pub if_read : {A : Type 0} → Option PathRead → A → A → A
+if_read None there behind = behind
+if_read (Some p) there behind = there
+
 -- with so many turns at each entry of a loop
 module _ (turns : ℕ) where
   abbrev mutual
@@ -107,7 +136,7 @@ module _ (turns : ℕ) where
     run_expr (tree.literal_expr at l) ss = ask (literal (literal_data l)) [] (Some (site_of at))
     run_expr (tree.path_expr at p h) ss = run_path (written_path p) h (Some (site_of at))
     run_expr (tree.paren_expr at e) ss = run_part e ss
-    run_expr (tree.call_expr at f es) ss = do
+    run_expr (tree.call_expr at f has_list es) ss = do
       v ← run_part f ss
       vs ← run_each es ss
       ask call (v ∷ vs) (Some (site_of at))
@@ -135,7 +164,7 @@ module _ (turns : ℕ) where
     run_expr (tree.cast_expr at e t) ss = do
       v ← run_part e ss
       ask (cast (written_type t)) (v ∷ []) (Some (site_of at))
-    run_expr (tree.record_expr at p fs s) ss =
+    run_expr (tree.record_expr at p head fs s) ss =
         run_record (written_path p) (field_names fs) (spread_form s) (run_fields fs ss) (run_spread s ss) (Some (site_of at))
     run_expr (tree.offset_of_expr at t names) ss = ask (offset_of (written_type t) names) [] (Some (site_of at))
     run_expr (tree.leaving_expr at form e) ss = do
@@ -151,6 +180,20 @@ module _ (turns : ℕ) where
       v ← run_part e ss
       ask awaiting (v ∷ []) (Some (site_of at))
     run_expr (tree.nameless_expr at e) ss = ends (leave missing)
+    run_expr (tree.let_expr at p e) ss = do
+      v ← run_part e ss
+      fits ← tests_pattern (written_pat p) v
+      pure (truth fits)
+    run_expr (tree.match_expr at e arms) ss = do
+      v ← run_part e ss
+      run_arms arms v (Some (site_of at)) ss
+    run_expr (tree.range_expr at form start end) ss =
+        run_range form start end (run_present start ss) (run_present end ss) (Some (site_of at))
+    -- the value comes before the places that it goes to
+    run_expr (tree.assign_expr at e t v) ss = do
+      w ← run_part v ss
+      ws ← run_places t ss (pure [])
+      assigns (target_data t) (w ∷ ws) (Some (site_of at))
 
     -- a part that is absent is missing
     pub run_part : OptionExpr → List Scope → SyntaxRun Value
@@ -165,6 +208,63 @@ module _ (turns : ℕ) where
     pub run_or_unit : OptionExpr → List Scope → SyntaxRun Value
     run_or_unit tree.no_expr ss = pure unit
     run_or_unit (tree.some_expr e) ss = run_expr e ss
+
+    -- an absent initializer or end of a range is no operand
+    pub run_present : OptionExpr → List Scope → SyntaxRun (List Value)
+    run_present tree.no_expr ss = pure []
+    run_present (tree.some_expr e) ss = do
+      v ← run_expr e ss
+      pure (v ∷ [])
+
+    -- The arms that are kept are tried in order, the first that fits runs.
+    pub run_arms : Arms → Value → Option Site → List Scope → SyntaxRun Value
+    run_arms tree.no_arms v site ss = ends (leave unmatched)
+    run_arms (tree.more_arms (tree.disabled_arm at by a) arms) v site ss = run_arms arms v site ss
+    run_arms (tree.more_arms (tree.arm p e g) arms) v site ss = do
+      fits ← tests_pattern (written_pat p) v
+      if fits then run_guarded g site (run_part e ss) (run_arms arms v site ss) ss else run_arms arms v site ss
+
+    -- the body, or the arms behind it where its guard doesn't hold
+    pub run_guarded : Guard → Option Site → SyntaxRun Value → SyntaxRun Value → List Scope → SyntaxRun Value
+    run_guarded tree.no_guard site body others ss = body
+    run_guarded (tree.guard c) site body others ss = do
+      v ← run_part c ss
+      holds ← tests is_true v site
+      if holds then body else others
+
+    -- what follows a `let` statement, or its `else`, which leaves the block
+    pub run_else : OptionBlock → Bool → SyntaxRun Value → List Scope → SyntaxRun Value
+    run_else tree.no_block fits others ss = others
+    run_else (tree.some_block b) true others ss = others
+    run_else (tree.some_block b) false others ss = do
+      run_block b ss
+      ends (leave unmatched)
+
+    -- the places in what is assigned to, in their order, before others
+    pub run_places : Target → List Scope → SyntaxRun (List Value) → SyntaxRun (List Value)
+    run_places tree.absent_target ss behind = behind
+    run_places (tree.place_target at e) ss behind = do
+      v ← run_expr e ss
+      vs ← behind
+      pure (v ∷ vs)
+    run_places (tree.wild_target at) ss behind = behind
+    run_places (tree.path_target at p h) ss behind = behind
+    run_places (tree.tuple_target at ts) ss behind = run_each_place ts ss behind
+    run_places (tree.call_target at p ts) ss behind = if_read (path_of p) (run_each_place ts ss behind) behind
+    run_places (tree.array_target at before dots after) ss behind = run_each_place before ss (run_each_place after ss behind)
+    run_places (tree.record_target at p fs dots spread) ss behind = if_read (path_of p) (run_field_places fs ss behind) behind
+
+    pub run_each_place : Targets → List Scope → SyntaxRun (List Value) → SyntaxRun (List Value)
+    run_each_place tree.no_targets ss behind = behind
+    run_each_place (tree.more_targets t ts) ss behind = run_places t ss (run_each_place ts ss behind)
+    run_each_place (tree.dots_targets ts) ss behind = run_each_place ts ss behind
+
+    -- a field without a name is no part of the record
+    pub run_field_places : TargetFields → List Scope → SyntaxRun (List Value) → SyntaxRun (List Value)
+    run_field_places tree.no_target_fields ss behind = behind
+    run_field_places (tree.more_target_fields (tree.target_field at (Some n) t) fs) ss behind =
+        run_places t ss (run_field_places fs ss behind)
+    run_field_places (tree.more_target_fields f fs) ss behind = run_field_places fs ss behind
 
     -- the elements that are kept, from left to right
     pub run_each : Exprs → List Scope → SyntaxRun (List Value)
@@ -203,7 +303,12 @@ module _ (turns : ℕ) where
     -- The statements that are left, in order, and then the tail; the last of them may give the block its value.
     pub run_stmts : Stmts → Bool → (List Scope → SyntaxRun Value) → List Scope → SyntaxRun Value
     run_stmts tree.no_stmts has_tail tail ss = tail ss
+    run_stmts (tree.more_stmts (tree.disabled_stmt at by s) stmts) has_tail tail ss = run_stmts stmts has_tail tail ss
     run_stmts (tree.more_stmts tree.item_stmt stmts) has_tail tail ss = run_stmts stmts has_tail tail ss
+    run_stmts (tree.more_stmts (tree.let_stmt p t e b) stmts) has_tail tail ss = do
+      vs ← run_present e ss
+      fits ← binds (written_pat p) (written_option_type t) vs
+      run_else b fits (run_stmts stmts has_tail tail ss) ss
     run_stmts (tree.more_stmts (tree.expr_stmt e semi) stmts) has_tail tail ss =
         if is_left e
         then (if is_last semi stmts has_tail then run_part e ss else (do

@@ -12,7 +12,9 @@ ghost use Rattle.hir_meaning.specs.Forms.{MakesAPair, MakesARecord, MakesOfDefau
 ghost use Rattle.hir_meaning.specs.Typed.{CastsToItsType, NamesAnOffset, CallsWithArguments};
 ghost use Rattle.hir_meaning.specs.Endings.{MissingEndsTheLoop, StraysWithItsValue, StrayIsNoValue, InnerLabelHides};
 ghost use Rattle.hir_meaning.specs.Endings.{ContinuesPastTheBlock, AnswersNoPastTheEnd, ValueEndsTheLoop, ForeignIsNotEnclosed};
-ghost use Rattle.hir_meaning.specs.InnerRows.{TypesInOrder, PathsInOrder, ExprsInOrder, StoredInOrder};
+ghost use Rattle.hir_meaning.specs.Patterned.{AssignsInOrder, TestsThePattern, TriesTheArms, LeavesByElse, BindsNoValue, MakesRanges};
+ghost use Rattle.hir_meaning.specs.Patterned.{CallsForTheLast};
+ghost use Rattle.hir_meaning.specs.InnerRows.{TypesInOrder, PathsInOrder, ExprsInOrder, PatternsInOrder, StoredInOrder};
 
 /// `'a: { loop { break 'a 1 } }` with one turn is the literal and its value.
 pub fn leaves_the_loop()
@@ -231,10 +233,46 @@ pub fn foreign_is_not_enclosed()
 
 /// The bodies inside `[[!; a]; b]` are a and b, inside `[!; a as [!; b]]` the cast and b; inside a refused path, and in
 /// arguments that go again, there are none. Arguments come before bindings, and of a method call those in `<..>` before the
-/// others. So they are stored, too.
+/// others; of an arm those of its guard before those of its body. So they are stored, too.
 pub fn inner_bodies_in_order()
     ensures types { TypesInOrder }
     ensures paths { PathsInOrder }
     ensures exprs { ExprsInOrder }
+    ensures patterns { PatternsInOrder }
     ensures stored { StoredInOrder }
+{}
+
+/// `(a, .., S) = c` reads c, then the place a, and then assigns both to the tuple of a place and S.
+pub fn assigns_in_order()
+    ensures { AssignsInOrder }
+{}
+
+/// `let x = a` as a condition reads a, and is whether x fits it.
+pub fn tests_the_pattern()
+    ensures { TestsThePattern }
+{}
+
+/// `match a { x if b => 1, _ => 2 }` tries x, its guard and `_`, each where the one before doesn't do; a disabled arm is none.
+pub fn tries_the_arms()
+    ensures { TriesTheArms }
+{}
+
+/// `{ let x = a else { 1 }; 2 }` is 2 where x fits a; else it is the block, and ends as unmatched.
+pub fn leaves_by_else()
+    ensures { LeavesByElse }
+{}
+
+/// `let x;` is bound to nothing, and a disabled `let` is none.
+pub fn binds_no_value()
+    ensures { BindsNoValue }
+{}
+
+/// `a..=b` is a record of a language item, or a call of one; `..` is a record without fields, and one without its item is missing.
+pub fn makes_ranges()
+    ensures { MakesRanges }
+{}
+
+/// In a type, the last before the end of a range is what a call of an item answers, at no node.
+pub fn calls_for_the_last()
+    ensures { CallsForTheLast }
 {}

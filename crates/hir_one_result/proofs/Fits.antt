@@ -3,20 +3,23 @@ use Rattle.std.proofs.Common.{Ok, Err}
 use Rattle.hir_lower_form.specs.Builder.{Builder}
 use Rattle.hir_lower_form.specs.Lowering.{Checked, Lowering}
 use Rattle.hir_one_result.specs.Size.{Size}
-use Rattle.hir_one_result.specs.Laws.{GrownUnless, AllFit, TypesFit, PathsFit}
+use Rattle.hir_one_result.specs.Laws.{GrownUnless, AllFit, TypesFit, PathsFit, BodiesFit}
 use Rattle.hir_one_result.proofs.Rooms.{Room, Takes}
 use Rattle.hir_one_result.proofs.Tellings.{takes_of}
-use Rattle.hir_one_result.proofs.TreeRooms.{part_takes, path_tells, type_part_takes}
+use Rattle.hir_one_result.proofs.TreeRooms.{body_takes, part_takes, path_tells, type_part_takes}
 
 fits : {A : Type 0} {n : Size} {p : Lowering A} → Takes n p → (old : Builder) → GrownUnless n old.stored (p old).0 (p old).1.stored
 fits {A = A} {n = n} {p = p} h old = by (p old).0 (p old).1 (h.takes old)
   where
     by : (o : Checked A) (new : Builder) → Room n old o new → GrownUnless n old.stored o new.stored
     by (Ok a) new h = record {
-      exprs = h.exprs;
-      labels = h.labels;
-      types = h.types;
-      lifetimes = h.lifetimes;
+      exprs = h.exprs.more;
+      labels = h.labels.more;
+      bindings = h.bindings.more;
+      pats = h.pats.more;
+      types = h.types.more;
+      lifetimes = h.lifetimes.more;
+      pat_sources = h.pat_sources;
       type_sources = h.type_sources;
       lifetime_sources = h.lifetime_sources;
     }
@@ -30,3 +33,6 @@ types_fit binder t old = fits (type_part_takes binder t) old
 
 pub paths_fit : PathsFit
 paths_fit p old = fits (takes_of (path_tells p)) old
+
+pub bodies_fit : BodiesFit
+bodies_fit skipped f e old = fits (body_takes skipped f e) old

@@ -5,15 +5,17 @@ use Rattle.hir_lower_form.specs.Builder.{Builder}
 use Rattle.hir_lower_form.specs.Lowering.{Checked, Lowering}
 use Rattle.hir_one_result.specs.Size.{Size}
 use Rattle.hir_steps.proofs.Frames.{Frame}
-use Rattle.hir_steps.proofs.Steps.{Mark, Rel, Correct, Holds, Both}
+use Rattle.hir_steps.proofs.Steps as steps
+use Rattle.hir_steps.proofs.Steps.{Mark, Rel, Holds, Both}
+use Rattle.hir_one_result.proofs.Lasting.{Correct}
 use Rattle.hir_one_result.proofs.Tellings.{Told, Tells}
 
 pub record Given {A : Type 0} (G : A → Type 0) (final : Stored) (ps : List Frame) (m m' : Mark) (a : A) : Type 0 where
   pub given : G a
 
-pub with_given : {A : Type 0} {n : Size} {G : A → Type 0} {R : Rel A} {p : Lowering A} → Correct p R → Tells n G p
-    → Correct p (Both R (Given G))
-with_given {A = A} {n = n} {G = G} {R = R} {p = p} h t =
+pub given_by : {A : Type 0} {n : Size} {G : A → Type 0} {R : Rel A} {p : Lowering A} → steps.Correct p R → Tells n G p
+    → steps.Correct p (Both R (Given G))
+given_by {A = A} {n = n} {G = G} {R = R} {p = p} h t =
     record { holds = λ final ps b r. go final ps b (p b).0 (p b).1 (h.holds final ps b r) (t.tells b) }
   where
     go : (final : Stored) (ps : List Frame) (b : Builder) (o : Checked A) (c : Builder) → Holds R final ps b o c → Told n G b o c
@@ -24,3 +26,10 @@ with_given {A = A} {n = n} {G = G} {R = R} {p = p} h t =
       in_final = λ d pre. record { one = y.in_final d pre; other = record { given = z.1 } };
     }
     go final ps b (Err e) c y z = y
+
+pub with_given : {A : Type 0} {n : Size} {G : A → Type 0} {R : Rel A} {p : Lowering A} → Correct p R → Tells n G p
+    → Correct p (Both R (Given G))
+with_given h t = steps.correct_as (given_by h t) (λ final ps m m' a g row. record {
+  settled = row.one.settled;
+  rel = λ s. record { one = row.one.rel s; other = row.other };
+})

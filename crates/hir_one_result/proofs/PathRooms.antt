@@ -28,6 +28,7 @@ use Rattle.hir_lower_form.specs.declared.args.ArgLists.{ArgLists}
 use Rattle.hir_lower_form.specs.declared.walk.PathWalk.{PathWalk}
 use Rattle.hir_lower_form.specs.declared.walk.Reading.{Reading}
 use Rattle.hir_lower_form.specs.declared.walk.Reading.TheVariants.{Refused, Ended, Open}
+use Rattle.hir_lower_form.specs.Builder.{Builder}
 use Rattle.hir_lower_form.specs.Lowering.{Lowering, count_out}
 use Rattle.hir_lower_form.specs.Walks as walks
 use Rattle.hir_lower_form.specs.Walks.{supers, no_names, add_name, super_read, mod_path, add_trait, own_kind, finished, is_plain}
@@ -40,8 +41,9 @@ use Rattle.hir_lower_form.specs.Types.{impl_type_form, dyn_type_form, add_arg, a
 use Rattle.hir_lower_form.specs.Types.{path_bound_of, path_bound_form}
 use Rattle.hir_one_result.specs.Size.{Size, nothing, a_type, a_lifetime, a_super, ◌∪◌, if_so}
 use Rattle.hir_one_result.specs.PathRoom as room
+use Rattle.hir_one_result.specs.Room.{Short}
 use Rattle.hir_one_result.specs.PathRoom.{Seen, Read, refused, ended, goes_on, after, at_first, anew, one_more, self_read, found}
-use Rattle.hir_one_result.specs.PathRoom.{projected, path_read, before, lifetime_size, use_size, uses_size}
+use Rattle.hir_one_result.specs.PathRoom.{projected, before, lifetime_size, use_size, uses_size}
 use Rattle.hir_one_result.proofs.Rooms.{Takes, Same, takes_then, takes_end, takes_pure, takes_type, takes_lifetime}
 use Rattle.hir_one_result.proofs.Tellings.{Tells, tells_then, tells_as, tells_pure, tells_end, anything, tells_any, takes_of}
 
@@ -164,8 +166,20 @@ pub whole_tells : {n : Size} {read : Read} {p : Lowering Reading} {f : PathWalk 
 unfolding whole
 whole_tells {read = read} k g h more = tells_then h (λ r e. proceed_tells r read k g e more)
 
+-- what counts too far is refused
+pub counts_out : (n : Size) (b : Builder) → n.overcounts → Short n b.stored
+counts_out n b h = inr (inr (inr (inr (inr (inr h)))))
+
 super_counts : (n : ℕ) → Same nothing (a_super n)
-super_counts n = record { exprs = refl; labels = refl; types = refl; lifetimes = refl; overcounts = λ x. absurd x }
+super_counts n = record {
+  exprs = refl;
+  labels = refl;
+  bindings = refl;
+  pats = refl;
+  types = refl;
+  lifetimes = refl;
+  overcounts = λ x. absurd x;
+}
 
 pub counted_tells : (w : PathWalk) → Tells (a_super (supers w.kind)) (Gives (goes_on (one_more (seen w)))) (counted (super_read w))
 unfolding count_out
@@ -175,7 +189,7 @@ counted_tells w = by (nat_lt (supers w.kind + 1) (2 ^ 32)) refl
         → Tells (a_super (supers w.kind)) (Gives (goes_on (one_more (seen w))))
         (counted (option_map (λ k. Open (record w { kind = k })) (if b then Some (kind.Super (supers w.kind + 1)) else None)))
     by true is = tells_as (super_counts (supers w.kind)) (tells_pure _ (Open (record w { kind = kind.Super (supers w.kind + 1) })) refl)
-    by false is = record { tells = λ b. inr (inr (inr (inr (ltb-false (supers w.kind + 1) (2 ^ 32) is)))) }
+    by false is = record { tells = λ b. counts_out (a_super (supers w.kind)) b (ltb-false (supers w.kind + 1) (2 ^ 32) is) }
 
 pub trait_tells : {n : Size} {x : Option Seen} {p : Lowering (Option HirPath)} → Tells n (GivesPath x) p → (t : TypeRefId) (at : Pointer)
     (w : PathWalk) → Tells (n ∪ if_so (is_some x) (a_type (Some at))) (Gives (projected x)) (with_trait p t at w)

@@ -10,7 +10,7 @@ use Rattle.hir_steps.proofs.Steps.{Correct, correct_bind, correct_as}
 use Rattle.hir_one_result.proofs.Tellings as known
 use Rattle.hir_one_result.proofs.PathRooms.{seen, seen_of, Gives, Yields}
 use Rattle.hir_one_result.proofs.Telling.{Listing, Tells, Added, added_then, nothing, tells_bind, tells_end, tells_pure, tells_aside}
-use Rattle.hir_one_result.proofs.Given.{with_given}
+use Rattle.hir_one_result.proofs.Given.{given_by}
 use Rattle.hir_lower_form.specs.Lowering.{Lowering, ◌>>=◌, alloc_type}
 use Rattle.hir_lower_form.specs.Types.{array_type_form, lower_lifetime_option, path_bound_of, path_bound_form, binding_form, TypeSteps}
 use Rattle.hir_lower_form.specs.Types.{over_form, tuple_type_form, path_type_form, ref_type_form, fn_type_form, impl_type_form}
@@ -106,7 +106,7 @@ module _ {X : Type 0} (L : Listing X) where
       → ((w : PathWalk) → Correct (f w) (Tells L (k (seen w))))
       → Correct (p >>= (λ r. proceed r f)) (Tells L (λ ss. D ss ++ Reached read k ss))
   reads_then {read = read} {D = D} k h is more =
-      correct_as (correct_bind (with_given h is) (λ r. proceed_tells r k more)) (λ final ps m m' a g row. record {
+      correct_as (correct_bind (given_by h is) (λ r. proceed_tells r k more)) (λ final ps m m' a g row. record {
         told = λ ss e.
             let both = added_then L (row.first.one.told ss e) (row.second.told ss e) in
             subst (λ q. Added L (D ss ++ Reached q k ss) m.stored m'.stored) row.first.other.given both;
@@ -154,7 +154,7 @@ module _ {X : Type 0} (L : Listing X) where
       → Correct (segment_args_form as' ps dots) (Tells L (λ ss. D ss ++ unless b (E ss)))
   unfolding segment_args_form
   beside_tells {D = D} {E = E} h is k dots =
-      correct_as (correct_bind (with_given h is) (λ a. tells_end L (or_else_tells a k) (λ p. tells_pure L _)))
+      correct_as (correct_bind (given_by h is) (λ a. tells_end L (or_else_tells a k) (λ p. tells_pure L _)))
       (λ final ps m m' a g row. record {
         told = λ ss e.
             let both = added_then L (row.first.one.told ss e) (row.second.told ss e) in

@@ -1,12 +1,19 @@
 -- Steps by how much they store.
-use Rattle.std.proofs.Common.{arith, ◌≡◌, ◌∙◌, refl, sym, ap, ◌+◌, ◌<◌, Bool, true, false, if◌then◌else◌, nat_lt, length, length-append}
-use Rattle.std.proofs.Common.{append-nil, append_assoc, List, [], ◌∷◌, ◌++◌, Option, Some, None, Ok, Err, inl, inr, ⊎_elim}
+use Rattle.std.proofs.Common.{arith, ◌≡◌, ◌∙◌, refl, sym, ap, subst, ℕ, ◌+◌, ◌<◌, Bool, true, false, if◌then◌else◌, nat_lt, length}
+use Rattle.std.proofs.Common.{length-append, append-nil, append_assoc, List, [], ◌∷◌, ◌++◌, Option, Some, None, Ok, Err, inl, inr, ⊎_elim}
 use Rattle.std.proofs.lemmas.Bool.{ltb-false}
 use Rattle.hir_store.specs.Pointers.{Pointer}
 use Rattle.hir_store.specs.Arenas.{Sourced, with_entry}
 use Rattle.hir_store.specs.Stored.{Stored}
 use Rattle.hir_store.specs.Storing as storing
-use Rattle.hir_store.specs.Storing.{expr_id, label_id, type_id, lifetime_id}
+use Rattle.hir_store.specs.Storing.{expr_id, label_id, pat_id, type_id, lifetime_id}
+use Rattle.hir_store.specs.Bindings.{Bindings, binding_id, problem_set, with_binding}
+use Rattle.hir_store.proofs.BindingLemmas.{length_at}
+use Rattle.hir_binding.specs.declared.binding.BindingProblems.{BindingProblems}
+use Rattle.hir_store.specs.declared.pat.Binding.{Binding}
+use Rattle.hir_store.specs.declared.pat.Pat.{Pat}
+use Rattle.hir_store.specs.declared.ids.BindingId.{BindingId}
+use Rattle.hir_store.specs.declared.ids.PatId.{PatId}
 use Rattle.hir_store.specs.declared.fault.StoreFault.TheVariants.{Full}
 use Rattle.hir_store.specs.declared.diagnostics.ExpressionStoreDiagnostics.{ExpressionStoreDiagnostics}
 use Rattle.hir_store.specs.declared.diagnostics.AwaitLocation.{AwaitLocation}
@@ -15,32 +22,71 @@ use Rattle.hir_store.specs.declared.hir.Label.{Label as HirLabel}
 use Rattle.hir_store.specs.declared.ids.ExprId.{ExprId}
 use Rattle.hir_store.specs.declared.ids.LabelId.{LabelId}
 use Rattle.hir_store.specs.declared.ids.BlockId.{BlockId}
-use Rattle.hir_env.specs.Answered.{Label, Jump, OptionExpr}
+use Rattle.hir_env.specs.Answered.{Label, Jump}
 use Rattle.hir_scope.specs.Ribs.{Target, reachable, unreachable, undeclared, target}
 use Rattle.hir_lower_form.specs.Builder.{Builder}
 use Rattle.hir_lower_form.specs.Lowering.{Checked, go_on, Lowering, ◌>>=◌, pure, alloc_expr, point, point_field, report, enter_block}
 use Rattle.hir_lower_form.specs.Lowering.{open_label, close, jump_target, found_or_fault, open_as, report_await, open_barrier, enter_root}
-use Rattle.hir_lower_form.specs.Lowering.{leave_root, outside_root, record_root, alloc_type, alloc_lifetime}
+use Rattle.hir_lower_form.specs.Lowering.{leave_root, outside_root, record_root, alloc_type, alloc_lifetime, alloc_pat, alloc_binding}
+use Rattle.hir_lower_form.specs.Lowering.{define, set_problem, point_pat_field}
 use Rattle.hir_lower_form.specs.Lower.{ExprSteps, constant_form}
+use Rattle.hir_lower_form.specs.Ranges.{inner_form}
+use Rattle.hir_meaning.specs.InnerWritten.{InnerBody}
 use Rattle.hir_store.specs.declared.type_ref.TypeRef.{TypeRef}
 use Rattle.hir_store.specs.declared.type_ref.LifetimeRef.{LifetimeRef}
 use Rattle.hir_store.specs.declared.ids.TypeRefId.{TypeRefId}
 use Rattle.hir_store.specs.declared.ids.LifetimeRefId.{LifetimeRefId}
-use Rattle.hir_one_result.specs.Size.{Size, nothing, an_expr, a_label, a_type, a_lifetime, a_constant, ◌∪◌}
+use Rattle.hir_one_result.specs.Size.{Size, nothing, an_expr, a_label, a_binding, a_pat, a_type, a_lifetime, a_body, ◌∪◌}
 use Rattle.hir_one_result.specs.Room.{Short}
+
+-- an arena of this limit that held so many holds n more
+pub record Grew (n limit held limit' held' : ℕ) : Type 0 where
+  pub more : held' ≡ held + n
+  pub same : limit' ≡ limit
+
+grew_none : {l a l' b : ℕ} → b ≡ a → l' ≡ l → Grew 0 l a l' b
+grew_none e f = record { more = omega (arith, e); same = f }
+
+grew_then : {n k l a l' b l'' c : ℕ} → Grew n l a l' b → Grew k l' b l'' c → Grew (n + k) l a l'' c
+grew_then g h = record { more = omega (arith, g.more, h.more); same = h.same ∙ g.same }
+
+grew_as : {n k l a l' b : ℕ} → n ≡ k → Grew n l a l' b → Grew k l a l' b
+grew_as {l = l} {a = a} {l' = l'} {b = b} e g = subst (λ j. Grew j l a l' b) e g
+
+-- an entry more
+grew_one : {A : Type 0} (xs : List A) (x : A) (l : ℕ) → Grew 1 l (length xs) l (length (xs ++ x ∷ []))
+grew_one xs x l = record { more = length-append xs (x ∷ []); same = refl }
+
+over_first : (n k l a : ℕ) → l < a + n → l < a + (n + k)
+over_first n k l a h = omega (arith, h)
+
+over_then : {n : ℕ} (k : ℕ) {l a l' b : ℕ} → Grew n l a l' b → l' < b + k → l < a + (n + k)
+over_then k g h = omega (arith, g.more, g.same, h)
+
+over_as : {n k : ℕ} (l a : ℕ) → n ≡ k → l < a + n → l < a + k
+over_as l a e h = subst (λ j. l < a + j) e h
+
+-- of lists
+joined : {A : Type 0} (xs ys : List A) → length xs + length ys ≡ length (xs ++ ys)
+joined xs ys = sym (length-append xs ys)
+
+listed_first : {A : Type 0} (xs ys : List A) (l a : ℕ) → l < a + length xs → l < a + length (xs ++ ys)
+listed_first xs ys l a h = over_as l a (joined xs ys) (over_first (length xs) (length ys) l a h)
+
+listed_then : {A : Type 0} (xs ys : List A) {l a l' b : ℕ} → Grew (length xs) l a l' b → l' < b + length ys → l < a + length (xs ++ ys)
+listed_then xs ys {l = l} {a = a} g h = over_as l a (joined xs ys) (over_then (length ys) g h)
 
 -- so much more is stored
 pub record Took (n : Size) (a b : Stored) : Type 0 where
-  pub exprs : length b.exprs.entries ≡ length a.exprs.entries + n.exprs
-  pub labels : length b.labels.entries ≡ length a.labels.entries + n.labels
-  pub types : length b.types.entries ≡ length a.types.entries + length n.types
-  pub lifetimes : length b.lifetimes.entries ≡ length a.lifetimes.entries + length n.lifetimes
+  pub exprs : Grew n.exprs a.exprs.limit (length a.exprs.entries) b.exprs.limit (length b.exprs.entries)
+  pub labels : Grew n.labels a.labels.limit (length a.labels.entries) b.labels.limit (length b.labels.entries)
+  pub bindings : Grew n.bindings a.bindings.limit (length a.bindings.entries) b.bindings.limit (length b.bindings.entries)
+  pub pats : Grew (length n.pats) a.pats.limit (length a.pats.entries) b.pats.limit (length b.pats.entries)
+  pub types : Grew (length n.types) a.types.limit (length a.types.entries) b.types.limit (length b.types.entries)
+  pub lifetimes : Grew (length n.lifetimes) a.lifetimes.limit (length a.lifetimes.entries) b.lifetimes.limit (length b.lifetimes.entries)
+  pub pat_sources : b.pats.sources ≡ a.pats.sources ++ n.pats
   pub type_sources : b.types.sources ≡ a.types.sources ++ n.types
   pub lifetime_sources : b.lifetimes.sources ≡ a.lifetimes.sources ++ n.lifetimes
-  pub expr_limit : b.exprs.limit ≡ a.exprs.limit
-  pub label_limit : b.labels.limit ≡ a.labels.limit
-  pub type_limit : b.types.limit ≡ a.types.limit
-  pub lifetime_limit : b.lifetimes.limit ≡ a.lifetimes.limit
 
 abbrev pub Room : {A : Type 0} → Size → Builder → Checked A → Builder → Type 0
 Room n b (Ok a) c = Took n b.stored c.stored
@@ -53,6 +99,8 @@ pub record Takes {A : Type 0} (n : Size) (p : Lowering A) : Type 0 where
 pub record Same (n k : Size) : Type 0 where
   pub exprs : n.exprs ≡ k.exprs
   pub labels : n.labels ≡ k.labels
+  pub bindings : n.bindings ≡ k.bindings
+  pub pats : n.pats ≡ k.pats
   pub types : n.types ≡ k.types
   pub lifetimes : n.lifetimes ≡ k.lifetimes
   pub overcounts : n.overcounts → k.overcounts
@@ -61,127 +109,100 @@ pub record Same (n k : Size) : Type 0 where
 shorter : (n k : Size) (s t : Stored)
     → (s.exprs.limit < length s.exprs.entries + n.exprs → t.exprs.limit < length t.exprs.entries + k.exprs)
     → (s.labels.limit < length s.labels.entries + n.labels → t.labels.limit < length t.labels.entries + k.labels)
+    → (s.pats.limit < length s.pats.entries + length n.pats → t.pats.limit < length t.pats.entries + length k.pats)
+    → (s.bindings.limit < length s.bindings.entries + n.bindings → t.bindings.limit < length t.bindings.entries + k.bindings)
     → (s.types.limit < length s.types.entries + length n.types → t.types.limit < length t.types.entries + length k.types)
     → (s.lifetimes.limit < length s.lifetimes.entries + length n.lifetimes
     → t.lifetimes.limit < length t.lifetimes.entries + length k.lifetimes)
     → (n.overcounts → k.overcounts) → Short n s → Short k t
-shorter n k s t e l y f o h =
-    ⊎_elim (λ x. inl (e x)) (λ g. inr (⊎_elim (λ x. inl (l x)) (λ g. inr (⊎_elim (λ x. inl (y x))
-    (λ g. inr (⊎_elim (λ x. inl (f x)) (λ x. inr (o x)) g)) g)) g)) h
+shorter n k s t e l p b y f o h =
+    ⊎_elim (λ x. inl (e x)) (λ g. inr (⊎_elim (λ x. inl (l x)) (λ g. inr (⊎_elim (λ x. inl (p x)) (λ g. inr (⊎_elim (λ x. inl (b x))
+    (λ g. inr (⊎_elim (λ x. inl (y x)) (λ g. inr (⊎_elim (λ x. inl (f x)) (λ x. inr (o x)) g)) g)) g)) g)) g)) h
 
 pub short_first : (n k : Size) (s : Stored) → Short n s → Short (n ∪ k) s
-short_first n k s h =
-    let types = length-append n.types k.types in
-    let lifetimes = length-append n.lifetimes k.lifetimes in
-    shorter n (n ∪ k) s s (λ x. omega arith) (λ x. omega arith) (λ x. omega arith) (λ x. omega arith) (λ o. inl o) h
+short_first n k s h = shorter n (n ∪ k) s s
+    (λ x. over_first n.exprs k.exprs s.exprs.limit (length s.exprs.entries) x)
+    (λ x. over_first n.labels k.labels s.labels.limit (length s.labels.entries) x)
+    (λ x. listed_first n.pats k.pats s.pats.limit (length s.pats.entries) x)
+    (λ x. over_first n.bindings k.bindings s.bindings.limit (length s.bindings.entries) x)
+    (λ x. listed_first n.types k.types s.types.limit (length s.types.entries) x)
+    (λ x. listed_first n.lifetimes k.lifetimes s.lifetimes.limit (length s.lifetimes.entries) x)
+    (λ o. inl o) h
 
 pub short_then : {n : Size} (k : Size) (a b : Stored) → Took n a b → Short k b → Short (n ∪ k) a
-short_then {n = n} k a b t h =
-    let e = t.exprs in
-    let f = t.labels in
-    let g = t.types in
-    let l = t.lifetimes in
-    let e' = t.expr_limit in
-    let f' = t.label_limit in
-    let g' = t.type_limit in
-    let l' = t.lifetime_limit in
-    let types = length-append n.types k.types in
-    let lifetimes = length-append n.lifetimes k.lifetimes in
-    shorter k (n ∪ k) b a (λ x. omega arith) (λ x. omega arith) (λ x. omega arith) (λ x. omega arith) (λ o. inr o) h
+short_then {n = n} k a b t h = shorter k (n ∪ k) b a
+    (λ x. over_then k.exprs t.exprs x)
+    (λ x. over_then k.labels t.labels x)
+    (λ x. listed_then n.pats k.pats t.pats x)
+    (λ x. over_then k.bindings t.bindings x)
+    (λ x. listed_then n.types k.types t.types x)
+    (λ x. listed_then n.lifetimes k.lifetimes t.lifetimes x)
+    (λ o. inr o) h
 
 pub short_as : {n k : Size} (s : Stored) → Same n k → Short n s → Short k s
-short_as {n = n} {k = k} s same h =
-    let e = same.exprs in
-    let f = same.labels in
-    let g = ap length same.types in
-    let l = ap length same.lifetimes in
-    shorter n k s s (λ x. omega arith) (λ x. omega arith) (λ x. omega arith) (λ x. omega arith) same.overcounts h
+short_as {n = n} {k = k} s same h = shorter n k s s
+    (λ x. over_as s.exprs.limit (length s.exprs.entries) same.exprs x)
+    (λ x. over_as s.labels.limit (length s.labels.entries) same.labels x)
+    (λ x. over_as s.pats.limit (length s.pats.entries) (ap length same.pats) x)
+    (λ x. over_as s.bindings.limit (length s.bindings.entries) same.bindings x)
+    (λ x. over_as s.types.limit (length s.types.entries) (ap length same.types) x)
+    (λ x. over_as s.lifetimes.limit (length s.lifetimes.entries) (ap length same.lifetimes) x)
+    same.overcounts h
 
 then_more : (xs ys zs : List (Option Pointer)) {us vs : List (Option Pointer)} → us ≡ xs ++ ys → vs ≡ us ++ zs → vs ≡ xs ++ (ys ++ zs)
 then_more xs ys zs e f = f ∙ (ap (λ ws. ws ++ zs) e ∙ append_assoc xs ys zs)
 
 pub took_then : {n k : Size} (a b c : Stored) → Took n a b → Took k b c → Took (n ∪ k) a c
-took_then {n = n} {k = k} a b c t u =
-    let e = t.exprs in
-    let f = t.labels in
-    let g = t.types in
-    let l = t.lifetimes in
-    let e' = u.exprs in
-    let f' = u.labels in
-    let g' = u.types in
-    let l' = u.lifetimes in
-    let types = length-append n.types k.types in
-    let lifetimes = length-append n.lifetimes k.lifetimes in
-    record {
-      exprs = omega arith;
-      labels = omega arith;
-      types = omega arith;
-      lifetimes = omega arith;
-      type_sources = then_more a.types.sources n.types k.types t.type_sources u.type_sources;
-      lifetime_sources = then_more a.lifetimes.sources n.lifetimes k.lifetimes t.lifetime_sources u.lifetime_sources;
-      expr_limit = u.expr_limit ∙ t.expr_limit;
-      label_limit = u.label_limit ∙ t.label_limit;
-      type_limit = u.type_limit ∙ t.type_limit;
-      lifetime_limit = u.lifetime_limit ∙ t.lifetime_limit;
-    }
+took_then {n = n} {k = k} a b c t u = record {
+  exprs = grew_then t.exprs u.exprs;
+  labels = grew_then t.labels u.labels;
+  bindings = grew_then t.bindings u.bindings;
+  pats = grew_as (joined n.pats k.pats) (grew_then t.pats u.pats);
+  types = grew_as (joined n.types k.types) (grew_then t.types u.types);
+  lifetimes = grew_as (joined n.lifetimes k.lifetimes) (grew_then t.lifetimes u.lifetimes);
+  pat_sources = then_more a.pats.sources n.pats k.pats t.pat_sources u.pat_sources;
+  type_sources = then_more a.types.sources n.types k.types t.type_sources u.type_sources;
+  lifetime_sources = then_more a.lifetimes.sources n.lifetimes k.lifetimes t.lifetime_sources u.lifetime_sources;
+}
 
 pub took_as : {n k : Size} {a b : Stored} → Same n k → Took n a b → Took k a b
-took_as {a = a} same t =
-    let e = same.exprs in
-    let f = same.labels in
-    let g = ap length same.types in
-    let l = ap length same.lifetimes in
-    let e' = t.exprs in
-    let f' = t.labels in
-    let g' = t.types in
-    let l' = t.lifetimes in
-    record {
-      exprs = omega arith;
-      labels = omega arith;
-      types = omega arith;
-      lifetimes = omega arith;
-      type_sources = t.type_sources ∙ ap (λ xs. a.types.sources ++ xs) same.types;
-      lifetime_sources = t.lifetime_sources ∙ ap (λ xs. a.lifetimes.sources ++ xs) same.lifetimes;
-      expr_limit = t.expr_limit;
-      label_limit = t.label_limit;
-      type_limit = t.type_limit;
-      lifetime_limit = t.lifetime_limit;
-    }
-
-pub took_none : (s : Stored) → Took nothing s s
-took_none s = record {
-  exprs = omega arith;
-  labels = omega arith;
-  types = omega arith;
-  lifetimes = omega arith;
-  type_sources = sym (append-nil s.types.sources);
-  lifetime_sources = sym (append-nil s.lifetimes.sources);
-  expr_limit = refl;
-  label_limit = refl;
-  type_limit = refl;
-  lifetime_limit = refl;
+took_as {a = a} same t = record {
+  exprs = grew_as same.exprs t.exprs;
+  labels = grew_as same.labels t.labels;
+  bindings = grew_as same.bindings t.bindings;
+  pats = grew_as (ap length same.pats) t.pats;
+  types = grew_as (ap length same.types) t.types;
+  lifetimes = grew_as (ap length same.lifetimes) t.lifetimes;
+  pat_sources = t.pat_sources ∙ ap (λ xs. a.pats.sources ++ xs) same.pats;
+  type_sources = t.type_sources ∙ ap (λ xs. a.types.sources ++ xs) same.types;
+  lifetime_sources = t.lifetime_sources ∙ ap (λ xs. a.lifetimes.sources ++ xs) same.lifetimes;
 }
+
+-- nothing more in an arena
+still : {T I : Type 0} (a : Sourced T I) {b : Sourced T I} → b ≡ a → Grew 0 a.limit (length a.entries) b.limit (length b.entries)
+still a e = grew_none (ap (λ s. length s.entries) e) (ap (λ s. s.limit) e)
+
+no_sources : {T I : Type 0} (a : Sourced T I) {b : Sourced T I} → b ≡ a → b.sources ≡ a.sources ++ []
+no_sources a e = ap (λ s. s.sources) e ∙ sym (append-nil a.sources)
 
 -- what is stored besides takes nothing
 took_besides : (a b : Stored) → b.exprs.entries ≡ a.exprs.entries → b.exprs.limit ≡ a.exprs.limit → b.labels ≡ a.labels
+    → length b.bindings.entries ≡ length a.bindings.entries → b.bindings.limit ≡ a.bindings.limit → b.pats ≡ a.pats
     → b.types ≡ a.types → b.lifetimes ≡ a.lifetimes → Took nothing a b
-took_besides a b e limit l t f =
-    let n = ap length e in
-    let k = ap (λ s. length s.entries) l in
-    let j = ap (λ s. length s.entries) t in
-    let i = ap (λ s. length s.entries) f in
-    record {
-      exprs = omega arith;
-      labels = omega arith;
-      types = omega arith;
-      lifetimes = omega arith;
-      type_sources = ap (λ s. s.sources) t ∙ sym (append-nil a.types.sources);
-      lifetime_sources = ap (λ s. s.sources) f ∙ sym (append-nil a.lifetimes.sources);
-      expr_limit = limit;
-      label_limit = ap (λ s. s.limit) l;
-      type_limit = ap (λ s. s.limit) t;
-      lifetime_limit = ap (λ s. s.limit) f;
-    }
+took_besides a b e limit l n most p t f = record {
+  exprs = grew_none (ap length e) limit;
+  labels = still a.labels l;
+  bindings = grew_none n most;
+  pats = still a.pats p;
+  types = still a.types t;
+  lifetimes = still a.lifetimes f;
+  pat_sources = no_sources a.pats p;
+  type_sources = no_sources a.types t;
+  lifetime_sources = no_sources a.lifetimes f;
+}
+
+pub took_none : (s : Stored) → Took nothing s s
+took_none s = took_besides s s refl refl refl refl refl refl refl refl
 
 -- one after another
 
@@ -204,10 +225,21 @@ takes_as {A = A} {n = n} {k = k} {p = p} same h = record { takes = λ b. by b (p
     by b (Ok a) c x = took_as same x
     by b (Err e) c x = short_as b.stored same x
 
+no_more : (n : ℕ) → n + 0 ≡ n
+no_more n = omega arith
+
+none_first : (n : ℕ) → 0 + n ≡ n
+none_first n = omega arith
+
+one_by_one : (n k j : ℕ) → n + (k + j) ≡ (n + k) + j
+one_by_one n k j = omega arith
+
 pub none_after : (n : Size) → Same (n ∪ nothing) n
 none_after n = record {
-  exprs = omega arith;
-  labels = omega arith;
+  exprs = no_more n.exprs;
+  labels = no_more n.labels;
+  bindings = no_more n.bindings;
+  pats = append-nil n.pats;
   types = append-nil n.types;
   lifetimes = append-nil n.lifetimes;
   overcounts = λ h. ⊎_elim (λ x. x) (λ x. absurd x) h;
@@ -215,8 +247,10 @@ none_after n = record {
 
 pub none_before : (n : Size) → Same (nothing ∪ n) n
 none_before n = record {
-  exprs = omega arith;
-  labels = omega arith;
+  exprs = none_first n.exprs;
+  labels = none_first n.labels;
+  bindings = none_first n.bindings;
+  pats = refl;
   types = refl;
   lifetimes = refl;
   overcounts = λ h. ⊎_elim (λ x. absurd x) (λ x. x) h;
@@ -225,8 +259,10 @@ none_before n = record {
 -- and the other way round
 pub nothing_first : (n : Size) → Same n (nothing ∪ n)
 nothing_first n = record {
-  exprs = omega arith;
-  labels = omega arith;
+  exprs = sym (none_first n.exprs);
+  labels = sym (none_first n.labels);
+  bindings = sym (none_first n.bindings);
+  pats = refl;
   types = refl;
   lifetimes = refl;
   overcounts = λ h. inr h;
@@ -234,8 +270,10 @@ nothing_first n = record {
 
 pub moved_in : (n k j : Size) → Same (n ∪ (k ∪ j)) ((n ∪ k) ∪ j)
 moved_in n k j = record {
-  exprs = omega arith;
-  labels = omega arith;
+  exprs = one_by_one n.exprs k.exprs j.exprs;
+  labels = one_by_one n.labels k.labels j.labels;
+  bindings = one_by_one n.bindings k.bindings j.bindings;
+  pats = sym (append_assoc n.pats k.pats j.pats);
   types = sym (append_assoc n.types k.types j.types);
   lifetimes = sym (append_assoc n.lifetimes k.lifetimes j.lifetimes);
   overcounts = λ h. ⊎_elim (λ x. inl (inl x)) (λ y. ⊎_elim (λ x. inl (inr x)) (λ x. inr x) y) h;
@@ -243,8 +281,10 @@ moved_in n k j = record {
 
 pub moved_out : (n k j : Size) → Same ((n ∪ k) ∪ j) (n ∪ (k ∪ j))
 moved_out n k j = record {
-  exprs = omega arith;
-  labels = omega arith;
+  exprs = sym (one_by_one n.exprs k.exprs j.exprs);
+  labels = sym (one_by_one n.labels k.labels j.labels);
+  bindings = sym (one_by_one n.bindings k.bindings j.bindings);
+  pats = append_assoc n.pats k.pats j.pats;
   types = append_assoc n.types k.types j.types;
   lifetimes = append_assoc n.lifetimes k.lifetimes j.lifetimes;
   overcounts = λ h. ⊎_elim (λ y. ⊎_elim (λ x. inl x) (λ x. inr (inl x)) y) (λ x. inr (inr x)) h;
@@ -266,7 +306,7 @@ takes_pure a = record { takes = λ b. took_none b.stored }
 
 pub takes_report : (d : ExpressionStoreDiagnostics) → Takes nothing (report d)
 unfolding report storing.report
-takes_report d = record { takes = λ b. took_besides _ _ refl refl refl refl refl }
+takes_report d = record { takes = λ b. took_besides _ _ refl refl refl refl refl refl refl refl }
 
 pub takes_report_await : (at : Pointer) (location : Option AwaitLocation) → Takes nothing (report_await at location)
 unfolding report_await
@@ -276,19 +316,19 @@ takes_report_await at (Some l) = takes_report _
 pub takes_block : (n : Option BlockId) → Takes nothing (enter_block n)
 unfolding enter_block storing.enter_block
 takes_block None = takes_pure tt
-takes_block (Some n) = record { takes = λ b. took_besides _ _ refl refl refl refl refl }
+takes_block (Some n) = record { takes = λ b. took_besides _ _ refl refl refl refl refl refl refl refl }
 
 pub takes_close : Takes nothing close
 unfolding close
-takes_close = record { takes = λ b. took_besides _ _ refl refl refl refl refl }
+takes_close = record { takes = λ b. took_besides _ _ refl refl refl refl refl refl refl refl }
 
 pub takes_point : (at : Pointer) (i : ExprId) → Takes nothing (point at i)
 unfolding point storing.point
-takes_point at i = record { takes = λ b. took_besides _ _ refl refl refl refl refl }
+takes_point at i = record { takes = λ b. took_besides _ _ refl refl refl refl refl refl refl refl }
 
 pub takes_point_field : (i : ExprId) (at : Pointer) → Takes nothing (point_field i at)
 unfolding point_field storing.point_field
-takes_point_field i at = record { takes = λ b. took_besides _ _ refl refl refl refl refl }
+takes_point_field i at = record { takes = λ b. took_besides _ _ refl refl refl refl refl refl refl refl }
 
 pub takes_jump : (j : Option Jump) → Takes nothing (jump_target j)
 unfolding jump_target report storing.report
@@ -296,9 +336,9 @@ takes_jump None = takes_pure None
 takes_jump (Some j) = record { takes = λ b. by b (target j b.scopes) }
   where
     by : (b : Builder) (t : Target LabelId) → Room nothing b (found_or_fault j t b).0 (found_or_fault j t b).1
-    by b (reachable n) = took_besides _ _ refl refl refl refl refl
-    by b unreachable = took_besides _ _ refl refl refl refl refl
-    by b undeclared = took_besides _ _ refl refl refl refl refl
+    by b (reachable n) = took_besides _ _ refl refl refl refl refl refl refl refl
+    by b unreachable = took_besides _ _ refl refl refl refl refl refl refl refl
+    by b undeclared = took_besides _ _ refl refl refl refl refl refl refl refl
 
 abbrev made_expr : Bool → Expr → Option Pointer → Sourced Expr ExprId → Checked ExprId × Sourced Expr ExprId
 made_expr t e source a = if t then (Ok (expr_id (length a.entries)), with_entry expr_id a e source) else (Err Full, a)
@@ -310,20 +350,17 @@ takes_alloc e source = record { takes = λ b. by b (nat_lt (length b.stored.expr
     by : (b : Builder) (t : Bool) → nat_lt (length b.stored.exprs.entries) b.stored.exprs.limit ≡ t
         → Room an_expr b (made_expr t e source b.stored.exprs).0
         (record b { stored = record b.stored { exprs = (made_expr t e source b.stored.exprs).1 } })
-    by b true is =
-        let grown = length-append b.stored.exprs.entries (e ∷ []) in
-        record {
-          exprs = omega arith;
-          labels = omega arith;
-          types = omega arith;
-          lifetimes = omega arith;
-          type_sources = sym (append-nil b.stored.types.sources);
-          lifetime_sources = sym (append-nil b.stored.lifetimes.sources);
-          expr_limit = refl;
-          label_limit = refl;
-          type_limit = refl;
-          lifetime_limit = refl;
-        }
+    by b true is = record {
+      exprs = grew_one b.stored.exprs.entries e b.stored.exprs.limit;
+      labels = still b.stored.labels refl;
+      bindings = grew_none refl refl;
+      pats = still b.stored.pats refl;
+      types = still b.stored.types refl;
+      lifetimes = still b.stored.lifetimes refl;
+      pat_sources = no_sources b.stored.pats refl;
+      type_sources = no_sources b.stored.types refl;
+      lifetime_sources = no_sources b.stored.lifetimes refl;
+    }
     by b false is = let full = ltb-false (length b.stored.exprs.entries) b.stored.exprs.limit is in inl (omega arith)
 
 abbrev made_label : Bool → HirLabel → Option Pointer → Sourced HirLabel LabelId → Checked LabelId × Sourced HirLabel LabelId
@@ -341,21 +378,17 @@ takes_open l = record { takes = λ b. by b (nat_lt (length b.stored.labels.entri
   where
     by : (b : Builder) (t : Bool) → nat_lt (length b.stored.labels.entries) b.stored.labels.limit ≡ t
         → Room a_label b (opening l t b).0 (opening l t b).1
-    by b true is =
-        let x : HirLabel = record { name = l.name } in
-        let grown = length-append b.stored.labels.entries (x ∷ []) in
-        record {
-          exprs = omega arith;
-          labels = omega arith;
-          types = omega arith;
-          lifetimes = omega arith;
-          type_sources = sym (append-nil b.stored.types.sources);
-          lifetime_sources = sym (append-nil b.stored.lifetimes.sources);
-          expr_limit = refl;
-          label_limit = refl;
-          type_limit = refl;
-          lifetime_limit = refl;
-        }
+    by b true is = record {
+      exprs = still b.stored.exprs refl;
+      labels = grew_one b.stored.labels.entries (record { name = l.name }) b.stored.labels.limit;
+      bindings = grew_none refl refl;
+      pats = still b.stored.pats refl;
+      types = still b.stored.types refl;
+      lifetimes = still b.stored.lifetimes refl;
+      pat_sources = no_sources b.stored.pats refl;
+      type_sources = no_sources b.stored.types refl;
+      lifetime_sources = no_sources b.stored.lifetimes refl;
+    }
     by b false is = let full = ltb-false (length b.stored.labels.entries) b.stored.labels.limit is in inr (inl (omega arith))
 
 abbrev made_type : Bool → TypeRef → Option Pointer → Sourced TypeRef TypeRefId → Checked TypeRefId × Sourced TypeRef TypeRefId
@@ -368,21 +401,19 @@ takes_type x source = record { takes = λ b. by b (nat_lt (length b.stored.types
     by : (b : Builder) (t : Bool) → nat_lt (length b.stored.types.entries) b.stored.types.limit ≡ t
         → Room (a_type source) b (made_type t x source b.stored.types).0
         (record b { stored = record b.stored { types = (made_type t x source b.stored.types).1 } })
-    by b true is =
-        let grown = length-append b.stored.types.entries (x ∷ []) in
-        record {
-          exprs = omega arith;
-          labels = omega arith;
-          types = omega arith;
-          lifetimes = omega arith;
-          type_sources = refl;
-          lifetime_sources = sym (append-nil b.stored.lifetimes.sources);
-          expr_limit = refl;
-          label_limit = refl;
-          type_limit = refl;
-          lifetime_limit = refl;
-        }
-    by b false is = let full = ltb-false (length b.stored.types.entries) b.stored.types.limit is in inr (inr (inl (omega arith)))
+    by b true is = record {
+      exprs = still b.stored.exprs refl;
+      labels = still b.stored.labels refl;
+      bindings = grew_none refl refl;
+      pats = still b.stored.pats refl;
+      types = grew_one b.stored.types.entries x b.stored.types.limit;
+      lifetimes = still b.stored.lifetimes refl;
+      pat_sources = no_sources b.stored.pats refl;
+      type_sources = refl;
+      lifetime_sources = no_sources b.stored.lifetimes refl;
+    }
+    by b false is = let full = ltb-false (length b.stored.types.entries) b.stored.types.limit is in
+        inr (inr (inr (inr (inl (omega arith)))))
 
 abbrev made_lifetime : Bool → LifetimeRef → Option Pointer → Sourced LifetimeRef LifetimeRefId
     → Checked LifetimeRefId × Sourced LifetimeRef LifetimeRefId
@@ -395,42 +426,117 @@ takes_lifetime x source = record { takes = λ b. by b (nat_lt (length b.stored.l
     by : (b : Builder) (t : Bool) → nat_lt (length b.stored.lifetimes.entries) b.stored.lifetimes.limit ≡ t
         → Room (a_lifetime source) b (made_lifetime t x source b.stored.lifetimes).0
         (record b { stored = record b.stored { lifetimes = (made_lifetime t x source b.stored.lifetimes).1 } })
-    by b true is =
-        let grown = length-append b.stored.lifetimes.entries (x ∷ []) in
-        record {
-          exprs = omega arith;
-          labels = omega arith;
-          types = omega arith;
-          lifetimes = omega arith;
-          type_sources = sym (append-nil b.stored.types.sources);
-          lifetime_sources = refl;
-          expr_limit = refl;
-          label_limit = refl;
-          type_limit = refl;
-          lifetime_limit = refl;
-        }
+    by b true is = record {
+      exprs = still b.stored.exprs refl;
+      labels = still b.stored.labels refl;
+      bindings = grew_none refl refl;
+      pats = still b.stored.pats refl;
+      types = still b.stored.types refl;
+      lifetimes = grew_one b.stored.lifetimes.entries x b.stored.lifetimes.limit;
+      pat_sources = no_sources b.stored.pats refl;
+      type_sources = no_sources b.stored.types refl;
+      lifetime_sources = refl;
+    }
     by b false is =
-        let full = ltb-false (length b.stored.lifetimes.entries) b.stored.lifetimes.limit is in inr (inr (inr (inl (omega arith))))
+        let full = ltb-false (length b.stored.lifetimes.entries) b.stored.lifetimes.limit is in
+        inr (inr (inr (inr (inr (inl (omega arith))))))
+
+-- patterns and bindings
+
+abbrev made_pat : Bool → Pat → Option Pointer → Sourced Pat PatId → Checked PatId × Sourced Pat PatId
+made_pat t x source a = if t then (Ok (pat_id (length a.entries)), with_entry pat_id a x source) else (Err Full, a)
+
+pub takes_pat : (x : Pat) (source : Option Pointer) → Takes (a_pat source) (alloc_pat x source)
+unfolding alloc_pat storing.alloc_pat
+takes_pat x source = record { takes = λ b. by b (nat_lt (length b.stored.pats.entries) b.stored.pats.limit) refl }
+  where
+    by : (b : Builder) (t : Bool) → nat_lt (length b.stored.pats.entries) b.stored.pats.limit ≡ t
+        → Room (a_pat source) b (made_pat t x source b.stored.pats).0
+        (record b { stored = record b.stored { pats = (made_pat t x source b.stored.pats).1 } })
+    by b true is = record {
+      exprs = still b.stored.exprs refl;
+      labels = still b.stored.labels refl;
+      bindings = grew_none refl refl;
+      pats = grew_one b.stored.pats.entries x b.stored.pats.limit;
+      types = still b.stored.types refl;
+      lifetimes = still b.stored.lifetimes refl;
+      pat_sources = refl;
+      type_sources = no_sources b.stored.types refl;
+      lifetime_sources = no_sources b.stored.lifetimes refl;
+    }
+    by b false is = let full = ltb-false (length b.stored.pats.entries) b.stored.pats.limit is in inr (inr (inl (omega arith)))
+
+abbrev made_binding : Bool → Binding → Bindings → Checked BindingId × Bindings
+made_binding t x a = if t then (Ok (binding_id (length a.entries)), with_binding a x) else (Err Full, a)
+
+pub takes_binding : (x : Binding) → Takes a_binding (alloc_binding x)
+unfolding alloc_binding storing.alloc_binding
+takes_binding x = record { takes = λ b. by b (nat_lt (length b.stored.bindings.entries) b.stored.bindings.limit) refl }
+  where
+    by : (b : Builder) (t : Bool) → nat_lt (length b.stored.bindings.entries) b.stored.bindings.limit ≡ t
+        → Room a_binding b (made_binding t x b.stored.bindings).0
+        (record b { stored = record b.stored { bindings = (made_binding t x b.stored.bindings).1 } })
+    by b true is = record {
+      exprs = still b.stored.exprs refl;
+      labels = still b.stored.labels refl;
+      bindings = grew_one b.stored.bindings.entries x b.stored.bindings.limit;
+      pats = still b.stored.pats refl;
+      types = still b.stored.types refl;
+      lifetimes = still b.stored.lifetimes refl;
+      pat_sources = no_sources b.stored.pats refl;
+      type_sources = no_sources b.stored.types refl;
+      lifetime_sources = no_sources b.stored.lifetimes refl;
+    }
+    by b false is =
+        let full = ltb-false (length b.stored.bindings.entries) b.stored.bindings.limit is in inr (inr (inr (inl (omega arith))))
+
+pub takes_define : (id : BindingId) (p : PatId) → Takes nothing (define id p)
+unfolding define storing.define
+takes_define id p = record { takes = λ b. took_besides _ _ refl refl refl refl refl refl refl refl }
+
+pub takes_problem : (id : BindingId) (problem : Option BindingProblems) → Takes nothing (set_problem id problem)
+unfolding set_problem storing.set_problem
+takes_problem id problem = record {
+  takes = λ b. took_besides _ _ refl refl refl (length_at id.0 (problem_set problem) b.stored.bindings.entries) refl refl refl refl;
+}
+
+pub takes_point_pat_field : (i : PatId) (at : Pointer) → Takes nothing (point_pat_field i at)
+unfolding point_pat_field storing.point_pat_field
+takes_point_pat_field i at = record { takes = λ b. took_besides _ _ refl refl refl refl refl refl refl refl }
 
 -- a constant: behind a barrier, in a root
 
 takes_barrier : Takes nothing open_barrier
 unfolding open_barrier
-takes_barrier = record { takes = λ b. took_besides _ _ refl refl refl refl refl }
+takes_barrier = record { takes = λ b. took_besides _ _ refl refl refl refl refl refl refl refl }
 
 takes_enter : Takes nothing enter_root
 unfolding enter_root
-takes_enter = record { takes = λ b. took_besides _ _ refl refl refl refl refl }
+takes_enter = record { takes = λ b. took_besides _ _ refl refl refl refl refl refl refl refl }
 
 takes_leave : (outer : Bool) (id : ExprId) → Takes nothing (leave_root outer id)
 unfolding leave_root record_root outside_root storing.record_root
 takes_leave true id = takes_pure tt
-takes_leave false id = record { takes = λ b. took_besides _ _ refl refl refl refl refl }
+takes_leave false id = record { takes = λ b. took_besides _ _ refl refl refl refl refl refl refl refl }
 
-as_constant : (e : OptionExpr) (n : Size) → Same n (a_constant e n)
-as_constant e n = record { exprs = refl; labels = refl; types = refl; lifetimes = refl; overcounts = λ x. x }
+as_body : (x : InnerBody) (n : Size) → Same n (a_body x n)
+as_body x n = record {
+  exprs = refl;
+  labels = refl;
+  bindings = refl;
+  pats = refl;
+  types = refl;
+  lifetimes = refl;
+  overcounts = λ x. x;
+}
 
-pub takes_constant : (e : OptionExpr) {n : Size} {p : ExprSteps} → Takes n p → Takes (a_constant e n) (constant_form p)
+pub takes_constant : (x : InnerBody) {n : Size} {p : ExprSteps} → Takes n p → Takes (a_body x n) (constant_form p)
 unfolding constant_form
-takes_constant e {n = n} h = takes_as (as_constant e n) (takes_begin takes_barrier (λ u. takes_begin takes_enter (λ outer.
+takes_constant x {n = n} h = takes_as (as_body x n) (takes_begin takes_barrier (λ u. takes_begin takes_enter (λ outer.
+    takes_end h (λ id. takes_end takes_close (λ u. takes_end (takes_leave outer id) (λ u. takes_pure _))))))
+
+-- the same for an end of a range in a type
+pub takes_inner : (x : InnerBody) {n : Size} {p : ExprSteps} → Takes n p → Takes (a_body x n) (inner_form p)
+unfolding inner_form
+takes_inner x {n = n} h = takes_as (as_body x n) (takes_begin takes_barrier (λ u. takes_begin takes_enter (λ outer.
     takes_end h (λ id. takes_end takes_close (λ u. takes_end (takes_leave outer id) (λ u. takes_pure _))))))

@@ -7,12 +7,12 @@ use Rattle.hir_store.specs.declared.hir.Expr.TheVariants as hir
 use Rattle.hir_store.specs.declared.hir.Statement.{Statement}
 use Rattle.hir_store.specs.declared.hir.Statement.TheVariants as statement
 use Rattle.hir_store.specs.declared.path.Path.{Path}
-use Rattle.hir_store.specs.declared.path.Path.TheVariants.{BarePath, Normal}
+use Rattle.hir_store.specs.declared.path.Path.TheVariants.{BarePath, Normal, LangItem}
 use Rattle.hir_store.specs.declared.ids.ExprId.{ExprId}
 use Rattle.hir_syntax.specs.declared.ast.Literal.{Literal as AstLiteral}
 use Rattle.hir_store.specs.Pointers.{Pointer}
 use Rattle.hir_store.specs.declared.hir.Literal.{Literal}
-use Rattle.hir_data.specs.Data.{PathData, path_data, names_in}
+use Rattle.hir_data.specs.Data.{PathData, path_data, item_path, names_in}
 use Rattle.hir_store.specs.declared.path.GenericArgs.{GenericArgs}
 use Rattle.hir_data.specs.Data.{no_args}
 use Rattle.hir_data.specs.Rule.{is_list}
@@ -30,9 +30,11 @@ use Rattle.hir_one_result.specs.Worked.{elements, PlainForms}
 -- the bare path of this data
 abbrev bare_path : PathData → Path
 bare_path (path_data k t ns bare) = BarePath (record { kind = k; segments = names_in ns })
+bare_path (item_path i) = LangItem i
 
 abbrev bareness : PathData → Bool
 bareness (path_data k t ns bare) = bare
+bareness (item_path i) = false
 
 -- a path whose data is bare is what is read of it
 is_read : (store : Store) (source_map : SourceMap) (path : Path) (p : PathData) → bareness p ≡ true
@@ -41,6 +43,7 @@ unfolding stored_path
 is_read store source_map (BarePath m) p b e =
     ap (λ ns. BarePath (record { kind = m.kind; segments = ns })) (sym (names_read m.segments)) ∙ ap bare_path e
 is_read store source_map (Normal n) p b e = absurd (true≢false (sym b ∙ ap bareness (sym e)))
+is_read store source_map (LangItem i) p b e = absurd (true≢false (sym b ∙ ap bareness (sym e)))
 
 pub jumps : Jumps
 jumps = record {
@@ -123,7 +126,7 @@ abbrev literal_of : LiteralData → Literal
 literal_of d = record { negative = d.negative; kind = d.kind; text = d.text; suffix = d.suffix }
 
 module _ (store : Store) (source_map : SourceMap) where
-  literal_stored : (p : Pointer) (l : AstLiteral) (i : ExprId) (ws : List Way) → StandsLiteral store source_map p l i ws
+  pub literal_stored : (p : Pointer) (l : AstLiteral) (i : ExprId) (ws : List Way) → StandsLiteral store source_map p l i ws
       → slice_get store.exprs i.0 ≡ Some (hir.Literal (literal_of (literal_data l)))
   literal_stored p l i ws h = h.2.0.stored ∙ ap (λ d. Some (hir.Literal (literal_of d))) h.1
 

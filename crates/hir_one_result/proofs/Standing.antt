@@ -1,52 +1,61 @@
 -- Steps whose answers stand for what is written, and the forms that are made of them.
-use Rattle.std.proofs.Common.{◌≡◌, ◌∙◌, refl, sym, ap, subst, List, [], ◌∷◌, length, length-append, slice_get, Option, Some, None}
-use Rattle.std.proofs.Common.{option_map, arith, Bool, true, false, append-nil}
-use Rattle.indexmap.specs.IndexMap.{insert_entry}
+use Rattle.std.proofs.Common.{◌≡◌, ◌∙◌, refl, sym, ap, subst, List, [], ◌∷◌, ◌++◌, slice_get, Option, Some, None}
+use Rattle.std.proofs.Common.{option_map, option_to_list, Bool, true, false, append-nil}
 use Rattle.hir_syntax.specs.declared.ast.Literal.{Literal as AstLiteral}
-use Rattle.hir_store.specs.Pointers.{Pointer, same_pointer}
+use Rattle.hir_store.specs.Pointers.{Pointer}
 use Rattle.hir_store.specs.Stored.{Stored, store_of, map_of}
-use Rattle.hir_store.specs.Storing.{expr_id, label_id}
 use Rattle.hir_store.specs.declared.hir.Expr.{Expr as HirExpr}
 use Rattle.hir_store.specs.declared.hir.Expr.TheVariants as hir
 use Rattle.hir_store.specs.declared.hir.LoopSource.TheVariants as source
+use Rattle.hir_store.specs.declared.hir.MatchArm.{MatchArm}
+use Rattle.hir_store.specs.declared.hir.RecordLitField.{RecordLitField}
+use Rattle.hir_store.specs.declared.hir.RecordSpread.{RecordSpread}
+use Rattle.hir_store.specs.declared.hir.RecordSpread.TheVariants as spread
+use Rattle.hir_store.specs.declared.hir.Statement.TheVariants as statement
 use Rattle.hir_store.specs.declared.ids.ExprId.{ExprId}
 use Rattle.hir_store.specs.declared.ids.LabelId.{LabelId}
 use Rattle.hir_store.specs.declared.ids.BlockId.{BlockId}
 use Rattle.hir_store.specs.declared.ids.HygieneId.{HygieneId}
+use Rattle.hir_store.specs.declared.ids.LangItemId.{LangItemId}
+use Rattle.hir_store.specs.declared.ids.PatId.{PatId}
+use Rattle.hir_store.specs.declared.ids.TypeRefId.{TypeRefId}
 use Rattle.hir_store.specs.declared.diagnostics.ExpressionStoreDiagnostics.{ExpressionStoreDiagnostics}
-use Rattle.hir_scope.specs.Ribs.{Rib, Target, reachable, unreachable, undeclared, target, jump_number}
 use Rattle.hir_store.specs.declared.diagnostics.AwaitLocation.{AwaitLocation}
 use Rattle.hir_store.specs.declared.name.Name.{Name}
-use Rattle.hir_env.specs.Answered as tree
-use Rattle.hir_env.specs.Answered.{Leaf, Unary, Binary, Leaving, Listing, Label, Jump, OptionPath, OptionType, OptionArgs}
-use Rattle.hir_data.specs.Data.{PathData}
-use Rattle.hir_data.specs.Written.{written_path, written_type, written_args}
-use Rattle.hir_read_back.proofs.Now.{path_now, type_now, args_now}
-use Rattle.hir_data.specs.Reading.{stored_path, stored_type, stored_args}
-use Rattle.hir_store.specs.declared.hir.RecordLitField.{RecordLitField}
-use Rattle.hir_store.specs.declared.hir.RecordSpread.{RecordSpread}
+use Rattle.hir_store.specs.declared.path.GenericArgs.{GenericArgs}
 use Rattle.hir_store.specs.declared.path.Path.{Path}
-use Rattle.hir_lower_form.specs.Lower.{StoredFields, type_part, args_part, cast_form, offset_of_form, record_contents, record_of}
-use Rattle.hir_lower_form.specs.Lower.{record_form, field_form, ExprSteps, StoredContents, missing, some, if_form, loop_form, call_form}
-use Rattle.hir_lower_form.specs.Lower.{continue_form, break_form, stored_leaf, stored_unary, stored_binary, stored_leaving, operand_form}
-use Rattle.hir_lower_form.specs.Lower.{operands_form, value_form, list_form, method_call_form, await_form, paren_form, path_or_missing}
-use Rattle.hir_lower_form.specs.Lower.{path_form, lower_path, block_form, labelled, settled, stored_literal}
-use Rattle.hir_steps.proofs.Steps.{correct_point_field, with_field, Mark, Rel, Correct, Allocated, Opened, correct_bind, correct_as}
-use Rattle.hir_steps.proofs.Steps.{correct_pure, correct_point, correct_enter_block, correct_alloc, correct_opened, correct_target}
-use Rattle.hir_steps.proofs.Steps.{with_fault, with_target, with_jump, with_block, with_await, correct_report_await, correct_both}
-use Rattle.hir_one_result.specs.Leads.{Way, Ways, OneWay, OneMissing, OneLabelWay, OneFieldWay, ◌&◌}
+use Rattle.hir_store.specs.declared.path.Path.TheVariants.{LangItem}
+use Rattle.hir_scope.specs.Ribs.{Rib, Target, reachable, unreachable, undeclared, target, jump_number}
+use Rattle.hir_env.specs.Answered as tree
+use Rattle.hir_env.specs.Answered.{Leaf, Unary, Binary, Leaving, Listing, Label, Jump, OptionPath, OptionType, OptionArgs, RangeForm}
+use Rattle.hir_data.specs.Data.{PathData}
+use Rattle.hir_data.specs.Reading.{stored_path, stored_type, stored_option_type, stored_args}
+use Rattle.hir_data.specs.Written.{written_path, written_type, written_option_type, written_args}
+use Rattle.hir_read_back.proofs.Now.{path_now, type_now, option_type_now, args_now}
+use Rattle.hir_lower_form.specs.Lower.{StoredFields, type_part, present_type, args_part, cast_form, offset_of_form, record_contents}
+use Rattle.hir_lower_form.specs.Lower.{record_of, record_form, field_form, ExprSteps, StoredContents, missing, some, if_form, loop_form}
+use Rattle.hir_lower_form.specs.Lower.{call_form, continue_form, break_form, stored_leaf, stored_unary, stored_binary, stored_leaving}
+use Rattle.hir_lower_form.specs.Lower.{operand_form, operands_form, value_form, list_form, method_call_form, await_form, paren_form}
+use Rattle.hir_lower_form.specs.Lower.{path_or_missing, path_form, lower_path, block_form, labelled, settled, stored_literal, let_form}
+use Rattle.hir_lower_form.specs.Lower.{match_form, arm_form, assign_form, let_stmt_form}
+use Rattle.hir_lower_form.specs.Lowering.{Lowering, ◌>>=◌, pure, alloc_expr}
+use Rattle.hir_lower_form.specs.Ranges as ranges
+use Rattle.hir_lower_form.specs.Ranges.{range_form, item_expr, end_operand}
+use Rattle.hir_lower_form.specs.Types.{TypeSteps}
+use Rattle.hir_steps.proofs.Frames.{Frame, loop_at, block_at, ribs}
+use Rattle.hir_steps.proofs.Steps.{Mark, Rel, Allocated, Opened, with_fault, with_target, with_jump, with_block, with_await}
+use Rattle.hir_one_result.specs.Forms.{leaf_form, unary_form, binary_form, leaving_form, item_form, range_fields}
+use Rattle.hir_one_result.specs.Leads.{Way, Ways, OneWay, OneUnled, OneLabelWay, OneFieldWay, ◌&◌}
 use Rattle.hir_one_result.specs.Stands.{ReadsAs, StandsOverThree, StandsRecord, Open, Absent, There, ExprAt, LabelAt, StandsMissing}
 use Rattle.hir_one_result.specs.Stands.{StandsAlone, StandsPath, StandsLiteral, StandsOver, StandsOverTwo, StandsList, InLabel}
-use Rattle.hir_steps.proofs.Aside.{Aside}
-use Rattle.hir_lower_form.specs.Lowering.{Lowering, ◌>>=◌, pure, alloc_expr}
-use Rattle.hir_steps.proofs.Frames.{Frame, loop_at, block_at, ribs}
-use Rattle.hir_one_result.specs.Forms.{leaf_form, unary_form, binary_form, leaving_form}
-use Rattle.hir_one_result.proofs.Leading.{Shown, shown_as, shown_none, shown_own, shown_label, shown_both, shown_swap, shown_after}
-use Rattle.hir_one_result.proofs.Leading.{shown_before, shown_unled, shown_field, Moved, moved_same, OnlyNew, none_new}
+use Rattle.hir_one_result.specs.Stands.{StandsRange}
 use Rattle.hir_one_result.proofs.Data.{PathIs, path_is}
-use Rattle.hir_store.specs.declared.ids.TypeRefId.{TypeRefId}
-use Rattle.hir_store.specs.declared.path.GenericArgs.{GenericArgs}
-use Rattle.hir_lower_form.specs.Types.{TypeSteps}
+use Rattle.hir_one_result.proofs.Lasting.{Correct, correct_alloc, correct_as, correct_bind, correct_both, correct_enter_block}
+use Rattle.hir_one_result.proofs.Lasting.{correct_opened, correct_point, correct_point_field, correct_pure, correct_report_await}
+use Rattle.hir_one_result.proofs.Lasting.{correct_target}
+use Rattle.hir_one_result.proofs.Leading.{Shown, shown_as, shown_none, shown_both, shown_swap, shown_after, shown_before, shown_to}
+use Rattle.hir_one_result.proofs.Leading.{shown_expr, shown_unled, shown_label, shown_point, shown_field, Moved, moved_same, moved_to}
+use Rattle.hir_one_result.proofs.Leading.{moved_still, moved_report}
 
 abbrev pub Of : Type 0 → Type 1
 Of A = Stored → Open → A → Ways
@@ -62,37 +71,35 @@ pub record Shows {A : Type 0} (S : Of A) (final : Stored) (ps : List Frame) (m m
 pub record Leaves {A : Type 0} (W : Stored → Open → Ways) (final : Stored) (ps : List Frame) (m m' : Mark) (a : A) : Type 0 where
   pub shown : Shown (W final (ribs ps)) m.stored m'.stored
 
+-- what is so of the answer, where nothing that is led to is new
+pub record Facts {A : Type 0} (P : Stored → A → Type 0) (final : Stored) (ps : List Frame) (m m' : Mark) (a : A) : Type 0 where
+  pub fact : P final a
+  pub moved : Moved m.stored m'.stored []
+
 -- what steps store, and where they lead
 
 pub moved_pure : {a b : Mark} → b ≡ a → Moved a.stored b.stored []
-moved_pure {a = a} e = moved_same a.stored a.stored (ap (λ m. m.stored) e) refl refl refl
+moved_pure e = moved_same (ap (λ m. m.stored) e)
 
 pub moved_fault : (d : ExpressionStoreDiagnostics) {a b : Stored} → b ≡ with_fault d a → Moved a b []
-moved_fault d {a = a} e = moved_same a (with_fault d a) e refl refl refl
+moved_fault d {a = a} e = moved_to e (moved_report d a)
 
--- the same expressions, labels and fields
-abbrev SameWays : Stored → Stored → Type 0
-SameWays a b = (b.exprs ≡ a.exprs) × (b.labels ≡ a.labels) × (b.field_map_back ≡ a.field_map_back)
+target_leads : {A : Type 0} (j : Jump) (t : Target A) (s : Stored) → Moved s (with_target j t s) []
+target_leads j (reachable n) s = moved_same refl
+target_leads j unreachable s = moved_report _ s
+target_leads j undeclared s = moved_report _ s
 
-target_leads : {A : Type 0} (j : Jump) (t : Target A) (s : Stored) → SameWays s (with_target j t s)
-target_leads j (reachable n) s = (refl, refl, refl)
-target_leads j unreachable s = (refl, refl, refl)
-target_leads j undeclared s = (refl, refl, refl)
-
-jump_leads : {A : Type 0} (j : Option Jump) (rs : List (Rib A)) (s : Stored) → SameWays s (with_jump j rs s)
-jump_leads None rs s = (refl, refl, refl)
+jump_leads : {A : Type 0} (j : Option Jump) (rs : List (Rib A)) (s : Stored) → Moved s (with_jump j rs s) []
+jump_leads None rs s = moved_same refl
 jump_leads (Some j) rs s = target_leads j (target j rs) s
 
-moved_jump : (j : Option Jump) (ps : List Frame) (a : Stored) {b : Stored} → b ≡ with_jump j (ribs ps) a → Moved a b []
-moved_jump j ps a is = let same = jump_leads j (ribs ps) a in moved_same a (with_jump j (ribs ps) a) is same.0 same.1 same.2
+block_leads : (n : Option BlockId) (s : Stored) → Moved s (with_block n s) []
+block_leads None s = moved_same refl
+block_leads (Some n) s = moved_still s (with_block (Some n) s) refl refl refl refl refl refl
 
-block_leads : (n : Option BlockId) (s : Stored) → SameWays s (with_block n s)
-block_leads None s = (refl, refl, refl)
-block_leads (Some n) s = (refl, refl, refl)
-
-await_leads : (at : Pointer) (location : Option AwaitLocation) (s : Stored) → SameWays s (with_await at location s)
-await_leads at None s = (refl, refl, refl)
-await_leads at (Some location) s = (refl, refl, refl)
+await_leads : (at : Pointer) (location : Option AwaitLocation) (s : Stored) → Moved s (with_await at location s) []
+await_leads at None s = moved_same refl
+await_leads at (Some location) s = moved_report _ s
 
 module _ {e : HirExpr} {final : Stored} {ps : List Frame} {m m' : Mark} {i : ExprId} where
   pub expr_at : {at : Option Pointer} → Allocated e at final ps m m' i → Placed final i e at
@@ -102,26 +109,11 @@ module _ {e : HirExpr} {final : Stored} {ps : List Frame} {m m' : Mark} {i : Exp
         source = ap (λ n. slice_get final.exprs.sources n) row.number ∙ row.from;
       }
 
-  -- it is the only one that is new
-  one_more : {at : Option Pointer} → Allocated e at final ps m m' i → OnlyNew m.stored m'.stored i
-  one_more row = λ j le lt.
-      let many = ap (λ s. length s.exprs.entries) row.stored in
-      let grown = length-append m.stored.exprs.entries (e ∷ []) in
-      let last = row.last in
-      let number = row.number in
-      omega arith
+  pub own : {at : Pointer} → Allocated e (Some at) final ps m m' i → Shown (OneWay at i) m.stored m'.stored
+  own {at = at} row = shown_expr e at i (row.number ∙ row.last) row.stored
 
-  own : {at : Pointer} → Allocated e (Some at) final ps m m' i → Shown (OneWay at i) m.stored m'.stored
-  own {at = at} row = shown_own at i
-      (ap (λ s. s.exprs.map) row.stored
-      ∙ ap (λ n. insert_entry same_pointer m.stored.exprs.map at (expr_id n)) (sym (row.number ∙ row.last)))
-      (ap (λ s. s.labels) row.stored)
-      (ap (λ s. s.field_map_back) row.stored)
-      (one_more row)
-
-  unled : Allocated e None final ps m m' i → Shown (OneMissing i) m.stored m'.stored
-  unled row = shown_unled i (ap (λ s. s.exprs.map) row.stored) (ap (λ s. s.labels) row.stored)
-      (ap (λ s. s.field_map_back) row.stored) (one_more row)
+  pub unled : Allocated e None final ps m m' i → Shown (OneUnled i) m.stored m'.stored
+  unled row = shown_unled e i (row.number ∙ row.last) row.stored
 
 module _ {A B : Type 0} {at : Label → LabelId → Frame} {l : Label} {R : LabelId → Rel A} {Q : LabelId → A → Rel B}
     {final : Stored} {ps : List Frame} {m m' : Mark} {b : B} where
@@ -133,13 +125,7 @@ module _ {A B : Type 0} {at : Label → LabelId → Frame} {l : Label} {R : Labe
       }
 
   own_label : (row : Opened at l R Q final ps m m' b) → Shown (OneLabelWay l.pointer row.number) m.stored row.entered.stored
-  own_label row = shown_label l.pointer row.number
-      (ap (λ s. s.exprs) row.stored)
-      (ap (λ s. s.labels.map) row.stored
-      ∙ ap (λ n. insert_entry same_pointer m.stored.labels.map l.pointer (label_id n)) (sym (row.new ∙ row.last)))
-      (ap (λ s. s.field_map_back) row.stored)
-      (ap (λ s. length s.labels.entries) row.stored ∙ length-append m.stored.labels.entries (record { name = l.name } ∷ []))
-      (row.new ∙ row.last)
+  own_label row = shown_label l row.number (row.new ∙ row.last) row.stored
 
 -- leaves
 
@@ -152,6 +138,11 @@ pub alone_stands : (e : HirExpr) (at : Pointer)
     → Correct (alloc_expr e (Some at)) (Shows (λ final rs i. StandsAlone (store_of final) (map_of final) e at i))
 alone_stands e at =
     correct_as (correct_alloc e (Some at)) (λ final ps m m' i g row. record { shown = shown_as (own row) (λ ws x. (expr_at row, x)) })
+
+-- an item that isn't there is missing
+pub item_is : (item : Option LangItemId) → item_expr item ≡ item_form item
+item_is None = refl
+item_is (Some i) = refl
 
 -- what the description stores for a form of a family is its stored form
 leaf_is : (form : Leaf) → stored_leaf form ≡ leaf_form form
@@ -177,10 +168,6 @@ pub leaf_stands : (at : Pointer) (form : Leaf)
     (Shows (λ final rs i. StandsAlone (store_of final) (map_of final) (leaf_form form) at i))
 leaf_stands at form = correct_as (alone_stands (stored_leaf form) at) (λ final ps m m' i g row.
     record { shown = shown_as row.shown (λ ws y. (subst (λ e. Placed final i e (Some at)) (leaf_is form) y.0, y.1)) })
-
-pub moved_aside : {A : Type 0} {final : Stored} {ps : List Frame} {m m' : Mark} {a : A} → Aside final ps m m' a
-    → Moved m.stored m'.stored []
-moved_aside {m' = m'} row = moved_same _ m'.stored refl row.exprs_are row.labels_are row.field_map_back
 
 path_shown : {final : Stored} {qs : List Frame} {m m' : Mark} {i : ExprId} (at : Pointer) (h : HygieneId) (d : Option PathData)
     (e : HirExpr)
@@ -222,6 +209,12 @@ pub type_shown : (t : OptionType) {W : Stored → Open → Ways} → Correct (ty
     (Shows (λ final rs i. W final rs & ReadsAs (stored_type (store_of final) (map_of final)) (written_type t) i))
 type_shown t h = correct_as (correct_both h (type_now t)) (λ final ps m m' i g row.
     record { shown = read_behind (stored_type (store_of final) (map_of final)) row.other.is row.one.shown })
+
+pub option_type_shown : (t : OptionType) {W : Stored → Open → Ways} → Correct (present_type t) (Leaves W)
+    → Correct (present_type t)
+    (Shows (λ final rs i. W final rs & ReadsAs (stored_option_type (store_of final) (map_of final)) (written_option_type t) i))
+option_type_shown t h = correct_as (correct_both h (option_type_now t)) (λ final ps m m' i g row.
+    record { shown = read_behind (stored_option_type (store_of final) (map_of final)) row.other.is row.one.shown })
 
 pub args_shown : (a : OptionArgs) {W : Stored → Open → Ways} → Correct (args_part a) (Leaves W)
     → Correct (args_part a)
@@ -399,8 +392,7 @@ module _ (at : Pointer) where
   unfolding field_form
   field_stands name h = correct_as (correct_bind h (λ i. correct_bind (correct_point_field i at) (λ u. correct_pure _)))
       (λ final ps m m' o g row. let r = row.second in
-      let before = row.middle.stored in
-      let leads = shown_field before (with_field row.one at before) row.one at r.first.stored refl refl refl in
+      let leads = shown_to r.first.stored (shown_field row.one at row.middle.stored) in
       let both = shown_both row.first.shown (shown_before leads (moved_pure r.second.still)) in
       record { shown = shown_as both (λ ws y. (row.one, r.second.is, y)) })
 
@@ -412,8 +404,7 @@ module _ (at : Pointer) where
       correct_as (correct_bind h (λ i. correct_bind (correct_report_await at location) (λ u. correct_alloc (hir.Await i) (Some at))))
       (λ final ps m m' i g row.
       let r = row.second in
-      let same = await_leads at location row.middle.stored in
-      let moved = moved_same row.middle.stored (with_await at location row.middle.stored) r.first.stored same.0 same.1 same.2 in
+      let moved = moved_to r.first.stored (await_leads at location row.middle.stored) in
       let parts = shown_both (shown_before row.first.shown moved) (own r.second) in
       record { shown = shown_as parts (λ ws x. (row.one, expr_at r.second, x)) })
 
@@ -423,7 +414,9 @@ module _ (at : Pointer) where
   unfolding continue_form
   continue_stands j = correct_as (correct_bind (correct_target j) (λ n. correct_alloc (hir.Continue n) (Some at))) (λ final ps m m' i g row.
       let node = subst (λ n. Placed final i (hir.Continue n) (Some at)) row.first.is (expr_at row.second) in
-      record { shown = shown_after (moved_jump j ps m.stored row.first.stored) (shown_as (own row.second) (λ ws x. (node, x))) })
+      record {
+        shown = shown_after (moved_to row.first.stored (jump_leads j (ribs ps) m.stored)) (shown_as (own row.second) (λ ws x. (node, x)));
+      })
 
   pub break_stands : (j : Option Jump) {e : Lowering (Option ExprId)} {E : Of (Option ExprId)} → Correct e (Shows E)
       → Correct (break_form at j e) (Shows (λ final rs i ws. (value : Option ExprId)
@@ -435,7 +428,7 @@ module _ (at : Pointer) where
       let r = row.second in
       let node = subst (λ n. Placed final i (hir.Break n r.one) (Some at)) row.first.is (expr_at r.second) in
       let whole = shown_as (shown_both r.first.shown (own r.second)) (λ ws x. (r.one, node, x)) in
-      record { shown = shown_after (moved_jump j ps m.stored row.first.stored) whole })
+      record { shown = shown_after (moved_to row.first.stored (jump_leads j (ribs ps) m.stored)) whole })
 
   pub paren_stands : {e : ExprSteps} {S : Of ExprId} → Correct e (Shows S)
       → Correct (paren_form at e) (Shows (λ final rs i. S final rs i & OneWay at i))
@@ -443,12 +436,60 @@ module _ (at : Pointer) where
   paren_stands {S = S} h =
       correct_as (correct_bind h (λ i. correct_bind (correct_point at i) (λ u. correct_pure i))) (λ final ps m m' i g row.
       let r = row.second in
-      let own : Shown (OneWay at row.one) row.middle.stored r.middle.stored =
-      shown_own at row.one (ap (λ s. s.exprs.map) r.first.stored) (ap (λ s. s.labels) r.first.stored)
-      (ap (λ s. s.field_map_back) r.first.stored)
-      (none_new row.middle.stored r.middle.stored (ap (λ s. s.exprs.entries) r.first.stored)) in
-      let x = shown_before (shown_both row.first.shown own) (moved_pure r.second.still) in
+      let led = shown_to r.first.stored (shown_point at row.one row.middle.stored) in
+      let x = shown_before (shown_both row.first.shown led) (moved_pure r.second.still) in
       record { shown = subst (λ k. Shown (S final (ribs ps) k & OneWay at k) m.stored m'.stored) (sym r.second.is) x })
+
+  pub let_stands : {p : Lowering PatId} {e : ExprSteps} {P : Of PatId} {S : Of ExprId} → Correct p (Shows P) → Correct e (Shows S)
+      → Correct (let_form at p e)
+      (Shows (λ final rs i. StandsOverTwo (store_of final) (map_of final) hir.Let at (λ q. P final rs q) (λ x. S final rs x) i))
+  unfolding let_form
+  let_stands hp he = over_two (λ q x. refl) hp he
+
+  pub match_stands : {e : ExprSteps} {arms : Lowering (List MatchArm)} {S : Of ExprId} {X : Of (List MatchArm)} → Correct e (Shows S)
+      → Correct arms (Shows X)
+      → Correct (match_form at e arms)
+      (Shows (λ final rs i. StandsOverTwo (store_of final) (map_of final) hir.Match at (λ x. S final rs x) (λ is. X final rs is) i))
+  unfolding match_form
+  match_stands he ha = over_two (λ x is. refl) he ha
+
+  pub assign_stands : {t : Lowering PatId} {e : ExprSteps} {T : Of PatId} {S : Of ExprId} → Correct t (Shows T) → Correct e (Shows S)
+      → Correct (assign_form at t e)
+      (Shows (λ final rs i. StandsOverTwo (store_of final) (map_of final) hir.Assignment at (λ q. T final rs q) (λ x. S final rs x) i))
+  unfolding assign_form
+  assign_stands ht he = over_two (λ q x. refl) ht he
+
+  operands_are : (low high : Option ExprId) → end_operand low ++ end_operand high ≡ option_to_list low ++ option_to_list high
+  operands_are None None = refl
+  operands_are None (Some j) = refl
+  operands_are (Some i) None = refl
+  operands_are (Some i) (Some j) = refl
+
+  ends_are : (last : Name) (low high : Option ExprId) → ranges.range_fields last low high ≡ range_fields last low high
+  ends_are last None None = refl
+  ends_are last None (Some j) = refl
+  ends_are last (Some i) None = refl
+  ends_are last (Some i) (Some j) = refl
+
+  pub range_stands : (form : RangeForm) {low high : Lowering (Option ExprId)} {S T : Of (Option ExprId)} → Correct low (Shows S)
+      → Correct high (Shows T)
+      → Correct (range_form at form low high)
+      (Shows (λ final rs i. StandsRange (store_of final) (map_of final) at form (λ o. S final rs o) (λ o. T final rs o) i))
+  unfolding range_form
+  range_stands (tree.record_range item last) hs ht =
+      over_two (λ low high. ap (λ fs. hir.RecordLit (LangItem item) fs spread.None) (ends_are last low high)) hs ht
+  range_stands (tree.call_range item) hs ht = correct_as
+      (correct_bind hs (λ low. correct_bind ht (λ high. correct_bind (correct_alloc (item_expr item) None)
+      (λ f. correct_alloc (hir.Call f (end_operand low ++ end_operand high)) (Some at)))))
+      (λ final ps m m' i g row.
+      let r = row.second in
+      let s = r.second in
+      let node = subst (λ is. Placed final i (hir.Call s.one is) (Some at)) (operands_are row.one r.one) (expr_at s.second) in
+      let item_at = subst (λ e. Placed final s.one e None) (item_is item) (expr_at s.first) in
+      let callee = shown_as (unled s.first) (λ ws x. (item_at, x)) in
+      let parts = shown_both row.first.shown (shown_both r.first.shown (shown_both callee (own s.second))) in
+      record { shown = shown_as parts (λ ws x. (row.one, r.one, s.one, node, x)) })
+  range_stands tree.itemless_range hs ht = over_two (λ low high. refl) hs ht
 
   -- what its statements and its tail became, as it is settled
   pub block_form_stands : (is_unsafe : Bool) (label : Option LabelId) (number : Option BlockId) {c : Lowering StoredContents}
@@ -461,9 +502,8 @@ module _ (at : Pointer) where
   block_form_stands is_unsafe label number h =
       correct_as (correct_bind (correct_enter_block number) (λ u. correct_bind h (λ r. correct_alloc _ (Some at))))
       (λ final ps m m' i g row.
-      let same = block_leads number m.stored in
       let r = row.second in
-      let moved = moved_same m.stored (with_block number m.stored) row.first.stored same.0 same.1 same.2 in
+      let moved = moved_to row.first.stored (block_leads number m.stored) in
       record { shown = shown_after moved (shown_as (shown_both r.first.shown (own r.second)) (λ ws x. (r.one, expr_at r.second, x))) })
 
 pub labelled_stands : (label : Option Label) {f : Option LabelId → ExprSteps} {S : Stored → Open → Option LabelId → ExprId → Ways}
@@ -477,3 +517,34 @@ labelled_stands (Some l) {S = S} h =
     let rs = ribs (block_at l row.number ∷ ps) in
     let body = subst (λ k. Shown (S final rs (Some row.number) k) row.entered.stored m'.stored) (sym row.second.is) part in
     record { shown = shown_as (shown_both (own_label row) body) (λ ws y. (row.number, label_at row, y)) })
+
+-- an arm of a match, and a statement that binds
+
+pub arm_stands : {p : Lowering PatId} {e : ExprSteps} {g : Lowering (Option ExprId)} {P : Of PatId} {S : Of ExprId} {G : Of (Option ExprId)}
+    → Correct p (Shows P) → Correct e (Shows S) → Correct g (Shows G)
+    → Correct (arm_form p e g) (Shows (λ final rs o ws. (q : PatId) × (x : ExprId) × (c : Option ExprId)
+    × (o ≡ Some (record { pat = q; guard = c; expr = x })) × (P final rs q & S final rs x & G final rs c) ws))
+unfolding arm_form
+arm_stands hp he hg = correct_as (correct_bind hp (λ q. correct_bind he (λ x. correct_bind hg (λ c. correct_pure _))))
+    (λ final ps m m' o g row.
+    let r = row.second in
+    let s = r.second in
+    let parts = shown_both row.first.shown (shown_both r.first.shown (shown_before s.first.shown (moved_pure s.second.still))) in
+    record { shown = shown_as parts (λ ws y. (row.one, r.one, s.one, s.second.is, y)) })
+
+pub let_stmt_stands : {p : Lowering PatId} {t : Lowering (Option TypeRefId)} {e b : Lowering (Option ExprId)} {P : Of PatId}
+    {T : Of (Option TypeRefId)} {S B : Of (Option ExprId)} → Correct p (Shows P) → Correct t (Shows T) → Correct e (Shows S)
+    → Correct b (Shows B)
+    → Correct (let_stmt_form p t e b) (Shows (λ final rs o ws. (q : PatId) × (y : Option TypeRefId) × (x : Option ExprId)
+    × (z : Option ExprId) × (o ≡ Some (statement.Let q y x z))
+    × (P final rs q & T final rs y & S final rs x & B final rs z) ws))
+unfolding let_stmt_form
+let_stmt_stands hp ht he hb =
+    correct_as (correct_bind hp (λ q. correct_bind ht (λ y. correct_bind he (λ x. correct_bind hb (λ z. correct_pure _)))))
+    (λ final ps m m' o g row.
+    let r = row.second in
+    let s = r.second in
+    let u = s.second in
+    let last = shown_before u.first.shown (moved_pure u.second.still) in
+    let parts = shown_both row.first.shown (shown_both r.first.shown (shown_both s.first.shown last)) in
+    record { shown = shown_as parts (λ ws y. (row.one, r.one, s.one, u.one, u.second.is, y)) })

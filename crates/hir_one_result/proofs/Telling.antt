@@ -1,6 +1,6 @@
 -- Steps that add to one of the lists of what is stored: which they are, and what the forms add that are made of them.
-use Rattle.std.proofs.Common.{◌≡◌, ◌∙◌, refl, sym, ap, subst, List, [], ◌∷◌, ◌++◌, append_assoc, append-nil, Option, Some, None}
-use Rattle.std.proofs.Common.{option_map, Bool, true, false, ◌⊎◌, inl, inr}
+use Rattle.std.proofs.Common.{◌≡◌, ◌∙◌, refl, sym, ap, subst, List, [], ◌∷◌, ◌++◌, append_assoc, append-nil, Option, Some, None, option_map}
+use Rattle.std.proofs.Common.{Bool, true, false, ◌⊎◌, inl, inr}
 use Rattle.hir_store.specs.Pointers.{Pointer}
 use Rattle.hir_store.specs.Stored.{Stored, store_of, map_of}
 use Rattle.hir_store.specs.declared.hir.Expr.{Expr as HirExpr}
@@ -35,14 +35,15 @@ use Rattle.hir_read_back.proofs.Now.{path_now}
 use Rattle.hir_lower_form.specs.Types.{TypeSteps}
 use Rattle.hir_one_result.specs.Blocks.{where_some}
 use Rattle.hir_steps.proofs.Steps.{correct_both, correct_point_field, with_field, Mark, Correct, correct_bind, correct_as, correct_pure}
-use Rattle.hir_steps.proofs.Steps.{correct_report, correct_report_await, correct_point, correct_enter_block, correct_alloc}
-use Rattle.hir_steps.proofs.Steps.{correct_opened, correct_target, with_fault, with_block, with_expr, with_await, with_label, pointing}
-use Rattle.hir_steps.proofs.Steps.{with_target, with_jump}
+use Rattle.hir_steps.proofs.Steps.{correct_report, correct_report_await, correct_point, correct_enter_block, correct_alloc, correct_opened}
+use Rattle.hir_steps.proofs.Steps.{correct_target, with_fault, with_block, with_expr, with_await, with_label, pointing, with_target}
+use Rattle.hir_steps.proofs.Steps.{with_jump}
 use Rattle.hir_steps.proofs.Aside.{Aside}
 use Rattle.hir_steps.proofs.Frames.{Frame, loop_at, block_at, ribs}
 use Rattle.hir_one_result.specs.Diagnostics.{forget, Around, target_faults, jump_faults, await_faults}
 use Rattle.hir_one_result.proofs.Around.{IsRib, in_loop, loop_is_rib, block_is_rib}
-use Rattle.hir_steps.proofs.Constants.{correct_constant, with_root}
+use Rattle.hir_lower_form.specs.Ranges.{inner_form}
+use Rattle.hir_steps.proofs.Constants.{correct_constant, correct_inner, with_root}
 
 -- A list of what is stored, which faults and entered blocks add to, and in which way a list may be another.
 pub record Listing (X : Type 0) : Type 1 where
@@ -210,6 +211,28 @@ module _ {X : Type 0} (L : Listing X) where
         last_none (added_then (added_then entered (row.first.told (c ∷ ss) inner)) (row.second.told ss e));
   })
 
+  -- where the path became this
+  kept_where : {A B : Type 0} (f : A → B) (o : Option A) (d : Option B) → option_map f o ≡ d → (xs : List X)
+      → where_some o xs ≡ where_some d xs
+  kept_where {A = A} f o d e xs = by o ∙ ap (λ k. where_some k xs) e
+    where
+      by : (k : Option A) → where_some k xs ≡ where_some (option_map f k) xs
+      by None = refl
+      by (Some a) = refl
+
+  -- what is added where the path is read, behind what the path adds
+  pub where_tells : (p : OptionPath) {A : Type 0} {W D : List Scope → List X} {f : Option Path → Lowering A}
+      → Correct (lower_path p) (Tells W) → ((o : Option Path) → Correct (f o) (Tells (λ ss. where_some o (D ss))))
+      → Correct (lower_path p >>= f) (Tells (λ ss. W ss ++ where_some (written_path p) (D ss)))
+  where_tells p {W = W} {D = D} hp h = correct_as
+      (correct_bind (correct_both hp (path_now p)) h)
+      (λ final ps m m' i g row. record {
+        told = λ ss e.
+            let added = added_then (row.first.one.told ss e) (row.second.told ss e) in
+            let is = kept_where (stored_path (store_of final) (map_of final)) row.one (written_path p) row.first.other.is (D ss) in
+            subst (λ xs. Added (W ss ++ xs) m.stored m'.stored) is added;
+      })
+
   -- forms
 
   pub missing_tells : Correct missing (Tells nothing)
@@ -301,27 +324,11 @@ module _ {X : Type 0} (L : Listing X) where
     record_of_tells h None = missing_tells
     record_of_tells h (Some p) = tells_end h (λ r. tells_alloc _ _)
 
-    -- where the path became this
-    kept_where : {A B : Type 0} (f : A → B) (o : Option A) (d : Option B) → option_map f o ≡ d → (xs : List X)
-        → where_some o xs ≡ where_some d xs
-    kept_where {A = A} f o d e xs = by o ∙ ap (λ k. where_some k xs) e
-      where
-        by : (k : Option A) → where_some k xs ≡ where_some (option_map f k) xs
-        by None = refl
-        by (Some a) = refl
-
     pub record_tells : (p : OptionPath) {W D : List Scope → List X} {c : Lowering StoredFields} → Correct (lower_path p) (Tells W)
         → Correct c (Tells D)
         → Correct (record_form at (lower_path p) c) (Tells (λ ss. W ss ++ where_some (written_path p) (D ss)))
     unfolding record_form
-    record_tells p {W = W} {D = D} hp h = correct_as
-        (correct_bind (correct_both hp (path_now p)) (λ o. record_of_tells h o))
-        (λ final ps m m' i g row. record {
-          told = λ ss e.
-              let added = added_then (row.first.one.told ss e) (row.second.told ss e) in
-              let is = kept_where (stored_path (store_of final) (map_of final)) row.one (written_path p) row.first.other.is (D ss) in
-              subst (λ xs. Added (W ss ++ xs) m.stored m'.stored) is added;
-        })
+    record_tells p hp h = where_tells p hp (λ o. record_of_tells h o)
 
     pub field_tells : (name : Name) {D : List Scope → List X} {e : ExprSteps} → Correct e (Tells D)
         → Correct (field_form at name e) (Tells D)
@@ -358,8 +365,15 @@ module _ {X : Type 0} (L : Listing X) where
   root_none i (inl e) = added_none (ap L.list e)
   root_none i {a = a} (inr e) = added_none (ap L.list e ∙ L.unchanged a (with_root i a) refl refl)
 
+  -- what is behind a barrier, as a body of its own
   pub constant_tells : {D : List Scope → List X} {p : ExprSteps} → Correct p (Tells D)
       → Correct (constant_form p) (Tells (λ ss. D (barrier ∷ ss)))
   constant_tells h = correct_as (correct_constant h) (λ final ps m m' c g row. record {
     told = λ ss e. last_none (added_then (row.first.told (barrier ∷ ss) (ap (λ y. barrier_rib ∷ y) e)) (root_none c.expr row.stored));
+  })
+
+  pub inner_tells : {D : List Scope → List X} {p : ExprSteps} → Correct p (Tells D)
+      → Correct (inner_form p) (Tells (λ ss. D (barrier ∷ ss)))
+  inner_tells h = correct_as (correct_inner h) (λ final ps m m' i g row. record {
+    told = λ ss e. last_none (added_then (row.first.told (barrier ∷ ss) (ap (λ y. barrier_rib ∷ y) e)) (root_none i row.stored));
   })

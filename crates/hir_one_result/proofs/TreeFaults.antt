@@ -1,46 +1,54 @@
 -- Lowering a tree reports the faults of what it reads.
-use Rattle.std.proofs.Common.{◌≡◌, refl, subst, sym, List, [], ◌++◌, append_assoc, append-nil, Option, Some, None, IsPermutation, Bool}
-use Rattle.std.proofs.Common.{true, false}
+use Rattle.std.proofs.Common.{◌≡◌, refl, subst, sym, List, [], ◌∷◌, ◌++◌, append_assoc, append-nil, Option, Some, None, IsPermutation, Bool}
+use Rattle.std.proofs.Common.{true, false, true≢false}
 use Rattle.std.proofs.lemmas.List.Sorted.{IsPermutation-refl, IsPermutation-trans, IsPermutation-append, IsPermutation-append_comm}
 use Rattle.hir_store.specs.Stored.{Stored}
 use Rattle.hir_store.specs.declared.ids.BlockId.{BlockId}
 use Rattle.hir_store.specs.declared.hir.Statement.{Statement}
-use Rattle.hir_store.specs.declared.hir.Statement.TheVariants as statement
 use Rattle.hir_store.specs.declared.ids.ExprId.{ExprId}
 use Rattle.hir_store.specs.declared.diagnostics.ExpressionStoreDiagnostics.{ExpressionStoreDiagnostics}
-use Rattle.hir_store.proofs.Range.{extends_refl}
+use Rattle.hir_store.proofs.Extending.{extends_refl}
 use Rattle.hir_scope.specs.Scopes.{Scope}
 use Rattle.hir_env.specs.Answered as tree
 use Rattle.hir_store.specs.declared.hir.RecordLitField.{RecordLitField}
-use Rattle.hir_lower_form.specs.Lower.{lower_fields, lower_field, lower_spread, ExprSteps, push_some, kept, lower, lower_part, present}
-use Rattle.hir_lower_form.specs.Lower.{kept_part, lower_each, lower_block, lower_block_part, lower_stmts, lower_constant, lower_type}
-use Rattle.hir_lower_form.specs.Lower.{type_part, present_type, type_or_unit, lower_parts, read_segment, read_each, read_path}
-use Rattle.hir_lower_form.specs.Lower.{read_option, lower_path, lower_segment_args, parens_part, output_part, args_part, lower_args}
-use Rattle.hir_lower_form.specs.Lower.{lower_arg, lower_bounds, lower_bound}
+use Rattle.hir_lower_form.specs.Lower.{lower_fields, lower_field, lower_spread, ExprSteps, kept, lower, lower_part, present, kept_part}
+use Rattle.hir_lower_form.specs.Lower.{lower_each, lower_block, lower_block_part, lower_stmts, lower_constant, lower_type, type_part}
+use Rattle.hir_lower_form.specs.Lower.{present_type, type_or_unit, lower_parts, read_segment, read_each, read_path, read_option, lower_path}
+use Rattle.hir_lower_form.specs.Lower.{lower_segment_args, parens_part, output_part, args_part, lower_args, lower_arg, lower_bounds}
+use Rattle.hir_lower_form.specs.Lower.{lower_bound, lower_arms, lower_arm, lower_guard, present_block, lower_stmt, lower_top, lower_pat}
+use Rattle.hir_lower_form.specs.Lower.{pat_part, present_pat, lower_pats, lower_elements, lower_later, lower_pat_fields, lower_pat_field}
+use Rattle.hir_lower_form.specs.Lower.{lower_side, lower_type_pat_part, lower_type_pat, lower_type_pats, lower_limit, limit_side}
+use Rattle.hir_lower_form.specs.Lower.{lower_target, lower_targets, lower_target_fields, lower_target_field, some}
 use Rattle.hir_env.specs.Answered.{Fields, Field, Spread, Expr, OptionExpr, Exprs, Block, OptionBlock, Stmts, Type_, OptionType, Parts}
-use Rattle.hir_env.specs.Answered.{Path, OptionPath, Segments, Segment, SegmentArgs, OptionParens, OptionRet, OptionArgs, Args, Arg}
-use Rattle.hir_env.specs.Answered.{Bounds, Bound, Constant, Binder}
+use Rattle.hir_env.specs.Answered.{Path, OptionPath, Segments, Segment, SegmentArgs, OptionParens, OptionRet, OptionArgs, Args, Arg, Bounds}
+use Rattle.hir_env.specs.Answered.{Bound, Constant, Binder, Arms, Arm, Guard, Pat, OptionPat, Pats, PatFields, PatField, Side, TypePat}
+use Rattle.hir_env.specs.Answered.{OptionTypePat, TypePats, Limit, Target, Targets, TargetFields, TargetField, SelfFormal, Formal, Formals}
+use Rattle.hir_env.specs.Answered.{Stmt}
 use Rattle.hir_lower_form.specs.Lowering.{Lowering}
 use Rattle.hir_steps.proofs.Aside.{error_aside, unit_aside, lifetime_aside, uses_aside}
 use Rattle.hir_steps.proofs.Frames.{ribs_frames}
 use Rattle.hir_steps.proofs.Steps.{Correct, with_block}
-use Rattle.hir_one_result.specs.Diagnostics.{fields_diagnostics, field_diagnostics, spread_diagnostics, Faults, Around, diagnostics}
-use Rattle.hir_one_result.specs.Diagnostics.{part_diagnostics, each_diagnostics, block_diagnostics, block_part_diagnostics}
+use Rattle.hir_one_result.specs.Diagnostics.{fields_diagnostics, field_diagnostics, spread_diagnostics, spread_faults, Faults, Around}
+use Rattle.hir_one_result.specs.Diagnostics.{diagnostics, part_diagnostics, each_diagnostics, block_diagnostics, block_part_diagnostics}
 use Rattle.hir_one_result.specs.Diagnostics.{contents_diagnostics, type_faults, type_part_faults, present_type_faults, parts_faults}
 use Rattle.hir_one_result.specs.Diagnostics.{segment_faults, segments_faults, path_faults, outer_faults, whole_faults, beside_faults}
 use Rattle.hir_one_result.specs.Diagnostics.{parens_faults, output_faults, args_faults, each_arg_faults, arg_faults, bounds_faults}
-use Rattle.hir_one_result.specs.Diagnostics.{bound_faults, constant_faults}
+use Rattle.hir_one_result.specs.Diagnostics.{bound_faults, constant_faults, arms_diagnostics, arm_diagnostics, guard_diagnostics}
+use Rattle.hir_one_result.specs.Diagnostics.{stmt_diagnostics, pat_faults, top_faults, pats_faults, pat_fields_faults, pat_field_faults}
+use Rattle.hir_one_result.specs.Diagnostics.{target_faults_in, targets_faults, target_fields_faults, target_field_faults, type_pat_faults}
+use Rattle.hir_one_result.specs.Diagnostics.{type_pat_part_faults, type_pats_faults, limit_faults, side_faults, self_faults, formal_faults}
+use Rattle.hir_one_result.specs.Diagnostics.{each_formal_faults, body_faults}
 use Rattle.hir_one_result.specs.Laws.{DiagnosticsAre}
 use Rattle.hir_one_result.proofs.AfterLowering.{after_lowering}
 use Rattle.hir_one_result.proofs.Telling.{Listing, Tells, tells_bind, tells_as, tells_end, tells_pure, tells_some, tells_report}
 use Rattle.hir_one_result.proofs.Telling.{missing_tells, if_tells, loop_tells, call_tells, continue_tells, break_tells, paren_tells}
 use Rattle.hir_one_result.proofs.Telling.{operand_tells, operands_tells, value_tells, list_tells, method_call_tells, await_tells}
 use Rattle.hir_one_result.proofs.Telling.{cast_tells, record_tells, offset_of_tells, field_tells, contents_tells, path_tells}
-use Rattle.hir_one_result.proofs.Telling.{block_form_tells, labelled_tells, tells_alloc, tells_aside, constant_tells}
+use Rattle.hir_one_result.proofs.Telling.{block_form_tells, labelled_tells, tells_alloc, tells_aside, constant_tells, inner_tells}
 use Rattle.hir_lower_form.specs.Walks.{start, super_read}
 use Rattle.hir_one_result.proofs.PathTelling.{tells_type, over_tells, array_tells, tuple_tells, path_type_tells, ref_tells, fn_tells}
-use Rattle.hir_one_result.proofs.PathTelling.{impl_tells, dyn_tells, path_bound_tells, reads_then, whole_tells, first_tells}
-use Rattle.hir_one_result.proofs.PathTelling.{counted_tells, with_trait_tells, parens_tells, beside_tells, binding_tells}
+use Rattle.hir_one_result.proofs.PathTelling.{impl_tells, dyn_tells, path_bound_tells, reads_then, whole_tells, first_tells, counted_tells}
+use Rattle.hir_one_result.proofs.PathTelling.{with_trait_tells, parens_tells, beside_tells, binding_tells}
 use Rattle.hir_one_result.proofs.TreeRooms.{each_tells, own_tells, args_tell}
 use Rattle.hir_one_result.proofs.PathRooms.{seen}
 use Rattle.hir_one_result.specs.PathRoom.{at_first}
@@ -49,6 +57,23 @@ use Rattle.hir_store.specs.declared.type_ref.TypeBound.{TypeBound}
 use Rattle.hir_lower_form.specs.declared.args.ArgLists.{ArgLists}
 use Rattle.hir_lower_form.specs.declared.walk.PathWalk.{PathWalk}
 use Rattle.hir_lower_form.specs.Types.{no_lists}
+use Rattle.hir_store.specs.declared.hir.MatchArm.{MatchArm}
+use Rattle.hir_store.specs.declared.pat.RecordFieldPat.{RecordFieldPat}
+use Rattle.hir_store.specs.declared.ids.PatId.{PatId}
+use Rattle.hir_lower_form.specs.Pats as forms
+use Rattle.hir_lower_form.specs.Pats.{Elements, Table, no_elements, no_names, next_alternative}
+use Rattle.hir_one_result.specs.Formals.{lower_self, lower_formal, each_formal, lower_formals, lower_body}
+use Rattle.hir_one_result.proofs.PatTelling.{tells_pat, tells_binding, missing_pat_tells, alone_tells, settle_tells, element_tells}
+use Rattle.hir_one_result.proofs.PatTelling.{path_pat_tells, bind_tells, over_pat_tells, tuple_pat_tells, tuple_struct_tells}
+use Rattle.hir_one_result.proofs.PatTelling.{record_pat_tells, pat_field_tells, slice_pat_tells, or_tells, literal_pat_tells}
+use Rattle.hir_one_result.proofs.PatTelling.{literal_side_tells, name_side_tells, path_side_tells, range_pat_tells, range_tells}
+use Rattle.hir_one_result.proofs.PatTelling.{literal_limit_tells, name_limit_tells, path_limit_tells, limits_tell, type_alternatives_tell}
+use Rattle.hir_one_result.proofs.PatTelling.{pattern_type_tells, place_target_tells, path_target_tells, tuple_target_tells}
+use Rattle.hir_one_result.proofs.PatTelling.{call_target_tells, array_target_tells, record_target_tells, target_field_tells, let_tells}
+use Rattle.hir_one_result.proofs.PatTelling.{match_tells, assign_tells, arm_tells, let_stmt_tells, item_tells, before_tells, spread_fault}
+use Rattle.hir_store.specs.Pointers.{Pointer}
+use Rattle.hir_data.specs.Written.{written_path}
+use Rattle.hir_one_result.specs.Blocks.{where_some}
 
 pub no_fault_in_block : (n : Option BlockId) (s : Stored) → (with_block n s).diagnostics ≡ s.diagnostics ++ []
 no_fault_in_block None s = sym (append-nil s.diagnostics)
@@ -83,6 +108,16 @@ kept_faults : (e : Expr) {p : ExprSteps} → Reports (λ ss. diagnostics ss e) p
 kept_faults (tree.disabled_expr at by e) h = tells_end reported (tells_report reported _) (λ u. tells_pure reported None)
 kept_faults e h = tells_some reported h
 
+-- two dots of a tuple are no part
+dots_fault_none : (p : Pat) → forms.is_dots p ≡ true → (ss : List Scope) → pat_faults ss p ≡ []
+dots_fault_none (tree.leaf_pat at form) e ss = refl
+dots_fault_none p e ss = absurd (true≢false (sym e))
+
+spread_like : {A : Type 0} (o : Option A) (w : Faults) (spread : Option Pointer) (fs : Faults)
+    → IsPermutation (w ++ where_some o (spread_faults spread ++ fs)) (w ++ where_some o (spread_fault reported spread ++ fs))
+spread_like o w None fs = IsPermutation-refl _
+spread_like o w (Some at) fs = IsPermutation-refl _
+
 mutual
   one_type_reports : (b : Option Binder) (t : Type_) → Reports (λ ss. type_faults ss t) (lower_type b t)
   one_type_reports b (tree.paren_type t) = type_reports b t
@@ -97,6 +132,7 @@ mutual
   one_type_reports b (tree.impl_type at mode bs) = impl_tells reported at mode (bounds_reports [] bs)
   one_type_reports b (tree.nested_impl at) = tells_type reported _ _
   one_type_reports b (tree.dyn_type at bs) = dyn_tells reported at (bounds_reports [] bs)
+  one_type_reports b (tree.pattern_type at t own p) = pattern_type_tells reported at (type_reports None t) (type_pat_part_reports p)
 
   pub type_reports : (b : Option Binder) (t : OptionType) → Reports (λ ss. type_part_faults ss t) (type_part b t)
   type_reports b tree.no_type = tells_aside reported error_aside
@@ -197,13 +233,39 @@ mutual
   constant_reports : (c : Constant) → Reports (λ ss. constant_faults ss c) (lower_constant c)
   constant_reports (tree.constant e) = constant_tells reported (part_faults e)
 
+  type_pat_reports : (p : TypePat) → Reports (λ ss. type_pat_faults ss p) (lower_type_pat p)
+  type_pat_reports (tree.not_null_type_pat at) = tells_pat reported _ _
+  type_pat_reports (tree.or_type_pat at ps) = type_alternatives_tell reported at (type_pats_reports [] ps)
+  type_pat_reports (tree.range_type_pat at low high) = limits_tell reported at (limit_reports low) (limit_reports high)
+  type_pat_reports (tree.other_type_pat at) = tells_pat reported _ _
+
+  type_pat_part_reports : (p : OptionTypePat) → Reports (λ ss. type_pat_part_faults ss p) (lower_type_pat_part p)
+  type_pat_part_reports tree.no_type_pat = missing_pat_tells reported
+  type_pat_part_reports (tree.some_type_pat p) = type_pat_reports p
+
+  type_pats_reports : (done : List PatId) (ps : TypePats) → Reports (λ ss. type_pats_faults ss ps) (lower_type_pats done ps)
+  type_pats_reports done tree.no_type_pats = tells_pure reported done
+  type_pats_reports done (tree.more_type_pats p ps) = tells_bind reported (type_pat_reports p) (λ i. type_pats_reports _ ps)
+
+  limit_reports : (l : Limit) → Reports (λ ss. limit_faults ss l) (lower_limit l)
+  limit_reports (tree.item_limit item) = inner_tells reported (item_tells reported item)
+  limit_reports (tree.side_limit s) = inner_tells reported (limit_side_reports s)
+  limit_reports (tree.before_limit item s) = inner_tells reported (before_tells reported item (limit_side_reports s))
+
+  limit_side_reports : (s : Side) → Reports (λ ss. side_faults ss s) (limit_side s)
+  limit_side_reports tree.no_side = missing_tells reported
+  limit_side_reports (tree.literal_side at l) = literal_limit_tells reported at l
+  limit_side_reports (tree.name_side at n) = name_limit_tells reported at n
+  limit_side_reports (tree.path_side at p) = path_limit_tells reported at (whole_reports p)
+  limit_side_reports tree.other_side = missing_tells reported
+
   node_faults : (e : Expr) → Reports (λ ss. diagnostics ss e) (lower e)
   node_faults (tree.disabled_expr at by e) = tells_end reported (tells_report reported _) (λ u. missing_tells reported)
   node_faults (tree.if_expr at c t e) = tells_as reported (if_tells reported at (part_faults c) (block_part_faults t) (present_faults e))
       (λ ss. turned (part_diagnostics ss c) (block_part_diagnostics ss t) (part_diagnostics ss e))
   node_faults (tree.block_expr b) = block_faults b
   node_faults (tree.loop_expr at label b) = loop_tells reported at label (block_part_faults b)
-  node_faults (tree.call_expr at f es) = call_tells reported at (part_faults f) (each_faults [] es)
+  node_faults (tree.call_expr at f has_list es) = call_tells reported at (part_faults f) (each_faults [] es)
   node_faults (tree.path_expr at p h) = path_tells reported at h (whole_reports p)
   node_faults (tree.continue_expr at jump) = continue_tells reported at jump
   node_faults (tree.break_expr at jump e) = break_tells reported at jump (present_faults e)
@@ -217,14 +279,18 @@ mutual
   node_faults (tree.method_call_expr at e name es generics) =
       method_call_tells reported at name (part_faults e) (each_faults [] es) (args_reports generics)
   node_faults (tree.cast_expr at e t) = cast_tells reported at (part_faults e) (type_reports None t)
-  node_faults (tree.record_expr at p fs s) =
-      record_tells reported at p (whole_reports p) (contents_tells reported (fields_faults [] fs) (spread_faults s))
+  node_faults (tree.record_expr at p head fs s) =
+      record_tells reported at p (whole_reports p) (contents_tells reported (fields_faults [] fs) (spread_reports s))
   node_faults (tree.offset_of_expr at t names) = offset_of_tells reported at names (type_reports None t)
   node_faults (tree.leaving_expr at form e) = value_tells reported at _ (present_faults e)
   node_faults (tree.become_expr at e) = operand_tells reported at _ (part_faults e)
   node_faults (tree.yield_expr at e) = value_tells reported at _ (present_faults e)
   node_faults (tree.await_expr at location e) = await_tells reported at location (part_faults e)
   node_faults (tree.nameless_expr at e) = operand_tells reported at _ (part_faults e)
+  node_faults (tree.let_expr at p e) = let_tells reported at (top_reports p) (part_faults e)
+  node_faults (tree.match_expr at e arms) = match_tells reported at (part_faults e) (arms_reports [] arms)
+  node_faults (tree.range_expr at form low high) = range_tells reported at form (present_faults low) (present_faults high)
+  node_faults (tree.assign_expr at own t e) = assign_tells reported at (target_reports t) (part_faults e)
 
   part_faults : (e : OptionExpr) → Reports (λ ss. part_diagnostics ss e) (lower_part e)
   part_faults tree.no_expr = missing_tells reported
@@ -248,13 +314,25 @@ mutual
 
   one_field_faults : (f : Field) → Reports (λ ss. field_diagnostics ss f) (lower_field f)
   one_field_faults (tree.disabled_field at by f) = tells_end reported (tells_report reported _) (λ u. tells_pure reported None)
-  one_field_faults tree.nameless_field = tells_pure reported None
+  one_field_faults (tree.nameless_field at e) = tells_pure reported None
   one_field_faults (tree.named_field at name e) = field_tells reported at name (part_faults e)
 
-  spread_faults : (s : Spread) → Reports (λ ss. spread_diagnostics ss s) (lower_spread s)
-  spread_faults tree.no_spread = tells_pure reported _
-  spread_faults tree.field_defaults = tells_pure reported _
-  spread_faults (tree.spread_of e) = tells_end reported (node_faults e) (λ i. tells_pure reported _)
+  arms_reports : (done : List MatchArm) (arms : Arms) → Reports (λ ss. arms_diagnostics ss arms) (lower_arms done arms)
+  arms_reports done tree.no_arms = tells_pure reported done
+  arms_reports done (tree.more_arms a arms) = tells_bind reported (one_arm_reports a) (λ x. arms_reports _ arms)
+
+  one_arm_reports : (a : Arm) → Reports (λ ss. arm_diagnostics ss a) (lower_arm a)
+  one_arm_reports (tree.disabled_arm at by a) = tells_end reported (tells_report reported _) (λ u. tells_pure reported None)
+  one_arm_reports (tree.arm p e g) = arm_tells reported (top_reports p) (part_faults e) (guard_reports g)
+
+  guard_reports : (g : Guard) → Reports (λ ss. guard_diagnostics ss g) (lower_guard g)
+  guard_reports tree.no_guard = tells_pure reported None
+  guard_reports (tree.guard e) = tells_some reported (part_faults e)
+
+  spread_reports : (s : Spread) → Reports (λ ss. spread_diagnostics ss s) (lower_spread s)
+  spread_reports tree.no_spread = tells_pure reported _
+  spread_reports tree.field_defaults = tells_pure reported _
+  spread_reports (tree.spread_of e) = tells_end reported (node_faults e) (λ i. tells_pure reported _)
 
   block_faults : (b : Block) → Reports (λ ss. block_diagnostics ss b) (lower_block b)
   block_faults (tree.block at is_unsafe label number ss e) =
@@ -264,16 +342,147 @@ mutual
   block_part_faults tree.no_block = missing_tells reported
   block_part_faults (tree.some_block b) = block_faults b
 
+  present_block_reports : (b : OptionBlock) → Reports (λ ss. block_part_diagnostics ss b) (present_block b)
+  present_block_reports tree.no_block = tells_pure reported None
+  present_block_reports (tree.some_block b) = tells_some reported (block_faults b)
+
   contents_faults : (done : List Statement) (stmts : Stmts) {tail : Lowering (Option ExprId)} {D : List Scope → Faults} → Reports D tail
       → Reports (λ ss. contents_diagnostics ss stmts D) (lower_stmts done stmts tail)
   contents_faults done tree.no_stmts h = tells_end reported h (λ t. tells_pure reported _)
-  contents_faults done (tree.more_stmts (tree.expr_stmt e semi) stmts) h =
-      tells_bind reported (tells_end reported (kept_part_faults e) (λ x. tells_pure reported _)) (λ x. contents_faults _ stmts h)
-  contents_faults done (tree.more_stmts tree.item_stmt stmts) h =
-      tells_bind reported (tells_pure reported (Some statement.Item)) (λ x. contents_faults (push_some done x) stmts h)
+  contents_faults done (tree.more_stmts s stmts) h = tells_bind reported (stmt_reports s) (λ x. contents_faults _ stmts h)
+
+  stmt_reports : (s : Stmt) → Reports (λ ss. stmt_diagnostics ss s) (lower_stmt s)
+  stmt_reports (tree.expr_stmt e semi) = tells_end reported (kept_part_faults e) (λ x. tells_pure reported _)
+  stmt_reports (tree.disabled_stmt at by s) = tells_end reported (tells_report reported _) (λ u. tells_pure reported None)
+  stmt_reports tree.item_stmt = tells_pure reported _
+  stmt_reports (tree.let_stmt p t e b) =
+      let_stmt_tells reported (top_reports p) (present_type_reports t) (present_faults e) (present_block_reports b)
+
+  pat_reports : (p : Pat) (t : Table) → Reports (λ ss. pat_faults ss p) (lower_pat p t)
+  pat_reports (tree.leaf_pat at form) = alone_tells reported (tells_pat reported _ _)
+  pat_reports (tree.bind_pat at u sub) = bind_tells reported at u (subpat_reports sub)
+  pat_reports (tree.name_pat at u) = alone_tells reported (tells_pat reported _ _)
+  pat_reports (tree.path_pat at p) = alone_tells reported (path_pat_tells reported at (whole_reports p))
+  pat_reports (tree.tuple_struct_pat at p comma ps) =
+      tuple_struct_tells reported at comma p (whole_reports p) (elements_reports no_elements ps)
+  pat_reports (tree.tuple_pat at comma ps) = tuple_pat_tells reported at comma (elements_reports no_elements ps)
+  pat_reports (tree.record_pat at p fs dots) = record_pat_tells reported at dots p (whole_reports p) (pat_fields_reports [] fs)
+  pat_reports (tree.or_pat at tree.no_pats) = alone_tells reported (tells_pat reported _ _)
+  pat_reports (tree.or_pat at (tree.more_pats p ps)) = or_tells reported at (pat_reports p) (λ done. later_reports ps done)
+  pat_reports (tree.paren_pat at p) = pat_part_reports p
+  pat_reports (tree.slice_pat at before middle behind) =
+      slice_pat_tells reported at (pats_reports [] before) (subpat_reports middle) (pats_reports [] behind)
+  pat_reports (tree.over_pat at form p) = over_pat_tells reported at form (pat_part_reports p)
+  pat_reports (tree.literal_pat at own l) = alone_tells reported (literal_pat_tells reported at own l)
+  pat_reports (tree.range_pat at op low high) = alone_tells reported (range_pat_tells reported at op (side_reports low) (side_reports high))
+
+  pat_part_reports : (p : OptionPat) (t : Table) → Reports (λ ss. top_faults ss p) (pat_part p t)
+  pat_part_reports tree.no_pat = alone_tells reported (missing_pat_tells reported)
+  pat_part_reports (tree.some_pat p) = pat_reports p
+
+  subpat_reports : (p : OptionPat) (t : Table) → Reports (λ ss. top_faults ss p) (present_pat p t)
+  subpat_reports tree.no_pat t = tells_pure reported (None, t)
+  subpat_reports (tree.some_pat p) t = tells_end reported (pat_reports p t) (λ r. tells_pure reported _)
+
+  pats_reports : (done : List PatId) (ps : Pats) (t : Table) → Reports (λ ss. pats_faults ss ps) (lower_pats done ps t)
+  pats_reports done tree.no_pats t = tells_pure reported (done, t)
+  pats_reports done (tree.more_pats p ps) t = tells_bind reported (pat_reports p t) (λ r. pats_reports _ ps r.1)
+
+  later_reports : (ps : Pats) (done : List PatId) (t : Table) → Reports (λ ss. pats_faults ss ps) (lower_later ps done t)
+  later_reports tree.no_pats done t = tells_pure reported (done, t)
+  later_reports (tree.more_pats p ps) done t = tells_bind reported (pat_reports p (next_alternative t)) (λ r. later_reports ps _ r.1)
+
+  elements_reports : (done : Elements) (ps : Pats) (t : Table) → Reports (λ ss. pats_faults ss ps) (lower_elements done ps t)
+  elements_reports done tree.no_pats t = tells_pure reported (done, t)
+  elements_reports done (tree.more_pats p ps) t =
+      tells_bind reported (element_tells reported (forms.is_dots p) done (λ e ss. dots_fault_none p e ss) (pat_reports p) t)
+      (λ r. elements_reports r.0 ps r.1)
+
+  pat_fields_reports : (done : List RecordFieldPat) (fs : PatFields) (t : Table)
+      → Reports (λ ss. pat_fields_faults ss fs) (lower_pat_fields done fs t)
+  pat_fields_reports done tree.no_pat_fields t = tells_pure reported (done, t)
+  pat_fields_reports done (tree.more_pat_fields f fs) t = tells_bind reported (one_pat_field_reports f t) (λ r. pat_fields_reports _ fs r.1)
+
+  one_pat_field_reports : (f : PatField) (t : Table) → Reports (λ ss. pat_field_faults ss f) (lower_pat_field f t)
+  one_pat_field_reports (tree.disabled_pat_field at by f) t =
+      tells_end reported (tells_report reported _) (λ u. tells_pure reported (None, t))
+  one_pat_field_reports tree.partless_pat_field t = tells_pure reported (None, t)
+  one_pat_field_reports (tree.pat_field at n p) t = pat_field_tells reported at n (pat_reports p) t
+
+  side_reports : (s : Side) → Reports (λ ss. side_faults ss s) (lower_side s)
+  side_reports tree.no_side = tells_pure reported None
+  side_reports (tree.literal_side at l) = literal_side_tells reported at l
+  side_reports (tree.name_side at n) = name_side_tells reported at n
+  side_reports (tree.path_side at p) = path_side_tells reported at (whole_reports p)
+  side_reports tree.other_side = tells_pure reported None
+
+  pub top_reports : (p : OptionPat) → Reports (λ ss. top_faults ss p) (lower_top p)
+  top_reports tree.no_pat = missing_pat_tells reported
+  top_reports (tree.some_pat p) =
+      tells_end reported (pat_reports p no_names) (λ r. tells_end reported (settle_tells reported r.1) (λ u. tells_pure reported r.0))
+
+  target_reports : (t : Target) → Reports (λ ss. target_faults_in ss t) (lower_target t)
+  target_reports tree.absent_target = missing_pat_tells reported
+  target_reports (tree.place_target at e) = place_target_tells reported at (node_faults e)
+  target_reports (tree.wild_target at) = tells_pat reported _ _
+  target_reports (tree.path_target at p h) =
+      path_target_tells reported at h (tells_end reported (reading_reports p start) (λ r. tells_pure reported _))
+  target_reports (tree.tuple_target at ts) = tuple_target_tells reported at (targets_reports no_elements ts)
+  target_reports (tree.call_target at p ts) = call_target_tells reported at p (whole_reports p) (targets_reports no_elements ts)
+  target_reports (tree.array_target at before dots behind) =
+      array_target_tells reported at dots (targets_reports no_elements before) (targets_reports no_elements behind)
+  target_reports (tree.record_target at p fs dots spread) =
+      tells_as reported (record_target_tells reported at dots spread p (whole_reports p) (target_fields_reports [] fs))
+      (λ ss. spread_like (written_path p) (whole_faults ss p) spread (target_fields_faults ss fs))
+
+  targets_reports : (done : Elements) (ts : Targets) → Reports (λ ss. targets_faults ss ts) (lower_targets done ts)
+  targets_reports done tree.no_targets = tells_pure reported done
+  targets_reports done (tree.more_targets t ts) = tells_bind reported (target_reports t) (λ i. targets_reports _ ts)
+  targets_reports done (tree.dots_targets ts) = targets_reports _ ts
+
+  target_fields_reports : (done : List RecordFieldPat) (fs : TargetFields)
+      → Reports (λ ss. target_fields_faults ss fs) (lower_target_fields done fs)
+  target_fields_reports done tree.no_target_fields = tells_pure reported done
+  target_fields_reports done (tree.more_target_fields f fs) =
+      tells_bind reported (one_target_field_reports f) (λ x. target_fields_reports _ fs)
+
+  one_target_field_reports : (f : TargetField) → Reports (λ ss. target_field_faults ss f) (lower_target_field f)
+  one_target_field_reports (tree.disabled_target_field at by) = tells_end reported (tells_report reported _) (λ u. tells_pure reported None)
+  one_target_field_reports tree.partless_target_field = tells_pure reported None
+  one_target_field_reports (tree.target_field at n t) = target_field_tells reported at n (target_reports t)
 
 pub diagnostics_are : DiagnosticsAre
 diagnostics_are e old id new paired is ss around =
     let row = after_lowering (part_faults e) old id new paired is new.stored (extends_refl new.stored) in
     let x = row.told ss (subst (Around ss) (ribs_frames old.scopes) around) in
     record { more = x.more; is = x.is; permuted = x.like }
+
+-- ---- bodies behind their parameters
+
+tells_some_pat : {D : List Scope → Faults} {p : Lowering PatId} → Reports D p → Reports D (some p)
+tells_some_pat h = tells_end reported h (λ i. tells_pure reported (Some i))
+
+self_reports : (s : SelfFormal) → Reports (λ ss. self_faults s) (lower_self s)
+self_reports tree.no_self = tells_pure reported None
+self_reports (tree.disabled_self at by) = tells_end reported (tells_report reported _) (λ u. tells_pure reported None)
+self_reports (tree.self_formal at u) = tells_end reported (tells_binding reported _) (λ b. tells_pure reported (Some b))
+
+formal_reports : (skipped : Bool) (f : Formal) → Reports (λ ss. formal_faults skipped ss f) (lower_formal skipped f)
+formal_reports skipped (tree.disabled_formal at by) = tells_end reported (tells_report reported _) (λ u. tells_pure reported None)
+formal_reports true (tree.formal p) = tells_some_pat (missing_pat_tells reported)
+formal_reports true (tree.fault_formal at) = tells_some_pat (missing_pat_tells reported)
+formal_reports false (tree.formal p) = tells_some_pat (top_reports p)
+formal_reports false (tree.fault_formal at) =
+    tells_end reported (tells_report reported _) (λ u. tells_some_pat (missing_pat_tells reported))
+
+each_formal_reports : (skipped : Bool) (done : List PatId) (fs : List Formal)
+    → Reports (λ ss. each_formal_faults skipped ss fs) (each_formal skipped done fs)
+each_formal_reports skipped done [] = tells_pure reported done
+each_formal_reports skipped done (f ∷ fs) = tells_bind reported (formal_reports skipped f) (λ x. each_formal_reports skipped _ fs)
+
+pub body_reports : (skipped : Bool) (f : Formals) (e : OptionExpr) → Reports (λ ss. body_faults skipped ss f e) (lower_body skipped f e)
+unfolding lower_body lower_formals
+body_reports skipped f e = tells_bind reported
+    (tells_bind reported (self_reports f.receiver) (λ s. tells_end reported (each_formal_reports skipped [] f.formals)
+    (λ ps. tells_pure reported (s, ps))))
+    (λ g. tells_end reported (part_faults e) (λ i. tells_pure reported (g, i)))

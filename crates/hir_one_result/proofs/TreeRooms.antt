@@ -1,51 +1,68 @@
 -- Lowering a tree stores as much as it becomes, or there is no room for it.
-use Rattle.std.proofs.Common.{◌≡◌, ◌∙◌, refl, ap, subst, is_some, Bool, true, false, List, [], Option, Some, None, ◌||◌}
-use Rattle.hir_store.specs.Pointers.{Pointer}
-use Rattle.hir_store.specs.declared.hir.Expr.{Expr as HirExpr}
+use Rattle.std.proofs.Common.{◌≡◌, ◌∙◌, refl, sym, ap, Bool, true, false, List, [], ◌∷◌, ◌++◌, Option, Some, None, ◌||◌, length}
+use Rattle.std.proofs.Common.{append-nil, append_assoc}
 use Rattle.hir_store.specs.declared.hir.Statement.{Statement}
-use Rattle.hir_store.specs.declared.name.Name.{Name}
-use Rattle.hir_store.specs.declared.diagnostics.AwaitLocation.{AwaitLocation}
 use Rattle.hir_store.specs.declared.ids.ExprId.{ExprId}
-use Rattle.hir_store.specs.declared.ids.LabelId.{LabelId}
-use Rattle.hir_store.specs.declared.ids.BlockId.{BlockId}
-use Rattle.hir_store.specs.declared.ids.HygieneId.{HygieneId}
 use Rattle.hir_env.specs.Answered as tree
-use Rattle.hir_env.specs.Answered.{OptionPath, Listing, Label, Jump, Expr, OptionExpr, Exprs, Block, OptionBlock, Stmts, Stmt, Fields}
-use Rattle.hir_env.specs.Answered.{Field, Spread, Constant, Binder, Type_, OptionType, Parts, Path as TreePath, Segments, Segment}
-use Rattle.hir_env.specs.Answered.{SegmentArgs, OptionParens, OptionRet, OptionArgs, Args, Arg, Bounds, Bound}
-use Rattle.hir_meaning.specs.Left.{is_kept}
-use Rattle.hir_lower_form.specs.Lowering.{Lowering, ◌>>=◌}
-use Rattle.hir_lower_form.specs.Lower.{ExprSteps, StoredContents, missing, some, if_form, loop_form, call_form, continue_form, break_form}
-use Rattle.hir_lower_form.specs.Lower.{paren_form, path_form, operand_form, operands_form, value_form, list_form, method_call_form}
-use Rattle.hir_lower_form.specs.Lower.{await_form, block_form, labelled, kept, lower, lower_part, lower_path, present, kept_part}
-use Rattle.hir_lower_form.specs.Lower.{lower_each, lower_block, lower_block_part, lower_stmts, lower_stmt, StoredFields, cast_form}
-use Rattle.hir_lower_form.specs.Lower.{offset_of_form, record_contents, record_of, record_form, field_form, lower_fields, lower_field}
-use Rattle.hir_lower_form.specs.Lower.{lower_spread, lower_constant, lower_type, type_part, present_type, type_or_unit, lower_parts}
-use Rattle.hir_lower_form.specs.Lower.{read_segment, read_each, read_path, read_option, lower_segment_args, parens_part, output_part}
-use Rattle.hir_lower_form.specs.Lower.{args_part, lower_args, lower_arg, lower_bounds, lower_bound}
-use Rattle.hir_one_result.specs.Size.{Size, an_expr, ◌∪◌, if_so}
+use Rattle.hir_env.specs.Answered.{OptionPath, Expr, OptionExpr, Exprs, Block, OptionBlock, Stmts, Stmt, Fields, Field, Spread, Constant}
+use Rattle.hir_env.specs.Answered.{Binder, Type_, OptionType, Parts, Path as TreePath, Segments, Segment, SegmentArgs, OptionParens}
+use Rattle.hir_env.specs.Answered.{OptionRet, OptionArgs, Args, Arg, Bounds, Bound, Arms, Arm, Guard, Pat, OptionPat, Pats, PatFields}
+use Rattle.hir_env.specs.Answered.{PatField, Side, TypePat, OptionTypePat, TypePats, Limit, Target, Targets, TargetFields, TargetField}
+use Rattle.hir_env.specs.Answered.{SelfFormal, Formal, Formals}
+use Rattle.hir_store.specs.declared.hir.MatchArm.{MatchArm}
+use Rattle.hir_store.specs.declared.pat.RecordFieldPat.{RecordFieldPat}
+use Rattle.hir_store.specs.declared.ids.PatId.{PatId}
+use Rattle.hir_data.specs.Patterns.{dots_among}
+use Rattle.hir_data.specs.Targets.{target_dots}
+use Rattle.hir_data.specs.Uses.{FirstUses}
+use Rattle.hir_meaning.specs.InnerWritten.{constant_body, limit_body}
+use Rattle.hir_lower_form.specs.Lowering.{◌>>=◌}
+use Rattle.hir_lower_form.specs.Lower.{lower, lower_part, lower_path, present, kept_part, lower_each, lower_block, lower_block_part}
+use Rattle.hir_lower_form.specs.Lower.{lower_stmts, lower_stmt, lower_fields, lower_field, lower_spread, lower_constant, lower_type}
+use Rattle.hir_lower_form.specs.Lower.{type_part, present_type, type_or_unit, lower_parts, read_segment, read_each, read_path, read_option}
+use Rattle.hir_lower_form.specs.Lower.{lower_segment_args, parens_part, output_part, args_part, lower_args, lower_arg, lower_bounds}
+use Rattle.hir_lower_form.specs.Lower.{lower_bound, lower_arms, lower_arm, lower_guard, present_block, lower_top, lower_pat, pat_part}
+use Rattle.hir_lower_form.specs.Lower.{present_pat, lower_pats, lower_elements, lower_later, lower_pat_fields, lower_pat_field, lower_side}
+use Rattle.hir_lower_form.specs.Lower.{lower_type_pat_part, lower_type_pat, lower_type_pats, lower_limit, limit_side, lower_target}
+use Rattle.hir_lower_form.specs.Lower.{lower_targets, lower_target_fields, lower_target_field}
+use Rattle.hir_lower_form.specs.Pats.{Elements, Table, no_elements, no_names, next_alternative}
+use Rattle.hir_lower_form.specs.Targets as targets
+use Rattle.hir_read_back.proofs.PatParts as parts
+use Rattle.hir_read_back.proofs.PatParts.{dots_or_part}
+use Rattle.hir_one_result.specs.Formals.{lower_self, each_formal, lower_formals, lower_body, formals_read}
+use Rattle.hir_one_result.specs.PatRoom.{names_after, names_after_part, names_after_each, names_after_fields, names_after_field}
+use Rattle.hir_one_result.specs.Size.{an_expr, ◌∪◌}
 use Rattle.hir_store.specs.declared.hir.RecordLitField.{RecordLitField}
-use Rattle.hir_store.specs.declared.hir.RecordSpread.{RecordSpread}
-use Rattle.hir_store.specs.declared.path.Path.{Path}
-use Rattle.hir_store.specs.declared.path.GenericArgs.{GenericArgs}
-use Rattle.hir_lower_form.specs.Types.{TypeSteps, no_lists}
-use Rattle.hir_one_result.specs.PathRoom.{Seen, whole_read, at_first, found, segment_read, segments_read, path_read, outer_read, any_arg}
-use Rattle.hir_one_result.specs.PathRoom.{yields, before, own_read}
-use Rattle.hir_one_result.specs.Room.{whole_size, fields_size, field_size, spread_size, label_size, front_size, size, size_part}
-use Rattle.hir_one_result.specs.Room.{size_present, size_kept, size_each, block_size, block_part_size, stmts_size, stmt_size}
-use Rattle.hir_one_result.specs.Room.{constant_size, type_size, type_part_size, present_size, parts_size, segment_size, segments_size}
-use Rattle.hir_one_result.specs.Room.{path_size, outer_size, beside_size, parens_size, output_size, args_size, each_arg_size, arg_size}
-use Rattle.hir_one_result.specs.Room.{bounds_size, bound_size}
-use Rattle.hir_one_result.proofs.Rooms.{Takes, takes_then, takes_as, takes_end, takes_begin, takes_pure, takes_report, takes_block}
-use Rattle.hir_one_result.proofs.Rooms.{takes_close, takes_point, takes_jump, takes_alloc, takes_open, takes_report_await}
-use Rattle.hir_one_result.proofs.Rooms.{takes_point_field, nothing_first, moved_in, moved_out, takes_constant, takes_type}
-use Rattle.hir_one_result.proofs.Tellings.{tells_then, tells_any, takes_of, Tells, tells_as, tells_pure, tells_end}
-use Rattle.hir_one_result.proofs.PathRooms.{GivesPath, option_seen, seen, seen_read, seen_named, seen_dollar, seen_self, Gives}
-use Rattle.hir_one_result.proofs.PathRooms.{proceed_tells, whole_tells, counted_tells, trait_tells, error_takes, unit_takes}
-use Rattle.hir_one_result.proofs.PathRooms.{lifetime_takes, lifetime_option_takes, uses_take, over_takes, tuple_takes, path_type_takes}
-use Rattle.hir_one_result.proofs.PathRooms.{ref_takes, fn_takes, impl_takes, dyn_takes, path_bound_takes, full, Yields, Fills, full_arg}
-use Rattle.hir_one_result.proofs.PathRooms.{full_binding, yields_full, parens_takes, beside_takes, binding_takes, filled_by, or_nothing}
-use Rattle.hir_one_result.proofs.PathRooms.{IsThere, array_takes}
+use Rattle.hir_lower_form.specs.Types.{no_lists}
+use Rattle.hir_one_result.specs.PathRoom.{whole_read, at_first, found, segment_read, segments_read, path_read, outer_read, any_arg, yields}
+use Rattle.hir_one_result.specs.PathRoom.{before, own_read}
+use Rattle.hir_one_result.specs.Room.{whole_size, fields_size, field_size, spread_size, size, size_part, size_present, size_kept, size_each}
+use Rattle.hir_one_result.specs.Room.{block_size, block_part_size, stmts_size, stmt_size, constant_size, type_size, type_part_size}
+use Rattle.hir_one_result.specs.Room.{present_size, parts_size, segment_size, segments_size, path_size, outer_size, beside_size}
+use Rattle.hir_one_result.specs.Room.{parens_size, output_size, args_size, each_arg_size, arg_size, bounds_size, bound_size, arms_size}
+use Rattle.hir_one_result.specs.Room.{arm_size, guard_size, block_present_size, pat_size, pat_part_size, subpat_size, pats_size}
+use Rattle.hir_one_result.specs.Room.{elements_size, pat_fields_size, pat_field_size, side_size, top_size, type_pat_size}
+use Rattle.hir_one_result.specs.Room.{type_pat_part_size, type_pats_size, limit_size, limit_side_size, target_size, targets_size}
+use Rattle.hir_one_result.specs.Room.{target_fields_size, target_field_size, tops_size, self_size, formals_size, body_size}
+use Rattle.hir_one_result.proofs.Rooms.{Takes, takes_then, takes_as, takes_end, takes_begin, takes_pure, takes_report, takes_alloc}
+use Rattle.hir_one_result.proofs.Rooms.{nothing_first, moved_in, moved_out, takes_constant, takes_inner, takes_type, takes_pat}
+use Rattle.hir_one_result.proofs.Rooms.{takes_binding}
+use Rattle.hir_one_result.proofs.Tellings.{tells_then, tells_any, takes_of, Tells, tells_as, tells_pure, tells_end, tells_less}
+use Rattle.hir_one_result.proofs.PatRooms.{Keyed, none_keyed, PatTakes, missing_pat_takes, alone_takes, path_pat_takes, bind_takes}
+use Rattle.hir_one_result.proofs.PatRooms.{over_pat_takes, tuple_pat_takes, tuple_struct_takes, record_pat_takes, pat_field_takes}
+use Rattle.hir_one_result.proofs.PatRooms.{slice_takes, literal_pat_takes, literal_side_takes, name_side_takes, path_side_takes}
+use Rattle.hir_one_result.proofs.PatRooms.{range_pat_takes, range_takes, literal_limit_takes, name_limit_takes, path_limit_takes}
+use Rattle.hir_one_result.proofs.PatRooms.{limits_take, type_alternatives_take, pattern_type_takes, place_target_takes, path_target_takes}
+use Rattle.hir_one_result.proofs.PatRooms.{tuple_target_takes, call_target_takes, array_target_takes, record_target_takes}
+use Rattle.hir_one_result.proofs.PatRooms.{target_field_takes, let_takes, match_takes, assign_takes, arm_takes, let_stmt_takes, item_takes}
+use Rattle.hir_one_result.proofs.PatRooms.{before_takes, settle_takes, from_none, PartsTake, whole_parts, element_takes, AsMany}
+use Rattle.hir_one_result.proofs.PatRooms.{or_form_takes}
+use Rattle.hir_one_result.proofs.PathRooms.{GivesPath, seen, seen_read, seen_named, seen_dollar, seen_self, Gives, proceed_tells}
+use Rattle.hir_one_result.proofs.PathRooms.{whole_tells, counted_tells, trait_tells, error_takes, unit_takes, lifetime_takes}
+use Rattle.hir_one_result.proofs.PathRooms.{lifetime_option_takes, uses_take, over_takes, tuple_takes, path_type_takes, ref_takes, fn_takes}
+use Rattle.hir_one_result.proofs.PathRooms.{impl_takes, dyn_takes, path_bound_takes, full, Yields, Fills, full_arg, full_binding}
+use Rattle.hir_one_result.proofs.PathRooms.{yields_full, parens_takes, beside_takes, binding_takes, filled_by, or_nothing, IsThere}
+use Rattle.hir_one_result.proofs.PathRooms.{array_takes}
 use Rattle.hir_store.specs.declared.ids.TypeRefId.{TypeRefId}
 use Rattle.hir_store.specs.declared.type_ref.TypeBound.{TypeBound}
 use Rattle.hir_lower_form.specs.declared.args.ArgLists.{ArgLists}
@@ -53,128 +70,10 @@ use Rattle.hir_lower_form.specs.declared.walk.PathWalk.{PathWalk}
 use Rattle.hir_lower_form.specs.Walks as walks
 use Rattle.hir_lower_form.specs.Walks.{start}
 use Rattle.hir_lower_form.specs.Paths.{proceed}
-
-missing_takes : Takes an_expr missing
-unfolding missing
-missing_takes = takes_alloc _ None
-
-some_takes : {n : Size} {p : ExprSteps} → Takes n p → Takes n (some p)
-some_takes h = takes_end h (λ a. takes_pure (Some a))
-
-some_read : (o : Option Path) (x : Option Seen) → GivesPath x o → is_some o ≡ is_some x
-some_read o x e = by o ∙ ap is_some e
-  where
-    by : (o : Option Path) → is_some o ≡ is_some (option_seen o)
-    by None = refl
-    by (Some p) = refl
-
-module _ (at : Pointer) where
-  if_takes : {n k m : Size} {c t : ExprSteps} {e : Lowering (Option ExprId)} → Takes n c → Takes k t → Takes m e
-      → Takes (k ∪ (m ∪ (n ∪ an_expr))) (if_form at c t e)
-  unfolding if_form
-  if_takes hc ht he = takes_then ht (λ x. takes_then he (λ y. takes_then hc (λ z. takes_alloc _ (Some at))))
-
-  loop_takes : (label : Option Label) {n : Size} {b : ExprSteps} → Takes n b
-      → Takes (label_size label ∪ (n ∪ an_expr)) (loop_form at label b)
-  unfolding loop_form
-  loop_takes None h = takes_as (nothing_first _) (takes_then h (λ i. takes_alloc _ (Some at)))
-  loop_takes (Some l) h =
-      takes_then (takes_open l) (λ n. takes_then h (λ i. takes_begin takes_close (λ u. takes_alloc _ (Some at))))
-
-  call_takes : {n k : Size} {f : ExprSteps} {xs : Lowering (List ExprId)} → Takes n f → Takes k xs
-      → Takes (n ∪ (k ∪ an_expr)) (call_form at f xs)
-  unfolding call_form
-  call_takes hf hx = takes_then hf (λ i. takes_then hx (λ is. takes_alloc _ (Some at)))
-
-  continue_takes : (j : Option Jump) → Takes an_expr (continue_form at j)
-  unfolding continue_form
-  continue_takes j = takes_begin (takes_jump j) (λ n. takes_alloc _ (Some at))
-
-  break_takes : (j : Option Jump) {n : Size} {e : Lowering (Option ExprId)} → Takes n e → Takes (n ∪ an_expr) (break_form at j e)
-  unfolding break_form
-  break_takes j h = takes_begin (takes_jump j) (λ n. takes_then h (λ v. takes_alloc _ (Some at)))
-
-  paren_takes : {n : Size} {e : ExprSteps} → Takes n e → Takes n (paren_form at e)
-  unfolding paren_form
-  paren_takes h = takes_end h (λ i. takes_end (takes_point at i) (λ u. takes_pure i))
-
-  path_takes : (h : HygieneId) {n : Size} {p : Lowering (Option Path)} → Takes n p → Takes (n ∪ an_expr) (path_form at h p)
-  unfolding path_form
-  path_takes h hp = takes_then hp (λ r. takes_alloc _ (Some at))
-
-  operand_takes : (form : ExprId → HirExpr) {n : Size} {e : ExprSteps} → Takes n e → Takes (n ∪ an_expr) (operand_form at form e)
-  unfolding operand_form
-  operand_takes form h = takes_then h (λ i. takes_alloc _ (Some at))
-
-  operands_take : (form : ExprId → ExprId → HirExpr) {n k : Size} {a b : ExprSteps} → Takes n a → Takes k b
-      → Takes (n ∪ (k ∪ an_expr)) (operands_form at form a b)
-  unfolding operands_form
-  operands_take form ha hb = takes_then ha (λ i. takes_then hb (λ j. takes_alloc _ (Some at)))
-
-  value_takes : (form : Option ExprId → HirExpr) {n : Size} {e : Lowering (Option ExprId)} → Takes n e
-      → Takes (n ∪ an_expr) (value_form at form e)
-  unfolding value_form
-  value_takes form h = takes_then h (λ i. takes_alloc _ (Some at))
-
-  list_takes : (form : Listing) {n : Size} {xs : Lowering (List ExprId)} → Takes n xs
-      → Takes (n ∪ (front_size form ∪ an_expr)) (list_form at form xs)
-  unfolding list_form
-  list_takes (tree.tuple_of false) h = takes_then h (λ is. takes_as (nothing_first an_expr) (takes_alloc _ (Some at)))
-  list_takes (tree.tuple_of true) h = takes_then h (λ is. takes_then missing_takes (λ i. takes_alloc _ (Some at)))
-  list_takes tree.array_of h = takes_then h (λ is. takes_as (nothing_first an_expr) (takes_alloc _ (Some at)))
-
-  method_call_takes : (name : Name) {n k j : Size} {e : ExprSteps} {xs : Lowering (List ExprId)} {as' : Lowering (Option GenericArgs)}
-      → Takes n e → Takes k xs → Takes j as' → Takes (n ∪ (k ∪ (j ∪ an_expr))) (method_call_form at e name xs as')
-  unfolding method_call_form
-  method_call_takes name he hx ha = takes_then he (λ i. takes_then hx (λ is. takes_then ha (λ g. takes_alloc _ (Some at))))
-
-  cast_takes : {n k : Size} {e : ExprSteps} {t : TypeSteps} → Takes n e → Takes k t → Takes (n ∪ (k ∪ an_expr)) (cast_form at e t)
-  unfolding cast_form
-  cast_takes he ht = takes_then he (λ i. takes_then ht (λ t. takes_alloc _ (Some at)))
-
-  offset_of_takes : (names : List Name) {n : Size} {t : TypeSteps} → Takes n t → Takes (n ∪ an_expr) (offset_of_form at t names)
-  unfolding offset_of_form
-  offset_of_takes names ht = takes_then ht (λ t. takes_alloc _ (Some at))
-
-  record_of_takes : {n : Size} {c : Lowering StoredFields} → Takes n c → (p : Option Path)
-      → Takes (if_so (is_some p) n ∪ an_expr) (record_of at c p)
-  record_of_takes h None = takes_as (nothing_first an_expr) missing_takes
-  record_of_takes h (Some p) = takes_then h (λ r. takes_alloc _ (Some at))
-
-  record_takes : {k n : Size} {x : Option Seen} {p : Lowering (Option Path)} {c : Lowering StoredFields} → Tells k (GivesPath x) p
-      → Takes n c → Takes (k ∪ (if_so (is_some x) n ∪ an_expr)) (record_form at p c)
-  unfolding record_form
-  record_takes {n = n} {x = x} {c = c} hp h = takes_of (tells_then hp (λ o e. tells_any
-      (subst (λ b. Takes (if_so b n ∪ an_expr) (record_of at c o)) (some_read o x e) (record_of_takes h o))))
-
-  field_takes : (name : Name) {n : Size} {e : ExprSteps} → Takes n e → Takes n (field_form at name e)
-  unfolding field_form
-  field_takes name h = takes_end h (λ i. takes_end (takes_point_field i at) (λ u. takes_pure _))
-
-  await_takes : (location : Option AwaitLocation) {n : Size} {e : ExprSteps} → Takes n e → Takes (n ∪ an_expr) (await_form at location e)
-  unfolding await_form
-  await_takes location h = takes_then h (λ i. takes_begin (takes_report_await at location) (λ u. takes_alloc _ (Some at)))
-
-  block_form_takes : (is_unsafe : Bool) (label : Option LabelId) (number : Option BlockId) {n : Size} {c : Lowering StoredContents}
-      → Takes n c → Takes (n ∪ an_expr) (block_form at is_unsafe label number c)
-  unfolding block_form
-  block_form_takes is_unsafe label number h = takes_begin (takes_block number) (λ u. takes_then h (λ r. takes_alloc _ (Some at)))
-
-contents_take : {n k : Size} {fs : Lowering (List RecordLitField)} {s : Lowering RecordSpread} → Takes n fs → Takes k s
-    → Takes (n ∪ k) (record_contents fs s)
-unfolding record_contents
-contents_take hf hs = takes_then hf (λ fs. takes_end hs (λ s. takes_pure (fs, s)))
-
-labelled_takes : (label : Option Label) {n : Size} {f : Option LabelId → ExprSteps} → ((o : Option LabelId) → Takes n (f o))
-    → Takes (label_size label ∪ n) (labelled label f)
-unfolding labelled
-labelled_takes None h = takes_as (nothing_first _) (h None)
-labelled_takes (Some l) h =
-    takes_then (takes_open l) (λ n. takes_end (h (Some n)) (λ i. takes_end takes_close (λ u. takes_pure i)))
-
-kept_takes : (e : Expr) {n : Size} {p : ExprSteps} → Takes n p → Takes (if_so (is_kept e) n) (kept e p)
-kept_takes (tree.disabled_expr at by e) h = takes_end (takes_report _) (λ u. takes_pure None)
-kept_takes e h = some_takes h
+use Rattle.hir_one_result.proofs.ExprRooms.{missing_takes, some_takes, if_takes, loop_takes, call_takes, continue_takes, break_takes}
+use Rattle.hir_one_result.proofs.ExprRooms.{paren_takes, path_takes, operand_takes, operands_take, value_takes, list_takes}
+use Rattle.hir_one_result.proofs.ExprRooms.{method_call_takes, cast_takes, offset_of_takes, record_takes, field_takes, await_takes}
+use Rattle.hir_one_result.proofs.ExprRooms.{block_form_takes, contents_take, labelled_takes, kept_takes}
 
 -- the first segment, with the `::` in front of it
 first_tells : (leading : Bool) (s : Segment) (w : PathWalk)
@@ -199,6 +98,12 @@ own_segments leading first rest w h more = tells_then h (λ r e.
     proceed_tells r (segments_read rest (seen w)) (λ y. segment_size true first (at_first leading y))
     (λ y. segment_read true first (at_first leading y)) e (λ v. first_tells leading first v more))
 
+-- the place of dots among all
+whole_targets : (ts : Targets)
+    → Tells (targets_size ts) (λ r. r.1 ≡ parts.dots_behind 0 None (target_dots ts)) (lower_targets no_elements ts)
+    → Tells (targets_size ts) (λ r. r.1 ≡ target_dots ts) (lower_targets no_elements ts)
+whole_targets ts h = tells_less (λ r e. e ∙ from_none (target_dots ts)) h
+
 mutual
   pub type_takes : (b : Option Binder) (t : Type_) → Takes (type_size t) (lower_type b t)
   type_takes b (tree.paren_type t) = type_part_takes b t
@@ -213,6 +118,7 @@ mutual
   type_takes b (tree.impl_type at mode bs) = impl_takes at mode (bounds_take [] bs)
   type_takes b (tree.nested_impl at) = takes_type _ _
   type_takes b (tree.dyn_type at bs) = dyn_takes at (bounds_take [] bs)
+  type_takes b (tree.pattern_type at t own p) = pattern_type_takes at (type_part_takes None t) (type_pat_part_takes p)
 
   pub type_part_takes : (b : Option Binder) (t : OptionType) → Takes (type_part_size t) (type_part b t)
   type_part_takes b tree.no_type = error_takes
@@ -319,14 +225,40 @@ mutual
   bound_takes (tree.use_bound us) = takes_end (uses_take [] us) (λ xs. takes_pure _)
 
   constant_takes : (c : Constant) → Takes (constant_size c) (lower_constant c)
-  constant_takes (tree.constant e) = takes_constant e (part_takes e)
+  constant_takes (tree.constant e) = takes_constant (constant_body e) (part_takes e)
+
+  type_pat_takes : (p : TypePat) → Takes (type_pat_size p) (lower_type_pat p)
+  type_pat_takes (tree.not_null_type_pat at) = takes_pat _ _
+  type_pat_takes (tree.or_type_pat at ps) = type_alternatives_take at (type_pats_take [] ps)
+  type_pat_takes (tree.range_type_pat at low high) = limits_take at (limit_takes low) (limit_takes high)
+  type_pat_takes (tree.other_type_pat at) = takes_pat _ _
+
+  type_pat_part_takes : (p : OptionTypePat) → Takes (type_pat_part_size p) (lower_type_pat_part p)
+  type_pat_part_takes tree.no_type_pat = missing_pat_takes
+  type_pat_part_takes (tree.some_type_pat p) = type_pat_takes p
+
+  type_pats_take : (done : List PatId) (ps : TypePats) → Takes (type_pats_size ps) (lower_type_pats done ps)
+  type_pats_take done tree.no_type_pats = takes_pure done
+  type_pats_take done (tree.more_type_pats p ps) = takes_then (type_pat_takes p) (λ i. type_pats_take _ ps)
+
+  limit_takes : (l : Limit) → Takes (limit_size l) (lower_limit l)
+  limit_takes (tree.item_limit item) = takes_inner (limit_body (tree.item_limit item)) (item_takes item)
+  limit_takes (tree.side_limit s) = takes_inner (limit_body (tree.side_limit s)) (limit_side_takes s)
+  limit_takes (tree.before_limit item s) = takes_inner (limit_body (tree.before_limit item s)) (before_takes item (limit_side_takes s))
+
+  limit_side_takes : (s : Side) → Takes (limit_side_size s) (limit_side s)
+  limit_side_takes tree.no_side = missing_takes
+  limit_side_takes (tree.literal_side at l) = literal_limit_takes at l
+  limit_side_takes (tree.name_side at n) = name_limit_takes at n
+  limit_side_takes (tree.path_side at p) = path_limit_takes at (takes_of (path_tells p))
+  limit_side_takes tree.other_side = missing_takes
 
   node_takes : (e : Expr) → Takes (size e) (lower e)
   node_takes (tree.disabled_expr at by e) = takes_begin (takes_report _) (λ u. missing_takes)
   node_takes (tree.if_expr at c t e) = if_takes at (part_takes c) (block_part_takes t) (present_takes e)
   node_takes (tree.block_expr b) = block_takes b
   node_takes (tree.loop_expr at label b) = loop_takes at label (block_part_takes b)
-  node_takes (tree.call_expr at f es) = call_takes at (part_takes f) (each_takes [] es)
+  node_takes (tree.call_expr at f has_list es) = call_takes at (part_takes f) (each_takes [] es)
   node_takes (tree.path_expr at p h) = path_takes at h (takes_of (path_tells p))
   node_takes (tree.continue_expr at jump) = continue_takes at jump
   node_takes (tree.break_expr at jump e) = break_takes at jump (present_takes e)
@@ -340,13 +272,17 @@ mutual
   node_takes (tree.method_call_expr at e name es generics) =
       method_call_takes at name (part_takes e) (each_takes [] es) (takes_of (args_tell generics))
   node_takes (tree.cast_expr at e t) = cast_takes at (part_takes e) (type_part_takes None t)
-  node_takes (tree.record_expr at p fs s) = record_takes at (path_tells p) (contents_take (fields_take [] fs) (spread_takes s))
+  node_takes (tree.record_expr at p head fs s) = record_takes at (path_tells p) (contents_take (fields_take [] fs) (spread_takes s))
   node_takes (tree.offset_of_expr at t names) = offset_of_takes at names (type_part_takes None t)
   node_takes (tree.leaving_expr at form e) = value_takes at _ (present_takes e)
   node_takes (tree.become_expr at e) = operand_takes at _ (part_takes e)
   node_takes (tree.yield_expr at e) = value_takes at _ (present_takes e)
   node_takes (tree.await_expr at location e) = await_takes at location (part_takes e)
   node_takes (tree.nameless_expr at e) = operand_takes at _ (part_takes e)
+  node_takes (tree.let_expr at p e) = let_takes at (top_takes p) (part_takes e)
+  node_takes (tree.match_expr at e arms) = match_takes at (part_takes e) (arms_take [] arms)
+  node_takes (tree.range_expr at form low high) = range_takes at form (present_takes low) (present_takes high)
+  node_takes (tree.assign_expr at own t e) = assign_takes at (target_takes t) (part_takes e)
 
   pub part_takes : (e : OptionExpr) → Takes (size_part e) (lower_part e)
   part_takes tree.no_expr = missing_takes
@@ -370,8 +306,20 @@ mutual
 
   one_field_takes : (f : Field) → Takes (field_size f) (lower_field f)
   one_field_takes (tree.disabled_field at by f) = takes_end (takes_report _) (λ u. takes_pure None)
-  one_field_takes tree.nameless_field = takes_pure None
+  one_field_takes (tree.nameless_field at e) = takes_pure None
   one_field_takes (tree.named_field at name e) = field_takes at name (part_takes e)
+
+  arms_take : (done : List MatchArm) (arms : Arms) → Takes (arms_size arms) (lower_arms done arms)
+  arms_take done tree.no_arms = takes_pure done
+  arms_take done (tree.more_arms a arms) = takes_then (one_arm_takes a) (λ x. arms_take _ arms)
+
+  one_arm_takes : (a : Arm) → Takes (arm_size a) (lower_arm a)
+  one_arm_takes (tree.disabled_arm at by a) = takes_end (takes_report _) (λ u. takes_pure None)
+  one_arm_takes (tree.arm p e g) = arm_takes (top_takes p) (part_takes e) (guard_takes g)
+
+  guard_takes : (g : Guard) → Takes (guard_size g) (lower_guard g)
+  guard_takes tree.no_guard = takes_pure None
+  guard_takes (tree.guard e) = some_takes (part_takes e)
 
   spread_takes : (s : Spread) → Takes (spread_size s) (lower_spread s)
   spread_takes tree.no_spread = takes_pure _
@@ -387,6 +335,10 @@ mutual
   block_part_takes tree.no_block = missing_takes
   block_part_takes (tree.some_block b) = block_takes b
 
+  block_present_takes : (b : OptionBlock) → Takes (block_present_size b) (present_block b)
+  block_present_takes tree.no_block = takes_pure None
+  block_present_takes (tree.some_block b) = some_takes (block_takes b)
+
   stmts_take : (done : List Statement) (ss : Stmts) (e : OptionExpr) → Takes (size_kept e) (kept_part e)
       → Takes (stmts_size ss ∪ size_kept e) (lower_stmts done ss (kept_part e))
   stmts_take done tree.no_stmts e h = takes_as (nothing_first _) (takes_end h (λ t. takes_pure (done, t)))
@@ -395,7 +347,138 @@ mutual
 
   stmt_takes : (s : Stmt) → Takes (stmt_size s) (lower_stmt s)
   stmt_takes (tree.expr_stmt e semi) = takes_end (kept_part_takes e) (λ x. takes_pure _)
+  stmt_takes (tree.disabled_stmt at by s) = takes_end (takes_report _) (λ u. takes_pure None)
   stmt_takes tree.item_stmt = takes_pure _
+  stmt_takes (tree.let_stmt p t e b) =
+      let_stmt_takes (top_takes p) (present_type_takes t) (present_takes e) (block_present_takes b)
+
+  pat_takes : (p : Pat) (us : FirstUses) → PatTakes (pat_size p us) us (names_after p us) (lower_pat p)
+  pat_takes (tree.leaf_pat at form) us = alone_takes at us (takes_pat _ _)
+  pat_takes (tree.bind_pat at u sub) us = bind_takes at u (subpat_takes sub us)
+  pat_takes (tree.name_pat at u) us = alone_takes at us (takes_pat _ _)
+  pat_takes (tree.path_pat at p) us = alone_takes at us (path_pat_takes at (takes_of (path_tells p)))
+  pat_takes (tree.tuple_struct_pat at p comma ps) us = tuple_struct_takes at comma (path_tells p) (whole_parts (elements_are ps us))
+  pat_takes (tree.tuple_pat at comma ps) us = tuple_pat_takes at comma (whole_parts (elements_are ps us))
+  pat_takes (tree.record_pat at p fs dots) us = record_pat_takes at dots (path_tells p) (pat_fields_take fs us [])
+  pat_takes (tree.or_pat at tree.no_pats) us = alone_takes at us (takes_as (nothing_first _) (takes_pat _ _))
+  pat_takes (tree.or_pat at (tree.more_pats p ps)) us = or_form_takes at p ps (pat_takes p us) (later_take ps (names_after p us))
+  pat_takes (tree.paren_pat at p) us = pat_part_takes p us
+  pat_takes (tree.slice_pat at before middle behind) us =
+      slice_takes at (pats_take before us []) (subpat_takes middle (names_after_each before us))
+      (pats_take behind (names_after_part middle (names_after_each before us)) [])
+  pat_takes (tree.over_pat at form p) us = over_pat_takes at form (pat_part_takes p us)
+  pat_takes (tree.literal_pat at own l) us = alone_takes at us (literal_pat_takes at own l)
+  pat_takes (tree.range_pat at op low high) us = alone_takes at us (range_pat_takes at op (side_takes low) (side_takes high))
+
+  later_take : (ps : Pats) (us : FirstUses) (done : List PatId) (t : Table) → Keyed us t
+      → Tells (pats_size ps us) (λ r. Keyed (names_after_each ps us) r.1 × ((new : List PatId) × (r.0 ≡ done ++ new) × AsMany ps new))
+      (lower_later ps done t)
+  later_take tree.no_pats us done t k = tells_pure _ _ (k, ([], sym (append-nil done), tt))
+  later_take (tree.more_pats p ps) us done t k =
+      tells_then (pat_takes p us (next_alternative t) (record { each = k.each })) (λ r e.
+      tells_less (λ s x. (x.0, (r.0 ∷ x.1.0, x.1.1 ∙ append_assoc done (r.0 ∷ []) x.1.0, x.1.2)))
+      (later_take ps (names_after p us) (done ++ r.0 ∷ []) r.1 e))
+
+  pat_part_takes : (p : OptionPat) (us : FirstUses) → PatTakes (pat_part_size p us) us (names_after_part p us) (pat_part p)
+  pat_part_takes tree.no_pat us t k = tells_end (tells_any missing_pat_takes) (λ i x. tells_pure _ (i, t) k)
+  pat_part_takes (tree.some_pat p) us t k = pat_takes p us t k
+
+  subpat_takes : (p : OptionPat) (us : FirstUses) → PatTakes (subpat_size p us) us (names_after_part p us) (present_pat p)
+  subpat_takes tree.no_pat us t k = tells_pure _ _ k
+  subpat_takes (tree.some_pat p) us t k = tells_end (pat_takes p us t k) (λ r e. tells_pure _ _ e)
+
+  pats_take : (ps : Pats) (us : FirstUses) (done : List PatId) → PatTakes (pats_size ps us) us (names_after_each ps us) (lower_pats done ps)
+  pats_take tree.no_pats us done t k = tells_pure _ _ k
+  pats_take (tree.more_pats p ps) us done t k = tells_then (pat_takes p us t k) (λ r e. pats_take ps (names_after p us) _ r.1 e)
+
+  elements_are : (ps : Pats) (us : FirstUses)
+      → PartsTake (elements_size ps us) us (names_after_each ps us) (dots_among ps) (λ done t. lower_elements done ps t)
+  elements_are tree.no_pats us done t k = tells_pure _ _ (k, parts.no_dots (length done.0) done.1)
+  elements_are (tree.more_pats p ps) us done t k =
+      element_takes p (dots_or_part p) (pat_takes p us) (elements_are ps (names_after p us)) done t k
+
+  pat_fields_take : (fs : PatFields) (us : FirstUses) (done : List RecordFieldPat)
+      → PatTakes (pat_fields_size fs us) us (names_after_fields fs us) (lower_pat_fields done fs)
+  pat_fields_take tree.no_pat_fields us done t k = tells_pure _ _ k
+  pat_fields_take (tree.more_pat_fields f fs) us done t k =
+      tells_then (one_pat_field_takes f us t k) (λ r e. pat_fields_take fs (names_after_field f us) _ r.1 e)
+
+  one_pat_field_takes : (f : PatField) (us : FirstUses) → PatTakes (pat_field_size f us) us (names_after_field f us) (lower_pat_field f)
+  one_pat_field_takes (tree.disabled_pat_field at by f) us t k = tells_end (tells_any (takes_report _)) (λ u x. tells_pure _ _ k)
+  one_pat_field_takes tree.partless_pat_field us t k = tells_pure _ _ k
+  one_pat_field_takes (tree.pat_field at n p) us t k = pat_field_takes at n (pat_takes p us) t k
+
+  side_takes : (s : Side) → Takes (side_size s) (lower_side s)
+  side_takes tree.no_side = takes_pure None
+  side_takes (tree.literal_side at l) = literal_side_takes at l
+  side_takes (tree.name_side at n) = name_side_takes at n
+  side_takes (tree.path_side at p) = path_side_takes at (path_tells p)
+  side_takes tree.other_side = takes_pure None
+
+  pub top_takes : (p : OptionPat) → Takes (top_size p) (lower_top p)
+  top_takes tree.no_pat = missing_pat_takes
+  top_takes (tree.some_pat p) = takes_of (tells_end (pat_takes p [] no_names none_keyed)
+      (λ r e. tells_end (tells_any (settle_takes r.1)) (λ u x. tells_pure (λ i. Unit {0}) r.0 tt)))
+
+  target_takes : (t : Target) → Takes (target_size t) (lower_target t)
+  target_takes tree.absent_target = missing_pat_takes
+  target_takes (tree.place_target at e) = place_target_takes at (node_takes e)
+  target_takes (tree.wild_target at) = takes_pat _ _
+  target_takes (tree.path_target at p h) =
+      path_target_takes at h (takes_end (takes_of (reading_tells p start)) (λ r. takes_pure _))
+  target_takes (tree.tuple_target at ts) = tuple_target_takes at (whole_targets ts (targets_take ts no_elements))
+  target_takes (tree.call_target at p ts) = call_target_takes at (path_tells p) (whole_targets ts (targets_take ts no_elements))
+  target_takes (tree.array_target at before dots behind) =
+      array_target_takes at dots (takes_of (targets_take before no_elements)) (takes_of (targets_take behind no_elements))
+  target_takes (tree.record_target at p fs dots spread) = record_target_takes at dots spread (path_tells p) (target_fields_take [] fs)
+
+  targets_take : (ts : Targets) (done : Elements)
+      → Tells (targets_size ts) (λ r. r.1 ≡ parts.dots_behind (length done.0) done.1 (target_dots ts)) (lower_targets done ts)
+  targets_take tree.no_targets done = tells_pure _ _ (parts.no_dots (length done.0) done.1)
+  targets_take (tree.more_targets t ts) done = tells_then (tells_any (target_takes t)) (λ i u.
+      tells_less (λ r e. e ∙ parts.one_further done.0 i done.1 (target_dots ts)) (targets_take ts (targets.add_target done i)))
+  targets_take (tree.dots_targets ts) done =
+      tells_less (λ r e. e ∙ parts.dots_here done.0 done.1 (target_dots ts)) (targets_take ts (targets.add_target_dots done))
+
+  target_fields_take : (done : List RecordFieldPat) (fs : TargetFields) → Takes (target_fields_size fs) (lower_target_fields done fs)
+  target_fields_take done tree.no_target_fields = takes_pure done
+  target_fields_take done (tree.more_target_fields f fs) = takes_then (one_target_field_takes f) (λ x. target_fields_take _ fs)
+
+  one_target_field_takes : (f : TargetField) → Takes (target_field_size f) (lower_target_field f)
+  one_target_field_takes (tree.disabled_target_field at by) = takes_end (takes_report _) (λ u. takes_pure None)
+  one_target_field_takes tree.partless_target_field = takes_pure None
+  one_target_field_takes (tree.target_field at n t) = target_field_takes at n (target_takes t)
 
 pub own_tells : (leading : Bool) (first : Segment) (rest : Segments) (w : PathWalk) → Own leading first rest w
 own_tells leading first rest w = own_segments leading first rest w (each_tells rest w) (λ u. segment_tells true first u)
+
+-- ---- bodies behind their parameters
+
+self_takes : (s : SelfFormal) → Takes (self_size s) (lower_self s)
+self_takes tree.no_self = takes_pure None
+self_takes (tree.disabled_self at by) = takes_end (takes_report _) (λ u. takes_pure None)
+self_takes (tree.self_formal at u) = takes_end (takes_binding _) (λ b. takes_pure (Some b))
+
+each_formal_takes : (skipped : Bool) (done : List PatId) (fs : List Formal)
+    → Takes (tops_size (formals_read skipped fs)) (each_formal skipped done fs)
+each_formal_takes skipped done [] = takes_pure done
+each_formal_takes skipped done (tree.disabled_formal at by ∷ fs) = takes_begin (takes_end (takes_report _) (λ u. takes_pure None))
+    (λ x. each_formal_takes skipped _ fs)
+each_formal_takes true done (tree.formal p ∷ fs) = takes_then (takes_end missing_pat_takes (λ i. takes_pure (Some i)))
+    (λ x. each_formal_takes true _ fs)
+each_formal_takes true done (tree.fault_formal at ∷ fs) = takes_then (takes_end missing_pat_takes (λ i. takes_pure (Some i)))
+    (λ x. each_formal_takes true _ fs)
+each_formal_takes false done (tree.formal p ∷ fs) = takes_then (takes_end (top_takes p) (λ i. takes_pure (Some i)))
+    (λ x. each_formal_takes false _ fs)
+each_formal_takes false done (tree.fault_formal at ∷ fs) =
+    takes_then (takes_begin (takes_report _) (λ u. takes_end missing_pat_takes (λ i. takes_pure (Some i))))
+    (λ x. each_formal_takes false _ fs)
+
+formals_take : (skipped : Bool) (f : Formals) → Takes (formals_size skipped f) (lower_formals skipped f)
+unfolding lower_formals
+formals_take skipped f =
+    takes_then (self_takes f.receiver) (λ s. takes_end (each_formal_takes skipped [] f.formals) (λ ps. takes_pure (s, ps)))
+
+pub body_takes : (skipped : Bool) (f : Formals) (e : OptionExpr) → Takes (body_size skipped f e) (lower_body skipped f e)
+unfolding lower_body
+body_takes skipped f e = takes_then (formals_take skipped f) (λ g. takes_end (part_takes e) (λ i. takes_pure (g, i)))

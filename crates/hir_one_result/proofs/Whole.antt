@@ -1,19 +1,23 @@
 -- What is stored where one body was lowered is one result of its tree.
-use Rattle.std.proofs.Common.{arith, refl, ap, subst, ℕ, [], ◌∷◌, ◌++◌}
-use Rattle.hir_store.proofs.Range.{extends_root}
-use Rattle.hir_store.specs.Storing.{root_at, record_root}
+use Rattle.std.proofs.Common.{arith, refl, sym, ap, subst, ℕ, is_some, true≢false, [], ◌∷◌, ◌++◌, ◌∙◌}
+use Rattle.hir_store.proofs.Extending.{extends_refl, extends_root}
 use Rattle.hir_store.specs.Arenas.{Sourced, MapsBack}
+use Rattle.hir_store.specs.Stored.{store_of}
+use Rattle.hir_store.specs.Storing.{root_at, record_root}
 use Rattle.hir_store.proofs.Maps.{maps_back_none}
 use Rattle.hir_steps.specs.Keeps.{KeepsAll, Keeps, Paired, Mapped}
-use Rattle.hir_steps.proofs.Keeping.{keeping}
-use Rattle.hir_one_result.specs.Laws.{Fits, FitsUnless}
-use Rattle.hir_one_result.specs.OneResult.{OneResults, fresh_owing, in_root_of, with_root}
+use Rattle.hir_steps.proofs.Keeping.{any, kept_by}
+use Rattle.hir_one_result.specs.Laws.{Defined, Grown, GrownUnless}
 use Rattle.hir_one_result.specs.Leads.{LeadBack}
-use Rattle.hir_one_result.proofs.Leading.{leads_nowhere}
-use Rattle.hir_one_result.proofs.TreeStands.{all_stand}
-use Rattle.hir_one_result.proofs.TreeFaults.{diagnostics_are}
-use Rattle.hir_one_result.proofs.TreeBlocks.{blocks_are}
-use Rattle.hir_one_result.proofs.Fits.{all_fit}
+use Rattle.hir_one_result.specs.OneResult.{OneResults, fresh_owing, in_root_of, with_root}
+use Rattle.hir_one_result.specs.Room.{body_size}
+use Rattle.hir_one_result.proofs.AfterLowering.{after_lowering}
+use Rattle.hir_one_result.proofs.Bodies.{body_stands}
+use Rattle.hir_one_result.proofs.Fits.{bodies_fit}
+use Rattle.hir_one_result.proofs.Lasting.{Unchanged}
+use Rattle.hir_one_result.proofs.Led.{leads_nowhere}
+use Rattle.hir_one_result.proofs.TreeBlocks.{body_enters}
+use Rattle.hir_one_result.proofs.TreeFaults.{body_reports}
 
 -- as it is said of a source map
 pub lead_back : {T I : Type 0} (place : I → ℕ) (a : Sourced T I) → MapsBack place a → LeadBack place a.map a.sources
@@ -24,36 +28,59 @@ lead_back place a h = record {
 
 pub one_results : OneResults
 unfolding record_root
-one_results limit owed e id new is =
+one_results limit owed skipped f e given id new is =
     let old = in_root_of (fresh_owing limit owed) in
-    let none : Paired old.stored = record { exprs = refl; labels = refl; types = refl; lifetimes = refl } in
-    let nowhere : Mapped old.stored = record { types = maps_back_none (λ i. i.0) limit; lifetimes = maps_back_none (λ i. i.0) limit } in
-    let kept : KeepsAll old new = subst (λ r. Keeps old r.0 r.1) is (keeping e old) in
+    let none : Paired old.stored = record { exprs = refl; labels = refl; pats = refl; types = refl; lifetimes = refl } in
+    let nowhere : Mapped old.stored = record {
+      pats = maps_back_none (λ i. i.0) limit;
+      types = maps_back_none (λ i. i.0) limit;
+      lifetimes = maps_back_none (λ i. i.0) limit;
+    } in
+    let undefined : Defined old.stored = record {
+      as_many = refl;
+      each = λ b ps e. absurd (true≢false (sym (ap is_some e)));
+      known = λ n b sub e. absurd (true≢false (sym (ap is_some e)));
+    } in
+    let kept : KeepsAll old new = subst (λ r. Keeps old r.0 r.1) is (kept_by (any (body_stands skipped f e)) old) in
     let paired = kept.paired none in
     let mapped = kept.mapped none nowhere in
-    let stays = extends_root new.stored (root_at new.stored.exprs.entries id) in
-    let standing = all_stand e old id new none is (with_root id new.stored) stays in
-    let fits : Fits e old.stored new.stored = subst (λ r. FitsUnless e old.stored r.0 r.1.stored) is (all_fit e old) in
-    let faults = diagnostics_are e old id new none is [] refl in record {
+    let final = with_root id new.stored in
+    let stays = extends_root new.stored (root_at (store_of new.stored) id) in
+    let lasts = after_lowering (body_stands skipped f e) old (given, id) new none is final stays in
+    let same : Unchanged 0 new.stored final = record { at = λ n x le e. e } in
+    let standing = (lasts.rel same).shown in
+    let moved = standing.moved in
+    let fits : Grown (body_size skipped f e) old.stored new.stored =
+    subst (λ r. GrownUnless (body_size skipped f e) old.stored r.0 r.1.stored) is (bodies_fit skipped f e old) in
+    let reported = after_lowering (body_reports skipped f e) old (given, id) new none is new.stored (extends_refl new.stored) in
+    let faults = reported.told [] refl in
+    let blocks = (after_lowering (body_enters skipped f e) old (given, id) new none is new.stored (extends_refl new.stored)).told [] refl in
+    record {
       root = id;
-      only = ap (λ rs. rs ++ root_at new.stored.exprs.entries id ∷ []) (kept.roots refl);
+      only = ap (λ rs. rs ++ root_at (store_of new.stored) id ∷ []) (kept.roots refl);
       expr_sources = paired.exprs;
       label_sources = paired.labels;
+      pat_sources = fits.pat_sources;
       type_sources = fits.type_sources;
       lifetime_sources = fits.lifetime_sources;
-      exprs = let n = fits.exprs in omega arith;
-      types = let n = fits.types in omega arith;
-      lifetimes = let n = fits.lifetimes in omega arith;
+      exprs = let n = fits.exprs in omega (arith, n);
+      bindings = let n = fits.bindings in omega (arith, n);
+      pats = let n = fits.pats in omega (arith, n);
+      types = let n = fits.types in omega (arith, n);
+      lifetimes = let n = fits.lifetimes in omega (arith, n);
+      pat_ways = lead_back (λ i. i.0) new.stored.pats mapped.pats;
       type_ways = lead_back (λ i. i.0) new.stored.types mapped.types;
       lifetime_ways = lead_back (λ i. i.0) new.stored.lifetimes mapped.lifetimes;
+      definitions = moved.defined undefined;
       ways = standing.ways;
-      stands = standing.stands;
-      covers = standing.covers;
-      covers_labels = standing.covers_labels;
-      leads = standing.led [] (leads_nowhere refl refl refl);
-      labels = let l = standing.labels in omega arith;
+      stands = standing.shown;
+      covers = moved.covers;
+      covers_labels = moved.covers_labels;
+      covers_bindings = moved.covers_bindings;
+      leads = moved.led [] (leads_nowhere refl refl refl refl);
+      labels = let l = moved.labels in omega (arith, l);
       more = faults.more;
       faults = faults.is;
-      permuted = faults.permuted;
-      blocks = blocks_are e old id new none is;
+      permuted = faults.like;
+      blocks = blocks.is ∙ ap (λ ns. [] ++ ns) (sym blocks.like);
     }

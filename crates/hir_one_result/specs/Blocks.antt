@@ -1,15 +1,17 @@
 -- The numbers of the blocks that lowering enters, in the order in which it reads the parts of a tree, those in constants of types
--- and paths among them. What is in a disabled node isn't read.
-use Rattle.std.specs.Prelude.{Bool, true, false, List, [], ◌++◌, option_to_list, Option, Some, None}
+-- and paths among them, those in patterns too. What is in a disabled node isn't read.
+use Rattle.std.specs.Prelude.{Bool, true, false, List, [], ◌∷◌, ◌++◌, option_to_list, Option, Some, None}
 use Rattle.hir_store.specs.declared.ids.BlockId.{BlockId}
 use Rattle.hir_env.specs.Answered as tree
 use Rattle.hir_env.specs.Answered.{Type_, OptionType, Parts, Path, OptionPath, Segments, Segment, SegmentArgs, OptionParens, OptionRet}
-use Rattle.hir_env.specs.Answered.{OptionArgs, Args, Arg, Bounds, Bound, Constant}
-use Rattle.hir_env.specs.Answered.{Expr, OptionExpr, Exprs, Fields, Field, Spread, Block, OptionBlock, Stmts, Stmt}
+use Rattle.hir_env.specs.Answered.{OptionArgs, Args, Arg, Bounds, Bound, Constant, Expr, OptionExpr, Exprs, Fields, Field, Spread, Block}
+use Rattle.hir_env.specs.Answered.{OptionBlock, Stmts, Stmt, Arms, Arm, Guard, Pat, OptionPat, Pats, PatFields, PatField, Side, TypePat}
+use Rattle.hir_env.specs.Answered.{OptionTypePat, TypePats, Limit, Target, Targets, TargetFields, TargetField}
+use Rattle.hir_data.specs.Tops.{Tops}
 use Rattle.hir_data.specs.Written.{written_path}
 use Rattle.hir_one_result.specs.PathRoom.{Seen, nothing_seen, at_first, Read, goes_on, segments_read, own_read, yields}
 
--- a record whose path is absent or refused isn't read
+-- what stands beside a path that is absent or refused isn't read
 abbrev pub where_some : {A X : Type 0} → Option A → List X → List X
 where_some None xs = []
 where_some (Some a) xs = xs
@@ -40,6 +42,7 @@ abbrev mutual
   blocks_of_type (tree.impl_type at mode bs) = blocks_of_bounds bs
   blocks_of_type (tree.nested_impl at) = []
   blocks_of_type (tree.dyn_type at bs) = blocks_of_bounds bs
+  blocks_of_type (tree.pattern_type at t own p) = blocks_of_type_part t ++ blocks_of_type_pat_part p
 
   pub blocks_of_type_part : OptionType → List BlockId
   blocks_of_type_part tree.no_type = []
@@ -119,6 +122,29 @@ abbrev mutual
   pub blocks_of_constant : Constant → List BlockId
   blocks_of_constant (tree.constant e) = blocks_of_part e
 
+  pub blocks_of_type_pat : TypePat → List BlockId
+  blocks_of_type_pat (tree.not_null_type_pat at) = []
+  blocks_of_type_pat (tree.or_type_pat at ps) = blocks_of_type_pats ps
+  blocks_of_type_pat (tree.range_type_pat at low high) = blocks_of_limit low ++ blocks_of_limit high
+  blocks_of_type_pat (tree.other_type_pat at) = []
+
+  pub blocks_of_type_pat_part : OptionTypePat → List BlockId
+  blocks_of_type_pat_part tree.no_type_pat = []
+  blocks_of_type_pat_part (tree.some_type_pat p) = blocks_of_type_pat p
+
+  pub blocks_of_type_pats : TypePats → List BlockId
+  blocks_of_type_pats tree.no_type_pats = []
+  blocks_of_type_pats (tree.more_type_pats p ps) = blocks_of_type_pat p ++ blocks_of_type_pats ps
+
+  pub blocks_of_limit : Limit → List BlockId
+  blocks_of_limit (tree.item_limit item) = []
+  blocks_of_limit (tree.side_limit s) = blocks_of_side s
+  blocks_of_limit (tree.before_limit item s) = blocks_of_side s
+
+  pub blocks_of_side : Side → List BlockId
+  blocks_of_side (tree.path_side at p) = blocks_of_whole p
+  blocks_of_side s = []
+
   -- ---- expressions
 
   pub blocks_of : Expr → List BlockId
@@ -127,7 +153,7 @@ abbrev mutual
   blocks_of (tree.if_expr at c t e) = blocks_of_block_part t ++ (blocks_of_part e ++ blocks_of_part c)
   blocks_of (tree.block_expr b) = blocks_of_block b
   blocks_of (tree.loop_expr at label b) = blocks_of_block_part b
-  blocks_of (tree.call_expr at f es) = blocks_of_part f ++ blocks_of_each es
+  blocks_of (tree.call_expr at f has_list es) = blocks_of_part f ++ blocks_of_each es
   blocks_of (tree.path_expr at p h) = blocks_of_whole p
   blocks_of (tree.continue_expr at jump) = []
   blocks_of (tree.break_expr at jump e) = blocks_of_part e
@@ -140,7 +166,7 @@ abbrev mutual
   blocks_of (tree.list_expr at form es) = blocks_of_each es
   blocks_of (tree.method_call_expr at e name es generics) = blocks_of_part e ++ (blocks_of_each es ++ blocks_of_args generics)
   blocks_of (tree.cast_expr at e t) = blocks_of_part e ++ blocks_of_type_part t
-  blocks_of (tree.record_expr at p fs s) =
+  blocks_of (tree.record_expr at p head fs s) =
       blocks_of_whole p ++ where_some (written_path p) (blocks_of_fields fs ++ blocks_of_spread s)
   blocks_of (tree.offset_of_expr at t names) = blocks_of_type_part t
   blocks_of (tree.leaving_expr at form e) = blocks_of_part e
@@ -148,6 +174,11 @@ abbrev mutual
   blocks_of (tree.yield_expr at e) = blocks_of_part e
   blocks_of (tree.await_expr at location e) = blocks_of_part e
   blocks_of (tree.nameless_expr at e) = blocks_of_part e
+  blocks_of (tree.let_expr at p e) = blocks_of_top p ++ blocks_of_part e
+  blocks_of (tree.match_expr at e arms) = blocks_of_part e ++ blocks_of_arms arms
+  blocks_of (tree.range_expr at form low high) = blocks_of_part low ++ blocks_of_part high
+  -- the target before the value
+  blocks_of (tree.assign_expr at own t e) = blocks_of_target t ++ blocks_of_part e
 
   pub blocks_of_part : OptionExpr → List BlockId
   blocks_of_part tree.no_expr = []
@@ -163,8 +194,21 @@ abbrev mutual
 
   pub blocks_of_field : Field → List BlockId
   blocks_of_field (tree.disabled_field at by f) = []
-  blocks_of_field tree.nameless_field = []
+  blocks_of_field (tree.nameless_field at e) = []
   blocks_of_field (tree.named_field at name e) = blocks_of_part e
+
+  pub blocks_of_arms : Arms → List BlockId
+  blocks_of_arms tree.no_arms = []
+  blocks_of_arms (tree.more_arms a arms) = blocks_of_arm a ++ blocks_of_arms arms
+
+  -- the guard behind the expression
+  pub blocks_of_arm : Arm → List BlockId
+  blocks_of_arm (tree.disabled_arm at by a) = []
+  blocks_of_arm (tree.arm p e g) = blocks_of_top p ++ (blocks_of_part e ++ blocks_of_guard g)
+
+  pub blocks_of_guard : Guard → List BlockId
+  blocks_of_guard tree.no_guard = []
+  blocks_of_guard (tree.guard e) = blocks_of_part e
 
   pub blocks_of_spread : Spread → List BlockId
   blocks_of_spread tree.no_spread = []
@@ -185,4 +229,74 @@ abbrev mutual
 
   pub blocks_of_stmt : Stmt → List BlockId
   blocks_of_stmt (tree.expr_stmt e semi) = blocks_of_part e
+  blocks_of_stmt (tree.disabled_stmt at by s) = []
   blocks_of_stmt tree.item_stmt = []
+  blocks_of_stmt (tree.let_stmt p t e b) =
+      blocks_of_top p ++ (blocks_of_present_type t ++ (blocks_of_part e ++ blocks_of_block_part b))
+
+  -- ---- patterns
+
+  pub blocks_of_pat : Pat → List BlockId
+  blocks_of_pat (tree.leaf_pat at form) = []
+  blocks_of_pat (tree.bind_pat at u sub) = blocks_of_top sub
+  blocks_of_pat (tree.name_pat at u) = []
+  blocks_of_pat (tree.path_pat at p) = blocks_of_whole p
+  blocks_of_pat (tree.tuple_struct_pat at p comma ps) = blocks_of_whole p ++ where_some (written_path p) (blocks_of_pats ps)
+  blocks_of_pat (tree.tuple_pat at comma ps) = blocks_of_pats ps
+  blocks_of_pat (tree.record_pat at p fs dots) = blocks_of_whole p ++ where_some (written_path p) (blocks_of_pat_fields fs)
+  blocks_of_pat (tree.or_pat at ps) = blocks_of_pats ps
+  blocks_of_pat (tree.paren_pat at p) = blocks_of_top p
+  blocks_of_pat (tree.slice_pat at before middle behind) =
+      blocks_of_pats before ++ (blocks_of_top middle ++ blocks_of_pats behind)
+  blocks_of_pat (tree.over_pat at form p) = blocks_of_top p
+  blocks_of_pat (tree.literal_pat at own l) = []
+  blocks_of_pat (tree.range_pat at op low high) = blocks_of_side low ++ blocks_of_side high
+
+  pub blocks_of_top : OptionPat → List BlockId
+  blocks_of_top tree.no_pat = []
+  blocks_of_top (tree.some_pat p) = blocks_of_pat p
+
+  pub blocks_of_pats : Pats → List BlockId
+  blocks_of_pats tree.no_pats = []
+  blocks_of_pats (tree.more_pats p ps) = blocks_of_pat p ++ blocks_of_pats ps
+
+  pub blocks_of_pat_fields : PatFields → List BlockId
+  blocks_of_pat_fields tree.no_pat_fields = []
+  blocks_of_pat_fields (tree.more_pat_fields f fs) = blocks_of_pat_field f ++ blocks_of_pat_fields fs
+
+  pub blocks_of_pat_field : PatField → List BlockId
+  blocks_of_pat_field (tree.disabled_pat_field at by f) = []
+  blocks_of_pat_field tree.partless_pat_field = []
+  blocks_of_pat_field (tree.pat_field at n p) = blocks_of_pat p
+
+  -- ---- what is assigned to
+
+  pub blocks_of_target : Target → List BlockId
+  blocks_of_target tree.absent_target = []
+  blocks_of_target (tree.place_target at e) = blocks_of e
+  blocks_of_target (tree.wild_target at) = []
+  blocks_of_target (tree.path_target at p h) = blocks_of_path p nothing_seen
+  blocks_of_target (tree.tuple_target at ts) = blocks_of_targets ts
+  blocks_of_target (tree.call_target at p ts) = blocks_of_whole p ++ where_some (written_path p) (blocks_of_targets ts)
+  blocks_of_target (tree.array_target at before dots behind) = blocks_of_targets before ++ blocks_of_targets behind
+  blocks_of_target (tree.record_target at p fs dots spread) =
+      blocks_of_whole p ++ where_some (written_path p) (blocks_of_target_fields fs)
+
+  pub blocks_of_targets : Targets → List BlockId
+  blocks_of_targets tree.no_targets = []
+  blocks_of_targets (tree.more_targets t ts) = blocks_of_target t ++ blocks_of_targets ts
+  blocks_of_targets (tree.dots_targets ts) = blocks_of_targets ts
+
+  pub blocks_of_target_fields : TargetFields → List BlockId
+  blocks_of_target_fields tree.no_target_fields = []
+  blocks_of_target_fields (tree.more_target_fields f fs) = blocks_of_target_field f ++ blocks_of_target_fields fs
+
+  pub blocks_of_target_field : TargetField → List BlockId
+  blocks_of_target_field (tree.disabled_target_field at by) = []
+  blocks_of_target_field tree.partless_target_field = []
+  blocks_of_target_field (tree.target_field at n t) = blocks_of_target t
+
+-- of parameters
+abbrev pub blocks_of_tops : Tops → List BlockId
+blocks_of_tops [] = []
+blocks_of_tops (p ∷ ps) = blocks_of_top p ++ blocks_of_tops ps

@@ -1,26 +1,30 @@
 -- The faults of what lowering reads of a tree, in some order: one for each disabled node that is asked about, and one for each
--- named jump that has no target, or none in reach, and one for each await outside of async code. Those of constants in types and
--- paths are among them. What is in a disabled node isn't read.
+-- named jump that has no target, or none in reach, one for each await outside of async code, one for each expression behind the
+-- two dots of a record that is assigned to, and one for each parameter that may only be a name and isn't. Those of constants in
+-- types and paths are among them. What is in a disabled node isn't read.
 use Rattle.std.specs.Prelude.{◌≡◌, Bool, true, false, List, [], ◌∷◌, ◌++◌, Option, Some, None}
 use Rattle.hir_store.specs.declared.diagnostics.ExpressionStoreDiagnostics.{ExpressionStoreDiagnostics}
-use Rattle.hir_store.specs.declared.diagnostics.ExpressionStoreDiagnostics.TheVariants.{AwaitOutsideOfAsync, InactiveCode}
-use Rattle.hir_store.specs.declared.diagnostics.ExpressionStoreDiagnostics.TheVariants.{UndeclaredLabel, UnreachableLabel}
+use Rattle.hir_store.specs.declared.diagnostics.ExpressionStoreDiagnostics.TheVariants.{AwaitOutsideOfAsync, InactiveCode, UndeclaredLabel}
+use Rattle.hir_store.specs.declared.diagnostics.ExpressionStoreDiagnostics.TheVariants.{UnreachableLabel, FruInDestructuringAssignment}
+use Rattle.hir_store.specs.declared.diagnostics.ExpressionStoreDiagnostics.TheVariants.{PatternArgInExternFn}
 use Rattle.hir_store.specs.declared.diagnostics.AwaitLocation.{AwaitLocation}
 use Rattle.hir_store.specs.Pointers.{Pointer}
 use Rattle.hir_env.specs.Answered as tree
 use Rattle.hir_env.specs.Answered.{Type_, OptionType, Parts, Path, OptionPath, Segments, Segment, SegmentArgs, OptionParens, OptionRet}
-use Rattle.hir_env.specs.Answered.{OptionArgs, Args, Arg, Bounds, Bound, Constant}
-use Rattle.hir_env.specs.Answered.{Jump, Expr, OptionExpr, Exprs, Fields, Field, Spread, Block, OptionBlock, Stmts}
+use Rattle.hir_env.specs.Answered.{OptionArgs, Args, Arg, Bounds, Bound, Constant, Jump, Expr, OptionExpr, Exprs, Fields, Field, Spread}
+use Rattle.hir_env.specs.Answered.{Block, OptionBlock, Stmts, Stmt, Arms, Arm, Guard, Pat, OptionPat, Pats, PatFields, PatField, Side}
+use Rattle.hir_env.specs.Answered.{TypePat, OptionTypePat, TypePats, Limit, Target, Targets, TargetFields, TargetField, SelfFormal, Formal}
+use Rattle.hir_env.specs.Answered.{Formals}
 use Rattle.hir_data.specs.Written.{written_path}
 use Rattle.hir_one_result.specs.Blocks.{where_some, where_goes_on, unless}
 use Rattle.hir_one_result.specs.PathRoom.{Seen, nothing_seen, at_first, segments_read, own_read, yields}
-use Rattle.hir_scope.specs.Ribs.{Rib, Target, reachable, unreachable, undeclared, target, map_ribs}
+use Rattle.hir_scope.specs.Ribs.{Rib, Target as JumpTarget, reachable, unreachable, undeclared, target, map_ribs}
 use Rattle.hir_scope.specs.Scopes.{Scope, loop_scope, barrier, ribs, scopes_in_block}
 
 abbrev pub Faults : Type 0
 Faults = List ExpressionStoreDiagnostics
 
-abbrev pub target_faults : {A : Type 0} → Jump → Target A → Faults
+abbrev pub target_faults : {A : Type 0} → Jump → JumpTarget A → Faults
 target_faults j (reachable a) = []
 target_faults j unreachable = UnreachableLabel j.pointer j.name ∷ []
 target_faults j undeclared = UndeclaredLabel j.pointer j.name ∷ []
@@ -33,6 +37,11 @@ jump_faults ss (Some j) = target_faults j (target j (ribs ss))
 abbrev pub await_faults : Pointer → Option AwaitLocation → Faults
 await_faults at None = []
 await_faults at (Some location) = AwaitOutsideOfAsync at location ∷ []
+
+-- an expression behind the two dots of a record that is assigned to
+abbrev pub spread_faults : Option Pointer → Faults
+spread_faults None = []
+spread_faults (Some at) = FruInDestructuringAssignment at ∷ []
 
 abbrev mutual
   -- ---- constants in types, paths, arguments and bounds
@@ -51,6 +60,7 @@ abbrev mutual
   type_faults ss (tree.impl_type at mode bs) = bounds_faults ss bs
   type_faults ss (tree.nested_impl at) = []
   type_faults ss (tree.dyn_type at bs) = bounds_faults ss bs
+  type_faults ss (tree.pattern_type at t own p) = type_part_faults ss t ++ type_pat_part_faults ss p
 
   pub type_part_faults : List Scope → OptionType → Faults
   type_part_faults ss tree.no_type = []
@@ -131,6 +141,30 @@ abbrev mutual
   pub constant_faults : List Scope → Constant → Faults
   constant_faults ss (tree.constant e) = part_diagnostics (barrier ∷ ss) e
 
+  pub type_pat_faults : List Scope → TypePat → Faults
+  type_pat_faults ss (tree.not_null_type_pat at) = []
+  type_pat_faults ss (tree.or_type_pat at ps) = type_pats_faults ss ps
+  type_pat_faults ss (tree.range_type_pat at low high) = limit_faults ss low ++ limit_faults ss high
+  type_pat_faults ss (tree.other_type_pat at) = []
+
+  pub type_pat_part_faults : List Scope → OptionTypePat → Faults
+  type_pat_part_faults ss tree.no_type_pat = []
+  type_pat_part_faults ss (tree.some_type_pat p) = type_pat_faults ss p
+
+  pub type_pats_faults : List Scope → TypePats → Faults
+  type_pats_faults ss tree.no_type_pats = []
+  type_pats_faults ss (tree.more_type_pats p ps) = type_pat_faults ss p ++ type_pats_faults ss ps
+
+  -- no jump in an end reaches what is open around it
+  pub limit_faults : List Scope → Limit → Faults
+  limit_faults ss (tree.item_limit item) = []
+  limit_faults ss (tree.side_limit s) = side_faults (barrier ∷ ss) s
+  limit_faults ss (tree.before_limit item s) = side_faults (barrier ∷ ss) s
+
+  pub side_faults : List Scope → Side → Faults
+  side_faults ss (tree.path_side at p) = whole_faults ss p
+  side_faults ss s = []
+
   -- ---- expressions
 
   pub diagnostics : List Scope → Expr → Faults
@@ -138,7 +172,7 @@ abbrev mutual
   diagnostics ss (tree.if_expr at c t e) = part_diagnostics ss c ++ (block_part_diagnostics ss t ++ part_diagnostics ss e)
   diagnostics ss (tree.block_expr b) = block_diagnostics ss b
   diagnostics ss (tree.loop_expr at label b) = block_part_diagnostics (loop_scope label ∷ ss) b
-  diagnostics ss (tree.call_expr at f es) = part_diagnostics ss f ++ each_diagnostics ss es
+  diagnostics ss (tree.call_expr at f has_list es) = part_diagnostics ss f ++ each_diagnostics ss es
   diagnostics ss (tree.path_expr at p h) = whole_faults ss p
   diagnostics ss (tree.continue_expr at jump) = jump_faults ss jump
   diagnostics ss (tree.break_expr at jump e) = jump_faults ss jump ++ part_diagnostics ss e
@@ -152,7 +186,7 @@ abbrev mutual
   diagnostics ss (tree.method_call_expr at e name es generics) =
       part_diagnostics ss e ++ (each_diagnostics ss es ++ args_faults ss generics)
   diagnostics ss (tree.cast_expr at e t) = part_diagnostics ss e ++ type_part_faults ss t
-  diagnostics ss (tree.record_expr at p fs s) =
+  diagnostics ss (tree.record_expr at p head fs s) =
       whole_faults ss p ++ where_some (written_path p) (fields_diagnostics ss fs ++ spread_diagnostics ss s)
   diagnostics ss (tree.offset_of_expr at t names) = type_part_faults ss t
   diagnostics ss (tree.leaving_expr at form e) = part_diagnostics ss e
@@ -160,6 +194,10 @@ abbrev mutual
   diagnostics ss (tree.yield_expr at e) = part_diagnostics ss e
   diagnostics ss (tree.await_expr at location e) = part_diagnostics ss e ++ await_faults at location
   diagnostics ss (tree.nameless_expr at e) = part_diagnostics ss e
+  diagnostics ss (tree.let_expr at p e) = top_faults ss p ++ part_diagnostics ss e
+  diagnostics ss (tree.match_expr at e arms) = part_diagnostics ss e ++ arms_diagnostics ss arms
+  diagnostics ss (tree.range_expr at form low high) = part_diagnostics ss low ++ part_diagnostics ss high
+  diagnostics ss (tree.assign_expr at own t e) = target_faults_in ss t ++ part_diagnostics ss e
 
   pub part_diagnostics : List Scope → OptionExpr → Faults
   part_diagnostics ss tree.no_expr = []
@@ -176,8 +214,20 @@ abbrev mutual
   -- a field without a name isn't read, where no condition disables it
   pub field_diagnostics : List Scope → Field → Faults
   field_diagnostics ss (tree.disabled_field at by f) = InactiveCode at by ∷ []
-  field_diagnostics ss tree.nameless_field = []
+  field_diagnostics ss (tree.nameless_field at e) = []
   field_diagnostics ss (tree.named_field at name e) = part_diagnostics ss e
+
+  pub arms_diagnostics : List Scope → Arms → Faults
+  arms_diagnostics ss tree.no_arms = []
+  arms_diagnostics ss (tree.more_arms a arms) = arm_diagnostics ss a ++ arms_diagnostics ss arms
+
+  pub arm_diagnostics : List Scope → Arm → Faults
+  arm_diagnostics ss (tree.disabled_arm at by a) = InactiveCode at by ∷ []
+  arm_diagnostics ss (tree.arm p e g) = top_faults ss p ++ (part_diagnostics ss e ++ guard_diagnostics ss g)
+
+  pub guard_diagnostics : List Scope → Guard → Faults
+  guard_diagnostics ss tree.no_guard = []
+  guard_diagnostics ss (tree.guard e) = part_diagnostics ss e
 
   pub spread_diagnostics : List Scope → Spread → Faults
   spread_diagnostics ss tree.no_spread = []
@@ -195,8 +245,100 @@ abbrev mutual
   -- the statements, and then the tail, in the scopes that the statements leave
   pub contents_diagnostics : List Scope → Stmts → (List Scope → Faults) → Faults
   contents_diagnostics ss tree.no_stmts tail = tail ss
-  contents_diagnostics ss (tree.more_stmts (tree.expr_stmt e semi) stmts) tail = part_diagnostics ss e ++ contents_diagnostics ss stmts tail
-  contents_diagnostics ss (tree.more_stmts tree.item_stmt stmts) tail = contents_diagnostics ss stmts tail
+  contents_diagnostics ss (tree.more_stmts s stmts) tail = stmt_diagnostics ss s ++ contents_diagnostics ss stmts tail
+
+  pub stmt_diagnostics : List Scope → Stmt → Faults
+  stmt_diagnostics ss (tree.expr_stmt e semi) = part_diagnostics ss e
+  stmt_diagnostics ss (tree.disabled_stmt at by s) = InactiveCode at by ∷ []
+  stmt_diagnostics ss tree.item_stmt = []
+  stmt_diagnostics ss (tree.let_stmt p t e b) =
+      top_faults ss p ++ (present_type_faults ss t ++ (part_diagnostics ss e ++ block_part_diagnostics ss b))
+
+  -- ---- patterns
+
+  pub pat_faults : List Scope → Pat → Faults
+  pat_faults ss (tree.leaf_pat at form) = []
+  pat_faults ss (tree.bind_pat at u sub) = top_faults ss sub
+  pat_faults ss (tree.name_pat at u) = []
+  pat_faults ss (tree.path_pat at p) = whole_faults ss p
+  pat_faults ss (tree.tuple_struct_pat at p comma ps) = whole_faults ss p ++ where_some (written_path p) (pats_faults ss ps)
+  pat_faults ss (tree.tuple_pat at comma ps) = pats_faults ss ps
+  pat_faults ss (tree.record_pat at p fs dots) = whole_faults ss p ++ where_some (written_path p) (pat_fields_faults ss fs)
+  pat_faults ss (tree.or_pat at ps) = pats_faults ss ps
+  pat_faults ss (tree.paren_pat at p) = top_faults ss p
+  pat_faults ss (tree.slice_pat at before middle behind) = pats_faults ss before ++ (top_faults ss middle ++ pats_faults ss behind)
+  pat_faults ss (tree.over_pat at form p) = top_faults ss p
+  pat_faults ss (tree.literal_pat at own l) = []
+  pat_faults ss (tree.range_pat at op low high) = side_faults ss low ++ side_faults ss high
+
+  pub top_faults : List Scope → OptionPat → Faults
+  top_faults ss tree.no_pat = []
+  top_faults ss (tree.some_pat p) = pat_faults ss p
+
+  pub pats_faults : List Scope → Pats → Faults
+  pats_faults ss tree.no_pats = []
+  pats_faults ss (tree.more_pats p ps) = pat_faults ss p ++ pats_faults ss ps
+
+  pub pat_fields_faults : List Scope → PatFields → Faults
+  pat_fields_faults ss tree.no_pat_fields = []
+  pat_fields_faults ss (tree.more_pat_fields f fs) = pat_field_faults ss f ++ pat_fields_faults ss fs
+
+  pub pat_field_faults : List Scope → PatField → Faults
+  pat_field_faults ss (tree.disabled_pat_field at by f) = InactiveCode at by ∷ []
+  pat_field_faults ss tree.partless_pat_field = []
+  pat_field_faults ss (tree.pat_field at n p) = pat_faults ss p
+
+  -- ---- what is assigned to
+
+  pub target_faults_in : List Scope → Target → Faults
+  target_faults_in ss tree.absent_target = []
+  target_faults_in ss (tree.place_target at e) = diagnostics ss e
+  target_faults_in ss (tree.wild_target at) = []
+  target_faults_in ss (tree.path_target at p h) = path_faults ss p nothing_seen
+  target_faults_in ss (tree.tuple_target at ts) = targets_faults ss ts
+  target_faults_in ss (tree.call_target at p ts) = whole_faults ss p ++ where_some (written_path p) (targets_faults ss ts)
+  target_faults_in ss (tree.array_target at before dots behind) = targets_faults ss before ++ targets_faults ss behind
+  target_faults_in ss (tree.record_target at p fs dots spread) =
+      whole_faults ss p ++ where_some (written_path p) (spread_faults spread ++ target_fields_faults ss fs)
+
+  pub targets_faults : List Scope → Targets → Faults
+  targets_faults ss tree.no_targets = []
+  targets_faults ss (tree.more_targets t ts) = target_faults_in ss t ++ targets_faults ss ts
+  targets_faults ss (tree.dots_targets ts) = targets_faults ss ts
+
+  pub target_fields_faults : List Scope → TargetFields → Faults
+  target_fields_faults ss tree.no_target_fields = []
+  target_fields_faults ss (tree.more_target_fields f fs) = target_field_faults ss f ++ target_fields_faults ss fs
+
+  pub target_field_faults : List Scope → TargetField → Faults
+  target_field_faults ss (tree.disabled_target_field at by) = InactiveCode at by ∷ []
+  target_field_faults ss tree.partless_target_field = []
+  target_field_faults ss (tree.target_field at n t) = target_faults_in ss t
+
+-- ---- parameters
+
+abbrev pub self_faults : SelfFormal → Faults
+self_faults tree.no_self = []
+self_faults (tree.disabled_self at by) = InactiveCode at by ∷ []
+self_faults (tree.self_formal at u) = []
+
+-- of a skipped body none is read
+abbrev pub formal_faults : Bool → List Scope → Formal → Faults
+formal_faults skipped ss (tree.disabled_formal at by) = InactiveCode at by ∷ []
+formal_faults true ss f = []
+formal_faults false ss (tree.formal p) = top_faults ss p
+formal_faults false ss (tree.fault_formal at) = PatternArgInExternFn at ∷ []
+
+abbrev pub each_formal_faults : Bool → List Scope → List Formal → Faults
+each_formal_faults skipped ss [] = []
+each_formal_faults skipped ss (f ∷ fs) = formal_faults skipped ss f ++ each_formal_faults skipped ss fs
+
+abbrev pub formals_faults : Bool → List Scope → Formals → Faults
+formals_faults skipped ss f = self_faults f.receiver ++ each_formal_faults skipped ss f.formals
+
+-- of a body behind its parameters
+abbrev pub body_faults : Bool → List Scope → Formals → OptionExpr → Faults
+body_faults skipped ss f e = formals_faults skipped ss f ++ part_diagnostics ss e
 
 -- the scopes in which something is lowered
 

@@ -1,12 +1,23 @@
 -- The stored form of each member of a family, over what its parts became.
-use Rattle.std.specs.Prelude.{Option, Some}
-use Rattle.hir_syntax.specs.declared.ast.LogicOp.{LogicOp}
-use Rattle.hir_syntax.specs.declared.ast.BinaryOp.TheVariants as operator
+use Rattle.std.specs.Prelude.{codes, List, [], ◌∷◌, ◌++◌, Option, Some, None}
+use Rattle.hir_base.specs.declared.op.LogicOp.{LogicOp}
+use Rattle.hir_base.specs.declared.op.BinaryOp.TheVariants as operator
 use Rattle.hir_store.specs.declared.hir.Expr.{Expr as HirExpr}
 use Rattle.hir_store.specs.declared.hir.Expr.TheVariants as hir
+use Rattle.hir_store.specs.declared.hir.RecordLitField.{RecordLitField}
 use Rattle.hir_store.specs.declared.ids.ExprId.{ExprId}
+use Rattle.hir_store.specs.declared.ids.HygieneId.{HygieneId}
+use Rattle.hir_store.specs.declared.ids.LangItemId.{LangItemId}
+use Rattle.hir_store.specs.declared.ids.PatId.{PatId}
+use Rattle.hir_store.specs.declared.name.Name.{Name}
+use Rattle.hir_store.specs.declared.name.Name.TheVariants as name
+use Rattle.hir_store.specs.declared.pat.Pat.{Pat as HirPat}
+use Rattle.hir_store.specs.declared.pat.Pat.TheVariants as pat
+use Rattle.hir_store.specs.declared.path.Path.{Path}
+use Rattle.hir_store.specs.declared.path.Path.TheVariants.{BarePath, LangItem}
+use Rattle.hir_store.specs.declared.path.PathKind.TheVariants as kind
 use Rattle.hir_env.specs.Answered as tree
-use Rattle.hir_env.specs.Answered.{Leaf, Unary, Binary, Leaving}
+use Rattle.hir_env.specs.Answered.{Leaf, Unary, Binary, Leaving, PatUnary}
 
 -- for what is left out stands a missing expression
 abbrev pub leaf_form : Leaf → HirExpr
@@ -30,3 +41,29 @@ lazy_form op left right = hir.BinaryOp (Some (operator.LogicOp op)) left right
 abbrev pub leaving_form : Leaving → Option ExprId → HirExpr
 leaving_form tree.returning value = hir.Return value
 leaving_form tree.yeeting value = hir.Yeet value
+
+abbrev pub pat_unary_form : PatUnary → PatId → HirPat
+pat_unary_form (tree.ref_to mutability) p = pat.Ref mutability p
+pat_unary_form tree.box_of p = pat.Box p
+pat_unary_form tree.deref_of p = pat.Deref p
+
+-- what isn't a name alone in an expression is looked up as what no macro made
+abbrev pub no_macro : HygieneId
+no_macro = record { 0 = 0 }
+
+abbrev pub path_of_name : Name → Path
+path_of_name n = BarePath (record { kind = kind.Plain; segments = n ∷ [] })
+
+-- an item that the language lacks is missing
+abbrev pub item_form : Option LangItemId → HirExpr
+item_form None = hir.Missing
+item_form (Some i) = hir.Path (LangItem i) no_macro
+
+-- the field of an end that is there
+abbrev pub end_field : Name → Option ExprId → List RecordLitField
+end_field n None = []
+end_field n (Some e) = record { name = n; expr = e } ∷ []
+
+-- the ends of a range, as fields and as arguments
+abbrev pub range_fields : Name → Option ExprId → Option ExprId → List RecordLitField
+range_fields last low high = end_field (name.Text (codes "start")) low ++ end_field last high

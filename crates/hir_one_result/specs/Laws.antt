@@ -1,22 +1,24 @@
 -- What lowering a tree does to what is stored.
-use Rattle.std.specs.Prelude.{◌≡◌, ◌+◌, List, ◌++◌, length, Option, Ok, Err, IsPermutation}
+use Rattle.std.specs.Prelude.{◌≡◌, ◌+◌, Bool, List, ◌++◌, length, Option, Ok, Err, IsPermutation}
+use Rattle.hir_store.specs.Arenas.{Prefix}
 use Rattle.hir_store.specs.Stored.{Stored, store_of, map_of}
 use Rattle.hir_store.specs.Storing.{Checked, Extends}
 use Rattle.hir_store.specs.declared.ids.ExprId.{ExprId}
 use Rattle.hir_store.specs.declared.ids.LabelId.{LabelId}
-use Rattle.hir_env.specs.Answered.{Binder, OptionType, OptionPath, OptionExpr}
+use Rattle.hir_env.specs.Answered.{Binder, Formals, OptionType, OptionPath, OptionExpr}
 use Rattle.hir_scope.specs.Ribs.{Rib}
 use Rattle.hir_scope.specs.Scopes.{Scope}
 use Rattle.hir_lower_form.specs.Builder.{Builder}
 use Rattle.hir_lower_form.specs.Lower.{type_part, lower_path, lower_part}
 use Rattle.hir_steps.specs.Keeps.{Paired}
-use Rattle.hir_one_result.specs.Leads.{Way, label_ways, Covers, CoversLabels, Led}
+use Rattle.hir_one_result.specs.Definitions.{DefinitionsAre}
+use Rattle.hir_one_result.specs.Formals.{lower_body}
+use Rattle.hir_one_result.specs.Leads.{Way, label_ways, Covers, CoversLabels, CoversBindings, Led}
 use Rattle.hir_one_result.specs.Stands.{StandsPart}
 use Rattle.hir_one_result.specs.Diagnostics.{Faults, part_diagnostics, Around}
 use Rattle.hir_one_result.specs.Blocks.{blocks_of_part}
 use Rattle.hir_one_result.specs.Size.{Size}
-use Rattle.hir_one_result.specs.Room.{type_part_size, whole_size}
-use Rattle.hir_one_result.specs.Room.{Short, size_part}
+use Rattle.hir_one_result.specs.Room.{Short, body_size, size_part, type_part_size, whole_size}
 
 -- what is claimed where the tree is lowered into a `Paired` store
 abbrev pub WhereLowered : (OptionExpr → Builder → ExprId → Builder → Type 0) → Type 0
@@ -25,19 +27,35 @@ WhereLowered R =
 
 -- forms, parts and sources, and ways back
 
--- The expression stands for the tree, and so does each one that is stored with it; what led somewhere before leads there or by
--- the ways of the tree, and each label more is the end of one.
+-- what was settled of the bindings by then stays, also what is wrong about them
+abbrev pub Settled : Stored → Stored → Type 0
+Settled old new = Prefix old.bindings.entries new.bindings.entries
+
+-- each binding has the patterns that make it
+abbrev pub Defined : Stored → Type 0
+Defined s = DefinitionsAre s.pats.entries (length s.bindings.entries) s.bindings.definitions
+
+-- What is stored between these two is what these ways lead to: what led somewhere before leads there or by the ways, and each
+-- expression, label and binding more is the end of one.
+pub record Reaches (old new : Stored) (ways : List Way) : Type 0 where
+  pub covers : Covers ways (length old.exprs.entries) (length new.exprs.entries)
+  pub covers_labels : CoversLabels ways (length old.labels.entries) (length new.labels.entries)
+  pub covers_bindings : CoversBindings ways (length old.bindings.entries) (length new.bindings.entries)
+  pub led : Led (map_of old) (map_of new) ways
+  pub labels : length new.labels.entries ≡ length old.labels.entries + label_ways ways
+  pub settled : Settled old new
+  pub defined : Defined old → Defined new
+
+-- The expression stands for the tree, and so does each one that is stored with it.
 pub record Standing (final : Stored) (e : OptionExpr) (old new : Builder) (id : ExprId) : Type 0 where
   pub ways : List Way
   pub stands : StandsPart (store_of final) (map_of final) old.scopes e id ways
-  pub covers : Covers ways (length old.stored.exprs.entries) (length new.stored.exprs.entries)
-  pub covers_labels : CoversLabels ways (length old.stored.labels.entries) (length new.stored.labels.entries)
-  pub led : Led (map_of old.stored) (map_of new.stored) ways
-  pub labels : length new.stored.labels.entries ≡ length old.stored.labels.entries + label_ways ways
+  pub reaches : Reaches old.stored new.stored ways
 
 -- so it is in each final store that begins with what is stored by then
 abbrev pub AllStand : Type 0
-AllStand = WhereLowered (λ e old id new. (final : Stored) → Extends new.stored final → Standing final e old new id)
+AllStand = WhereLowered (λ e old id new.
+    (final : Stored) → Extends new.stored final → Settled new.stored final → Standing final e old new id)
 
 -- diagnostics
 
@@ -63,10 +81,13 @@ BlocksAre = WhereLowered (λ e old id new. new.stored.block_scopes ≡ old.store
 
 -- numbers
 
--- So many expressions and labels come behind those that were stored, and types and lifetimes with these sources.
+-- So many expressions, labels and bindings come behind those that were stored, and patterns, types and lifetimes with these sources.
 pub record Grown (n : Size) (old new : Stored) : Type 0 where
   pub exprs : length new.exprs.entries ≡ length old.exprs.entries + n.exprs
   pub labels : length new.labels.entries ≡ length old.labels.entries + n.labels
+  pub bindings : length new.bindings.entries ≡ length old.bindings.entries + n.bindings
+  pub pats : length new.pats.entries ≡ length old.pats.entries + length n.pats
+  pub pat_sources : new.pats.sources ≡ old.pats.sources ++ n.pats
   pub types : length new.types.entries ≡ length old.types.entries + length n.types
   pub lifetimes : length new.lifetimes.entries ≡ length old.lifetimes.entries + length n.lifetimes
   pub type_sources : new.types.sources ≡ old.types.sources ++ n.types
@@ -94,3 +115,9 @@ TypesFit = (binder : Option Binder) (t : OptionType) (old : Builder)
 
 abbrev pub PathsFit : Type 0
 PathsFit = (p : OptionPath) (old : Builder) → GrownUnless (whole_size p) old.stored (lower_path p old).0 (lower_path p old).1.stored
+
+-- and of bodies behind their parameters
+
+abbrev pub BodiesFit : Type 0
+BodiesFit = (skipped : Bool) (f : Formals) (e : OptionExpr) (old : Builder)
+    → GrownUnless (body_size skipped f e) old.stored (lower_body skipped f e old).0 (lower_body skipped f e old).1.stored

@@ -1,46 +1,79 @@
 -- Store, source map and faults of a lowered body are one result of its tree.
-use Rattle.std.specs.Prelude.{◌≡◌, ℕ, true, List, [], ◌∷◌, ◌++◌, length, Ok, IsPermutation}
+use Rattle.std.specs.Prelude.{◌≡◌, ℕ, Bool, true, false, List, [], ◌∷◌, ◌++◌, length, Option, Some, Ok, IsPermutation, slice_get}
 use Rattle.hir_store.specs.Stored.{Stored, Store, SourceMap, store_of, map_of}
 use Rattle.hir_store.specs.Storing.{root_at, record_root}
+use Rattle.hir_store.specs.declared.ids.BindingId.{BindingId}
 use Rattle.hir_store.specs.declared.ids.ExprId.{ExprId}
-use Rattle.hir_env.specs.Answered.{OptionExpr}
+use Rattle.hir_store.specs.declared.ids.PatId.{PatId}
+use Rattle.hir_env.specs.Answered as tree
+use Rattle.hir_env.specs.Answered.{Formals, OptionExpr, SelfFormal}
+use Rattle.hir_data.specs.Tops.{Tops}
 use Rattle.hir_lower_form.specs.Builder.{Builder, fresh}
-use Rattle.hir_lower_form.specs.Lower.{lower_part}
-use Rattle.hir_one_result.specs.Leads.{Way, label_ways, Covers, CoversLabels, MapLeads, LeadBack}
-use Rattle.hir_one_result.specs.Stands.{StandsPart}
-use Rattle.hir_one_result.specs.Diagnostics.{Faults, part_diagnostics}
-use Rattle.hir_one_result.specs.Blocks.{blocks_of_part}
-use Rattle.hir_one_result.specs.Room.{count_of_exprs, count_of_types, count_of_lifetimes, type_sources_of, lifetime_sources_of}
+use Rattle.hir_lower_form.specs.Pats.{new_binding}
+use Rattle.hir_one_result.specs.Blocks.{blocks_of_part, blocks_of_tops}
+use Rattle.hir_one_result.specs.Definitions.{DefinitionsAre}
+use Rattle.hir_one_result.specs.Diagnostics.{Faults, body_faults}
+use Rattle.hir_one_result.specs.Formals.{Given, formals_read, lower_body}
+use Rattle.hir_one_result.specs.Leads.{Way, Ways, No, OneBindingWay, ◌&◌, label_ways, Covers, CoversLabels, CoversBindings, MapLeads}
+use Rattle.hir_one_result.specs.Leads.{LeadBack}
+use Rattle.hir_one_result.specs.Room.{body_size}
+use Rattle.hir_one_result.specs.Stands.{Open, Absent, StandsBefore, StandsPart, StandsTop}
 
--- What is stored where one body was lowered. To the one root belongs all that is stored, each with its source, as many
--- expressions as the tree becomes, and types and lifetimes from just those of its nodes that become one. The root stands for
--- the tree, and each expression is what a written one became, or a missing one for an absent or disabled part, or in front of a
--- tuple with a leading comma; each label is what a written one became, and there are as many. The source map leads from each
--- written expression and label to what it became, and from nowhere else; the nodes of types and lifetimes lead to them, and no
--- other nodes do. Behind the faults that the body owes as a whole come those of what is read of the tree, in some order. The
--- blocks with numbers are those of the tree, in the order of entering.
-pub record OneResult (store : Store) (source_map : SourceMap) (owed : Faults) (e : OptionExpr) : Type 0 where
+-- what stands for a body and its parameters
+
+-- no pattern makes the binding of `self`, and nothing is wrong about it
+abbrev pub StandsSelf : Store → SelfFormal → Option BindingId → Ways
+StandsSelf store tree.no_self o = Absent o
+StandsSelf store (tree.disabled_self at by) o = Absent o
+StandsSelf store (tree.self_formal at u) o = λ ws.
+    (b : BindingId) × (o ≡ Some b) × (slice_get store.bindings b.0 ≡ Some (new_binding u)) × OneBindingWay b ws
+
+abbrev pub StandsTops : Store → SourceMap → Open → Tops → List PatId → Ways
+StandsTops store source_map rs [] is = λ ws. (is ≡ []) × No ws
+StandsTops store source_map rs (p ∷ ps) is =
+    StandsBefore false (λ i. StandsTop store source_map rs p i) (λ others. StandsTops store source_map rs ps others) is
+
+abbrev pub StandsGiven : Store → SourceMap → Open → Bool → Formals → Given → Ways
+StandsGiven store source_map rs skipped f given =
+    StandsSelf store f.receiver given.0 & StandsTops store source_map rs (formals_read skipped f.formals) given.1
+
+-- What is stored where one body was lowered, behind its parameters, which may be skipped. To the one root belongs all that is
+-- stored, each with its source, as many expressions and bindings as the tree becomes, and patterns, types and lifetimes from just
+-- those of its nodes that become one. The root stands for the tree, and each expression is what a written one became, or a missing
+-- one for an absent or disabled part, or in front of a tuple with a leading comma, or what is called for a range; each label is
+-- what a written one became, and there are as many; each binding is that of a name of a top pattern, or of `self`, and has the
+-- patterns that make it. The source map leads from each written expression and label to what it became, and from nowhere else;
+-- the nodes of patterns, types and lifetimes lead to them, and no other nodes do. Behind the faults that the body owes as a whole
+-- come those of what is read of the tree, in some order. The blocks with numbers are those of the tree, in the order of entering.
+pub record OneResult (store : Store) (source_map : SourceMap) (owed : Faults) (skipped : Bool) (f : Formals) (given : Given)
+    (e : OptionExpr) : Type 0 where
   pub root : ExprId
-  pub only : store.roots ≡ root_at store.exprs root ∷ []
+  pub only : store.roots ≡ root_at store root ∷ []
   pub expr_sources : length source_map.expr_sources ≡ length store.exprs
   pub label_sources : length source_map.label_sources ≡ length store.labels
-  pub type_sources : source_map.type_sources ≡ type_sources_of e
-  pub lifetime_sources : source_map.lifetime_sources ≡ lifetime_sources_of e
-  pub exprs : length store.exprs ≡ count_of_exprs e
-  pub types : length store.types ≡ count_of_types e
-  pub lifetimes : length store.lifetimes ≡ count_of_lifetimes e
+  pub pat_sources : source_map.pat_sources ≡ (body_size skipped f e).pats
+  pub type_sources : source_map.type_sources ≡ (body_size skipped f e).types
+  pub lifetime_sources : source_map.lifetime_sources ≡ (body_size skipped f e).lifetimes
+  pub exprs : length store.exprs ≡ (body_size skipped f e).exprs
+  pub bindings : length store.bindings ≡ (body_size skipped f e).bindings
+  pub pats : length store.pats ≡ length (body_size skipped f e).pats
+  pub types : length store.types ≡ length (body_size skipped f e).types
+  pub lifetimes : length store.lifetimes ≡ length (body_size skipped f e).lifetimes
+  pub pat_ways : LeadBack (λ i. i.0) source_map.pat_map source_map.pat_sources
   pub type_ways : LeadBack (λ i. i.0) source_map.types_map source_map.type_sources
   pub lifetime_ways : LeadBack (λ i. i.0) source_map.lifetime_map source_map.lifetime_sources
+  pub definitions : DefinitionsAre store.pats (length store.bindings) source_map.binding_definitions
   pub ways : List Way
-  pub stands : StandsPart store source_map [] e root ways
+  pub stands : (StandsGiven store source_map [] skipped f given & StandsPart store source_map [] e root) ways
   pub covers : Covers ways 0 (length store.exprs)
   pub covers_labels : CoversLabels ways 0 (length store.labels)
+  pub covers_bindings : CoversBindings ways 0 (length store.bindings)
   pub leads : MapLeads source_map ways
   pub labels : length store.labels ≡ label_ways ways
   pub more : Faults
   pub faults : source_map.diagnostics ≡ owed ++ more
-  pub permuted : IsPermutation (part_diagnostics [] e) more
-  pub blocks : source_map.block_scopes ≡ blocks_of_part e
+  pub permuted : IsPermutation (body_faults skipped [] f e) more
+  pub blocks : source_map.block_scopes ≡ blocks_of_tops (formals_read skipped f.formals) ++ blocks_of_part e
 
 -- fresh, but for these faults
 abbrev pub fresh_owing : ℕ → Faults → Builder
@@ -53,8 +86,8 @@ in_root_of b = record b { in_root = true }
 abbrev pub with_root : ExprId → Stored → Stored
 with_root root s = (record_root root s).1
 
--- so it is where a tree is lowered first, and is the root
+-- so it is where a body is lowered first, and is the root
 abbrev pub OneResults : Type 0
-OneResults = (limit : ℕ) (owed : Faults) (e : OptionExpr) (id : ExprId) (new : Builder)
-    → lower_part e (in_root_of (fresh_owing limit owed)) ≡ (Ok id, new)
-    → OneResult (store_of (with_root id new.stored)) (map_of (with_root id new.stored)) owed e
+OneResults = (limit : ℕ) (owed : Faults) (skipped : Bool) (f : Formals) (e : OptionExpr) (given : Given) (id : ExprId) (new : Builder)
+    → lower_body skipped f e (in_root_of (fresh_owing limit owed)) ≡ (Ok (given, id), new)
+    → OneResult (store_of (with_root id new.stored)) (map_of (with_root id new.stored)) owed skipped f given e

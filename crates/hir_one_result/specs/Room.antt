@@ -1,17 +1,28 @@
 -- How large a tree is, by its parts in the order in which they are lowered. Each written expression becomes one, but
--- parentheses become none besides what is in them. An absent or disabled part is one missing expression, or none where the form
--- knows none, and so is what stands in front of a tuple with a leading comma. Nothing in a disabled node becomes anything.
-use Rattle.std.specs.Prelude.{ℕ, ◌+◌, ◌<◌, ◌⊎◌, List, Option, Some, None, Bool, true, false, is_some, not, length}
-use Rattle.hir_store.specs.Pointers.{Pointer}
+-- parentheses become none besides what is in them, and a range may become a call of one more. An absent or disabled part is one
+-- missing expression, or none where the form knows none, and so is what stands in front of a tuple with a leading comma. Nothing
+-- in a disabled node becomes anything. Patterns likewise; each name of a top pattern becomes one binding, at its first use.
+use Rattle.std.specs.Prelude.{◌+◌, ◌<◌, ◌⊎◌, [], ◌∷◌, Option, Some, None, Bool, true, false, is_some, not, length}
 use Rattle.hir_store.specs.Stored.{Stored}
 use Rattle.hir_env.specs.Answered as tree
 use Rattle.hir_env.specs.Answered.{Type_, OptionType, Parts, Path, OptionPath, Segments, Segment, SegmentArgs, OptionParens, OptionRet}
-use Rattle.hir_env.specs.Answered.{OptionArgs, Args, Arg, Bounds, Bound, Constant}
-use Rattle.hir_env.specs.Answered.{Listing, Label, Expr, OptionExpr, Exprs, Fields, Field, Spread, Block, OptionBlock, Stmts, Stmt}
+use Rattle.hir_env.specs.Answered.{OptionArgs, Args, Arg, Bounds, Bound, Constant, Listing, Label, Expr, OptionExpr, Exprs, Fields, Field}
+use Rattle.hir_env.specs.Answered.{Spread, Block, OptionBlock, Stmts, Stmt, Arms, Arm, Guard, Pat, OptionPat, Pats, PatFields, PatField}
+use Rattle.hir_env.specs.Answered.{Side, TypePat, OptionTypePat, TypePats, Limit, Target, Targets, TargetFields, TargetField, SelfFormal}
+use Rattle.hir_env.specs.Answered.{Formals}
+use Rattle.hir_data.specs.Patterns.{is_dots, ellipsis_of}
+use Rattle.hir_data.specs.Targets.{target_dots}
+use Rattle.hir_data.specs.Tops.{Tops}
+use Rattle.hir_data.specs.Uses.{FirstUses}
+use Rattle.hir_meaning.specs.InnerWritten.{constant_body, limit_body}
 use Rattle.hir_meaning.specs.Left.{is_kept}
-use Rattle.hir_one_result.specs.Size.{Size, nothing, an_expr, a_label, a_type, a_lifetime, a_super, a_constant, ◌∪◌, if_so}
-use Rattle.hir_one_result.specs.PathRoom.{Seen, nothing_seen, at_first, segments_read, own_read, whole_read, before, yields}
-use Rattle.hir_one_result.specs.PathRoom.{lifetime_size, uses_size}
+use Rattle.hir_one_result.specs.Formals.{formals_read}
+use Rattle.hir_one_result.specs.PatRoom.{names_after, names_after_part, names_after_each, names_after_field, name_size, front_pat_size}
+use Rattle.hir_one_result.specs.PatRoom.{or_size, name_side_size, rest_size, range_size}
+use Rattle.hir_one_result.specs.Size.{Size, nothing, an_expr, a_label, a_binding, a_pat, a_type, a_lifetime, a_super, a_body, dots_behind}
+use Rattle.hir_one_result.specs.Size.{◌∪◌, if_so, or_missing}
+use Rattle.hir_one_result.specs.PathRoom.{Seen, nothing_seen, at_first, segments_read, own_read, whole_read, before, yields, lifetime_size}
+use Rattle.hir_one_result.specs.PathRoom.{uses_size}
 
 abbrev pub label_size : Option Label → Size
 label_size None = nothing
@@ -41,6 +52,7 @@ abbrev mutual
   type_size (tree.impl_type at mode bs) = bounds_size bs ∪ a_type (Some at)
   type_size (tree.nested_impl at) = a_type (Some at)
   type_size (tree.dyn_type at bs) = bounds_size bs ∪ a_type (Some at)
+  type_size (tree.pattern_type at t own p) = type_part_size t ∪ type_pat_part_size p ∪ a_type (Some at)
 
   -- an error, or `()`, where it is absent
   pub type_part_size : OptionType → Size
@@ -123,7 +135,34 @@ abbrev mutual
   -- ---- constants
 
   pub constant_size : Constant → Size
-  constant_size (tree.constant e) = a_constant e (size_part e)
+  constant_size (tree.constant e) = a_body (constant_body e) (size_part e)
+
+  -- ---- patterns of types
+
+  pub type_pat_size : TypePat → Size
+  type_pat_size (tree.not_null_type_pat at) = a_pat (Some at)
+  type_pat_size (tree.or_type_pat at ps) = type_pats_size ps ∪ a_pat (Some at)
+  type_pat_size (tree.range_type_pat at low high) = limit_size low ∪ limit_size high ∪ a_pat (Some at)
+  type_pat_size (tree.other_type_pat at) = a_pat (Some at)
+
+  pub type_pat_part_size : OptionTypePat → Size
+  type_pat_part_size tree.no_type_pat = a_pat None
+  type_pat_part_size (tree.some_type_pat p) = type_pat_size p
+
+  pub type_pats_size : TypePats → Size
+  type_pats_size tree.no_type_pats = nothing
+  type_pats_size (tree.more_type_pats p ps) = type_pat_size p ∪ type_pats_size ps
+
+  -- each is a body of its own, in which stands the side, an item, or a call of the item with the side
+  pub limit_size : Limit → Size
+  limit_size (tree.item_limit item) = a_body (limit_body (tree.item_limit item)) an_expr
+  limit_size (tree.side_limit s) = a_body (limit_body (tree.side_limit s)) (limit_side_size s)
+  limit_size (tree.before_limit item s) = a_body (limit_body (tree.before_limit item s)) (limit_side_size s ∪ an_expr ∪ an_expr)
+
+  -- what is no side is missing
+  pub limit_side_size : Side → Size
+  limit_side_size (tree.path_side at p) = whole_size p ∪ an_expr
+  limit_side_size s = an_expr
 
   -- ---- expressions
 
@@ -133,7 +172,7 @@ abbrev mutual
   size (tree.if_expr at c t e) = block_part_size t ∪ size_present e ∪ size_part c ∪ an_expr
   size (tree.block_expr b) = block_size b
   size (tree.loop_expr at label b) = label_size label ∪ block_part_size b ∪ an_expr
-  size (tree.call_expr at f es) = size_part f ∪ size_each es ∪ an_expr
+  size (tree.call_expr at f has_list es) = size_part f ∪ size_each es ∪ an_expr
   size (tree.path_expr at p h) = whole_size p ∪ an_expr
   size (tree.continue_expr at jump) = an_expr
   size (tree.break_expr at jump e) = size_present e ∪ an_expr
@@ -147,13 +186,18 @@ abbrev mutual
   size (tree.method_call_expr at e name es generics) = size_part e ∪ size_each es ∪ args_size generics ∪ an_expr
   size (tree.cast_expr at e t) = size_part e ∪ type_part_size t ∪ an_expr
   -- where the path is absent or refused nothing else is read
-  size (tree.record_expr at p fs s) = whole_size p ∪ if_so (is_some (whole_read p)) (fields_size fs ∪ spread_size s) ∪ an_expr
+  size (tree.record_expr at p head fs s) = whole_size p ∪ if_so (is_some (whole_read p)) (fields_size fs ∪ spread_size s) ∪ an_expr
   size (tree.offset_of_expr at t names) = type_part_size t ∪ an_expr
   size (tree.leaving_expr at form e) = size_present e ∪ an_expr
   size (tree.become_expr at e) = size_part e ∪ an_expr
   size (tree.yield_expr at e) = size_present e ∪ an_expr
   size (tree.await_expr at location e) = size_part e ∪ an_expr
   size (tree.nameless_expr at e) = size_part e ∪ an_expr
+  size (tree.let_expr at p e) = top_size p ∪ size_part e ∪ an_expr
+  size (tree.match_expr at e arms) = size_part e ∪ arms_size arms ∪ an_expr
+  size (tree.range_expr at form low high) = size_present low ∪ size_present high ∪ range_size form
+  -- the target before the value
+  size (tree.assign_expr at own t e) = target_size t ∪ size_part e ∪ an_expr
 
   -- of a part that is missing where it is absent
   pub size_part : OptionExpr → Size
@@ -179,8 +223,21 @@ abbrev mutual
 
   pub field_size : Field → Size
   field_size (tree.disabled_field at by f) = nothing
-  field_size tree.nameless_field = nothing
+  field_size (tree.nameless_field at e) = nothing
   field_size (tree.named_field at name e) = size_part e
+
+  pub arms_size : Arms → Size
+  arms_size tree.no_arms = nothing
+  arms_size (tree.more_arms a arms) = arm_size a ∪ arms_size arms
+
+  -- the guard behind the expression
+  pub arm_size : Arm → Size
+  arm_size (tree.disabled_arm at by a) = nothing
+  arm_size (tree.arm p e g) = top_size p ∪ size_part e ∪ guard_size g
+
+  pub guard_size : Guard → Size
+  guard_size tree.no_guard = nothing
+  guard_size (tree.guard e) = size_part e
 
   pub spread_size : Spread → Size
   spread_size tree.no_spread = nothing
@@ -194,42 +251,147 @@ abbrev mutual
   block_part_size tree.no_block = an_expr
   block_part_size (tree.some_block b) = block_size b
 
+  pub block_present_size : OptionBlock → Size
+  block_present_size tree.no_block = nothing
+  block_present_size (tree.some_block b) = block_size b
+
   pub stmts_size : Stmts → Size
   stmts_size tree.no_stmts = nothing
   stmts_size (tree.more_stmts s ss) = stmt_size s ∪ stmts_size ss
 
   pub stmt_size : Stmt → Size
   stmt_size (tree.expr_stmt e semi) = size_kept e
+  stmt_size (tree.disabled_stmt at by s) = nothing
   stmt_size tree.item_stmt = nothing
+  stmt_size (tree.let_stmt p t e b) = top_size p ∪ present_size t ∪ size_present e ∪ block_present_size b
 
-abbrev pub count_of_exprs : OptionExpr → ℕ
-count_of_exprs e = (size_part e).exprs
+  -- ---- patterns, where these names have a use
 
-abbrev pub count_of_labels : OptionExpr → ℕ
-count_of_labels e = (size_part e).labels
+  pub pat_size : Pat → FirstUses → Size
+  pat_size (tree.leaf_pat at form) us = a_pat (Some at)
+  -- what stands behind `@` before the name
+  pat_size (tree.bind_pat at u sub) us = subpat_size sub us ∪ name_size (names_after_part sub us) u ∪ a_pat (Some at)
+  pat_size (tree.name_pat at u) us = a_pat (Some at)
+  pat_size (tree.path_pat at p) us = whole_size p ∪ a_pat (Some at)
+  pat_size (tree.tuple_struct_pat at p comma ps) us =
+      whole_size p
+      ∪ or_missing (is_some (whole_read p))
+      (elements_size ps us ∪ (dots_behind (ellipsis_of comma ps) ∪ front_pat_size comma) ∪ a_pat (Some at))
+  pat_size (tree.tuple_pat at comma ps) us =
+      elements_size ps us ∪ (dots_behind (ellipsis_of comma ps) ∪ front_pat_size comma) ∪ a_pat (Some at)
+  pat_size (tree.record_pat at p fs dots) us =
+      whole_size p ∪ or_missing (is_some (whole_read p)) (pat_fields_size fs us ∪ a_pat (Some at))
+  pat_size (tree.or_pat at ps) us = pats_size ps us ∪ or_size at ps
+  pat_size (tree.paren_pat at p) us = pat_part_size p us
+  pat_size (tree.slice_pat at before middle behind) us =
+      let between = names_after_each before us in
+      let past = names_after_part middle between in
+      pats_size before us ∪ subpat_size middle between ∪ pats_size behind past ∪ a_pat (Some at)
+  pat_size (tree.over_pat at form p) us = pat_part_size p us ∪ a_pat (Some at)
+  pat_size (tree.literal_pat at own l) us = an_expr ∪ a_pat (Some at)
+  pat_size (tree.range_pat at op low high) us = side_size low ∪ side_size high ∪ a_pat (Some at)
 
--- where the types and lifetimes come from that a tree becomes, in the order in which they are stored
+  -- missing where it is absent
+  pub pat_part_size : OptionPat → FirstUses → Size
+  pat_part_size tree.no_pat us = a_pat None
+  pat_part_size (tree.some_pat p) us = pat_size p us
 
-abbrev pub type_sources_of : OptionExpr → List (Option Pointer)
-type_sources_of e = (size_part e).types
+  pub subpat_size : OptionPat → FirstUses → Size
+  subpat_size tree.no_pat us = nothing
+  subpat_size (tree.some_pat p) us = pat_size p us
 
-abbrev pub lifetime_sources_of : OptionExpr → List (Option Pointer)
-lifetime_sources_of e = (size_part e).lifetimes
+  pub pats_size : Pats → FirstUses → Size
+  pats_size tree.no_pats us = nothing
+  pats_size (tree.more_pats p ps) us = pat_size p us ∪ pats_size ps (names_after p us)
 
-abbrev pub count_of_types : OptionExpr → ℕ
-count_of_types e = length (type_sources_of e)
+  -- two dots are no part of a tuple
+  pub elements_size : Pats → FirstUses → Size
+  elements_size tree.no_pats us = nothing
+  elements_size (tree.more_pats p ps) us = if_so (not (is_dots p)) (pat_size p us) ∪ elements_size ps (names_after p us)
 
-abbrev pub count_of_lifetimes : OptionExpr → ℕ
-count_of_lifetimes e = length (lifetime_sources_of e)
+  pub pat_fields_size : PatFields → FirstUses → Size
+  pat_fields_size tree.no_pat_fields us = nothing
+  pat_fields_size (tree.more_pat_fields f fs) us = pat_field_size f us ∪ pat_fields_size fs (names_after_field f us)
 
--- There is no room for so much behind what is stored: some arena would hold more than it may, or a path counts too far.
+  -- one without a name is read
+  pub pat_field_size : PatField → FirstUses → Size
+  pat_field_size (tree.disabled_pat_field at by f) us = nothing
+  pat_field_size tree.partless_pat_field us = nothing
+  pat_field_size (tree.pat_field at n p) us = pat_size p us
+
+  -- what is no side is absent
+  pub side_size : Side → Size
+  side_size tree.no_side = nothing
+  side_size (tree.literal_side at l) = an_expr
+  side_size (tree.name_side at n) = name_side_size n
+  side_size (tree.path_side at p) = whole_size p ∪ if_so (is_some (whole_read p)) an_expr
+  side_size tree.other_side = nothing
+
+  -- a whole one, before which no name has a use
+  pub top_size : OptionPat → Size
+  top_size tree.no_pat = a_pat None
+  top_size (tree.some_pat p) = pat_size p []
+
+  -- ---- what is assigned to
+
+  pub target_size : Target → Size
+  target_size tree.absent_target = a_pat None
+  target_size (tree.place_target at e) = size e ∪ a_pat (Some at)
+  target_size (tree.wild_target at) = a_pat (Some at)
+  target_size (tree.path_target at p h) = path_size p nothing_seen ∪ a_pat (Some at)
+  target_size (tree.tuple_target at ts) = targets_size ts ∪ dots_behind (target_dots ts) ∪ a_pat (Some at)
+  target_size (tree.call_target at p ts) =
+      whole_size p ∪ or_missing (is_some (whole_read p)) (targets_size ts ∪ dots_behind (target_dots ts) ∪ a_pat (Some at))
+  -- the two dots behind the parts on both sides of them
+  target_size (tree.array_target at before dots behind) = targets_size before ∪ targets_size behind ∪ rest_size dots ∪ a_pat (Some at)
+  target_size (tree.record_target at p fs dots spread) =
+      whole_size p ∪ or_missing (is_some (whole_read p)) (target_fields_size fs ∪ a_pat (Some at))
+
+  pub targets_size : Targets → Size
+  targets_size tree.no_targets = nothing
+  targets_size (tree.more_targets t ts) = target_size t ∪ targets_size ts
+  targets_size (tree.dots_targets ts) = targets_size ts
+
+  pub target_fields_size : TargetFields → Size
+  target_fields_size tree.no_target_fields = nothing
+  target_fields_size (tree.more_target_fields f fs) = target_field_size f ∪ target_fields_size fs
+
+  pub target_field_size : TargetField → Size
+  target_field_size (tree.disabled_target_field at by) = nothing
+  target_field_size tree.partless_target_field = nothing
+  target_field_size (tree.target_field at n t) = target_size t
+
+-- ---- a body behind its parameters
+
+abbrev pub tops_size : Tops → Size
+tops_size [] = nothing
+tops_size (p ∷ ps) = top_size p ∪ tops_size ps
+
+abbrev pub self_size : SelfFormal → Size
+self_size tree.no_self = nothing
+self_size (tree.disabled_self at by) = nothing
+self_size (tree.self_formal at u) = a_binding
+
+abbrev pub formals_size : Bool → Formals → Size
+formals_size skipped f = self_size f.receiver ∪ tops_size (formals_read skipped f.formals)
+
+abbrev pub body_size : Bool → Formals → OptionExpr → Size
+body_size skipped f e = formals_size skipped f ∪ size_part e
+
+-- There is no room for so much behind what is stored: some arena would hold more than it may, or something counts too far.
 abbrev pub Short : Size → Stored → Type 0
 Short n s =
     (s.exprs.limit < length s.exprs.entries + n.exprs)
     ⊎ ((s.labels.limit < length s.labels.entries + n.labels)
+    ⊎ ((s.pats.limit < length s.pats.entries + length n.pats)
+    ⊎ ((s.bindings.limit < length s.bindings.entries + n.bindings)
     ⊎ ((s.types.limit < length s.types.entries + length n.types)
-    ⊎ ((s.lifetimes.limit < length s.lifetimes.entries + length n.lifetimes) ⊎ n.overcounts)))
+    ⊎ ((s.lifetimes.limit < length s.lifetimes.entries + length n.lifetimes) ⊎ n.overcounts)))))
 
 -- behind what is stored there is no room for the tree
 abbrev pub TooLarge : Stored → OptionExpr → Type 0
 TooLarge s e = Short (size_part e) s
+
+-- nor for a body with its parameters, which may be skipped
+abbrev pub BodyTooLarge : Stored → Bool → Formals → OptionExpr → Type 0
+BodyTooLarge s skipped f e = Short (body_size skipped f e) s

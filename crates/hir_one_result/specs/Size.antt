@@ -1,21 +1,24 @@
 -- What lowering stores, and what it counts.
-use Rattle.std.specs.Prelude.{ℕ, ◌+◌, ◌≤◌, ◌^◌, ◌⊎◌, Bool, true, false, List, [], ◌∷◌, ◌++◌, Option}
+use Rattle.std.specs.Prelude.{ℕ, ◌+◌, ◌≤◌, ◌^◌, ◌⊎◌, Bool, true, false, List, [], ◌∷◌, ◌++◌, Option, Some, None}
 use Rattle.hir_store.specs.Pointers.{Pointer}
-use Rattle.hir_env.specs.Answered.{OptionExpr}
+use Rattle.hir_meaning.specs.InnerWritten.{InnerBody, Bodies}
 
 pub record Size : Type 1 where
   pub exprs : ℕ
   pub labels : ℕ
-  -- of each type and each lifetime where it comes from, in the order in which they are stored
+  -- names that are bound
+  pub bindings : ℕ
+  -- of each pattern, each type and each lifetime where it comes from, in the order in which they are stored
+  pub pats : List (Option Pointer)
   pub types : List (Option Pointer)
   pub lifetimes : List (Option Pointer)
-  -- the constants that stand in no other one, in the order in which they are done
-  pub constants : List OptionExpr
-  -- some path that is read has more `super`s than are counted
+  -- the bodies inside that stand in no other one, in the order in which they are done
+  pub inner : Bodies
+  -- some path that is read has more `super`s than are counted, or more parts stand in front of two dots
   pub overcounts : Type 0
 
 abbrev pub nothing : Size
-nothing = record { exprs = 0; labels = 0; types = []; lifetimes = []; constants = []; overcounts = ⊥ }
+nothing = record { exprs = 0; labels = 0; bindings = 0; pats = []; types = []; lifetimes = []; inner = []; overcounts = ⊥ }
 
 abbrev pub an_expr : Size
 an_expr = record nothing { exprs = 1 }
@@ -23,19 +26,30 @@ an_expr = record nothing { exprs = 1 }
 abbrev pub a_label : Size
 a_label = record nothing { labels = 1 }
 
+abbrev pub a_binding : Size
+a_binding = record nothing { bindings = 1 }
+
+abbrev pub a_pat : Option Pointer → Size
+a_pat source = record nothing { pats = source ∷ [] }
+
 abbrev pub a_type : Option Pointer → Size
 a_type source = record nothing { types = source ∷ [] }
 
 abbrev pub a_lifetime : Option Pointer → Size
 a_lifetime source = record nothing { lifetimes = source ∷ [] }
 
--- a constant, which becomes as much as its expression
-abbrev pub a_constant : OptionExpr → Size → Size
-a_constant e n = record n { constants = e ∷ [] }
+-- a body inside, which becomes as much as what is in it
+abbrev pub a_body : InnerBody → Size → Size
+a_body b n = record n { inner = b ∷ [] }
 
 -- a `super` where so many are counted
 abbrev pub a_super : ℕ → Size
 a_super n = record nothing { overcounts = 2 ^ 32 ≤ n + 1 }
+
+-- two dots behind so many parts
+abbrev pub dots_behind : Option ℕ → Size
+dots_behind None = nothing
+dots_behind (Some n) = record nothing { overcounts = 2 ^ 32 ≤ n }
 
 -- the one, and then the other
 infixr 20 ◌∪◌
@@ -43,12 +57,19 @@ abbrev pub ◌∪◌ : Size → Size → Size
 a ∪ b = record {
   exprs = a.exprs + b.exprs;
   labels = a.labels + b.labels;
+  bindings = a.bindings + b.bindings;
+  pats = a.pats ++ b.pats;
   types = a.types ++ b.types;
   lifetimes = a.lifetimes ++ b.lifetimes;
-  constants = a.constants ++ b.constants;
+  inner = a.inner ++ b.inner;
   overcounts = a.overcounts ⊎ b.overcounts;
 }
 
 abbrev pub if_so : Bool → Size → Size
 if_so true a = a
 if_so false a = nothing
+
+-- a pattern whose path isn't read is missing
+abbrev pub or_missing : Bool → Size → Size
+or_missing true a = a
+or_missing false a = a_pat None

@@ -2,74 +2,64 @@
 -- its own node and whose parts stand for its parts. An absent or disabled part is a missing expression that came from no
 -- node, or none where the form knows none. With it stand the ways of the tree: from the node of each written expression
 -- and label to what it became, and to each missing one from no node. What its constants became stands for them, also where
--- nothing names it.
-use Rattle.std.specs.Prelude.{◌≡◌, Bool, true, false, List, [], ◌∷◌, ◌++◌, Option, Some, None, option_map, option_to_list, slice_get}
+-- nothing names it. A top pattern reads back as it is written, and so does one in a field without a name, which is part of nothing; the
+-- names of a top pattern have one binding each, and what is in it stands for what is written there.
+use Rattle.std.specs.Prelude.{◌≡◌, ℕ, Bool, true, false, List, [], ◌∷◌, ◌++◌, map, Option, Some, None, option_to_list}
+use Rattle.std.specs.Prelude.{slice_get, unwrap_or}
+use Rattle.hir_base.specs.declared.op.RangeOp.{RangeOp}
+use Rattle.hir_binding.specs.Rule.{Shows}
 use Rattle.hir_syntax.specs.declared.ast.Literal.{Literal as AstLiteral}
 use Rattle.hir_store.specs.Pointers.{Pointer}
 use Rattle.hir_store.specs.Stored.{Store, SourceMap}
 use Rattle.hir_store.specs.declared.hir.Expr.{Expr as HirExpr}
 use Rattle.hir_store.specs.declared.hir.Expr.TheVariants as hir
 use Rattle.hir_store.specs.declared.hir.LoopSource.TheVariants as source
+use Rattle.hir_store.specs.declared.hir.MatchArm.{MatchArm}
 use Rattle.hir_store.specs.declared.hir.Statement.{Statement}
 use Rattle.hir_store.specs.declared.hir.Statement.TheVariants as statement
 use Rattle.hir_store.specs.declared.hir.Literal.{Literal}
 use Rattle.hir_store.specs.declared.hir.RecordLitField.{RecordLitField}
 use Rattle.hir_store.specs.declared.hir.RecordSpread.{RecordSpread}
 use Rattle.hir_store.specs.declared.hir.RecordSpread.TheVariants as spread
+use Rattle.hir_store.specs.declared.pat.Binding.{Binding}
+use Rattle.hir_store.specs.declared.pat.Pat.{Pat as HirPat}
+use Rattle.hir_store.specs.declared.pat.Pat.TheVariants as pat
+use Rattle.hir_store.specs.declared.pat.RecordFieldPat.{RecordFieldPat}
+use Rattle.hir_store.specs.declared.name.Name.{Name}
+use Rattle.hir_store.specs.declared.name.Name.TheVariants as name
 use Rattle.hir_store.specs.declared.path.Path.{Path}
+use Rattle.hir_store.specs.declared.path.Path.TheVariants.{LangItem}
+use Rattle.hir_store.specs.declared.ids.BindingId.{BindingId}
 use Rattle.hir_store.specs.declared.ids.ExprId.{ExprId}
 use Rattle.hir_store.specs.declared.ids.LabelId.{LabelId}
+use Rattle.hir_store.specs.declared.ids.LangItemId.{LangItemId}
 use Rattle.hir_store.specs.declared.ids.HygieneId.{HygieneId}
-use Rattle.hir_scope.specs.Ribs.{Rib, label_rib, barrier_rib, jump_number}
+use Rattle.hir_store.specs.declared.ids.PatId.{PatId}
+use Rattle.hir_store.specs.declared.ids.TypeRefId.{TypeRefId}
+use Rattle.hir_scope.specs.Ribs.{barrier_rib, jump_number}
 use Rattle.hir_env.specs.Answered as tree
-use Rattle.hir_env.specs.Answered.{Type_, OptionType, Parts, Path as WrittenPath, OptionPath, Segments, Segment, SegmentArgs}
-use Rattle.hir_env.specs.Answered.{OptionParens, OptionRet, OptionArgs, Args, Arg, Bounds, Bound, Constant}
-use Rattle.hir_env.specs.Answered.{Listing, Label, Expr, OptionExpr, Exprs, Fields, Spread, Block, OptionBlock, Stmts}
-use Rattle.hir_data.specs.Data.{PathData}
-use Rattle.hir_data.specs.Reading.{stored_path, stored_type, stored_args}
-use Rattle.hir_data.specs.Written.{written_path, written_type, written_args}
+use Rattle.hir_env.specs.Answered.{Type_, OptionType, Parts, Path as WrittenPath, OptionPath, Segments, Segment, SegmentArgs, OptionParens}
+use Rattle.hir_env.specs.Answered.{OptionRet, OptionArgs, Args, Arg, Bounds, Bound, Constant, Listing, Label, Expr, OptionExpr, Exprs}
+use Rattle.hir_env.specs.Answered.{Fields, Spread, Block, OptionBlock, Stmts, Arms, Guard, RangeForm, Signed, Pat, OptionPat, Pats}
+use Rattle.hir_env.specs.Answered.{PatFields, Side, TypePat, OptionTypePat, TypePats, Limit, Target, Targets, TargetFields}
+use Rattle.hir_data.specs.BindingRule.{made_for}
+use Rattle.hir_data.specs.Data.{PathData, PatData}
+use Rattle.hir_data.specs.Patterns.{is_dots, first_uses, pattern_data, uses_after, uses_after_part, uses_after_each, written_pat}
+use Rattle.hir_data.specs.Patterns.{written_uses}
+use Rattle.hir_data.specs.Reading.{stored_path, stored_type, stored_option_type, stored_args, stored_pat}
+use Rattle.hir_data.specs.Targets.{target_data}
+use Rattle.hir_data.specs.Uses.{FirstUses}
+use Rattle.hir_data.specs.Written.{written_path, written_type, written_option_type, written_args, signed_data}
 use Rattle.hir_data.specs.Lookup.{lookup_hygiene}
 use Rattle.hir_meaning.specs.Data.{literal_data, literal_read}
 use Rattle.hir_meaning.specs.Left.{is_kept, is_left, gives_value}
 use Rattle.hir_meaning.specs.Contents.{BlockContents}
-use Rattle.hir_one_result.specs.Forms.{leaf_form, unary_form, binary_form, lazy_form, leaving_form}
-use Rattle.hir_one_result.specs.PathRoom.{Seen, nothing_seen, at_first, Read, goes_on, segments_read, own_read, yields}
-use Rattle.hir_one_result.specs.Leads.{Ways, No, OneWay, OneMissing, OneLabelWay, OneFieldWay, ◌&◌}
-
--- the numbers of the labels that are open, innermost first
-abbrev pub Open : Type 0
-Open = List (Rib LabelId)
-
-abbrev pub opened : Label → LabelId → Open → Open
-opened l n rs = label_rib l.name l.hygiene n ∷ rs
-
--- parts that may be absent in the store too
-
-abbrev pub Absent : {A : Type 0} → Option A → Ways
-Absent o = λ ws. (o ≡ None) × No ws
-
-abbrev pub There : {A : Type 0} → (A → Ways) → Option A → Ways
-There {A = A} S o = λ ws. (a : A) × (o ≡ Some a) × S a ws
-
-abbrev pub ThereIf : {A : Type 0} → Bool → (A → Ways) → Option A → Ways
-ThereIf true S o = There S o
-ThereIf false S o = Absent o
-
--- a part that is no expression: it reads back as this
-abbrev pub ReadsAs : {A D : Type 0} → (A → D) → D → A → Ways
-ReadsAs read d a = λ ws. (read a ≡ d) × No ws
-
-abbrev pub statement_of : Bool → Option ExprId → Option Statement
-statement_of semi o = option_map (λ id. statement.Expr id semi) o
-
--- what stands before is read where the reading goes on
-abbrev pub WhereOn : Read → (Seen → Ways) → Ways
-WhereOn (goes_on x) W = W x
-WhereOn read W = No
-
-abbrev pub Unless : Bool → Ways → Ways
-Unless true W = No
-Unless false W = W
+use Rattle.hir_one_result.specs.Forms.{leaf_form, unary_form, binary_form, lazy_form, leaving_form, item_form, no_macro, path_of_name}
+use Rattle.hir_one_result.specs.Forms.{pat_unary_form, range_fields}
+use Rattle.hir_one_result.specs.PathRoom.{Seen, nothing_seen, at_first, segments_read, own_read, yields}
+use Rattle.hir_one_result.specs.Leads.{Ways, No, OneWay, OneUnled, OneLabelWay, OneFieldWay, OnePatFieldWay, ◌&◌}
+pub use Rattle.hir_one_result.specs.StandsParts.{Open, opened, Absent, There, ThereIf, ReadsAs, statement_of, SomeExpr, WhereOn, Unless}
+pub use Rattle.hir_one_result.specs.StandsParts.{StandsBefore, WherePath, BehindFront, Names, NewName, StandsName}
 
 -- in a store
 
@@ -85,7 +75,7 @@ module _ (store : Store) (source_map : SourceMap) where
     pub source : slice_get source_map.label_sources n.0 ≡ Some (Some l.pointer)
 
   abbrev pub StandsMissing : ExprId → Ways
-  StandsMissing i = λ ws. ExprAt i hir.Missing None × OneMissing i ws
+  StandsMissing i = λ ws. ExprAt i hir.Missing None × OneUnled i ws
 
   -- a form that names no part
   abbrev pub StandsAlone : HirExpr → Pointer → ExprId → Ways
@@ -133,6 +123,72 @@ module _ (store : Store) (source_map : SourceMap) where
   InLabel rs None S = S rs None
   InLabel rs (Some l) S = λ ws. (n : LabelId) × LabelAt n l × (OneLabelWay l.pointer n & S (opened l n rs) (Some n)) ws
 
+  -- an item of the language comes from no node
+  abbrev pub StandsItem : Option LangItemId → ExprId → Ways
+  StandsItem item i = λ ws. ExprAt i (item_form item) None × OneUnled i ws
+
+  -- a range is a record of an item, or a call of one
+  abbrev pub StandsRange : Pointer → RangeForm → (Option ExprId → Ways) → (Option ExprId → Ways) → ExprId → Ways
+  StandsRange at (tree.record_range item last) S T i =
+      StandsOverTwo (λ low high. hir.RecordLit (LangItem item) (range_fields last low high) spread.None) at S T i
+  StandsRange at (tree.call_range item) S T i =
+      StandsOverThree (λ low high callee. hir.Call callee (option_to_list low ++ option_to_list high)) at S T (λ f. StandsItem item f) i
+  StandsRange at tree.itemless_range S T i = StandsOverTwo (λ low high. hir.Missing) at S T i
+
+  -- ---- parts of patterns
+
+  abbrev pub PatIs : PatId → HirPat → Type 0
+  PatIs i p = slice_get store.pats i.0 ≡ Some p
+
+  -- a literal with its minus
+  abbrev pub StandsSigned : Pointer → Signed → ExprId → Ways
+  StandsSigned at l i = λ ws. (literal : Literal) × (literal_read literal ≡ signed_data l) × StandsAlone (hir.Literal literal) at i ws
+
+  abbrev pub StandsSidePath : Pointer → PathData → ExprId → Ways
+  StandsSidePath at d i = λ ws. (path : Path) × (stored_path store source_map path ≡ d) × StandsAlone (hir.Path path no_macro) at i ws
+
+  abbrev pub StandsOneName : Pointer → Name → ExprId → Ways
+  StandsOneName at n i = StandsAlone (hir.Path (path_of_name n) no_macro) at i
+
+  abbrev pub StandsNameSide : Pointer → Name → Option ExprId → Ways
+  StandsNameSide at name.Missing o = Absent o
+  StandsNameSide at n o = There (λ i. StandsOneName at n i) o
+
+  -- the parts of a tuple, or of what is called
+  abbrev pub StandsTuple : (Option ℕ → List PatId → HirPat) → Bool → (List PatId → Ways) → PatId → Ways
+  StandsTuple form comma S i = λ ws.
+      (dots : Option ℕ) × (is : List PatId) × (others : List PatId) × PatIs i (form dots is) × BehindFront comma is others × S others ws
+
+  -- one alternative is that pattern
+  abbrev pub OrIs : List PatId → PatId → Type 0
+  OrIs (j ∷ []) i = j ≡ i
+  OrIs is i = PatIs i (pat.Or is)
+
+  -- without its operator it is missing
+  abbrev pub RangeIs : Option RangeOp → PatId → Option ExprId → Option ExprId → Type 0
+  RangeIs None i low high = PatIs i pat.Missing
+  RangeIs (Some op) i low high = PatIs i (pat.Range op low high)
+
+  -- The pattern is the written one, and each of its names has one of these bindings, with the mode of its first use. A binding
+  -- shows no problem where the rule says that the name is right, and else one that is true of it.
+  pub record NamesOf (p : OptionPat) (i : PatId) (ks : Names) : Type 0 where
+    pub is_read : stored_pat store source_map i ≡ written_pat p
+    pub one_for_each : map (made_for store) ks ≡ map Some (first_uses p)
+    pub shown : (k : ℕ) (b : BindingId) (x : Binding) → slice_get ks k ≡ Some b → slice_get store.bindings b.0 ≡ Some x
+        → Shows x.problems k (written_uses p)
+
+  -- what is so where the names of a top pattern have some bindings
+  abbrev pub WithNames : OptionPat → (Names → Ways) → PatId → Ways
+  WithNames p S i = λ ws. (ks : Names) × NamesOf p i ks × S ks ws
+
+  -- one that is no part of a pattern reads back by itself
+  abbrev pub ReadsAsPat : PatData → Ways → PatId → Ways
+  ReadsAsPat d S i = λ ws. (stored_pat store source_map i ≡ d) × S ws
+
+  -- a whole target reads back as it is written
+  abbrev pub ReadsAsTarget : Target → Ways → PatId → Ways
+  ReadsAsTarget t S i = ReadsAsPat (target_data t) S i
+
   abbrev mutual
     -- ---- what stands for the constants of types, paths, arguments and bounds
 
@@ -150,6 +206,7 @@ module _ (store : Store) (source_map : SourceMap) where
     TypeWays rs (tree.impl_type at mode bs) = BoundsWays rs bs
     TypeWays rs (tree.nested_impl at) = No
     TypeWays rs (tree.dyn_type at bs) = BoundsWays rs bs
+    TypeWays rs (tree.pattern_type at t own p) = TypePartWays rs t & TypePatPartWays rs p
 
     pub TypePartWays : Open → OptionType → Ways
     TypePartWays rs tree.no_type = No
@@ -230,6 +287,38 @@ module _ (store : Store) (source_map : SourceMap) where
     pub ConstantWays : Open → Constant → Ways
     ConstantWays rs (tree.constant e) = λ ws. (i : ExprId) × StandsPart (barrier_rib ∷ rs) e i ws
 
+    pub TypePatWays : Open → TypePat → Ways
+    TypePatWays rs (tree.not_null_type_pat at) = No
+    TypePatWays rs (tree.or_type_pat at ps) = TypePatsWays rs ps
+    TypePatWays rs (tree.range_type_pat at low high) =
+        SomeExpr (λ i. StandsLimit (barrier_rib ∷ rs) low i) & SomeExpr (λ i. StandsLimit (barrier_rib ∷ rs) high i)
+    TypePatWays rs (tree.other_type_pat at) = No
+
+    pub TypePatPartWays : Open → OptionTypePat → Ways
+    TypePatPartWays rs tree.no_type_pat = No
+    TypePatPartWays rs (tree.some_type_pat p) = TypePatWays rs p
+
+    pub TypePatsWays : Open → TypePats → Ways
+    TypePatsWays rs tree.no_type_pats = No
+    TypePatsWays rs (tree.more_type_pats p ps) = TypePatWays rs p & TypePatsWays rs ps
+
+    -- an end of a range in a type: the side, an item, or a call of an item with the side
+    pub StandsLimit : Open → Limit → ExprId → Ways
+    StandsLimit rs (tree.item_limit item) i = StandsItem item i
+    StandsLimit rs (tree.side_limit s) i = StandsLimitSide rs s i
+    StandsLimit rs (tree.before_limit item s) i = λ ws.
+        (side : ExprId) × (callee : ExprId) × ExprAt i (hir.Call callee (side ∷ [])) None
+        × (StandsLimitSide rs s side & StandsItem item callee & OneUnled i) ws
+
+    -- what is no side is missing
+    pub StandsLimitSide : Open → Side → ExprId → Ways
+    StandsLimitSide rs tree.no_side i = StandsMissing i
+    StandsLimitSide rs (tree.literal_side at l) i = StandsSigned at l i
+    StandsLimitSide rs (tree.name_side at n) i = StandsOneName at n i
+    StandsLimitSide rs (tree.path_side at p) i =
+        WholeWays rs p & WherePath (written_path p) (λ d. StandsSidePath at d i) (StandsAlone hir.Missing at i)
+    StandsLimitSide rs tree.other_side i = StandsMissing i
+
     -- ---- expressions
 
     pub Stands : Open → Expr → ExprId → Ways
@@ -242,7 +331,7 @@ module _ (store : Store) (source_map : SourceMap) where
     Stands rs (tree.loop_expr at label b) i =
         InLabel rs label (λ inner n ws. (body : ExprId) × ExprAt i (hir.Loop body n source.Loop) (Some at)
         × (StandsBlockPart inner b body & OneWay at i) ws)
-    Stands rs (tree.call_expr at f es) i = λ ws.
+    Stands rs (tree.call_expr at f has_list es) i = λ ws.
         (callee : ExprId) × (arguments : List ExprId) × ExprAt i (hir.Call callee arguments) (Some at)
         × (StandsPart rs f callee & StandsEach rs es arguments & OneWay at i) ws
     Stands rs (tree.path_expr at p h) i = WholeWays rs p & StandsPath at (written_path p) h i
@@ -264,7 +353,7 @@ module _ (store : Store) (source_map : SourceMap) where
     Stands rs (tree.cast_expr at e t) i =
         StandsOverTwo hir.Cast at (λ x. StandsPart rs e x)
         (λ y. TypePartWays rs t & ReadsAs (stored_type store source_map) (written_type t) y) i
-    Stands rs (tree.record_expr at p fs s) i =
+    Stands rs (tree.record_expr at p head fs s) i =
         WholeWays rs p & StandsRecord at (written_path p) (λ r. StandsFields rs fs r.0 & StandsOthers rs s r.1) i
     Stands rs (tree.offset_of_expr at t names) i =
         StandsOver (λ container. hir.OffsetOf container names) at
@@ -275,6 +364,14 @@ module _ (store : Store) (source_map : SourceMap) where
     Stands rs (tree.await_expr at location e) i = StandsOver hir.Await at (λ x. StandsPart rs e x) i
     -- the operand stands in the store, and is part of nothing
     Stands rs (tree.nameless_expr at e) i = StandsOver (λ x. hir.Missing) at (λ x. StandsPart rs e x) i
+    Stands rs (tree.let_expr at p e) i =
+        StandsOverTwo hir.Let at (λ q. WithNames p (λ ks. StandsPatPart ks rs p [] q) q) (λ x. StandsPart rs e x) i
+    Stands rs (tree.match_expr at e arms) i = StandsOverTwo hir.Match at (λ x. StandsPart rs e x) (λ as'. StandsArms rs arms as') i
+    Stands rs (tree.range_expr at form low high) i =
+        StandsRange at form (λ o. StandsPresent rs low o) (λ o. StandsPresent rs high o) i
+    -- the target before the value
+    Stands rs (tree.assign_expr at own t e) i =
+        StandsOverTwo hir.Assignment at (λ q. ReadsAsTarget t (StandsTarget rs t q) q) (λ x. StandsPart rs e x) i
 
     pub StandsPart : Open → OptionExpr → ExprId → Ways
     StandsPart rs tree.no_expr i = StandsMissing i
@@ -307,6 +404,19 @@ module _ (store : Store) (source_map : SourceMap) where
     StandsOthers rs tree.field_defaults o = λ ws. (o ≡ spread.FieldDefaults) × No ws
     StandsOthers rs (tree.spread_of e) o = λ ws. (value : ExprId) × (o ≡ spread.Expr value) × Stands rs e value ws
 
+    -- a disabled arm becomes nothing
+    pub StandsArms : Open → Arms → List MatchArm → Ways
+    StandsArms rs tree.no_arms is = λ ws. (is ≡ []) × No ws
+    StandsArms rs (tree.more_arms (tree.disabled_arm at by a) arms) is = StandsArms rs arms is
+    StandsArms rs (tree.more_arms (tree.arm p e g) arms) is = λ ws.
+        (q : PatId) × (x : ExprId) × (o : Option ExprId) × (others : List MatchArm)
+        × (is ≡ record { pat = q; guard = o; expr = x } ∷ others)
+        × ((WithNames p (λ ks. StandsPatPart ks rs p [] q) q & StandsPart rs e x & StandsGuard rs g o) & StandsArms rs arms others) ws
+
+    pub StandsGuard : Open → Guard → Option ExprId → Ways
+    StandsGuard rs tree.no_guard o = Absent o
+    StandsGuard rs (tree.guard e) o = There (λ x. StandsPart rs e x) o
+
     -- it has what its statements and its tail became, of which the last statement may be its tail
     pub StandsBlock : Open → Block → ExprId → Ways
     StandsBlock rs (tree.block at is_unsafe label number ss e) i =
@@ -319,6 +429,10 @@ module _ (store : Store) (source_map : SourceMap) where
     StandsBlockPart rs tree.no_block i = StandsMissing i
     StandsBlockPart rs (tree.some_block b) i = StandsBlock rs b i
 
+    pub StandsPresentBlock : Open → OptionBlock → Option ExprId → Ways
+    StandsPresentBlock rs tree.no_block o = Absent o
+    StandsPresentBlock rs (tree.some_block b) o = There (λ i. StandsBlock rs b i) o
+
     -- the statements, and then the tail, inside all that the statements open
     pub StandsContents : Open → Stmts → (Open → Option ExprId → Ways) → List Statement → Option ExprId → Ways
     StandsContents rs tree.no_stmts Tail is tail = λ ws. (is ≡ []) × Tail rs tail ws
@@ -327,3 +441,129 @@ module _ (store : Store) (source_map : SourceMap) where
         × (StandsKept rs e o & StandsContents rs ss Tail others tail) ws
     StandsContents rs (tree.more_stmts tree.item_stmt ss) Tail is tail = λ ws.
         (others : List Statement) × (is ≡ statement.Item ∷ others) × StandsContents rs ss Tail others tail ws
+    StandsContents rs (tree.more_stmts (tree.disabled_stmt at by s) ss) Tail is tail = StandsContents rs ss Tail is tail
+    StandsContents rs (tree.more_stmts (tree.let_stmt p t e b) ss) Tail is tail = λ ws.
+        (q : PatId) × (y : Option TypeRefId) × (x : Option ExprId) × (z : Option ExprId) × (others : List Statement)
+        × (is ≡ statement.Let q y x z ∷ others)
+        × ((WithNames p (λ ks. StandsPatPart ks rs p [] q) q
+        & (PresentTypeWays rs t & ReadsAs (stored_option_type store source_map) (written_option_type t) y)
+        & StandsPresent rs e x & StandsPresentBlock rs b z) & StandsContents rs ss Tail others tail) ws
+
+    -- ---- patterns
+
+    -- one of which these names have a use
+    pub StandsPat : Names → Open → Pat → FirstUses → PatId → Ways
+    StandsPat ks rs (tree.leaf_pat at form) us i = No
+    StandsPat ks rs (tree.bind_pat at u sub) us i = λ ws.
+        (b : BindingId) × (o : Option PatId) × PatIs i (pat.Bind b o)
+        × (StandsSubpat ks rs sub us o & StandsName ks (uses_after_part sub us) u b) ws
+    StandsPat ks rs (tree.name_pat at u) us i = No
+    StandsPat ks rs (tree.path_pat at p) us i = WholeWays rs p
+    StandsPat ks rs (tree.tuple_struct_pat at p comma ps) us i =
+        WholeWays rs p
+        & WherePath (written_path p) (λ d ws. (path : Path)
+        × StandsTuple (λ dots is. pat.TupleStruct path dots is) comma (λ is. StandsElements ks rs ps us is) i ws) No
+    StandsPat ks rs (tree.tuple_pat at comma ps) us i =
+        StandsTuple (λ dots is. pat.Tuple dots is) comma (λ is. StandsElements ks rs ps us is) i
+    StandsPat ks rs (tree.record_pat at p fs dots) us i =
+        WholeWays rs p
+        & WherePath (written_path p) (λ d ws. (path : Path) × (is : List RecordFieldPat) × PatIs i (pat.Record path is dots)
+        × StandsPatFields ks rs fs us is ws) No
+    StandsPat ks rs (tree.or_pat at ps) us i = λ ws. (is : List PatId) × OrIs is i × StandsPats ks rs ps us is ws
+    StandsPat ks rs (tree.paren_pat at p) us i = StandsPatPart ks rs p us i
+    StandsPat ks rs (tree.slice_pat at before middle behind) us i = λ ws.
+        (bs : List PatId) × (m : Option PatId) × (as' : List PatId) × PatIs i (pat.Slice bs m as')
+        × (StandsPats ks rs before us bs & StandsSubpat ks rs middle (uses_after_each before us) m
+        & StandsPats ks rs behind (uses_after_part middle (uses_after_each before us)) as') ws
+    StandsPat ks rs (tree.over_pat at form p) us i = λ ws.
+        (j : PatId) × PatIs i (pat_unary_form form j) × StandsPatPart ks rs p us j ws
+    StandsPat ks rs (tree.literal_pat at own l) us i = λ ws.
+        (e : ExprId) × PatIs i (pat.Lit e) × StandsSigned (unwrap_or own at) l e ws
+    StandsPat ks rs (tree.range_pat at op low high) us i = λ ws.
+        (s : Option ExprId) × (e : Option ExprId) × RangeIs op i s e × (StandsSide rs low s & StandsSide rs high e) ws
+
+    pub StandsPatPart : Names → Open → OptionPat → FirstUses → PatId → Ways
+    StandsPatPart ks rs tree.no_pat us i = No
+    StandsPatPart ks rs (tree.some_pat p) us i = StandsPat ks rs p us i
+
+    pub StandsSubpat : Names → Open → OptionPat → FirstUses → Option PatId → Ways
+    StandsSubpat ks rs tree.no_pat us o = Absent o
+    StandsSubpat ks rs (tree.some_pat p) us o = There (λ i. StandsPat ks rs p us i) o
+
+    pub StandsPats : Names → Open → Pats → FirstUses → List PatId → Ways
+    StandsPats ks rs tree.no_pats us is = λ ws. (is ≡ []) × No ws
+    StandsPats ks rs (tree.more_pats p ps) us is =
+        StandsBefore false (λ i. StandsPat ks rs p us i) (λ others. StandsPats ks rs ps (uses_after p us) others) is
+
+    -- two dots are no part of a tuple
+    pub StandsElements : Names → Open → Pats → FirstUses → List PatId → Ways
+    StandsElements ks rs tree.no_pats us is = λ ws. (is ≡ []) × No ws
+    StandsElements ks rs (tree.more_pats p ps) us is =
+        StandsBefore (is_dots p) (λ i. StandsPat ks rs p us i) (λ others. StandsElements ks rs ps (uses_after p us) others) is
+
+    -- one without a name is no part of the record, and a disabled one becomes nothing
+    pub StandsPatFields : Names → Open → PatFields → FirstUses → List RecordFieldPat → Ways
+    StandsPatFields ks rs tree.no_pat_fields us is = λ ws. (is ≡ []) × No ws
+    StandsPatFields ks rs (tree.more_pat_fields (tree.pat_field at None p) fs) us is = λ ws.
+        (i : PatId) × (ReadsAsPat (pattern_data p us) (StandsPat ks rs p us i) i & StandsPatFields ks rs fs (uses_after p us) is) ws
+    StandsPatFields ks rs (tree.more_pat_fields (tree.pat_field at (Some n) p) fs) us is = λ ws.
+        (i : PatId) × (others : List RecordFieldPat) × (is ≡ record { name = n; pat = i } ∷ others)
+        × ((StandsPat ks rs p us i & OnePatFieldWay i at) & StandsPatFields ks rs fs (uses_after p us) others) ws
+    StandsPatFields ks rs (tree.more_pat_fields f fs) us is = StandsPatFields ks rs fs us is
+
+    -- what is no side is absent
+    pub StandsSide : Open → Side → Option ExprId → Ways
+    StandsSide rs tree.no_side o = Absent o
+    StandsSide rs (tree.literal_side at l) o = There (λ i. StandsSigned at l i) o
+    StandsSide rs (tree.name_side at n) o = StandsNameSide at n o
+    StandsSide rs (tree.path_side at p) o =
+        WholeWays rs p & WherePath (written_path p) (λ d. There (λ i. StandsSidePath at d i) o) (Absent o)
+    StandsSide rs tree.other_side o = Absent o
+
+    -- ---- what is assigned to
+
+    pub StandsTarget : Open → Target → PatId → Ways
+    StandsTarget rs tree.absent_target i = No
+    StandsTarget rs (tree.place_target at e) i = λ ws. (x : ExprId) × PatIs i (pat.Expr x) × Stands rs e x ws
+    StandsTarget rs (tree.wild_target at) i = No
+    StandsTarget rs (tree.path_target at p h) i = PathWays rs p nothing_seen
+    StandsTarget rs (tree.tuple_target at ts) i = StandsTuple (λ dots is. pat.Tuple dots is) false (λ is. StandsTargets rs ts is) i
+    StandsTarget rs (tree.call_target at p ts) i =
+        WholeWays rs p
+        & WherePath (written_path p) (λ d ws. (path : Path)
+        × StandsTuple (λ dots is. pat.TupleStruct path dots is) false (λ is. StandsTargets rs ts is) i ws) No
+    StandsTarget rs (tree.array_target at before dots behind) i = λ ws.
+        (bs : List PatId) × (m : Option PatId) × (as' : List PatId) × PatIs i (pat.Slice bs m as')
+        × (StandsTargets rs before bs & StandsTargets rs behind as') ws
+    StandsTarget rs (tree.record_target at p fs dots spread) i =
+        WholeWays rs p
+        & WherePath (written_path p) (λ d ws. (path : Path) × (is : List RecordFieldPat) × PatIs i (pat.Record path is dots)
+        × StandsTargetFields rs fs is ws) No
+
+    pub StandsTargets : Open → Targets → List PatId → Ways
+    StandsTargets rs tree.no_targets is = λ ws. (is ≡ []) × No ws
+    StandsTargets rs (tree.more_targets t ts) is =
+        StandsBefore false (λ i. StandsTarget rs t i) (λ others. StandsTargets rs ts others) is
+    StandsTargets rs (tree.dots_targets ts) is = StandsTargets rs ts is
+
+    pub StandsTargetFields : Open → TargetFields → List RecordFieldPat → Ways
+    StandsTargetFields rs tree.no_target_fields is = λ ws. (is ≡ []) × No ws
+    StandsTargetFields rs (tree.more_target_fields (tree.target_field at None t) fs) is = λ ws.
+        (i : PatId) × (ReadsAsTarget t (StandsTarget rs t i) i & StandsTargetFields rs fs is) ws
+    StandsTargetFields rs (tree.more_target_fields (tree.target_field at (Some n) t) fs) is = λ ws.
+        (i : PatId) × (others : List RecordFieldPat) × (is ≡ record { name = n; pat = i } ∷ others)
+        × ((StandsTarget rs t i & OnePatFieldWay i at) & StandsTargetFields rs fs others) ws
+    StandsTargetFields rs (tree.more_target_fields f fs) is = StandsTargetFields rs fs is
+
+  -- ---- whole ones
+
+  -- an end of a range in a type, which is a body of its own
+  abbrev pub LimitWays : Open → Limit → Ways
+  LimitWays rs l = SomeExpr (λ i. StandsLimit (barrier_rib ∷ rs) l i)
+
+  -- a top pattern, before which no name has a use
+  abbrev pub StandsTop : Open → OptionPat → PatId → Ways
+  StandsTop rs p i = WithNames p (λ ks. StandsPatPart ks rs p [] i) i
+
+  abbrev pub StandsAssigned : Open → Target → PatId → Ways
+  StandsAssigned rs t i = ReadsAsTarget t (StandsTarget rs t i) i

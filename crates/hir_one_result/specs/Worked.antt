@@ -1,5 +1,7 @@
 -- Small trees: their faults, their blocks, and what whatever stands for them has stored.
 use Rattle.std.specs.Prelude.{Option, ◌≡◌, ℕ, Bool, true, false, List, [], ◌∷◌, Some, None, slice_get}
+use Rattle.hir_binding.specs.declared.binding.BindingAnnotation.TheVariants.{Unannotated}
+use Rattle.hir_binding.specs.declared.binding.BindingProblems.TheVariants.{BoundMoreThanOnce}
 use Rattle.hir_store.specs.Stored.{Store, SourceMap}
 use Rattle.hir_store.specs.declared.diagnostics.ExpressionStoreDiagnostics.TheVariants.{AwaitOutsideOfAsync, InactiveCode}
 use Rattle.hir_store.specs.declared.diagnostics.ExpressionStoreDiagnostics.TheVariants.{UndeclaredLabel, UnreachableLabel}
@@ -13,18 +15,23 @@ use Rattle.hir_store.specs.declared.path.Path.TheVariants.{BarePath}
 use Rattle.hir_store.specs.declared.path.PathKind.TheVariants as kind
 use Rattle.hir_store.specs.declared.ids.BlockId.{BlockId}
 use Rattle.hir_store.specs.declared.ids.CfgId.{CfgId}
+use Rattle.hir_store.specs.declared.ids.BindingId.{BindingId}
 use Rattle.hir_store.specs.declared.ids.ExprId.{ExprId}
 use Rattle.hir_store.specs.declared.ids.LabelId.{LabelId}
+use Rattle.hir_store.specs.declared.ids.PatId.{PatId}
+use Rattle.hir_store.specs.declared.pat.Binding.{Binding}
+use Rattle.hir_store.specs.declared.pat.Pat.TheVariants as pat
 use Rattle.hir_scope.specs.Scopes.{loop_scope, barrier}
 use Rattle.hir_env.specs.Answered as tree
-use Rattle.hir_env.specs.Answered.{Segment, Expr, OptionExpr, Exprs, Block, Stmts}
+use Rattle.hir_env.specs.Answered.{Segment, Expr, OptionExpr, Exprs, Block, Stmts, Use, Pat, OptionPat}
+use Rattle.hir_data.specs.BindingRule.{made_for}
 use Rattle.hir_data.specs.Worked.{whole}
 use Rattle.hir_meaning.specs.Small.{at, root, one, two, literal_at, label_with, label_a, jump_a, first, in_braces, loop_of}
 use Rattle.hir_meaning.specs.Small.{stored_one, stored_two, none_beside}
 pub use Rattle.hir_meaning.specs.Turns.{other}
 use Rattle.hir_meaning.specs.Forms.{plus}
-use Rattle.hir_one_result.specs.Leads.{Way, expr_way}
-use Rattle.hir_one_result.specs.Stands.{Open, opened, Stands}
+use Rattle.hir_one_result.specs.Leads.{Way, expr_way, binding_way}
+use Rattle.hir_one_result.specs.Stands.{Open, opened, Stands, StandsTop}
 use Rattle.hir_one_result.specs.Diagnostics.{diagnostics}
 use Rattle.hir_one_result.specs.Blocks.{blocks_of}
 
@@ -190,3 +197,50 @@ pub record PlainForms : Type 0 where
   pub nameless : (store : Store) (source_map : SourceMap) (i : ExprId) (ws : List Way)
       → Stands store source_map [] (tree.nameless_expr (at 0) (literal_part 1)) i ws
       → (part : ExprId) × (slice_get store.exprs i.0 ≡ Some hir.Missing) × (ws ≡ expr_way (at 1) part ∷ expr_way (at 0) i ∷ [])
+
+-- patterns
+
+abbrev pub use_x : Use
+use_x = record { name = letter 120; hygiene = root; mode = Unannotated }
+
+abbrev pub x_at : ℕ → Pat
+x_at n = tree.bind_pat (at n) use_x tree.no_pat
+
+-- `(x, .., x)`
+abbrev pub twice : OptionPat
+twice = tree.some_pat (tree.tuple_pat (at 0) false
+    (tree.more_pats (x_at 1) (tree.more_pats (tree.leaf_pat (at 2) tree.rest_leaf) (tree.more_pats (x_at 3) tree.no_pats))))
+
+-- Both are the one binding, which its first use alone leads to, and which shows that it is bound more than once; two dots are no part.
+pub record BindsTwice (store : Store) (q : PatId) (ws : List Way) : Type 0 where
+  pub one : BindingId
+  pub first : PatId
+  pub second : PatId
+  pub dots : Option ℕ
+  pub tuple : slice_get store.pats q.0 ≡ Some (pat.Tuple dots (first ∷ second ∷ []))
+  pub first_binds : slice_get store.pats first.0 ≡ Some (pat.Bind one None)
+  pub second_binds : slice_get store.pats second.0 ≡ Some (pat.Bind one None)
+  pub made : made_for store one ≡ Some use_x
+  pub shows : (x : Binding) → slice_get store.bindings one.0 ≡ Some x → x.problems ≡ Some BoundMoreThanOnce
+  pub ways : ws ≡ binding_way one ∷ []
+
+-- `1 = 2`
+abbrev pub assign_one : Expr
+assign_one = tree.assign_expr (at 0) tree.no_expr (tree.place_target (at 1) (literal_at 1 one)) (tree.some_expr (literal_at 2 two))
+
+-- what stands on the left is a pattern, which is that expression; it comes first
+pub record Assigns (store : Store) (i : ExprId) (ws : List Way) : Type 0 where
+  pub target : PatId
+  pub place : ExprId
+  pub value : ExprId
+  pub whole : slice_get store.exprs i.0 ≡ Some (hir.Assignment target value)
+  pub is_place : slice_get store.pats target.0 ≡ Some (pat.Expr place)
+  pub first : slice_get store.exprs place.0 ≡ Some stored_one
+  pub second : slice_get store.exprs value.0 ≡ Some stored_two
+  pub ways : ws ≡ expr_way (at 1) place ∷ expr_way (at 2) value ∷ expr_way (at 0) i ∷ []
+
+pub record Patterned : Type 0 where
+  pub binds_twice : (store : Store) (source_map : SourceMap) (q : PatId) (ws : List Way) → StandsTop store source_map [] twice q ws
+      → BindsTwice store q ws
+  pub assigns : (store : Store) (source_map : SourceMap) (i : ExprId) (ws : List Way) → Stands store source_map [] assign_one i ws
+      → Assigns store i ws

@@ -1,5 +1,5 @@
 -- Stored arguments, read through one level of them.
-use Rattle.std.proofs.Common.{◌≡◌, ◌∙◌, refl, sym, ap, Bool, true, false, List, [], ◌∷◌, ◌++◌, Option, Some, None}
+use Rattle.std.proofs.Common.{◌≡◌, ◌∙◌, refl, sym, ap, Bool, true, List, [], ◌∷◌, Option, Some, None}
 use Rattle.hir_store.specs.Stored.{Store, SourceMap}
 use Rattle.hir_store.specs.Generics.{of_args, of_binding, self_first}
 use Rattle.hir_store.specs.declared.ids.TypeRefId.{TypeRefId}

@@ -1,12 +1,11 @@
 -- The steps of a walk, as what they add to the items that are read.
-use Rattle.std.proofs.Common.{arith, ◌≡◌, ◌∙◌, refl, sym, ap, ℕ, suc, ◌+◌, ◌≤◌, List, [], ◌∷◌, Option, Some, None, Ok, Err, Bool, true}
+use Rattle.std.proofs.Common.{arith, ◌≡◌, ◌∙◌, refl, ap, ℕ, ◌+◌, ◌≤◌, List, [], ◌∷◌, Option, Some, None, Bool, true}
 use Rattle.std.proofs.Common.{false}
 use Rattle.std.specs.Prelude.{if◌then◌else◌, nat_lt, ◌^◌, option_map}
 use Rattle.hir_store.specs.Pointers.{Pointer}
-use Rattle.hir_store.specs.Stored.{Stored, store_of, map_of}
+use Rattle.hir_store.specs.Stored.{Stored}
 use Rattle.hir_store.specs.declared.ids.TypeRefId.{TypeRefId}
 use Rattle.hir_store.specs.declared.name.Name.{Name}
-use Rattle.hir_store.specs.declared.path.PathKind.{PathKind}
 use Rattle.hir_store.specs.declared.path.PathKind.TheVariants as kind
 use Rattle.hir_store.specs.declared.path.GenericArgs.{GenericArgs}
 use Rattle.hir_store.specs.declared.path.Path.{Path as HirPath}
@@ -14,18 +13,17 @@ use Rattle.hir_store.specs.declared.type_ref.TypeRef.{TypeRef}
 use Rattle.hir_store.specs.declared.type_ref.TypeRef.TheVariants as ty
 use Rattle.hir_store.specs.declared.type_ref.TypeBound.{TypeBound}
 use Rattle.hir_store.specs.declared.type_ref.TypeBound.TheVariants as bound
-use Rattle.hir_env.specs.Answered as tree
-use Rattle.hir_env.specs.Answered.{Binder, OptionPath}
+use Rattle.hir_env.specs.Answered.{Binder}
 use Rattle.hir_lower_form.specs.declared.walk.PathWalk.{PathWalk}
 use Rattle.hir_lower_form.specs.declared.walk.Reading.{Reading}
 use Rattle.hir_lower_form.specs.declared.walk.Reading.TheVariants.{Refused, Ended, Open}
-use Rattle.hir_lower_form.specs.Lowering.{Lowering, ◌>>=◌, pure, alloc_type, count_out}
+use Rattle.hir_lower_form.specs.Lowering.{Lowering, ◌>>=◌, pure}
 use Rattle.hir_lower_form.specs.Walks as walks
 use Rattle.hir_lower_form.specs.Walks.{start, at_first, super_read, path_read, projected, anchored}
 use Rattle.hir_lower_form.specs.Paths.{proceed, counted, with_trait, read_trait}
 use Rattle.hir_lower_form.specs.Types.{path_type_form, path_or_error, path_bound_form, path_bound_of, stored_path_bound, stored_modifier}
 use Rattle.hir_steps.proofs.Frames.{Frame}
-use Rattle.hir_steps.proofs.Steps.{Mark, Grows, Rel, Correct, correct_bind, correct_as, correct_pure, correct_count_out}
+use Rattle.hir_steps.proofs.Steps.{Mark, Rel, Correct, correct_bind, correct_as, correct_pure, correct_count_out}
 use Rattle.hir_steps.proofs.TypeSteps.{correct_alloc_type, AllocatedType}
 use Rattle.hir_data.specs.Data as datum
 use Rattle.hir_data.specs.Data.{TypeData, typed, OptionArgsData, BoundData}
@@ -34,17 +32,17 @@ use Rattle.hir_data.specs.Rule.{PathRead, What, Item, named, root, self_, super_
 use Rattle.hir_data.specs.Written as written
 use Rattle.hir_read_back.proofs.Layers.{a_list, a_type, a_shape, a_bound, within, Reads, type_at}
 use Rattle.hir_read_back.proofs.Walk.{item, Says, says_later, says_named, says_refused, says_super, says_anchor, says_trait, says_answers}
-use Rattle.hir_read_back.proofs.Walk.{Closed, Answers, Matches, matches_read, begins}
+use Rattle.hir_read_back.proofs.Walk.{Closed, Answers, matches_read, begins}
 
 -- from what was read this is read, where these items are added
 pub record Goes (from : Reading) (add : List Item → List Item) (final : Stored) (ps : List Frame) (m m' : Mark) (r : Reading) : Type 0 where
-  pub says : (is : List Item) → Says final m.types is from → Says final m'.types (add is) r
+  pub says : (is : List Item) → Says final m.entries is from → Says final m'.entries (add is) r
 
 -- it is read at once
 pub goes_at_once : {from : Reading} {add : List Item → List Item} (r : Reading)
     → ((final : Stored) (n : ℕ) (is : List Item) → Says final n is from → Says final n (add is) r) → Correct (pure r) (Goes from add)
 goes_at_once r h = correct_as (correct_pure r)
-    (λ final ps m m' x g row. rw (row.is, row.still) (record { says = λ is k. h final m.types is k }))
+    (λ final ps m m' x g row. rw (row.is, row.still) (record { says = λ is k. h final m.entries is k }))
 
 -- more is read, unless it was refused or has ended
 pub then_goes : {from : Reading} {add more : List Item → List Item} {p : Lowering Reading} {f : PathWalk → Lowering Reading}
@@ -67,8 +65,8 @@ pub named_goes : {x : OptionArgsData} {p : Lowering (Option GenericArgs)} (l : B
     (Goes (Open w) (λ is. item l (named (record { name = n; args = x })) ∷ is))
 named_goes {x = x} l n w h = correct_as (correct_bind h (λ a. correct_pure (walks.named n a (at_first l w))))
     (λ final ps m m' r g row. rw (row.second.is, row.second.still) (record {
-      says = λ is s. says_named final row.middle.types l is (record { name = n; args = x }) row.one w row.first.is
-          (says_later final m.types row.middle.types is (Open w) row.before.types s);
+      says = λ is s. says_named final row.middle.entries l is (record { name = n; args = x }) row.one w row.first.is
+          (says_later final m.entries row.middle.entries is (Open w) row.before.entries s);
     }))
 
 abbrev one_super : PathWalk → Bool → Option Reading
@@ -86,15 +84,15 @@ pub anchor_goes : {t : TypeData} {p : Lowering TypeRefId} (l : Bool) (w : PathWa
     → Correct (p >>= (λ i. pure (anchored i (at_first l w)))) (Goes (Open w) (λ is. item l (anchor t) ∷ is))
 anchor_goes {t = t} l w h = correct_as (correct_bind h (λ i. correct_pure (anchored i (at_first l w))))
     (λ final ps m m' r g row. rw (row.second.is, row.second.still) (record {
-      says = λ is s. says_anchor final row.middle.types l is t row.one w row.first.is
-          (says_later final m.types row.middle.types is (Open w) row.before.types s);
+      says = λ is s. says_anchor final row.middle.entries l is t row.one w row.first.is
+          (says_later final m.entries row.middle.entries is (Open w) row.before.entries s);
     }))
 
 -- ---- whole paths
 
 -- on both sides nothing, or a path that is read so
 pub record PathIs (y : Option PathRead) (final : Stored) (ps : List Frame) (m m' : Mark) (o : Option HirPath) : Type 0 where
-  pub is : Answers final m'.types y o
+  pub is : Answers final m'.entries y o
 
 pub none_is : Correct (pure None) (PathIs None)
 none_is = correct_as (correct_pure None) (λ final ps m m' o g row. rw row.is (record { is = tt }))
@@ -103,7 +101,7 @@ pub path_is : {add : List Item → List Item} {p : Lowering Reading} → Correct
     → Correct (p >>= (λ r. pure (path_read r))) (PathIs (rule.path_read (rule.read (add []))))
 path_is {add = add} h = correct_as (correct_bind h (λ r. correct_pure (path_read r)))
     (λ final ps m m' o g row. rw (row.second.is, row.second.still) (record {
-      is = says_answers final row.middle.types (add []) row.one (row.first.says [] (begins final m.types));
+      is = says_answers final row.middle.entries (add []) row.one (row.first.says [] (begins final m.entries));
     }))
 
 answers_later : (final : Stored) (n n' : ℕ) (y : Option PathRead) (o : Option HirPath) → n ≤ n' → Answers final n y o → Answers final n' y o
@@ -111,6 +109,7 @@ answers_later final n n' None None le h = h
 answers_later final n n' None (Some p) le h = absurd h
 answers_later final n n' (Some x) None le h = absurd h
 answers_later final n n' (Some x) (Some p) le h = record {
+  named = h.named;
   kind = h.kind;
   names = h.names;
   args = λ d ge. h.args d (omega (le, ge, arith));
@@ -126,7 +125,7 @@ pub path_type_reads : (y : Option PathRead) {p : Lowering (Option HirPath)} (at 
     → Correct (path_type_form at p) (Reads a_type (typed (Some at) (written.shape_of_path y)))
 unfolding path_type_form
 path_type_reads y at h = correct_as (correct_bind h (λ o. correct_alloc_type (path_or_error o) (Some at)))
-    (λ final ps m m' i g row. type_at row.second (λ d le. go final row.middle.types y row.one row.first.is d le))
+    (λ final ps m m' i g row. type_at row.second (λ d le. go final row.middle.entries y row.one row.first.is d le))
   where
     go : (final : Stored) (n : ℕ) (y : Option PathRead) (o : Option HirPath) → Answers final n y o → (d : ℕ) → n ≤ d
         → shape_of final d (path_or_error o) ≡ written.shape_of_path y
@@ -170,13 +169,13 @@ path_bound_reads y at maybe binder h = correct_as (correct_bind h (λ o. bound_s
     (λ final ps m m' b g row. record { is = λ d le. go final ps row.middle m' y row.one b row.first.is row.second d le })
   where
     go : (final : Stored) (ps : List Frame) (m m' : Mark) (y : Option PathRead) (o : Option HirPath) (b : TypeBound)
-        → Answers final m.types y o → BoundStored at maybe binder o final ps m m' b → (d : ℕ) → m'.types ≤ d
+        → Answers final m.entries y o → BoundStored at maybe binder o final ps m m' b → (d : ℕ) → m'.entries ≤ d
         → a_bound final (within final d) b ≡ written.bound_of_path at binder maybe y
     go final ps m m' None None b h row d le = ap (a_bound final (within final d)) row
     go final ps m m' None (Some p) b h row d le = absurd h
     go final ps m m' (Some x) None b h row d le = absurd h
     go final ps m m' (Some x) (Some p) b h row d le =
-        let t = type_at {m0 = m} row.stored (λ n ge. ap datum.path_shape (matches_read final m.types x p h n ge)) in
+        let t = type_at {m0 = m} row.stored (λ n ge. ap datum.path_shape (matches_read final m.entries x p h n ge)) in
         ap (a_bound final (within final d)) row.is ∙ (bound_read final d binder maybe row.number
         ∙ ap (written.bound_behind binder (written.modifier_of maybe)) (t.is d le))
 
@@ -201,10 +200,10 @@ unfolding with_trait
 trait_goes y {t = t} l at w hp hq =
     correct_as (correct_bind hp (λ i. correct_bind hq (λ o. trait_read i at (at_first l w) o)))
     (λ final ps m m' r g row. let s = row.second in rw s.second.is (record {
-      says = λ is k. go final m'.types y row.one s.one is
-          (λ d le. row.first.is d (omega (le, s.before.types, s.after.types, arith)))
-          (answers_later final s.middle.types m'.types y s.one s.after.types s.first.is)
-          (says_later final m.types m'.types is (Open w) g.types k);
+      says = λ is k. go final m'.entries y row.one s.one is
+          (λ d le. row.first.is d (omega (le, s.before.entries, s.after.entries, arith)))
+          (answers_later final s.middle.entries m'.entries y s.one s.after.entries s.first.is)
+          (says_later final m.entries m'.entries is (Open w) g.entries k);
     }))
   where
     go : (final : Stored) (n : ℕ) (y : Option PathRead) (i : TypeRefId) (o : Option HirPath) (is : List Item)

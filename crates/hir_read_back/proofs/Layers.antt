@@ -1,6 +1,6 @@
 -- What is read back at what was answered.
-use Rattle.std.proofs.Common.{◌≡◌, ◌∙◌, refl, sym, ap, ℕ, zero, suc, ◌+◌, ◌≤◌, length, List, [], ◌∷◌, ◌++◌, append-nil, append_assoc, arith}
-use Rattle.std.specs.Prelude.{map, Option, Some, None, option_map}
+use Rattle.std.proofs.Common.{◌≡◌, ◌∙◌, sym, ap, ℕ, zero, suc, ◌≤◌, List, [], ◌∷◌, ◌++◌, append-nil, append_assoc, arith}
+use Rattle.std.specs.Prelude.{map, Option, option_map}
 use Rattle.hir_store.specs.Pointers.{Pointer}
 use Rattle.hir_store.specs.Stored.{Stored, store_of, map_of}
 use Rattle.hir_store.specs.declared.ids.TypeRefId.{TypeRefId}
@@ -17,7 +17,7 @@ use Rattle.hir_store.specs.declared.type_ref.UseArgRef.{UseArgRef}
 use Rattle.hir_env.specs.NodeMap.{Site}
 use Rattle.hir_lower_form.specs.Lowering.{Lowering, ◌>>=◌, pure, alloc_type}
 use Rattle.hir_steps.proofs.Frames.{Frame}
-use Rattle.hir_steps.proofs.Steps.{Mark, Grows, Rel, Correct, correct_bind, correct_as, correct_pure}
+use Rattle.hir_steps.proofs.Steps.{Mark, Rel, Correct, correct_bind, correct_as, correct_pure}
 use Rattle.hir_steps.proofs.TypeSteps.{correct_alloc_type, AllocatedType}
 use Rattle.hir_data.specs.Data.{LifetimeData, UseData, TypeData, typed, Shape, OptionTypeData, TypesData, PathData, OptionArgsData}
 use Rattle.hir_data.specs.Data.{ArgumentsData, BindingData, BindingsData, BoundData, BoundsData}
@@ -87,7 +87,7 @@ within final d = readers (store_of final) (map_of final) d
 
 -- Read by any depth past the types that are stored by then, a gives x.
 pub record Reads {A D : Type 0} (layer : Layer A D) (x : D) (final : Stored) (ps : List Frame) (m m' : Mark) (a : A) : Type 0 where
-  pub is : (d : ℕ) → m'.types ≤ d → layer final (within final d) a ≡ x
+  pub is : (d : ℕ) → m'.entries ≤ d → layer final (within final d) a ≡ x
 
 -- ---- values
 
@@ -137,7 +137,7 @@ more_read cons e h k done = correct_as (correct_bind h (λ a. k (done ++ a ∷ [
       is = s.is ∙ append_assoc done (row.one ∷ []) s.new;
       rel = record {
         is = λ d le. e final (within final d) row.one s.new
-            ∙ (λ j. cons (row.first.is d (omega (le, row.after.types, arith)) j) (s.rel.is d le j));
+            ∙ (λ j. cons (row.first.is d (omega (le, row.after.entries, arith)) j) (s.rel.is d le j));
       };
     })
 
@@ -145,14 +145,14 @@ more_read cons e h k done = correct_as (correct_bind h (λ a. k (done ++ a ∷ [
 
 -- one that is stored under the number from the source
 pub type_at : {t : TypeRef} {source : Option Pointer} {x : Shape} {final : Stored} {ps : List Frame} {m m0 m' : Mark} {i : TypeRefId}
-    → AllocatedType t source final ps m m' i → ((d : ℕ) → m.types ≤ d → a_shape final (within final d) t ≡ x)
+    → AllocatedType t source final ps m m' i → ((d : ℕ) → m.entries ≤ d → a_shape final (within final d) t ≡ x)
     → Reads a_type (typed source x) final ps m0 m' i
 unfolding readers
 type_at {source = source} {x = x} {final = final} {m' = m'} {i = i} at h = record { is = λ d le. at_depth d le }
   where
-    at_depth : (d : ℕ) → m'.types ≤ d → (readers (store_of final) (map_of final) d).type i ≡ typed source x
-    at_depth zero le = absurd (omega (arith, le, at.next))
-    at_depth (suc d) le = rw (at.number, at.here, at.from) (ap (typed source) (h d (omega (arith, le, at.next))))
+    at_depth : (d : ℕ) → m'.entries ≤ d → (readers (store_of final) (map_of final) d).type i ≡ typed source x
+    at_depth zero le = absurd (omega (arith, le, at.entries))
+    at_depth (suc d) le = rw (at.number, at.here, at.from) (ap (typed source) (h d (omega (arith, le, at.entries))))
 
 pub type0 : {x : Shape} (t : TypeRef) (source : Option Pointer) → ((final : Stored) (r : Readers) → a_shape final r t ≡ x)
     → Correct (alloc_type t source) (Reads a_type (typed source x))
@@ -171,4 +171,4 @@ pub type2 : {A B D E : Type 0} {l : Layer A D} {k : Layer B E} {x : D} {y : E} {
 type2 source con f h h' e = correct_as (correct_bind h (λ a. correct_bind h' (λ b. correct_alloc_type (con a b) source)))
     (λ final ps m m' i g row. let s = row.second in
     type_at s.second (λ d le. e final (within final d) row.one s.one
-    ∙ (λ j. f (row.first.is d (omega (le, s.before.types, arith)) j) (s.first.is d le j))))
+    ∙ (λ j. f (row.first.is d (omega (le, s.before.entries, arith)) j) (s.first.is d le j))))

@@ -1,37 +1,37 @@
 -- What a written expression becomes comes from its node: a line for each form, whatever its parts are.
-use Rattle.std.proofs.Common.{arith, ◌≡◌, refl, ap, Bool, true, false, ℕ, ◌≤◌, List, [], ◌∷◌, Option, Some, None, option_map}
+use Rattle.std.proofs.Common.{arith, refl, Bool, true, false, List, Option, Some, None, option_map}
 use Rattle.hir_store.specs.Pointers.{Pointer}
-use Rattle.hir_store.specs.Stored.{Stored, store_of, map_of}
+use Rattle.hir_store.specs.Stored.{Stored}
 use Rattle.hir_store.specs.declared.hir.Expr.{Expr as HirExpr}
+use Rattle.hir_store.specs.declared.hir.MatchArm.{MatchArm}
 use Rattle.hir_store.specs.declared.ids.BlockId.{BlockId}
 use Rattle.hir_store.specs.declared.ids.ExprId.{ExprId}
 use Rattle.hir_store.specs.declared.ids.HygieneId.{HygieneId}
 use Rattle.hir_store.specs.declared.ids.LabelId.{LabelId}
-use Rattle.hir_store.specs.declared.ids.TypeRefId.{TypeRefId}
+use Rattle.hir_store.specs.declared.ids.PatId.{PatId}
 use Rattle.hir_store.specs.declared.name.Name.{Name}
 use Rattle.hir_store.specs.declared.path.GenericArgs.{GenericArgs}
 use Rattle.hir_store.specs.declared.path.Path.{Path as HirPath}
-use Rattle.hir_store.specs.declared.type_ref.ConstRef.{ConstRef}
 use Rattle.hir_store.specs.declared.diagnostics.AwaitLocation.{AwaitLocation}
 use Rattle.hir_env.specs.Answered as tree
-use Rattle.hir_env.specs.Answered.{Jump, Label, Listing}
+use Rattle.hir_env.specs.Answered.{Jump, Label, Listing, RangeForm}
 use Rattle.hir_env.specs.NodeMap.{Site}
 use Rattle.hir_env.specs.Spot.{site_of}
-use Rattle.hir_lower_form.specs.Lowering.{Lowering, ◌>>=◌, pure, alloc_expr}
+use Rattle.hir_lower_form.specs.Lowering.{Lowering, ◌>>=◌, alloc_expr}
 use Rattle.hir_lower_form.specs.Types.{TypeSteps}
-use Rattle.hir_lower_form.specs.Lower.{ExprSteps, StoredContents, StoredFields, missing, if_form, loop_form, call_form, continue_form}
-use Rattle.hir_lower_form.specs.Lower.{break_form, paren_form, path_form, operand_form, operands_form, value_form, list_form}
-use Rattle.hir_lower_form.specs.Lower.{method_call_form, await_form, cast_form, offset_of_form, record_of, record_form, block_form}
-use Rattle.hir_lower_form.specs.Lower.{labelled, constant_form}
+use Rattle.hir_lower_form.specs.Forms.{ExprSteps, StoredContents, StoredFields, missing, if_form, loop_form, call_form, continue_form}
+use Rattle.hir_lower_form.specs.Forms.{break_form, paren_form, path_form, operand_form, operands_form, value_form, list_form}
+use Rattle.hir_lower_form.specs.Forms.{method_call_form, await_form, cast_form, offset_of_form, record_of, record_form, block_form}
+use Rattle.hir_lower_form.specs.Forms.{labelled, constant_form, let_form, match_form, assign_form}
+use Rattle.hir_lower_form.specs.Ranges.{made_range, range_form}
 use Rattle.hir_steps.proofs.Frames.{Frame, loop_at, block_at}
 use Rattle.hir_steps.proofs.Steps.{Mark, Rel, Correct, correct_bind, correct_as, correct_pure, correct_alloc, correct_point}
 use Rattle.hir_steps.proofs.Steps.{correct_enter_block, correct_opened, correct_report_await, correct_target}
 use Rattle.hir_steps.proofs.Constants.{correct_constant}
 use Rattle.hir_steps.proofs.Keeping.{Any}
-use Rattle.hir_data.specs.Reading as reading
 use Rattle.hir_data.specs.Rule.{PathRead}
 use Rattle.hir_data.specs.Written as written
-use Rattle.hir_read_back.proofs.Layers.{Layer, Reads, a_constant, a_source}
+use Rattle.hir_read_back.proofs.Layers.{Reads, a_constant, a_source}
 use Rattle.hir_read_back.proofs.Going.{PathIs}
 use Rattle.hir_read_back.proofs.Walk.{Answers}
 
@@ -86,7 +86,7 @@ module _ (at : Pointer) where
   unfolding paren_form
   paren_from h = correct_as (correct_bind h (λ i. correct_bind (correct_point at i) (λ u. correct_pure i)))
       (λ final ps m m' i g row. let s = row.second in rw s.second.is (record {
-        is = λ d le. row.first.is d (omega (le, row.after.types, arith));
+        is = λ d le. row.first.is d (omega (le, row.after.entries, arith));
       }))
 
   pub path_from : (h : HygieneId) {p : Lowering (Option HirPath)} → Correct p Any → From here (path_form at h p)
@@ -145,7 +145,7 @@ module _ (at : Pointer) where
       (λ final ps m m' i g row. go final ps m row.middle m' i y row.one row.first.is row.second)
     where
       go : (final : Stored) (ps : List Frame) (m n m' : Mark) (i : ExprId) (y : Option PathRead) (o : Option HirPath)
-          → Answers final n.types y o → FromEither o final ps n m' i → Reads a_source (written.record_site at y) final ps m m' i
+          → Answers final n.entries y o → FromEither o final ps n m' i → Reads a_source (written.record_site at y) final ps m m' i
       go final ps m n m' i None None h row = record { is = row.is }
       go final ps m n m' i None (Some p) h row = absurd h
       go final ps m n m' i (Some x) None h row = absurd h
@@ -155,6 +155,27 @@ module _ (at : Pointer) where
       → Correct c Any → From here (block_form at is_unsafe label number c)
   unfolding block_form
   block_form_from is_unsafe label number h = ends_from (correct_enter_block number) (λ u. ends_from h (λ r. stored_from _))
+
+  pub let_from : {p : Lowering PatId} {e : ExprSteps} → Correct p Any → Correct e Any → From here (let_form at p e)
+  unfolding let_form
+  let_from hp he = ends_from hp (λ p. ends_from he (λ i. stored_from _))
+
+  pub match_from : {e : ExprSteps} {arms : Lowering (List MatchArm)} → Correct e Any → Correct arms Any → From here (match_form at e arms)
+  unfolding match_form
+  match_from he ha = ends_from he (λ i. ends_from ha (λ as'. stored_from _))
+
+  pub assign_from : {t : Lowering PatId} {v : ExprSteps} → Correct t Any → Correct v Any → From here (assign_form at t v)
+  unfolding assign_form
+  assign_from ht hv = ends_from ht (λ t. ends_from hv (λ v. stored_from _))
+
+  made_from : (form : RangeForm) (s e : Option ExprId) → From here (made_range at form s e)
+  made_from (tree.record_range i last) s e = stored_from _
+  made_from (tree.call_range i) s e = ends_from (alloc_from _ None) (λ f. stored_from _)
+  made_from tree.itemless_range s e = stored_from _
+
+  pub range_from : (form : RangeForm) {s e : Lowering (Option ExprId)} → Correct s Any → Correct e Any → From here (range_form at form s e)
+  unfolding range_form
+  range_from form hs he = ends_from hs (λ s. ends_from he (λ e. made_from form s e))
 
 pub labelled_from : {x : Option Site} (label : Option Label) {f : Option LabelId → ExprSteps} → ((n : Option LabelId) → From x (f n))
     → From x (labelled label f)
@@ -167,4 +188,4 @@ labelled_from (Some l) h = correct_as (correct_opened block_at l (λ n ps. refl)
 
 pub constant_reads : {x : Option Site} {p : ExprSteps} → From x p → Correct (constant_form p) (Reads a_constant x)
 constant_reads h = correct_as (correct_constant h)
-    (λ final ps m m' c g row. record { is = λ d le. row.first.is d (omega (le, row.after.types, arith)) })
+    (λ final ps m m' c g row. record { is = λ d le. row.first.is d (omega (le, row.after.entries, arith)) })

@@ -1,6 +1,8 @@
 -- What lowering stores for a tree reads back as what is written: by induction, a line for each kind.
 use Rattle.std.proofs.Common.{refl, Option, Some, None, Bool, true, false, List, [], ◌∷◌}
+use Rattle.hir_store.specs.declared.ids.PatId.{PatId}
 use Rattle.hir_store.specs.declared.ids.TypeRefId.{TypeRefId}
+use Rattle.hir_store.specs.declared.pat.Pat.TheVariants as pat
 use Rattle.hir_store.specs.declared.name.Name.{Name}
 use Rattle.hir_store.specs.declared.path.PathKind.TheVariants as kind
 use Rattle.hir_store.specs.declared.path.GenericArg.TheVariants as arg
@@ -10,27 +12,31 @@ use Rattle.hir_store.specs.declared.type_ref.TypeBound.TheVariants as bound
 use Rattle.hir_env.specs.Answered as tree
 use Rattle.hir_env.specs.Answered.{Binder, Type_, OptionType, Parts, Path, OptionPath, Segments, Segment, SegmentArgs, OptionParens}
 use Rattle.hir_env.specs.Answered.{OptionRet, OptionArgs, Args, Arg, Bounds, Bound, Constant, Expr, OptionExpr, Block}
+use Rattle.hir_env.specs.Answered.{Limit, Side, TypePat, OptionTypePat, TypePats}
 use Rattle.hir_lower_form.specs.declared.args.ArgLists.{ArgLists}
 use Rattle.hir_lower_form.specs.declared.walk.PathWalk.{PathWalk}
-use Rattle.hir_lower_form.specs.declared.walk.Reading.TheVariants.{Refused, Ended, Open}
-use Rattle.hir_lower_form.specs.Lowering.{Lowering, ◌>>=◌, pure}
+use Rattle.hir_lower_form.specs.declared.walk.Reading.TheVariants.{Refused, Open}
+use Rattle.hir_lower_form.specs.Lowering.{pure}
 use Rattle.hir_lower_form.specs.Walks as walks
 use Rattle.hir_lower_form.specs.Walks.{start, at_first, missing_name, self_type_name}
-use Rattle.hir_lower_form.specs.Paths.{proceed, whole}
+use Rattle.hir_lower_form.specs.Paths.{whole}
 use Rattle.hir_lower_form.specs.Types.{no_lists}
 use Rattle.hir_lower_form.specs.Lower as lower
 use Rattle.hir_steps.proofs.Steps.{Correct, correct_report}
 use Rattle.hir_steps.proofs.Keeping.{part_any, present_any, each_any, block_part_any, stmts_any, kept_part_any, contents_any, fields_any}
-use Rattle.hir_steps.proofs.Keeping.{spread_any, type_any, lower_path_any, args_any}
+use Rattle.hir_steps.proofs.Keeping.{spread_any, type_any, lower_path_any, args_any, top_any, arms_any, target_any}
 use Rattle.hir_data.specs.Data as datum
 use Rattle.hir_data.specs.Data.{TypesData, no_args}
-use Rattle.hir_data.specs.Rule.{Item, broken, named}
+use Rattle.hir_data.specs.Rule.{broken, named}
 use Rattle.hir_data.specs.Written as written
 use Rattle.hir_read_back.proofs.Layers.{a_type, types_before, maybe_type, a_bound, many_bounds, a_list, Reads, value0, Pushed}
-use Rattle.hir_read_back.proofs.Layers.{a_constant, a_source}
+use Rattle.hir_read_back.proofs.Layers.{a_constant}
 use Rattle.hir_read_back.proofs.Sites as sites
 use Rattle.hir_read_back.proofs.Sites.{From, ends_from, missing_from}
 use Rattle.hir_read_back.proofs.Layers.{pushed_all, type0}
+use Rattle.hir_read_back.proofs.Pats.{a_pat, many_pats}
+use Rattle.hir_read_back.proofs.TypePats as pats
+use Rattle.hir_read_back.proofs.TypePats.{a_side, SideIs}
 use Rattle.hir_read_back.proofs.Types as kinds
 use Rattle.hir_read_back.proofs.Types.{Grown, Listed}
 use Rattle.hir_read_back.proofs.Walk.{item, says_named, says_refused, says_root, says_dollar, says_self, one_closed, outer_closed}
@@ -66,6 +72,7 @@ mutual
   type_reads b (tree.impl_type at mode bs) = kinds.impl_reads at mode (pushed_all (bounds_read bs []))
   type_reads b (tree.nested_impl at) = type0 ty.Error (Some at) (λ final r. refl)
   type_reads b (tree.dyn_type at bs) = kinds.dyn_reads at (pushed_all (bounds_read bs []))
+  type_reads b (tree.pattern_type at t own p) = pats.pattern_type_reads at (part_reads None t) (type_pat_part_reads p)
 
   pub part_reads : (b : Option Binder) (t : OptionType) → Correct (lower.type_part b t) (Reads a_type (written.part_data b t))
   part_reads b tree.no_type = kinds.error_type_reads
@@ -179,6 +186,35 @@ mutual
   path_reads tree.no_path = none_is
   path_reads (tree.some_path p) = path_is {add = written.segments p} (path_goes p start)
 
+  -- ---- patterns of types
+
+  type_pat_reads : (p : TypePat) → Correct (lower.lower_type_pat p) (Reads a_pat (written.type_pat_data p))
+  type_pat_reads (tree.not_null_type_pat at) = pats.pattern0 pat.NotNull (Some at) (λ final r. refl)
+  type_pat_reads (tree.or_type_pat at ps) = pats.type_alternatives_reads at (pushed_all (type_pats_read ps []))
+  type_pat_reads (tree.range_type_pat at start end) = pats.limits_reads at (limit_reads start) (limit_reads end)
+  type_pat_reads (tree.other_type_pat at) = pats.pattern0 pat.Missing (Some at) (λ final r. refl)
+
+  type_pat_part_reads : (p : OptionTypePat) → Correct (lower.lower_type_pat_part p) (Reads a_pat (written.type_pat_part_data p))
+  type_pat_part_reads tree.no_type_pat = pats.missing_pattern_reads
+  type_pat_part_reads (tree.some_type_pat p) = type_pat_reads p
+
+  type_pats_read : (ps : TypePats) (done : List PatId)
+      → Correct (lower.lower_type_pats done ps) (Pushed done (Reads many_pats (written.type_pats_data ps)))
+  type_pats_read tree.no_type_pats done = pats.patterns_none done
+  type_pats_read (tree.more_type_pats p ps) done = pats.patterns_more (type_pat_reads p) (type_pats_read ps) done
+
+  limit_reads : (l : Limit) → Correct (lower.lower_limit l) (Reads a_side (written.limit_data l))
+  limit_reads (tree.item_limit i) = pats.inner_reads (pats.item_reads i)
+  limit_reads (tree.side_limit s) = pats.inner_reads (pats.side_reads (limit_side_is s))
+  limit_reads (tree.before_limit i s) = pats.inner_reads (pats.before_reads i (limit_side_is s))
+
+  limit_side_is : (s : Side) → Correct (lower.limit_side s) (SideIs (written.limit_side s))
+  limit_side_is tree.no_side = pats.missing_side_is
+  limit_side_is (tree.literal_side at l) = pats.literal_limit_is at l
+  limit_side_is (tree.name_side at n) = pats.name_limit_is at n
+  limit_side_is (tree.path_side at p) = pats.path_limit_is (written.path_of p) at (path_reads p)
+  limit_side_is tree.other_side = pats.missing_side_is
+
   -- ---- constants
 
   constant_reads : (c : Constant) → Correct (lower.lower_constant c) (Reads a_constant (written.constant_site c))
@@ -196,11 +232,11 @@ mutual
   expr_from (tree.disabled_expr at by e) = ends_from (correct_report _) (λ u. missing_from)
   expr_from (tree.paren_expr at e) = sites.paren_from at (part_from e)
   expr_from (tree.block_expr b) = block_from b
-  expr_from (tree.record_expr at p fs s) =
+  expr_from (tree.record_expr at p head fs s) =
       sites.record_from at (written.path_of p) (path_reads p) (contents_any (fields_any [] fs) (spread_any s))
   expr_from (tree.if_expr at c t e) = sites.if_from at (part_any c) (block_part_any t) (present_any e)
   expr_from (tree.loop_expr at label b) = sites.loop_from at label (block_part_any b)
-  expr_from (tree.call_expr at f es) = sites.call_from at (part_any f) (each_any [] es)
+  expr_from (tree.call_expr at f has_list es) = sites.call_from at (part_any f) (each_any [] es)
   expr_from (tree.path_expr at p h) = sites.path_from at h (lower_path_any p)
   expr_from (tree.continue_expr at jump) = sites.continue_from at jump
   expr_from (tree.break_expr at jump e) = sites.break_from at jump (present_any e)
@@ -219,3 +255,7 @@ mutual
   expr_from (tree.cast_expr at e t) = sites.cast_from at (part_any e) (type_any None t)
   expr_from (tree.offset_of_expr at t names) = sites.offset_of_from at names (type_any None t)
   expr_from (tree.nameless_expr at e) = sites.operand_from at _ (part_any e)
+  expr_from (tree.let_expr at p e) = sites.let_from at (top_any p) (part_any e)
+  expr_from (tree.match_expr at e arms) = sites.match_from at (part_any e) (arms_any [] arms)
+  expr_from (tree.range_expr at form start end) = sites.range_from at form (present_any start) (present_any end)
+  expr_from (tree.assign_expr at e t v) = sites.assign_from at (target_any t) (part_any v)

@@ -26,14 +26,14 @@ use Rattle.hir_env.specs.Answered as tree
 use Rattle.hir_env.specs.Answered.{Lifetime, Binder, FnHead, UseRead, TypeLeaf, TypeUnary}
 use Rattle.hir_lower_form.specs.declared.args.ArgLists.{ArgLists}
 use Rattle.hir_lower_form.specs.Lowering.{Lowering, ◌>>=◌, pure, alloc_type}
-use Rattle.hir_lower_form.specs.Paths.{parens_form, segment_args_form, or_else, or_notation, notation, sugared_args, output_name}
+use Rattle.hir_lower_form.specs.Paths.{parens_form, segment_args_form, or_else, or_notation, sugared_args, output_name}
 use Rattle.hir_lower_form.specs.Types.{error_type, unit_type, lower_lifetime, lower_lifetime_option, lower_use, lower_uses}
-use Rattle.hir_lower_form.specs.Types.{stored_leaf_type, stored_over_type, over_form, tuple_type_form, ref_type_form, stored_fn}
+use Rattle.hir_lower_form.specs.Types.{stored_leaf_type, over_form, tuple_type_form, ref_type_form, stored_fn}
 use Rattle.hir_lower_form.specs.Types.{array_type_form}
 use Rattle.hir_lower_form.specs.Types.{fn_type_form}
-use Rattle.hir_lower_form.specs.Types.{stored_impl, impl_type_form, dyn_type_form, yielded, binding_form, add_arg, add_binding, no_lists}
+use Rattle.hir_lower_form.specs.Types.{impl_type_form, dyn_type_form, yielded, binding_form, add_arg, add_binding, no_lists}
 use Rattle.hir_steps.proofs.Frames.{Frame}
-use Rattle.hir_steps.proofs.Steps.{Mark, Grows, Rel, Correct, correct_bind, correct_as, correct_pure}
+use Rattle.hir_steps.proofs.Steps.{Mark, Rel, Correct, correct_bind, correct_as, correct_pure}
 use Rattle.hir_steps.proofs.TypeSteps.{correct_alloc_type, correct_alloc_lifetime}
 use Rattle.hir_data.specs.Data as datum
 use Rattle.hir_data.specs.Data.{LifetimeData, UseData, TypeData, typed, Shape, OptionTypeData, TypesData, OptionArgsData, no_args}
@@ -43,7 +43,7 @@ use Rattle.hir_data.specs.Written as written
 use Rattle.hir_data.specs.Reading as reading
 use Rattle.hir_data.specs.Reading.{Readers}
 use Rattle.hir_read_back.proofs.Layers.{a_constant}
-use Rattle.hir_read_back.proofs.Layers.{Layer, a_lifetime, maybe_lifetime, a_use, many_uses, a_type, types_before, maybe_type, a_shape}
+use Rattle.hir_read_back.proofs.Layers.{Layer, a_lifetime, maybe_lifetime, a_use, many_uses, a_type, types_before, maybe_type}
 use Rattle.hir_read_back.proofs.Layers.{a_bound, many_bounds, arguments_before, a_binding, bindings_before, a_list, within, Reads}
 use Rattle.hir_read_back.proofs.Layers.{value0, value1, Pushed, pushed_all, none_read, more_read, type_at, type0, type1, type2}
 use Rattle.hir_read_back.proofs.Generics.{args_roll, binding_roll}
@@ -132,7 +132,7 @@ fn_reads {x = x} at b h ret params =
     type_at s.second (λ d le. ap (datum.fn_shape h b)
     (types_append final (within final d) s.one (row.one ∷ []) datum.no_types
     ∙ (ap (λ t. types_before (datum.more_types t datum.no_types) final (within final d) s.one)
-    (row.first.is d (omega (le, s.before.types, arith)))
+    (row.first.is d (omega (le, s.before.entries, arith)))
     ∙ s.first.is d le))))
 
 pub impl_reads : {x : BoundsData} {p : Lowering (List TypeBound)} (at : Pointer) (mode : ImplTrait) → Correct p (Reads many_bounds x)
@@ -182,8 +182,8 @@ pub record Grown (l : ArgLists) (f : ArgumentsData → ArgumentsData) (g : Bindi
   pub bindings : List AssociatedTypeBinding
   pub args_are : r.args ≡ l.args ++ args
   pub bindings_are : r.bindings ≡ l.bindings ++ bindings
-  pub args_read : (d : ℕ) → m'.types ≤ d → (x : ArgumentsData) → arguments_before x final (within final d) args ≡ f x
-  pub bindings_read : (d : ℕ) → m'.types ≤ d → (y : BindingsData) → bindings_before y final (within final d) bindings ≡ g y
+  pub args_read : (d : ℕ) → m'.entries ≤ d → (x : ArgumentsData) → arguments_before x final (within final d) args ≡ f x
+  pub bindings_read : (d : ℕ) → m'.entries ≤ d → (y : BindingsData) → bindings_before y final (within final d) bindings ≡ g y
 
 pub skipped_grown : (l : ArgLists) → Correct (pure l) (Grown l (λ x. x) (λ y. y))
 skipped_grown l = correct_as (correct_pure l) (λ final ps m m' r g row. rw row.is (record {
@@ -229,8 +229,9 @@ binding_reads {x = x} {y = y} {z = z} n dots hp hq hs =
       is = λ d le. binding_roll (store_of final) (map_of final) (within final d) n (or_notation row.one dots) s.one u.one
           ∙ (λ j. datum.binding_data n
           ((or_notation_read final (within final d) row.one dots
-          ∙ ap (λ v. written.first_list v (written.notation dots)) (row.first.is d (omega (le, s.before.types, u.before.types, arith)))) j)
-          (s.first.is d (omega (le, u.before.types, arith)) j) (u.first.is d le j));
+          ∙ ap (λ v. written.first_list v (written.notation dots))
+          (row.first.is d (omega (le, s.before.entries, u.before.entries, arith)))) j)
+          (s.first.is d (omega (le, u.before.entries, arith)) j) (u.first.is d le j));
     }))
 
 pub binding_grown : {x : BindingData} {p : Lowering AssociatedTypeBinding} (l : ArgLists) → Correct p (Reads a_binding x)
@@ -252,8 +253,8 @@ pub record Listed (l : ArgLists) (x : ArgumentsData) (y : BindingsData)
   pub bindings : List AssociatedTypeBinding
   pub args_are : r.args ≡ l.args ++ args
   pub bindings_are : r.bindings ≡ l.bindings ++ bindings
-  pub args_read : (d : ℕ) → m'.types ≤ d → arguments_before datum.no_arguments final (within final d) args ≡ x
-  pub bindings_read : (d : ℕ) → m'.types ≤ d → bindings_before datum.no_bindings final (within final d) bindings ≡ y
+  pub args_read : (d : ℕ) → m'.entries ≤ d → arguments_before datum.no_arguments final (within final d) args ≡ x
+  pub bindings_read : (d : ℕ) → m'.entries ≤ d → bindings_before datum.no_bindings final (within final d) bindings ≡ y
 
 pub none_listed : (l : ArgLists) → Correct (pure l) (Listed l datum.no_arguments datum.no_bindings)
 none_listed l = correct_as (skipped_grown l) (λ final ps m m' r g row. record {
@@ -288,9 +289,9 @@ more_listed {f = f} {g = g} l h k = correct_as (correct_bind h k) (λ final ps m
       bindings_are = rest.bindings_are
           ∙ (ap (λ bs. bs ++ rest.bindings) one.bindings_are ∙ append_assoc l.bindings one.bindings rest.bindings);
       args_read = λ d le. arguments_append final (within final d) one.args rest.args datum.no_arguments
-          ∙ (one.args_read d (omega (le, row.after.types, arith)) _ ∙ ap f (rest.args_read d le));
+          ∙ (one.args_read d (omega (le, row.after.entries, arith)) _ ∙ ap f (rest.args_read d le));
       bindings_read = λ d le. bindings_append final (within final d) one.bindings rest.bindings datum.no_bindings
-          ∙ (one.bindings_read d (omega (le, row.after.types, arith)) _ ∙ ap g (rest.bindings_read d le));
+          ∙ (one.bindings_read d (omega (le, row.after.entries, arith)) _ ∙ ap g (rest.bindings_read d le));
     })
 
 yielded_read : (final : Stored) (r : Readers) (as' : List GenericArg) (bs : List AssociatedTypeBinding)
@@ -325,7 +326,7 @@ parens_reads {x = x} {y = y} hp hq =
           ap some_args (args_roll (store_of final) (map_of final) (within final d) (arg.Type_ s.one ∷ []) false
           (of_binding output_name None (Some u.one) [] ∷ []) parens.ParenSugar
           ∙ (λ j. args_data
-          (datum.more_arguments (datum.type_argument (tuple.is d (omega (le, u.before.types, arith)) j)) datum.no_arguments) false
+          (datum.more_arguments (datum.type_argument (tuple.is d (omega (le, u.before.entries, arith)) j)) datum.no_arguments) false
           (datum.more_bindings ((binding_roll (store_of final) (map_of final) (within final d) output_name None (Some u.one) []
           ∙ ap (λ t. datum.binding_data output_name no_args (datum.some_type t) datum.no_bounds) (u.first.is d le)) j) datum.no_bindings)
           parens.ParenSugar));
@@ -348,10 +349,10 @@ unfolding segment_args_form
 segment_args_reads {x = x} {y = y} dots hp hq =
     correct_as (correct_bind hp (λ a. correct_bind (or_else_reads a hq) (λ r. correct_pure (or_notation r dots))))
     (λ final ps m m' r g row. let s = row.second in rw (s.second.is, s.second.still) (record {
-      is = λ d le. go final ps row.middle s.middle row.one s.one s.first d le (row.first.is d (omega (le, s.before.types, arith)));
+      is = λ d le. go final ps row.middle s.middle row.one s.one s.first d le (row.first.is d (omega (le, s.before.entries, arith)));
     }))
   where
-    go : (final : Stored) (ps : List Frame) (m m' : Mark) (a r : Option GenericArgs) → OrElse a y final ps m m' r → (d : ℕ) → m'.types ≤ d
+    go : (final : Stored) (ps : List Frame) (m m' : Mark) (a r : Option GenericArgs) → OrElse a y final ps m m' r → (d : ℕ) → m'.entries ≤ d
         → a_list final (within final d) a ≡ x
         → a_list final (within final d) (or_notation r dots) ≡ written.first_list x (written.first_list y (written.notation dots))
     go final ps m m' None r h d le e =

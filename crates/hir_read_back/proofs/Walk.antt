@@ -1,11 +1,9 @@
 -- The walk and the rule, segment by segment.
 use Rattle.std.proofs.Common.{arith, ◌≡◌, ◌≤◌, ◌∙◌, refl, sym, ap, subst, ℕ, zero, suc, ◌+◌, List, [], ◌∷◌, ◌++◌}
 use Rattle.std.proofs.Common.{Option, Some, None, Bool, true, false}
-use Rattle.std.specs.Prelude.{reverse, map, ◌&&◌, ◌||◌, not, is_some, is_none, if◌then◌else◌, nat_lt, ◌^◌, option_map}
+use Rattle.std.specs.Prelude.{reverse, map, ◌&&◌, ◌||◌, not, is_some, is_none, if◌then◌else◌, option_map}
 use Rattle.std.proofs.lemmas.List.{reverse-append, reverse-reverse, map-append}
-use Rattle.hir_store.specs.Pointers.{Pointer}
 use Rattle.hir_store.specs.Stored.{Stored, store_of, map_of}
-use Rattle.hir_store.specs.Generics.{self_first}
 use Rattle.hir_store.specs.declared.ids.CrateId.{CrateId}
 use Rattle.hir_store.specs.declared.ids.TypeRefId.{TypeRefId}
 use Rattle.hir_store.specs.declared.name.Name.{Name}
@@ -13,7 +11,7 @@ use Rattle.hir_store.specs.declared.path.PathKind.{PathKind}
 use Rattle.hir_store.specs.declared.path.PathKind.TheVariants as kind
 use Rattle.hir_store.specs.declared.path.GenericArgs.{GenericArgs}
 use Rattle.hir_store.specs.declared.path.Path.{Path as HirPath}
-use Rattle.hir_store.specs.declared.path.Path.TheVariants.{BarePath, Normal}
+use Rattle.hir_store.specs.declared.path.Path.TheVariants.{BarePath, Normal, LangItem}
 use Rattle.hir_env.specs.Answered as tree
 use Rattle.hir_env.specs.Answered.{Path, OptionPath, Segments, Segment}
 use Rattle.hir_lower_form.specs.declared.walk.PathWalk.{PathWalk}
@@ -319,12 +317,20 @@ module _ (final : Stored) (n : ℕ) where
   abbrev is_bare : HirPath → Bool
   is_bare (BarePath p) = true
   is_bare (Normal p) = false
+  is_bare (LangItem i) = false
 
   abbrev anchor_in : HirPath → Option TypeRefId
   anchor_in (BarePath p) = None
   anchor_in (Normal p) = p.type_anchor
+  anchor_in (LangItem i) = None
+
+  -- what is written is no item of the language
+  abbrev pub IsNamed : HirPath → Type 0
+  IsNamed (LangItem i) = ⊥
+  IsNamed p = Unit {0}
 
   pub record Matches (x : PathRead) (p : HirPath) : Type 0 where
+    pub named : IsNamed p
     pub kind : (mod_path p).kind ≡ x.kind
     pub names : (mod_path p).segments ≡ map name_at x.names
     pub args : (d : ℕ) → n ≤ d → lists final d (args_of p) ≡ map args_at x.names
@@ -490,6 +496,7 @@ module _ (final : Stored) (n : ℕ) where
       by true e f =
           let bare = both (is_none w.type_anchor) w.found_args e in
           record {
+            named = tt;
             kind = own_kind_same is w h;
             names = final_names is w h;
             args = λ d le. ap (lists final d) (sym (ap (λ as'. reverse (without_last_self as')) (h.bare bare.1)
@@ -498,6 +505,7 @@ module _ (final : Stored) (n : ℕ) where
             bare = sym e ∙ f;
           }
       by false e f = record {
+        named = tt;
         kind = own_kind_same is w h;
         names = final_names is w h;
         args = final_args is w h;
@@ -538,6 +546,7 @@ module _ (final : Stored) (n : ℕ) where
   matches_read x (Normal p) m d le = λ j. datum.path_data (m.kind j)
       ((present_data d p.type_anchor ∙ ap anchor_data (m.anchor d le)) j)
       (((λ i. names_beside (m.names i) (m.args d le i)) ∙ beside_data x.names) j) (m.bare j)
+  matches_read x (LangItem i) m d le = absurd m.named
 
   -- ---- segments before those that are read
 

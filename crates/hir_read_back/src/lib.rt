@@ -1,7 +1,8 @@
-//! What lowering stores for paths and types reads back as what is written. A law is a function whose contract is the law.
+//! What lowering stores for paths, types and patterns reads back as what is written. A law is a function whose contract is the law.
 #![tactic(auto)]
 
-ghost use Rattle.hir_read_back.specs.Laws.{PathLaw, TypeLaw, ArgsLaw};
+ghost use Rattle.hir_read_back.specs.Asked.{NameLaw};
+ghost use Rattle.hir_read_back.specs.Laws.{PathLaw, TypeLaw, ArgsLaw, PatLaw, TargetLaw};
 
 /// A path reads back as it is written, and none is answered exactly where it is absent or refused.
 pub fn path_law()
@@ -16,4 +17,19 @@ pub fn type_law()
 /// A list of arguments reads back as it is written.
 pub fn args_law()
     ensures { ArgsLaw }
+{}
+
+/// A whole pattern reads back as it is written, with the mode of the first use of each name.
+pub fn pat_law()
+    ensures { PatLaw }
+{}
+
+/// What is assigned to reads back as it is written.
+pub fn target_law()
+    ensures { TargetLaw }
+{}
+
+/// What is asked about a path in a pattern, or in what is assigned to, is asked about the path that the rule says it is.
+pub fn name_law()
+    ensures { NameLaw }
 {}

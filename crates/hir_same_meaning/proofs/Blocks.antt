@@ -1,24 +1,29 @@
 -- The statements and the tail of a block, as lowering settles them and as the block is run.
 use Rattle.std.proofs.Common.{◌≡◌, ℕ, ◌≤◌, Bool, true, false, not, ◌&&◌, if◌then◌else◌, List, [], ◌∷◌, Option, Some, None, refl, sym}
 use Rattle.std.proofs.Common.{true≢false}
-use Rattle.hir_store.specs.Stored.{Stored}
+use Rattle.hir_store.specs.Stored.{Stored, store_of, map_of}
 use Rattle.hir_store.specs.declared.hir.Statement.{Statement}
 use Rattle.hir_store.specs.declared.hir.Statement.TheVariants as statement
 use Rattle.hir_store.specs.declared.ids.ExprId.{ExprId}
+use Rattle.hir_store.specs.declared.ids.PatId.{PatId}
+use Rattle.hir_store.specs.declared.ids.TypeRefId.{TypeRefId}
 use Rattle.hir_env.specs.Answered as tree
-use Rattle.hir_env.specs.Answered.{Expr, OptionExpr, Stmts}
+use Rattle.hir_env.specs.Answered.{Expr, OptionExpr, OptionBlock, OptionPat, OptionType, Stmts}
+use Rattle.hir_data.specs.Patterns.{written_pat}
+use Rattle.hir_data.specs.Reading.{stored_pat, stored_option_type}
+use Rattle.hir_data.specs.Written.{written_option_type}
 use Rattle.hir_lower_form.specs.Lower.{settled}
-use Rattle.hir_meaning.specs.Run.{Value, unit, pure, ◌>>◌}
+use Rattle.hir_meaning.specs.Run.{Value, unit, leave, unmatched, pure, ◌>>=◌, ◌>>◌, binds}
 use Rattle.hir_scope.specs.Scopes.{Scope}
-use Rattle.hir_meaning.specs.Syntax.{SyntaxRun, run_expr, run_part, run_stmts, run_tail}
+use Rattle.hir_meaning.specs.Syntax.{SyntaxRun, run_expr, run_part, run_present, run_else, run_block, run_stmts, run_tail}
 use Rattle.hir_meaning.specs.Left.{is_kept, is_left, none_left}
-use Rattle.hir_meaning.specs.Store.{StoreRun, run_statements}
+use Rattle.hir_meaning.specs.Store.{StoreRun, run_statements, run_present as stored_present, run_else as stored_else}
 use Rattle.hir_scope.specs.Each.{IfPresent}
 use Rattle.hir_meaning.specs.Jumps.{EachStatement, EnclosedTo}
 use Rattle.hir_steps.proofs.Frames.{Frame, scopes, Falls}
 use Rattle.hir_same_meaning.proofs.Views.{numbers}
-use Rattle.hir_same_meaning.proofs.Relation.{SameWhere, same_pure, same_bind}
-use Rattle.hir_same_meaning.proofs.Senses.{Walk, run_in, one, contents, Goes}
+use Rattle.hir_same_meaning.proofs.Relation.{SameWhere, same_ends, same_pure, same_bind, same_binds}
+use Rattle.hir_same_meaning.proofs.Senses.{Walk, run_in, one, present, contents, Goes, Wider, goes_within}
 
 -- the walk of a part
 abbrev pub part_walk : OptionExpr → Walk Value
@@ -39,6 +44,7 @@ abbrev pub Stored1 : ℕ → ℕ → Stored → List Frame → Bool → Walk Val
 Stored1 labels nodes final ps false x semi Rest new = Rest new
 Stored1 labels nodes final ps true x semi Rest [] = ⊥
 Stored1 labels nodes final ps true x semi Rest (statement.Item ∷ new) = ⊥
+Stored1 labels nodes final ps true x semi Rest (statement.Let p t e b ∷ new) = ⊥
 Stored1 labels nodes final ps true x semi Rest (statement.Expr i semi' ∷ new) =
     (semi' ≡ semi) × Goes labels nodes one x final ps i × Rest new
 
@@ -46,6 +52,54 @@ abbrev pub Item1 : (List Statement → Type 0) → List Statement → Type 0
 Item1 Rest [] = ⊥
 Item1 Rest (statement.Item ∷ new) = Rest new
 Item1 Rest (statement.Expr i semi ∷ new) = ⊥
+Item1 Rest (statement.Let p t e b ∷ new) = ⊥
+
+-- a `let` statement that is stored
+pub record StoredLet : Type 0 where
+  pub pattern : PatId
+  pub type_ref : Option TypeRefId
+  pub initializer : Option ExprId
+  pub else_branch : Option ExprId
+
+abbrev pub let_of : StoredLet → Statement
+let_of s = statement.Let s.pattern s.type_ref s.initializer s.else_branch
+
+abbrev pub ElseIs : ℕ → ℕ → Stored → List Frame → OptionBlock → Option ExprId → Type 0
+ElseIs labels nodes final ps tree.no_block None = Unit {0}
+ElseIs labels nodes final ps tree.no_block (Some i) = ⊥
+ElseIs labels nodes final ps (tree.some_block b) None = ⊥
+ElseIs labels nodes final ps (tree.some_block b) (Some i) = Goes labels nodes one (λ turns. run_block turns b) final ps i
+
+-- it stands for the written one
+pub record LetIs (labels nodes : ℕ) (final : Stored) (ps : List Frame) (p : OptionPat) (t : OptionType) (e : OptionExpr) (b : OptionBlock)
+    (s : StoredLet) : Type 0 where
+  pub pattern : stored_pat (store_of final) (map_of final) s.pattern ≡ written_pat p
+  pub type_ref : stored_option_type (store_of final) (map_of final) s.type_ref ≡ written_option_type t
+  pub initializer : Goes labels nodes present (λ turns. run_present turns e) final ps s.initializer
+  pub else_branch : ElseIs labels nodes final ps b s.else_branch
+
+else_within : {labels nodes labels' nodes' : ℕ} (final : Stored) (ps : List Frame) (b : OptionBlock) (o : Option ExprId)
+    → Wider labels nodes labels' nodes' → ElseIs labels nodes final ps b o → ElseIs labels' nodes' final ps b o
+else_within final ps tree.no_block None w h = tt
+else_within final ps tree.no_block (Some i) w h = absurd h
+else_within final ps (tree.some_block b) None w h = absurd h
+else_within final ps (tree.some_block b) (Some i) w h = goes_within w h
+
+pub let_within : {labels nodes labels' nodes' : ℕ} (final : Stored) (ps : List Frame) (p : OptionPat) (t : OptionType) (e : OptionExpr)
+    (b : OptionBlock) (s : StoredLet) → Wider labels nodes labels' nodes' → LetIs labels nodes final ps p t e b s
+    → LetIs labels' nodes' final ps p t e b s
+let_within final ps p t e b s w h = record {
+  pattern = h.pattern;
+  type_ref = h.type_ref;
+  initializer = goes_within w h.initializer;
+  else_branch = else_within final ps b s.else_branch w h.else_branch;
+}
+
+abbrev pub Let1 : (StoredLet → Type 0) → (List Statement → Type 0) → List Statement → Type 0
+Let1 Is Rest [] = ⊥
+Let1 Is Rest (statement.Item ∷ new) = ⊥
+Let1 Is Rest (statement.Expr i semi ∷ new) = ⊥
+Let1 Is Rest (statement.Let p t e b ∷ new) = Is (record { pattern = p; type_ref = t; initializer = e; else_branch = b }) × Rest new
 
 abbrev pub None1 : List Statement → Type 0
 None1 [] = Unit {0}
@@ -55,7 +109,10 @@ None1 (s ∷ new) = ⊥
 module _ (labels nodes : ℕ) (final : Stored) (kept : Bool) (x : Walk Value) where
   abbrev pub ContentsAre : List Frame → Stmts → List Statement → Option ExprId → Type 0
   ContentsAre ps tree.no_stmts new o = None1 new × KeptIs labels nodes final ps kept x o
+  ContentsAre ps (tree.more_stmts (tree.disabled_stmt at by s) ss) new o = ContentsAre ps ss new o
   ContentsAre ps (tree.more_stmts tree.item_stmt ss) new o = Item1 (λ more. ContentsAre ps ss more o) new
+  ContentsAre ps (tree.more_stmts (tree.let_stmt p t e b) ss) new o =
+      Let1 (LetIs labels nodes final ps p t e b) (λ more. ContentsAre ps ss more o) new
   ContentsAre ps (tree.more_stmts (tree.expr_stmt e semi) ss) new o =
       Stored1 labels nodes final ps (is_left e) (part_walk e) semi (λ more. ContentsAre ps ss more o) new
 
@@ -70,9 +127,15 @@ module _ (labels nodes : ℕ) (final : Stored) (kept : Bool) (x : Walk Value) wh
       → ContentsAre labels nodes final kept x ps ss new o → none_left ss ≡ empty new
   none_left_is ps tree.no_stmts [] o h = refl
   none_left_is ps tree.no_stmts (s ∷ new) o h = absurd h.0
+  none_left_is ps (tree.more_stmts (tree.disabled_stmt at by s) ss) new o h = none_left_is ps ss new o h
   none_left_is ps (tree.more_stmts tree.item_stmt ss) [] o h = absurd h
   none_left_is ps (tree.more_stmts tree.item_stmt ss) (statement.Item ∷ new) o h = refl
   none_left_is ps (tree.more_stmts tree.item_stmt ss) (statement.Expr i semi ∷ new) o h = absurd h
+  none_left_is ps (tree.more_stmts tree.item_stmt ss) (statement.Let p t e b ∷ new) o h = absurd h
+  none_left_is ps (tree.more_stmts (tree.let_stmt p t e b) ss) [] o h = absurd h
+  none_left_is ps (tree.more_stmts (tree.let_stmt p t e b) ss) (statement.Item ∷ new) o h = absurd h
+  none_left_is ps (tree.more_stmts (tree.let_stmt p t e b) ss) (statement.Expr i semi ∷ new) o h = absurd h
+  none_left_is ps (tree.more_stmts (tree.let_stmt p t e b) ss) (statement.Let i k j l ∷ new) o h = refl
   none_left_is ps (tree.more_stmts (tree.expr_stmt e semi) ss) new o h =
       go (is_left e) (part_walk e) new (λ more. none_left_is ps ss more o) h
     where
@@ -83,6 +146,7 @@ module _ (labels nodes : ℕ) (final : Stored) (kept : Bool) (x : Walk Value) wh
       go false y new more h = more new h
       go true y [] more h = absurd h
       go true y (statement.Item ∷ new) more h = absurd h
+      go true y (statement.Let i k j l ∷ new) more h = absurd h
       go true y (statement.Expr i semi' ∷ new) more h = refl
 
 and_false : (a b : Bool) → a && (b && false) ≡ false
@@ -98,11 +162,35 @@ and_true false = refl
 
 -- the run of a stored block's contents
 abbrev stored_run : Stored → ℕ → ℕ → List Statement × Option ExprId → StoreRun Value
-stored_run final turns d r = run_statements turns (run_in final d turns) r.0 r.1
+stored_run final turns d r = run_statements (store_of final) (map_of final) turns (run_in final d turns) r.0 r.1
 
 -- an expression statement that is left or not, and others behind it
 abbrev before : Bool → Bool → SyntaxRun Value → SyntaxRun Value → SyntaxRun Value
 before left last y others = if left then (if last then y else (y >> others)) else others
+
+module _ (labels nodes : ℕ) (final : Stored) (turns d : ℕ) (deep : nodes ≤ d) where
+  same_else : (ps : List Frame) → Falls labels ps → (b : OptionBlock) (o : Option ExprId) → ElseIs labels nodes final ps b o → (fits : Bool)
+      {m : StoreRun Value} {n : SyntaxRun Value} → SameWhere ps m n
+      → SameWhere ps (stored_else turns (run_in final d turns) o fits m) (run_else turns b fits n (scopes ps))
+  same_else ps f tree.no_block None h fits k = k
+  same_else ps f tree.no_block (Some i) h fits k = absurd h
+  same_else ps f (tree.some_block b) None h fits k = absurd h
+  same_else ps f (tree.some_block b) (Some i) h true k = k
+  same_else ps f (tree.some_block b) (Some i) h false k =
+      same_bind (h.same turns d deep f) (λ v. same_ends (leave unmatched) refl)
+
+  -- a `let` statement before others
+  same_let : (ps : List Frame) → Falls labels ps → (p : OptionPat) (t : OptionType) (e : OptionExpr) (b : OptionBlock) (s : StoredLet)
+      → LetIs labels nodes final ps p t e b s → {m : StoreRun Value} {n : SyntaxRun Value} → SameWhere ps m n
+      → SameWhere ps
+      (stored_present turns (run_in final d turns) s.initializer >>= (λ vs.
+      binds (stored_pat (store_of final) (map_of final) s.pattern) (stored_option_type (store_of final) (map_of final) s.type_ref) vs
+      >>= (λ fits. stored_else turns (run_in final d turns) s.else_branch fits m)))
+      (run_present turns e (scopes ps) >>= (λ vs. binds (written_pat p) (written_option_type t) vs
+      >>= (λ fits. run_else turns b fits n (scopes ps))))
+  same_let ps f p t e b s h k = rw (h.pattern, h.type_ref) (same_bind (h.initializer.same turns d deep f)
+      (λ vs. same_bind (same_binds (written_pat p) (written_option_type t) vs)
+      (λ fits. same_else ps f b s.else_branch h.else_branch fits k)))
 
 module _ (labels nodes : ℕ) (final : Stored) (turns d : ℕ) (deep : nodes ≤ d) (x : Walk Value) where
   -- with a tail, the statements as they are
@@ -111,9 +199,16 @@ module _ (labels nodes : ℕ) (final : Stored) (turns d : ℕ) (deep : nodes ≤
       → SameWhere ps (stored_run final turns d (new, Some i)) (run_stmts turns ss true (x turns) (scopes ps))
   with_tail ps f tree.no_stmts [] i h = h.1.same turns d deep f
   with_tail ps f tree.no_stmts (s ∷ new) i h = absurd h.0
+  with_tail ps f (tree.more_stmts (tree.disabled_stmt at by s) ss) new i h = with_tail ps f ss new i h
   with_tail ps f (tree.more_stmts tree.item_stmt ss) [] i h = absurd h
   with_tail ps f (tree.more_stmts tree.item_stmt ss) (statement.Item ∷ new) i h = with_tail ps f ss new i h
   with_tail ps f (tree.more_stmts tree.item_stmt ss) (statement.Expr j semi ∷ new) i h = absurd h
+  with_tail ps f (tree.more_stmts tree.item_stmt ss) (statement.Let p t e b ∷ new) i h = absurd h
+  with_tail ps f (tree.more_stmts (tree.let_stmt p t e b) ss) [] i h = absurd h
+  with_tail ps f (tree.more_stmts (tree.let_stmt p t e b) ss) (statement.Item ∷ new) i h = absurd h
+  with_tail ps f (tree.more_stmts (tree.let_stmt p t e b) ss) (statement.Expr j semi ∷ new) i h = absurd h
+  with_tail ps f (tree.more_stmts (tree.let_stmt p t e b) ss) (statement.Let q k j l ∷ new) i h =
+      same_let labels nodes final turns d deep ps f p t e b _ h.0 (with_tail ps f ss new i h.1)
   with_tail ps f (tree.more_stmts (tree.expr_stmt e semi) ss) new i h =
       go (is_left e) (part_walk e) new (λ more h'. with_tail ps f ss more i h') h
     where
@@ -126,6 +221,7 @@ module _ (labels nodes : ℕ) (final : Stored) (turns d : ℕ) (deep : nodes ≤
       go false y new more h = more new h
       go true y [] more h = absurd h
       go true y (statement.Item ∷ new) more h = absurd h
+      go true y (statement.Let q k j l ∷ new) more h = absurd h
       go true y (statement.Expr j semi' ∷ new) more h =
           rw (and_false (not semi) (none_left ss)) (same_bind (h.1.same turns d deep f) (λ v. more new h.2))
 
@@ -135,9 +231,16 @@ module _ (labels nodes : ℕ) (final : Stored) (turns d : ℕ) (deep : nodes ≤
       → SameWhere ps (stored_run final turns d (settled new None)) (run_stmts turns ss false (λ qs. pure unit) (scopes ps))
   without_tail ps f tree.no_stmts [] h = same_pure unit
   without_tail ps f tree.no_stmts (s ∷ new) h = absurd h.0
+  without_tail ps f (tree.more_stmts (tree.disabled_stmt at by s) ss) new h = without_tail ps f ss new h
   without_tail ps f (tree.more_stmts tree.item_stmt ss) [] h = absurd h
   without_tail ps f (tree.more_stmts tree.item_stmt ss) (statement.Item ∷ new) h = without_tail ps f ss new h
   without_tail ps f (tree.more_stmts tree.item_stmt ss) (statement.Expr j semi ∷ new) h = absurd h
+  without_tail ps f (tree.more_stmts tree.item_stmt ss) (statement.Let p t e b ∷ new) h = absurd h
+  without_tail ps f (tree.more_stmts (tree.let_stmt p t e b) ss) [] h = absurd h
+  without_tail ps f (tree.more_stmts (tree.let_stmt p t e b) ss) (statement.Item ∷ new) h = absurd h
+  without_tail ps f (tree.more_stmts (tree.let_stmt p t e b) ss) (statement.Expr j semi ∷ new) h = absurd h
+  without_tail ps f (tree.more_stmts (tree.let_stmt p t e b) ss) (statement.Let q k j l ∷ new) h =
+      same_let labels nodes final turns d deep ps f p t e b _ h.0 (without_tail ps f ss new h.1)
   without_tail ps f (tree.more_stmts (tree.expr_stmt e semi) ss) new h =
       go (is_left e) (part_walk e) semi new (without_tail ps f ss) (λ more. none_left_is labels nodes final false x ps ss more None) h
     where
@@ -151,6 +254,7 @@ module _ (labels nodes : ℕ) (final : Stored) (turns d : ℕ) (deep : nodes ≤
       go false y semi new more left h = more new h
       go true y semi [] more left h = absurd h
       go true y semi (statement.Item ∷ new) more left h = absurd h
+      go true y semi (statement.Let q k j l ∷ new) more left h = absurd h
       go true y true (statement.Expr j true ∷ new) more left h = same_bind (h.1.same turns d deep f) (λ v. more new h.2)
       go true y true (statement.Expr j false ∷ new) more left h = absurd (true≢false (sym h.0))
       go true y false (statement.Expr j true ∷ new) more left h = absurd (true≢false h.0)
@@ -166,30 +270,46 @@ AllEnclosed P ss o = EachStatement P ss × IfPresent P o
 
 module _ (labels nodes : ℕ) (final : Stored) (d : ℕ) (deep : nodes ≤ d) (kept : Bool) (x : Walk Value) where
   kept_jumps : (ps : List Frame) (t : Bool) (y : Walk Value) (o : Option ExprId) → KeptIs labels nodes final ps t y o
-      → IfPresent (EnclosedTo final.exprs.entries d (numbers ps)) o
+      → IfPresent (EnclosedTo (store_of final) d (numbers ps)) o
   kept_jumps ps true y None k = absurd k
   kept_jumps ps true y (Some i) k = k.jumps d deep
   kept_jumps ps false y None k = tt
   kept_jumps ps false y (Some i) k = absurd k
 
+  else_jumps : (ps : List Frame) (b : OptionBlock) (o : Option ExprId) → ElseIs labels nodes final ps b o
+      → IfPresent (EnclosedTo (store_of final) d (numbers ps)) o
+  else_jumps ps tree.no_block None h = tt
+  else_jumps ps tree.no_block (Some i) h = absurd h
+  else_jumps ps (tree.some_block b) None h = absurd h
+  else_jumps ps (tree.some_block b) (Some i) h = h.jumps d deep
+
   all_jumps : (ps : List Frame) (ss : Stmts) (new : List Statement) (o : Option ExprId) → ContentsAre labels nodes final kept x ps ss new o
-      → AllEnclosed (EnclosedTo final.exprs.entries d (numbers ps)) new o
+      → AllEnclosed (EnclosedTo (store_of final) d (numbers ps)) new o
   all_jumps ps tree.no_stmts [] o h = (tt, kept_jumps ps kept x o h.1)
   all_jumps ps tree.no_stmts (s ∷ new) o h = absurd h.0
+  all_jumps ps (tree.more_stmts (tree.disabled_stmt at by s) ss) new o h = all_jumps ps ss new o h
   all_jumps ps (tree.more_stmts tree.item_stmt ss) [] o h = absurd h
   all_jumps ps (tree.more_stmts tree.item_stmt ss) (statement.Item ∷ new) o h = all_jumps ps ss new o h
   all_jumps ps (tree.more_stmts tree.item_stmt ss) (statement.Expr j semi ∷ new) o h = absurd h
+  all_jumps ps (tree.more_stmts tree.item_stmt ss) (statement.Let p t e b ∷ new) o h = absurd h
+  all_jumps ps (tree.more_stmts (tree.let_stmt p t e b) ss) [] o h = absurd h
+  all_jumps ps (tree.more_stmts (tree.let_stmt p t e b) ss) (statement.Item ∷ new) o h = absurd h
+  all_jumps ps (tree.more_stmts (tree.let_stmt p t e b) ss) (statement.Expr j semi ∷ new) o h = absurd h
+  all_jumps ps (tree.more_stmts (tree.let_stmt p t e b) ss) (statement.Let q k j l ∷ new) o h =
+      let r = all_jumps ps ss new o h.1 in
+      ((h.0.initializer.jumps d deep, else_jumps ps b l h.0.else_branch, r.0), r.1)
   all_jumps ps (tree.more_stmts (tree.expr_stmt e semi) ss) new o h =
       go (is_left e) (part_walk e) new (λ more. all_jumps ps ss more o) h
     where
       go : (t : Bool) (y : Walk Value) (new : List Statement)
           → ((more : List Statement) → ContentsAre labels nodes final kept x ps ss more o
-          → AllEnclosed (EnclosedTo final.exprs.entries d (numbers ps)) more o)
+          → AllEnclosed (EnclosedTo (store_of final) d (numbers ps)) more o)
           → Stored1 labels nodes final ps t y semi (λ more. ContentsAre labels nodes final kept x ps ss more o) new
-          → AllEnclosed (EnclosedTo final.exprs.entries d (numbers ps)) new o
+          → AllEnclosed (EnclosedTo (store_of final) d (numbers ps)) new o
       go false y new more h = more new h
       go true y [] more h = absurd h
       go true y (statement.Item ∷ new) more h = absurd h
+      go true y (statement.Let q k j l ∷ new) more h = absurd h
       go true y (statement.Expr j semi' ∷ new) more h = let r = more new h.2 in ((h.1.jumps d deep, r.0), r.1)
 
 settled_jumps : (P : ExprId → Type 0) (new : List Statement) (o : Option ExprId) → AllEnclosed P new o
@@ -197,6 +317,8 @@ settled_jumps : (P : ExprId → Type 0) (new : List Statement) (o : Option ExprI
 settled_jumps P new (Some i) h = h
 settled_jumps P [] None h = (tt, tt)
 settled_jumps P (statement.Item ∷ new) None h = settled_jumps P new None h
+settled_jumps P (statement.Let p t e b ∷ new) None h =
+    let r = settled_jumps P new None (h.0.2, tt) in ((h.0.0, h.0.1, r.0), r.1)
 settled_jumps P (statement.Expr i true ∷ new) None h = let r = settled_jumps P new None (h.0.1, tt) in ((h.0.0, r.0), r.1)
 settled_jumps P (statement.Expr i false ∷ []) None h = (tt, h.0.0)
 settled_jumps P (statement.Expr i false ∷ (s ∷ new)) None h = let r = settled_jumps P (s ∷ new) None (h.0.1, tt) in ((h.0.0, r.0), r.1)
@@ -206,9 +328,15 @@ settled_jumps P (statement.Expr i false ∷ (s ∷ new)) None h = let r = settle
 module _ (labels nodes : ℕ) (final : Stored) (x : Walk Value) where
   no_tail : (ps : List Frame) (ss : Stmts) (new : List Statement) → ContentsAre labels nodes final true x ps ss new None → ⊥
   no_tail ps tree.no_stmts new h = h.1
+  no_tail ps (tree.more_stmts (tree.disabled_stmt at by s) ss) new h = no_tail ps ss new h
   no_tail ps (tree.more_stmts tree.item_stmt ss) [] h = h
   no_tail ps (tree.more_stmts tree.item_stmt ss) (statement.Item ∷ new) h = no_tail ps ss new h
   no_tail ps (tree.more_stmts tree.item_stmt ss) (statement.Expr j semi ∷ new) h = h
+  no_tail ps (tree.more_stmts tree.item_stmt ss) (statement.Let p t e b ∷ new) h = h
+  no_tail ps (tree.more_stmts (tree.let_stmt p t e b) ss) [] h = h
+  no_tail ps (tree.more_stmts (tree.let_stmt p t e b) ss) (statement.Item ∷ new) h = h
+  no_tail ps (tree.more_stmts (tree.let_stmt p t e b) ss) (statement.Expr j semi ∷ new) h = h
+  no_tail ps (tree.more_stmts (tree.let_stmt p t e b) ss) (statement.Let q k j l ∷ new) h = no_tail ps ss new h.1
   no_tail ps (tree.more_stmts (tree.expr_stmt e semi) ss) new h = go (is_left e) (part_walk e) new (no_tail ps ss) h
     where
       go : (t : Bool) (y : Walk Value) (new : List Statement)
@@ -217,14 +345,21 @@ module _ (labels nodes : ℕ) (final : Stored) (x : Walk Value) where
       go false y new more h = more new h
       go true y [] more h = h
       go true y (statement.Item ∷ new) more h = h
+      go true y (statement.Let q k j l ∷ new) more h = h
       go true y (statement.Expr i semi' ∷ new) more h = more new h.2
 
 module _ (labels nodes : ℕ) (final : Stored) (x : Walk Value) (i : ExprId) where
   a_tail : (ps : List Frame) (ss : Stmts) (new : List Statement) → ContentsAre labels nodes final false x ps ss new (Some i) → ⊥
   a_tail ps tree.no_stmts new h = h.1
+  a_tail ps (tree.more_stmts (tree.disabled_stmt at by s) ss) new h = a_tail ps ss new h
   a_tail ps (tree.more_stmts tree.item_stmt ss) [] h = h
   a_tail ps (tree.more_stmts tree.item_stmt ss) (statement.Item ∷ new) h = a_tail ps ss new h
   a_tail ps (tree.more_stmts tree.item_stmt ss) (statement.Expr j semi ∷ new) h = h
+  a_tail ps (tree.more_stmts tree.item_stmt ss) (statement.Let p t e b ∷ new) h = h
+  a_tail ps (tree.more_stmts (tree.let_stmt p t e b) ss) [] h = h
+  a_tail ps (tree.more_stmts (tree.let_stmt p t e b) ss) (statement.Item ∷ new) h = h
+  a_tail ps (tree.more_stmts (tree.let_stmt p t e b) ss) (statement.Expr j semi ∷ new) h = h
+  a_tail ps (tree.more_stmts (tree.let_stmt p t e b) ss) (statement.Let q k j l ∷ new) h = a_tail ps ss new h.1
   a_tail ps (tree.more_stmts (tree.expr_stmt e semi) ss) new h = go (is_left e) (part_walk e) new (a_tail ps ss) h
     where
       go : (t : Bool) (y : Walk Value) (new : List Statement)
@@ -233,6 +368,7 @@ module _ (labels nodes : ℕ) (final : Stored) (x : Walk Value) (i : ExprId) whe
       go false y new more h = more new h
       go true y [] more h = h
       go true y (statement.Item ∷ new) more h = h
+      go true y (statement.Let q k j l ∷ new) more h = h
       go true y (statement.Expr i semi' ∷ new) more h = more new h.2
 
 -- both
@@ -254,11 +390,11 @@ tail_is (tree.some_expr e) turns = kept_tail (is_kept e) (run_expr turns e)
 pub contents_go : {labels nodes : ℕ} {final : Stored} {ps : List Frame} (ss : Stmts) (e : OptionExpr)
     (new : List Statement) (o : Option ExprId)
     → ContentsAre labels nodes final (is_left e) (part_walk e) ps ss new o
-    → Goes labels nodes contents (λ turns qs. run_stmts turns ss (is_left e) (run_tail turns e) qs) final ps (settled new o)
+    → Goes labels nodes (contents final) (λ turns qs. run_stmts turns ss (is_left e) (run_tail turns e) qs) final ps (settled new o)
 contents_go {labels = labels} {nodes = nodes} {final = final} {ps = ps} ss e new o h = record {
   same = λ turns d le f. rw (tail_is e turns) (runs (is_left e) (part_walk e) o h turns d le f);
   jumps = λ d le.
-      settled_jumps (EnclosedTo final.exprs.entries d (numbers ps)) new o
+      settled_jumps (EnclosedTo (store_of final) d (numbers ps)) new o
       (all_jumps labels nodes final d le (is_left e) (part_walk e) ps ss new o h);
 }
   where

@@ -1,7 +1,7 @@
 -- Families of forms by their operands: what each becomes runs as it is written.
 use Rattle.std.proofs.Common.{true, false, List, [], ◌∷◌, Option, Some, None, refl, arith}
-use Rattle.hir_syntax.specs.declared.ast.LogicOp.{LogicOp}
-use Rattle.hir_syntax.specs.declared.ast.BinaryOp.TheVariants as ast
+use Rattle.hir_base.specs.declared.op.LogicOp.{LogicOp}
+use Rattle.hir_base.specs.declared.op.BinaryOp.TheVariants as ast
 use Rattle.hir_store.specs.Pointers.{Pointer}
 use Rattle.hir_store.specs.declared.hir.Expr.{Expr as HirExpr}
 use Rattle.hir_store.specs.declared.hir.Expr.TheVariants as hir
@@ -26,28 +26,28 @@ use Rattle.hir_same_meaning.proofs.Strict.{event0_fine, event2_fine}
 -- the kinds of each
 
 pub unary_is : (form : Unary) → Form1 (stored_unary form) one (asks (unary_operation form) (λ v. v ∷ []))
-unary_is (tree.field_of name) = record { runs = λ w a. refl; jumps = λ P ls a h. h }
-unary_is (tree.prefix_of op) = record { runs = λ w a. refl; jumps = λ P ls a h. h }
-unary_is (tree.reference_to rawness mutability) = record { runs = λ w a. refl; jumps = λ P ls a h. h }
+unary_is (tree.field_of name) = record { runs = λ w a. refl; jumps = λ s P ls a h. h }
+unary_is (tree.prefix_of op) = record { runs = λ w a. refl; jumps = λ s P ls a h. h }
+unary_is (tree.reference_to rawness mutability) = record { runs = λ w a. refl; jumps = λ s P ls a h. h }
 
 pub leaving_is : (form : Leaving) → Form1 (stored_leaving form) optional (leaves (leaves_with form))
-leaving_is tree.returning = record { runs = λ w a. refl; jumps = λ P ls a h. h }
-leaving_is tree.yeeting = record { runs = λ w a. refl; jumps = λ P ls a h. h }
+leaving_is tree.returning = record { runs = λ w a. refl; jumps = λ s P ls a h. h }
+leaving_is tree.yeeting = record { runs = λ w a. refl; jumps = λ s P ls a h. h }
 
 pub become_is : Form1 hir.Become one (leaves became)
-become_is = record { runs = λ w a. refl; jumps = λ P ls a h. h }
+become_is = record { runs = λ w a. refl; jumps = λ s P ls a h. h }
 
 pub yield_is : Form1 hir.Yield optional (asks yielding (λ v. v ∷ []))
-yield_is = record { runs = λ w a. refl; jumps = λ P ls a h. h }
+yield_is = record { runs = λ w a. refl; jumps = λ s P ls a h. h }
 
 await_is : Form1 hir.Await one (asks awaiting (λ v. v ∷ []))
-await_is = record { runs = λ w a. refl; jumps = λ P ls a h. h }
+await_is = record { runs = λ w a. refl; jumps = λ s P ls a h. h }
 
 tuple_is : Form1 hir.Tuple many makes_tuple
-tuple_is = record { runs = λ w a. refl; jumps = λ P ls a h. h }
+tuple_is = record { runs = λ w a. refl; jumps = λ s P ls a h. h }
 
 array_is : Form1 hir.Array many (asks array (λ vs. vs))
-array_is = record { runs = λ w a. refl; jumps = λ P ls a h. h }
+array_is = record { runs = λ w a. refl; jumps = λ s P ls a h. h }
 
 -- forms
 
@@ -56,8 +56,8 @@ module _ (at : Pointer) where
   here = Some (site_of at)
 
   pub leaf_fine : (form : Leaf) → Correct (alloc_expr (stored_leaf form) (Some at)) (Runs one (λ turns ss. run_leaf form here))
-  leaf_fine tree.underscore = event0_fine at (record { runs = λ w. refl; jumps = λ P ls. tt })
-  leaf_fine tree.include_bytes = event0_fine at (record { runs = λ w. refl; jumps = λ P ls. tt })
+  leaf_fine tree.underscore = event0_fine at (record { runs = λ w. refl; jumps = λ s P ls. tt })
+  leaf_fine tree.include_bytes = event0_fine at (record { runs = λ w. refl; jumps = λ s P ls. tt })
   leaf_fine tree.left_out = correct_as (correct_alloc hir.Missing (Some at)) (λ final ps m m' i g a. Nodes.goes_missing a)
 
   pub operand_fine : {make : ExprId → HirExpr} {f : Finish Value} {p : ExprSteps} {x : Walk Value} → Form1 make one f
@@ -87,15 +87,16 @@ module _ (at : Pointer) where
 
   pub binary_fine : (form : Binary) {p q : ExprSteps} {x y : Walk Value} → Correct p (Runs one x) → Correct q (Runs one y)
       → Correct (operands_form at (stored_binary form) p q) (Runs one (λ turns ss. run_binary form (x turns ss) (y turns ss) here))
-  binary_fine (tree.operator None) hp hq = operands_fine (record { runs = λ w a b. refl; jumps = λ P ls a b h. h }) hp hq
+  binary_fine (tree.operator None) hp hq = operands_fine (record { runs = λ w a b. refl; jumps = λ s P ls a b h. h }) hp hq
   binary_fine (tree.operator (Some (ast.LogicOp op))) hp hq = lazy_fine op hp hq
   binary_fine (tree.operator (Some (ast.ArithOp op))) hp hq =
-      operands_fine (record { runs = λ w a b. refl; jumps = λ P ls a b h. h }) hp hq
+      operands_fine (record { runs = λ w a b. refl; jumps = λ s P ls a b h. h }) hp hq
   binary_fine (tree.operator (Some (ast.CmpOp op))) hp hq =
-      operands_fine (record { runs = λ w a b. refl; jumps = λ P ls a b h. h }) hp hq
+      operands_fine (record { runs = λ w a b. refl; jumps = λ s P ls a b h. h }) hp hq
   binary_fine (tree.operator (Some (ast.Assignment op))) hp hq =
-      operands_fine (record { runs = λ w a b. refl; jumps = λ P ls a b h. h }) hp hq
-  binary_fine tree.index_of hp hq = operands_fine (record { runs = λ w a b. refl; jumps = λ P ls a b h. h }) hp hq
+      operands_fine (record { runs = λ w a b. refl; jumps = λ s P ls a b h. h }) hp hq
+  binary_fine (tree.operator (Some ast.Assign)) hp hq = operands_fine (record { runs = λ w a b. refl; jumps = λ s P ls a b h. h }) hp hq
+  binary_fine tree.index_of hp hq = operands_fine (record { runs = λ w a b. refl; jumps = λ s P ls a b h. h }) hp hq
 
   pub list_fine : (form : Listing) {p : Lowering (List ExprId)} {x : Walk (List Value)} → Correct p (Runs many x)
       → Correct (list_form at form p) (Runs one (λ turns ss. run_list form (x turns ss) here))

@@ -16,7 +16,7 @@ use Rattle.hir_store.specs.declared.ids.CfgId.{CfgId}
 use Rattle.hir_store.specs.declared.ids.HygieneId.{HygieneId}
 use Rattle.hir_store.specs.declared.diagnostics.ExpressionStoreDiagnostics.TheVariants.{InactiveCode}
 use Rattle.hir_env.specs.Answered as tree
-use Rattle.hir_env.specs.Answered.{OptionPath, Label, Jump, Expr, OptionExpr, Stmts}
+use Rattle.hir_env.specs.Answered.{OptionPath, OptionPat, OptionType, OptionBlock, Label, Jump, Expr, OptionExpr, Stmt, Stmts}
 use Rattle.hir_env.specs.NodeMap.{Site}
 use Rattle.hir_env.specs.Answering.{site_of}
 use Rattle.hir_lower_form.specs.Builder.{Builder}
@@ -32,7 +32,7 @@ use Rattle.hir_read_back.proofs.Now.{path_now}
 use Rattle.hir_read_back.proofs.Lookup.{looked_up}
 use Rattle.hir_data.specs.Lookup.{lookup_hygiene}
 use Rattle.hir_meaning.specs.Data.{literal_data}
-use Rattle.hir_meaning.specs.Run.{Value, unit, is_true, literal, read, call, break, continue, leave, missing as is_missing}
+use Rattle.hir_meaning.specs.Run.{Value, unit, is_true, literal, call, break, continue, leave, missing as is_missing}
 use Rattle.hir_meaning.specs.Run.{ends, pure as gives, ◌>>=◌ as ◌then◌, ask, tests, entering}
 use Rattle.hir_meaning.specs.Catching.{turn, loop}
 use Rattle.hir_scope.specs.Scopes.{loop_scope, break_target, continue_target, outward, scopes_in_block}
@@ -42,11 +42,11 @@ use Rattle.hir_steps.proofs.Frames.{Frame, plain_loop, loop_at, block_at, Falls}
 use Rattle.hir_steps.proofs.Steps.{Mark, Grows, Rel, Holds, Correct, Allocated, correct_bind, correct_as, correct_pure}
 use Rattle.hir_steps.proofs.Steps.{correct_report, correct_point, correct_enter_block, correct_alloc, correct_opened, correct_target}
 use Rattle.hir_same_meaning.proofs.Targets.{break_meets, continue_meets, among}
-use Rattle.hir_same_meaning.proofs.Relation.{same_ask}
+use Rattle.hir_same_meaning.proofs.Relation.{same_read_path}
 use Rattle.hir_same_meaning.proofs.Senses.{Walk, one, optional, many, contents, Goes, Runs, Wider, goes_within, goes_at}
 use Rattle.hir_same_meaning.proofs.Nodes
 use Rattle.hir_same_meaning.proofs.Strict.{event0_fine, event2_fine}
-use Rattle.hir_same_meaning.proofs.Blocks.{part_walk, KeptIs, Stored1, ContentsAre, contents_go}
+use Rattle.hir_same_meaning.proofs.Blocks.{part_walk, KeptIs, Stored1, ContentsAre, contents_go, StoredLet, let_of, LetIs, let_within}
 
 -- parts
 
@@ -87,13 +87,13 @@ module _ (at : Pointer) where
 
   pub literal_fine : (l : AstLiteral)
       → Correct (alloc_expr (hir.Literal (stored_literal l)) (Some at)) (Runs one (λ turns ss. ask (literal (literal_data l)) [] here))
-  literal_fine l = event0_fine at (record { runs = λ w. refl; jumps = λ P ls. tt })
+  literal_fine l = event0_fine at (record { runs = λ w. refl; jumps = λ s P ls. tt })
 
   pub call_fine : {p : ExprSteps} {q : Lowering (List ExprId)} {x : Walk Value} {y : Walk (List Value)} → Correct p (Runs one x)
       → Correct q (Runs many y)
       → Correct (call_form at p q) (Runs one (λ turns ss. ◌then◌ (x turns ss) (λ v. ◌then◌ (y turns ss) (λ vs. ask call (v ∷ vs) here))))
   unfolding call_form
-  call_fine hf hs = event2_fine at (record { runs = λ w f xs. refl; jumps = λ P ls f xs h. h }) hf hs
+  call_fine hf hs = event2_fine at (record { runs = λ w f xs. refl; jumps = λ s P ls f xs h. h }) hf hs
 
   pub if_fine : {c t : ExprSteps} {e : Lowering (Option ExprId)} {x y z : Walk Value} → Correct c (Runs one x) → Correct t (Runs one y)
       → Correct e (Runs optional z)
@@ -152,7 +152,7 @@ goes_path {labels = labels} {m = m} {m' = m'} {final = final} {ps = ps} {qs = qs
     by None a = Nodes.goes_missing a
     by (Some p) a = goes_at a
         (λ turns d le f. rw (looked_up (store_of final) (map_of final) p h)
-        (same_ask (read (path_in final p) (lookup_hygiene (path_in final p) h)) [] (Some (site_of at))))
+        (same_read_path (path_in final p) (lookup_hygiene (path_in final p) h) (Some (site_of at))))
         (λ d le. tt)
 
 pub path_fine : (at : Pointer) (p : OptionPath) (h : HygieneId)
@@ -256,6 +256,26 @@ filled_item t x ss done p = record {
   rel = λ labels nodes le le'. p.rel labels nodes le le';
 }
 
+-- nothing of a statement
+pub filled_nothing : {final : Stored} {ps : List Frame} {m m1 m' : Mark} {r : StoredContents} (t : Bool) (x : Walk Value)
+    (at : Pointer) (by : CfgId) (s : Stmt) (ss : Stmts) (done : List Statement) → Grows m m1
+    → Filled done (ContentsRel t x ss) final ps m1 m' r
+    → Filled done (ContentsRel t x (tree.more_stmts (tree.disabled_stmt at by s) ss)) final ps m m' r
+filled_nothing t x at by s ss done g p =
+    record { new = p.new; is = p.is; rel = λ labels nodes le le'. p.rel labels nodes (omega arith) (omega arith) }
+
+-- a `let` statement
+pub filled_let : {final : Stored} {ps : List Frame} {m m1 m' : Mark} {r : StoredContents} (t : Bool) (x : Walk Value)
+    (p : OptionPat) (ty : OptionType) (e : OptionExpr) (b : OptionBlock) (ss : Stmts) (done : List Statement) (s : StoredLet)
+    → Grows m m1 → Grows m1 m' → LetIs m.labels m1.nodes final ps p ty e b s
+    → Filled (done ++ let_of s ∷ []) (ContentsRel t x ss) final ps m1 m' r
+    → Filled done (ContentsRel t x (tree.more_stmts (tree.let_stmt p ty e b) ss)) final ps m m' r
+filled_let {final = final} {ps = ps} t x p ty e b ss done s g g' h q = record {
+  new = let_of s ∷ q.new;
+  is = pushed_one done (let_of s) q.new q.is;
+  rel = λ labels nodes le le'. (let_within final ps p ty e b s (omega arith) h, q.rel labels nodes (omega arith) (omega arith));
+}
+
 pub filled_expr : {final : Stored} {ps : List Frame} {m m1 m' : Mark} {r : StoredContents} (t : Bool) (x : Walk Value)
     (e : OptionExpr) (semi : Bool) (ss : Stmts) (done : List Statement) (o : Option ExprId)
     → Grows m m1 → Grows m1 m' → KeptIs m.labels m1.nodes final ps (is_left e) (part_walk e) o
@@ -283,7 +303,7 @@ pub record BlockIs (at : Pointer) (is_unsafe : Bool) (label : Option LabelId) (n
     (final : Stored) (ps : List Frame) (m m' : Mark) (i : ExprId) : Type 0 where
   pub middle : Mark
   pub held : List Statement × Option ExprId
-  pub goes : Goes m.labels middle.nodes contents x final ps held
+  pub goes : Goes m.labels middle.nodes (contents final) x final ps held
   pub here : Allocated (hir.Block is_unsafe label number held.0 held.1) (Some at) final ps middle m' i
 
 abbrev block_walk : Stmts → OptionExpr → Walk Value

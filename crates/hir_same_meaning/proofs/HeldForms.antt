@@ -57,16 +57,16 @@ kept_held (tree.disabled_expr at by e) h = holds_behind (correct_report (Inactiv
 kept_held e h = some_held h
 
 -- what is pushed where something is left
-newly : {A : Type 0} → Option A → List A → List A
+pub newly : {A : Type 0} → Option A → List A → List A
 newly None xs = xs
 newly (Some x) xs = x ∷ xs
 
-newly_pushed : {A : Type 0} (done : List A) (o : Option A) (new : List A) → push_some done o ++ new ≡ done ++ newly o new
+pub newly_pushed : {A : Type 0} (done : List A) (o : Option A) (new : List A) → push_some done o ++ new ≡ done ++ newly o new
 unfolding newly
 newly_pushed done None new = refl
 newly_pushed done (Some x) new = append_assoc done (x ∷ []) new
 
-newly_holds : {A : Type 0} (f : A → List ExprId) (o : Option A) (new : List A) → all_of f (newly o new) ≡ of_present f o ++ all_of f new
+pub newly_holds : {A : Type 0} (f : A → List ExprId) (o : Option A) (new : List A) → all_of f (newly o new) ≡ of_present f o ++ all_of f new
 unfolding newly
 newly_holds f None new = refl
 newly_holds f (Some x) new = refl
@@ -81,7 +81,7 @@ some_pushed {ids = ids} {es = es} {fs = fs} h k done = correct_as (correct_bind 
       rel = record {
         same = λ d le. let r = inners_in final d in same_ids final (es ++ fs) (newly_holds (ids r) row.one s.new)
             (same_append final (of_present (ids r) row.one) (all_of (ids r) s.new) es fs
-            (row.first.same d (omega (le, row.after.nodes, row.after.types, arith))) (s.rel.same d le));
+            (row.first.same d (omega (le, row.after.nodes, row.after.entries, arith))) (s.rel.same d le));
       };
     })
 
@@ -136,7 +136,7 @@ record_of_held {es = es} {fs = fs} at hc (Some p) =
     (λ final ps m m' i g row. record {
       rel = λ n h. expr_held row.second row.after (λ d le. let r = inners_in final d in
           same_append final (of_path r p) (a_record r row.one) es fs
-          (h.same d (omega (le, row.before.nodes, row.before.types, arith))) (row.first.same d le));
+          (h.same d (omega (le, row.before.nodes, row.before.entries, arith))) (row.first.same d le));
     })
 
 module _ (at : Pointer) where
@@ -181,7 +181,7 @@ module _ (at : Pointer) {es : Bodies} where
       (correct_bind h (λ is. correct_bind missing_held (λ i. correct_alloc (hir.Tuple (i ∷ is)) (Some at))))
       (λ final ps m m' i g row. let s = row.second in expr_held s.second s.after (λ d le. let r = inners_in final d in
       same_append final (r.expr s.one) (all_of r.expr row.one) [] es (s.first.same d le)
-      (row.first.same d (omega (le, s.before.nodes, s.before.types, arith)))))
+      (row.first.same d (omega (le, s.before.nodes, s.before.entries, arith)))))
   list_held tree.array_of h = expr1 (Some at) hir.Array (λ r is. refl) h
 
   pub await_held : (l : Option AwaitLocation) {p : ExprSteps} → Correct p (Holds an_expr es)
@@ -190,13 +190,13 @@ module _ (at : Pointer) {es : Bodies} where
   await_held l h = correct_as
       (correct_bind h (λ i. correct_bind (correct_report_await at l) (λ u. correct_alloc (hir.Await i) (Some at))))
       (λ final ps m m' i g row. let s = row.second in expr_held s.second s.after (λ d le.
-      row.first.same d (omega (le, s.before.nodes, s.before.types, arith))))
+      row.first.same d (omega (le, s.before.nodes, s.before.entries, arith))))
 
   pub paren_held : {p : ExprSteps} → Correct p (Holds an_expr es) → Correct (paren_form at p) (Holds an_expr es)
   unfolding paren_form
   paren_held h = correct_as (correct_bind h (λ i. correct_bind (correct_point at i) (λ u. correct_pure i)))
       (λ final ps m m' i g row. rw row.second.second.is (record {
-        same = λ d le. row.first.same d (omega (le, row.after.nodes, row.after.types, arith));
+        same = λ d le. row.first.same d (omega (le, row.after.nodes, row.after.entries, arith));
       }))
 
   pub path_held : (h : HygieneId) {p : Lowering (Option HirPath)} → Correct p (Holds a_path es)
@@ -226,7 +226,7 @@ module _ (at : Pointer) {es : Bodies} where
   unfolding field_form
   field_held name h = correct_as (correct_bind h (λ i. correct_bind (correct_point_field i at) (λ u. correct_pure _)))
       (λ final ps m m' o g row. rw row.second.second.is (record {
-        same = λ d le. row.first.same d (omega (le, row.after.nodes, row.after.types, arith));
+        same = λ d le. row.first.same d (omega (le, row.after.nodes, row.after.entries, arith));
       }))
 
   -- of more parts
@@ -263,7 +263,7 @@ module _ (at : Pointer) {es : Bodies} where
         go final ps row.middle m m' i y row.one row.first.one.is (row.second.rel m row.first.other))
       where
         go : (final : Stored) (ps : List Frame) (n m m' : Mark) (i : ExprId) (y : Option PathRead) (o : Option HirPath)
-            → Answers final n.types y o → Holds an_expr (if_some o (es ++ fs)) final ps n m' i
+            → Answers final n.entries y o → Holds an_expr (if_some o (es ++ fs)) final ps n m' i
             → Holds an_expr (if_read y (es ++ fs)) final ps m m' i
         go final ps n m m' i None None e h = record { same = h.same }
         go final ps n m m' i None (Some p) e h = absurd e
@@ -281,8 +281,8 @@ module _ (at : Pointer) {es : Bodies} where
         expr_held u.second u.after (λ d le. let r = inners_in final d in
         same_append final (r.expr u.one) (r.expr row.one ++ of_present r.expr s.one) es (fs ++ gs) (u.first.same d le)
         (same_append final (r.expr row.one) (of_present r.expr s.one) fs gs
-        (row.first.same d (omega (le, s.before.nodes, s.before.types, u.before.nodes, u.before.types, arith)))
-        (s.first.same d (omega (le, u.before.nodes, u.before.types, arith))))))
+        (row.first.same d (omega (le, s.before.nodes, s.before.entries, u.before.nodes, u.before.entries, arith)))
+        (s.first.same d (omega (le, u.before.nodes, u.before.entries, arith))))))
 
     -- the generic arguments are lowered last
     pub method_call_held : (name : Name) {p : ExprSteps} {q : Lowering (List ExprId)} {a : Lowering (Option GenericArgs)}
@@ -294,9 +294,9 @@ module _ (at : Pointer) {es : Bodies} where
         (λ final ps m m' i g row. let s = row.second in let u = s.second in
         expr_held u.second u.after (λ d le. let r = inners_in final d in
         same_append final (r.expr row.one) (of_list r u.one ++ all_of r.expr s.one) es (fs ++ gs)
-        (row.first.same d (omega (le, s.before.nodes, s.before.types, u.before.nodes, u.before.types, arith)))
+        (row.first.same d (omega (le, s.before.nodes, s.before.entries, u.before.nodes, u.before.entries, arith)))
         (same_append final (of_list r u.one) (all_of r.expr s.one) fs gs (u.first.same d le)
-        (s.first.same d (omega (le, u.before.nodes, u.before.types, arith))))))
+        (s.first.same d (omega (le, u.before.nodes, u.before.entries, arith))))))
 
 pub contents_held : {es fs : Bodies} {p : Lowering (List RecordLitField)} {q : Lowering RecordSpread} → Correct p (Holds (each a_field) es)
     → Correct q (Holds a_spread fs) → Correct (record_contents p q) (Holds a_record (es ++ fs))
@@ -336,7 +336,7 @@ filled_more {es = es} {fs = fs} h k done = correct_as (correct_bind h (λ o. k (
       statements = record {
         same = λ d le. let r = inners_in final d in same_ids final (es ++ fs) (newly_holds (of_statement r) row.one s.new)
             (same_append final (of_present (of_statement r) row.one) (all_of (of_statement r) s.new) es fs
-            (row.first.same d (omega (le, row.after.nodes, row.after.types, arith))) (s.statements.same d le));
+            (row.first.same d (omega (le, row.after.nodes, row.after.entries, arith))) (s.statements.same d le));
       };
       tail = record { same = s.tail.same };
     })
@@ -362,6 +362,10 @@ settled_is : (r : Inners) (ss : List Statement) (o : Option ExprId) → of_conte
 settled_is r ss (Some i) = refl
 settled_is r [] None = refl
 settled_is r (statement.Item ∷ ss) None = settled_is r ss None
+settled_is r (statement.Let p t e b ∷ ss) None =
+    let u = settled ss None in
+    one_before (of_statement r (statement.Let p t e b)) (all_of (of_statement r) u.0) (of_present r.expr u.1)
+    (all_of (of_statement r) ss) [] (settled_is r ss None)
 settled_is r (statement.Expr i true ∷ ss) None =
     let t = settled ss None in
     one_before (r.expr i) (all_of (of_statement r) t.0) (of_present r.expr t.1) (all_of (of_statement r) ss) [] (settled_is r ss None)

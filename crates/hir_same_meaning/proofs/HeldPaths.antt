@@ -37,9 +37,9 @@ use Rattle.hir_same_meaning.proofs.HeldWalk.{part, Kept, Keeps, kept_later, at_f
 use Rattle.hir_same_meaning.proofs.HeldWalk.{anchor_kept, self_kept, root_kept, super_kept, projected_kept, one_closed_kept}
 use Rattle.hir_same_meaning.proofs.HeldWalk.{MaybeKept, maybe_later, maybe_same, walk_kept}
 
--- how many expressions and types there are
+-- how many expressions, types and patterns there are
 abbrev total : Mark → ℕ
-total m = m.nodes + m.types
+total m = m.nodes + m.entries
 
 -- what is so once these parts are read
 pub record Stands (final : Stored) (k n : ℕ) (ps : List Part) (r : Reading) : Type 0 where
@@ -49,15 +49,15 @@ pub record Stands (final : Stored) (k n : ℕ) (ps : List Part) (r : Reading) : 
 -- From what was read this is read, where these parts are added.
 pub record Moves (from : Reading) (add : List Part → List Part) (final : Stored) (fs : List Frame) (m m' : Mark) (r : Reading)
     : Type 0 where
-  pub moves : (ps : List Part) → Stands final m.types (m.nodes + m.types) ps from
-      → Stands final m'.types (m'.nodes + m'.types) (add ps) r
+  pub moves : (ps : List Part) → Stands final m.entries (m.nodes + m.entries) ps from
+      → Stands final m'.entries (m'.nodes + m'.entries) (add ps) r
 
 -- at once
 moves_still : {add : List Part → List Part} (r : Reading)
     → ((final : Stored) (k n : ℕ) (ps : List Part) → Stands final k n ps r → Stands final k n (add ps) r)
     → Correct (pure r) (Moves r add)
 moves_still r h = correct_as (correct_pure r)
-    (λ final fs m m' x g row. rw (row.is, row.still) (record { moves = λ ps s. h final m.types (total m) ps s }))
+    (λ final fs m m' x g row. rw (row.is, row.still) (record { moves = λ ps s. h final m.entries (total m) ps s }))
 
 -- more is read, unless it was refused or has ended
 then_moves : {from : Reading} {add more : List Part → List Part} {p : Lowering Reading} {f : PathWalk → Lowering Reading}
@@ -76,8 +76,8 @@ then_moves {add = add} {more = more} {f = f} h closed k = correct_as (correct_bi
 -- ---- a segment
 
 pub record Takes (w : PathWalk) (x : Part) (final : Stored) (fs : List Frame) (m m' : Mark) (r : Reading) : Type 0 where
-  pub keeps : (ps : List Part) → ended (items_of ps) ≡ false → Kept final (m.nodes + m.types) ps w
-      → Keeps final (m'.nodes + m'.types) (x ∷ ps) r
+  pub keeps : (ps : List Part) → ended (items_of ps) ≡ false → Kept final (m.nodes + m.entries) ps w
+      → Keeps final (m'.nodes + m'.entries) (x ∷ ps) r
 
 one_moves : {w : PathWalk} {p : Lowering Reading} (x : Part) → Correct p (Goes (Open w) (λ is. x.item ∷ is)) → Correct p (Takes w x)
     → Correct p (Moves (Open w) (λ ps. x ∷ ps))
@@ -107,7 +107,7 @@ named_takes {b = b} i l n w h = correct_as (correct_bind h (λ a. correct_pure (
     (λ final fs m m' r g row. rw (row.second.is, row.second.still) (record {
       keeps = λ ps e k. let u = row.before in let c = row.middle in
           named_kept final (total c) i b n row.one ps (at_first l w) row.first.same
-          (at_first_kept final (total c) l ps w (kept_later (omega (u.nodes, u.types, arith)) k));
+          (at_first_kept final (total c) l ps w (kept_later (omega (u.nodes, u.entries, arith)) k));
     }))
 
 super_takes : (i : Item) (l : Bool) (w : PathWalk) → Correct (counted (super_read (at_first l w))) (Takes w (part i None []))
@@ -125,14 +125,14 @@ anchor_takes {b = b} i l w h = correct_as (correct_bind h (λ t. correct_pure (w
     (λ final fs m m' r g row. rw (row.second.is, row.second.still) (record {
       keeps = λ ps e k. let u = row.before in let c = row.middle in
           anchor_kept final (total c) i b row.one ps (at_first l w) row.first.same
-          (at_first_kept final (total c) l ps w (kept_later (omega (u.nodes, u.types, arith)) k));
+          (at_first_kept final (total c) l ps w (kept_later (omega (u.nodes, u.entries, arith)) k));
     }))
 
 -- ---- a path
 
 -- nothing, or a path that keeps this
 pub record PathHolds (h : Held) (final : Stored) (fs : List Frame) (m m' : Mark) (o : Option HirPath) : Type 0 where
-  pub kept : MaybeKept final (m'.nodes + m'.types) h o
+  pub kept : MaybeKept final (m'.nodes + m'.entries) h o
 
 trait_takes : {b : Bodies} {p : Lowering TypeRefId} {q : Lowering (Option HirPath)} (y : Option PathRead) (x : Held) (i : Item)
     (l : Bool) (at : Pointer) (w : PathWalk) → Correct p (Holds a_type b) → Correct q (PathIs y) → Correct q (PathHolds x)
@@ -141,10 +141,10 @@ unfolding with_trait
 trait_takes {b = b} y x i l at w hp hq hk =
     correct_as (correct_bind hp (λ t. correct_bind (correct_both hq hk) (λ o. trait_read t at (at_first l w) o)))
     (λ final fs m m' r g row. let s = row.second in let c = s.middle in let u = s.after in let v = s.before in rw s.second.is (record {
-      keeps = λ ps e k. projected_kept final (total m') c.types i b x row.one y s.one ps (at_first l w)
-          (λ d le. row.first.same d (omega (le, u.nodes, u.types, v.nodes, v.types, arith)))
-          s.first.one.is (maybe_later final (total c) (total m') x s.one (omega (u.nodes, u.types, arith)) s.first.other.kept)
-          (at_first_kept final (total m') l ps w (kept_later (omega (g.nodes, g.types, arith)) k));
+      keeps = λ ps e k. projected_kept final (total m') c.entries i b x row.one y s.one ps (at_first l w)
+          (λ d le. row.first.same d (omega (le, u.nodes, u.entries, v.nodes, v.entries, arith)))
+          s.first.one.is (maybe_later final (total c) (total m') x s.one (omega (u.nodes, u.entries, arith)) s.first.other.kept)
+          (at_first_kept final (total m') l ps w (kept_later (omega (g.nodes, g.entries, arith)) k));
     }))
 
 -- ---- segments in a tree
@@ -285,9 +285,9 @@ path_holds tree.no_path h = correct_as (correct_pure None) (λ final fs m m' o g
 path_holds (tree.some_path p) h = correct_as (correct_bind (path_moves p start h) (λ r. correct_pure (path_read r)))
     (λ final fs m m' o g row. rw (row.second.is, row.second.still) (record {
       kept = let c = row.middle in
-          let s = row.first.moves [] (record { says = begins final m.types; keeps = begins_kept final (total m) }) in
+          let s = row.first.moves [] (record { says = begins final m.entries; keeps = begins_kept final (total m) }) in
           subst (λ is. MaybeKept final (total c) (held_of (rule.path_read (read is)) (path_parts p [])) (path_read row.one))
-          (path_items p []) (walk_kept final (total c) c.types (path_parts p []) row.one s.says s.keeps);
+          (path_items p []) (walk_kept final (total c) c.entries (path_parts p []) row.one s.says s.keeps);
     }))
 
 path_bodies_held : (p : OptionPath) → path_bodies p ≡ in_held (held p)
@@ -297,5 +297,5 @@ path_bodies_held (tree.some_path p) = refl
 -- and so it holds those bodies
 pub path_held : (p : OptionPath) → OuterHolds p → Correct (lower.lower_path p) (Holds a_path (path_bodies p))
 path_held p h = correct_as (path_holds p h) (λ final fs m m' o g row. rw (path_bodies_held p) (record {
-  same = λ d le. maybe_same final (m'.nodes + m'.types) (held p) o row.kept d le;
+  same = λ d le. maybe_same final (m'.nodes + m'.entries) (held p) o row.kept d le;
 }))

@@ -1,12 +1,16 @@
 -- Each constant inside what is lowered runs as its own written body: one induction over types, paths, arguments and expressions.
-use Rattle.std.proofs.Common.{refl, List, [], ◌∷◌, Option, Some, None, arith}
+use Rattle.std.proofs.Common.{◌≡◌, refl, sym, true, true≢false, List, [], ◌∷◌, ◌++◌, Option, Some, None, arith}
 use Rattle.hir_store.specs.declared.diagnostics.ExpressionStoreDiagnostics.TheVariants.{InactiveCode}
+use Rattle.hir_store.specs.declared.hir.MatchArm.{MatchArm}
 use Rattle.hir_store.specs.declared.hir.RecordLitField.{RecordLitField}
 use Rattle.hir_store.specs.declared.hir.RecordSpread.TheVariants as spread
 use Rattle.hir_store.specs.declared.hir.Statement.{Statement}
 use Rattle.hir_store.specs.declared.hir.Statement.TheVariants as statement
 use Rattle.hir_store.specs.declared.ids.ExprId.{ExprId}
+use Rattle.hir_store.specs.declared.ids.PatId.{PatId}
 use Rattle.hir_store.specs.declared.ids.TypeRefId.{TypeRefId}
+use Rattle.hir_store.specs.declared.pat.Pat.TheVariants as pat
+use Rattle.hir_store.specs.declared.pat.RecordFieldPat.{RecordFieldPat}
 use Rattle.hir_store.specs.declared.path.GenericArg.TheVariants as arg
 use Rattle.hir_store.specs.declared.type_ref.TypeBound.{TypeBound}
 use Rattle.hir_store.specs.declared.type_ref.TypeBound.TheVariants as bound
@@ -15,13 +19,18 @@ use Rattle.hir_env.specs.Answered as tree
 use Rattle.hir_env.specs.Answered.{Binder, Type_, OptionType, Parts, Path, OptionPath, Segments, Segment, SegmentArgs, OptionParens}
 use Rattle.hir_env.specs.Answered.{OptionRet, OptionArgs, Args, Arg, Bounds, Bound, Constant}
 use Rattle.hir_env.specs.Answered.{Expr, OptionExpr, Exprs, Fields, Field, Spread, Block, OptionBlock, Stmts, Stmt}
+use Rattle.hir_env.specs.Answered.{Arms, Arm, Guard, Pat, OptionPat, Pats, PatFields, Side, TypePat, OptionTypePat, TypePats, Limit}
+use Rattle.hir_env.specs.Answered.{Target, Targets, TargetFields}
 use Rattle.hir_data.specs.Written.{path_of}
 use Rattle.hir_lower_form.specs.declared.args.ArgLists.{ArgLists}
 use Rattle.hir_lower_form.specs.Lowering.{Lowering}
 use Rattle.hir_lower_form.specs.Types.{no_lists}
+use Rattle.hir_lower_form.specs.Forms.{push_some}
 use Rattle.hir_lower_form.specs.Lower as lower
+use Rattle.hir_lower_form.specs.Pats.{Table, no_names, next_alternative, Elements, no_elements, is_dots}
+use Rattle.hir_lower_form.specs.Targets.{add_target, add_target_dots}
 use Rattle.hir_meaning.specs.Inner as inner
-use Rattle.hir_meaning.specs.Inner.{Bodies, bodies_in}
+use Rattle.hir_meaning.specs.Inner.{Bodies, bodies_in, constant_body, of_arm, of_pat_field}
 use Rattle.hir_read_back.proofs.Layers.{Pushed, pushed_all}
 use Rattle.hir_read_back.proofs.Tree.{path_reads, list_reads}
 use Rattle.hir_steps.proofs.Constants.{correct_constant}
@@ -31,7 +40,11 @@ use Rattle.hir_steps.proofs.TypeAny.{lifetime_any, uses_any}
 use Rattle.hir_same_meaning.proofs.Body.{body_is}
 use Rattle.hir_same_meaning.proofs.Induction.{part_fine}
 use Rattle.hir_same_meaning.proofs.Holding.{an_expr, a_type, each, maybe, Holds, holds_none, holds_one, holds_behind, none_held, more_held}
-use Rattle.hir_same_meaning.proofs.Holding.{type0, expr0}
+use Rattle.hir_same_meaning.proofs.Holding.{type0, expr0, pat0, Ids, a_pat, a_type_pat}
+use Rattle.hir_same_meaning.proofs.HeldLimits as limits
+use Rattle.hir_same_meaning.proofs.HeldPats as pats
+use Rattle.hir_same_meaning.proofs.HeldPats.{PatHeld, Added, added_none, added_more, added_some, added_all}
+use Rattle.hir_same_meaning.proofs.HeldPatterned as patterned
 use Rattle.hir_same_meaning.proofs.HeldTypes as types
 use Rattle.hir_same_meaning.proofs.HeldTypes.{a_constant, a_path, some_args, a_bound, Grown}
 use Rattle.hir_same_meaning.proofs.HeldPaths as paths
@@ -40,14 +53,39 @@ use Rattle.hir_same_meaning.proofs.HeldForms.{a_field, a_spread, a_statement, Fi
 
 -- a constant runs as written: nothing that is open around its barrier is in its frames
 constant_held : (e : OptionExpr) → Correct (lower.lower_part e) (Holds an_expr (bodies_in e))
-    → Correct (lower.constant_form (lower.lower_part e)) (Holds a_constant (e ∷ bodies_in e))
+    → Correct (lower.constant_form (lower.lower_part e)) (Holds a_constant (constant_body e ∷ bodies_in e))
 constant_held e h = correct_as (correct_constant (correct_both (correct_in_store (part_fine e)) h))
     (λ final ps m m' c g row. let x = row.first.one in record {
       same = λ d le. (
         body_is (barrier_at ∷ ps) x.rel x.nodes tt refl,
-        row.first.other.same d (omega (le, row.nodes, row.types, arith)),
+        row.first.other.same d (omega (le, row.nodes, row.entries, arith)),
       );
     })
+
+abbrev an_arm : Ids MatchArm
+an_arm r a = of_arm r a
+
+abbrev a_field_pat : Ids RecordFieldPat
+a_field_pat r f = of_pat_field r f
+
+dots_hold_nothing : (p : Pat) → is_dots p ≡ true → inner.pat_bodies p ≡ []
+dots_hold_nothing (tree.leaf_pat at form) e = refl
+dots_hold_nothing (tree.bind_pat at u sub) e = absurd (true≢false (sym e))
+dots_hold_nothing (tree.name_pat at u) e = refl
+dots_hold_nothing (tree.path_pat at p) e = absurd (true≢false (sym e))
+dots_hold_nothing (tree.tuple_struct_pat at p comma ps) e = absurd (true≢false (sym e))
+dots_hold_nothing (tree.tuple_pat at comma ps) e = absurd (true≢false (sym e))
+dots_hold_nothing (tree.record_pat at p fs dots) e = absurd (true≢false (sym e))
+dots_hold_nothing (tree.or_pat at ps) e = absurd (true≢false (sym e))
+dots_hold_nothing (tree.paren_pat at p) e = absurd (true≢false (sym e))
+dots_hold_nothing (tree.slice_pat at before middle behind) e = absurd (true≢false (sym e))
+dots_hold_nothing (tree.over_pat at form p) e = absurd (true≢false (sym e))
+dots_hold_nothing (tree.literal_pat at own l) e = refl
+dots_hold_nothing (tree.range_pat at op s e) k = absurd (true≢false (sym k))
+
+-- what came of a field, which may be left out
+abbrev field_kept : Option RecordFieldPat × Table → Option RecordFieldPat
+field_kept r = r.0
 
 mutual
   -- ---- types
@@ -65,6 +103,7 @@ mutual
   type_holds b (tree.impl_type at mode bs) = types.impl_held at mode (pushed_all (bounds_hold bs []))
   type_holds b (tree.nested_impl at) = type0 ty.Error (Some at) (λ r. refl)
   type_holds b (tree.dyn_type at bs) = types.dyn_held at (pushed_all (bounds_hold bs []))
+  type_holds b (tree.pattern_type at t own p) = types.pattern_type_held at (part_holds None t) (type_pat_part_holds p)
 
   pub part_holds : (b : Option Binder) (t : OptionType) → Correct (lower.type_part b t) (Holds a_type (inner.part_bodies t))
   part_holds b tree.no_type = types.error_held
@@ -163,7 +202,7 @@ mutual
   expr_holds (tree.if_expr at c t e) = forms.if_held at (body_holds c) (block_part_holds t) (present_holds e)
   expr_holds (tree.block_expr b) = block_holds b
   expr_holds (tree.loop_expr at label b) = forms.loop_held at label (block_part_holds b)
-  expr_holds (tree.call_expr at f es) = forms.call_held at (body_holds f) (pushed_all (each_holds es []))
+  expr_holds (tree.call_expr at f has_list es) = forms.call_held at (body_holds f) (pushed_all (each_holds es []))
   expr_holds (tree.path_expr at p h) = forms.path_held at h (paths.path_held p (outer_holds p))
   expr_holds (tree.continue_expr at jump) = forms.continue_held at jump
   expr_holds (tree.break_expr at jump e) = forms.break_held at jump (present_holds e)
@@ -177,7 +216,7 @@ mutual
   expr_holds (tree.method_call_expr at e name es generics) =
       forms.method_call_held at name (body_holds e) (list_holds generics) (pushed_all (each_holds es []))
   expr_holds (tree.cast_expr at e t) = forms.cast_held at (body_holds e) (part_holds None t)
-  expr_holds (tree.record_expr at p fs s) = forms.record_held at (path_of p) (path_reads p) (paths.path_held p (outer_holds p))
+  expr_holds (tree.record_expr at p head fs s) = forms.record_held at (path_of p) (path_reads p) (paths.path_held p (outer_holds p))
       (forms.contents_held (pushed_all (fields_hold fs [])) (spread_holds s))
   expr_holds (tree.offset_of_expr at t names) = forms.offset_of_held at names (part_holds None t)
   expr_holds (tree.leaving_expr at form e) = forms.leaving_held at form (present_holds e)
@@ -185,6 +224,10 @@ mutual
   expr_holds (tree.yield_expr at e) = forms.yield_held at (present_holds e)
   expr_holds (tree.await_expr at location e) = forms.await_held at location (body_holds e)
   expr_holds (tree.nameless_expr at e) = forms.nameless_held at (body_holds e)
+  expr_holds (tree.let_expr at p e) = patterned.let_held at (top_holds p) (body_holds e)
+  expr_holds (tree.match_expr at e arms) = patterned.match_held at (body_holds e) (pushed_all (arms_hold arms []))
+  expr_holds (tree.range_expr at form s e) = patterned.range_held at form (present_holds s) (present_holds e)
+  expr_holds (tree.assign_expr at own t e) = patterned.assign_held at (target_holds t) (body_holds e)
 
   -- what is inside a body
   pub body_holds : (e : OptionExpr) → Correct (lower.lower_part e) (Holds an_expr (bodies_in e))
@@ -211,7 +254,7 @@ mutual
 
   field_holds : (f : Field) → Correct (lower.lower_field f) (Holds (maybe a_field) (inner.field_bodies f))
   field_holds (tree.disabled_field at by f) = holds_behind (correct_report (InactiveCode at by)) (λ u. holds_none None (λ r. refl))
-  field_holds tree.nameless_field = holds_none None (λ r. refl)
+  field_holds (tree.nameless_field at e) = holds_none None (λ r. refl)
   field_holds (tree.named_field at name e) = forms.field_held at name (body_holds e)
 
   spread_holds : (s : Spread) → Correct (lower.lower_spread s) (Holds a_spread (inner.spread_bodies s))
@@ -235,6 +278,162 @@ mutual
   stmt_holds : (s : Stmt) → Correct (lower.lower_stmt s) (Holds (maybe a_statement) (inner.stmt_bodies s))
   stmt_holds (tree.expr_stmt e semi) = forms.statement_held semi (kept_part_holds e)
   stmt_holds tree.item_stmt = holds_none (Some statement.Item) (λ r. refl)
+  stmt_holds (tree.let_stmt p t e b) =
+      patterned.let_stmt_held (top_holds p) (maybe_type_holds t) (present_holds e) (present_block_holds b)
+  stmt_holds (tree.disabled_stmt at by s) = holds_behind (correct_report (InactiveCode at by)) (λ u. holds_none None (λ r. refl))
+
+  present_block_holds : (b : OptionBlock) → Correct (lower.present_block b) (Holds (maybe an_expr) (inner.block_part_bodies b))
+  present_block_holds tree.no_block = holds_none None (λ r. refl)
+  present_block_holds (tree.some_block b) = forms.some_held (block_holds b)
+
+  arms_hold : (arms : Arms) (done : List MatchArm)
+      → Correct (lower.lower_arms done arms) (Pushed done (Holds (each an_arm) (inner.arms_bodies arms)))
+  arms_hold tree.no_arms done = none_held an_arm done
+  arms_hold (tree.more_arms a arms) done = forms.some_pushed {ids = an_arm} (arm_holds a) (arms_hold arms) done
+
+  arm_holds : (a : Arm) → Correct (lower.lower_arm a) (Holds (maybe an_arm) (inner.arm_bodies a))
+  arm_holds (tree.disabled_arm at by a) = holds_behind (correct_report (InactiveCode at by)) (λ u. holds_none None (λ r. refl))
+  arm_holds (tree.arm p e g) = patterned.arm_held (top_holds p) (guard_holds g) (body_holds e)
+
+  guard_holds : (g : Guard) → Correct (lower.lower_guard g) (Holds (maybe an_expr) (inner.guard_bodies g))
+  guard_holds tree.no_guard = holds_none None (λ r. refl)
+  guard_holds (tree.guard e) = forms.some_held (body_holds e)
+
+  -- ---- patterns
+
+  pub top_holds : (p : OptionPat) → Correct (lower.lower_top p) (Holds a_pat (inner.pat_part_bodies p))
+  top_holds tree.no_pat = pats.absent_held
+  top_holds (tree.some_pat p) = patterned.top_held (lower.lower_pat p) (pat_holds p no_names)
+
+  pat_holds : (p : Pat) → PatHeld a_pat (lower.lower_pat p) (inner.pat_bodies p)
+  pat_holds (tree.leaf_pat at form) = pats.leaf_held at form
+  pat_holds (tree.bind_pat at u p) = pats.bind_held at u (subpattern_holds p)
+  pat_holds (tree.name_pat at u) = pats.name_held at u
+  pat_holds (tree.path_pat at p) = pats.path_held at (paths.path_held p (outer_holds p))
+  pat_holds (tree.tuple_struct_pat at p comma ps) = pats.tuple_struct_held at (path_of p) (path_reads p)
+      (paths.path_held p (outer_holds p)) comma (elements_hold ps no_elements)
+  pat_holds (tree.tuple_pat at comma ps) = pats.tuple_held at comma (elements_hold ps no_elements)
+  pat_holds (tree.record_pat at p fs dots) = pats.record_held at (path_of p) (path_reads p)
+      (paths.path_held p (outer_holds p)) dots (pat_fields_hold fs [])
+  pat_holds (tree.or_pat at tree.no_pats) = pats.alone_held (pat0 (pat.Or []) (Some at) (λ r. refl))
+  pat_holds (tree.or_pat at (tree.more_pats p ps)) = pats.or_held at (pat_holds p) (later_hold ps)
+  pat_holds (tree.paren_pat at p) = pat_part_holds p
+  pat_holds (tree.slice_pat at before p behind) = pats.slice_held at
+      (λ t. added_all (pats_hold before [] t)) (subpattern_holds p) (λ t. added_all (pats_hold behind [] t))
+  pat_holds (tree.over_pat at form p) = pats.over_held at form (pat_part_holds p)
+  pat_holds (tree.literal_pat at own l) = pats.literal_held at own l
+  pat_holds (tree.range_pat at op s e) = pats.range_held at op (side_holds s) (side_holds e)
+
+  pat_part_holds : (p : OptionPat) → PatHeld a_pat (lower.pat_part p) (inner.pat_part_bodies p)
+  pat_part_holds tree.no_pat = pats.alone_held pats.absent_held
+  pat_part_holds (tree.some_pat p) = pat_holds p
+
+  subpattern_holds : (p : OptionPat) → PatHeld (maybe a_pat) (lower.present_pat p) (inner.pat_part_bodies p)
+  subpattern_holds tree.no_pat t = holds_none (None, t) (λ r. refl)
+  subpattern_holds (tree.some_pat p) t = holds_one (λ x. (Some x.0, x.1)) (λ r x. refl) (pat_holds p t)
+
+  pats_hold : (ps : Pats) (done : List PatId) (t : Table)
+      → Correct (lower.lower_pats done ps t) (Added a_pat (λ r. r.0) done (inner.pats_bodies ps))
+  pats_hold tree.no_pats done t = added_none (λ r. r.0) (done, t)
+  pats_hold (tree.more_pats p ps) done t =
+      added_more {part = λ r. r.0} done (pat_holds p t) (λ r. pats_hold ps (done ++ r.0 ∷ []) r.1)
+
+  later_hold : (ps : Pats) (done : List PatId) (t : Table)
+      → Correct (lower.lower_later ps done t) (Added a_pat (λ r. r.0) done (inner.pats_bodies ps))
+  later_hold tree.no_pats done t = added_none (λ r. r.0) (done, t)
+  later_hold (tree.more_pats p ps) done t = added_more {part = λ r. r.0} done (pat_holds p (next_alternative t))
+      (λ r. later_hold ps (done ++ r.0 ∷ []) r.1)
+
+  elements_hold : (ps : Pats) (done : Elements) (t : Table)
+      → Correct (lower.lower_elements done ps t) (Added a_pat pats.parts done.0 (inner.pats_bodies ps))
+  elements_hold tree.no_pats done t = added_none pats.parts (done, t)
+  elements_hold (tree.more_pats p ps) done t =
+      pats.element_held (is_dots p) (dots_hold_nothing p) (pat_holds p) (elements_hold ps) done t
+
+  pat_fields_hold : (fs : PatFields) (done : List RecordFieldPat) (t : Table)
+      → Correct (lower.lower_pat_fields done fs t) (Added a_field_pat (λ r. r.0) done (inner.pat_fields_bodies fs))
+  pat_fields_hold tree.no_pat_fields done t = added_none (λ r. r.0) (done, t)
+  pat_fields_hold (tree.more_pat_fields (tree.disabled_pat_field at by f) fs) done t =
+      added_some field_kept done (holds_behind (correct_report (InactiveCode at by)) (λ u. holds_none (None, t) (λ r. refl)))
+      (λ r. pat_fields_hold fs (push_some done r.0) r.1)
+  pat_fields_hold (tree.more_pat_fields tree.partless_pat_field fs) done t =
+      added_some field_kept done (holds_none (None, t) (λ r. refl)) (λ r. pat_fields_hold fs (push_some done r.0) r.1)
+  pat_fields_hold (tree.more_pat_fields (tree.pat_field at None p) fs) done t =
+      added_some field_kept done (pats.nameless_held at (lower.lower_pat p) t (pat_holds p t))
+      (λ r. pat_fields_hold fs (push_some done r.0) r.1)
+  pat_fields_hold (tree.more_pat_fields (tree.pat_field at (Some n) p) fs) done t =
+      added_some field_kept done (pats.field_held at n (pat_holds p) t) (λ r. pat_fields_hold fs (push_some done r.0) r.1)
+
+  side_holds : (s : Side) → Correct (lower.lower_side s) (Holds (maybe an_expr) (inner.side_bodies s))
+  side_holds tree.no_side = holds_none None (λ r. refl)
+  side_holds (tree.literal_side at l) = pats.literal_side_held at l
+  side_holds (tree.name_side at n) = pats.name_side_held at n
+  side_holds (tree.path_side at p) = pats.path_side_held at (paths.path_held p (outer_holds p))
+  side_holds tree.other_side = holds_none None (λ r. refl)
+
+  -- ---- patterns of types
+
+  type_pat_part_holds : (p : OptionTypePat) → Correct (lower.lower_type_pat_part p) (Holds a_type_pat (inner.type_pat_part_bodies p))
+  type_pat_part_holds tree.no_type_pat = limits.missing_type_pat_held
+  type_pat_part_holds (tree.some_type_pat p) = type_pat_holds p
+
+  type_pat_holds : (p : TypePat) → Correct (lower.lower_type_pat p) (Holds a_type_pat (inner.type_pat_bodies p))
+  type_pat_holds (tree.not_null_type_pat at) = limits.type_pat0 pat.NotNull (Some at) (λ r. refl)
+  type_pat_holds (tree.or_type_pat at ps) = limits.alternatives_held at (pushed_all (type_pats_hold ps []))
+  type_pat_holds (tree.range_type_pat at s e) = limits.limits_held at (limit_holds s) (limit_holds e)
+  type_pat_holds (tree.other_type_pat at) = limits.type_pat0 pat.Missing (Some at) (λ r. refl)
+
+  type_pats_hold : (ps : TypePats) (done : List PatId)
+      → Correct (lower.lower_type_pats done ps) (Pushed done (Holds (each a_type_pat) (inner.type_pats_bodies ps)))
+  type_pats_hold tree.no_type_pats done = none_held a_type_pat done
+  type_pats_hold (tree.more_type_pats p ps) done = more_held (type_pat_holds p) (type_pats_hold ps) done
+
+  limit_holds : (l : Limit) → Correct (lower.lower_limit l) (Holds limits.a_limit (inner.limit_bodies l))
+  limit_holds (tree.item_limit item) = limits.limit_held (tree.item_limit item) tt
+  limit_holds (tree.side_limit s) = limits.limit_held (tree.side_limit s) (path_of_side s)
+  limit_holds (tree.before_limit item s) = limits.limit_held (tree.before_limit item s) (path_of_side s)
+
+  path_of_side : (s : Side) → limits.PathOf s
+  path_of_side tree.no_side = tt
+  path_of_side (tree.literal_side at l) = tt
+  path_of_side (tree.name_side at n) = tt
+  path_of_side (tree.path_side at p) = paths.path_held p (outer_holds p)
+  path_of_side tree.other_side = tt
+
+  -- ---- what is assigned to
+
+  target_holds : (t : Target) → Correct (lower.lower_target t) (Holds a_pat (inner.target_bodies t))
+  target_holds tree.absent_target = pats.absent_held
+  target_holds (tree.place_target at e) = patterned.place_held at (expr_holds e)
+  target_holds (tree.wild_target at) = pat0 pat.Wild (Some at) (λ r. refl)
+  target_holds (tree.path_target at p h) =
+      patterned.path_target_held at h (paths.path_held (tree.some_path p) (all_hold p))
+  target_holds (tree.tuple_target at ts) = patterned.tuple_target_held at (targets_hold ts no_elements)
+  target_holds (tree.call_target at p ts) = patterned.call_target_held at (path_of p) (path_reads p)
+      (paths.path_held p (outer_holds p)) (targets_hold ts no_elements)
+  target_holds (tree.array_target at before dots behind) =
+      patterned.array_target_held at dots (targets_hold before no_elements) (targets_hold behind no_elements)
+  target_holds (tree.record_target at p fs dots others) = patterned.record_target_held at (path_of p) (path_reads p)
+      (paths.path_held p (outer_holds p)) dots others (pushed_all (target_fields_hold fs []))
+
+  targets_hold : (ts : Targets) (done : Elements)
+      → Correct (lower.lower_targets done ts) (Added a_pat patterned.parts done.0 (inner.targets_bodies ts))
+  targets_hold tree.no_targets done = added_none patterned.parts done
+  targets_hold (tree.more_targets t ts) done =
+      added_more {part = λ i. i} done.0 (target_holds t) (λ i. targets_hold ts (add_target done i))
+  targets_hold (tree.dots_targets ts) done = targets_hold ts (add_target_dots done)
+
+  target_fields_hold : (fs : TargetFields) (done : List RecordFieldPat)
+      → Correct (lower.lower_target_fields done fs) (Pushed done (Holds (each a_field_pat) (inner.target_fields_bodies fs)))
+  target_fields_hold tree.no_target_fields done = none_held a_field_pat done
+  target_fields_hold (tree.more_target_fields (tree.disabled_target_field at by) fs) done = forms.some_pushed {ids = a_field_pat}
+      (holds_behind (correct_report (InactiveCode at by)) (λ u. holds_none None (λ r. refl))) (target_fields_hold fs) done
+  target_fields_hold (tree.more_target_fields tree.partless_target_field fs) done =
+      forms.some_pushed {ids = a_field_pat} (holds_none None (λ r. refl)) (target_fields_hold fs) done
+  target_fields_hold (tree.more_target_fields (tree.target_field at None t) fs) done =
+      forms.some_pushed {ids = a_field_pat} (patterned.nameless_target_held at (target_holds t)) (target_fields_hold fs) done
+  target_fields_hold (tree.more_target_fields (tree.target_field at (Some n) t) fs) done =
+      forms.some_pushed {ids = a_field_pat} (patterned.target_field_held at n (target_holds t)) (target_fields_hold fs) done
 
 pub path_holds : (p : OptionPath) → Correct (lower.lower_path p) (Holds a_path (inner.path_bodies p))
 path_holds p = paths.path_held p (outer_holds p)

@@ -5,6 +5,7 @@ use Rattle.hir_store.specs.Pointers.{Pointer}
 use Rattle.hir_store.specs.Stored.{Stored}
 use Rattle.hir_store.specs.Generics.{of_binding as binding_of_parts}
 use Rattle.hir_store.specs.declared.hir.Mutability.{Mutability}
+use Rattle.hir_store.specs.declared.ids.PatId.{PatId}
 use Rattle.hir_store.specs.declared.ids.TypeRefId.{TypeRefId}
 use Rattle.hir_store.specs.declared.name.Name.{Name}
 use Rattle.hir_store.specs.declared.path.AssociatedTypeBinding.{AssociatedTypeBinding}
@@ -29,6 +30,7 @@ use Rattle.hir_lower_form.specs.Paths.{parens_form, segment_args_form, or_else, 
 use Rattle.hir_lower_form.specs.Types.{TypeSteps, error_type, unit_type, lower_lifetime, lower_lifetime_option}
 use Rattle.hir_lower_form.specs.Types.{stored_leaf_type, stored_over_type, over_form, tuple_type_form, array_type_form, ref_type_form}
 use Rattle.hir_lower_form.specs.Types.{path_or_error, path_type_form, stored_fn, fn_type_form, impl_type_form, dyn_type_form}
+use Rattle.hir_lower_form.specs.Types.{pattern_type_form}
 use Rattle.hir_lower_form.specs.Types.{yielded, binding_form, add_arg, add_binding, no_lists, stored_path_bound, path_bound_of}
 use Rattle.hir_lower_form.specs.Types.{path_bound_form}
 use Rattle.hir_meaning.specs.Inner.{Bodies, Inners, all_of, of_present, of_constant, of_arg, of_bound, of_list, of_path, of_type, if_opaque}
@@ -38,6 +40,7 @@ use Rattle.hir_steps.proofs.Steps.{Mark, Grows, Rel, Correct, correct_bind, corr
 use Rattle.hir_steps.proofs.Steps.{correct_alloc_type}
 use Rattle.hir_steps.proofs.TypeAny.{lifetime_any, lifetime_option_any}
 use Rattle.hir_same_meaning.proofs.Holding.{SameIn, inners_in, same_append, same_ids, same_bodies, Ids, nothing, a_type, each, maybe, Holds}
+use Rattle.hir_same_meaning.proofs.Holding.{a_type_pat}
 use Rattle.hir_same_meaning.proofs.Holding.{holds_behind, type_held, type0, type1}
 use Rattle.hir_same_meaning.proofs.HeldArgs.{all_append, of_binding, args_roll, binding_roll}
 
@@ -104,7 +107,17 @@ module _ (at : Pointer) {es : Bodies} where
       (correct_bind h (λ n. correct_bind k (λ t. correct_alloc_type (ty.Array (record { ty = t; len = n })) (Some at))))
       (λ final ps m m' i g row. let s = row.second in type_held s.second (λ d le.
       let r = inners_in final d in same_append final (r.type s.one) (of_constant r row.one) es fs (s.first.same d le)
-      (row.first.same d (omega (le, s.before.nodes, s.before.types, arith)))))
+      (row.first.same d (omega (le, s.before.nodes, s.before.entries, arith)))))
+
+  -- what stands behind it is a pattern of the type
+  pub pattern_type_held : {fs : Bodies} {t : TypeSteps} {p : Lowering PatId} → Correct t (Holds a_type es)
+      → Correct p (Holds a_type_pat fs) → Correct (pattern_type_form at t p) (Holds a_type (es ++ fs))
+  unfolding pattern_type_form
+  pattern_type_held {fs = fs} h k = correct_as
+      (correct_bind h (λ t. correct_bind k (λ p. correct_alloc_type (ty.Pattern t p) (Some at))))
+      (λ final ps m m' i g row. let s = row.second in type_held s.second (λ d le. let r = inners_in final d in
+      same_append final (r.type row.one) (r.type_pat s.one) es fs
+      (row.first.same d (omega (le, s.before.nodes, s.before.entries, arith))) (s.first.same d le)))
 
   pub path_type_held : {p : Lowering (Option HirPath)} → Correct p (Holds a_path es) → Correct (path_type_form at p) (Holds a_type es)
   unfolding path_type_form
@@ -118,7 +131,7 @@ module _ (at : Pointer) {es : Bodies} where
       (correct_bind h (λ t. correct_bind (lifetime_option_any l)
       (λ o. correct_alloc_type (ty.Reference (record { ty = t; lifetime = o; mutability = mutability })) (Some at))))
       (λ final ps m m' i g row. let s = row.second in type_held s.second (λ d le.
-      row.first.same d (omega (le, s.before.nodes, s.before.types, arith))))
+      row.first.same d (omega (le, s.before.nodes, s.before.entries, arith))))
 
   -- what it answers stands behind its parameters, and is lowered before them
   pub fn_held : {fs : Bodies} (b : Option Binder) (h : FnHead) {ts : Lowering (List TypeRefId)} {t : TypeSteps}
@@ -131,7 +144,7 @@ module _ (at : Pointer) {es : Bodies} where
       same_ids final (es ++ fs) (all_append r.type s.one (row.one ∷ [])
       ∙ ap (λ is. all_of r.type s.one ++ is) (append-nil (r.type row.one)))
       (same_append final (all_of r.type s.one) (r.type row.one) es fs (s.first.same d le)
-      (row.first.same d (omega (le, s.before.nodes, s.before.types, arith))))))
+      (row.first.same d (omega (le, s.before.nodes, s.before.entries, arith))))))
 
   pub dyn_held : {bs : Lowering (List TypeBound)} → Correct bs (Holds (each a_bound) es) → Correct (dyn_type_form at bs) (Holds a_type es)
   unfolding dyn_type_form
@@ -235,12 +248,12 @@ grown_more {es = es} {fs = fs} {es' = es'} {fs' = fs'} l h k = correct_as (corre
       args_hold = record {
         same = λ d le. let r = inners_in final d in same_ids final (es ++ es') (all_append (of_arg r) one.args rest.args)
             (same_append final (all_of (of_arg r) one.args) (all_of (of_arg r) rest.args) es es'
-            (one.args_hold.same d (omega (le, row.after.nodes, row.after.types, arith))) (rest.args_hold.same d le));
+            (one.args_hold.same d (omega (le, row.after.nodes, row.after.entries, arith))) (rest.args_hold.same d le));
       };
       bindings_hold = record {
         same = λ d le. let r = inners_in final d in same_ids final (fs ++ fs') (all_append (of_binding r) one.bindings rest.bindings)
             (same_append final (all_of (of_binding r) one.bindings) (all_of (of_binding r) rest.bindings) fs fs'
-            (one.bindings_hold.same d (omega (le, row.after.nodes, row.after.types, arith))) (rest.bindings_hold.same d le));
+            (one.bindings_hold.same d (omega (le, row.after.nodes, row.after.entries, arith))) (rest.bindings_hold.same d le));
       };
     })
 
@@ -280,9 +293,9 @@ binding_held {es = es} {fs = fs} {gs = gs} n dots hp hq hs =
           same_ids final (es ++ (fs ++ gs)) (binding_roll r n (or_notation row.one dots) s.one u.one
           ∙ ap (λ is. is ++ others) (or_notation_is r row.one dots))
           (same_append final (of_list r row.one) others es (fs ++ gs)
-          (row.first.same d (omega (le, s.before.nodes, s.before.types, u.before.nodes, u.before.types, arith)))
+          (row.first.same d (omega (le, s.before.nodes, s.before.entries, u.before.nodes, u.before.entries, arith)))
           (same_append final (of_present r.type s.one) (all_of (of_bound r) u.one) fs gs
-          (s.first.same d (omega (le, u.before.nodes, u.before.types, arith))) (u.first.same d le)));
+          (s.first.same d (omega (le, u.before.nodes, u.before.entries, arith))) (u.first.same d le)));
     }))
 
 -- ---- what stands behind a name
@@ -303,7 +316,7 @@ parens_held {es = es} {fs = fs} hp hq = correct_as
       same = λ d le. let r = inners_in final d in
           let tuple = type_held {ps = ps} {n = m} s.first row.first.same in
           same_ids final (es ++ fs) (sugared_is r s.one u.one) (same_append final (r.type s.one) (r.type u.one) es fs
-          (tuple.same d (omega (le, u.before.nodes, u.before.types, arith))) (u.first.same d le));
+          (tuple.same d (omega (le, u.before.nodes, u.before.entries, arith))) (u.first.same d le));
     }))
 
 -- Of `<..>` and `(A) -> C` the first that yields any: whether the first does is in its data.
@@ -327,13 +340,13 @@ segment_args_held {es = es} {fs = fs} {x = x} dots says hp hq = correct_as
       same = λ d le. let r = inners_in final d in
           same_ids final (if is_list x then es else fs) (or_notation_is r s.one dots)
           (same_bodies final (of_list r s.one) (ap (λ y. if is_list y then es else fs)
-          (row.first.one.is row.middle.types (omega arith)))
+          (row.first.one.is row.middle.entries (omega arith)))
           (go final ps m row.middle s.middle row.one s.one row.first.other s.before s.first d le));
     }))
   where
     go : (final : Stored) (ps : List Frame) (m0 m m' : Mark) (a r : Option GenericArgs) → Holds some_args es final ps m0 m a → Grows m m'
-        → OrElse a fs final ps m m' r → (d : ℕ) → m'.nodes + m'.types ≤ d
-        → SameIn final (of_list (inners_in final d) r) (if is_list (a_list final (within final m.types) a) then es else fs)
+        → OrElse a fs final ps m m' r → (d : ℕ) → m'.nodes + m'.entries ≤ d
+        → SameIn final (of_list (inners_in final d) r) (if is_list (a_list final (within final m.entries) a) then es else fs)
     go final ps m0 m m' None r h g k d le = k.same d le
     go final ps m0 m m' (Some a) r h g k d le =
-        same_ids final es (ap (of_list (inners_in final d)) k.0) (h.same d (omega (le, g.nodes, g.types, arith)))
+        same_ids final es (ap (of_list (inners_in final d)) k.0) (h.same d (omega (le, g.nodes, g.entries, arith)))

@@ -9,7 +9,7 @@ use Rattle.hir_store.specs.declared.name.Name.{Name}
 use Rattle.hir_store.specs.declared.path.PathKind.{PathKind}
 use Rattle.hir_store.specs.declared.path.GenericArgs.{GenericArgs}
 use Rattle.hir_store.specs.declared.path.Path.{Path as HirPath}
-use Rattle.hir_store.specs.declared.path.Path.TheVariants.{BarePath, Normal}
+use Rattle.hir_store.specs.declared.path.Path.TheVariants.{BarePath, Normal, LangItem}
 use Rattle.hir_lower_form.specs.declared.walk.PathWalk.{PathWalk}
 use Rattle.hir_lower_form.specs.declared.walk.Reading.{Reading}
 use Rattle.hir_lower_form.specs.declared.walk.Reading.TheVariants.{Refused, Ended, Open}
@@ -87,7 +87,7 @@ all_read (p ∷ ps) h = by (rule.ends p.item.what (rule.names (items_of ps))) h
     by false h = rw h refl
     by true h = absurd (clash h)
 
--- ---- what a walk that has read these parts keeps, when so many expressions and types are stored
+-- ---- what a walk that has read these parts keeps, when so many expressions, types and patterns are stored
 
 pub record Kept (final : Stored) (n : ℕ) (ps : List Part) (w : PathWalk) : Type 0 where
   pub anchor : (d : ℕ) → n ≤ d → SameIn final (of_present (inners_in final d).type w.type_anchor) (in_anchor ps)
@@ -157,6 +157,7 @@ module _ (final : Stored) (n : ℕ) where
   abbrev anchor_in : HirPath → Option TypeRefId
   anchor_in (BarePath p) = None
   anchor_in (Normal p) = p.type_anchor
+  anchor_in (LangItem i) = None
 
   -- in the type that it is relative to, and beside each of its names
   pub record PathKept (h : Held) (p : HirPath) : Type 0 where
@@ -180,6 +181,8 @@ module _ (final : Stored) (n : ℕ) where
   path_same h (Normal p) k d le =
       same_append final (of_present (inners_in final d).type p.type_anchor) (all_of (of_list (inners_in final d)) p.generic_args) h.anchor
       (all_in h.names) (k.anchor d le) (same_all final d p.generic_args h.names (k.names d le))
+  path_same h (LangItem i) k d le =
+      same_append final [] [] h.anchor (all_in h.names) (k.anchor d le) (same_all final d [] h.names (k.names d le))
 
   -- ---- `<T as Trait>`
 

@@ -5,13 +5,16 @@ use Rattle.hir_store.specs.Pointers.{Pointer}
 use Rattle.hir_store.specs.Stored.{Stored, store_of, map_of}
 use Rattle.hir_store.specs.declared.hir.Expr.{Expr as HirExpr}
 use Rattle.hir_store.specs.declared.ids.ExprId.{ExprId}
+use Rattle.hir_store.specs.declared.ids.PatId.{PatId}
 use Rattle.hir_store.specs.declared.ids.TypeRefId.{TypeRefId}
+use Rattle.hir_store.specs.declared.pat.Pat.{Pat as HirPat}
 use Rattle.hir_store.specs.declared.type_ref.TypeRef.{TypeRef}
-use Rattle.hir_lower_form.specs.Lowering.{Lowering, ◌>>=◌, pure, alloc_expr, alloc_type}
-use Rattle.hir_meaning.specs.Inner.{Bodies, Inners, inners, all_of, of_present, of_type, of_expr}
+use Rattle.hir_lower_form.specs.Lowering.{Lowering, ◌>>=◌, pure, alloc_expr, alloc_pat, alloc_type}
+use Rattle.hir_meaning.specs.Inner.{Bodies, Inners, inners, all_of, of_present, of_type, of_expr, of_pat, of_type_pat}
 use Rattle.hir_meaning.specs.Same.{SameBodies}
 use Rattle.hir_read_back.proofs.Layers.{Pushed}
 use Rattle.hir_steps.proofs.Frames.{Frame}
+use Rattle.hir_steps.proofs.PatSteps.{AllocatedPat, correct_alloc_pat}
 use Rattle.hir_steps.proofs.Steps.{Mark, Grows, Rel, Correct, Allocated, AllocatedType, correct_bind, correct_as, correct_pure}
 use Rattle.hir_steps.proofs.Steps.{correct_alloc, correct_alloc_type}
 
@@ -55,9 +58,9 @@ each f r = all_of (f r)
 abbrev pub maybe : {A : Type 0} → Ids A → Ids (Option A)
 maybe f r = of_present (f r)
 
--- However deep one looks, past all types and expressions that there were by then, what a holds runs as these bodies.
+-- However deep one looks, past all types, patterns and expressions that there were by then, what a holds runs as these bodies.
 pub record Holds {A : Type 0} (ids : Ids A) (es : Bodies) (final : Stored) (ps : List Frame) (m m' : Mark) (a : A) : Type 0 where
-  pub same : (d : ℕ) → m'.nodes + m'.types ≤ d → SameIn final (ids (inners_in final d) a) es
+  pub same : (d : ℕ) → m'.nodes + m'.entries ≤ d → SameIn final (ids (inners_in final d) a) es
 
 -- ---- values
 
@@ -81,7 +84,7 @@ holds_two {f = f} {j = j} {es = es} {fs = fs} con e hp hq = correct_as
     (λ final ps m m' c g row. let s = row.second in rw (s.second.is, s.second.still) (record {
       same = λ d le. let r = inners_in final d in same_ids final (es ++ fs) (e r row.one s.one)
           (same_append final (f r row.one) (j r s.one) es fs
-          (row.first.same d (omega (le, s.before.nodes, s.before.types, arith))) (s.first.same d le));
+          (row.first.same d (omega (le, s.before.nodes, s.before.entries, arith))) (s.first.same d le));
     }))
 
 -- steps before that hold nothing
@@ -104,7 +107,7 @@ more_held {ids = ids} {es = es} {fs = fs} h k done = correct_as (correct_bind h 
       is = s.is ∙ append_assoc done (row.one ∷ []) s.new;
       rel = record {
         same = λ d le. let r = inners_in final d in same_append final (ids r row.one) (all_of (ids r) s.new) es fs
-            (row.first.same d (omega (le, row.after.nodes, row.after.types, arith))) (s.rel.same d le);
+            (row.first.same d (omega (le, row.after.nodes, row.after.entries, arith))) (s.rel.same d le);
       };
     })
 
@@ -112,13 +115,13 @@ more_held {ids = ids} {es = es} {fs = fs} h k done = correct_as (correct_bind h 
 
 pub type_held : {t : TypeRef} {source : Option Pointer} {es : Bodies} {final : Stored} {ps qs : List Frame} {m n m' : Mark} {i : TypeRefId}
     → AllocatedType t source final qs m m' i
-    → ((d : ℕ) → m.nodes + m.types ≤ d → SameIn final (of_type (inners_in final d) t) es) → Holds a_type es final ps n m' i
+    → ((d : ℕ) → m.nodes + m.entries ≤ d → SameIn final (of_type (inners_in final d) t) es) → Holds a_type es final ps n m' i
 unfolding inners
 type_held {es = es} {final = final} {m' = m'} {i = i} at h = record { same = λ d le. at_depth d le }
   where
-    at_depth : (d : ℕ) → m'.nodes + m'.types ≤ d → SameIn final ((inners_in final d).type i) es
-    at_depth zero le = absurd (omega (arith, le, at.next))
-    at_depth (suc d) le = rw (at.number, at.here) (h d (omega (arith, le, at.next, at.nodes)))
+    at_depth : (d : ℕ) → m'.nodes + m'.entries ≤ d → SameIn final ((inners_in final d).type i) es
+    at_depth zero le = absurd (omega (arith, le, at.entries))
+    at_depth (suc d) le = rw (at.number, at.here) (h d (omega (arith, le, at.entries, at.nodes)))
 
 pub type0 : (t : TypeRef) (source : Option Pointer) → ((r : Inners) → of_type r t ≡ []) → Correct (alloc_type t source) (Holds a_type [])
 type0 t source e = correct_as (correct_alloc_type t source)
@@ -134,13 +137,13 @@ type1 {es = es} source con e h = correct_as (correct_bind h (λ a. correct_alloc
 
 pub expr_held : {e : HirExpr} {source : Option Pointer} {es : Bodies} {final : Stored} {ps qs : List Frame} {m n m' : Mark} {i : ExprId}
     → Allocated e source final qs m m' i → Grows m m'
-    → ((d : ℕ) → m.nodes + m.types ≤ d → SameIn final (of_expr (inners_in final d) e) es) → Holds an_expr es final ps n m' i
+    → ((d : ℕ) → m.nodes + m.entries ≤ d → SameIn final (of_expr (inners_in final d) e) es) → Holds an_expr es final ps n m' i
 unfolding inners
 expr_held {es = es} {final = final} {m' = m'} {i = i} at g h = record { same = λ d le. at_depth d le }
   where
-    at_depth : (d : ℕ) → m'.nodes + m'.types ≤ d → SameIn final ((inners_in final d).expr i) es
+    at_depth : (d : ℕ) → m'.nodes + m'.entries ≤ d → SameIn final ((inners_in final d).expr i) es
     at_depth zero le = absurd (omega (arith, le, at.next))
-    at_depth (suc d) le = rw (at.number, at.here) (h d (omega (arith, le, at.next, g.types)))
+    at_depth (suc d) le = rw (at.number, at.here) (h d (omega (arith, le, at.next, g.entries)))
 
 pub expr0 : (e : HirExpr) (source : Option Pointer) → ((r : Inners) → of_expr r e ≡ []) → Correct (alloc_expr e source) (Holds an_expr [])
 expr0 e source is = correct_as (correct_alloc e source)
@@ -160,4 +163,44 @@ expr2 {f = f} {k = k} {es = es} {fs = fs} source con is hp hq = correct_as
     (correct_bind hp (λ a. correct_bind hq (λ b. correct_alloc (con a b) source)))
     (λ final ps m m' i g row. let s = row.second in expr_held s.second s.after (λ d le. let r = inners_in final d in
     same_ids final (es ++ fs) (is r row.one s.one) (same_append final (f r row.one) (k r s.one) es fs
-    (row.first.same d (omega (le, s.before.nodes, s.before.types, arith))) (s.first.same d le))))
+    (row.first.same d (omega (le, s.before.nodes, s.before.entries, arith))) (s.first.same d le))))
+
+-- ---- patterns
+
+abbrev pub a_pat : Ids PatId
+a_pat r p = r.pat p
+
+-- as one in a type
+abbrev pub a_type_pat : Ids PatId
+a_type_pat r p = r.type_pat p
+
+pub pat_held : {p : HirPat} {source : Option Pointer} {es : Bodies} {final : Stored} {ps qs : List Frame} {m n m' : Mark} {i : PatId}
+    → AllocatedPat p source final qs m m' i
+    → ((d : ℕ) → m.nodes + m.entries ≤ d → SameIn final (of_pat (inners_in final d) p) es) → Holds a_pat es final ps n m' i
+unfolding inners
+pat_held {es = es} {final = final} {m' = m'} {i = i} at h = record { same = λ d le. at_depth d le }
+  where
+    at_depth : (d : ℕ) → m'.nodes + m'.entries ≤ d → SameIn final ((inners_in final d).pat i) es
+    at_depth zero le = absurd (omega (arith, le, at.entries))
+    at_depth (suc d) le = rw (at.number, at.here) (h d (omega (arith, le, at.entries, at.nodes)))
+
+pub type_pat_held : {p : HirPat} {source : Option Pointer} {es : Bodies} {final : Stored} {ps qs : List Frame} {m n m' : Mark}
+    {i : PatId} → AllocatedPat p source final qs m m' i
+    → ((d : ℕ) → m.nodes + m.entries ≤ d → SameIn final (of_type_pat (inners_in final d) p) es)
+    → Holds a_type_pat es final ps n m' i
+unfolding inners
+type_pat_held {es = es} {final = final} {m' = m'} {i = i} at h = record { same = λ d le. at_depth d le }
+  where
+    at_depth : (d : ℕ) → m'.nodes + m'.entries ≤ d → SameIn final ((inners_in final d).type_pat i) es
+    at_depth zero le = absurd (omega (arith, le, at.entries))
+    at_depth (suc d) le = rw (at.number, at.here) (h d (omega (arith, le, at.entries, at.nodes)))
+
+pub pat0 : (p : HirPat) (source : Option Pointer) → ((r : Inners) → of_pat r p ≡ []) → Correct (alloc_pat p source) (Holds a_pat [])
+pat0 p source e = correct_as (correct_alloc_pat p source)
+    (λ final ps m m' i g at. pat_held at (λ d le. same_ids final [] (e (inners_in final d)) tt))
+
+pub pat1 : {A : Type 0} {f : Ids A} {es : Bodies} {p : Lowering A} (source : Option Pointer) (con : A → HirPat)
+    → ((r : Inners) (a : A) → of_pat r (con a) ≡ f r a) → Correct p (Holds f es)
+    → Correct (p >>= (λ a. alloc_pat (con a) source)) (Holds a_pat es)
+pat1 {es = es} source con e h = correct_as (correct_bind h (λ a. correct_alloc_pat (con a) source))
+    (λ final ps m m' i g row. pat_held row.second (λ d le. same_ids final es (e (inners_in final d) row.one) (row.first.same d le)))

@@ -1,26 +1,40 @@
 -- Each tree becomes what runs as it is written.
-use Rattle.std.proofs.Common.{Bool, List, [], ◌∷◌, ◌++◌, Option, None, refl}
+use Rattle.std.proofs.Common.{Bool, List, [], ◌∷◌, ◌++◌, Option, Some, None, refl}
 use Rattle.hir_store.specs.declared.hir.Statement.{Statement}
 use Rattle.hir_store.specs.declared.hir.Statement.TheVariants as statement
 use Rattle.hir_store.specs.declared.hir.RecordLitField.{RecordLitField}
 use Rattle.hir_store.specs.declared.hir.RecordSpread.TheVariants as spread
+use Rattle.hir_store.specs.declared.hir.MatchArm.{MatchArm}
+use Rattle.hir_store.specs.declared.pat.RecordFieldPat.{RecordFieldPat}
 use Rattle.hir_store.specs.declared.diagnostics.ExpressionStoreDiagnostics.TheVariants.{InactiveCode}
 use Rattle.hir_store.specs.declared.ids.ExprId.{ExprId}
 use Rattle.hir_env.specs.Answered as tree
-use Rattle.hir_env.specs.Answered.{Expr, OptionExpr, Exprs, Fields, Spread, Block, OptionBlock, Stmts}
+use Rattle.hir_env.specs.Answered.{Expr, OptionExpr, Exprs, Fields, Spread, Block, OptionBlock, Stmts, Arms, Target, Targets}
+use Rattle.hir_env.specs.Answered.{TargetFields}
 use Rattle.hir_lower_form.specs.Lower.{push_some, lower, lower_part, present, kept_part, lower_each, lower_block, lower_block_part}
-use Rattle.hir_lower_form.specs.Lower.{lower_stmts, lower_fields, lower_spread}
+use Rattle.hir_lower_form.specs.Lower.{lower_stmts, lower_fields, lower_spread, lower_arms, lower_target, lower_targets}
+use Rattle.hir_lower_form.specs.Lower.{lower_target_fields, present_block}
+use Rattle.hir_lower_form.specs.Pats.{Elements, no_elements}
 use Rattle.hir_lower_form.specs.Lowering.{Lowering}
 use Rattle.hir_meaning.specs.Run.{Value}
 use Rattle.hir_meaning.specs.Left.{is_kept, is_left, field_names}
 use Rattle.hir_meaning.specs.Syntax.{run_expr, run_block_part, run_or_unit, run_each, run_block, spread_form, run_fields, run_spread}
+use Rattle.hir_meaning.specs.Syntax.{run_present, run_arms, run_places, run_each_place, run_field_places}
+use Rattle.hir_data.specs.Written.{path_of}
+use Rattle.hir_read_back.proofs.Tree.{path_reads}
 use Rattle.hir_steps.proofs.Steps.{Correct, correct_bind, correct_as, correct_pure, correct_report}
+use Rattle.hir_steps.proofs.TypeAny.{any}
 use Rattle.hir_same_meaning.proofs.Senses.{Walk, one, optional, many, Runs}
-use Rattle.hir_same_meaning.proofs.Blocks.{part_walk, KeptIs}
+use Rattle.hir_same_meaning.proofs.Senses.{present as initial}
+use Rattle.hir_same_meaning.proofs.Blocks.{part_walk, KeptIs, ElseIs}
 use Rattle.hir_same_meaning.proofs.Nodes
 use Rattle.hir_same_meaning.proofs.Forms
 use Rattle.hir_same_meaning.proofs.Families
 use Rattle.hir_same_meaning.proofs.Typed
+use Rattle.hir_same_meaning.proofs.Patterned
+use Rattle.hir_same_meaning.proofs.Ranges
+use Rattle.hir_same_meaning.proofs.TargetPlaces
+use Rattle.hir_same_meaning.proofs.TargetPlaces.{PlacesAre}
 
 mutual
   pub expr_fine : (e : Expr) → Correct (lower e) (Runs one (λ turns. run_expr turns e))
@@ -28,7 +42,7 @@ mutual
   expr_fine (tree.literal_expr at l) = Forms.literal_fine at l
   expr_fine (tree.path_expr at p h) = Forms.path_fine at p h
   expr_fine (tree.paren_expr at e) = Forms.paren_fine at (part_fine e)
-  expr_fine (tree.call_expr at f es) = Forms.call_fine at (part_fine f) (Forms.pushed_all (each_fine es []))
+  expr_fine (tree.call_expr at f has_list es) = Forms.call_fine at (part_fine f) (Forms.pushed_all (each_fine es []))
   expr_fine (tree.if_expr at c t e) = Forms.if_fine at (part_fine c) (block_part_fine t) (present_fine e)
   expr_fine (tree.loop_expr at label b) = Forms.loop_fine at label (block_part_fine b)
   expr_fine (tree.break_expr at jump e) = Forms.break_fine at jump (present_fine e)
@@ -42,7 +56,7 @@ mutual
   expr_fine (tree.method_call_expr at e name es generics) =
       Typed.method_call_fine at name generics (part_fine e) (Forms.pushed_all (each_fine es []))
   expr_fine (tree.cast_expr at e t) = Typed.cast_fine at t (part_fine e)
-  expr_fine (tree.record_expr at p fs s) =
+  expr_fine (tree.record_expr at p head fs s) =
       Typed.record_fine at (field_names fs) (spread_form s) p (Typed.contents_fine (fields_fine fs []) (spread_fine s))
   expr_fine (tree.offset_of_expr at t names) = Typed.offset_of_fine at t names
   expr_fine (tree.leaving_expr at form e) = Families.value_fine at (Families.leaving_is form) (present_fine e)
@@ -50,6 +64,10 @@ mutual
   expr_fine (tree.yield_expr at e) = Families.value_fine at Families.yield_is (present_fine e)
   expr_fine (tree.await_expr at location e) = Families.await_fine at location (part_fine e)
   expr_fine (tree.nameless_expr at e) = Families.nameless_fine at (part_fine e)
+  expr_fine (tree.let_expr at p e) = Patterned.let_fine at p (part_fine e)
+  expr_fine (tree.match_expr at e arms) = Patterned.match_fine at (part_fine e) (arms_fine arms [])
+  expr_fine (tree.range_expr at form start end) = Ranges.range_fine at start end form (end_fine start) (end_fine end)
+  expr_fine (tree.assign_expr at own target e) = TargetPlaces.assign_fine at target (target_fine target) (part_fine e)
 
   pub part_fine : (e : OptionExpr) → Correct (lower_part e) (Runs one (part_walk e))
   part_fine tree.no_expr = Forms.missing_fine
@@ -62,6 +80,23 @@ mutual
   present_fine : (e : OptionExpr) → Correct (present e) (Runs optional (λ turns. run_or_unit turns e))
   present_fine tree.no_expr = Forms.none_fine
   present_fine (tree.some_expr e) = Forms.some_fine (expr_fine e)
+
+  -- an initializer
+  initial_fine : (e : OptionExpr) → Correct (present e) (Runs initial (λ turns. run_present turns e))
+  initial_fine tree.no_expr = correct_as (correct_pure None) (λ final ps m m' o g row. rw row.is Nodes.goes_absent)
+  initial_fine (tree.some_expr e) = correct_as (correct_bind (expr_fine e) (λ i. correct_pure (Some i)))
+      (λ final ps m m' o g row. rw (row.second.is, row.second.still) (Nodes.goes_present row.first))
+
+  -- an end of a range
+  end_fine : (e : OptionExpr) → Correct (present e) (Ranges.EndRel e)
+  end_fine tree.no_expr = correct_as (correct_pure None) (λ final ps m m' o g row. rw row.is tt)
+  end_fine (tree.some_expr e) = correct_as (correct_bind (expr_fine e) (λ i. correct_pure (Some i)))
+      (λ final ps m m' o g row. rw (row.second.is, row.second.still) row.first)
+
+  else_fine : (b : OptionBlock) → Correct (present_block b) (λ final ps m m' o. ElseIs m.labels m'.nodes final ps b o)
+  else_fine tree.no_block = correct_as (correct_pure None) (λ final ps m m' o g row. rw row.is tt)
+  else_fine (tree.some_block b) = correct_as (correct_bind (block_is_fine b) (λ i. correct_pure (Some i)))
+      (λ final ps m m' o g row. rw (row.second.is, row.second.still) row.first)
 
   kept_part_fine : (e : OptionExpr)
       → Correct (kept_part e) (λ final ps m m' o. KeptIs m.labels m'.nodes final ps (is_left e) (part_walk e) o)
@@ -81,12 +116,60 @@ mutual
   fields_fine (tree.more_fields (tree.disabled_field at by f) fs) done = correct_as
       (correct_bind (correct_bind (correct_report (InactiveCode at by)) (λ u. correct_pure None)) (λ o. fields_fine fs (push_some done o)))
       (λ final ps m m' r g row. Typed.fields_skip done row.one row.first.second.is row.before row.second)
-  fields_fine (tree.more_fields tree.nameless_field fs) done = correct_as
+  fields_fine (tree.more_fields (tree.nameless_field at e) fs) done = correct_as
       (correct_bind (correct_pure None) (λ o. fields_fine fs (push_some done o)))
       (λ final ps m m' r g row. Typed.fields_skip done row.one row.first.is row.before row.second)
   fields_fine (tree.more_fields (tree.named_field at name e) fs) done = correct_as
       (correct_bind (Typed.field_fine at name (part_fine e)) (λ o. fields_fine fs (push_some done o)))
       (λ final ps m m' r g row. Typed.fields_more done row.one row.before row.after row.first row.second)
+
+  arms_fine : (arms : Arms) (done : List MatchArm)
+      → Correct (lower_arms done arms) (Forms.Pushed done (Patterned.ArmsAre (λ v site turns ss. run_arms turns arms v site ss)))
+  arms_fine tree.no_arms done =
+      correct_as (correct_pure done) (λ final ps m m' r g row. Forms.pushed_none done row.is (Patterned.no_arms_are m m'))
+  arms_fine (tree.more_arms (tree.disabled_arm at by a) arms) done = correct_as
+      (correct_bind (correct_bind (correct_report (InactiveCode at by)) (λ u. correct_pure None)) (λ o. arms_fine arms (push_some done o)))
+      (λ final ps m m' r g row. Patterned.arms_skip done row.one row.first.second.is row.before row.second)
+  arms_fine (tree.more_arms (tree.arm p e tree.no_guard) arms) done = correct_as
+      (correct_bind (Patterned.arm_fine p {g = None} (part_fine e) Patterned.no_guard_fine) (λ o. arms_fine arms (push_some done o)))
+      (λ final ps m m' r g row. Patterned.arms_more done row.one row.before row.after row.first row.second)
+  arms_fine (tree.more_arms (tree.arm p e (tree.guard c)) arms) done = correct_as
+      (correct_bind (Patterned.arm_fine p {g = Some (part_walk c)} (part_fine e) (Patterned.guard_fine (part_fine c)))
+      (λ o. arms_fine arms (push_some done o)))
+      (λ final ps m m' r g row. Patterned.arms_more done row.one row.before row.after row.first row.second)
+
+  -- what is assigned to
+  target_fine : (t : Target) → Correct (lower_target t) (PlacesAre (λ turns ss m. run_places turns t ss m))
+  target_fine tree.absent_target = TargetPlaces.absent_places
+  target_fine (tree.place_target at e) = TargetPlaces.place_places at (expr_fine e)
+  target_fine (tree.wild_target at) = TargetPlaces.wild_places at
+  target_fine (tree.path_target at p h) = TargetPlaces.path_places at h (path_of (tree.some_path p)) (path_reads (tree.some_path p))
+  target_fine (tree.tuple_target at ts) = TargetPlaces.tuple_places at (targets_fine ts no_elements)
+  target_fine (tree.call_target at p ts) = TargetPlaces.call_places (path_of p) at (path_reads p) (targets_fine ts no_elements)
+  target_fine (tree.array_target at before dots behind) =
+      TargetPlaces.array_places at dots (targets_fine before no_elements) (targets_fine behind no_elements)
+  target_fine (tree.record_target at p fs dots spread) =
+      TargetPlaces.record_places (path_of p) at dots spread (path_reads p) (target_fields_fine fs [])
+
+  targets_fine : (ts : Targets) (done : Elements)
+      → Correct (lower_targets done ts) (TargetPlaces.ElementsPlace done (λ turns ss m. run_each_place turns ts ss m))
+  targets_fine tree.no_targets done = TargetPlaces.none_place done
+  targets_fine (tree.more_targets t ts) done = TargetPlaces.more_place (target_fine t) (targets_fine ts) done
+  targets_fine (tree.dots_targets ts) done = TargetPlaces.dots_place (targets_fine ts) done
+
+  target_fields_fine : (fs : TargetFields) (done : List RecordFieldPat)
+      → Correct (lower_target_fields done fs)
+      (Forms.Pushed done (TargetPlaces.FieldsPlace (λ turns ss m. run_field_places turns fs ss m)))
+  target_fields_fine tree.no_target_fields done = correct_as (correct_pure done)
+      (λ final ps m m' r g row. Forms.pushed_none done row.is (record { put = λ c le. TargetPlaces.put_nothing }))
+  target_fields_fine (tree.more_target_fields (tree.disabled_target_field at by) fs) done =
+      TargetPlaces.field_before (TargetPlaces.disabled_place at by) (target_fields_fine fs) done
+  target_fields_fine (tree.more_target_fields tree.partless_target_field fs) done =
+      TargetPlaces.field_before TargetPlaces.no_field (target_fields_fine fs) done
+  target_fields_fine (tree.more_target_fields (tree.target_field at None t) fs) done =
+      TargetPlaces.field_before (TargetPlaces.nameless_place at (any (target_fine t))) (target_fields_fine fs) done
+  target_fields_fine (tree.more_target_fields (tree.target_field at (Some n) t) fs) done =
+      TargetPlaces.field_before (TargetPlaces.field_place at n (target_fine t)) (target_fields_fine fs) done
 
   spread_fine : (s : Spread) → Correct (lower_spread s) (Typed.OthersAre (spread_form s) (λ turns. run_spread turns s))
   spread_fine tree.no_spread = correct_as (correct_pure spread.None)
@@ -111,6 +194,16 @@ mutual
       (λ o. stmts_fine t x hq ss (push_some done o)))
       (λ final ps m m' r g row. let s = row.first in let others = row.second in
       Forms.filled_expr t x e semi ss done s.value row.before row.after s.rel (rw s.is at others))
+  stmts_fine t x hq (tree.more_stmts (tree.disabled_stmt at by s) ss) done =
+      correct_as (correct_bind (correct_bind (correct_report (InactiveCode at by)) (λ u. correct_pure None))
+      (λ o. stmts_fine t x hq ss (push_some done o)))
+      (λ final ps m m' r g row. let others = row.second in
+      Forms.filled_nothing t x at by s ss done row.before (rw row.first.second.is at others))
+  stmts_fine t x hq (tree.more_stmts (tree.let_stmt p ty e b) ss) done =
+      correct_as (correct_bind (Patterned.let_stmt_fine p ty e b (initial_fine e) (else_fine b))
+      (λ o. stmts_fine t x hq ss (push_some done o)))
+      (λ final ps m m' r g row. let s = row.first in let others = row.second in
+      Forms.filled_let t x p ty e b ss done s.held row.before row.after s.rel (rw s.is at others))
   stmts_fine t x hq (tree.more_stmts tree.item_stmt ss) done =
       correct_as (stmts_fine t x hq ss (done ++ statement.Item ∷ []))
       (λ final ps m m' r g p. Forms.filled_item t x ss done p)

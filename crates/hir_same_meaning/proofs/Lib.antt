@@ -8,8 +8,13 @@ pub mod Strict
 pub mod Forms
 pub mod Families
 pub mod Typed
+pub mod Patterned
+pub mod TargetPlaces
+pub mod Ranges
 pub mod Induction
 pub mod Spread
+pub mod Owning
+pub mod OwningPats
 pub mod Owned
 pub mod Body
 pub mod Tree
@@ -19,6 +24,9 @@ pub mod HeldTypes
 pub mod HeldWalk
 pub mod HeldPaths
 pub mod HeldForms
+pub mod HeldPats
+pub mod HeldLimits
+pub mod HeldPatterned
 pub mod HeldTree
 pub mod Whole
 pub mod Computed

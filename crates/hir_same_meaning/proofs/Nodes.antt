@@ -1,7 +1,7 @@
 -- What each node of the store stands for, given what its parts stand for.
 use Rattle.std.proofs.Common.{◌≡◌, ℕ, Bool, if◌then◌else◌, List, [], ◌∷◌, Option, Some, None, refl, ap}
-use Rattle.hir_syntax.specs.declared.ast.LogicOp.{LogicOp}
-use Rattle.hir_syntax.specs.declared.ast.BinaryOp.TheVariants as ast
+use Rattle.hir_base.specs.declared.op.LogicOp.{LogicOp}
+use Rattle.hir_base.specs.declared.op.BinaryOp.TheVariants as ast
 use Rattle.hir_store.specs.Pointers.{Pointer}
 use Rattle.hir_store.specs.Stored.{Stored}
 use Rattle.hir_store.specs.declared.hir.Expr.TheVariants as hir
@@ -24,7 +24,7 @@ use Rattle.hir_steps.proofs.Steps.{Mark, Allocated}
 use Rattle.hir_same_meaning.proofs.Views.{Numbered, number, numbers, loop_frame, loop_numbers, count_break, count_continue}
 use Rattle.hir_same_meaning.proofs.Relation.{same_ends, same_pure, same_bind, same_tests, same_if, same_turns, same_loop}
 use Rattle.hir_same_meaning.proofs.Relation.{same_lazily, same_stop, same_block, same_plain_block, same_entering}
-use Rattle.hir_same_meaning.proofs.Senses.{Walk, one, optional, many, others, contents, Goes, goes_at}
+use Rattle.hir_same_meaning.proofs.Senses.{Walk, one, optional, many, others, present, contents, Goes, goes_at}
 
 module _ {labels : ℕ} {m m' : Mark} {at : Option Pointer} {final : Stored} {ps qs : List Frame} {i : ExprId} where
   pub goes_missing : Allocated hir.Missing at final qs m m' i → Goes labels m'.nodes one (λ turns ss. ends (leave missing)) final ps i
@@ -83,7 +83,7 @@ module _ {labels : ℕ} {m m' : Mark} {at : Pointer} {final : Stored} {ps qs : L
       (λ d le. let r = h.jumps d le in rw (loop_numbers n ps) at r)
 
   pub goes_plain_block : {r : List Statement × Option ExprId} {x : Walk Value} (is_unsafe : Bool) (number : Option BlockId)
-      → Goes labels m.nodes contents x final ps r
+      → Goes labels m.nodes (contents final) x final ps r
       → Allocated (hir.Block is_unsafe None number r.0 r.1) (Some at) final qs m m' i
       → Goes labels m'.nodes one (λ turns ss. entering is_unsafe number (Some (site_of at)) (x turns ss)) final ps i
   goes_plain_block is_unsafe number h a = goes_at a
@@ -92,7 +92,7 @@ module _ {labels : ℕ} {m m' : Mark} {at : Pointer} {final : Stored} {ps qs : L
 
   pub goes_block : {labels' : ℕ} {r : List Statement × Option ExprId} {x : Walk Value} (is_unsafe : Bool) (number : Option BlockId)
       (l : Label) (n : LabelId) → (Falls labels ps → Falls labels' (block_at l n ∷ ps))
-      → Goes labels' m.nodes contents x final (block_at l n ∷ ps) r
+      → Goes labels' m.nodes (contents final) x final (block_at l n ∷ ps) r
       → Allocated (hir.Block is_unsafe (Some n) number r.0 r.1) (Some at) final qs m m' i
       → Goes labels m'.nodes one (λ turns ss. entering is_unsafe number (Some (site_of at))
       (block outward continue_past_block (x turns (block_scope l ∷ ss)))) final ps i
@@ -120,6 +120,13 @@ module _ {labels nodes : ℕ} {final : Stored} {ps : List Frame} where
     same = λ turns d le f. same_bind (h.same turns d le f) (λ v. same_bind (hs.same turns d le f) (λ vs. same_pure (v ∷ vs)));
     jumps = λ d le. (h.jumps d le, hs.jumps d le);
   }
+
+  pub goes_absent : Goes labels nodes present (λ turns ss. pure []) final ps None
+  goes_absent = record { same = λ turns d le f. same_pure []; jumps = λ d le. tt }
+
+  pub goes_present : {x : Walk Value} {i : ExprId} → Goes labels nodes one x final ps i
+      → Goes labels nodes present (λ turns ss. x turns ss >>= (λ v. pure (v ∷ []))) final ps (Some i)
+  goes_present h = record { same = λ turns d le f. same_bind (h.same turns d le f) (λ v. same_pure (v ∷ [])); jumps = h.jumps }
 
   pub goes_no_others : Goes labels nodes others (λ turns ss. pure []) final ps spread.None
   goes_no_others = record { same = λ turns d le f. same_pure []; jumps = λ d le. tt }

@@ -1,415 +1,46 @@
 -- Each number is reached in one way, and the numbers of a part are those that its lowering gave out.
-use Rattle.std.proofs.Common.{◌≡◌, ℕ, zero, suc, ◌≤◌, inl, inr, Bool, true, false, List, [], ◌∷◌, ◌++◌, append-nil}
-use Rattle.std.proofs.Common.{append_assoc, Option, Some, None, option_map, refl, sym, ap, ◌∙◌, arith}
-use Rattle.hir_store.specs.Pointers.{Pointer}
-use Rattle.hir_store.specs.Stored.{Stored}
-use Rattle.hir_store.specs.declared.hir.Expr.{Expr as HirExpr}
+use Rattle.std.proofs.Common.{List, [], ◌∷◌, ◌++◌, Option, Some, None, refl}
 use Rattle.hir_store.specs.declared.hir.Expr.TheVariants as hir
-use Rattle.hir_store.specs.declared.hir.LoopSource.TheVariants as source
+use Rattle.hir_store.specs.declared.hir.MatchArm.{MatchArm}
 use Rattle.hir_store.specs.declared.hir.Statement.{Statement}
 use Rattle.hir_store.specs.declared.hir.Statement.TheVariants as statement
-use Rattle.hir_store.specs.declared.name.Name.{Name}
-use Rattle.hir_store.specs.declared.path.Path.{Path}
 use Rattle.hir_store.specs.declared.hir.RecordLitField.{RecordLitField}
-use Rattle.hir_store.specs.declared.hir.RecordSpread.{RecordSpread}
 use Rattle.hir_store.specs.declared.hir.RecordSpread.TheVariants as spread
 use Rattle.hir_store.specs.declared.ids.ExprId.{ExprId}
-use Rattle.hir_store.specs.declared.ids.LabelId.{LabelId}
-use Rattle.hir_store.specs.declared.ids.BlockId.{BlockId}
-use Rattle.hir_store.specs.declared.ids.HygieneId.{HygieneId}
-use Rattle.hir_store.specs.declared.ids.CfgId.{CfgId}
-use Rattle.hir_store.specs.declared.diagnostics.AwaitLocation.{AwaitLocation}
+use Rattle.hir_store.specs.declared.pat.RecordFieldPat.{RecordFieldPat}
 use Rattle.hir_store.specs.declared.diagnostics.ExpressionStoreDiagnostics.TheVariants.{InactiveCode}
 use Rattle.hir_env.specs.Answered as tree
-use Rattle.hir_env.specs.Answered.{Leaf, Unary, Binary, Listing, Leaving}
-use Rattle.hir_env.specs.Answered.{OptionType, OptionPath, OptionArgs, Label, Jump, Expr, OptionExpr, Exprs, Fields, Field}
-use Rattle.hir_env.specs.Answered.{Block, OptionBlock, Stmts}
-use Rattle.hir_lower_form.specs.Lowering.{Lowering, ◌>>=◌, pure, alloc_expr, report}
-use Rattle.hir_lower_form.specs.Lower.{ExprSteps, push_some, missing, some, if_form, loop_form, call_form, continue_form, break_form}
-use Rattle.hir_lower_form.specs.Lower.{paren_form, path_or_missing, path_form, lower_path, settled, settled_block, StoredContents}
-use Rattle.hir_lower_form.specs.Lower.{block_form}
-use Rattle.hir_lower_form.specs.Lower.{labelled, kept, lower, lower_part, present, kept_part, lower_each, lower_block, lower_block_part}
-use Rattle.hir_lower_form.specs.Lower.{StoredFields, type_part, args_part, cast_form, offset_of_form, record_contents, record_of}
-use Rattle.hir_lower_form.specs.Lower.{record_form, field_form, lower_fields, lower_field, lower_spread}
-use Rattle.hir_lower_form.specs.Lower.{lower_stmts, stored_leaf, stored_unary, stored_binary, stored_lazy, stored_leaving}
-use Rattle.hir_lower_form.specs.Lower.{operand_form, operands_form, value_form, list_form, method_call_form, await_form}
-use Rattle.hir_same_meaning.specs.Reached.{of_some, of_each, of_fields, of_others, of_statement, of_statements, below, reached_to, Spread}
-use Rattle.hir_steps.proofs.Frames.{Frame, loop_at, block_at}
-use Rattle.hir_steps.proofs.Steps.{Mark, Grows, Rel, Correct, Allocated, correct_bind, correct_as, correct_pure}
-use Rattle.hir_steps.proofs.Steps.{correct_report, correct_report_await, correct_point, correct_enter_block, correct_alloc}
-use Rattle.hir_steps.proofs.Steps.{correct_opened, correct_target, correct_point_field}
-use Rattle.hir_steps.proofs.Keeping.{type_any, args_any, lower_path_any}
-use Rattle.hir_same_meaning.proofs.Spread.{spread_none, spread_wider, spread_append, spread_node}
-use Rattle.hir_same_meaning.proofs.Forms.{Pushed, pushed_none, pushed_one, correct_statement}
+use Rattle.hir_env.specs.Answered.{Expr, OptionExpr, Exprs, Fields, Field, Block, OptionBlock, Stmts, Arms, Arm, Guard, Target, Targets}
+use Rattle.hir_env.specs.Answered.{TargetFields, TargetField}
+use Rattle.hir_lower_form.specs.Lowering.{Lowering, ◌>>=◌}
+use Rattle.hir_lower_form.specs.Lower.{push_some, lower, lower_part, present, kept_part, lower_each, lower_block, lower_block_part}
+use Rattle.hir_lower_form.specs.Lower.{lower_fields, lower_field, lower_spread, lower_stmts, lower_arms, lower_arm, lower_guard}
+use Rattle.hir_lower_form.specs.Lower.{lower_target, lower_targets, lower_target_fields, lower_target_field, present_block}
+use Rattle.hir_lower_form.specs.Lower.{stored_leaf, stored_unary, stored_binary, stored_lazy, stored_leaving}
+use Rattle.hir_lower_form.specs.Pats.{Elements, no_elements}
+use Rattle.hir_same_meaning.specs.Reached.{of_each, of_fields, of_others, of_arms}
+use Rattle.hir_steps.proofs.Keeping.{lower_path_any}
+use Rattle.hir_steps.proofs.Steps.{Correct, correct_bind, correct_as, correct_pure, correct_report}
+use Rattle.hir_same_meaning.proofs.Forms.{Pushed, pushed_none, correct_statement}
+use Rattle.hir_same_meaning.proofs.OwningPats as Pats
+use Rattle.hir_same_meaning.proofs.Owning.{OwnsAs, Owns, OwnsSome, owns_none, leaf_owns, missing_owns, none_owns, some_owns, leaf_below}
+use Rattle.hir_same_meaning.proofs.Owning.{unary_below, binary_below, leaving_below, of_field, contents_owns, operand_owns}
+use Rattle.hir_same_meaning.proofs.Owning.{operands_owns, value_owns, list_owns, method_call_owns, cast_owns, offset_of_owns, record_owns}
+use Rattle.hir_same_meaning.proofs.Owning.{field_owns, await_owns, nameless_owns, if_owns, call_owns, loop_owns, break_owns}
+use Rattle.hir_same_meaning.proofs.Owning.{continue_owns, paren_owns, path_owns, kept_owns, disabled_owns, each_more, fields_more}
+use Rattle.hir_same_meaning.proofs.Owning.{fields_own_all, Filled, filled_end, filled_silent, filled_expr, block_owns, each_owns_all}
+use Rattle.hir_same_meaning.proofs.Spread.{spread_none}
 
--- what was answered has its numbers
-
-pub record OwnsAs {A : Type 0} (numbers : (ExprId → List ℕ) → A → List ℕ)
-    (final : Stored) (ps : List Frame) (m m' : Mark) (a : A) : Type 0 where
-  pub spread : (d : ℕ) → m'.nodes ≤ d → Spread m.nodes m'.nodes (numbers (reached_to final.exprs.entries d) a)
-
-abbrev pub Owns : Rel ExprId
-Owns = OwnsAs (λ f i. f i)
-
-abbrev OwnsSome : Rel (Option ExprId)
-OwnsSome = OwnsAs of_some
-
-abbrev of_contents : (ExprId → List ℕ) → StoredContents → List ℕ
-of_contents f r = of_statements f r.0 ++ of_some f r.1
-
-owns_none : {A : Type 0} {numbers : (ExprId → List ℕ) → A → List ℕ} {final : Stored} {ps : List Frame} {m m' : Mark} (a : A)
-    → ((f : ExprId → List ℕ) → numbers f a ≡ []) → OwnsAs numbers final ps m m' a
-owns_none {m = m} {m' = m'} a e = record { spread = λ d le. rw (e _) (spread_none m.nodes m'.nodes) }
-
-owns_at : {e : HirExpr} {from : Option Pointer} {final : Stored} {ps qs : List Frame} (m : Mark) {m1 m' : Mark} {i : ExprId}
-    → Allocated e from final qs m1 m' i → m.nodes ≤ m1.nodes
-    → ((d : ℕ) → m1.nodes ≤ d → Spread m.nodes m1.nodes (below (reached_to final.exprs.entries d) e)) → Owns final ps m m' i
-unfolding reached_to
-owns_at {final = final} m {m1 = m1} {m' = m'} {i = i} at le h = record { spread = go }
-  where
-    go : (d : ℕ) → m'.nodes ≤ d → Spread m.nodes m'.nodes (reached_to final.exprs.entries d i)
-    go zero le' = absurd (omega (arith, at.next))
-    go (suc d) le' = rw (at.number, at.here, at.next) (spread_node m.nodes m1.nodes _ le (h d (omega (arith, at.next))))
-
--- forms
-
-leaf_owns : (e : HirExpr) (from : Option Pointer) → ((f : ExprId → List ℕ) → below f e ≡ []) → Correct (alloc_expr e from) Owns
-leaf_owns e from n = correct_as (correct_alloc e from)
-    (λ final ps m m' i g a. owns_at m a (omega arith) (λ d le. rw (n (reached_to final.exprs.entries d)) (spread_none m.nodes m.nodes)))
-
-missing_owns : Correct missing Owns
-unfolding missing
-missing_owns = leaf_owns hir.Missing None (λ f. refl)
-
-none_owns : Correct (pure None) OwnsSome
-none_owns = correct_as (correct_pure None) (λ final ps m m' o g row. rw row.is (owns_none None (λ f. refl)))
-
-some_owns : {p : ExprSteps} → Correct p Owns → Correct (some p) OwnsSome
-some_owns h = correct_as (correct_bind h (λ i. correct_pure (Some i)))
-    (λ final ps m m' o g row. rw (row.second.is, row.second.still) (record { spread = row.first.spread }))
-
--- a node of two parts, or lists of them
-owns2 : {A C : Type 0} {n : (ExprId → List ℕ) → A → List ℕ} {k : (ExprId → List ℕ) → C → List ℕ}
-    {p : Lowering A} {q : Lowering C} (e : A → C → HirExpr) (from : Option Pointer)
-    → ((f : ExprId → List ℕ) (a : A) (c : C) → below f (e a c) ≡ n f a ++ k f c)
-    → Correct p (OwnsAs n) → Correct q (OwnsAs k) → Correct (p >>= (λ a. q >>= (λ c. alloc_expr (e a c) from))) Owns
-owns2 e from is hp hq = correct_as (correct_bind hp (λ a. correct_bind hq (λ c. correct_alloc (e a c) from)))
-    (λ final ps m m' i g row. let r = row.second in
-    owns_at m r.second (omega arith) (λ d le. rw (is (reached_to final.exprs.entries d) row.one r.one)
-    (spread_append m.nodes r.middle.nodes (inl (omega arith)) (omega arith) (row.first.spread d (omega arith)) (r.first.spread d le))))
-
--- a node of one part, or of a list
-owns1 : {A : Type 0} {n : (ExprId → List ℕ) → A → List ℕ} {p : Lowering A} (e : A → HirExpr) (from : Option Pointer)
-    → ((f : ExprId → List ℕ) (a : A) → below f (e a) ≡ n f a)
-    → Correct p (OwnsAs n) → Correct (p >>= (λ a. alloc_expr (e a) from)) Owns
-owns1 e from is hp = correct_as (correct_bind hp (λ a. correct_alloc (e a) from))
-    (λ final ps m m' i g row.
-    owns_at m row.second (omega arith) (λ d le. rw (is (reached_to final.exprs.entries d) row.one) (row.first.spread d le)))
-
-leaf_below : (form : Leaf) (f : ExprId → List ℕ) → below f (stored_leaf form) ≡ []
-leaf_below tree.underscore f = refl
-leaf_below tree.include_bytes f = refl
-leaf_below tree.left_out f = refl
-
-unary_below : (form : Unary) (f : ExprId → List ℕ) (i : ExprId) → below f (stored_unary form i) ≡ f i
-unary_below (tree.field_of name) f i = refl
-unary_below (tree.prefix_of op) f i = refl
-unary_below (tree.reference_to rawness mutability) f i = refl
-
-binary_below : (form : Binary) (f : ExprId → List ℕ) (i j : ExprId) → below f (stored_binary form i j) ≡ f i ++ f j
-binary_below (tree.operator op) f i j = refl
-binary_below tree.index_of f i j = refl
-
-leaving_below : (form : Leaving) (f : ExprId → List ℕ) (o : Option ExprId) → below f (stored_leaving form o) ≡ of_some f o
-leaving_below tree.returning f o = refl
-leaving_below tree.yeeting f o = refl
-
-abbrev of_record : (ExprId → List ℕ) → StoredFields → List ℕ
-of_record f r = of_fields f r.0 ++ of_others f r.1
-
-abbrev of_field : (ExprId → List ℕ) → Option RecordLitField → List ℕ
-of_field f None = []
-of_field f (Some x) = f x.expr
-
-contents_owns : {p : Lowering (List RecordLitField)} {q : Lowering RecordSpread} → Correct p (OwnsAs of_fields)
-    → Correct q (OwnsAs of_others) → Correct (record_contents p q) (OwnsAs of_record)
-unfolding record_contents
-contents_owns hp hq = correct_as (correct_bind hp (λ fs. correct_bind hq (λ s. correct_pure (fs, s))))
-    (λ final ps m m' r g row. let s = row.second in rw s.second.is
-    (record {
-      spread = λ d le. spread_append m.nodes m'.nodes (inl (omega arith)) (omega arith)
-          (row.first.spread d (omega arith)) (s.first.spread d (omega arith));
-    }))
-
-module _ (at : Pointer) where
-  operand_owns : (make : ExprId → HirExpr) {p : ExprSteps} → ((f : ExprId → List ℕ) (i : ExprId) → below f (make i) ≡ f i) → Correct p Owns
-      → Correct (operand_form at make p) Owns
-  unfolding operand_form
-  operand_owns make is h = owns1 make (Some at) is h
-
-  operands_owns : (make : ExprId → ExprId → HirExpr) {p q : ExprSteps}
-      → ((f : ExprId → List ℕ) (i j : ExprId) → below f (make i j) ≡ f i ++ f j) → Correct p Owns → Correct q Owns
-      → Correct (operands_form at make p q) Owns
-  unfolding operands_form
-  operands_owns make is hp hq = owns2 make (Some at) is hp hq
-
-  value_owns : (make : Option ExprId → HirExpr) {p : Lowering (Option ExprId)}
-      → ((f : ExprId → List ℕ) (o : Option ExprId) → below f (make o) ≡ of_some f o) → Correct p OwnsSome
-      → Correct (value_form at make p) Owns
-  unfolding value_form
-  value_owns make is h = owns1 make (Some at) is h
-
-  list_owns : (form : Listing) {p : Lowering (List ExprId)} → Correct p (OwnsAs of_each) → Correct (list_form at form p) Owns
-  unfolding list_form
-  list_owns (tree.tuple_of false) h = owns1 hir.Tuple (Some at) (λ f es. refl) h
-  list_owns (tree.tuple_of true) h = correct_as
-      (correct_bind h (λ es. correct_bind missing_owns (λ first. correct_alloc (hir.Tuple (first ∷ es)) (Some at))))
-      (λ final ps m m' i g row. let r = row.second in
-      owns_at m r.second (omega arith) (λ d le. spread_append m.nodes r.middle.nodes (inr (omega arith)) (omega arith)
-      (r.first.spread d le) (row.first.spread d (omega arith))))
-  list_owns tree.array_of h = owns1 hir.Array (Some at) (λ f es. refl) h
-
-  method_call_owns : (name : Name) (g : OptionArgs) {p : ExprSteps} {q : Lowering (List ExprId)} → Correct p Owns
-      → Correct q (OwnsAs of_each) → Correct (method_call_form at p name q (args_part g)) Owns
-  unfolding method_call_form
-  method_call_owns name g hp hq = correct_as (correct_bind hp (λ e. correct_bind hq (λ es. correct_bind (args_any g)
-      (λ a. correct_alloc (hir.MethodCall e name a es) (Some at)))))
-      (λ final ps m m' i u row. let r = row.second in let s = r.second in
-      owns_at m s.second (omega arith) (λ d le. spread_append m.nodes s.middle.nodes (inl (omega arith)) (omega arith)
-      (row.first.spread d (omega arith)) (r.first.spread d (omega arith))))
-
-  -- the type reaches no expression
-  cast_owns : (t : OptionType) {p : ExprSteps} → Correct p Owns → Correct (cast_form at p (type_part None t)) Owns
-  unfolding cast_form
-  cast_owns t h = correct_as (correct_bind h (λ e. correct_bind (type_any None t) (λ i. correct_alloc (hir.Cast e i) (Some at))))
-      (λ final ps m m' i g row. let r = row.second in
-      owns_at m r.second (omega arith) (λ d le. spread_wider m.nodes r.middle.nodes (omega arith) (omega arith)
-      (row.first.spread d (omega arith))))
-
-  offset_of_owns : (t : OptionType) (names : List Name) → Correct (offset_of_form at (type_part None t) names) Owns
-  unfolding offset_of_form
-  offset_of_owns t names = correct_as (correct_bind (type_any None t) (λ i. correct_alloc (hir.OffsetOf i names) (Some at)))
-      (λ final ps m m' i g row. owns_at m row.second (omega arith) (λ d le. spread_none m.nodes row.middle.nodes))
-
-  record_of_owns : {c : Lowering StoredFields} → Correct c (OwnsAs of_record) → (p : Option Path) → Correct (record_of at c p) Owns
-  record_of_owns h None = missing_owns
-  record_of_owns h (Some p) = owns1 (λ r. hir.RecordLit p r.0 r.1) (Some at) (λ f r. refl) h
-
-  record_owns : (p : OptionPath) {c : Lowering StoredFields} → Correct c (OwnsAs of_record) → Correct (record_form at (lower_path p) c) Owns
-  unfolding record_form
-  record_owns p h = correct_as (correct_bind (lower_path_any p) (λ o. record_of_owns h o))
-      (λ final ps m m' i g row.
-      record { spread = λ d le. spread_wider m.nodes m'.nodes (omega arith) (omega arith) (row.second.spread d le) })
-
-  -- a field's value has its numbers
-  field_owns : (name : Name) {p : ExprSteps} → Correct p Owns → Correct (field_form at name p) (OwnsAs of_field)
-  unfolding field_form
-  field_owns name h = correct_as (correct_bind h (λ i. correct_bind (correct_point_field i at) (λ u. correct_pure _)))
-      (λ final ps m m' o g row. let r = row.second in rw r.second.is
-      (record { spread = λ d le. spread_wider m.nodes m'.nodes (omega arith) (omega arith) (row.first.spread d (omega arith)) }))
-
-  await_owns : (location : Option AwaitLocation) {p : ExprSteps} → Correct p Owns → Correct (await_form at location p) Owns
-  unfolding await_form
-  await_owns location h = correct_as
-      (correct_bind h (λ e. correct_bind (correct_report_await at location) (λ u. correct_alloc (hir.Await e) (Some at))))
-      (λ final ps m m' i g row. let r = row.second in
-      owns_at m r.second (omega arith) (λ d le. spread_wider m.nodes r.middle.nodes (omega arith) (omega arith)
-      (row.first.spread d (omega arith))))
-
-  -- a prefix without operator reaches nothing
-  nameless_owns : {p : ExprSteps} → Correct p Owns → Correct (operand_form at (λ i. hir.Missing) p) Owns
-  unfolding operand_form
-  nameless_owns h = correct_as (correct_bind h (λ e. correct_alloc hir.Missing (Some at)))
-      (λ final ps m m' i g row. owns_at m row.second (omega arith) (λ d le. spread_none m.nodes row.middle.nodes))
-
-  if_owns : {c t : ExprSteps} {e : Lowering (Option ExprId)} → Correct c Owns → Correct t Owns → Correct e OwnsSome
-      → Correct (if_form at c t e) Owns
-  unfolding if_form
-  if_owns hc ht he = correct_as
-      (correct_bind ht (λ i. correct_bind he (λ j. correct_bind hc (λ k. correct_alloc (hir.If k i j) (Some at)))))
-      (λ final ps m m' i g row. let r = row.second in let q = r.second in
-      owns_at m q.second (omega arith) (λ d le. spread_append m.nodes q.middle.nodes (inr (omega arith)) (omega arith) (q.first.spread d le)
-      (spread_append m.nodes r.middle.nodes (inl (omega arith)) (omega arith)
-      (row.first.spread d (omega arith)) (r.first.spread d (omega arith)))))
-
-  call_owns : {p : ExprSteps} {q : Lowering (List ExprId)} → Correct p Owns → Correct q (OwnsAs of_each) → Correct (call_form at p q) Owns
-  unfolding call_form
-  call_owns hf hs = owns2 hir.Call (Some at) (λ f g xs. refl) hf hs
-
-  loop_owns : (l : Option Label) {p : ExprSteps} → Correct p Owns → Correct (loop_form at l p) Owns
-  unfolding loop_form
-  loop_owns None h = correct_as (correct_bind h (λ i. correct_alloc (hir.Loop i None source.Loop) (Some at)))
-      (λ final ps m m' i g row. owns_at m row.second (omega arith) (λ d le. row.first.spread d le))
-  loop_owns (Some l) h = correct_as
-      (correct_opened loop_at l (λ n ps. refl) (λ n. h) (λ n i. correct_alloc (hir.Loop i (Some n) source.Loop) (Some at)))
-      (λ final ps m m' i g row. let e = row.nodes in let b = row.before in
-      owns_at m row.second (omega arith) (λ d le. spread_wider m.nodes row.left.nodes (omega arith) (omega arith) (row.first.spread d le)))
-
-  break_owns : (j : Option Jump) {p : Lowering (Option ExprId)} → Correct p OwnsSome → Correct (break_form at j p) Owns
-  unfolding break_form
-  break_owns j h = correct_as (correct_bind (correct_target j) (λ n. correct_bind h (λ e. correct_alloc (hir.Break n e) (Some at))))
-      (λ final ps m m' i g row. let r = row.second in
-      owns_at m r.second (omega arith) (λ d le. spread_wider m.nodes r.middle.nodes (omega arith) (omega arith) (r.first.spread d le)))
-
-  continue_owns : (j : Option Jump) → Correct (continue_form at j) Owns
-  unfolding continue_form
-  continue_owns j = correct_as (correct_bind (correct_target j) (λ n. correct_alloc (hir.Continue n) (Some at)))
-      (λ final ps m m' i g row. owns_at m row.second (omega arith) (λ d le. spread_none m.nodes row.middle.nodes))
-
-  paren_owns : {p : ExprSteps} → Correct p Owns → Correct (paren_form at p) Owns
-  unfolding paren_form
-  paren_owns h = correct_as (correct_bind h (λ i. correct_bind (correct_point at i) (λ _. correct_pure i)))
-      (λ final ps m m' i g row. rw row.second.second.is
-      (record { spread = λ d le. spread_wider m.nodes m'.nodes (omega arith) (omega arith) (row.first.spread d (omega arith)) }))
-
-path_below : (h : HygieneId) (p : Option Path) (f : ExprId → List ℕ) → below f (path_or_missing h p) ≡ []
-path_below h None f = refl
-path_below h (Some p) f = refl
-
-path_owns : (at : Pointer) (p : OptionPath) (h : HygieneId) → Correct (path_form at h (lower_path p)) Owns
-unfolding path_form
-path_owns at p h = correct_as (correct_bind (lower_path_any p) (λ r. correct_alloc (path_or_missing h r) (Some at)))
-    (λ final ps m m' i g row. owns_at m row.second (omega arith)
-    (λ d le. rw (path_below h row.one (reached_to final.exprs.entries d)) (spread_none m.nodes row.middle.nodes)))
-
--- what is kept, lists, statements
-
-kept_owns : (e : Expr) {p : ExprSteps} → Correct p Owns → Correct (kept e p) OwnsSome
-kept_owns (tree.disabled_expr at by e) h = correct_as (correct_bind (correct_report (InactiveCode at by)) (λ u. correct_pure None))
-    (λ final ps m m' o g row. rw row.second.is (owns_none None (λ f. refl)))
-kept_owns e h = correct_as (correct_bind h (λ i. correct_pure (Some i)))
-    (λ final ps m m' o g row. rw (row.second.is, row.second.still) (record { spread = row.first.spread }))
-
-disabled_owns : (at : Pointer) (by : CfgId) → Correct (report (InactiveCode at by) >>= (λ u. missing)) Owns
-disabled_owns at by = correct_as (correct_bind (correct_report (InactiveCode at by)) (λ u. missing_owns))
-    (λ final ps m m' i g row.
-    record { spread = λ d le. spread_wider m.nodes m'.nodes (omega arith) (omega arith) (row.second.spread d le) })
-
-each_more : {final : Stored} {ps : List Frame} {m m1 m' : Mark} {r : List ExprId} (done : List ExprId) (o : Option ExprId) → Grows m m1
-    → Grows m1 m'
-    → OwnsSome final ps m m1 o → Pushed (push_some done o) (OwnsAs of_each) final ps m1 m' r → Pushed done (OwnsAs of_each) final ps m m' r
-each_more {m = m} {m' = m'} done None g g' h p = record {
-  new = p.new;
-  is = p.is;
-  rel = record { spread = λ d le. spread_wider m.nodes m'.nodes (omega arith) (omega arith) (p.rel.spread d le) };
-}
-each_more {m = m} {m' = m'} done (Some i) g g' h p = record {
-  new = i ∷ p.new;
-  is = pushed_one done i p.new p.is;
-  rel = record {
-    spread = λ d le. spread_append m.nodes m'.nodes (inl (omega arith)) (omega arith) (h.spread d (omega arith)) (p.rel.spread d le);
-  };
-}
-
-fields_more : {final : Stored} {ps : List Frame} {m m1 m' : Mark} {r : List RecordLitField} (done : List RecordLitField)
-    (o : Option RecordLitField) → Grows m m1 → Grows m1 m' → OwnsAs of_field final ps m m1 o
-    → Pushed (push_some done o) (OwnsAs of_fields) final ps m1 m' r → Pushed done (OwnsAs of_fields) final ps m m' r
-fields_more {m = m} {m' = m'} done None g g' h p = record {
-  new = p.new;
-  is = p.is;
-  rel = record { spread = λ d le. spread_wider m.nodes m'.nodes (omega arith) (omega arith) (p.rel.spread d le) };
-}
-fields_more {m = m} {m' = m'} done (Some x) g g' h p = record {
-  new = x ∷ p.new;
-  is = pushed_one done x p.new p.is;
-  rel = record {
-    spread = λ d le. spread_append m.nodes m'.nodes (inl (omega arith)) (omega arith) (h.spread d (omega arith)) (p.rel.spread d le);
-  };
-}
-
-fields_own_all : {p : Lowering (List RecordLitField)} → Correct p (Pushed [] (OwnsAs of_fields)) → Correct p (OwnsAs of_fields)
-fields_own_all h = correct_as h (λ final ps m m' r g row. rw row.is row.rel)
-
--- the statements are pushed on those that stand
-record Filled (done : List Statement) (final : Stored) (ps : List Frame) (m m' : Mark) (r : StoredContents) : Type 0 where
-  new : List Statement
-  is : r.0 ≡ done ++ new
-  rel : OwnsAs of_contents final ps m m' (new, r.1)
-
-filled_end : {final : Stored} {ps : List Frame} {m m' : Mark} {r : StoredContents} (done : List Statement) (o : Option ExprId)
-    → r ≡ (done, o)
-    → OwnsSome final ps m m' o → Filled done final ps m m' r
-filled_end done o e h = rw e (record { new = []; is = sym (append-nil done); rel = record { spread = h.spread } })
-
-filled_silent : {final : Stored} {ps qs : List Frame} {m m' : Mark} {r : StoredContents} (s : Statement) (done : List Statement)
-    → ((f : ExprId → List ℕ) → of_statement f s ≡ [])
-    → Filled (done ++ s ∷ []) final qs m m' r → Filled done final ps m m' r
-filled_silent {final = final} s done n p = record {
-  new = s ∷ p.new;
-  is = pushed_one done s p.new p.is;
-  rel = record { spread = λ d le. rw (n (reached_to final.exprs.entries d)) (p.rel.spread d le) };
-}
-
-filled_expr : {final : Stored} {ps : List Frame} {m m1 m' : Mark} {r : StoredContents} (semi : Bool) (done : List Statement)
-    (o : Option ExprId)
-    → Grows m m1 → Grows m1 m'
-    → OwnsSome final ps m m1 o → Filled (push_some done (option_map (λ i. statement.Expr i semi) o)) final ps m1 m' r
-    → Filled done final ps m m' r
-filled_expr {m = m} {m' = m'} semi done None g g' h p = record {
-  new = p.new;
-  is = p.is;
-  rel = record { spread = λ d le. spread_wider m.nodes m'.nodes (omega arith) (omega arith) (p.rel.spread d le) };
-}
-filled_expr {final = final} {m = m} {m1 = m1} {m' = m'} {r = r} semi done (Some i) g g' h p = record {
-  new = statement.Expr i semi ∷ p.new;
-  is = pushed_one done (statement.Expr i semi) p.new p.is;
-  rel = record {
-    spread = λ d le. let f = reached_to final.exprs.entries d in
-        rw (append_assoc (f i) (of_statements f p.new) (of_some f r.1))
-        (spread_append m.nodes m'.nodes (inl (omega arith)) (omega arith) (h.spread d (omega arith)) (p.rel.spread d le));
-  };
-}
-
--- blocks
-
-one_below : (f : ExprId → List ℕ) (i : ExprId) (ss ss' : List Statement) (o o' : Option ExprId)
-    → of_statements f ss ++ of_some f o ≡ of_statements f ss' ++ of_some f o'
-    → (f i ++ of_statements f ss) ++ of_some f o ≡ (f i ++ of_statements f ss') ++ of_some f o'
-one_below f i ss ss' o o' e = append_assoc (f i) (of_statements f ss) (of_some f o)
-    ∙ ap (λ ks. f i ++ ks) e
-    ∙ sym (append_assoc (f i) (of_statements f ss') (of_some f o'))
-
-settled_below : (f : ExprId → List ℕ) (ss : List Statement) (o : Option ExprId)
-    → of_statements f (settled ss o).0 ++ of_some f (settled ss o).1 ≡ of_statements f ss ++ of_some f o
-settled_below f ss (Some i) = refl
-settled_below f [] None = refl
-settled_below f (statement.Item ∷ ss) None = settled_below f ss None
-settled_below f (statement.Expr i true ∷ ss) None = one_below f i (settled ss None).0 ss (settled ss None).1 None (settled_below f ss None)
-settled_below f (statement.Expr i false ∷ []) None = sym (append-nil (f i ++ []) ∙ append-nil (f i))
-settled_below f (statement.Expr i false ∷ (s ∷ ss)) None =
-    one_below f i (settled (s ∷ ss) None).0 (s ∷ ss) (settled (s ∷ ss) None).1 None (settled_below f (s ∷ ss) None)
-
-block_form_owns : (at : Pointer) (is_unsafe : Bool) (label : Option LabelId) (number : Option BlockId) {p : Lowering StoredContents}
-    → Correct p (Filled []) → Correct (block_form at is_unsafe label number p) Owns
-unfolding block_form
-block_form_owns at is_unsafe label number hp = correct_as
-    (correct_bind (correct_enter_block number)
-    (λ u. correct_bind hp (λ r. correct_alloc (settled_block is_unsafe label number (settled r.0 r.1)) (Some at))))
-    (λ final ps m m' i g row. let r = row.second in
-    owns_at m r.second (omega arith) (λ d le. rw (settled_below (reached_to final.exprs.entries d) r.one.0 r.one.1, r.first.is)
-    (spread_wider m.nodes r.middle.nodes (omega arith) (omega arith) (r.first.rel.spread d (omega arith)))))
-
-block_owns : (at : Pointer) (is_unsafe : Bool) (label : Option Label) (number : Option BlockId) {p : Lowering StoredContents}
-    → Correct p (Filled []) → Correct (labelled label (λ n. block_form at is_unsafe n number p)) Owns
-unfolding labelled
-block_owns at is_unsafe None number hp = block_form_owns at is_unsafe None number hp
-block_owns at is_unsafe (Some l) number hp = correct_as
-    (correct_opened block_at l (λ n ps. refl) (λ n. block_form_owns at is_unsafe (Some n) number hp) (λ n i. correct_pure i))
-    (λ final ps m m' i g row. let e = row.nodes in rw (row.second.is, row.second.still)
-    (record { spread = λ d le. spread_wider m.nodes row.left.nodes (omega arith) (omega arith) (row.first.spread d le) }))
-
-each_owns_all : {p : Lowering (List ExprId)} → Correct p (Pushed [] (OwnsAs of_each)) → Correct p (OwnsAs of_each)
-each_owns_all h = correct_as h (λ final ps m m' r g row. rw row.is row.rel)
-
--- a tree
+arms_own_all : {p : Lowering (List MatchArm)} → Correct p (Pushed [] (OwnsAs of_arms)) → Correct p (OwnsAs of_arms)
+arms_own_all h = correct_as h (λ final ps m m' r g row. rw row.is row.rel)
 
 mutual
   expr_owns : (e : Expr) → Correct (lower e) Owns
   expr_owns (tree.disabled_expr at by e) = disabled_owns at by
-  expr_owns (tree.literal_expr at l) = leaf_owns _ (Some at) (λ f. refl)
+  expr_owns (tree.literal_expr at l) = leaf_owns _ (Some at) (λ f s. refl)
   expr_owns (tree.path_expr at p h) = path_owns at p h
   expr_owns (tree.paren_expr at e) = paren_owns at (part_owns e)
-  expr_owns (tree.call_expr at f es) = call_owns at (part_owns f) (each_owns_all (each_owns es []))
+  expr_owns (tree.call_expr at f has_list es) = call_owns at (part_owns f) (each_owns_all (each_owns es []))
   expr_owns (tree.if_expr at c t e) = if_owns at (part_owns c) (block_part_owns t) (present_owns e)
   expr_owns (tree.loop_expr at label b) = loop_owns at label (block_part_owns b)
   expr_owns (tree.break_expr at jump e) = break_owns at jump (present_owns e)
@@ -418,18 +49,22 @@ mutual
   expr_owns (tree.leaf_expr at form) = leaf_owns (stored_leaf form) (Some at) (leaf_below form)
   expr_owns (tree.unary_expr at form e) = operand_owns at (stored_unary form) (unary_below form) (part_owns e)
   expr_owns (tree.binary_expr at form a b) = operands_owns at (stored_binary form) (binary_below form) (part_owns a) (part_owns b)
-  expr_owns (tree.lazy_expr at op a b) = operands_owns at (stored_lazy op) (λ f i j. refl) (part_owns a) (part_owns b)
+  expr_owns (tree.lazy_expr at op a b) = operands_owns at (stored_lazy op) (λ f s i j. refl) (part_owns a) (part_owns b)
   expr_owns (tree.list_expr at form es) = list_owns at form (each_owns_all (each_owns es []))
   expr_owns (tree.method_call_expr at e name es generics) =
       method_call_owns at name generics (part_owns e) (each_owns_all (each_owns es []))
   expr_owns (tree.cast_expr at e t) = cast_owns at t (part_owns e)
-  expr_owns (tree.record_expr at p fs s) = record_owns at p (contents_owns (fields_own_all (fields_own fs [])) (spread_owns s))
+  expr_owns (tree.record_expr at p head fs s) = record_owns at p (contents_owns (fields_own_all (fields_own fs [])) (spread_owns s))
   expr_owns (tree.offset_of_expr at t names) = offset_of_owns at t names
   expr_owns (tree.leaving_expr at form e) = value_owns at (stored_leaving form) (leaving_below form) (present_owns e)
-  expr_owns (tree.become_expr at e) = operand_owns at hir.Become (λ f i. refl) (part_owns e)
-  expr_owns (tree.yield_expr at e) = value_owns at hir.Yield (λ f o. refl) (present_owns e)
+  expr_owns (tree.become_expr at e) = operand_owns at hir.Become (λ f s i. refl) (part_owns e)
+  expr_owns (tree.yield_expr at e) = value_owns at hir.Yield (λ f s o. refl) (present_owns e)
   expr_owns (tree.await_expr at location e) = await_owns at location (part_owns e)
   expr_owns (tree.nameless_expr at e) = nameless_owns at (part_owns e)
+  expr_owns (tree.let_expr at p e) = Pats.let_owns at p (part_owns e)
+  expr_owns (tree.match_expr at e arms) = Pats.match_owns at (part_owns e) (arms_own_all (arms_own arms []))
+  expr_owns (tree.range_expr at form s e) = Pats.range_owns at form (present_owns s) (present_owns e)
+  expr_owns (tree.assign_expr at own target e) = Pats.assign_owns at (target_owns target) (part_owns e)
 
   pub part_owns : (e : OptionExpr) → Correct (lower_part e) Owns
   part_owns tree.no_expr = missing_owns
@@ -462,9 +97,58 @@ mutual
   one_field_owns : (f : Field) → Correct (lower_field f) (OwnsAs of_field)
   one_field_owns (tree.disabled_field at by f) = correct_as (correct_bind (correct_report (InactiveCode at by)) (λ u. correct_pure None))
       (λ final ps m m' o g row. rw row.second.is (owns_none None (λ f. refl)))
-  one_field_owns tree.nameless_field = correct_as (correct_pure None)
+  one_field_owns (tree.nameless_field at e) = correct_as (correct_pure None)
       (λ final ps m m' o g row. rw row.is (owns_none None (λ f. refl)))
   one_field_owns (tree.named_field at name e) = field_owns at name (part_owns e)
+
+  arms_own : (arms : Arms) (done : List MatchArm) → Correct (lower_arms done arms) (Pushed done (OwnsAs of_arms))
+  arms_own tree.no_arms done = correct_as (correct_pure done)
+      (λ final ps m m' r g row. pushed_none done row.is (owns_none [] (λ f. refl)))
+  arms_own (tree.more_arms a arms) done = correct_as (correct_bind (one_arm_owns a) (λ o. arms_own arms (push_some done o)))
+      (λ final ps m m' r g row. Pats.arms_more done row.one row.before row.after row.first row.second)
+
+  one_arm_owns : (a : Arm) → Correct (lower_arm a) (OwnsAs Pats.of_arm)
+  one_arm_owns (tree.disabled_arm at by a) = correct_as (correct_bind (correct_report (InactiveCode at by)) (λ u. correct_pure None))
+      (λ final ps m m' o g row. rw row.second.is (owns_none None (λ f. refl)))
+  one_arm_owns (tree.arm p e g) = Pats.arm_owns p (part_owns e) (guard_owns g)
+
+  guard_owns : (g : Guard) → Correct (lower_guard g) OwnsSome
+  guard_owns tree.no_guard = none_owns
+  guard_owns (tree.guard e) = some_owns (part_owns e)
+
+  target_owns : (t : Target) → Correct (lower_target t) Pats.OwnsPlaces
+  target_owns tree.absent_target = Pats.absent_owns
+  target_owns (tree.place_target at e) = Pats.place_owns at (expr_owns e)
+  target_owns (tree.wild_target at) = Pats.wild_owns at
+  target_owns (tree.path_target at p h) = Pats.path_target_owns (lower_path_any (tree.some_path p)) at h
+  target_owns (tree.tuple_target at ts) = Pats.tuple_target_owns at (targets_own ts no_elements)
+  target_owns (tree.call_target at p ts) = Pats.call_target_owns at (targets_own ts no_elements) (lower_path_any p)
+  target_owns (tree.array_target at before dots behind) =
+      Pats.array_target_owns at (targets_own before no_elements) dots (targets_own behind no_elements)
+  target_owns (tree.record_target at p fs dots spread) =
+      Pats.record_target_owns at dots spread (lower_path_any p) (target_fields_own fs [])
+
+  targets_own : (ts : Targets) (done : Elements) → Correct (lower_targets done ts) (Pats.ElementsOwn done)
+  targets_own tree.no_targets done = Pats.none_own done
+  targets_own (tree.more_targets t ts) done = Pats.more_own (target_owns t) (targets_own ts) done
+  targets_own (tree.dots_targets ts) done = Pats.dots_own (targets_own ts) done
+
+  target_fields_own : (fs : TargetFields) (done : List RecordFieldPat)
+      → Correct (lower_target_fields done fs) (Pushed done (Pats.OwnsIn Pats.of_target_fields))
+  target_fields_own tree.no_target_fields done = correct_as (correct_pure done)
+      (λ final ps m m' r g row. pushed_none done row.is (record { spread = λ c d le le'. spread_none m.nodes m'.nodes }))
+  target_fields_own (tree.more_target_fields f fs) done =
+      correct_as (correct_bind (one_target_field_owns f) (λ o. target_fields_own fs (push_some done o)))
+      (λ final ps m m' r g row. Pats.target_fields_more done row.one row.before row.after row.first row.second)
+
+  one_target_field_owns : (f : TargetField) → Correct (lower_target_field f) (Pats.OwnsIn Pats.of_target_field)
+  one_target_field_owns (tree.disabled_target_field at by) = Pats.disabled_field_owns at by
+  one_target_field_owns tree.partless_target_field = Pats.no_field_owns
+  one_target_field_owns (tree.target_field at n t) = Pats.target_field_owns at n (target_owns t)
+
+  else_owns : (b : OptionBlock) → Correct (present_block b) OwnsSome
+  else_owns tree.no_block = none_owns
+  else_owns (tree.some_block b) = some_owns (block_is_owns b)
 
   spread_owns : (s : tree.Spread) → Correct (lower_spread s) (OwnsAs of_others)
   spread_owns tree.no_spread = correct_as (correct_pure spread.None)
@@ -485,5 +169,14 @@ mutual
       (correct_bind (correct_statement semi (kept_part_owns e)) (λ o. stmts_owns hq ss (push_some done o)))
       (λ final ps m m' r g row. let s = row.first in let others = row.second in
       filled_expr semi done s.value row.before row.after s.rel (rw s.is at others))
+  stmts_owns hq (tree.more_stmts (tree.disabled_stmt at by s) ss) done = correct_as
+      (correct_bind (correct_bind (correct_report (InactiveCode at by)) (λ u. correct_pure None))
+      (λ o. stmts_owns hq ss (push_some done o)))
+      (λ final ps m m' r g row. let others = row.second in
+      Pats.filled_none done row.before row.after (rw row.first.second.is at others))
+  stmts_owns hq (tree.more_stmts (tree.let_stmt p t e b) ss) done = correct_as
+      (correct_bind (Pats.let_stmt_owns p t (present_owns e) (else_owns b)) (λ o. stmts_owns hq ss (push_some done o)))
+      (λ final ps m m' r g row. let s = row.first in let others = row.second in
+      Pats.filled_held done s.held row.before row.after s.rel (rw s.is at others))
   stmts_owns hq (tree.more_stmts tree.item_stmt ss) done = correct_as (stmts_owns hq ss (done ++ statement.Item ∷ []))
       (λ final ps m m' r g p. filled_silent {qs = ps} statement.Item done (λ f. refl) p)

@@ -1,12 +1,15 @@
 -- Runs of the store that go as runs of the syntax.
 use Rattle.std.proofs.Common.{◌≡◌, ℕ, zero, suc, Bool, true, false, if◌then◌else◌, List, [], ◌∷◌, Option, Some, None, refl, ap, ◌∙◌}
 use Rattle.std.proofs.Common.{subst, sym}
-use Rattle.hir_syntax.specs.declared.ast.LogicOp.{LogicOp}
-use Rattle.hir_syntax.specs.declared.ast.LogicOp.TheVariants as logic
+use Rattle.hir_base.specs.declared.op.LogicOp.{LogicOp}
+use Rattle.hir_base.specs.declared.op.LogicOp.TheVariants as logic
 use Rattle.hir_store.specs.declared.ids.BlockId.{BlockId}
+use Rattle.hir_store.specs.declared.ids.HygieneId.{HygieneId}
 use Rattle.hir_env.specs.NodeMap.{Site}
+use Rattle.hir_data.specs.Data.{PathData, path_data, item_path, OptionTypeData, PatData, pattern_site}
 use Rattle.hir_meaning.specs.Run.{Value, answered, unit, truth, Operation, enter, tuple, Test, test, Outcome, value, break, continue}
 use Rattle.hir_meaning.specs.Run.{Leave, leave, cut, World, ends, pure, after, ◌>>=◌, event, ask, tests, entering, made_tuple, lazily}
+use Rattle.hir_meaning.specs.Run.{item, read, matches, bound, assigned, tests_pattern, binds, assigns, read_path}
 use Rattle.hir_meaning.specs.Catching.{Step, again, done, Outward, turn_end, goes_on, loop, block, block_end}
 use Rattle.hir_scope.specs.Scopes.{Count, outward, continue_past_block}
 use Rattle.hir_meaning.specs.Syntax.{SyntaxRun}
@@ -74,6 +77,19 @@ module _ {ps : List Frame} where
 
   pub same_tests : (t : Test) (v : Value) (site : Option Site) → SameWhere ps (tests t v site) (tests t v site)
   same_tests t v site = same_bind (same_event (test t) (v ∷ []) site) (λ a. same_pure a.yes)
+
+  pub same_tests_pattern : (p : PatData) (v : Value) → SameWhere ps (tests_pattern p v) (tests_pattern p v)
+  same_tests_pattern p v = same_tests (matches p) v (pattern_site p)
+
+  pub same_binds : (p : PatData) (t : OptionTypeData) (vs : List Value) → SameWhere ps (binds p t vs) (binds p t vs)
+  same_binds p t vs = same_bind (same_event (bound p t) vs (pattern_site p)) (λ a. same_pure a.yes)
+
+  pub same_assigns : (p : PatData) (vs : List Value) (site : Option Site) → SameWhere ps (assigns p vs site) (assigns p vs site)
+  same_assigns p vs site = same_bind (same_event (assigned p) vs site) (λ a. same_pure unit)
+
+  pub same_read_path : (p : PathData) (h : HygieneId) (site : Option Site) → SameWhere ps (read_path p h site) (read_path p h site)
+  same_read_path (path_data k anchor ns bare) h site = same_ask (read (path_data k anchor ns bare) h) [] site
+  same_read_path (item_path i) h site = same_pure (item i)
 
   pub same_if : {A : Type 0} (b : Bool) {m m' : StoreRun A} {n n' : SyntaxRun A} → SameWhere ps m n → SameWhere ps m' n'
       → SameWhere ps (if b then m else m') (if b then n else n')

@@ -11,7 +11,7 @@ use Rattle.hir_env.specs.Answering.{site_of}
 use Rattle.hir_meaning.specs.Run.{Value}
 use Rattle.hir_scope.specs.Scopes.{Scope}
 use Rattle.hir_meaning.specs.Syntax.{SyntaxRun}
-use Rattle.hir_meaning.specs.Store.{StoreRun, run_or_unit, run_each, run_others, run_statements, run_stored, run_to}
+use Rattle.hir_meaning.specs.Store.{StoreRun, run_or_unit, run_each, run_others, run_present, run_statements, run_stored, run_to}
 use Rattle.hir_scope.specs.Each.{Each, IfPresent}
 use Rattle.hir_meaning.specs.Jumps.{EachStatement, OthersEnclosed, StoredEnclosed, EnclosedTo}
 use Rattle.hir_steps.proofs.Frames.{Frame, scopes, Falls, falls_more}
@@ -31,7 +31,7 @@ run_in final d turns = run_to (store_of final) (map_of final) d turns
 abbrev pub node_in : Stored → ℕ → ℕ → Expr → Option Site → StoreRun Value
 node_in final d turns e site = run_stored (store_of final) (map_of final) turns (run_in final d turns) e site
 
--- how numbers are read: one, an optional one, a list, what the other fields of a record come from, the contents of a block
+-- how numbers are read: one, an optional one, a list, what the other fields of a record come from
 pub record Reading (A B : Type 0) : Type 1 where
   pub run : ℕ → (ExprId → StoreRun Value) → A → StoreRun B
   pub Jumps : (ExprId → Type 0) → A → Type 0
@@ -48,13 +48,21 @@ many = record { run = run_each; Jumps = Each }
 abbrev pub others : Reading RecordSpread (List Value)
 others = record { run = run_others; Jumps = OthersEnclosed }
 
-abbrev pub contents : Reading (List Statement × Option ExprId) Value
-contents = record { run = λ turns part r. run_statements turns part r.0 r.1; Jumps = λ P r. EachStatement P r.0 × IfPresent P r.1 }
+-- an initializer, or an end of a range
+abbrev pub present : Reading (Option ExprId) (List Value)
+present = record { run = run_present; Jumps = IfPresent }
+
+-- the patterns of statements stand in a store
+abbrev pub contents : Stored → Reading (List Statement × Option ExprId) Value
+contents final = record {
+  run = λ turns part r. run_statements (store_of final) (map_of final) turns part r.0 r.1;
+  Jumps = λ P r. EachStatement P r.0 × IfPresent P r.1;
+}
 
 -- What stands at a is x, inside frames whose labels are below `labels`, where the store is looked into past `nodes`.
 pub record Goes {A B : Type 0} (labels nodes : ℕ) (r : Reading A B) (x : Walk B) (final : Stored) (ps : List Frame) (a : A) : Type 0 where
   pub same : (turns d : ℕ) → nodes ≤ d → Falls labels ps → SameWhere ps (r.run turns (run_in final d turns) a) (x turns (scopes ps))
-  pub jumps : (d : ℕ) → nodes ≤ d → r.Jumps (EnclosedTo final.exprs.entries d (numbers ps)) a
+  pub jumps : (d : ℕ) → nodes ≤ d → r.Jumps (EnclosedTo (store_of final) d (numbers ps)) a
 
 abbrev pub Runs : {A B : Type 0} → Reading A B → Walk B → Rel A
 Runs r x final ps m m' a = Goes m.labels m'.nodes r x final ps a
@@ -75,7 +83,7 @@ pub goes_at : {labels : ℕ} {m m' : Mark} {e : Expr} {source : Option Pointer} 
     {i : ExprId} → Allocated e source final qs m m' i
     → ((turns d : ℕ) → m.nodes ≤ d → Falls labels ps
     → SameWhere ps (node_in final d turns e (option_map site_of source)) (x turns (scopes ps)))
-    → ((d : ℕ) → m.nodes ≤ d → StoredEnclosed (EnclosedTo final.exprs.entries d) (numbers ps) e)
+    → ((d : ℕ) → m.nodes ≤ d → StoredEnclosed (store_of final) (EnclosedTo (store_of final) d) (numbers ps) e)
     → Goes labels m'.nodes one x final ps i
 unfolding run_to EnclosedTo
 goes_at {labels = labels} {m = m} {m' = m'} {x = x} {final = final} {ps = ps} {i = i} at same jumps =
@@ -85,6 +93,6 @@ goes_at {labels = labels} {m = m} {m' = m'} {x = x} {final = final} {ps = ps} {i
     at_depth turns zero le f = absurd (omega (arith, at.next))
     at_depth turns (suc d) le f = rw (at.number, at.here, at.from) (same turns d (omega (arith, at.next)) f)
 
-    jumps_at : (d : ℕ) → m'.nodes ≤ d → EnclosedTo final.exprs.entries d (numbers ps) i
+    jumps_at : (d : ℕ) → m'.nodes ≤ d → EnclosedTo (store_of final) d (numbers ps) i
     jumps_at zero le = tt
     jumps_at (suc d) le = rw (at.number, at.here) (jumps d (omega (arith, at.next)))

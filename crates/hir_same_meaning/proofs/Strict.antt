@@ -47,7 +47,7 @@ JumpsOf = List LabelId → ExprId → Type 0
 
 pub record Event0 (e : Expr) (o : Operation) : Type 1 where
   pub runs : (w : Where) → node_run w e ≡ ask o [] w.site
-  pub jumps : (P : JumpsOf) (ls : List LabelId) → StoredEnclosed P ls e
+  pub jumps : (s : Store) (P : JumpsOf) (ls : List LabelId) → StoredEnclosed s P ls e
 
 pub event0_fine : {e : Expr} {o : Operation} (at : Pointer) → Event0 e o
     → Correct (alloc_expr e (Some at)) (Runs one (λ turns ss. ask o [] (Some (site_of at))))
@@ -55,7 +55,7 @@ event0_fine {e = e} {o = o} at is = correct_as (correct_alloc e (Some at)) (λ f
     goes_at a
     (λ turns d le f. rw (is.runs (looked_into final d turns at))
     (same_ask o [] (Some (site_of at))))
-    (λ d le. is.jumps (EnclosedTo final.exprs.entries d) (numbers ps)))
+    (λ d le. is.jumps (store_of final) (EnclosedTo (store_of final) d) (numbers ps)))
 
 -- one operand, or one that may be absent, or a list of them
 
@@ -88,7 +88,7 @@ makes_tuple = record {
 
 pub record Form1 {A B : Type 0} (e : A → Expr) (r : Reading A B) (f : Finish B) : Type 1 where
   pub runs : (w : Where) (a : A) → node_run w (e a) ≡ r.run w.turns w.part a >>= (λ b. f.stored b w.site)
-  pub jumps : (P : JumpsOf) (ls : List LabelId) (a : A) → r.Jumps (P ls) a → StoredEnclosed P ls (e a)
+  pub jumps : (s : Store) (P : JumpsOf) (ls : List LabelId) (a : A) → r.Jumps (P ls) a → StoredEnclosed s P ls (e a)
 
 -- the walk of such a form
 abbrev pub finished : {B : Type 0} → Pointer → Walk B → Finish B → Walk Value
@@ -100,7 +100,7 @@ pub goes1 : {A B : Type 0} {e : A → Expr} {r : Reading A B} {f : Finish B} {x 
 goes1 {f = f} {at = at} {final = final} {ps = ps} {a = a} is h here = goes_at here
     (λ turns d le falls. rw (is.runs (looked_into final d turns at) a)
     (same_bind (h.same turns d le falls) (λ b. f.same ps b (Some (site_of at)))))
-    (λ d le. is.jumps (EnclosedTo final.exprs.entries d) (numbers ps) a (h.jumps d le))
+    (λ d le. is.jumps (store_of final) (EnclosedTo (store_of final) d) (numbers ps) a (h.jumps d le))
 
 pub form1_fine : {A B : Type 0} {e : A → Expr} {r : Reading A B} {f : Finish B} {p : Lowering A} {x : Walk B} (at : Pointer) → Form1 e r f
     → Correct p (Runs r x) → Correct (◌then◌ p (λ a. alloc_expr (e a) (Some at))) (Runs one (finished at x f))
@@ -113,7 +113,8 @@ pub record Event2 {A B C D : Type 0} (e : A → C → Expr) (r : Reading A B) (q
     (values : B → D → List Value) : Type 1 where
   pub runs : (w : Where) (a : A) (c : C)
       → node_run w (e a c) ≡ r.run w.turns w.part a >>= (λ b. q.run w.turns w.part c >>= (λ d. ask o (values b d) w.site))
-  pub jumps : (P : JumpsOf) (ls : List LabelId) (a : A) (c : C) → r.Jumps (P ls) a × q.Jumps (P ls) c → StoredEnclosed P ls (e a c)
+  pub jumps : (s : Store) (P : JumpsOf) (ls : List LabelId) (a : A) (c : C) → r.Jumps (P ls) a × q.Jumps (P ls) c
+      → StoredEnclosed s P ls (e a c)
 
 pub event2_fine : {A B C D : Type 0} {e : A → C → Expr} {r : Reading A B} {q : Reading C D} {o : Operation} {values : B → D → List Value}
     {p : Lowering A} {s : Lowering C} {x : Walk B} {y : Walk D} (at : Pointer) → Event2 e r q o values
@@ -129,4 +130,4 @@ event2_fine {e = e} {r = r} {q = q} {o = o} {values = values} at is hp hs = corr
     goes_at rest.second
     (λ turns d le f. rw (is.runs (looked_into final d turns at) row.one rest.one)
     (same_bind (h.same turns d le f) (λ b. same_bind (k.same turns d le f) (λ v. same_ask o (values b v) (Some (site_of at))))))
-    (λ d le. is.jumps (EnclosedTo final.exprs.entries d) (numbers ps) row.one rest.one (h.jumps d le, k.jumps d le)))
+    (λ d le. is.jumps (store_of final) (EnclosedTo (store_of final) d) (numbers ps) row.one rest.one (h.jumps d le, k.jumps d le)))

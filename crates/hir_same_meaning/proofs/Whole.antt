@@ -11,5 +11,5 @@ pub headline : Headline
 unfolding inner_bodies
 headline e b b' i l final x = let r = of_body (part_fine e) l x in let s = of_body (body_holds e) l x in record {
   body = body_is [] r.rel r.nodes tt refl;
-  inner = s.rel.same _ (omega (arith, s.nodes, s.types));
+  inner = s.rel.same _ (omega (arith, s.nodes, s.entries));
 }

@@ -1,17 +1,20 @@
 -- Which numbers a stored body reaches, and that it reaches each in one way only.
 use Rattle.std.specs.Prelude.{◌≢◌, ℕ, zero, suc, ◌<◌, ◌≤◌, length, map, List, [], ◌∷◌, ◌++◌, Option, Some, None, slice_get}
+use Rattle.hir_store.specs.Stored.{Store, store_of}
 use Rattle.hir_store.specs.declared.hir.Expr.{Expr}
 use Rattle.hir_store.specs.declared.hir.Expr.TheVariants as hir
+use Rattle.hir_store.specs.declared.hir.MatchArm.{MatchArm}
 use Rattle.hir_store.specs.declared.hir.Statement.{Statement}
 use Rattle.hir_store.specs.declared.hir.Statement.TheVariants as statement
 use Rattle.hir_store.specs.declared.hir.RecordLitField.{RecordLitField}
 use Rattle.hir_store.specs.declared.hir.RecordSpread.{RecordSpread}
 use Rattle.hir_store.specs.declared.hir.RecordSpread.TheVariants as spread
 use Rattle.hir_store.specs.declared.ids.ExprId.{ExprId}
+use Rattle.hir_meaning.specs.Places.{places}
 use Rattle.hir_scope.specs.Each.{Each}
 use Rattle.hir_same_meaning.specs.Headline.{InLaterStores}
 
--- the numbers that are reached, one for each way
+-- The numbers that are reached by running, one for each way. Of a pattern the places of what is assigned to run, the rest is data.
 
 module _ (f : ExprId → List ℕ) where
   abbrev pub of_some : Option ExprId → List ℕ
@@ -32,48 +35,57 @@ module _ (f : ExprId → List ℕ) where
   abbrev pub of_statement : Statement → List ℕ
   of_statement statement.Item = []
   of_statement (statement.Expr i semi) = f i
+  of_statement (statement.Let p t e b) = of_some e ++ of_some b
+
+  abbrev pub of_arms : List MatchArm → List ℕ
+  of_arms [] = []
+  of_arms (a ∷ arms) = (f a.expr ++ of_some a.guard) ++ of_arms arms
 
   abbrev pub of_statements : List Statement → List ℕ
   of_statements [] = []
   of_statements (s ∷ ss) = of_statement s ++ of_statements ss
 
-  abbrev pub below : Expr → List ℕ
-  below hir.Missing = []
-  below (hir.Literal l) = []
-  below (hir.Path p h) = []
-  below (hir.Call g xs) = f g ++ of_each xs
-  below (hir.If c t e) = f c ++ (f t ++ of_some e)
-  below (hir.Loop b l source) = f b
-  below (hir.Block is_unsafe l number ss tail) = of_statements ss ++ of_some tail
-  below (hir.Break l e) = of_some e
-  below (hir.Continue l) = []
-  below hir.Underscore = []
-  below hir.IncludeBytes = []
-  below (hir.Field e name) = f e
-  below (hir.UnaryOp op e) = f e
-  below (hir.Ref rawness mutability e) = f e
-  below (hir.Await e) = f e
-  below (hir.Become e) = f e
-  below (hir.BinaryOp op a b) = f a ++ f b
-  below (hir.Index a b) = f a ++ f b
-  below (hir.Tuple es) = of_each es
-  below (hir.Array es) = of_each es
-  below (hir.MethodCall e name generics es) = f e ++ of_each es
-  below (hir.Cast e t) = f e
-  below (hir.RecordLit p fields others) = of_fields fields ++ of_others others
-  below (hir.OffsetOf t names) = []
-  below (hir.Return e) = of_some e
-  below (hir.Yeet e) = of_some e
-  below (hir.Yield e) = of_some e
+  module _ (store : Store) where
+    abbrev pub below : Expr → List ℕ
+    below hir.Missing = []
+    below (hir.Literal l) = []
+    below (hir.Path p h) = []
+    below (hir.Call g xs) = f g ++ of_each xs
+    below (hir.If c t e) = f c ++ (f t ++ of_some e)
+    below (hir.Loop b l source) = f b
+    below (hir.Block is_unsafe l number ss tail) = of_statements ss ++ of_some tail
+    below (hir.Break l e) = of_some e
+    below (hir.Continue l) = []
+    below hir.Underscore = []
+    below hir.IncludeBytes = []
+    below (hir.Field e name) = f e
+    below (hir.UnaryOp op e) = f e
+    below (hir.Ref rawness mutability e) = f e
+    below (hir.Await e) = f e
+    below (hir.Become e) = f e
+    below (hir.BinaryOp op a b) = f a ++ f b
+    below (hir.Index a b) = f a ++ f b
+    below (hir.Tuple es) = of_each es
+    below (hir.Array es) = of_each es
+    below (hir.MethodCall e name generics es) = f e ++ of_each es
+    below (hir.Cast e t) = f e
+    below (hir.RecordLit p fields others) = of_fields fields ++ of_others others
+    below (hir.OffsetOf t names) = []
+    below (hir.Return e) = of_some e
+    below (hir.Yeet e) = of_some e
+    below (hir.Yield e) = of_some e
+    below (hir.Let p e) = f e
+    below (hir.Match e arms) = f e ++ of_arms arms
+    below (hir.Assignment t v) = of_each (places store t []) ++ f v
 
-  abbrev pub below_found : Option Expr → List ℕ
-  below_found None = []
-  below_found (Some e) = below e
+    abbrev pub below_found : Option Expr → List ℕ
+    below_found None = []
+    below_found (Some e) = below e
 
 -- so deep
-unfoldable pub reached_to : List Expr → ℕ → ExprId → List ℕ
-reached_to exprs zero i = []
-reached_to exprs (suc depth) i = i.0 ∷ below_found (reached_to exprs depth) (slice_get exprs i.0)
+unfoldable pub reached_to : Store → ℕ → ExprId → List ℕ
+reached_to store zero i = []
+reached_to store (suc depth) i = i.0 ∷ below_found (reached_to store depth) store (slice_get store.exprs i.0)
 
 -- each in one way, and in a range
 
@@ -93,4 +105,4 @@ pub record Spread (lo hi : ℕ) (ks : List ℕ) : Type 0 where
 abbrev pub ReachedOnce : Type 0
 ReachedOnce = InLaterStores (λ e b i b' final.
     (depth : ℕ) → length final.exprs.entries ≤ depth
-    → Spread (length b.stored.exprs.entries) (length b'.stored.exprs.entries) (reached_to final.exprs.entries depth i))
+    → Spread (length b.stored.exprs.entries) (length b'.stored.exprs.entries) (reached_to (store_of final) depth i))

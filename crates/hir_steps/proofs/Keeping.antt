@@ -6,6 +6,9 @@ use Rattle.hir_store.specs.declared.hir.Expr.{Expr as HirExpr}
 use Rattle.hir_store.specs.declared.hir.Statement.{Statement}
 use Rattle.hir_store.specs.declared.hir.RecordLitField.{RecordLitField}
 use Rattle.hir_store.specs.declared.hir.RecordSpread.{RecordSpread}
+use Rattle.hir_store.specs.declared.hir.MatchArm.{MatchArm}
+use Rattle.hir_store.specs.declared.pat.RecordFieldPat.{RecordFieldPat}
+use Rattle.hir_store.specs.declared.ids.PatId.{PatId}
 use Rattle.hir_store.specs.declared.path.GenericArgs.{GenericArgs}
 use Rattle.hir_store.specs.declared.name.Name.{Name}
 use Rattle.hir_store.specs.declared.path.Path.{Path}
@@ -16,7 +19,8 @@ use Rattle.hir_store.specs.declared.ids.BlockId.{BlockId}
 use Rattle.hir_store.specs.declared.ids.HygieneId.{HygieneId}
 use Rattle.hir_env.specs.Answered as tree
 use Rattle.hir_env.specs.Answered.{Listing, Label, Jump, Expr, OptionExpr, Exprs, Fields, Field, Spread, Block, OptionBlock}
-use Rattle.hir_env.specs.Answered.{Stmts, Stmt}
+use Rattle.hir_env.specs.Answered.{Stmts, Stmt, Arms, Arm, Guard, Pat, OptionPat, Pats, PatFields, PatField, Side, OptionTypePat}
+use Rattle.hir_env.specs.Answered.{TypePat, TypePats, Limit, Target, Targets, TargetFields, TargetField}
 use Rattle.hir_env.specs.Answered.{Binder, Type_, OptionType, Parts, Path as TreePath, OptionPath, Segments, Segment, SegmentArgs}
 use Rattle.hir_env.specs.Answered.{OptionParens, OptionRet, OptionArgs, Args, Arg, Bounds, Bound, Constant}
 use Rattle.hir_store.specs.declared.ids.TypeRefId.{TypeRefId}
@@ -38,10 +42,21 @@ use Rattle.hir_lower_form.specs.Lower.{StoredFields, cast_form, offset_of_form, 
 use Rattle.hir_lower_form.specs.Lower.{lower_fields, lower_field, lower_spread}
 use Rattle.hir_lower_form.specs.Lower.{method_call_form, await_form, block_form, labelled, kept, lower, lower_part}
 use Rattle.hir_lower_form.specs.Lower.{present, kept_part, lower_each, lower_block, lower_block_part, lower_stmts}
-use Rattle.hir_lower_form.specs.Lower.{lower_stmt}
+use Rattle.hir_lower_form.specs.Lower.{lower_stmt, present_block, lower_arms, lower_arm, lower_guard, lower_top, lower_pat, pat_part}
+use Rattle.hir_lower_form.specs.Lower.{present_pat, lower_pats, lower_elements, lower_alternatives, lower_later, lower_pat_fields}
+use Rattle.hir_lower_form.specs.Lower.{lower_pat_field, lower_side, lower_type_pat_part, lower_type_pat, lower_type_pats, lower_limit}
+use Rattle.hir_lower_form.specs.Lower.{limit_side, lower_target, lower_targets, lower_target_fields, lower_target_field}
+use Rattle.hir_lower_form.specs.Pats.{Table, no_names, next_alternative, Elements, no_elements, is_dots}
 use Rattle.hir_steps.specs.Keeps.{Keeps, Keeping, PathsKeep, TypesKeep}
 use Rattle.hir_steps.proofs.Frames.{Frame, loop_at, block_at, frames, ribs_frames}
 use Rattle.hir_steps.proofs.Constants.{correct_constant}
+use Rattle.hir_steps.proofs.PatAny.{alone_any, arm_any, array_target_any, assign_any, before_any, bind_any, call_target_any, element_any}
+use Rattle.hir_steps.proofs.PatAny.{inner_any, item_any, let_any, let_stmt_any, limits_any, literal_limit_any, literal_pat_any}
+use Rattle.hir_steps.proofs.PatAny.{literal_side_any, match_any, missing_pat_any, name_limit_any, name_side_any, or_any, over_pat_any}
+use Rattle.hir_steps.proofs.PatAny.{pat_field_any, path_limit_any, path_pat_any, path_side_any, path_target_any, pattern_type_any}
+use Rattle.hir_steps.proofs.PatAny.{place_target_any, range_any, range_pat_any, record_pat_any, record_target_any, settle_any}
+use Rattle.hir_steps.proofs.PatAny.{slice_pat_any, stored_pat_any, target_field_any, tuple_pat_any, tuple_struct_any, tuple_target_any}
+use Rattle.hir_steps.proofs.PatAny.{type_alternatives_any}
 pub use Rattle.hir_steps.proofs.TypeAny.{Any, any}
 use Rattle.hir_steps.proofs.TypeAny.{args_form_any, array_any, binding_any, counted_any, dyn_any, error_any, fn_any, impl_any}
 use Rattle.hir_steps.proofs.TypeAny.{lifetime_any, lifetime_option_any, over_any, parens_form_any, path_bound_any, path_type_any}
@@ -173,12 +188,13 @@ mutual
   one_type_any b (tree.impl_type at mode bs) = impl_any at mode (bounds_any [] bs)
   one_type_any b (tree.nested_impl at) = stored_type_any _ _
   one_type_any b (tree.dyn_type at bs) = dyn_any at (bounds_any [] bs)
+  one_type_any b (tree.pattern_type at t q p) = pattern_type_any at (type_any None t) (type_pat_part_any p)
 
   pub type_any : (b : Option Binder) (t : OptionType) → Correct (type_part b t) Any
   type_any b tree.no_type = error_any
   type_any b (tree.some_type t) = one_type_any b t
 
-  present_type_any : (t : OptionType) → Correct (present_type t) Any
+  pub present_type_any : (t : OptionType) → Correct (present_type t) Any
   present_type_any tree.no_type = pure_any None
   present_type_any (tree.some_type t) = then_any (one_type_any None t) (λ i. pure_any (Some i))
 
@@ -273,7 +289,7 @@ mutual
   node_any (tree.if_expr at c t e) = if_any at (part_any c) (block_part_any t) (present_any e)
   node_any (tree.block_expr b) = block_any b
   node_any (tree.loop_expr at label b) = loop_any at label (block_part_any b)
-  node_any (tree.call_expr at f es) = call_any at (part_any f) (each_any [] es)
+  node_any (tree.call_expr at f has_list es) = call_any at (part_any f) (each_any [] es)
   node_any (tree.path_expr at p h) = path_any at h (lower_path_any p)
   node_any (tree.continue_expr at jump) = continue_any at jump
   node_any (tree.break_expr at jump e) = break_any at jump (present_any e)
@@ -287,13 +303,17 @@ mutual
   node_any (tree.method_call_expr at e name es generics) =
       method_call_any at name (part_any e) (each_any [] es) (args_any generics)
   node_any (tree.cast_expr at e t) = cast_any at (part_any e) (type_any None t)
-  node_any (tree.record_expr at p fs s) = record_any at (lower_path_any p) (contents_any (fields_any [] fs) (spread_any s))
+  node_any (tree.record_expr at p head fs s) = record_any at (lower_path_any p) (contents_any (fields_any [] fs) (spread_any s))
   node_any (tree.offset_of_expr at t names) = offset_of_any at names (type_any None t)
   node_any (tree.leaving_expr at form e) = value_any at _ (present_any e)
   node_any (tree.become_expr at e) = operand_any at _ (part_any e)
   node_any (tree.yield_expr at e) = value_any at _ (present_any e)
   node_any (tree.await_expr at location e) = await_any at location (part_any e)
   node_any (tree.nameless_expr at e) = operand_any at _ (part_any e)
+  node_any (tree.let_expr at p e) = let_any at (top_any p) (part_any e)
+  node_any (tree.match_expr at e arms) = match_any at (part_any e) (arms_any [] arms)
+  node_any (tree.range_expr at form s e) = range_any at form (present_any s) (present_any e)
+  node_any (tree.assign_expr at own t v) = assign_any at (target_any t) (part_any v)
 
   pub part_any : (e : OptionExpr) → Correct (lower_part e) Any
   part_any tree.no_expr = missing_any
@@ -317,7 +337,7 @@ mutual
 
   one_field_any : (f : Field) → Correct (lower_field f) Any
   one_field_any (tree.disabled_field at by f) = then_any (any (correct_report _)) (λ u. any (correct_pure None))
-  one_field_any tree.nameless_field = any (correct_pure None)
+  one_field_any (tree.nameless_field at e) = any (correct_pure None)
   one_field_any (tree.named_field at name e) = field_any at name (part_any e)
 
   pub spread_any : (s : Spread) → Correct (lower_spread s) Any
@@ -340,7 +360,144 @@ mutual
 
   stmt_any : (s : Stmt) → Correct (lower_stmt s) Any
   stmt_any (tree.expr_stmt e semi) = then_any (kept_part_any e) (λ x. any (correct_pure _))
+  stmt_any (tree.disabled_stmt at by s) = then_any (any (correct_report _)) (λ u. any (correct_pure None))
   stmt_any tree.item_stmt = any (correct_pure _)
+  stmt_any (tree.let_stmt p t e b) = let_stmt_any (top_any p) (present_type_any t) (present_any e) (present_block_any b)
+
+  present_block_any : (b : OptionBlock) → Correct (present_block b) Any
+  present_block_any tree.no_block = pure_any None
+  present_block_any (tree.some_block b) = some_any (block_any b)
+
+  pub arms_any : (done : List MatchArm) (arms : Arms) → Correct (lower_arms done arms) Any
+  arms_any done tree.no_arms = pure_any done
+  arms_any done (tree.more_arms a arms) = then_any (one_arm_any a) (λ x. arms_any _ arms)
+
+  one_arm_any : (a : Arm) → Correct (lower_arm a) Any
+  one_arm_any (tree.disabled_arm at by a) = then_any (any (correct_report _)) (λ u. pure_any None)
+  one_arm_any (tree.arm p e g) = arm_any (top_any p) (part_any e) (guard_any g)
+
+  guard_any : (g : Guard) → Correct (lower_guard g) Any
+  guard_any tree.no_guard = pure_any None
+  guard_any (tree.guard e) = some_any (part_any e)
+
+  -- patterns
+
+  pub top_any : (p : OptionPat) → Correct (lower_top p) Any
+  top_any tree.no_pat = missing_pat_any
+  top_any (tree.some_pat p) = then_any (pat_any p no_names) (λ r. then_any (settle_any r.1) (λ u. pure_any r.0))
+
+  pat_any : (p : Pat) (t : Table) → Correct (lower_pat p t) Any
+  pat_any (tree.leaf_pat at form) t = alone_any (stored_pat_any _ (Some at)) t
+  pat_any (tree.bind_pat at u p) t = bind_any at u (present_pat_any p) t
+  pat_any (tree.name_pat at u) t = alone_any (stored_pat_any _ (Some at)) t
+  pat_any (tree.path_pat at p) t = alone_any (path_pat_any at (lower_path_any p)) t
+  pat_any (tree.tuple_struct_pat at p comma ps) t = tuple_struct_any at comma (elements_part_any no_elements ps) (lower_path_any p) t
+  pat_any (tree.tuple_pat at comma ps) t = tuple_pat_any at comma (elements_part_any no_elements ps) t
+  pat_any (tree.record_pat at p fs dots) t = record_pat_any at dots (pat_fields_any [] fs) (lower_path_any p) t
+  pat_any (tree.or_pat at ps) t = alternatives_any at ps t
+  pat_any (tree.paren_pat at p) t = pat_part_any p t
+  pat_any (tree.slice_pat at before p behind) t =
+      slice_pat_any at (pats_any [] before) (present_pat_any p) (pats_any [] behind) t
+  pat_any (tree.over_pat at form p) t = over_pat_any at form (pat_part_any p) t
+  pat_any (tree.literal_pat at own l) t = alone_any (literal_pat_any at own l) t
+  pat_any (tree.range_pat at op s e) t = alone_any (range_pat_any at op (side_any s) (side_any e)) t
+
+  pat_part_any : (p : OptionPat) (t : Table) → Correct (pat_part p t) Any
+  pat_part_any tree.no_pat t = alone_any missing_pat_any t
+  pat_part_any (tree.some_pat p) t = pat_any p t
+
+  present_pat_any : (p : OptionPat) (t : Table) → Correct (present_pat p t) Any
+  present_pat_any tree.no_pat t = pure_any _
+  present_pat_any (tree.some_pat p) t = then_any (pat_any p t) (λ r. pure_any _)
+
+  pats_any : (done : List PatId) (ps : Pats) (t : Table) → Correct (lower_pats done ps t) Any
+  pats_any done tree.no_pats t = pure_any _
+  pats_any done (tree.more_pats p ps) t = then_any (pat_any p t) (λ r. pats_any _ ps r.1)
+
+  elements_part_any : (done : Elements) (ps : Pats) (t : Table) → Correct (lower_elements done ps t) Any
+  elements_part_any done tree.no_pats t = pure_any _
+  elements_part_any done (tree.more_pats p ps) t =
+      then_any (element_any (is_dots p) done (pat_any p) t) (λ r. elements_part_any r.0 ps r.1)
+
+  alternatives_any : (at : Pointer) (ps : Pats) (t : Table) → Correct (lower_alternatives at ps t) Any
+  alternatives_any at tree.no_pats t = alone_any (stored_pat_any _ (Some at)) t
+  alternatives_any at (tree.more_pats p ps) t = or_any at (pat_any p) (later_any ps) t
+
+  later_any : (ps : Pats) (done : List PatId) (t : Table) → Correct (lower_later ps done t) Any
+  later_any tree.no_pats done t = pure_any _
+  later_any (tree.more_pats p ps) done t = then_any (pat_any p (next_alternative t)) (λ r. later_any ps _ r.1)
+
+  pat_fields_any : (done : List RecordFieldPat) (fs : PatFields) (t : Table) → Correct (lower_pat_fields done fs t) Any
+  pat_fields_any done tree.no_pat_fields t = pure_any _
+  pat_fields_any done (tree.more_pat_fields f fs) t = then_any (one_pat_field_any f t) (λ r. pat_fields_any _ fs r.1)
+
+  one_pat_field_any : (f : PatField) (t : Table) → Correct (lower_pat_field f t) Any
+  one_pat_field_any (tree.disabled_pat_field at by f) t = then_any (any (correct_report _)) (λ u. pure_any _)
+  one_pat_field_any tree.partless_pat_field t = pure_any _
+  one_pat_field_any (tree.pat_field at n p) t = pat_field_any at n (pat_any p) t
+
+  side_any : (s : Side) → Correct (lower_side s) Any
+  side_any tree.no_side = pure_any None
+  side_any (tree.literal_side at l) = literal_side_any at l
+  side_any (tree.name_side at n) = name_side_any at n
+  side_any (tree.path_side at p) = path_side_any at (lower_path_any p)
+  side_any tree.other_side = pure_any None
+
+  -- patterns of types
+
+  type_pat_part_any : (p : OptionTypePat) → Correct (lower_type_pat_part p) Any
+  type_pat_part_any tree.no_type_pat = missing_pat_any
+  type_pat_part_any (tree.some_type_pat p) = type_pat_any p
+
+  type_pat_any : (p : TypePat) → Correct (lower_type_pat p) Any
+  type_pat_any (tree.not_null_type_pat at) = stored_pat_any _ (Some at)
+  type_pat_any (tree.or_type_pat at ps) = type_alternatives_any at (type_pats_any [] ps)
+  type_pat_any (tree.range_type_pat at s e) = limits_any at (limit_any s) (limit_any e)
+  type_pat_any (tree.other_type_pat at) = stored_pat_any _ (Some at)
+
+  type_pats_any : (done : List PatId) (ps : TypePats) → Correct (lower_type_pats done ps) Any
+  type_pats_any done tree.no_type_pats = pure_any done
+  type_pats_any done (tree.more_type_pats p ps) = then_any (type_pat_any p) (λ i. type_pats_any _ ps)
+
+  limit_any : (l : Limit) → Correct (lower_limit l) Any
+  limit_any (tree.item_limit item) = inner_any (item_any item)
+  limit_any (tree.side_limit s) = inner_any (limit_side_any s)
+  limit_any (tree.before_limit item s) = inner_any (before_any item (limit_side_any s))
+
+  limit_side_any : (s : Side) → Correct (limit_side s) Any
+  limit_side_any tree.no_side = missing_any
+  limit_side_any (tree.literal_side at l) = literal_limit_any at l
+  limit_side_any (tree.name_side at n) = name_limit_any at n
+  limit_side_any (tree.path_side at p) = path_limit_any at (lower_path_any p)
+  limit_side_any tree.other_side = missing_any
+
+  -- targets
+
+  pub target_any : (t : Target) → Correct (lower_target t) Any
+  target_any tree.absent_target = missing_pat_any
+  target_any (tree.place_target at e) = place_target_any at (node_any e)
+  target_any (tree.wild_target at) = stored_pat_any _ (Some at)
+  target_any (tree.path_target at p h) = path_target_any at h (then_any (reading_any p start) (λ r. pure_any (path_read r)))
+  target_any (tree.tuple_target at ts) = tuple_target_any at (targets_any no_elements ts)
+  target_any (tree.call_target at p ts) = call_target_any at (targets_any no_elements ts) (lower_path_any p)
+  target_any (tree.array_target at before dots behind) =
+      array_target_any at dots (targets_any no_elements before) (targets_any no_elements behind)
+  target_any (tree.record_target at p fs dots spread) =
+      record_target_any at dots spread (target_fields_any [] fs) (lower_path_any p)
+
+  targets_any : (done : Elements) (ts : Targets) → Correct (lower_targets done ts) Any
+  targets_any done tree.no_targets = pure_any done
+  targets_any done (tree.more_targets t ts) = then_any (target_any t) (λ i. targets_any _ ts)
+  targets_any done (tree.dots_targets ts) = targets_any _ ts
+
+  target_fields_any : (done : List RecordFieldPat) (fs : TargetFields) → Correct (lower_target_fields done fs) Any
+  target_fields_any done tree.no_target_fields = pure_any done
+  target_fields_any done (tree.more_target_fields f fs) = then_any (one_target_field_any f) (λ x. target_fields_any _ fs)
+
+  one_target_field_any : (f : TargetField) → Correct (lower_target_field f) Any
+  one_target_field_any (tree.disabled_target_field at by) = then_any (any (correct_report _)) (λ u. pure_any None)
+  one_target_field_any tree.partless_target_field = pure_any None
+  one_target_field_any (tree.target_field at n t) = target_field_any at n (target_any t)
 
 kept_of : {A : Type 0} (final : Stored) (ps : List Frame) (b : Builder) (o : Checked A) (c : Builder) → Holds Any final ps b o c
     → Keeps b o c

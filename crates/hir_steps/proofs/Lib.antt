@@ -1,8 +1,10 @@
 pub mod Frames
 pub mod Logic
 pub mod TypeSteps
+pub mod PatSteps
 pub mod Steps
 pub mod Constants
 pub mod Aside
 pub mod TypeAny
+pub mod PatAny
 pub mod Keeping

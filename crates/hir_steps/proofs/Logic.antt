@@ -7,34 +7,43 @@ use Rattle.std.proofs.Math.Seq.{get_or-append_seam}
 use Rattle.hir_store.specs.Arenas.{Prefix}
 use Rattle.hir_store.specs.Stored.{Stored}
 use Rattle.hir_store.specs.Storing.{Extends}
-use Rattle.hir_store.proofs.Range.{extends_refl, extends_trans}
+use Rattle.hir_store.proofs.Extending.{extends_refl, extends_trans}
 use Rattle.hir_lower_form.specs.Builder.{Builder}
 use Rattle.hir_lower_form.specs.Lowering.{Checked, go_on, Lowering, ◌>>=◌, pure}
 use Rattle.hir_steps.specs.Keeps.{Paired, Mapped, KeepsAll}
 use Rattle.hir_steps.proofs.Frames.{Frame, ribs}
 
--- how far it has come: how many expressions, labels, types and lifetimes there are, and all that is stored
+-- how far it has come: how many there are of each kind, how many types and patterns together, and all that is stored
 pub record Mark : Type 0 where
   pub nodes : ℕ
   pub labels : ℕ
+  pub pats : ℕ
+  pub bindings : ℕ
   pub types : ℕ
   pub lifetimes : ℕ
+  pub entries : ℕ
   pub stored : Stored
 
 abbrev pub mark : Builder → Mark
 mark b = record {
   nodes = length b.stored.exprs.entries;
   labels = length b.stored.labels.entries;
+  pats = length b.stored.pats.entries;
+  bindings = length b.stored.bindings.entries;
   types = length b.stored.types.entries;
   lifetimes = length b.stored.lifetimes.entries;
+  entries = length b.stored.types.entries + length b.stored.pats.entries;
   stored = b.stored;
 }
 
 pub record Grows (m m' : Mark) : Type 0 where
   pub nodes : m.nodes ≤ m'.nodes
   pub labels : m.labels ≤ m'.labels
+  pub pats : m.pats ≤ m'.pats
+  pub bindings : m.bindings ≤ m'.bindings
   pub types : m.types ≤ m'.types
   pub lifetimes : m.lifetimes ≤ m'.lifetimes
+  pub entries : m.entries ≤ m'.entries
 
 -- of a final store, the frames around, the marks before and after, and what was answered
 abbrev pub Rel : Type 0 → Type 1
@@ -62,11 +71,53 @@ pub record Seq {A B : Type 0} (R : Rel A) (Q : A → Rel B) (final : Stored) (ps
   pub first : R final ps m middle one
   pub second : Q one final ps middle m' b
 
-grows_trans : {m m' m'' : Mark} → Grows m m' → Grows m' m'' → Grows m m''
-grows_trans g h = record { nodes = omega arith; labels = omega arith; types = omega arith; lifetimes = omega arith }
+pub grows_trans : {m m' m'' : Mark} → Grows m m' → Grows m' m'' → Grows m m''
+grows_trans g h = record {
+  nodes = omega arith;
+  labels = omega arith;
+  pats = omega arith;
+  bindings = omega arith;
+  types = omega arith;
+  lifetimes = omega arith;
+  entries = omega arith;
+}
 
 pub grows_refl : (m : Mark) → Grows m m
-grows_refl m = record { nodes = omega arith; labels = omega arith; types = omega arith; lifetimes = omega arith }
+grows_refl m = record {
+  nodes = omega arith;
+  labels = omega arith;
+  pats = omega arith;
+  bindings = omega arith;
+  types = omega arith;
+  lifetimes = omega arith;
+  entries = omega arith;
+}
+
+-- what is counted
+abbrev pub Counts : Type 0
+Counts = ℕ × ℕ × ℕ × ℕ × ℕ × ℕ × ℕ
+
+abbrev pub counts : Mark → Counts
+counts m = (m.nodes, m.labels, m.pats, m.bindings, m.types, m.lifetimes, m.entries)
+
+-- nothing that is counted is stored
+pub grows_still : (m m' : Mark) → counts m' ≡ counts m → Grows m m'
+grows_still m m' e =
+    let nodes = ap (λ c. c.0) e in
+    let labels = ap (λ c. c.1) e in
+    let pats = ap (λ c. c.2) e in
+    let bindings = ap (λ c. c.3) e in
+    let types = ap (λ c. c.4) e in
+    let lifetimes = ap (λ c. c.5) e in
+    let entries = ap (λ c. c.6) e in record {
+      nodes = omega (arith, nodes);
+      labels = omega (arith, labels);
+      pats = omega (arith, pats);
+      bindings = omega (arith, bindings);
+      types = omega (arith, types);
+      lifetimes = omega (arith, lifetimes);
+      entries = omega (arith, entries);
+    }
 
 pub kept_still : (b : Builder) → KeepsAll b b
 kept_still b = record {
@@ -153,8 +204,10 @@ pub record InStore {A : Type 0} (R : Rel A) (final : Stored) (ps : List Frame) (
   pub rel : R final ps m m' a
   pub nodes : m'.nodes ≤ length final.exprs.entries
   pub labels : m'.labels ≤ length final.labels.entries
+  pub pats : m'.pats ≤ length final.pats.entries
   pub types : m'.types ≤ length final.types.entries
   pub lifetimes : m'.lifetimes ≤ length final.lifetimes.entries
+  pub entries : m'.entries ≤ length final.types.entries + length final.pats.entries
 
 pub correct_in_store : {A : Type 0} {p : Lowering A} {R : Rel A} → Correct p R → Correct p (InStore R)
 correct_in_store {A = A} {p = p} {R = R} h = record { holds = λ final ps b r. go final ps b (p b).0 (p b).1 (h.holds final ps b r) }
@@ -164,13 +217,17 @@ correct_in_store {A = A} {p = p} {R = R} h = record { holds = λ final ps b r. g
     go final ps b (Ok a) c y = record {
       kept = y.kept;
       grows = y.grows;
-      in_final = λ d pre. record {
-        rel = y.in_final d pre;
-        nodes = longer pre.exprs.entries;
-        labels = longer pre.labels.entries;
-        types = longer pre.types.entries;
-        lifetimes = longer pre.lifetimes.entries;
-      };
+      in_final = λ d pre.
+          let types = longer pre.types.entries in
+          let pats = longer pre.pats.entries in record {
+            rel = y.in_final d pre;
+            nodes = longer pre.exprs.entries;
+            labels = longer pre.labels.entries;
+            pats = pats;
+            types = types;
+            lifetimes = longer pre.lifetimes.entries;
+            entries = omega (arith, types, pats);
+          };
     }
     go final ps b (Err e) c y = y
 

@@ -22,7 +22,8 @@ use Rattle.hir_store.specs.declared.diagnostics.ExpressionStoreDiagnostics.TheVa
 use Rattle.hir_store.specs.declared.diagnostics.ExpressionStoreDiagnostics.TheVariants.{UnreachableLabel}
 use Rattle.hir_store.specs.declared.diagnostics.AwaitLocation.{AwaitLocation}
 use Rattle.hir_store.proofs.Arenas.{continues_refl, continues_entry, prefix_refl}
-use Rattle.hir_store.proofs.Range.{extends_refl, extends_trans, extends_point, extends_field, extends_report, extends_block}
+use Rattle.hir_store.proofs.BindingLemmas.{bindings_refl}
+use Rattle.hir_store.proofs.Extending.{extends_refl, extends_trans, extends_point, extends_field, extends_report, extends_block}
 use Rattle.hir_env.specs.Answered.{Label, Jump}
 use Rattle.hir_scope.specs.Ribs.{Rib, Target, reachable, unreachable, undeclared, target, number_found, jump_number}
 use Rattle.hir_lower_scope.specs.Labels.{rest}
@@ -35,7 +36,7 @@ pub use Rattle.hir_steps.proofs.Logic.{Mark, mark, Grows, Rel, Answers, Holds, C
 pub use Rattle.hir_steps.proofs.Logic.{correct_bind, correct_as, correct_both, correct_in_store, correct_pure}
 pub use Rattle.hir_steps.proofs.TypeSteps.{AllocatedType, AllocatedLifetime, with_type, with_lifetime, correct_alloc_type}
 pub use Rattle.hir_steps.proofs.TypeSteps.{correct_alloc_lifetime}
-use Rattle.hir_steps.proofs.Logic.{grows_refl, in_prefix, one_more}
+use Rattle.hir_steps.proofs.Logic.{grows_refl, grows_still, in_prefix, one_more}
 
 -- refused at the end of a counter
 pub correct_count_out : {A : Type 0} (R : Rel A) → Correct {A = A} count_out R
@@ -75,11 +76,11 @@ correct_report fault = record {
       scopes = refl;
       in_root = refl;
       roots = λ t. refl;
-      paired = λ d. record { exprs = d.exprs; labels = d.labels; types = d.types; lifetimes = d.lifetimes };
-      mapped = λ d w. record { types = w.types; lifetimes = w.lifetimes };
+      paired = λ d. record { exprs = d.exprs; labels = d.labels; pats = d.pats; types = d.types; lifetimes = d.lifetimes };
+      mapped = λ d w. record { pats = w.pats; types = w.types; lifetimes = w.lifetimes };
       stays = extends_report b.stored fault;
     };
-    grows = record { nodes = omega arith; labels = omega arith; types = omega arith; lifetimes = omega arith };
+    grows = grows_still _ _ refl;
     in_final = λ d pre. record { is = refl; nodes = refl; labels = refl; stored = refl };
   };
 }
@@ -107,11 +108,11 @@ correct_point node id = record {
       scopes = refl;
       in_root = refl;
       roots = λ t. refl;
-      paired = λ d. record { exprs = d.exprs; labels = d.labels; types = d.types; lifetimes = d.lifetimes };
-      mapped = λ d w. record { types = w.types; lifetimes = w.lifetimes };
+      paired = λ d. record { exprs = d.exprs; labels = d.labels; pats = d.pats; types = d.types; lifetimes = d.lifetimes };
+      mapped = λ d w. record { pats = w.pats; types = w.types; lifetimes = w.lifetimes };
       stays = extends_point b.stored node id;
     };
-    grows = record { nodes = omega arith; labels = omega arith; types = omega arith; lifetimes = omega arith };
+    grows = grows_still _ _ refl;
     in_final = λ d pre. record { is = refl; nodes = refl; labels = refl; stored = refl };
   };
 }
@@ -124,11 +125,11 @@ correct_point_field id node = record {
       scopes = refl;
       in_root = refl;
       roots = λ t. refl;
-      paired = λ d. record { exprs = d.exprs; labels = d.labels; types = d.types; lifetimes = d.lifetimes };
-      mapped = λ d w. record { types = w.types; lifetimes = w.lifetimes };
+      paired = λ d. record { exprs = d.exprs; labels = d.labels; pats = d.pats; types = d.types; lifetimes = d.lifetimes };
+      mapped = λ d w. record { pats = w.pats; types = w.types; lifetimes = w.lifetimes };
       stays = extends_field b.stored id node;
     };
-    grows = record { nodes = omega arith; labels = omega arith; types = omega arith; lifetimes = omega arith };
+    grows = grows_still _ _ refl;
     in_final = λ d pre. record { is = refl; nodes = refl; labels = refl; stored = refl };
   };
 }
@@ -142,11 +143,11 @@ correct_enter_block (Some n) = record {
       scopes = refl;
       in_root = refl;
       roots = λ t. refl;
-      paired = λ d. record { exprs = d.exprs; labels = d.labels; types = d.types; lifetimes = d.lifetimes };
-      mapped = λ d w. record { types = w.types; lifetimes = w.lifetimes };
+      paired = λ d. record { exprs = d.exprs; labels = d.labels; pats = d.pats; types = d.types; lifetimes = d.lifetimes };
+      mapped = λ d w. record { pats = w.pats; types = w.types; lifetimes = w.lifetimes };
       stays = extends_block b.stored n;
     };
-    grows = record { nodes = omega arith; labels = omega arith; types = omega arith; lifetimes = omega arith };
+    grows = grows_still _ _ refl;
     in_final = λ d pre. record { is = refl; nodes = refl; labels = refl; stored = refl };
   };
 }
@@ -185,20 +186,37 @@ correct_alloc e source = record { holds = λ final ps b r. go final ps b (nat_lt
             scopes = refl;
             in_root = refl;
             roots = λ t. refl;
-            paired = λ d. record { exprs = one_more xs e ss source d.exprs; labels = d.labels; types = d.types; lifetimes = d.lifetimes };
-            mapped = λ d w. record { types = w.types; lifetimes = w.lifetimes };
+            paired = λ d. record {
+              exprs = one_more xs e ss source d.exprs;
+              labels = d.labels;
+              pats = d.pats;
+              types = d.types;
+              lifetimes = d.lifetimes;
+            };
+            mapped = λ d w. record { pats = w.pats; types = w.types; lifetimes = w.lifetimes };
             stays = record {
               exprs = continues_entry expr_id s.exprs e source;
               labels = continues_refl s.labels;
+              pats = continues_refl s.pats;
+              bindings = bindings_refl s.bindings;
               types = continues_refl s.types;
               lifetimes = continues_refl s.lifetimes;
               roots = prefix_refl s.roots;
               field_map_back = prefix_refl s.field_map_back;
+              pat_field_map_back = prefix_refl s.pat_field_map_back;
               block_scopes = prefix_refl s.block_scopes;
               diagnostics = prefix_refl s.diagnostics;
             };
           };
-          grows = record { nodes = omega arith; labels = omega arith; types = omega arith; lifetimes = omega arith };
+          grows = record {
+            nodes = omega arith;
+            labels = omega arith;
+            pats = omega arith;
+            bindings = omega arith;
+            types = omega arith;
+            lifetimes = omega arith;
+            entries = omega arith;
+          };
           in_final = λ d pre. record {
             number = refl;
             here = in_prefix xs e (length xs) refl pre.exprs.entries;
@@ -229,6 +247,7 @@ pub record Opened {A B : Type 0} (at : Label → LabelId → Frame) (l : Label) 
   pub labels : entered.labels ≡ suc m.labels
   pub nodes : entered.nodes ≡ m.nodes
   pub types : entered.types ≡ m.types
+  pub entries : entered.entries ≡ m.entries
   pub last : m.labels ≡ length m.stored.labels.entries
   pub stored : entered.stored ≡ with_label l m.stored
   pub before : Grows entered left
@@ -247,6 +266,8 @@ record Opening (l : Label) (b : Builder) (n : LabelId) (b' : Builder) : Type 0 w
   number : n.0 ≡ length b.stored.labels.entries
   labels : length b'.stored.labels.entries ≡ suc (length b.stored.labels.entries)
   nodes : length b'.stored.exprs.entries ≡ length b.stored.exprs.entries
+  pats : length b'.stored.pats.entries ≡ length b.stored.pats.entries
+  bindings : length b'.stored.bindings.entries ≡ length b.stored.bindings.entries
   types : length b'.stored.types.entries ≡ length b.stored.types.entries
   lifetimes : length b'.stored.lifetimes.entries ≡ length b.stored.lifetimes.entries
   stored : b'.stored ≡ with_label l b.stored
@@ -285,23 +306,29 @@ opens l b = go (nat_lt (length b.stored.labels.entries) b.stored.labels.limit)
           paired = λ d. record {
             exprs = d.exprs;
             labels = one_more xs x ss (Some l.pointer) d.labels;
+            pats = d.pats;
             types = d.types;
             lifetimes = d.lifetimes;
           };
-          mapped = λ d w. record { types = w.types; lifetimes = w.lifetimes };
+          mapped = λ d w. record { pats = w.pats; types = w.types; lifetimes = w.lifetimes };
           stays = record {
             exprs = continues_refl s.exprs;
             labels = continues_entry label_id s.labels x (Some l.pointer);
+            pats = continues_refl s.pats;
+            bindings = bindings_refl s.bindings;
             types = continues_refl s.types;
             lifetimes = continues_refl s.lifetimes;
             roots = prefix_refl s.roots;
             field_map_back = prefix_refl s.field_map_back;
+            pat_field_map_back = prefix_refl s.pat_field_map_back;
             block_scopes = prefix_refl s.block_scopes;
             diagnostics = prefix_refl s.diagnostics;
           };
           number = refl;
           labels = omega arith;
           nodes = refl;
+          pats = refl;
+          bindings = refl;
           types = refl;
           lifetimes = refl;
           stored = refl;
@@ -342,9 +369,18 @@ correct_opened {A = A} {B = B} at l {p = p} {R = R} {f = f} {Q = Q} frame hp hf 
           let g' = y.grows in
           let e' = h.labels in
           let e'' = h.nodes in
+          let p = h.pats in
+          let k = h.bindings in
           let t = h.types in
-          let f = h.lifetimes in
-          record { nodes = omega arith; labels = omega arith; types = omega arith; lifetimes = omega arith };
+          let f = h.lifetimes in record {
+            nodes = omega arith;
+            labels = omega arith;
+            pats = omega arith;
+            bindings = omega arith;
+            types = omega arith;
+            lifetimes = omega arith;
+            entries = omega arith;
+          };
       in_final = λ d pre.
           let past : Extends b2.stored final = extends_trans y.kept.stays pre in
           let open' : Extends b1.stored final = extends_trans x.kept.stays past in
@@ -359,6 +395,7 @@ correct_opened {A = A} {B = B} at l {p = p} {R = R} {f = f} {Q = Q} frame hp hf 
             labels = h.labels;
             nodes = h.nodes;
             types = h.types;
+            entries = let t = h.types in let p = h.pats in omega (arith, t, p);
             last = refl;
             stored = h.stored;
             before = x.grows;
@@ -425,11 +462,11 @@ correct_target (Some j) = record { holds = λ final ps b r. go final ps b (targe
         scopes = refl;
         in_root = refl;
         roots = λ t. refl;
-        paired = λ d. record { exprs = d.exprs; labels = d.labels; types = d.types; lifetimes = d.lifetimes };
-        mapped = λ d w. record { types = w.types; lifetimes = w.lifetimes };
+        paired = λ d. record { exprs = d.exprs; labels = d.labels; pats = d.pats; types = d.types; lifetimes = d.lifetimes };
+        mapped = λ d w. record { pats = w.pats; types = w.types; lifetimes = w.lifetimes };
         stays = extends_report b.stored (UnreachableLabel j.pointer j.name);
       };
-      grows = record { nodes = omega arith; labels = omega arith; types = omega arith; lifetimes = omega arith };
+      grows = grows_still _ _ refl;
       in_final = λ d pre. record { is = ap number_found e; nodes = refl; labels = refl; stored = ap (λ t. with_target j t b.stored) e };
     }
     go final ps b undeclared e = record {
@@ -437,10 +474,10 @@ correct_target (Some j) = record { holds = λ final ps b r. go final ps b (targe
         scopes = refl;
         in_root = refl;
         roots = λ t. refl;
-        paired = λ d. record { exprs = d.exprs; labels = d.labels; types = d.types; lifetimes = d.lifetimes };
-        mapped = λ d w. record { types = w.types; lifetimes = w.lifetimes };
+        paired = λ d. record { exprs = d.exprs; labels = d.labels; pats = d.pats; types = d.types; lifetimes = d.lifetimes };
+        mapped = λ d w. record { pats = w.pats; types = w.types; lifetimes = w.lifetimes };
         stays = extends_report b.stored (UndeclaredLabel j.pointer j.name);
       };
-      grows = record { nodes = omega arith; labels = omega arith; types = omega arith; lifetimes = omega arith };
+      grows = grows_still _ _ refl;
       in_final = λ d pre. record { is = ap number_found e; nodes = refl; labels = refl; stored = ap (λ t. with_target j t b.stored) e };
     }

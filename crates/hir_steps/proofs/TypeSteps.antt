@@ -12,8 +12,9 @@ use Rattle.hir_store.specs.declared.type_ref.LifetimeRef.{LifetimeRef}
 use Rattle.hir_store.specs.declared.ids.TypeRefId.{TypeRefId}
 use Rattle.hir_store.specs.declared.ids.LifetimeRefId.{LifetimeRefId}
 use Rattle.hir_store.proofs.Arenas.{continues_refl, continues_entry, prefix_refl}
+use Rattle.hir_store.proofs.BindingLemmas.{bindings_refl}
 use Rattle.hir_store.proofs.Maps.{maps_back_entry}
-use Rattle.hir_store.proofs.Range.{extends_refl}
+use Rattle.hir_store.proofs.Extending.{extends_refl}
 use Rattle.hir_lower_form.specs.Builder.{Builder}
 use Rattle.hir_lower_form.specs.Lowering.{Checked, alloc_type, alloc_lifetime}
 use Rattle.hir_steps.proofs.Frames.{Frame}
@@ -30,8 +31,11 @@ pub record AllocatedType (t : TypeRef) (source : Option Pointer) (final : Stored
   pub here : slice_get final.types.entries m.types ≡ Some t
   pub from : slice_get final.types.sources m.types ≡ Some source
   pub next : m'.types ≡ suc m.types
+  pub entries : m'.entries ≡ suc m.entries
   pub nodes : m'.nodes ≡ m.nodes
   pub labels : m'.labels ≡ m.labels
+  pub pats : m'.pats ≡ m.pats
+  pub bindings : m'.bindings ≡ m.bindings
   pub lifetimes : m'.lifetimes ≡ m.lifetimes
   pub last : m.types ≡ length m.stored.types.entries
   pub stored : m'.stored ≡ with_type t source m.stored
@@ -56,30 +60,51 @@ correct_alloc_type t source =
             scopes = refl;
             in_root = refl;
             roots = λ t. refl;
-            paired = λ d. record { exprs = d.exprs; labels = d.labels; types = one_more xs t ss source d.types; lifetimes = d.lifetimes };
+            paired = λ d. record {
+              exprs = d.exprs;
+              labels = d.labels;
+              pats = d.pats;
+              types = one_more xs t ss source d.types;
+              lifetimes = d.lifetimes;
+            };
             mapped = λ d w. record {
+              pats = w.pats;
               types = maps_back_entry (λ i. i.0) type_id (λ n. refl) s.types t d.types w.types source;
               lifetimes = w.lifetimes;
             };
             stays = record {
               exprs = continues_refl s.exprs;
               labels = continues_refl s.labels;
+              pats = continues_refl s.pats;
+              bindings = bindings_refl s.bindings;
               types = continues_entry type_id s.types t source;
               lifetimes = continues_refl s.lifetimes;
               roots = prefix_refl s.roots;
               field_map_back = prefix_refl s.field_map_back;
+              pat_field_map_back = prefix_refl s.pat_field_map_back;
               block_scopes = prefix_refl s.block_scopes;
               diagnostics = prefix_refl s.diagnostics;
             };
           };
-          grows = record { nodes = omega arith; labels = omega arith; types = omega arith; lifetimes = omega arith };
+          grows = record {
+            nodes = omega arith;
+            labels = omega arith;
+            pats = omega arith;
+            bindings = omega arith;
+            types = omega arith;
+            lifetimes = omega arith;
+            entries = omega arith;
+          };
           in_final = λ d pre. record {
             number = refl;
             here = in_prefix xs t (length xs) refl pre.types.entries;
             from = in_prefix ss source (length xs) (sym d.types) pre.types.sources;
             next = omega arith;
+            entries = omega arith;
             nodes = refl;
             labels = refl;
+            pats = refl;
+            bindings = refl;
             lifetimes = refl;
             last = refl;
             stored = refl;
@@ -98,8 +123,11 @@ pub record AllocatedLifetime (l : LifetimeRef) (source : Option Pointer) (final 
   pub here : slice_get final.lifetimes.entries m.lifetimes ≡ Some l
   pub from : slice_get final.lifetimes.sources m.lifetimes ≡ Some source
   pub next : m'.lifetimes ≡ suc m.lifetimes
+  pub entries : m'.entries ≡ m.entries
   pub nodes : m'.nodes ≡ m.nodes
   pub labels : m'.labels ≡ m.labels
+  pub pats : m'.pats ≡ m.pats
+  pub bindings : m'.bindings ≡ m.bindings
   pub types : m'.types ≡ m.types
   pub last : m.lifetimes ≡ length m.stored.lifetimes.entries
   pub stored : m'.stored ≡ with_lifetime l source m.stored
@@ -125,30 +153,51 @@ correct_alloc_lifetime l source =
             scopes = refl;
             in_root = refl;
             roots = λ t. refl;
-            paired = λ d. record { exprs = d.exprs; labels = d.labels; lifetimes = one_more xs l ss source d.lifetimes; types = d.types };
+            paired = λ d. record {
+              exprs = d.exprs;
+              labels = d.labels;
+              pats = d.pats;
+              lifetimes = one_more xs l ss source d.lifetimes;
+              types = d.types;
+            };
             mapped = λ d w. record {
+              pats = w.pats;
               lifetimes = maps_back_entry (λ i. i.0) lifetime_id (λ n. refl) s.lifetimes l d.lifetimes w.lifetimes source;
               types = w.types;
             };
             stays = record {
               exprs = continues_refl s.exprs;
               labels = continues_refl s.labels;
+              pats = continues_refl s.pats;
+              bindings = bindings_refl s.bindings;
               lifetimes = continues_entry lifetime_id s.lifetimes l source;
               types = continues_refl s.types;
               roots = prefix_refl s.roots;
               field_map_back = prefix_refl s.field_map_back;
+              pat_field_map_back = prefix_refl s.pat_field_map_back;
               block_scopes = prefix_refl s.block_scopes;
               diagnostics = prefix_refl s.diagnostics;
             };
           };
-          grows = record { nodes = omega arith; labels = omega arith; types = omega arith; lifetimes = omega arith };
+          grows = record {
+            nodes = omega arith;
+            labels = omega arith;
+            pats = omega arith;
+            bindings = omega arith;
+            types = omega arith;
+            lifetimes = omega arith;
+            entries = omega arith;
+          };
           in_final = λ d pre. record {
             number = refl;
             here = in_prefix xs l (length xs) refl pre.lifetimes.entries;
             from = in_prefix ss source (length xs) (sym d.lifetimes) pre.lifetimes.sources;
             next = omega arith;
+            entries = refl;
             nodes = refl;
             labels = refl;
+            pats = refl;
+            bindings = refl;
             types = refl;
             last = refl;
             stored = refl;

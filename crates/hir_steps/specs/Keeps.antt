@@ -11,11 +11,13 @@ use Rattle.hir_lower_form.specs.Lower.{type_part, lower_path, lower_part}
 pub record Paired (s : Stored) : Type 0 where
   pub exprs : length s.exprs.sources ≡ length s.exprs.entries
   pub labels : length s.labels.sources ≡ length s.labels.entries
+  pub pats : length s.pats.sources ≡ length s.pats.entries
   pub types : length s.types.sources ≡ length s.types.entries
   pub lifetimes : length s.lifetimes.sources ≡ length s.lifetimes.entries
 
--- the nodes of types and lifetimes lead to them, and no other node does: so it is in an empty store, and stays
+-- the nodes of patterns, types and lifetimes lead to them, and no other node does: so it is in an empty store, and stays
 pub record Mapped (s : Stored) : Type 0 where
+  pub pats : MapsBack (λ i. i.0) s.pats
   pub types : MapsBack (λ i. i.0) s.types
   pub lifetimes : MapsBack (λ i. i.0) s.lifetimes
 

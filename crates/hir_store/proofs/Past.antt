@@ -1,6 +1,10 @@
 -- What lists and arguments name.
 use Rattle.std.proofs.Common.{arith, ◌≡◌, ◌∙◌, refl, sym, ap, Bool, true}
 use Rattle.std.proofs.Common.{List, [], ◌∷◌, ◌++◌, Option, Some, None}
+use Rattle.hir_store.specs.declared.hir.MatchArm.{MatchArm}
+use Rattle.hir_store.specs.declared.hir.Statement.{Statement}
+use Rattle.hir_store.specs.declared.pat.RecordFieldPat.{RecordFieldPat}
+use Rattle.hir_store.specs.declared.ids.PatId.{PatId}
 use Rattle.hir_store.specs.declared.ids.TypeRefId.{TypeRefId}
 use Rattle.hir_store.specs.declared.name.Name.{Name}
 use Rattle.hir_store.specs.declared.name.Name.TheVariants.{Missing}
@@ -18,14 +22,15 @@ use Rattle.hir_store.specs.Generics.{of_args, of_binding, self_first}
 use Rattle.hir_store.specs.Past as of
 use Rattle.hir_store.specs.Past.{Past, join}
 
-same_past : {p q : Past} → p.exprs ≡ q.exprs → p.types ≡ q.types → p.lifetimes ≡ q.lifetimes → p ≡ q
-same_past exprs types lifetimes = λ j. record { exprs = exprs j; types = types j; lifetimes = lifetimes j }
+same_past : {p q : Past} → p.exprs ≡ q.exprs → p.types ≡ q.types → p.lifetimes ≡ q.lifetimes → p.pats ≡ q.pats → p ≡ q
+same_past exprs types lifetimes pats =
+    λ j. record { exprs = exprs j; types = types j; lifetimes = lifetimes j; pats = pats j }
 
 pub join_assoc : (p q r : Past) → join p (join q r) ≡ join (join p q) r
-join_assoc p q r = same_past (omega arith) (omega arith) (omega arith)
+join_assoc p q r = same_past (omega arith) (omega arith) (omega arith) (omega arith)
 
 pub join_nothing : (p : Past) → join p of.nothing ≡ join of.nothing p
-join_nothing p = same_past (omega arith) (omega arith) (omega arith)
+join_nothing p = same_past (omega arith) (omega arith) (omega arith) (omega arith)
 
 pub each_push : {A : Type 0} (past : A → Past) (xs : List A) (x : A)
     → of.past_each past (xs ++ x ∷ []) ≡ join (of.past_each past xs) (past x)
@@ -36,6 +41,21 @@ each_push past (y ∷ xs) x =
 pub type_ids_push : (xs : List TypeRefId) (x : TypeRefId)
     → of.past_type_ids (xs ++ x ∷ []) ≡ join (of.past_type_ids xs) (of.past_type_id x)
 type_ids_push = each_push of.past_type_id
+
+pub pat_ids_push : (xs : List PatId) (x : PatId)
+    → of.past_pat_ids (xs ++ x ∷ []) ≡ join (of.past_pat_ids xs) (of.past_pat_id x)
+pat_ids_push = each_push of.past_pat_id
+
+pub pat_fields_push : (xs : List RecordFieldPat) (x : RecordFieldPat)
+    → of.past_pat_fields (xs ++ x ∷ []) ≡ join (of.past_pat_fields xs) (of.past_pat_field x)
+pat_fields_push = each_push of.past_pat_field
+
+pub statements_push : (xs : List Statement) (x : Statement)
+    → of.past_statements (xs ++ x ∷ []) ≡ join (of.past_statements xs) (of.past_statement x)
+statements_push = each_push of.past_statement
+
+pub arms_push : (xs : List MatchArm) (x : MatchArm) → of.past_arms (xs ++ x ∷ []) ≡ join (of.past_arms xs) (of.past_arm x)
+arms_push = each_push of.past_arm
 
 pub args_push : (xs : List GenericArg) (x : GenericArg) → of.past_args (xs ++ x ∷ []) ≡ join (of.past_args xs) (of.past_arg x)
 args_push = each_push of.past_arg
@@ -99,7 +119,7 @@ generic_out a =
     ∙ ap (join (of.past_args (out-GenericArgs a).args)) (joined_is (out-GenericArgs a).bindings)
 
 pub self_alone_past : (ty : TypeRefId) → of.past_generic (self_first ty None) ≡ join (of.past_type_id ty) of.nothing
-self_alone_past ty = generic_roll (arg.Type_ ty ∷ []) true [] No ∙ same_past (omega arith) (omega arith) (omega arith)
+self_alone_past ty = generic_roll (arg.Type_ ty ∷ []) true [] No ∙ same_past (omega arith) (omega arith) (omega arith) (omega arith)
 
 pub self_before_past : (ty : TypeRefId) (a : GenericArgs)
     → of.past_generic (self_first ty (Some a)) ≡ join (of.past_type_id ty) (of.past_generic a)

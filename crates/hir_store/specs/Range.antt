@@ -2,12 +2,18 @@
 use Rattle.std.specs.Prelude.{◌≡◌, ℕ, suc, ◌≤◌, max, List, length, Option}
 use Rattle.hir_store.specs.Arenas.{past, past_option}
 use Rattle.hir_store.specs.Stored.{Stored, Store, SourceMap, store_of}
-use Rattle.hir_store.specs.Past.{Past, Within, past_arg, past_binding, past_bound, past_bounds, past_each, past_generic}
+use Rattle.hir_store.specs.Past.{Past, Within, past_arg, past_arms, past_binding, past_bound, past_bounds, past_each, past_generic}
+use Rattle.hir_store.specs.Past.{past_pat, past_pat_fields, past_pat_id, past_pat_ids, past_pats, past_statement, past_statements}
 use Rattle.hir_store.specs.Past.{past_lifetime_id, past_path, past_present, past_type, past_type_id, past_type_ids, past_use_args}
 use Rattle.hir_store.specs.declared.hir.Expr.{Expr}
 use Rattle.hir_store.specs.declared.hir.Expr.TheVariants as hir
 use Rattle.hir_store.specs.declared.hir.Statement.{Statement}
-use Rattle.hir_store.specs.declared.hir.Statement.TheVariants as statement
+use Rattle.hir_store.specs.declared.hir.MatchArm.{MatchArm}
+use Rattle.hir_store.specs.declared.pat.Pat.{Pat}
+use Rattle.hir_store.specs.declared.pat.Pat.TheVariants as pat
+use Rattle.hir_store.specs.declared.pat.RecordFieldPat.{RecordFieldPat}
+use Rattle.hir_store.specs.declared.ids.BindingId.{BindingId}
+use Rattle.hir_store.specs.declared.ids.PatId.{PatId}
 use Rattle.hir_store.specs.declared.hir.RecordLitField.{RecordLitField}
 use Rattle.hir_store.specs.declared.hir.RecordSpread.{RecordSpread}
 use Rattle.hir_store.specs.declared.hir.RecordSpread.TheVariants as spread
@@ -33,10 +39,6 @@ past_expr id = suc id.0
 abbrev pub past_label : LabelId → ℕ
 past_label id = suc id.0
 
-abbrev pub past_statement : Statement → ℕ
-past_statement (statement.Expr id semi) = suc id.0
-past_statement statement.Item = 0
-
 abbrev pub past_field : RecordLitField → ℕ
 past_field f = suc f.expr.0
 
@@ -47,13 +49,21 @@ past_spread _ = 0
 abbrev pub past_root : ExprRoot → ℕ
 past_root r = max (suc r.root.0) r.exprs_end.0
 
+abbrev pub pats_end : ExprRoot → ℕ
+pats_end r = r.pats_end.0
+
+abbrev pub bindings_end : ExprRoot → ℕ
+bindings_end r = r.bindings_end.0
+
 -- the expressions that an expression names
 abbrev pub exprs_in : Expr → ℕ
 exprs_in (hir.Path p hygiene) = (past_path p).exprs
 exprs_in (hir.If c t e) = max (suc c.0) (max (suc t.0) (past_option past_expr e))
-exprs_in (hir.Block is_unsafe label id ss tail) = max (past past_statement ss) (past_option past_expr tail)
+exprs_in (hir.Let p e) = suc e.0
+exprs_in (hir.Block is_unsafe label id ss tail) = max (past_statements ss).exprs (past_option past_expr tail)
 exprs_in (hir.Loop b label source) = suc b.0
 exprs_in (hir.Call f es) = max (suc f.0) (past past_expr es)
+exprs_in (hir.Match e arms) = max (suc e.0) (past_arms arms).exprs
 exprs_in (hir.Break label e) = past_option past_expr e
 exprs_in (hir.MethodCall receiver name generics es) =
     max (suc receiver.0) (max (past_present past_generic generics).exprs (past past_expr es))
@@ -61,6 +71,7 @@ exprs_in (hir.RecordLit p fields spread) = max (past_path p).exprs (max (past pa
 exprs_in (hir.Field e name) = suc e.0
 exprs_in (hir.UnaryOp op e) = suc e.0
 exprs_in (hir.BinaryOp op lhs rhs) = max (suc lhs.0) (suc rhs.0)
+exprs_in (hir.Assignment target value) = suc value.0
 exprs_in (hir.Index base index) = max (suc base.0) (suc index.0)
 exprs_in (hir.Ref rawness mutability e) = suc e.0
 exprs_in (hir.Tuple es) = past past_expr es
@@ -84,6 +95,8 @@ labels_in _ = 0
 -- the types and the lifetimes that it names
 abbrev pub types_in : Expr → ℕ
 types_in (hir.Path p hygiene) = (past_path p).types
+types_in (hir.Block is_unsafe label id ss tail) = (past_statements ss).types
+types_in (hir.Match e arms) = (past_arms arms).types
 types_in (hir.MethodCall receiver name generics es) = (past_present past_generic generics).types
 types_in (hir.RecordLit p fields spread) = (past_path p).types
 types_in (hir.Cast e type_ref) = suc type_ref.0
@@ -92,9 +105,27 @@ types_in _ = 0
 
 abbrev pub lifetimes_in : Expr → ℕ
 lifetimes_in (hir.Path p hygiene) = (past_path p).lifetimes
+lifetimes_in (hir.Block is_unsafe label id ss tail) = (past_statements ss).lifetimes
+lifetimes_in (hir.Match e arms) = (past_arms arms).lifetimes
 lifetimes_in (hir.MethodCall receiver name generics es) = (past_present past_generic generics).lifetimes
 lifetimes_in (hir.RecordLit p fields spread) = (past_path p).lifetimes
 lifetimes_in _ = 0
+
+-- the patterns that it names
+abbrev pub pats_in : Expr → ℕ
+pats_in (hir.Path p hygiene) = (past_path p).pats
+pats_in (hir.Let p e) = suc p.0
+pats_in (hir.Block is_unsafe label id ss tail) = (past_statements ss).pats
+pats_in (hir.Match e arms) = (past_arms arms).pats
+pats_in (hir.MethodCall receiver name generics es) = (past_present past_generic generics).pats
+pats_in (hir.RecordLit p fields spread) = (past_path p).pats
+pats_in (hir.Assignment target value) = suc target.0
+pats_in _ = 0
+
+-- the bindings that a pattern names
+abbrev pub bindings_in : Pat → ℕ
+bindings_in (pat.Bind id subpat) = suc id.0
+bindings_in _ = 0
 
 -- ---- what is named exists
 
@@ -109,12 +140,6 @@ HasExprOption s o = past_option past_expr o ≤ length s.exprs.entries
 
 abbrev pub HasExprs : Stored → List ExprId → Type 0
 HasExprs s ids = past past_expr ids ≤ length s.exprs.entries
-
-abbrev pub HasStatementOption : Stored → Option Statement → Type 0
-HasStatementOption s o = past_option past_statement o ≤ length s.exprs.entries
-
-abbrev pub HasStatements : Stored → List Statement → Type 0
-HasStatements s ss = past past_statement ss ≤ length s.exprs.entries
 
 abbrev pub HasFields : Stored → List RecordLitField → Type 0
 HasFields s fs = past past_field fs ≤ length s.exprs.entries
@@ -131,6 +156,30 @@ HasLabelOption s o = past_option past_label o ≤ length s.labels.entries
 -- what this lies past exists
 abbrev pub Has : Stored → Past → Type 0
 Has s p = Within (store_of s) p
+
+abbrev pub HasStatementOption : Stored → Option Statement → Type 0
+HasStatementOption s o = Has s (past_present past_statement o)
+
+abbrev pub HasStatements : Stored → List Statement → Type 0
+HasStatements s ss = Has s (past_statements ss)
+
+abbrev pub HasArms : Stored → List MatchArm → Type 0
+HasArms s arms = Has s (past_arms arms)
+
+abbrev pub HasPat : Stored → PatId → Type 0
+HasPat s id = suc id.0 ≤ length s.pats.entries
+
+abbrev pub HasPatOption : Stored → Option PatId → Type 0
+HasPatOption s o = Has s (past_present past_pat_id o)
+
+abbrev pub HasPats : Stored → List PatId → Type 0
+HasPats s ids = Has s (past_pat_ids ids)
+
+abbrev pub HasPatFields : Stored → List RecordFieldPat → Type 0
+HasPatFields s fs = Has s (past_pat_fields fs)
+
+abbrev pub HasBindingId : Stored → BindingId → Type 0
+HasBindingId s id = suc id.0 ≤ length s.bindings.entries
 
 abbrev pub HasType : Stored → TypeRefId → Type 0
 HasType s id = suc id.0 ≤ length s.types.entries
@@ -181,11 +230,16 @@ HasPathOption s o = Has s (past_present past_path o)
 abbrev pub HasTypeParts : Stored → TypeRef → Type 0
 HasTypeParts s t = Has s (past_type t)
 
+-- the parts of a pattern
+abbrev pub HasPatParts : Stored → Pat → Type 0
+HasPatParts s p = Has s (past_pat p) × (bindings_in p ≤ length s.bindings.entries)
+
 -- the parts of an expression
 abbrev pub HasParts : Stored → Expr → Type 0
 HasParts s e =
     (exprs_in e ≤ length s.exprs.entries) × (labels_in e ≤ length s.labels.entries)
     × (types_in e ≤ length s.types.entries) × (lifetimes_in e ≤ length s.lifetimes.entries)
+    × (pats_in e ≤ length s.pats.entries)
 
 -- every number in the store is in range
 pub record StoreInRange (s : Store) : Type 0 where
@@ -193,22 +247,43 @@ pub record StoreInRange (s : Store) : Type 0 where
   pub labels : past labels_in s.exprs ≤ length s.labels
   pub types : past types_in s.exprs ≤ length s.types
   pub lifetimes : past lifetimes_in s.exprs ≤ length s.lifetimes
+  pub pats : past pats_in s.exprs ≤ length s.pats
   pub of_types : Within s (past_each past_type s.types)
+  pub of_pats : Within s (past_pats s.pats)
+  pub bindings : past bindings_in s.pats ≤ length s.bindings
   pub roots : past past_root s.roots ≤ length s.exprs
+  pub pats_ends : past pats_end s.roots ≤ length s.pats
+  pub bindings_ends : past bindings_end s.roots ≤ length s.bindings
+
+-- the patterns that make bindings
+abbrev pub past_definition : PatId → ℕ
+past_definition p = suc p.0
+
+abbrev pub past_definitions : List (List PatId) → ℕ
+past_definitions pss = past (past past_definition) pss
 
 -- every number in what is stored so far is in range, but for the ways to what is stored
 abbrev pub InRangeSoFar : Stored → Type 0
-InRangeSoFar s = StoreInRange (store_of s) × (past (λ e. past_expr e.0) s.field_map_back ≤ length s.exprs.entries)
+InRangeSoFar s =
+    StoreInRange (store_of s)
+    × (past (λ e. past_expr e.0) s.field_map_back ≤ length s.exprs.entries)
+    × (past (λ e. suc e.0.0) s.pat_field_map_back ≤ length s.pats.entries)
+    × (past_definitions s.bindings.definitions ≤ length s.pats.entries)
 
 -- every number in the source map is one of the store, and each entry has its source
 pub record MapInRange (s : Store) (m : SourceMap) : Type 0 where
   pub expr_sources : length m.expr_sources ≡ length s.exprs
   pub label_sources : length m.label_sources ≡ length s.labels
+  pub pat_sources : length m.pat_sources ≡ length s.pats
   pub type_sources : length m.type_sources ≡ length s.types
   pub lifetime_sources : length m.lifetime_sources ≡ length s.lifetimes
   pub exprs : past (λ way. past_expr way.1) m.expr_map ≤ length s.exprs
   pub labels : past (λ way. past_label way.1) m.label_map ≤ length s.labels
+  pub pats : past (λ way. suc way.1.0) m.pat_map ≤ length s.pats
   pub fields : past (λ e. past_expr e.0) m.field_map_back ≤ length s.exprs
+  pub pat_fields : past (λ e. suc e.0.0) m.pat_field_map_back ≤ length s.pats
+  pub as_many_bindings : length m.binding_definitions ≡ length s.bindings
+  pub definitions : past_definitions m.binding_definitions ≤ length s.pats
   pub types : past (λ way. suc way.1.0) m.types_map ≤ length s.types
   pub lifetimes : past (λ way. suc way.1.0) m.lifetime_map ≤ length s.lifetimes
 
@@ -221,3 +296,4 @@ abbrev pub Grows : Stored → Stored → Type 0
 Grows old new =
     (length old.exprs.entries ≤ length new.exprs.entries) × (length old.labels.entries ≤ length new.labels.entries)
     × (length old.types.entries ≤ length new.types.entries) × (length old.lifetimes.entries ≤ length new.lifetimes.entries)
+    × (length old.pats.entries ≤ length new.pats.entries) × (length old.bindings.entries ≤ length new.bindings.entries)

@@ -2,15 +2,17 @@
 
 ghost use Rattle.std.specs.Prelude.{◌≡◌, ◌∷◌, ◌++◌, [], max, suc, OnOk};
 ghost use Rattle.hir_store.specs.Arenas.{past};
-ghost use Rattle.hir_store.specs.Range.{past_expr, past_field, past_statement};
+ghost use Rattle.hir_store.specs.Range.{past_expr, past_field};
+ghost use Rattle.hir_store.specs.Past.{past_arm, past_arms, past_pat_field, past_pat_fields, past_pat_id, past_pat_ids};
+ghost use Rattle.hir_store.specs.Past.{past_statement, past_statements};
 ghost use Rattle.hir_store.specs.Past.{join, past_arg, past_arg_lists, past_args, past_binding, past_bindings, past_bound, past_bounds};
 ghost use Rattle.hir_store.specs.Past.{past_generic, past_present, past_type_id, past_type_ids, past_use_arg, past_use_args};
 
-use crate::hir::{RecordLitField, Statement};
-use crate::ids::{ExprId, TypeRefId};
+use crate::hir::{MatchArm, RecordFieldPat, RecordLitField, Statement};
+use crate::ids::{ExprId, PatId, TypeRefId};
 use crate::path::{AssociatedTypeBinding, GenericArg, GenericArgs};
 use crate::type_ref::{TypeBound, UseArgRef};
-use hir_syntax::Seq;
+use hir_base::Seq;
 use std::alloc::AllocError;
 
 /// Adds a number to a list of an expression's parts.
@@ -23,14 +25,14 @@ pub fn push_id(ids: &mut Seq<ExprId>, id: ExprId) -> Result<(), AllocError>
 }
 
 /// Adds a statement to those of a block.
-#[tactic(auto, using(crate::proofs::Arenas::past_push))]
+#[tactic(auto, using(crate::proofs::Past::statements_push))]
 pub fn push_statement(
     statements: &mut Seq<Statement>,
     statement: Statement,
 ) -> Result<(), AllocError>
     ensures statements { OnOk result (statements.new ≡ statements.old ++ statement ∷ []) }
-    ensures past { OnOk result (past past_statement statements.new
-        ≡ max (past past_statement statements.old) (past_statement statement)) }
+    ensures past { OnOk result (past_statements statements.new
+        ≡ join (past_statements statements.old) (past_statement statement)) }
 {
     statements.push(statement)
 }
@@ -42,6 +44,36 @@ pub fn push_field(fields: &mut Seq<RecordLitField>, field: RecordLitField) -> Re
     ensures past { OnOk result (past past_field fields.new ≡ max (past past_field fields.old) (suc field.expr.0)) }
 {
     fields.push(field)
+}
+
+/// Adds a pattern to a list.
+#[tactic(auto, using(crate::proofs::Past::pat_ids_push))]
+pub fn push_pat(pats: &mut Seq<PatId>, pat: PatId) -> Result<(), AllocError>
+    ensures items { OnOk result (pats.new ≡ pats.old ++ pat ∷ []) }
+    ensures past { OnOk result (past_pat_ids pats.new ≡ join (past_pat_ids pats.old) (past_pat_id pat)) }
+{
+    pats.push(pat)
+}
+
+/// Adds a field to those of a record pattern.
+#[tactic(auto, using(crate::proofs::Past::pat_fields_push))]
+pub fn push_pat_field(
+    fields: &mut Seq<RecordFieldPat>,
+    field: RecordFieldPat,
+) -> Result<(), AllocError>
+    ensures items { OnOk result (fields.new ≡ fields.old ++ field ∷ []) }
+    ensures past { OnOk result (past_pat_fields fields.new ≡ join (past_pat_fields fields.old) (past_pat_field field)) }
+{
+    fields.push(field)
+}
+
+/// Adds an arm to those of a `match`.
+#[tactic(auto, using(crate::proofs::Past::arms_push))]
+pub fn push_arm(arms: &mut Seq<MatchArm>, arm: MatchArm) -> Result<(), AllocError>
+    ensures items { OnOk result (arms.new ≡ arms.old ++ arm ∷ []) }
+    ensures past { OnOk result (past_arms arms.new ≡ join (past_arms arms.old) (past_arm arm)) }
+{
+    arms.push(arm)
 }
 
 /// Adds a type to a list.

@@ -7,8 +7,8 @@ ghost use Rattle.hir_store.specs.Arenas.{Allocs, Kept, none_yet, pointed, with_w
 use crate::arena::{Arena, Entry};
 use crate::fault::StoreFault;
 use crate::pointers::PointerMap;
-use hir_syntax::Seq;
-use hir_syntax::node::{AstPtr, InFile};
+use hir_base::Seq;
+use hir_base::node::{AstPtr, InFile};
 use std::alloc::{AllocError, Global};
 use std::marker::Model;
 

@@ -3,10 +3,10 @@
 ghost use Rattle.std.specs.Prelude.{◌≡◌, IfOk};
 
 use crate::hir::Mutability;
-use crate::ids::{ExprId, LifetimeRefId, TypeRefId};
+use crate::ids::{ExprId, LifetimeRefId, PatId, TypeRefId};
 use crate::name::{Name, copy_names};
 use crate::path::Path;
-use hir_syntax::Seq;
+use hir_base::Seq;
 use std::alloc::AllocError;
 
 /// A lifetime as written. `Placeholder` is `'_`; an empty text and `'` alone are errors.
@@ -155,10 +155,11 @@ pub enum ExternAbi {
     RustCall,
 }
 
-/// A function pointer. The last of `params` is what it returns. `binder` has the names of the lifetimes of the `for<..>`
-/// directly around it, where one stands there.
+/// A function pointer. The last of `params` is what it returns, and `names` has what each of the others is called, where it has a
+/// name. `binder` has the names of the lifetimes of the `for<..>` directly around it, where one stands there.
 pub struct FnType {
     pub params: Seq<TypeRefId>,
+    pub names: Seq<Option<Name>>,
     pub is_varargs: bool,
     pub is_unsafe: bool,
     pub abi: ExternAbi,
@@ -169,6 +170,7 @@ impl Drop for FnType {
     fn drop(self) {
         let FnType {
             params: _,
+            names: _,
             is_varargs: _,
             is_unsafe: _,
             abi: _,
@@ -191,6 +193,8 @@ pub enum TypeRef {
     Fn(FnType),
     ImplTrait(Seq<TypeBound>),
     DynTrait(Seq<TypeBound>),
+    /// The values of a type that a pattern fits.
+    Pattern(TypeRefId, PatId),
 }
 
 impl Drop for TypeRef {
@@ -208,6 +212,7 @@ impl Drop for TypeRef {
             TypeRef::Fn(_) => {}
             TypeRef::ImplTrait(_) => {}
             TypeRef::DynTrait(_) => {}
+            TypeRef::Pattern(_, _) => {}
         }
     }
 }

@@ -1,10 +1,9 @@
 //! Types, and the arguments and bounds in them.
 
 use crate::ast::{ConstArg, Lifetime, Name, Path};
-use crate::boxed::Boxed;
-use crate::node::{NodeId, TextRange};
-use crate::seq::Seq;
-use crate::text::Text;
+use crate::pats::Pat;
+use hir_base::node::{NodeId, TextRange};
+use hir_base::{Boxed, Seq, Text};
 
 /// A type.
 #[cycle(ast)]
@@ -25,6 +24,7 @@ impl Drop for Type_ {
     }
 }
 
+#[derive(Drop)]
 #[cycle(ast)]
 pub enum TypeKind {
     ParenType {
@@ -69,45 +69,21 @@ pub enum TypeKind {
     DynTraitType {
         bounds: Seq<TypeBound>,
     },
+    /// `T is p`.
+    PatternType {
+        ty: Option<Boxed<Type_>>,
+        pat: Option<Boxed<Pat>>,
+    },
     NeverType,
     InferType,
 }
 
-impl Drop for TypeKind {
-    #[cycle(ast_drop)]
-    fn drop(self) {
-        match self {
-            TypeKind::ParenType { ty: _ } => {}
-            TypeKind::SliceType { ty: _ } => {}
-            TypeKind::ArrayType { ty: _, len: _ } => {}
-            TypeKind::TupleType { fields: _ } => {}
-            TypeKind::PathType { path: _ } => {}
-            TypeKind::PtrType { mut_: _, ty: _ } => {}
-            TypeKind::RefType {
-                lifetime: _,
-                mut_: _,
-                ty: _,
-            } => {}
-            TypeKind::FnPtrType {
-                unsafe_: _,
-                abi: _,
-                params: _,
-                ret: _,
-            } => {}
-            TypeKind::ForType { binder: _, ty: _ } => {}
-            TypeKind::ImplTraitType { bounds: _ } => {}
-            TypeKind::DynTraitType { bounds: _ } => {}
-            TypeKind::NeverType => {}
-            TypeKind::InferType => {}
-        }
-    }
-}
-
-/// A parameter of a function pointer. A variadic one is `...`.
+/// A parameter of a function or of a function pointer. A variadic one is `...`.
 #[cycle(ast)]
 pub struct Param {
     pub id: NodeId,
     pub range: TextRange,
+    pub pat: Option<Boxed<Pat>>,
     pub ty: Option<Boxed<Type_>>,
     pub variadic: bool,
 }
@@ -118,27 +94,9 @@ impl Drop for Param {
         let Param {
             id: _,
             range: _,
+            pat: _,
             ty: _,
             variadic: _,
-        } = self;
-    }
-}
-
-/// `-> T`.
-#[cycle(ast)]
-pub struct RetType {
-    pub id: NodeId,
-    pub range: TextRange,
-    pub ty: Option<Boxed<Type_>>,
-}
-
-impl Drop for RetType {
-    #[cycle(ast_drop)]
-    fn drop(self) {
-        let RetType {
-            id: _,
-            range: _,
-            ty: _,
         } = self;
     }
 }
@@ -217,41 +175,12 @@ impl Drop for UseArg {
 }
 
 /// The path of a trait.
+#[derive(Drop)]
 #[cycle(ast)]
 pub struct PathType {
     pub id: NodeId,
     pub range: TextRange,
     pub path: Option<Boxed<Path>>,
-}
-
-impl Drop for PathType {
-    #[cycle(ast_drop)]
-    fn drop(self) {
-        let PathType {
-            id: _,
-            range: _,
-            path: _,
-        } = self;
-    }
-}
-
-/// `<..>` behind a name.
-#[cycle(ast)]
-pub struct GenericArgList {
-    pub id: NodeId,
-    pub range: TextRange,
-    pub args: Seq<GenericArg>,
-}
-
-impl Drop for GenericArgList {
-    #[cycle(ast_drop)]
-    fn drop(self) {
-        let GenericArgList {
-            id: _,
-            range: _,
-            args: _,
-        } = self;
-    }
 }
 
 #[cycle(ast)]
@@ -274,26 +203,8 @@ impl Drop for GenericArg {
     }
 }
 
-/// A type as an argument.
-#[cycle(ast)]
-pub struct TypeArg {
-    pub id: NodeId,
-    pub range: TextRange,
-    pub ty: Option<Boxed<Type_>>,
-}
-
-impl Drop for TypeArg {
-    #[cycle(ast_drop)]
-    fn drop(self) {
-        let TypeArg {
-            id: _,
-            range: _,
-            ty: _,
-        } = self;
-    }
-}
-
 /// `N = T` or `N: B` as an argument.
+#[derive(Drop)]
 #[cycle(ast)]
 pub struct AssocTypeArg {
     pub id: NodeId,
@@ -307,22 +218,6 @@ pub struct AssocTypeArg {
     pub rtn: bool,
     pub ty: Option<Boxed<Type_>>,
     pub bounds: Seq<TypeBound>,
-}
-
-impl Drop for AssocTypeArg {
-    #[cycle(ast_drop)]
-    fn drop(self) {
-        let AssocTypeArg {
-            id: _,
-            range: _,
-            name: _,
-            params: _,
-            generics: _,
-            rtn: _,
-            ty: _,
-            bounds: _,
-        } = self;
-    }
 }
 
 /// A lifetime as an argument.
@@ -342,21 +237,14 @@ impl Drop for LifetimeArg {
     }
 }
 
-/// `(A, B)` behind a name.
-#[cycle(ast)]
-pub struct ParenArgs {
-    pub id: NodeId,
-    pub range: TextRange,
-    pub args: Seq<TypeArg>,
-}
+/// `-> T`.
+pub type RetType = Option<Boxed<Type_>>;
 
-impl Drop for ParenArgs {
-    #[cycle(ast_drop)]
-    fn drop(self) {
-        let ParenArgs {
-            id: _,
-            range: _,
-            args: _,
-        } = self;
-    }
-}
+/// A type as an argument.
+pub type TypeArg = Option<Boxed<Type_>>;
+
+/// `<..>` behind a name.
+pub type GenericArgList = Seq<GenericArg>;
+
+/// `(A, B)` behind a name.
+pub type ParenArgs = Seq<TypeArg>;

@@ -1,66 +1,190 @@
--- Steps whose answer names types that were named before, and types that they stored, each once. What they stored besides names
+-- Steps whose answer names types and patterns that were named before, or that they stored, each once. What they stored besides names
 -- others: the expressions of a constant name types, and are stored where its type is.
-use Rattle.std.proofs.Common.{◌≡◌, ap, ℕ, zero, suc, ◌+◌, ◌≤◌, List, [], ◌++◌, slice_get, Option, Some, arith}
+use Rattle.std.proofs.Common.{◌≡◌, ◌∙◌, ◌⊎◌, inl, inr, ⊎_elim, ap, sym, subst, ℕ, zero, suc, ◌+◌, ◌<◌, ◌≤◌, List, [], ◌∷◌, ◌++◌}
+use Rattle.std.proofs.Common.{length, length-append, slice_get, Option, Some, Ok, Err, refl, arith}
+use Rattle.std.proofs.lemmas.Option.{same_Some}
+use Rattle.hir_scope.specs.Each.{Each}
+use Rattle.hir_same_meaning.specs.Reached.{Between}
 use Rattle.hir_store.specs.Pointers.{Pointer}
 use Rattle.hir_store.specs.Stored.{Stored}
 use Rattle.hir_store.specs.declared.hir.Expr.{Expr as HirExpr}
+use Rattle.hir_store.specs.declared.ids.PatId.{PatId}
 use Rattle.hir_store.specs.declared.ids.TypeRefId.{TypeRefId}
+use Rattle.hir_store.specs.declared.pat.Pat.{Pat as HirPat}
 use Rattle.hir_store.specs.declared.type_ref.TypeRef.{TypeRef}
+use Rattle.hir_store.specs.declared.type_ref.TypeRef.TheVariants as ty
 use Rattle.hir_store.specs.declared.type_ref.LifetimeRef.{LifetimeRef}
-use Rattle.hir_lower_form.specs.Lowering.{Lowering, ◌>>=◌, pure, alloc_expr, alloc_type, alloc_lifetime}
+use Rattle.hir_lower_form.specs.Builder.{Builder}
+use Rattle.hir_lower_form.specs.Lowering.{Checked, Lowering, ◌>>=◌, pure, alloc_expr, alloc_pat, alloc_type, alloc_lifetime}
 use Rattle.hir_steps.proofs.Frames.{Frame}
-use Rattle.hir_steps.proofs.Steps.{Mark, Grows, Rel, Correct, correct_bind, correct_as, correct_pure, correct_alloc}
+use Rattle.hir_steps.proofs.PatSteps.{correct_alloc_pat}
+use Rattle.hir_steps.proofs.Steps.{Mark, Grows, Rel, Holds, Correct, correct_bind, correct_as, correct_pure, correct_alloc}
 use Rattle.hir_steps.proofs.Steps.{correct_alloc_type, correct_alloc_lifetime}
 use Rattle.hir_type_result.specs.Reached.{below, types_reached}
-use Rattle.hir_type_result.specs.Named.{of_expr, of_exprs}
-use Rattle.hir_type_result.proofs.Counted.{times, less, ◌⊑◌, times_append, one_past, less_grows}
+use Rattle.hir_type_result.specs.Named.{Look, of_types_alone, of_pats_alone, of_bindings_alone, of_expr, of_exprs, of_pat, of_pats}
+use Rattle.hir_type_result.specs.Pats.{of_type, of_types, pats_reached}
+use Rattle.hir_type_result.proofs.Counted.{times, less, same, same_self, ◌⊑◌, times_append, one_past, less_grows}
 use Rattle.hir_type_result.proofs.Numbers.{each_push}
 
--- the numbers that are named, of what each type reaches
+-- ---- what is counted: types, or patterns
+
+pub data Sort : Type 0 where
+  the_types : Sort
+  the_pats : Sort
+
+-- how many there are
+abbrev pub known : Sort → Mark → ℕ
+known the_types m = m.types
+known the_pats m = m.pats
+
+pub grows : (s : Sort) {m m' : Mark} → Grows m m' → known s m ≤ known s m'
+grows the_types g = g.types
+grows the_pats g = g.pats
+
+-- what each reaches, so deep
+abbrev pub look : Sort → Stored → ℕ → Look
+look the_types final d = of_types_alone (types_reached final.types.entries d)
+look the_pats final d = of_pats_alone (pats_reached final.pats.entries d)
+
+-- patterns name patterns as those that are counted, which reach them
+abbrev chosen : Sort → List HirPat → List HirPat
+chosen the_types ps = ps
+chosen the_pats ps = []
+
+-- how often a number is named by what the one holds, looked up in the other
+abbrev pub holds : Sort → Look → Stored → ℕ → ℕ
+holds s l stored k = times k (of_exprs l stored.exprs.entries)
+    + (times k (of_pats l (chosen s stored.pats.entries)) + times k (of_types l stored.types.entries))
+
+abbrev pub named : Sort → Stored → ℕ → Stored → ℕ → ℕ
+named s final d stored k = holds s (look s final d) stored k
+
+-- the numbers that are named, of what each type and each pattern reaches
 abbrev pub Numbers : Type 0
-Numbers = (TypeRefId → List ℕ) → List ℕ
+Numbers = Look → List ℕ
 
 abbrev pub none : Numbers
-none f = []
+none l = []
 
-abbrev pub reached : Stored → ℕ → TypeRefId → List ℕ
-reached final d = types_reached final.types.entries d
-
--- what the expressions of the one name, looked up in the other
-abbrev pub named : Stored → ℕ → Stored → List ℕ
-named final d s = of_exprs (reached final d) s.exprs.entries
-
--- At some depth at which all is reached that was stored before, no number stands more often in `now`, and in what all expressions
--- name, than it did in `was` and what they named, but for those that were given out, which stand once more.
-pub record Earlier (was : Numbers) (final : Stored) (m m' : Mark) (all : ℕ) (now : List ℕ) : Type 0 where
+-- At some depth at which all is reached that was stored before, no number stands more often in `now`, and in what is held, than it
+-- did in `was` and what was held, but for those that were given out, which stand once more.
+pub record Earlier (s : Sort) (was : Numbers) (final : Stored) (m m' : Mark) (all : ℕ) (now : List ℕ) : Type 0 where
   pub depth : ℕ
-  pub deep : m.types ≤ depth
+  pub deep : known s m ≤ depth
   pub counted : (k : ℕ)
-      → times k now + (times k (named final all m'.stored) + less k m.types)
-      ≤ times k (was (reached final depth)) + (times k (named final all m.stored) + less k m'.types)
+      → times k now + (named s final all m'.stored k + less k (known s m))
+      ≤ times k (was (look s final depth)) + (named s final all m.stored k + less k (known s m'))
 
-pub record Adds {A : Type 0} (was : Numbers) (now : A → Numbers) (final : Stored) (ps : List Frame) (m m' : Mark) (a : A) : Type 0 where
-  pub grown : (d k : ℕ) → times k (named final d m.stored) ≤ times k (named final d m'.stored)
-  pub earlier : (d all : ℕ) → m'.types ≤ d → m'.types ≤ all → Earlier was final m m' all (now a (reached final d))
+-- Patterns that came make bindings from this number on, and that came.
+abbrev pub Made : ℕ → Stored → Mark → Mark → Type 0
+Made lo final m m' = (n : ℕ) (p : HirPat) → length m.stored.pats.entries ≤ n → n < length m'.stored.pats.entries
+    → slice_get final.pats.entries n ≡ Some p → Each (Between lo m'.bindings) (of_pat of_bindings_alone p)
+
+-- where these bindings and those that are named are from that number on
+pub record Bound (lo : ℕ) (final : Stored) (m m' : Mark) (bs now : List ℕ) : Type 0 where
+  pub known : Each (Between lo m'.bindings) bs
+  pub named : Each (Between lo m'.bindings) now
+  pub made : Made lo final m m'
+
+-- with these bindings in a table before and behind
+pub record Steps {A : Type 0} (bs : List ℕ) (was : Numbers) (cs : A → List ℕ) (now : A → Numbers) (final : Stored) (ps : List Frame)
+    (m m' : Mark) (a : A) : Type 0 where
+  pub bound : (lo : ℕ) → lo ≤ m.bindings → Each (Between lo m.bindings) bs → Each (Between lo m.bindings) (was of_bindings_alone)
+      → Bound lo final m m' (cs a) (now a of_bindings_alone)
+  pub grown : (s : Sort) (d k : ℕ) → named s final d m.stored k ≤ named s final d m'.stored k
+  pub earlier : (s : Sort) (d all : ℕ) → known s m' ≤ d → known s m' ≤ all → Earlier s was final m m' all (now a (look s final d))
+
+-- without a table
+abbrev pub Adds : {A : Type 0} → Numbers → (A → Numbers) → Rel A
+Adds {A = A} was now = Steps {A = A} [] was (λ a. []) now
 
 -- the answer names nothing
 abbrev pub Quiet : {A : Type 0} → Rel A
 Quiet {A = A} = Adds {A = A} none (λ a. none)
 
-pub adds_pure : {A : Type 0} {was : Numbers} {now : A → Numbers} (a : A)
-    → ((f : TypeRefId → List ℕ) → now a f ⊑ was f) → Correct (pure a) (Adds was now)
-adds_pure a h = correct_as (correct_pure a) (λ final ps m m' b g row. rw (row.is, row.still) (record {
-  grown = λ d k. omega arith;
-  earlier = λ d all le le'. record { depth = d; deep = le; counted = λ k. let e = h (reached final d) k in omega arith };
+-- ---- numbers in a range
+
+pub wider : (lo hi hi' : ℕ) (ks : List ℕ) → hi ≤ hi' → Each (Between lo hi) ks → Each (Between lo hi') ks
+wider lo hi hi' [] le h = tt
+wider lo hi hi' (k ∷ ks) le h = let a : k < hi = h.0.1 in ((h.0.0, omega (arith, le, a)), wider lo hi hi' ks le h.1)
+
+pub both : (P : ℕ → Type 0) (ks js : List ℕ) → Each P ks → Each P js → Each P (ks ++ js)
+both P [] js h k = k
+both P (i ∷ ks) js h k = (h.0, both P ks js h.1 k)
+
+member : (lo hi k : ℕ) (js : List ℕ) → 1 ≤ times k js → Each (Between lo hi) js → Between lo hi k
+member lo hi k [] le h = absurd (omega (arith, le))
+member lo hi k (j ∷ js) le h = by (same k j) refl (member lo hi k js)
+  where
+    is_same : (k j : ℕ) → 1 ≤ same k j → k ≡ j
+    is_same zero zero le = refl
+    is_same zero (suc j) le = absurd (omega (arith, le))
+    is_same (suc k) zero le = absurd (omega (arith, le))
+    is_same (suc k) (suc j) le = ap suc (is_same k j le)
+
+    by : (n : ℕ) → same k j ≡ n → (1 ≤ times k js → Each (Between lo hi) js → Between lo hi k) → Between lo hi k
+    by zero e later = later (omega (arith, e, le)) h.1
+    by (suc n) e later = subst (Between lo hi) (sym (is_same k j (omega (arith, e)))) h.0
+
+-- no number stands in the one that doesn't in the other
+fewer : (lo hi : ℕ) (ks js : List ℕ) → ks ⊑ js → Each (Between lo hi) js → Each (Between lo hi) ks
+fewer lo hi [] js le h = tt
+fewer lo hi (k ∷ ks) js le h = (
+  member lo hi k js (let a = le k in let s = same_self k in omega (arith, a, s)) h,
+  fewer lo hi ks js (λ i. let a = le i in omega (arith, a)) h,
+)
+
+pub none_made : (lo : ℕ) (final : Stored) (m m' : Mark) → m'.stored.pats.entries ≡ m.stored.pats.entries → Made lo final m m'
+none_made lo final m m' e n p le lt is = let l = ap length e in absurd (omega (arith, le, lt, l))
+
+pub made_then : (lo : ℕ) (final : Stored) (a b c : Mark) → b.bindings ≤ c.bindings → Made lo final a b → Made lo final b c
+    → Made lo final a c
+made_then lo final a b c le h k n p from to is = by (before n (length b.stored.pats.entries))
+  where
+    before : (n k : ℕ) → (n < k) ⊎ (k ≤ n)
+    before n zero = inr (omega arith)
+    before zero (suc k) = inl (omega arith)
+    before (suc n) (suc k) = ⊎_elim (λ l. inl (omega (arith, l))) (λ l. inr (omega (arith, l))) (before n k)
+
+    by : (n < length b.stored.pats.entries) ⊎ (length b.stored.pats.entries ≤ n)
+        → Each (Between lo c.bindings) (of_pat of_bindings_alone p)
+    by (inl l) = wider lo b.bindings c.bindings (of_pat of_bindings_alone p) le (h n p from l is)
+    by (inr l) = k n p l to is
+
+-- ---- steps
+
+-- the answer has no other bindings in its table
+pub adds_done : {A : Type 0} {bs : List ℕ} {was : Numbers} {cs : A → List ℕ} {now : A → Numbers} (a : A)
+    → ((l : Look) → now a l ⊑ was l) → ((P : ℕ → Type 0) → Each P bs → Each P (cs a)) → Correct (pure a) (Steps bs was cs now)
+adds_done {was = was} {now = now} a h e = correct_as (correct_pure a) (λ final ps m m' b g row. rw (row.is, row.still) (record {
+  bound = λ lo le t w. record {
+    known = e (Between lo m.bindings) t;
+    named = fewer lo m.bindings (now a of_bindings_alone) (was of_bindings_alone) (h of_bindings_alone) w;
+    made = none_made lo final m m refl;
+  };
+  grown = λ s d k. omega arith;
+  earlier = λ s d all le le'. record { depth = d; deep = le; counted = λ k. let e = h (look s final d) k in omega arith };
 }))
 
-pub adds_then : {A B : Type 0} {was : Numbers} {one : A → Numbers} {now : B → Numbers} {p : Lowering A} {q : A → Lowering B}
-    → Correct p (Adds was one) → ((a : A) → Correct (q a) (Adds (one a) now)) → Correct (p >>= q) (Adds was now)
+pub adds_pure : {A : Type 0} {was : Numbers} {now : A → Numbers} (a : A)
+    → ((l : Look) → now a l ⊑ was l) → Correct (pure a) (Adds was now)
+adds_pure a h = adds_done a h (λ P x. x)
+
+pub adds_then : {A B : Type 0} {bs : List ℕ} {was : Numbers} {cs : A → List ℕ} {one : A → Numbers} {ds : B → List ℕ} {now : B → Numbers}
+    {p : Lowering A} {q : A → Lowering B} → Correct p (Steps bs was cs one) → ((a : A) → Correct (q a) (Steps (cs a) (one a) ds now))
+    → Correct (p >>= q) (Steps bs was ds now)
 adds_then h k = correct_as (correct_bind h k) (λ final ps m m' b g row. record {
-  grown = λ d n. let x = row.first.grown d n in let y = row.second.grown d n in omega arith;
-  earlier = λ d all le le'.
-      let y = row.second.earlier d all le le' in
-      let x = row.first.earlier y.depth all y.deep (omega (arith, le', row.after.types)) in record {
+  bound = λ lo le t w.
+      let x = row.first.bound lo le t w in
+      let y = row.second.bound lo (omega (arith, le, row.before.bindings)) x.known x.named in record {
+        known = y.known;
+        named = y.named;
+        made = made_then lo final m row.middle m' row.after.bindings x.made y.made;
+      };
+  grown = λ s d n. let x = row.first.grown s d n in let y = row.second.grown s d n in omega arith;
+  earlier = λ s d all le le'.
+      let y = row.second.earlier s d all le le' in
+      let x = row.first.earlier s y.depth all y.deep (omega (arith, le', grows s row.after)) in record {
         depth = x.depth;
         deep = x.deep;
         counted = λ n. let a = x.counted n in let b = y.counted n in omega arith;
@@ -68,106 +192,273 @@ adds_then h k = correct_as (correct_bind h k) (λ final ps m m' b g row. record 
 })
 
 -- beside what was named
-pub adds_beside : {A : Type 0} {now : A → Numbers} {p : Lowering A} (more : Numbers) → Correct p (Adds none now)
-    → Correct p (Adds more (λ a f. more f ++ now a f))
+pub adds_beside : {A : Type 0} {bs : List ℕ} {cs : A → List ℕ} {now : A → Numbers} {p : Lowering A} (more : Numbers)
+    → Correct p (Steps bs none cs now) → Correct p (Steps bs more cs (λ a l. more l ++ now a l))
 adds_beside {now = now} more h = correct_as h (λ final ps m m' a g row. record {
+  bound = λ lo le t w.
+      let x = row.bound lo le t tt in record {
+        known = x.known;
+        named = both (Between lo m'.bindings) (more of_bindings_alone) (now a of_bindings_alone)
+            (wider lo m.bindings m'.bindings (more of_bindings_alone) g.bindings w) x.named;
+        made = x.made;
+      };
   grown = row.grown;
-  earlier = λ d all le le'.
-      let f = reached final d in
-      let x = row.earlier d all le le' in record {
+  earlier = λ s d all le le'.
+      let l = look s final d in
+      let x = row.earlier s d all le le' in record {
         depth = d;
-        deep = omega (arith, g.types);
-        counted = λ k. let e = x.counted k in let s = times_append k (more f) (now a f) in omega arith;
+        deep = omega (arith, le, grows s g);
+        counted = λ k. let e = x.counted k in let s = times_append k (more l) (now a l) in omega arith;
       };
 })
 
 -- what was named is still named where the answer names nothing
 pub adds_quiet : {A : Type 0} {was : Numbers} {p : Lowering A} → Correct p Quiet → Correct p (Adds was (λ a. was))
-adds_quiet h = correct_as h (λ final ps m m' a g row. record {
+adds_quiet {was = was} h = correct_as h (λ final ps m m' a g row. record {
+  bound = λ lo le t w.
+      let x = row.bound lo le t tt in record {
+        known = tt;
+        named = wider lo m.bindings m'.bindings (was of_bindings_alone) g.bindings w;
+        made = x.made;
+      };
   grown = row.grown;
-  earlier = λ d all le le'.
-      let x = row.earlier d all le le' in record {
+  earlier = λ s d all le le'.
+      let x = row.earlier s d all le le' in record {
         depth = d;
-        deep = omega (arith, g.types);
+        deep = omega (arith, le, grows s g);
         counted = λ k. let e = x.counted k in omega arith;
       };
 })
 
--- of more
-pub adds_from : {A : Type 0} {was was' : Numbers} {now : A → Numbers} {p : Lowering A}
-    → ((f : TypeRefId → List ℕ) → was f ⊑ was' f) → Correct p (Adds was now) → Correct p (Adds was' now)
-adds_from h c = correct_as c (λ final ps m m' a g row. record {
+-- beside a table, which stays as it is
+pub framed : {A : Type 0} {bs : List ℕ} {was : Numbers} {now : A → Numbers} {p : Lowering A} → Correct p (Adds was now)
+    → Correct p (Steps bs was (λ a. bs) now)
+framed {bs = bs} h = correct_as h (λ final ps m m' a g row. record {
+  bound = λ lo le t w.
+      let x = row.bound lo le tt w in record { known = wider lo m.bindings m'.bindings bs g.bindings t; named = x.named; made = x.made };
   grown = row.grown;
-  earlier = λ d all le le'. let x = row.earlier d all le le' in record {
+  earlier = row.earlier;
+})
+
+-- whatever is in the table then
+pub tabled : {A : Type 0} {bs : List ℕ} {was : Numbers} {cs : A → List ℕ} {now : A → Numbers} {p : Lowering A}
+    → Correct p (Steps bs was cs now) → Correct p (Steps bs was (λ a. []) now)
+tabled h = correct_as h (λ final ps m m' a g row. record {
+  bound = λ lo le t w. let x = row.bound lo le t w in record { known = tt; named = x.named; made = x.made };
+  grown = row.grown;
+  earlier = row.earlier;
+})
+
+-- of more
+pub adds_from : {A : Type 0} {bs : List ℕ} {was was' : Numbers} {cs : A → List ℕ} {now : A → Numbers} {p : Lowering A}
+    → ((l : Look) → was l ⊑ was' l) → Correct p (Steps bs was cs now) → Correct p (Steps bs was' cs now)
+adds_from {was = was} {was' = was'} h c = correct_as c (λ final ps m m' a g row. record {
+  bound = λ lo le t w. row.bound lo le t (fewer lo m.bindings (was of_bindings_alone) (was' of_bindings_alone) (h of_bindings_alone) w);
+  grown = row.grown;
+  earlier = λ s d all le le'. let x = row.earlier s d all le le' in record {
     depth = x.depth;
     deep = x.deep;
-    counted = λ k. let e = x.counted k in let l = h (reached final x.depth) k in omega arith;
+    counted = λ k. let e = x.counted k in let l = h (look s final x.depth) k in omega arith;
   };
 })
 
--- as many expressions as before
+-- what was stored names as much as before, and no pattern is stored
 pub adds_still : {A : Type 0} {was : Numbers} {now : A → Numbers} {final : Stored} {ps : List Frame} {m m' : Mark} {a : A} → Grows m m'
-    → m'.stored.exprs.entries ≡ m.stored.exprs.entries → ((f : TypeRefId → List ℕ) → now a f ⊑ was f) → Adds was now final ps m m' a
-adds_still {final = final} {m = m} {m' = m'} g e h = record {
-  grown = λ d k. let n = ap (λ xs. times k (of_exprs (reached final d) xs)) e in omega arith;
-  earlier = λ d all le le'. record {
+    → m'.stored.pats.entries ≡ m.stored.pats.entries
+    → ((s : Sort) (d k : ℕ) → named s final d m'.stored k ≡ named s final d m.stored k) → ((l : Look) → now a l ⊑ was l)
+    → Adds was now final ps m m' a
+adds_still {was = was} {now = now} {final = final} {m = m} {m' = m'} {a = a} g none e h = record {
+  bound = λ lo le t w. record {
+    known = tt;
+    named = wider lo m.bindings m'.bindings (now a of_bindings_alone) g.bindings
+        (fewer lo m.bindings (now a of_bindings_alone) (was of_bindings_alone) (h of_bindings_alone) w);
+    made = none_made lo final m m' none;
+  };
+  grown = λ s d k. let n = e s d k in omega arith;
+  earlier = λ s d all le le'. record {
     depth = d;
-    deep = omega (arith, g.types);
+    deep = omega (arith, le, grows s g);
     counted = λ k.
-        let n = ap (λ xs. times k (of_exprs (reached final all) xs)) e in
-        let l = less_grows k m.types m'.types g.types in
-        let x = h (reached final d) k in omega arith;
+        let n = e s all k in
+        let l = less_grows k (known s m) (known s m') (grows s g) in
+        let x = h (look s final d) k in omega arith;
   };
 }
 
--- a type names itself and what it holds
-pub adds_type : {was : Numbers} (t : TypeRef) (source : Option Pointer) → ((f : TypeRefId → List ℕ) → below f t ⊑ was f)
-    → Correct (alloc_type t source) (Adds was (λ i f. f i))
+-- how far it has come is how much is stored
+pub record Linked {A : Type 0} (R : Rel A) (final : Stored) (ps : List Frame) (m m' : Mark) (a : A) : Type 0 where
+  pub rel : R final ps m m' a
+  pub pats : m.pats ≡ length m.stored.pats.entries
+  pub bindings : m.bindings ≡ length m.stored.bindings.entries
+
+pub linked : {A : Type 0} {R : Rel A} {p : Lowering A} → Correct p R → Correct p (Linked R)
+linked {A = A} {R = R} {p = p} h = record { holds = λ final ps b r. go final ps b (p b).0 (p b).1 (h.holds final ps b r) }
+  where
+    go : (final : Stored) (ps : List Frame) (b : Builder) (o : Checked A) (c : Builder) → Holds R final ps b o c
+        → Holds (Linked R) final ps b o c
+    go final ps b (Ok a) c y = record {
+      kept = y.kept;
+      grows = y.grows;
+      in_final = λ d pre. record { rel = y.in_final d pre; pats = refl; bindings = refl };
+    }
+    go final ps b (Err e) c y = y
+
+-- ---- what is stored
+
+-- of types no pattern is named where types are counted
+pub no_pats_named : (f : TypeRefId → List ℕ) (t : TypeRef) (k : ℕ) → times k (of_type (of_types_alone f) t) ≡ 0
+no_pats_named f (ty.Pattern t p) k = refl
+no_pats_named f t k = refl
+
+-- A type names itself and what it holds; a pattern that it holds is named by it.
+pub adds_type : {was : Numbers} (t : TypeRef) (source : Option Pointer)
+    → ((l : Look) (k : ℕ) → times k (below l.types t) + times k (of_type l t) ≤ times k (was l))
+    → Correct (alloc_type t source) (Adds was (λ i l. l.types i))
 unfolding types_reached
-adds_type {was = was} t source h = correct_as (correct_alloc_type t source) (λ final ps m m' i g row.
-    let e : m'.stored.exprs.entries ≡ m.stored.exprs.entries = ap (λ s. s.exprs.entries) row.stored in record {
-      grown = λ d k. let n = ap (λ xs. times k (of_exprs (reached final d) xs)) e in omega arith;
-      earlier = λ d all le le'. at_depth final m m' i d all le row.number row.here row.next e;
-    })
+adds_type {was = was} t source h = correct_as (correct_alloc_type t source) (λ final ps m m' i g row. record {
+  bound = λ lo le t w. record { known = tt; named = tt; made = none_made lo final m m' (ap (λ x. x.pats.entries) row.stored) };
+  grown = λ s d k.
+      let n = ap (λ x. named s final d x k) row.stored in
+      let p = each_push (of_type (look s final d)) m.stored.types.entries t k in omega arith;
+  earlier = λ s d all le le'. by s final m m' i g d all le le' row.number row.here row.next
+      (λ k. ap (λ x. named s final all x k) row.stored);
+})
   where
     at_depth : (final : Stored) (m m' : Mark) (i : TypeRefId) (d all : ℕ) → m'.types ≤ d → i.0 ≡ m.types
-        → slice_get final.types.entries m.types ≡ Some t → m'.types ≡ suc m.types → m'.stored.exprs.entries ≡ m.stored.exprs.entries
-        → Earlier was final m m' all (reached final d i)
+        → slice_get final.types.entries m.types ≡ Some t → m'.types ≡ suc m.types
+        → ((k : ℕ) → named the_types final all m'.stored k ≡ named the_types final all m.stored k)
+        → Earlier the_types was final m m' all (types_reached final.types.entries d i)
     at_depth final m m' i zero all le number here next still = absurd (omega (arith, le, next))
     at_depth final m m' i (suc d) all le number here next still = record {
       depth = d;
       deep = omega (arith, le, next);
       counted = λ k.
-          let e = h (reached final d) k in
+          let e = h (look the_types final d) k in
           let p = one_past k m.types in
-          let n = ap (λ xs. times k (of_exprs (reached final all) xs)) still in
+          let n = still k in
           rw (number, here, next) (omega (arith, e, p, n));
     }
 
--- one that nothing names yet
-pub adds_unnamed : {was : Numbers} (t : TypeRef) (source : Option Pointer) → Correct (alloc_type t source) (Adds was (λ i f. was f))
-adds_unnamed t source = correct_as (correct_alloc_type t source)
-    (λ final ps m m' i g row. adds_still g (ap (λ s. s.exprs.entries) row.stored) (λ f k. omega arith))
+    by : (s : Sort) (final : Stored) (m m' : Mark) (i : TypeRefId) → Grows m m' → (d all : ℕ) → known s m' ≤ d → known s m' ≤ all
+        → i.0 ≡ m.types → slice_get final.types.entries m.types ≡ Some t → m'.types ≡ suc m.types
+        → ((k : ℕ) → named s final all m'.stored k ≡ times k (of_exprs (look s final all) m.stored.exprs.entries)
+        + (times k (of_pats (look s final all) (chosen s m.stored.pats.entries))
+        + times k (of_types (look s final all) (m.stored.types.entries ++ t ∷ []))))
+        → Earlier s was final m m' all ((look s final d).types i)
+    by the_types final m m' i g d all le le' number here next new = at_depth final m m' i d all le number here next (λ k.
+        let n = new k in
+        let z = no_pats_named (types_reached final.types.entries all) t k in
+        let p = each_push (of_type (look the_types final all)) m.stored.types.entries t k in omega arith)
+    by the_pats final m m' i g d all le le' number here next new = record {
+      depth = all;
+      deep = omega (arith, le', g.pats);
+      counted = λ k.
+          let e = h (look the_pats final all) k in
+          let n = new k in
+          let p = each_push (of_type (look the_pats final all)) m.stored.types.entries t k in
+          let l = less_grows k m.pats m'.pats g.pats in omega arith;
+    }
+
+-- one that nothing names yet, and that names no pattern
+pub adds_unnamed : {was : Numbers} (t : TypeRef) (source : Option Pointer) → ((l : Look) (k : ℕ) → times k (of_type l t) ≡ 0)
+    → Correct (alloc_type t source) (Adds was (λ i. was))
+adds_unnamed t source none = correct_as (correct_alloc_type t source) (λ final ps m m' i g row. adds_still g
+    (ap (λ x. x.pats.entries) row.stored)
+    (λ s d k.
+    let n = ap (λ x. named s final d x k) row.stored in
+    let p = each_push (of_type (look s final d)) m.stored.types.entries t k in
+    let z = none (look s final d) k in omega arith)
+    (λ l k. omega arith))
 
 pub adds_lifetime : {was : Numbers} (l : LifetimeRef) (source : Option Pointer)
-    → Correct (alloc_lifetime l source) (Adds was (λ i f. was f))
+    → Correct (alloc_lifetime l source) (Adds was (λ i. was))
 adds_lifetime l source = correct_as (correct_alloc_lifetime l source)
-    (λ final ps m m' i g row. adds_still g (ap (λ s. s.exprs.entries) row.stored) (λ f k. omega arith))
+    (λ final ps m m' i g row. adds_still g (ap (λ x. x.pats.entries) row.stored) (λ s d k. ap (λ x. named s final d x k) row.stored)
+    (λ l k. omega arith))
 
 -- an expression names what was named
-pub adds_expr : {was : Numbers} (e : HirExpr) (at : Option Pointer) → ((f : TypeRefId → List ℕ) → of_expr f e ⊑ was f)
+pub adds_expr : {was : Numbers} (e : HirExpr) (at : Option Pointer) → ((l : Look) → of_expr l e ⊑ was l)
     → Correct (alloc_expr e at) (Adds was (λ i. none))
 adds_expr e at h = correct_as (correct_alloc e at) (λ final ps m m' i g row. record {
-  grown = λ d k.
-      let s = ap (λ s. times k (named final d s)) row.stored in
-      let p = each_push (of_expr (reached final d)) m.stored.exprs.entries e k in omega arith;
-  earlier = λ d all le le'. record {
+  bound = λ lo le t w. record { known = tt; named = tt; made = none_made lo final m m' (ap (λ x. x.pats.entries) row.stored) };
+  grown = λ s d k.
+      let n = ap (λ x. named s final d x k) row.stored in
+      let p = each_push (of_expr (look s final d)) m.stored.exprs.entries e k in omega arith;
+  earlier = λ s d all le le'. record {
     depth = all;
-    deep = omega (arith, g.types);
+    deep = omega (arith, le', grows s g);
     counted = λ k.
-        let x = h (reached final all) k in
-        let s = ap (λ s. times k (named final all s)) row.stored in
-        let p = each_push (of_expr (reached final all)) m.stored.exprs.entries e k in
-        let l = less_grows k m.types m'.types g.types in omega arith;
+        let x = h (look s final all) k in
+        let n = ap (λ x. named s final all x k) row.stored in
+        let p = each_push (of_expr (look s final all)) m.stored.exprs.entries e k in
+        let l = less_grows k (known s m) (known s m') (grows s g) in omega arith;
   };
 })
+
+-- a pattern names itself and what it holds; types are named by it
+pub adds_pat : {was : Numbers} (p : HirPat) (source : Option Pointer) → ((l : Look) → of_pat l p ⊑ was l)
+    → Correct (alloc_pat p source) (Adds was (λ i l. l.pats i))
+unfolding pats_reached
+adds_pat {was = was} p source h = correct_as (correct_alloc_pat p source) (λ final ps m m' i g row. record {
+  bound = λ lo le t w. record {
+    known = tt;
+    named = tt;
+    made = made_one final lo m m' (wider lo m.bindings m'.bindings (of_pat of_bindings_alone p) g.bindings
+        (fewer lo m.bindings (of_pat of_bindings_alone p) (was of_bindings_alone) (h of_bindings_alone) w))
+        row.here row.last (ap (λ x. x.pats.entries) row.stored);
+  };
+  grown = λ s d k. grown s final m m' d k (ap (λ x. named s final d x k) row.stored);
+  earlier = λ s d all le le'. by s final m m' i g d all le le' row.number row.here row.next
+      (λ k. ap (λ x. named s final all x k) row.stored);
+})
+  where
+    made_one : (final : Stored) (lo : ℕ) (m m' : Mark) → Each (Between lo m'.bindings) (of_pat of_bindings_alone p)
+        → slice_get final.pats.entries m.pats ≡ Some p → m.pats ≡ length m.stored.pats.entries
+        → m'.stored.pats.entries ≡ m.stored.pats.entries ++ p ∷ [] → Made lo final m m'
+    made_one final lo m m' w here last new n q from to is =
+        let l = ap length new in
+        let l' = length-append m.stored.pats.entries (p ∷ []) in
+        let at : m.pats ≡ n = omega (arith, l, l', last, from, to) in
+        let one : Some p ≡ Some q = sym here ∙ (ap (λ k. slice_get final.pats.entries k) at ∙ is) in
+        subst (λ x. Each (Between lo m'.bindings) (of_pat of_bindings_alone x)) (same_Some p q one) w
+
+    New : Sort → Stored → Mark → Mark → ℕ → ℕ → Type 0
+    New s final m m' d k =
+        named s final d m'.stored k ≡ times k (of_exprs (look s final d) m.stored.exprs.entries)
+        + (times k (of_pats (look s final d) (chosen s (m.stored.pats.entries ++ p ∷ [])))
+        + times k (of_types (look s final d) m.stored.types.entries))
+
+    grown : (s : Sort) (final : Stored) (m m' : Mark) (d k : ℕ) → New s final m m' d k
+        → named s final d m.stored k ≤ named s final d m'.stored k
+    grown the_types final m m' d k new =
+        let e = each_push (of_pat (look the_types final d)) m.stored.pats.entries p k in omega (arith, new, e)
+    grown the_pats final m m' d k new = omega (arith, new)
+
+    at_depth : (final : Stored) (m m' : Mark) (i : PatId) (d all : ℕ) → m'.pats ≤ d → i.0 ≡ m.pats
+        → slice_get final.pats.entries m.pats ≡ Some p → m'.pats ≡ suc m.pats
+        → ((k : ℕ) → named the_pats final all m'.stored k ≡ named the_pats final all m.stored k)
+        → Earlier the_pats was final m m' all (pats_reached final.pats.entries d i)
+    at_depth final m m' i zero all le number here next still = absurd (omega (arith, le, next))
+    at_depth final m m' i (suc d) all le number here next still = record {
+      depth = d;
+      deep = omega (arith, le, next);
+      counted = λ k.
+          let e = h (look the_pats final d) k in
+          let q = one_past k m.pats in
+          let n = still k in
+          rw (number, here, next) (omega (arith, e, q, n));
+    }
+
+    by : (s : Sort) (final : Stored) (m m' : Mark) (i : PatId) → Grows m m' → (d all : ℕ) → known s m' ≤ d → known s m' ≤ all
+        → i.0 ≡ m.pats → slice_get final.pats.entries m.pats ≡ Some p → m'.pats ≡ suc m.pats
+        → ((k : ℕ) → New s final m m' all k) → Earlier s was final m m' all ((look s final d).pats i)
+    by the_types final m m' i g d all le le' number here next new = record {
+      depth = all;
+      deep = omega (arith, le', g.types);
+      counted = λ k.
+          let e = h (look the_types final all) k in
+          let n = new k in
+          let q = each_push (of_pat (look the_types final all)) m.stored.pats.entries p k in
+          let l = less_grows k m.types m'.types g.types in omega (arith, e, n, q, l);
+    }
+    by the_pats final m m' i g d all le le' number here next new = at_depth final m m' i d all le number here next new

@@ -1,24 +1,25 @@
--- What is so of types and paths by themselves, where they were answered: what their constants left, and which roots they are.
+-- What is so of types and paths by themselves, where they were answered: what the bodies inside left, and which roots they are.
 use Rattle.std.proofs.Common.{◌≡◌, ◌∙◌, refl, sym, ap, subst, Bool, true, false, List, ◌++◌, Ok}
 use Rattle.hir_store.specs.Stored.{Stored}
 use Rattle.hir_store.specs.Storing.{Extends}
 use Rattle.hir_store.specs.declared.ids.BlockId.{BlockId}
-use Rattle.hir_env.specs.Answered.{OptionExpr}
 use Rattle.hir_scope.specs.Scopes.{Scope}
-use Rattle.hir_meaning.specs.Inner.{path_inner_bodies, type_inner_bodies}
+use Rattle.hir_meaning.specs.Inner.{Bodies, path_inner_bodies, type_inner_bodies}
 use Rattle.hir_lower_form.specs.Builder.{Builder}
 use Rattle.hir_lower_form.specs.Lowering.{Lowering}
 use Rattle.hir_steps.specs.Keeps.{Paired}
 use Rattle.hir_steps.proofs.Frames.{frames, ribs, ribs_frames}
-use Rattle.hir_steps.proofs.Logic.{longer}
 use Rattle.hir_steps.proofs.Steps.{Correct}
-use Rattle.hir_store.proofs.Range.{extends_refl}
+use Rattle.hir_store.proofs.Extending.{extends_refl}
 use Rattle.hir_same_meaning.proofs.HeldTree.{part_holds, path_holds}
 use Rattle.hir_one_result.specs.Diagnostics.{Around, Faults}
+use Rattle.hir_one_result.specs.Laws.{Settled}
 use Rattle.hir_one_result.specs.Leads.{Ways}
 use Rattle.hir_one_result.specs.Stands.{Open}
 use Rattle.hir_one_result.proofs.AfterLowering.{after_lowering}
 use Rattle.hir_one_result.proofs.Around.{scopes_around}
+use Rattle.hir_one_result.proofs.Lasting as lasting
+use Rattle.hir_one_result.proofs.Lasting.{bound, unchanged_settled}
 use Rattle.hir_one_result.proofs.Leading.{Shown}
 use Rattle.hir_one_result.proofs.Standing.{Leaves}
 use Rattle.hir_one_result.proofs.Telling.{Added}
@@ -26,15 +27,15 @@ use Rattle.hir_one_result.proofs.TreeBlocks.{Enters}
 use Rattle.hir_one_result.proofs.TreeFaults.{reported, Reports}
 use Rattle.hir_type_result.specs.Roots.{RootsOf, recorded, TypeRoots, PathRoots}
 use Rattle.hir_type_result.proofs.Meaning.{in_frames, held_whole}
-use Rattle.hir_type_result.proofs.Noting.{Noting, Noted, Notes, no_roots}
+use Rattle.hir_type_result.proofs.Noting.{Noting, Noted, Notes, further_stored, no_roots}
 use Rattle.hir_type_result.proofs.TreeNotes.{type_notes, path_notes}
 
 module _ {A : Type 0} {p : Lowering A} (b c : Builder) (a : A) (paired : Paired b.stored) (is : p b ≡ (Ok a, c)) where
-  pub ways_behind : {W : Stored → Open → Ways} → Correct p (Leaves W) → (later : Stored) → Extends c.stored later
-      → Shown (W later b.scopes) b.stored c.stored
-  ways_behind {W = W} h later stays =
+  pub ways_behind : {W : Stored → Open → Ways} → lasting.Correct p (Leaves W) → (later : Stored) → Extends c.stored later
+      → Settled c.stored later → Shown (W later b.scopes) b.stored c.stored
+  ways_behind {W = W} h later stays settled =
       subst (λ rs. Shown (W later rs) b.stored c.stored) (sym (ribs_frames b.scopes))
-      (after_lowering h b a c paired is later stays).shown
+      ((after_lowering h b a c paired is later stays).rel (unchanged_settled (bound b.stored) settled)).shown
 
   pub faults_behind : {D : List Scope → Faults} → Reports D p → (ss : List Scope) → Around ss b.scopes
       → Added reported (D ss) b.stored c.stored
@@ -47,12 +48,12 @@ module _ {A : Type 0} {p : Lowering A} (b c : Builder) (a : A) (paired : Paired 
       let x = (after_lowering h b a c paired is c.stored (extends_refl c.stored)).told some_around.0 some_around.1 in
       x.is ∙ ap (λ ks. b.stored.block_scopes ++ ks) (sym x.like)
 
-  pub roots_behind : {es : List OptionExpr} → Notes es p → (later : Stored) → Extends c.stored later
+  pub roots_behind : {es : Bodies} → Notes es p → (later : Stored) → Extends c.stored later
       → RootsOf b.scopes b.stored c.stored later (recorded b.in_root es)
   roots_behind {es = es} h later stays = by b.in_root refl (subst (λ q. Noted es b q.0 q.1) is (h.notes b))
     where
       by : (inside : Bool) → b.in_root ≡ inside → Noting es b c → RootsOf b.scopes b.stored c.stored later (recorded inside es)
-      by true e n = no_roots (longer n.kept.stays.exprs.entries) (n.kept.roots e)
+      by true e n = no_roots (further_stored n.kept.stays (n.settled paired)) (n.kept.roots e)
       by false e n = n.noted e paired later stays
 
 pub type_roots : TypeRoots

@@ -59,7 +59,7 @@ not_less k zero h = omega arith
 not_less zero (suc n) h = absurd (omega arith)
 not_less (suc k) (suc n) h = let r = not_less k n h in omega arith
 
-same_self : (k : ℕ) → same k k ≡ 1
+pub same_self : (k : ℕ) → same k k ≡ 1
 same_self zero = refl
 same_self (suc k) = same_self k
 

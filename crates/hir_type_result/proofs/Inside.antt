@@ -1,19 +1,24 @@
 -- Of a lowered tree, a type or a path, each expression is reached in one way, by itself or by a constant inside.
-use Rattle.std.proofs.Common.{◌≡◌, refl, arith, ℕ, ◌+◌, ◌≤◌, Bool, true, false, length, List, [], ◌∷◌, Option, Some, None, Ok}
+use Rattle.std.proofs.Common.{◌≡◌, refl, arith, ℕ, ◌+◌, ◌≤◌, Bool, true, false, length, List, [], ◌∷◌, ◌++◌, Option, Some, None, Ok}
 use Rattle.hir_store.specs.Stored.{Stored, store_of}
 use Rattle.hir_store.specs.Storing.{Extends}
+use Rattle.hir_store.specs.Pointers.{Pointer}
+use Rattle.hir_store.specs.declared.hir.MatchArm.{MatchArm}
 use Rattle.hir_store.specs.declared.hir.RecordLitField.{RecordLitField}
 use Rattle.hir_store.specs.declared.hir.Statement.{Statement}
 use Rattle.hir_store.specs.declared.ids.ExprId.{ExprId}
+use Rattle.hir_store.specs.declared.ids.PatId.{PatId}
 use Rattle.hir_store.specs.declared.ids.TypeRefId.{TypeRefId}
+use Rattle.hir_store.specs.declared.pat.RecordFieldPat.{RecordFieldPat}
 use Rattle.hir_store.specs.declared.path.Path.{Path}
 use Rattle.hir_store.specs.declared.path.GenericArg.TheVariants as arg
 use Rattle.hir_store.specs.declared.type_ref.TypeBound.{TypeBound}
 use Rattle.hir_env.specs.Answered as tree
-use Rattle.hir_env.specs.Answered.{OptionType, OptionPath, OptionArgs}
+use Rattle.hir_env.specs.Answered.{OptionType, OptionPath, OptionArgs, Arms, Arm, Guard, Pat, OptionPat, Pats, PatFields, PatField, Side}
 use Rattle.hir_env.specs.Answered.{Expr, OptionExpr, Exprs, Fields, Field, Spread as TreeSpread, Block, OptionBlock, Stmts, Stmt}
 use Rattle.hir_env.specs.Answered.{Binder, Type_, Parts, Path as TreePath, Segments, Segment, SegmentArgs, OptionParens, OptionRet}
-use Rattle.hir_env.specs.Answered.{Args, Arg, Bounds, Bound, Constant}
+use Rattle.hir_env.specs.Answered.{Args, Arg, Bounds, Bound, Constant, TypePat, OptionTypePat, TypePats, Limit, Target, Targets}
+use Rattle.hir_env.specs.Answered.{TargetFields, TargetField}
 use Rattle.hir_lower_form.specs.declared.args.ArgLists.{ArgLists}
 use Rattle.hir_lower_form.specs.declared.walk.PathWalk.{PathWalk}
 use Rattle.hir_lower_form.specs.declared.walk.Reading.TheVariants.{Open}
@@ -21,27 +26,40 @@ use Rattle.hir_lower_form.specs.Builder.{Builder}
 use Rattle.hir_lower_form.specs.Lowering.{Lowering}
 use Rattle.hir_lower_form.specs.Walks.{start, at_first, path_read}
 use Rattle.hir_lower_form.specs.Types.{no_lists}
+use Rattle.hir_lower_form.specs.Pats.{Elements, no_elements, no_names, is_dots, next_alternative}
+use Rattle.hir_lower_form.specs.Targets.{add_target, add_target_dots}
 use Rattle.hir_lower_form.specs.Lower.{lower, lower_part, present, kept_part, lower_each, lower_fields, lower_field, lower_spread}
 use Rattle.hir_lower_form.specs.Lower.{lower_block, lower_block_part, lower_stmts, lower_stmt, lower_path, args_part, type_part}
 use Rattle.hir_lower_form.specs.Lower.{lower_type, present_type, type_or_unit, lower_parts, read_segment, read_each, read_path}
 use Rattle.hir_lower_form.specs.Lower.{read_option, lower_segment_args, parens_part, output_part, lower_args, lower_arg}
-use Rattle.hir_lower_form.specs.Lower.{lower_bounds, lower_bound, lower_constant}
+use Rattle.hir_lower_form.specs.Lower.{lower_bounds, lower_bound, lower_constant, present_block, lower_arms, lower_arm, lower_guard}
+use Rattle.hir_lower_form.specs.Lower.{lower_top, lower_pat, pat_part, present_pat, lower_pats, lower_elements, lower_alternatives}
+use Rattle.hir_lower_form.specs.Lower.{lower_later, lower_pat_fields, lower_pat_field, lower_side, lower_type_pat_part, lower_type_pat}
+use Rattle.hir_lower_form.specs.Lower.{lower_type_pats, lower_limit, limit_side, lower_target, lower_targets, lower_target_fields}
+use Rattle.hir_lower_form.specs.Lower.{lower_target_field, push_some}
 use Rattle.hir_meaning.specs.Inner.{inners, inner_bodies, of_bound, of_present, path_inner_bodies, type_inner_bodies}
 use Rattle.hir_steps.specs.Keeps.{Paired}
 use Rattle.hir_steps.proofs.Steps.{Correct, correct_in_store, correct_report}
+use Rattle.hir_steps.proofs.PatAny.{settle_any}
 use Rattle.hir_steps.proofs.TypeAny.{lifetime_any, uses_any}
 use Rattle.hir_one_result.proofs.AfterLowering.{after_lowering}
 use Rattle.hir_same_meaning.specs.Reached.{of_each, reached_to, Spread}
 use Rattle.hir_type_result.specs.Inside.{InsideReachedOnce, TypeInsideReachedOnce, PathInsideReachedOnce}
+use Rattle.hir_type_result.proofs.Meaning.{held_deep}
 use Rattle.hir_type_result.proofs.Counted.{times, times_append, counted_spread}
-use Rattle.hir_type_result.proofs.Weighed.{Cost, view, free, an_expr, a_type, a_constant, sum, Adds, adds_pure, adds_then, adds_beside}
-use Rattle.hir_type_result.proofs.Weighed.{adds_any, adds_type, adds_expr, adds_constant}
+use Rattle.hir_type_result.proofs.Weighed.{Cost, view, free, an_expr, a_type, a_type_pat, a_pat, a_limit, a_target, a_constant, sum}
+use Rattle.hir_type_result.proofs.Weighed.{Adds, adds_pure}
+use Rattle.hir_type_result.proofs.Weighed.{adds_then, adds_beside, adds_any, adds_from, adds_type, adds_expr, adds_constant}
+use Rattle.hir_type_result.proofs.Weighed.{adds_limit, adds_pat, adds_target}
+use Rattle.hir_type_result.proofs.Weighed.{adds_type_pat}
 use Rattle.hir_type_result.proofs.Weights as weights
 use Rattle.hir_type_result.proofs.InsideTypes.{maybe_type, types, a_bound, bounds, arguments, lists, maybe_path, walk, reading}
 use Rattle.hir_type_result.proofs.InsideTypes.{error_adds, unit_adds, leaf_adds, over_adds, array_adds, tuple_adds, path_type_adds}
 use Rattle.hir_type_result.proofs.InsideTypes.{ref_adds, fn_adds, impl_adds, dyn_adds, path_bound_adds, proceed_adds, whole_adds}
 use Rattle.hir_type_result.proofs.InsideTypes.{super_adds, self_adds, at_first_adds, bare_adds, with_trait_adds, parens_form_adds}
-use Rattle.hir_type_result.proofs.InsideTypes.{args_form_adds, binding_adds, none_more, one_more}
+use Rattle.hir_type_result.proofs.InsideTypes.{args_form_adds, binding_adds, none_more, one_more, pattern_adds}
+use Rattle.hir_type_result.proofs.InsidePats as pats
+use Rattle.hir_type_result.proofs.InsideTargets as aims
 use Rattle.hir_type_result.proofs.InsideForms as forms
 use Rattle.hir_type_result.proofs.InsideForms.{maybe, each, a_field, a_spread, a_statement, contents, some_more, missing_adds, some_adds}
 use Rattle.hir_type_result.proofs.InsideForms.{kept_adds}
@@ -64,6 +82,7 @@ mutual
   type_adds b (tree.impl_type at mode bs) = impl_adds at mode (bounds_add [] bs)
   type_adds b (tree.nested_impl at) = adds_type _ (Some at) (λ v. omega arith)
   type_adds b (tree.dyn_type at bs) = dyn_adds at (bounds_add [] bs)
+  type_adds b (tree.pattern_type at t own p) = pattern_adds at (part_adds None t) (type_pat_part_adds p)
 
   pub part_adds : (b : Option Binder) (t : OptionType) → Correct (type_part b t) (Adds free a_type)
   part_adds b tree.no_type = error_adds
@@ -164,8 +183,36 @@ mutual
 
   -- constants
 
-  constant_adds : (c : Constant) → Correct (lower_constant c) (Adds free a_constant)
+  pub constant_adds : (c : Constant) → Correct (lower_constant c) (Adds free a_constant)
   constant_adds (tree.constant e) = adds_constant (body_adds e)
+
+  -- patterns of types
+
+  type_pat_part_adds : (p : OptionTypePat) → Correct (lower_type_pat_part p) (Adds free a_type_pat)
+  type_pat_part_adds tree.no_type_pat = pats.missing_type_pat_adds
+  type_pat_part_adds (tree.some_type_pat p) = type_pat_adds p
+
+  type_pat_adds : (p : TypePat) → Correct (lower_type_pat p) (Adds free a_type_pat)
+  type_pat_adds (tree.not_null_type_pat at) = adds_type_pat _ (Some at) (λ v. omega arith)
+  type_pat_adds (tree.or_type_pat at ps) = pats.type_alternatives_adds at (type_pats_add [] ps)
+  type_pat_adds (tree.range_type_pat at low high) = pats.limits_adds at (limit_adds low) (limit_adds high)
+  type_pat_adds (tree.other_type_pat at) = adds_type_pat _ (Some at) (λ v. omega arith)
+
+  type_pats_add : (done : List PatId) (ps : TypePats) → Correct (lower_type_pats done ps) (Adds (pats.type_pats done) pats.type_pats)
+  type_pats_add done tree.no_type_pats = none_more (λ r i. r.type_pat i) done
+  type_pats_add done (tree.more_type_pats p ps) = one_more (λ r i. r.type_pat i) (type_pat_adds p) (λ is. type_pats_add is ps) done
+
+  pub limit_adds : (x : Limit) → Correct (lower_limit x) (Adds free a_limit)
+  limit_adds (tree.item_limit item) = adds_limit (pats.item_adds item)
+  limit_adds (tree.side_limit s) = adds_limit (limit_side_adds s)
+  limit_adds (tree.before_limit item s) = adds_limit (pats.before_adds item (limit_side_adds s))
+
+  limit_side_adds : (s : Side) → Correct (limit_side s) (Adds free an_expr)
+  limit_side_adds tree.no_side = missing_adds
+  limit_side_adds (tree.literal_side at s) = pats.literal_limit_adds at s
+  limit_side_adds (tree.name_side at n) = pats.name_limit_adds at n
+  limit_side_adds (tree.path_side at p) = pats.path_limit_adds at (path_adds p)
+  limit_side_adds tree.other_side = missing_adds
 
   -- expressions
 
@@ -174,7 +221,7 @@ mutual
   node_adds (tree.if_expr at c t e) = forms.if_adds at (body_adds c) (block_part_adds t) (present_expr_adds e)
   node_adds (tree.block_expr b) = block_adds b
   node_adds (tree.loop_expr at label b) = forms.loop_adds at label (block_part_adds b)
-  node_adds (tree.call_expr at f es) = forms.call_adds at (body_adds f) (each_expr_adds [] es)
+  node_adds (tree.call_expr at f has_list es) = forms.call_adds at (body_adds f) (each_expr_adds [] es)
   node_adds (tree.path_expr at p h) = forms.path_adds at h (path_adds p)
   node_adds (tree.continue_expr at jump) = forms.continue_adds at jump
   node_adds (tree.break_expr at jump e) = forms.break_adds at jump (present_expr_adds e)
@@ -188,7 +235,7 @@ mutual
   node_adds (tree.method_call_expr at e name es generics) =
       forms.method_call_adds at name (body_adds e) (each_expr_adds [] es) (args_add generics)
   node_adds (tree.cast_expr at e t) = forms.cast_adds at (body_adds e) (part_adds None t)
-  node_adds (tree.record_expr at p fs s) =
+  node_adds (tree.record_expr at p head fs s) =
       forms.record_adds at (path_adds p) (forms.contents_adds (fields_add [] fs) (spread_adds s))
   node_adds (tree.offset_of_expr at t names) = forms.offset_of_adds at names (part_adds None t)
   node_adds (tree.leaving_expr at form e) = forms.value_adds at _ (forms.leaving_less form) (present_expr_adds e)
@@ -196,8 +243,12 @@ mutual
   node_adds (tree.yield_expr at e) = forms.value_adds at _ forms.value_less (present_expr_adds e)
   node_adds (tree.await_expr at location e) = forms.await_adds at location (body_adds e)
   node_adds (tree.nameless_expr at e) = forms.operand_adds at _ (λ i v. omega arith) (body_adds e)
+  node_adds (tree.let_expr at p e) = pats.let_adds at (top_adds p) (body_adds e)
+  node_adds (tree.match_expr at e arms) = pats.match_adds at (body_adds e) (arms_add [] arms)
+  node_adds (tree.range_expr at form low high) = pats.range_adds at form (present_expr_adds low) (present_expr_adds high)
+  node_adds (tree.assign_expr at own target e) = aims.assign_adds at (target_adds target) (body_adds e)
 
-  body_adds : (e : OptionExpr) → Correct (lower_part e) (Adds free an_expr)
+  pub body_adds : (e : OptionExpr) → Correct (lower_part e) (Adds free an_expr)
   body_adds tree.no_expr = missing_adds
   body_adds (tree.some_expr e) = node_adds e
 
@@ -219,7 +270,7 @@ mutual
 
   one_field_adds : (f : Field) → Correct (lower_field f) (Adds free (maybe a_field))
   one_field_adds (tree.disabled_field at by f) = adds_then (adds_any (correct_report _)) (λ u. adds_pure None (λ v. omega arith))
-  one_field_adds tree.nameless_field = adds_pure None (λ v. omega arith)
+  one_field_adds (tree.nameless_field at e) = adds_pure None (λ v. omega arith)
   one_field_adds (tree.named_field at name e) = forms.field_adds at name (body_adds e)
 
   spread_adds : (s : TreeSpread) → Correct (lower_spread s) (Adds free a_spread)
@@ -242,7 +293,126 @@ mutual
 
   stmt_adds : (s : Stmt) → Correct (lower_stmt s) (Adds free (maybe a_statement))
   stmt_adds (tree.expr_stmt e semi) = forms.statement_adds semi (kept_part_adds e)
+  stmt_adds (tree.disabled_stmt at by s) = adds_then (adds_any (correct_report _)) (λ u. adds_pure None (λ v. omega arith))
   stmt_adds tree.item_stmt = adds_pure _ (λ v. omega arith)
+  stmt_adds (tree.let_stmt p t e b) = pats.let_stmt_adds (top_adds p) (present_adds t) (present_expr_adds e) (present_block_adds b)
+
+  present_block_adds : (b : OptionBlock) → Correct (present_block b) (Adds free (maybe an_expr))
+  present_block_adds tree.no_block = adds_pure None (λ v. omega arith)
+  present_block_adds (tree.some_block b) = some_adds (block_adds b)
+
+  arms_add : (done : List MatchArm) (as' : Arms) → Correct (lower_arms done as') (Adds (each pats.an_arm done) (each pats.an_arm))
+  arms_add done tree.no_arms = adds_pure done (λ v. omega arith)
+  arms_add done (tree.more_arms a as') = some_more {cost = pats.an_arm} (arm_adds a) (λ xs. arms_add xs as') done
+
+  arm_adds : (a : Arm) → Correct (lower_arm a) (Adds free (maybe pats.an_arm))
+  arm_adds (tree.disabled_arm at by a) = adds_then (adds_any (correct_report _)) (λ u. adds_pure None (λ v. omega arith))
+  arm_adds (tree.arm p e g) = pats.arm_adds (top_adds p) (body_adds e) (guard_adds g)
+
+  guard_adds : (g : Guard) → Correct (lower_guard g) (Adds free (maybe an_expr))
+  guard_adds tree.no_guard = adds_pure None (λ v. omega arith)
+  guard_adds (tree.guard e) = some_adds (body_adds e)
+
+  -- patterns
+
+  pub top_adds : (p : OptionPat) → Correct (lower_top p) (Adds free a_pat)
+  top_adds tree.no_pat = pats.missing_pat_adds
+  top_adds (tree.some_pat p) = adds_then (pat_adds p no_names) (λ r. adds_then (adds_any (settle_any r.1))
+      (λ u. adds_pure r.0 (λ v. omega arith)))
+
+  pat_adds : (p : Pat) → pats.Each free a_pat (lower_pat p)
+  pat_adds (tree.leaf_pat at form) t = pats.alone_adds (pats.leaf_pat_adds at form) t
+  pat_adds (tree.bind_pat at u p) t = pats.bind_adds at u (subpat_adds p) t
+  pat_adds (tree.name_pat at u) t = pats.alone_adds (adds_pat _ (Some at) (λ v. omega arith)) t
+  pat_adds (tree.path_pat at p) t = pats.alone_adds (pats.path_pat_adds at (path_adds p)) t
+  pat_adds (tree.tuple_struct_pat at p comma ps) t = pats.tuple_struct_adds at comma (elements_add no_elements ps) (path_adds p) t
+  pat_adds (tree.tuple_pat at comma ps) t = pats.tuple_pat_adds at comma (elements_add no_elements ps) t
+  pat_adds (tree.record_pat at p fs dots) t = pats.record_pat_adds at dots (pat_fields_add [] fs) (path_adds p) t
+  pat_adds (tree.or_pat at ps) t = alternatives_add at ps t
+  pat_adds (tree.paren_pat at p) t = pat_part_adds p t
+  pat_adds (tree.slice_pat at before p behind) t =
+      pats.slice_pat_adds at (pats_add [] before) (subpat_adds p) (pats_add [] behind) t
+  pat_adds (tree.over_pat at form p) t = pats.over_pat_adds at form (pat_part_adds p) t
+  pat_adds (tree.literal_pat at own x) t = pats.alone_adds (pats.literal_pat_adds at own x) t
+  pat_adds (tree.range_pat at op low high) t = pats.alone_adds (pats.range_pat_adds at op (side_adds low) (side_adds high)) t
+
+  pat_part_adds : (p : OptionPat) → pats.Each free a_pat (pat_part p)
+  pat_part_adds tree.no_pat t = pats.alone_adds pats.missing_pat_adds t
+  pat_part_adds (tree.some_pat p) t = pat_adds p t
+
+  subpat_adds : (p : OptionPat) → pats.Each free pats.maybe_pat (present_pat p)
+  subpat_adds tree.no_pat t = adds_pure (None, t) (λ v. omega arith)
+  subpat_adds (tree.some_pat p) t = adds_then (pat_adds p t) (λ r. adds_pure (Some r.0, r.1) (λ v. omega arith))
+
+  pats_add : (done : List PatId) (ps : Pats) → pats.Each (pats.pats done) pats.pats (lower_pats done ps)
+  pats_add done tree.no_pats t = adds_pure (done, t) (λ v. omega arith)
+  pats_add done (tree.more_pats p ps) t = adds_then (adds_beside (pats.pats done) (pat_adds p t))
+      (λ r. adds_from (pats.pushed done r.0) (pats_add (done ++ r.0 ∷ []) ps r.1))
+
+  elements_add : (done : Elements) (ps : Pats) → pats.Each (pats.elements done) pats.elements (lower_elements done ps)
+  elements_add done tree.no_pats t = adds_pure (done, t) (λ v. omega arith)
+  elements_add done (tree.more_pats p ps) t =
+      adds_then (pats.element_adds (is_dots p) done (pat_adds p) t) (λ r. elements_add r.0 ps r.1)
+
+  alternatives_add : (at : Pointer) (ps : Pats) → pats.Each free a_pat (lower_alternatives at ps)
+  alternatives_add at tree.no_pats t = pats.alone_adds (adds_pat _ (Some at) (λ v. omega arith)) t
+  alternatives_add at (tree.more_pats p ps) t = pats.or_adds at (pat_adds p) (λ done. later_add ps done) t
+
+  later_add : (ps : Pats) (done : List PatId) → pats.Each (pats.pats done) pats.pats (lower_later ps done)
+  later_add tree.no_pats done t = adds_pure (done, t) (λ v. omega arith)
+  later_add (tree.more_pats p ps) done t = adds_then (adds_beside (pats.pats done) (pat_adds p (next_alternative t)))
+      (λ r. adds_from (pats.pushed done r.0) (later_add ps (done ++ r.0 ∷ []) r.1))
+
+  pat_fields_add : (done : List RecordFieldPat) (fs : PatFields) → pats.Each (pats.fields done) pats.fields (lower_pat_fields done fs)
+  pat_fields_add done tree.no_pat_fields t = adds_pure (done, t) (λ v. omega arith)
+  pat_fields_add done (tree.more_pat_fields f fs) t = adds_then (adds_beside (pats.fields done) (pat_field_add f t))
+      (λ r. adds_from (pats.field_pushed done r.0) (pat_fields_add (push_some done r.0) fs r.1))
+
+  pat_field_add : (f : PatField) → pats.Each free pats.maybe_field (lower_pat_field f)
+  pat_field_add (tree.disabled_pat_field at by f) t =
+      adds_then (adds_any (correct_report _)) (λ u. adds_pure (None, t) (λ v. omega arith))
+  pat_field_add tree.partless_pat_field t = adds_pure (None, t) (λ v. omega arith)
+  pat_field_add (tree.pat_field at n p) t = pats.pat_field_adds at n (pat_adds p) t
+
+  side_adds : (s : Side) → Correct (lower_side s) (Adds free (maybe an_expr))
+  side_adds tree.no_side = adds_pure None (λ v. omega arith)
+  side_adds (tree.literal_side at s) = pats.literal_side_adds at s
+  side_adds (tree.name_side at n) = pats.name_side_adds at n
+  side_adds (tree.path_side at p) = pats.path_side_adds at (path_adds p)
+  side_adds tree.other_side = adds_pure None (λ v. omega arith)
+
+  -- targets
+
+  target_adds : (t : Target) → Correct (lower_target t) (Adds free a_target)
+  target_adds tree.absent_target = aims.missing_target_adds
+  target_adds (tree.place_target at e) = aims.place_adds at (node_adds e)
+  target_adds (tree.wild_target at) = adds_target _ (Some at) (λ v. omega arith)
+  target_adds (tree.path_target at p h) = aims.path_target_adds at h (adds_then (reading_adds p start)
+      (λ r. adds_pure (path_read r) (λ v. weights.path_read_less v.weight v.held r)))
+  target_adds (tree.tuple_target at ts) = aims.tuple_target_adds at (targets_add no_elements ts)
+  target_adds (tree.call_target at p ts) = aims.call_target_adds at (targets_add no_elements ts) (path_adds p)
+  target_adds (tree.array_target at before dots behind) =
+      aims.array_target_adds at dots (targets_add no_elements before) (targets_add no_elements behind)
+  target_adds (tree.record_target at p fs dots spread) = aims.record_target_adds at dots spread (target_fields_add [] fs) (path_adds p)
+
+  targets_add : (done : Elements) (ts : Targets)
+      → Correct (lower_targets done ts) (Adds (aims.target_elements done) aims.target_elements)
+  targets_add done tree.no_targets = adds_pure done (λ v. omega arith)
+  targets_add done (tree.more_targets t ts) = adds_then (adds_beside (aims.target_elements done) (target_adds t))
+      (λ i. adds_from (aims.pushed done.0 i) (targets_add (add_target done i) ts))
+  targets_add done (tree.dots_targets ts) = targets_add (add_target_dots done) ts
+
+  target_fields_add : (done : List RecordFieldPat) (fs : TargetFields)
+      → Correct (lower_target_fields done fs) (Adds (aims.target_fields done) aims.target_fields)
+  target_fields_add done tree.no_target_fields = adds_pure done (λ v. omega arith)
+  target_fields_add done (tree.more_target_fields f fs) = adds_then (adds_beside (aims.target_fields done) (target_field_add f))
+      (λ o. adds_from (aims.field_pushed done o) (target_fields_add (push_some done o) fs))
+
+  target_field_add : (f : TargetField) → Correct (lower_target_field f) (Adds free aims.maybe_target_field)
+  target_field_add (tree.disabled_target_field at by) =
+      adds_then (adds_any (correct_report _)) (λ u. adds_pure None (λ v. omega arith))
+  target_field_add tree.partless_target_field = adds_pure None (λ v. omega arith)
+  target_field_add (tree.target_field at n t) = aims.target_field_adds at n (target_adds t)
 
 -- ---- laws
 
@@ -252,21 +422,24 @@ weighed f k [] = refl
 weighed f k (i ∷ is) = let a = times_append k (f i) (of_each f is) in let r = weighed f k is in omega arith
 
 -- where nothing was reached before, and the answer costs as much as these reach
-inside_once : {A : Type 0} {now : A → Cost} {p : Lowering A} → Correct p (Adds free now) → (b b' : Builder) (a : A) → Paired b.stored
+pub inside_once : {A : Type 0} {now : A → Cost} {p : Lowering A} → Correct p (Adds free now) → (b b' : Builder) (a : A) → Paired b.stored
     → p b ≡ (Ok a, b') → (final : Stored) → Extends b'.stored final → (depth : ℕ) → length final.exprs.entries ≤ depth
-    → (is : List ExprId) → ((k : ℕ) → sum (λ i. times k (reached_to final.exprs.entries depth i)) is
-    ≤ now a (view final depth k depth (length final.exprs.entries + length final.types.entries)))
-    → Spread (length b.stored.exprs.entries) (length b'.stored.exprs.entries) (of_each (reached_to final.exprs.entries depth) is)
+    → (is : List ExprId) → ((k : ℕ) → sum (λ i. times k (reached_to (store_of final) depth i)) is
+    ≤ now a (view final depth k depth (held_deep final) (length final.pats.entries)))
+    → Spread (length b.stored.exprs.entries) (length b'.stored.exprs.entries) (of_each (reached_to (store_of final) depth) is)
 inside_once h b b' a paired is final stays depth le list less =
     let r = after_lowering (correct_in_store h) b a b' paired is final stays in
     let n = r.nodes in
-    let t = r.types in
     counted_spread _ _ _ (λ k.
-    let e = r.rel.earlier depth k depth (length final.exprs.entries + length final.types.entries) (omega arith) (omega arith)
-    (omega arith) in
+    let e = r.rel.earlier depth k depth (held_deep final) (length final.pats.entries) (record {
+      all_of = omega (arith, n, le);
+      deep = omega (arith, n, le);
+      inside = omega (arith, n, r.entries);
+      placed = r.pats;
+    }) in
     let c = e.counted in
     let l = less k in
-    let w = weighed (reached_to final.exprs.entries depth) k list in omega arith)
+    let w = weighed (reached_to (store_of final) depth) k list in omega arith)
 
 pub expr_inside : InsideReachedOnce
 unfolding inner_bodies
@@ -280,7 +453,7 @@ type_inside binder t b b' i paired is final stays depth le =
 
 held_path : (final : Stored) (r : Option Path) (k : ExprId → ℕ)
     → sum k (of_present (path_inner_bodies (store_of final)) r)
-    ≤ weights.in_path k (inners (store_of final) (length final.exprs.entries + length final.types.entries)) r
+    ≤ weights.in_path k (inners (store_of final) (held_deep final)) r
 unfolding path_inner_bodies
 held_path final None k = omega arith
 held_path final (Some p) k = omega arith
@@ -288,4 +461,4 @@ held_path final (Some p) k = omega arith
 pub path_inside : PathInsideReachedOnce
 path_inside p b b' r paired is final stays depth le =
     inside_once (path_adds p) b b' r paired is final stays depth le (of_present (path_inner_bodies (store_of final)) r)
-    (λ k. held_path final r (λ i. times k (reached_to final.exprs.entries depth i)))
+    (λ k. held_path final r (λ i. times k (reached_to (store_of final) depth i)))

@@ -30,9 +30,9 @@ use Rattle.hir_meaning.specs.Inner.{all_of, of_present, of_list, of_path}
 use Rattle.hir_steps.proofs.Frames.{loop_at, block_at}
 use Rattle.hir_steps.proofs.Steps.{Correct, correct_report, correct_report_await, correct_point, correct_point_field}
 use Rattle.hir_steps.proofs.Steps.{correct_enter_block, correct_target}
-use Rattle.hir_same_meaning.specs.Reached.{of_some, of_each, of_fields, of_others, of_statement, of_statements, below}
+use Rattle.hir_same_meaning.specs.Reached.{of_some, of_each, of_fields, of_others, of_statement, of_statements}
 use Rattle.hir_type_result.proofs.Counted.{times, times_append}
-use Rattle.hir_type_result.proofs.Weighed.{View, Cost, free, beside, an_expr, a_type, sum, sum_append, Adds, adds_pure, adds_then}
+use Rattle.hir_type_result.proofs.Weighed.{View, Cost, free, beside, an_expr, a_type, in_expr, sum, sum_append, Adds, adds_pure, adds_then}
 use Rattle.hir_type_result.proofs.Weighed.{adds_beside, adds_any, adds_from, adds_expr, adds_opened}
 use Rattle.hir_type_result.proofs.InsideTypes.{arguments, maybe_path}
 
@@ -46,11 +46,12 @@ abbrev pub each : {A : Type 0} → (A → Cost) → List A → Cost
 each cost [] v = 0
 each cost (a ∷ as') v = cost a v + each cost as' v
 
-each_push : {A : Type 0} (cost : A → Cost) (done : List A) (a : A) (v : View) → each cost (done ++ a ∷ []) v ≡ each cost done v + cost a v
+pub each_push : {A : Type 0} (cost : A → Cost) (done : List A) (a : A) (v : View)
+    → each cost (done ++ a ∷ []) v ≡ each cost done v + cost a v
 each_push cost [] a v = omega arith
 each_push cost (b ∷ done) a v = let e = each_push cost done a v in omega arith
 
-pushed : {A : Type 0} (cost : A → Cost) (done : List A) (o : Option A) (v : View)
+pub pushed : {A : Type 0} (cost : A → Cost) (done : List A) (o : Option A) (v : View)
     → each cost (push_some done o) v ≤ each cost done v + maybe cost o v
 pushed cost done None v = omega arith
 pushed cost done (Some a) v = let e = each_push cost done a v in omega arith
@@ -63,18 +64,18 @@ some_more {cost = cost} h k done =
 
 -- ---- what is reached and what is inside, together
 
-both : (v : View) (js ks : List ℕ) (is ls : List ExprId)
+pub both : (v : View) (js ks : List ℕ) (is ls : List ExprId)
     → times v.number (js ++ ks) + sum v.weight (is ++ ls) ≡ (times v.number js + sum v.weight is) + (times v.number ks + sum v.weight ls)
 both v js ks is ls =
     let x = times_append v.number js ks in
     let y = sum_append v.weight is ls in omega arith
 
-maybe_is : (o : Option ExprId) (v : View)
+pub maybe_is : (o : Option ExprId) (v : View)
     → times v.number (of_some v.reach o) + sum v.weight (of_present v.held.expr o) ≡ maybe an_expr o v
 maybe_is None v = refl
 maybe_is (Some i) v = refl
 
-each_is : (is : List ExprId) (v : View) → times v.number (of_each v.reach is) + sum v.weight (all_of v.held.expr is) ≡ each an_expr is v
+pub each_is : (is : List ExprId) (v : View) → times v.number (of_each v.reach is) + sum v.weight (all_of v.held.expr is) ≡ each an_expr is v
 each_is [] v = refl
 each_is (i ∷ is) v =
     let x = both v (v.reach i) (of_each v.reach is) (v.held.expr i) (all_of v.held.expr is) in
@@ -126,10 +127,6 @@ kept_adds e h = some_adds h
 
 -- ---- forms
 
--- what an expression names
-abbrev pub in_expr : HirExpr → Cost
-in_expr e v = times v.number (below v.reach e) + sum v.weight (inner.of_expr v.held e)
-
 leaf_less : (form : Leaf) (v : View) → in_expr (stored_leaf form) v ≤ 0
 leaf_less tree.underscore v = omega arith
 leaf_less tree.include_bytes v = omega arith
@@ -160,7 +157,7 @@ path_less : (h : HygieneId) (p : Option Path) (v : View) → in_expr (path_or_mi
 path_less h None v = omega arith
 path_less h (Some p) v = omega arith
 
-first_less : (i : ExprId) (is : List ExprId) (v : View)
+pub first_less : (i : ExprId) (is : List ExprId) (v : View)
     → times v.number (v.reach i ++ of_each v.reach is) + sum v.weight (v.held.expr i ++ all_of v.held.expr is)
     ≤ an_expr i v + each an_expr is v
 first_less i is v =
@@ -181,7 +178,7 @@ method_call_less i name a is v =
     let z = sum_append v.weight (of_list v.held a) (all_of v.held.expr is) in
     let e = each_is is v in omega arith
 
-record_less : (p : Path) (r : StoredFields) (v : View) → in_expr (hir.RecordLit p r.0 r.1) v ≤ maybe_path (Some p) v + a_record r v
+pub record_less : (p : Path) (r : StoredFields) (v : View) → in_expr (hir.RecordLit p r.0 r.1) v ≤ maybe_path (Some p) v + a_record r v
 record_less p r v =
     let x = times_append v.number (of_fields v.reach r.0) (of_others v.reach r.1) in
     let y = sum_append v.weight (of_path v.held p) (all_of (inner.of_field v.held) r.0 ++ inner.of_others v.held r.1) in
@@ -193,6 +190,7 @@ settled_less : (ss : List Statement) (o : Option ExprId) (v : View) → contents
 settled_less ss (Some i) v = omega arith
 settled_less [] None v = omega arith
 settled_less (statement.Item ∷ ss) None v = let r = settled_less ss None v in omega arith
+settled_less (statement.Let p t e b ∷ ss) None v = let r = settled_less ss None v in omega arith
 settled_less (statement.Expr i true ∷ ss) None v = let r = settled_less ss None v in omega arith
 settled_less (statement.Expr i false ∷ []) None v = omega arith
 settled_less (statement.Expr i false ∷ (s ∷ ss)) None v = let r = settled_less (s ∷ ss) None v in omega arith

@@ -4,6 +4,7 @@ use Rattle.std.specs.Prelude.{option_map}
 use Rattle.hir_store.specs.Pointers.{Pointer}
 use Rattle.hir_store.specs.declared.hir.Mutability.{Mutability}
 use Rattle.hir_store.specs.declared.ids.ExprId.{ExprId}
+use Rattle.hir_store.specs.declared.ids.PatId.{PatId}
 use Rattle.hir_store.specs.declared.ids.TypeRefId.{TypeRefId}
 use Rattle.hir_store.specs.declared.name.Name.{Name}
 use Rattle.hir_store.specs.declared.path.AssociatedTypeBinding.{AssociatedTypeBinding}
@@ -26,6 +27,7 @@ use Rattle.hir_lower_form.specs.Lowering.{Lowering, ◌>>=◌, pure, alloc_type}
 use Rattle.hir_lower_form.specs.Walks.{at_first, no_names, self_read, super_read, one_more_super, named}
 use Rattle.hir_lower_form.specs.Paths.{proceed, whole, counted, read_trait, with_trait, parens_form, or_else, segment_args_form}
 use Rattle.hir_lower_form.specs.Types.{TypeSteps, error_type, unit_type, lower_lifetime_option, over_form, array_type_form}
+use Rattle.hir_lower_form.specs.Types.{pattern_type_form}
 use Rattle.hir_lower_form.specs.Types.{tuple_type_form, path_type_form, ref_type_form, fn_type_form, impl_type_form, dyn_type_form}
 use Rattle.hir_lower_form.specs.Types.{stored_leaf_type, stored_over_type, path_or_error, stored_impl}
 use Rattle.hir_lower_form.specs.Types.{binding_form, path_bound_of, path_bound_form}
@@ -34,7 +36,8 @@ use Rattle.hir_steps.proofs.Steps.{Correct, correct_alloc_type, correct_count_ou
 use Rattle.hir_steps.proofs.TypeAny.{lifetime_option_any}
 use Rattle.hir_same_meaning.proofs.HeldArgs.{of_binding}
 use Rattle.hir_type_result.proofs.Counted.{either}
-use Rattle.hir_type_result.proofs.Weighed.{View, Cost, free, beside, a_type, a_constant, sum, sum_append, Adds, adds_pure, adds_then}
+use Rattle.hir_type_result.proofs.Weighed.{View, Cost, free, beside, a_type, a_type_pat, a_constant, sum, sum_append, Adds}
+use Rattle.hir_type_result.proofs.Weighed.{adds_pure, adds_then}
 use Rattle.hir_type_result.proofs.Weighed.{adds_beside, adds_any, adds_from, adds_type}
 use Rattle.hir_type_result.proofs.Weights as weights
 
@@ -131,6 +134,13 @@ module _ (at : Pointer) where
   unfolding fn_type_form
   fn_adds binder head h k = adds_then k (λ r. adds_then (adds_beside (a_type r) h) (λ ts. adds_type _ (Some at)
       (λ v. let e = weights.each_push v.weight v.held.type ts r in omega arith)))
+
+  -- a pattern behind its type
+  pub pattern_adds : {t : TypeSteps} {p : Lowering PatId} → Correct t (Adds free a_type) → Correct p (Adds free a_type_pat)
+      → Correct (pattern_type_form at t p) (Adds free a_type)
+  unfolding pattern_type_form
+  pattern_adds h k = adds_then h (λ t. adds_then (adds_beside (a_type t) k) (λ p. adds_type _ (Some at)
+      (λ v. let e = sum_append v.weight (v.held.type t) (v.held.type_pat p) in omega arith)))
 
   pub impl_adds : (mode : ImplTrait) {bs : Lowering (List TypeBound)} → Correct bs (Adds free bounds)
       → Correct (impl_type_form at mode bs) (Adds free a_type)

@@ -3,8 +3,13 @@ pub mod Numbers
 pub mod Adding
 pub mod Naming
 pub mod Owned
+pub mod OwnedPats
+pub mod NamingForms
+pub mod TreeNamed
 pub mod Named
+pub mod Ranges
 pub mod Meaning
+pub mod RootStands
 pub mod Noting
 pub mod NotingForms
 pub mod TreeNotes
@@ -14,4 +19,8 @@ pub mod Weighed
 pub mod Weights
 pub mod InsideTypes
 pub mod InsideForms
+pub mod Fronts
+pub mod InsidePats
+pub mod InsideTargets
 pub mod Inside
+pub mod InsideBody

@@ -1,24 +1,26 @@
--- What an expression behind a barrier means, whatever is around.
+-- What a body inside means, whatever is around it.
 use Rattle.std.proofs.Common.{◌≡◌, refl, subst, ℕ, ◌≤◌, ◌+◌, List, ◌∷◌, length, Ok, arith}
 use Rattle.hir_store.specs.Stored.{Stored, store_of, map_of}
 use Rattle.hir_store.specs.Storing.{Extends}
 use Rattle.hir_store.specs.declared.ids.ExprId.{ExprId}
-use Rattle.hir_env.specs.Answered.{OptionExpr}
-use Rattle.hir_meaning.specs.Inner.{Bodies, inner_bodies}
-use Rattle.hir_meaning.specs.Same.{SameMeaning}
+use Rattle.hir_store.specs.declared.type_ref.ConstRef.{ConstRef}
+use Rattle.hir_env.specs.Answered as tree
+use Rattle.hir_env.specs.Answered.{Limit, OptionExpr, Side}
+use Rattle.hir_meaning.specs.Inner.{Bodies, constant_body, inner_bodies, limit_body, limit_bodies, of_limit}
 use Rattle.hir_lower_form.specs.Builder.{Builder}
 use Rattle.hir_lower_form.specs.Lowering.{Lowering}
-use Rattle.hir_lower_form.specs.Lower.{lower_part}
+use Rattle.hir_lower_form.specs.Lower.{constant_form, lower_limit, lower_part}
 use Rattle.hir_steps.specs.Keeps.{Paired}
+use Rattle.hir_steps.proofs.Constants.{correct_constant}
 use Rattle.hir_steps.proofs.Frames.{Frame, barrier_at, ribs}
-use Rattle.hir_steps.proofs.Steps.{Mark, mark, Rel, InStore, Correct, correct_in_store}
+use Rattle.hir_steps.proofs.Steps.{Mark, mark, Rel, InStore, Correct, correct_both, correct_in_store}
 use Rattle.hir_steps.proofs.Steps.{Holds as HoldsOf}
-use Rattle.hir_same_meaning.specs.Reached.{Spread, reached_to}
 use Rattle.hir_same_meaning.proofs.Body.{body_is}
-use Rattle.hir_same_meaning.proofs.HeldTree.{body_holds}
+use Rattle.hir_same_meaning.proofs.HeldLimits.{PathOf, PathsOf, a_limit, limit_held}
+use Rattle.hir_same_meaning.proofs.HeldTree.{body_holds, path_holds}
 use Rattle.hir_same_meaning.proofs.Holding.{SameIn, inners_in, Ids, Holds}
 use Rattle.hir_same_meaning.proofs.Induction.{part_fine}
-use Rattle.hir_same_meaning.proofs.Owned.{part_owns}
+use Rattle.hir_type_result.specs.Roots.{SameInner}
 
 -- what is so of an answer, inside these frames
 pub in_frames : {A : Type 0} {R : Rel A} {p : Lowering A} → Correct p R → (ps : List Frame) (b c : Builder) (a : A) → b.scopes ≡ ribs ps
@@ -28,28 +30,55 @@ in_frames {R = R} h ps b c a scopes paired is later stays =
     subst (λ q. HoldsOf (InStore R) later ps b q.0 q.1) is ((correct_in_store h).holds later ps b scopes) in
     g.in_final paired stays
 
+-- no more entries are inside one another
+abbrev pub held_deep : Stored → ℕ
+held_deep later = length later.exprs.entries + (length later.types.entries + length later.pats.entries)
+
 -- looked into past all that there is
 pub held_whole : {A : Type 0} {ids : Ids A} {es : Bodies} {later : Stored} {ps : List Frame} {m m' : Mark} {a : A}
-    → InStore (Holds ids es) later ps m m' a
-    → SameIn later (ids (inners_in later (length later.exprs.entries + length later.types.entries)) a) es
+    → InStore (Holds ids es) later ps m m' a → SameIn later (ids (inners_in later (held_deep later)) a) es
 held_whole {later = later} row =
     let n = row.nodes in
-    let t = row.types in row.rel.same (length later.exprs.entries + length later.types.entries) (omega arith)
+    let t = row.entries in row.rel.same (held_deep later) (omega (arith, n, t))
 
-pub inside_means : (e : OptionExpr) (ps : List Frame) (b c : Builder) (i : ExprId) → b.scopes ≡ ribs (barrier_at ∷ ps) → Paired b.stored
-    → lower_part e b ≡ (Ok i, c) → (later : Stored) → Extends c.stored later → SameMeaning (store_of later) (map_of later) i e
+-- a constant
+pub constant_means : (e : OptionExpr) (ps : List Frame) (b c : Builder) (x : ConstRef) → b.scopes ≡ ribs ps → Paired b.stored
+    → constant_form (lower_part e) b ≡ (Ok x, c) → (later : Stored) → Extends c.stored later
+    → SameInner (store_of later) (map_of later) x.expr (constant_body e)
 unfolding inner_bodies
-inside_means e ps b c i scopes paired is later stays =
-    let inside : List Frame = barrier_at ∷ ps in
-    let row = in_frames (part_fine e) inside b c i scopes paired is later stays in record {
-      body = body_is inside row.rel row.nodes tt refl;
-      inner = held_whole (in_frames (body_holds e) inside b c i scopes paired is later stays);
+constant_means e ps b c x scopes paired is later stays =
+    let row = in_frames (correct_constant (correct_both (correct_in_store (part_fine e)) (body_holds e))) ps b c x scopes paired is later
+    stays in
+    let n = row.nodes in
+    let t = row.entries in
+    let inside = row.rel in
+    let fine = inside.first.one in record {
+      body = body_is (barrier_at ∷ ps) fine.rel fine.nodes tt refl;
+      inner = inside.first.other.same (held_deep later) (omega (arith, n, t, inside.nodes, inside.entries));
     }
 
--- each expression that it reaches is reached in one way, by a number that lowering it gave out
-pub inside_once : (e : OptionExpr) (ps : List Frame) (b c : Builder) (i : ExprId) → b.scopes ≡ ribs (barrier_at ∷ ps) → Paired b.stored
-    → lower_part e b ≡ (Ok i, c) → (later : Stored) → Extends c.stored later → (depth : ℕ) → length later.exprs.entries ≤ depth
-    → Spread (length b.stored.exprs.entries) (length c.stored.exprs.entries) (reached_to later.exprs.entries depth i)
-inside_once e ps b c i scopes paired is later stays depth le =
-    let row = in_frames (part_owns e) (barrier_at ∷ ps) b c i scopes paired is later stays in
-    let n = row.nodes in row.rel.spread depth (omega arith)
+path_of_side : (s : Side) → PathOf s
+path_of_side tree.no_side = tt
+path_of_side (tree.literal_side at l) = tt
+path_of_side (tree.name_side at n) = tt
+path_of_side (tree.path_side at p) = path_holds p
+path_of_side tree.other_side = tt
+
+paths_of : (l : Limit) → PathsOf l
+paths_of (tree.item_limit item) = tt
+paths_of (tree.side_limit s) = path_of_side s
+paths_of (tree.before_limit item s) = path_of_side s
+
+same_limit : (l : Limit) (later : Stored) (i : ExprId) → SameIn later (of_limit (inners_in later (held_deep later)) i) (limit_bodies l)
+    → SameInner (store_of later) (map_of later) i (limit_body l)
+unfolding inner_bodies
+same_limit (tree.item_limit item) later i h = record { body = h.0; inner = h.1 }
+same_limit (tree.side_limit s) later i h = record { body = h.0; inner = h.1 }
+same_limit (tree.before_limit item s) later i h = record { body = h.0; inner = h.1 }
+
+-- the end of a range in a type
+pub limit_means : (l : Limit) (ps : List Frame) (b c : Builder) (i : ExprId) → b.scopes ≡ ribs ps → Paired b.stored
+    → lower_limit l b ≡ (Ok i, c) → (later : Stored) → Extends c.stored later
+    → SameInner (store_of later) (map_of later) i (limit_body l)
+limit_means l ps b c i scopes paired is later stays =
+    same_limit l later i (held_whole (in_frames (limit_held l (paths_of l)) ps b c i scopes paired is later stays))

@@ -1,113 +1,164 @@
--- Steps by the constants that they record as roots, where no root is being lowered.
-use Rattle.std.proofs.Common.{◌≡◌, ◌∙◌, refl, sym, ap, subst, arith, ℕ, ◌≤◌, length, Bool, true, false, true≢false, List, [], ◌∷◌, ◌++◌}
-use Rattle.std.proofs.Common.{append_assoc, append-nil, Option, Ok, Err}
+-- Steps by the bodies inside that they record as roots, where no root is being lowered.
+use Rattle.std.proofs.Common.{◌≡◌, ◌∙◌, refl, sym, ap, subst, arith, ℕ, ◌+◌, ◌≤◌, length, Bool, true, false, true≢false, List, [], ◌∷◌}
+use Rattle.std.proofs.Common.{◌++◌, append_assoc, append-nil, length-append, slice_get, Option, Some, None, Ok, Err}
+use Rattle.hir_store.specs.Arenas.{Prefix}
 use Rattle.hir_store.specs.Pointers.{Pointer}
 use Rattle.hir_store.specs.Stored.{Store, SourceMap, Stored, store_of, map_of}
 use Rattle.hir_store.specs.Storing as storing
 use Rattle.hir_store.specs.Storing.{Extends, root_at}
+use Rattle.hir_store.specs.declared.hir.Expr.{Expr as HirExpr}
 use Rattle.hir_store.specs.declared.ids.ExprId.{ExprId}
+use Rattle.hir_store.specs.declared.pat.Pat.{Pat}
 use Rattle.hir_store.specs.declared.roots.ExprRoot.{ExprRoot}
-use Rattle.hir_store.specs.declared.type_ref.TypeRef.{TypeRef}
-use Rattle.hir_store.specs.declared.type_ref.LifetimeRef.{LifetimeRef}
 use Rattle.hir_store.specs.declared.type_ref.ConstRef.{ConstRef}
-use Rattle.hir_store.proofs.Range.{extends_root, extends_trans}
-use Rattle.hir_env.specs.Answered.{OptionExpr}
+use Rattle.hir_store.specs.declared.type_ref.LifetimeRef.{LifetimeRef}
+use Rattle.hir_store.specs.declared.type_ref.TypeRef.{TypeRef}
+use Rattle.hir_store.proofs.Arenas.{prefix_refl, prefix_trans}
+use Rattle.hir_store.proofs.Extending.{extends_refl, extends_root, extends_trans}
+use Rattle.hir_env.specs.Answered as tree
+use Rattle.hir_env.specs.Answered.{Limit, OptionExpr}
 use Rattle.hir_scope.specs.Ribs.{barrier_rib}
 use Rattle.hir_lower_form.specs.Builder.{Builder}
-use Rattle.hir_lower_form.specs.Lowering.{Checked, go_on, Lowering, ◌>>=◌, ◌>>◌, pure, alloc_type, alloc_lifetime, open_barrier, enter_root}
-use Rattle.hir_lower_form.specs.Lowering.{close, leave_root, outside_root, record_root, count_out}
-use Rattle.hir_lower_form.specs.Lower.{constant_form, lower_part}
+use Rattle.hir_lower_form.specs.Lowering.{Checked, go_on, Lowering, ◌>>=◌, ◌>>◌, pure, alloc_pat, alloc_type, alloc_lifetime, open_barrier}
+use Rattle.hir_lower_form.specs.Lowering.{enter_root, close, leave_root, outside_root, record_root, count_out}
+use Rattle.hir_lower_form.specs.Lower.{constant_form, lower_limit, lower_part}
+use Rattle.hir_lower_form.specs.Ranges.{inner_form}
+use Rattle.hir_meaning.specs.Inner.{Bodies, InnerBody, constant_body, limit_body}
 use Rattle.hir_steps.specs.Keeps.{Paired, KeepsAll, Keeps}
-use Rattle.hir_steps.proofs.Constants.{correct_constant}
 use Rattle.hir_steps.proofs.Frames.{Frame, frames, ribs_frames}
-use Rattle.hir_steps.proofs.Keeping.{any, part_any, keeping, kept_by}
+use Rattle.hir_steps.proofs.Constants.{correct_constant, correct_inner}
+use Rattle.hir_steps.proofs.Keeping.{kept_by}
 use Rattle.hir_steps.proofs.Logic.{kept_trans, longer}
+use Rattle.hir_steps.proofs.PatSteps.{correct_alloc_pat}
 use Rattle.hir_steps.proofs.Steps.{Mark, mark, Rel, Holds, Correct, correct_pure, correct_alloc_type, correct_alloc_lifetime}
+use Rattle.hir_steps.proofs.TypeAny.{Any, any}
+use Rattle.hir_one_result.specs.Laws.{Settled}
 use Rattle.hir_one_result.specs.Size.{Size}
 use Rattle.hir_one_result.specs.Stands.{Open}
+use Rattle.hir_one_result.proofs.AfterLowering.{after_lowering}
 use Rattle.hir_one_result.proofs.Tellings.{Told, Tells}
-use Rattle.hir_one_result.proofs.TreeStands.{all_stand}
+use Rattle.hir_scope.specs.Each.{Each}
+use Rattle.hir_same_meaning.specs.Reached.{Between, Spread, reached_to}
 use Rattle.hir_same_meaning.proofs.Spread.{spread_wider}
-use Rattle.hir_type_result.specs.Roots.{RootIs, RootsAre, RootsOf, last_end}
-use Rattle.hir_type_result.proofs.Meaning.{inside_means, inside_once}
+use Rattle.hir_type_result.specs.Named.{of_expr, of_exprs, of_pats_alone}
+use Rattle.hir_type_result.specs.Pats.{of_types, pats_reached}
+use Rattle.hir_type_result.specs.Roots.{Ends, ends_now, ends_of, Further, RootIs, RootsAre, RootsOf, SameInner, last_end, pats_of_exprs}
+use Rattle.hir_type_result.specs.Roots.{bindings_of_found, bindings_of_pats}
+use Rattle.hir_type_result.specs.Roots.{pats_of_found}
+use Rattle.hir_type_result.proofs.Adding.{Made, Quiet, both}
+use Rattle.hir_type_result.proofs.Counted.{times, times_append, counted_spread}
+use Rattle.hir_type_result.proofs.Inside.{constant_adds, inside_once, limit_adds}
+use Rattle.hir_type_result.proofs.Meaning.{constant_means, limit_means}
+use Rattle.hir_type_result.proofs.Named.{pats_counted}
+use Rattle.hir_type_result.proofs.Ranges.{found_between, in_range, times_total}
+use Rattle.hir_type_result.proofs.RootStands.{contents, contents_any, rooted, root_settles}
+use Rattle.hir_type_result.proofs.TreeNamed.{constant_quiet, limit_quiet}
 
--- Nothing is lost, and outside of a root these constants are recorded.
-pub record Noting (es : List OptionExpr) (b c : Builder) : Type 0 where
+-- ---- ends
+
+further_refl : (a : Ends) → Further a a
+further_refl a = record { exprs = omega arith; pats = omega arith; bindings = omega arith }
+
+further_trans : {a b c : Ends} → Further a b → Further b c → Further a c
+further_trans g h = record {
+  exprs = omega (arith, g.exprs, h.exprs);
+  pats = omega (arith, g.pats, h.pats);
+  bindings = omega (arith, g.bindings, h.bindings);
+}
+
+-- what is stored goes on
+pub further_stored : {a b : Stored} → Extends a b → Settled a b → Further (ends_now a) (ends_now b)
+further_stored e s = record { exprs = longer e.exprs.entries; pats = longer e.pats.entries; bindings = longer s }
+
+settled_trans : (a b c : Stored) → Settled a b → Settled b c → Settled a c
+settled_trans a b c g h = prefix_trans g h
+
+-- Nothing is lost, and outside of a root these bodies are recorded.
+pub record Noting (es : Bodies) (b c : Builder) : Type 0 where
   pub kept : KeepsAll b c
+  pub settled : Paired b.stored → Settled b.stored c.stored
   pub noted : b.in_root ≡ false → Paired b.stored → (later : Stored) → Extends c.stored later
       → RootsOf b.scopes b.stored c.stored later es
 
-abbrev pub Noted : {A : Type 0} → List OptionExpr → Builder → Checked A → Builder → Type 0
+abbrev pub Noted : {A : Type 0} → Bodies → Builder → Checked A → Builder → Type 0
 Noted es b (Ok a) c = Noting es b c
 Noted es b (Err f) c = Unit {0}
 
-pub record Notes {A : Type 0} (es : List OptionExpr) (p : Lowering A) : Type 0 where
+pub record Notes {A : Type 0} (es : Bodies) (p : Lowering A) : Type 0 where
   pub notes : (b : Builder) → Noted es b (p b).0 (p b).1
 
--- one after another
+-- ---- one after another
+
+lower : (lo lo' hi : ℕ) (ks : List ℕ) → lo ≤ lo' → Each (Between lo' hi) ks → Each (Between lo hi) ks
+lower lo lo' hi [] le h = tt
+lower lo lo' hi (k ∷ ks) le h = let a : lo' ≤ k = h.0.0 in ((omega (arith, le, a), h.0.1), lower lo lo' hi ks le h.1)
 
 -- what begins later begins earlier too
-root_earlier : {store : Store} {source_map : SourceMap} {around : Open} (lo hi : ℕ) (r : ExprRoot) (e : OptionExpr) → lo ≤ hi
-    → RootIs store source_map around hi r e → RootIs store source_map around lo r e
-root_earlier lo hi r e le h = record {
+root_earlier : {store : Store} {source_map : SourceMap} {around : Open} (lo hi : Ends) (r : ExprRoot) (x : InnerBody) → Further lo hi
+    → RootIs store source_map around hi r x → RootIs store source_map around lo r x
+root_earlier lo hi r x le h = record {
   same = h.same;
   ways = h.ways;
   stands = h.stands;
-  reached_once = λ depth d. spread_wider lo r.exprs_end.0 le (omega arith) (h.reached_once depth d);
+  goes_on = further_trans le h.goes_on;
+  reached_once = λ depth d. spread_wider lo.exprs r.exprs_end.0 le.exprs (omega arith) (h.reached_once depth d);
+  pats_reached_once = λ depth deep d d'. spread_wider lo.pats r.pats_end.0 le.pats (omega arith) (h.pats_reached_once depth deep d d');
+  bindings_reached = λ depth deep d d'. lower lo.bindings hi.bindings r.bindings_end.0 _ le.bindings (h.bindings_reached depth deep d d');
 }
 
-roots_earlier : (store : Store) (source_map : SourceMap) (around : Open) (lo hi : ℕ) (rs : List ExprRoot) (es : List OptionExpr) → lo ≤ hi
+roots_earlier : (store : Store) (source_map : SourceMap) (around : Open) (lo hi : Ends) (rs : List ExprRoot) (es : Bodies) → Further lo hi
     → RootsAre store source_map around hi rs es → RootsAre store source_map around lo rs es
 roots_earlier store source_map around lo hi [] [] le h = tt
 roots_earlier store source_map around lo hi [] (e ∷ es) le h = absurd h
 roots_earlier store source_map around lo hi (r ∷ rs) [] le h = absurd h
 roots_earlier store source_map around lo hi (r ∷ rs) (e ∷ es) le h = (root_earlier lo hi r e le h.0, h.1)
 
-ends_later : (lo hi : ℕ) (rs : List ExprRoot) → lo ≤ hi → last_end lo rs ≤ last_end hi rs
+ends_later : (lo hi : Ends) (rs : List ExprRoot) → Further lo hi → Further (last_end lo rs) (last_end hi rs)
 ends_later lo hi [] le = le
-ends_later lo hi (r ∷ rs) le = omega arith
+ends_later lo hi (r ∷ rs) le = further_refl _
 
-ends_append : (lo : ℕ) (rs ss : List ExprRoot) → last_end lo (rs ++ ss) ≡ last_end (last_end lo rs) ss
+ends_append : (lo : Ends) (rs ss : List ExprRoot) → last_end lo (rs ++ ss) ≡ last_end (last_end lo rs) ss
 ends_append lo [] ss = refl
-ends_append lo (r ∷ rs) ss = ends_append r.exprs_end.0 rs ss
+ends_append lo (r ∷ rs) ss = ends_append (ends_of r) rs ss
 
-roots_append : (store : Store) (source_map : SourceMap) (around : Open) (lo hi : ℕ) (rs : List ExprRoot) (es : List OptionExpr)
-    (ss : List ExprRoot) (fs : List OptionExpr) → last_end lo rs ≤ hi → RootsAre store source_map around lo rs es
+roots_append : (store : Store) (source_map : SourceMap) (around : Open) (lo hi : Ends) (rs : List ExprRoot) (es : Bodies)
+    (ss : List ExprRoot) (fs : Bodies) → Further (last_end lo rs) hi → RootsAre store source_map around lo rs es
     → RootsAre store source_map around hi ss fs → RootsAre store source_map around lo (rs ++ ss) (es ++ fs)
 roots_append store source_map around lo hi [] [] ss fs le g h = roots_earlier store source_map around lo hi ss fs le h
 roots_append store source_map around lo hi [] (e ∷ es) ss fs le g h = absurd g
 roots_append store source_map around lo hi (r ∷ rs) [] ss fs le g h = absurd g
 roots_append store source_map around lo hi (r ∷ rs) (e ∷ es) ss fs le g h =
-    (g.0, roots_append store source_map around r.exprs_end.0 hi rs es ss fs le g.1 h)
+    (g.0, roots_append store source_map around (ends_of r) hi rs es ss fs le g.1 h)
 
-roots_then : {around : Open} {a b c later : Stored} {es fs : List OptionExpr} → RootsOf around a b later es → RootsOf around b c later fs
-    → RootsOf around a c later (es ++ fs)
-roots_then {around = around} {a = a} {b = b} {later = later} {es = es} {fs = fs} g h =
-    let from = length a.exprs.entries in
-    let to = length b.exprs.entries in
-    let all = ends_append from g.roots h.roots in
-    let after = ends_later (last_end from g.roots) to h.roots g.ends in
-    let end = h.ends in record {
+roots_then : {around : Open} {a b c later : Stored} {es fs : Bodies} → Settled b c → RootsOf around a b later es
+    → RootsOf around b c later fs → RootsOf around a c later (es ++ fs)
+roots_then {around = around} {a = a} {b = b} {c = c} {later = later} {es = es} {fs = fs} settled g h =
+    let from = ends_now a in
+    let to = ends_now b in
+    let after = ends_later (last_end from g.roots) to h.roots g.ends in record {
       roots = g.roots ++ h.roots;
       is = h.is ∙ (ap (λ rs. rs ++ h.roots) g.is ∙ append_assoc a.roots g.roots h.roots);
-      each = roots_append (store_of later) (map_of later) around from to g.roots es h.roots fs g.ends g.each h.each;
-      ends = omega (all, arith);
+      each = λ s. roots_append (store_of later) (map_of later) around from to g.roots es h.roots fs g.ends
+          (g.each (settled_trans b c later settled s)) (h.each s);
+      ends = subst (λ x. Further x (ends_now c)) (sym (ends_append from g.roots h.roots)) (further_trans after h.ends);
     }
 
-noting_then : {es fs : List OptionExpr} {a b c : Builder} → Noting es a b → Noting fs b c → Noting (es ++ fs) a c
-noting_then {fs = fs} {b = b} {c = c} g h = record {
+noting_then : {es fs : Bodies} {a b c : Builder} → Noting es a b → Noting fs b c → Noting (es ++ fs) a c
+noting_then {fs = fs} {a = a} {b = b} {c = c} g h = record {
   kept = kept_trans g.kept h.kept;
+  settled = λ d. settled_trans a.stored b.stored c.stored (g.settled d) (h.settled (g.kept.paired d));
   noted = λ outside d later x.
-      roots_then (g.noted outside d later (extends_trans h.kept.stays x))
-      (subst (λ rs. RootsOf rs b.stored c.stored later fs) g.kept.scopes (h.noted (g.kept.in_root ∙ outside) (g.kept.paired d) later x));
+      roots_then (h.settled (g.kept.paired d)) (g.noted outside d later (extends_trans h.kept.stays x))
+      (subst (λ rs. RootsOf rs b.stored c.stored later fs) g.kept.scopes
+      (h.noted (g.kept.in_root ∙ outside) (g.kept.paired d) later x));
 }
 
-then_noted : {B : Type 0} {es : List OptionExpr} (fs : List OptionExpr) {b b' : Builder} → Noting es b b' → (o : Checked B) (c : Builder)
+then_noted : {B : Type 0} {es : Bodies} (fs : Bodies) {b b' : Builder} → Noting es b b' → (o : Checked B) (c : Builder)
     → Noted fs b' o c → Noted (es ++ fs) b o c
 then_noted fs x (Ok e) c y = noting_then x y
 then_noted fs x (Err f) c y = tt
 
-pub notes_then : {A B : Type 0} {es fs : List OptionExpr} {p : Lowering A} {f : A → Lowering B} → Notes es p
+pub notes_then : {A B : Type 0} {es fs : Bodies} {p : Lowering A} {f : A → Lowering B} → Notes es p
     → ((a : A) → Notes fs (f a)) → Notes (es ++ fs) (p >>= f)
 notes_then {A = A} {es = es} {fs = fs} {p = p} {f = f} h k = record { notes = λ b. by b (p b).0 (p b).1 (h.notes b) }
   where
@@ -116,7 +167,7 @@ notes_then {A = A} {es = es} {fs = fs} {p = p} {f = f} h k = record { notes = λ
     by b (Err f) c x = tt
 
 -- where it is known what the first answers
-pub notes_given : {A B : Type 0} {n : Size} {G : A → Type 0} {es fs : List OptionExpr} {p : Lowering A} {f : A → Lowering B} → Notes es p
+pub notes_given : {A B : Type 0} {n : Size} {G : A → Type 0} {es fs : Bodies} {p : Lowering A} {f : A → Lowering B} → Notes es p
     → Tells n G p → ((a : A) → G a → Notes fs (f a)) → Notes (es ++ fs) (p >>= f)
 notes_given {A = A} {n = n} {G = G} {es = es} {fs = fs} {p = p} {f = f} h t k =
     record { notes = λ b. by b (p b).0 (p b).1 (h.notes b) (t.tells b) }
@@ -126,81 +177,249 @@ notes_given {A = A} {n = n} {G = G} {es = es} {fs = fs} {p = p} {f = f} h t k =
     by b (Ok a) c x y = then_noted fs x (f a c).0 (f a c).1 ((k a y.1).notes c)
     by b (Err f) c x y = tt
 
-pub notes_as : {A : Type 0} {es fs : List OptionExpr} {p : Lowering A} → es ≡ fs → Notes es p → Notes fs p
+pub notes_as : {A : Type 0} {es fs : Bodies} {p : Lowering A} → es ≡ fs → Notes es p → Notes fs p
 notes_as {p = p} e h = subst (λ xs. Notes xs p) e h
 
-pub notes_end : {A B : Type 0} {es : List OptionExpr} {p : Lowering A} {f : A → Lowering B} → Notes es p
+pub notes_end : {A B : Type 0} {es : Bodies} {p : Lowering A} {f : A → Lowering B} → Notes es p
     → ((a : A) → Notes [] (f a)) → Notes es (p >>= f)
 notes_end {es = es} h k = notes_as (append-nil es) (notes_then h k)
 
--- steps that record none
+-- ---- steps that record none
 
-pub no_roots : {around : Open} {a b later : Stored} → length a.exprs.entries ≤ length b.exprs.entries → b.roots ≡ a.roots
+pub no_roots : {around : Open} {a b later : Stored} → Further (ends_now a) (ends_now b) → b.roots ≡ a.roots
     → RootsOf around a b later []
-no_roots {a = a} le e = record { roots = []; is = e ∙ sym (append-nil a.roots); each = tt; ends = le }
+no_roots {a = a} le e = record { roots = []; is = e ∙ sym (append-nil a.roots); each = λ s. tt; ends = le }
+
+-- neither roots nor bindings come
+record Aside (m m' : Mark) : Type 0 where
+  roots : m'.stored.roots ≡ m.stored.roots
+  bindings : m'.stored.bindings.entries ≡ m.stored.bindings.entries
+
+as_settled : (a b : Stored) → b.bindings.entries ≡ a.bindings.entries → Settled a b
+as_settled a b e = subst (λ xs. Prefix a.bindings.entries xs) (sym e) (prefix_refl a.bindings.entries)
 
 notes_none : {A : Type 0} {R : Rel A} {p : Lowering A} → Correct p R
-    → ((final : Stored) (ps : List Frame) (m m' : Mark) (a : A) → R final ps m m' a → m'.stored.roots ≡ m.stored.roots) → Notes [] p
+    → ((final : Stored) (ps : List Frame) (m m' : Mark) (a : A) → R final ps m m' a → Aside m m') → Notes [] p
 notes_none {A = A} {R = R} {p = p} h still =
     record { notes = λ b. by b (p b).0 (p b).1 (λ final. h.holds final (frames b.scopes) b (ribs_frames b.scopes)) }
   where
     by : (b : Builder) (o : Checked A) (c : Builder) → ((final : Stored) → Holds R final (frames b.scopes) b o c) → Noted [] b o c
-    by b (Ok a) c x = record {
-      kept = (x b.stored).kept;
-      noted = λ outside d later e.
-          no_roots (longer (x b.stored).kept.stays.exprs.entries)
-          (still later (frames b.scopes) (mark b) (mark c) a ((x later).in_final d e));
-    }
+    by b (Ok a) c x =
+        let aside : (later : Stored) → Paired b.stored → Extends c.stored later → Aside (mark b) (mark c) =
+        λ later d e. still later (frames b.scopes) (mark b) (mark c) a ((x later).in_final d e) in
+        let kept = (x b.stored).kept in
+        let settled : Paired b.stored → Settled b.stored c.stored =
+        λ d. as_settled b.stored c.stored (aside c.stored d (extends_refl c.stored)).bindings in record {
+          kept = kept;
+          settled = settled;
+          noted = λ outside d later e. no_roots (further_stored kept.stays (settled d)) (aside later d e).roots;
+        }
     by b (Err f) c x = tt
 
 pub notes_pure : {A : Type 0} (a : A) → Notes [] (pure a)
-notes_pure a = notes_none (correct_pure a) (λ final ps m m' b row. ap (λ x. x.stored.roots) row.still)
+notes_pure a = notes_none (correct_pure a) (λ final ps m m' b row. record {
+  roots = ap (λ x. x.stored.roots) row.still;
+  bindings = ap (λ x. x.stored.bindings.entries) row.still;
+})
 
 pub notes_type : (t : TypeRef) (source : Option Pointer) → Notes [] (alloc_type t source)
-notes_type t source = notes_none (correct_alloc_type t source) (λ final ps m m' i row. ap (λ s. s.roots) row.stored)
+notes_type t source = notes_none (correct_alloc_type t source) (λ final ps m m' i row. record {
+  roots = ap (λ s. s.roots) row.stored;
+  bindings = ap (λ s. s.bindings.entries) row.stored;
+})
 
 pub notes_lifetime : (l : LifetimeRef) (source : Option Pointer) → Notes [] (alloc_lifetime l source)
-notes_lifetime l source = notes_none (correct_alloc_lifetime l source) (λ final ps m m' i row. ap (λ s. s.roots) row.stored)
+notes_lifetime l source = notes_none (correct_alloc_lifetime l source) (λ final ps m m' i row. record {
+  roots = ap (λ s. s.roots) row.stored;
+  bindings = ap (λ s. s.bindings.entries) row.stored;
+})
+
+pub notes_pat : (p : Pat) (source : Option Pointer) → Notes [] (alloc_pat p source)
+notes_pat p source = notes_none (correct_alloc_pat p source) (λ final ps m m' i row. record {
+  roots = ap (λ s. s.roots) row.stored;
+  bindings = ap (λ s. s.bindings.entries) row.stored;
+})
 
 pub notes_count_out : {A : Type 0} → Notes {A = A} [] count_out
 unfolding count_out
 notes_count_out = record { notes = λ b. tt }
 
--- a constant
+-- ---- bodies inside
+
+-- what is so of a body inside by what its lowering stored
+record Facts (x : InnerBody) (b c : Builder) (i : ExprId) (later : Stored) : Type 0 where
+  same : SameInner (store_of later) (map_of later) i x
+  reached_once : (depth : ℕ) → length later.exprs.entries ≤ depth
+      → Spread (length b.stored.exprs.entries) (length c.stored.exprs.entries) (reached_to (store_of later) depth i)
+  pats_reached_once : (depth deep : ℕ) → length later.exprs.entries ≤ depth → length later.pats.entries ≤ deep
+      → Spread (length b.stored.pats.entries) (length c.stored.pats.entries)
+      (pats_of_exprs (store_of later) deep (reached_to (store_of later) depth i))
+  bindings_reached : (depth deep : ℕ) → length later.exprs.entries ≤ depth → length later.pats.entries ≤ deep
+      → Each (Between (length b.stored.bindings.entries) (length c.stored.bindings.entries))
+      (bindings_of_pats (store_of later) (pats_of_exprs (store_of later) deep (reached_to (store_of later) depth i)))
+
+-- patterns that came make bindings that came
+bindings_made : (lo : ℕ) (final : Stored) (m m' : Mark) → Made lo final m m' → (ns : List ℕ)
+    → Each (Between (length m.stored.pats.entries) (length m'.stored.pats.entries)) ns
+    → Each (Between lo m'.bindings) (bindings_of_pats (store_of final) ns)
+bindings_made lo final m m' made [] h = tt
+bindings_made lo final m m' made (n ∷ ns) h =
+    both (Between lo m'.bindings) (bindings_of_found (slice_get final.pats.entries n)) (bindings_of_pats (store_of final) ns)
+    (by (slice_get final.pats.entries n) refl) (bindings_made lo final m m' made ns h.1)
+  where
+    by : (o : Option Pat) → slice_get final.pats.entries n ≡ o → Each (Between lo m'.bindings) (bindings_of_found o)
+    by None e = tt
+    by (Some p) e = made n p h.0.0 h.0.1 e
+
+-- of expressions that came, each reached once, no pattern is reached more often than of all that came
+reached_pats : (a b later : Stored) (es more : List HirExpr) → b.exprs.entries ≡ a.exprs.entries ++ es
+    → later.exprs.entries ≡ b.exprs.entries ++ more → (deep k : ℕ) (ns : List ℕ)
+    → Spread (length a.exprs.entries) (length b.exprs.entries) ns
+    → times k (pats_of_exprs (store_of later) deep ns) ≤ times k (of_exprs (of_pats_alone (pats_reached later.pats.entries deep)) es)
+reached_pats a b later es more new behind deep k ns spread =
+    let l = of_pats_alone (pats_reached later.pats.entries deep) in
+    let n = ap length new in
+    let n' = length-append a.exprs.entries es in
+    let x = times_total k (λ n. pats_of_found (store_of later) deep (slice_get later.exprs.entries n)) ns in
+    let y = times_total k (of_expr l) es in
+    let z = in_range (λ e. times k (of_expr l e)) (λ n. times k (pats_of_found (store_of later) deep (slice_get later.exprs.entries n)))
+    es (length a.exprs.entries) (length b.exprs.entries) ns (omega (arith, n, n')) found spread.within spread.distinct in
+    omega (arith, x, y, z)
+  where
+    all : later.exprs.entries ≡ (a.exprs.entries ++ es) ++ more
+    all = behind ∙ ap (λ xs. xs ++ more) new
+
+    found : (n m : ℕ) (e : HirExpr) → n ≡ length a.exprs.entries + m → slice_get es m ≡ Some e
+        → times k (pats_of_found (store_of later) deep (slice_get later.exprs.entries n))
+        ≤ times k (of_expr (of_pats_alone (pats_reached later.pats.entries deep)) e)
+    found n m e at is =
+        let here : slice_get later.exprs.entries n ≡ Some e =
+        ap (λ xs. slice_get xs n) all ∙ found_between a.exprs.entries es more n m e at is in
+        rw here (omega arith)
+
+-- one expression alone
+one_spread : {lo hi : ℕ} {ks : List ℕ} → Spread lo hi (ks ++ []) → Spread lo hi ks
+one_spread {lo = lo} {hi = hi} {ks = ks} h = subst (Spread lo hi) (append-nil ks) h
+
+module _ {A : Type 0} {p : Lowering A} (x : InnerBody) (b c : Builder) (a : A) (i : ExprId) (paired : Paired b.stored)
+    (is : p b ≡ (Ok a, c)) (later : Stored) (stays : Extends c.stored later) where
+  facts_of : Correct p Quiet → Keeps b (Ok a) c → SameInner (store_of later) (map_of later) i x
+      → ((depth : ℕ) → length later.exprs.entries ≤ depth
+      → Spread (length b.stored.exprs.entries) (length c.stored.exprs.entries) (reached_to (store_of later) depth i))
+      → Facts x b c i later
+  facts_of quiet kept same once =
+      let es = kept.stays.exprs.entries in
+      let ts = kept.stays.types.entries in
+      let behind = stays.exprs.entries in
+      let row = after_lowering quiet b a c paired is later stays in
+      let pats : (depth deep : ℕ) → length later.exprs.entries ≤ depth → length later.pats.entries ≤ deep
+      → Spread (length b.stored.pats.entries) (length c.stored.pats.entries)
+      (pats_of_exprs (store_of later) deep (reached_to (store_of later) depth i)) =
+      λ depth deep le le'. counted_spread _ _ _ (λ k.
+      let u = pats_counted (λ a. []) quiet (λ a l k. omega arith) b c a paired is later stays deep le' es.more es.is ts.more ts.is k
+      in
+      let v = reached_pats b.stored c.stored later es.more behind.more es.is behind.is deep k
+      (reached_to (store_of later) depth i) (once depth le) in
+      let l = of_pats_alone (pats_reached later.pats.entries deep) in
+      let w = times_append k (of_exprs l es.more) (of_types l ts.more) in omega (arith, u, v, w)) in
+      record {
+        same = same;
+        reached_once = once;
+        pats_reached_once = pats;
+        bindings_reached = λ depth deep le le'.
+            let x = row.bound (length b.stored.bindings.entries) (omega arith) tt tt in
+            bindings_made (length b.stored.bindings.entries) later (mark b) (mark c) x.made
+            (pats_of_exprs (store_of later) deep (reached_to (store_of later) depth i)) (pats depth deep le le').within;
+      }
 
 -- behind the barrier, in a root
 abbrev entered : Builder → Builder
 entered b = record b { scopes = barrier_rib ∷ b.scopes; in_root = true }
 
-abbrev leaving : Bool → ExprId → Lowering ConstRef
-leaving outer id = close >> (leave_root outer id >> pure (record { expr = id }))
+module _ {A : Type 0} (make : ExprId → A) (x : InnerBody) where
+  abbrev leaving : Bool → ExprId → Lowering A
+  leaving outer id = close >> (leave_root outer id >> pure (make id))
 
-pub notes_constant : (e : OptionExpr) → Notes (e ∷ []) (constant_form (lower_part e))
-unfolding constant_form open_barrier enter_root close leave_root outside_root record_root storing.record_root
-notes_constant e = record {
-  notes = λ b.
-      by b b.in_root refl (lower_part e (entered b)).0 (lower_part e (entered b)).1 refl (keeping e (entered b))
-      (kept_by (any (correct_constant (part_any e))) b);
-}
-  where
-    by : (b : Builder) (outer : Bool) → b.in_root ≡ outer → (o : Checked ExprId) (c : Builder) → lower_part e (entered b) ≡ (o, c)
-        → Keeps (entered b) o c → Keeps b (go_on o c (leaving outer)).0 (go_on o c (leaving outer)).1
-        → Noted (e ∷ []) b (go_on o c (leaving outer)).0 (go_on o c (leaving outer)).1
-    by b true in' (Ok i) c is inner kept = record { kept = kept; noted = λ outside. absurd (true≢false (sym in' ∙ outside)) }
-    by b false in' (Ok i) c is inner kept =
-        let root = root_at c.stored.exprs.entries i in
-        let around = frames b.scopes in
-        let behind = ap (λ rs. barrier_rib ∷ rs) (ribs_frames b.scopes) in record {
-          kept = kept;
-          noted = λ outside d later x.
-              let stays = extends_trans (extends_root c.stored root) x in
-              let shown = all_stand e (entered b) i c d is later stays in
-              let whole : RootIs (store_of later) (map_of later) b.scopes (length b.stored.exprs.entries) root e = record {
-                same = inside_means e around (entered b) c i behind d is later stays;
-                ways = shown.ways;
-                stands = shown.stands;
-                reached_once = λ depth le. inside_once e around (entered b) c i behind d is later stays depth le;
-              } in
-              record { roots = root ∷ []; is = ap (λ rs. rs ++ root ∷ []) (inner.roots refl); each = (whole, tt); ends = omega arith };
-        }
-    by b outer in' (Err f) c is inner kept = tt
+  abbrev behind : Lowering A
+  behind = open_barrier >> (enter_root >>= (λ outer. contents x >>= leaving outer))
+
+  notes_behind : Correct (contents x) Any → Correct behind Any
+      → ((b c : Builder) (i : ExprId) → Paired b.stored → behind b ≡ (Ok (make i), c) → (later : Stored) → Extends c.stored later
+      → Facts x b c i later) → Notes (x ∷ []) behind
+  unfolding open_barrier enter_root close leave_root outside_root record_root storing.record_root
+  notes_behind any_inside any_all facts = record {
+    notes = λ b. by b b.in_root refl (contents x (entered b)).0 (contents x (entered b)).1 refl (kept_by any_inside (entered b))
+        (kept_by any_all b) (facts b);
+  }
+    where
+      by : (b : Builder) (outer : Bool) → b.in_root ≡ outer → (o : Checked ExprId) (c : Builder) → contents x (entered b) ≡ (o, c)
+          → Keeps (entered b) o c → Keeps b (go_on o c (leaving outer)).0 (go_on o c (leaving outer)).1
+          → ((d : Builder) (i : ExprId) → Paired b.stored → go_on o c (leaving outer) ≡ (Ok (make i), d) → (later : Stored)
+          → Extends d.stored later → Facts x b d i later)
+          → Noted (x ∷ []) b (go_on o c (leaving outer)).0 (go_on o c (leaving outer)).1
+      by b true in' (Ok i) c is inner kept facts = record {
+        kept = kept;
+        settled = λ d. root_settles x (entered b) c i d is;
+        noted = λ outside. absurd (true≢false (sym in' ∙ outside));
+      }
+      by b false in' (Ok i) c is inner kept facts =
+          let root = root_at (store_of c.stored) i in
+          let left = (go_on {B = A} (Ok i) c (leaving false)).1 in record {
+            kept = kept;
+            settled = λ d. root_settles x (entered b) c i d is;
+            noted = λ outside d later e.
+                let stays = extends_trans (extends_root c.stored root) e in
+                let f = facts left i d refl later e in
+                let goes_on = further_stored inner.stays (root_settles x (entered b) c i d is) in
+                let whole : Settled c.stored later → RootIs (store_of later) (map_of later) b.scopes (ends_now b.stored) root x =
+                λ s. let shown = rooted x (entered b) c i d is later stays s in record {
+                  same = f.same;
+                  ways = shown.ways;
+                  stands = shown.stands;
+                  goes_on = goes_on;
+                  reached_once = f.reached_once;
+                  pats_reached_once = f.pats_reached_once;
+                  bindings_reached = f.bindings_reached;
+                } in
+                record {
+                  roots = root ∷ [];
+                  is = ap (λ rs. rs ++ root ∷ []) (inner.roots refl);
+                  each = λ s. (whole s, tt);
+                  ends = further_refl (ends_of root);
+                };
+          }
+      by b outer in' (Err f) c is inner kept facts = tt
+
+pub notes_constant : (e : OptionExpr) → Notes (constant_body e ∷ []) (constant_form (lower_part e))
+unfolding constant_form
+notes_constant e =
+    let inside = contents_any (constant_body e) in
+    let all = any (correct_constant inside) in
+    notes_behind (λ i. record { expr = i }) (constant_body e) inside all (λ b c i paired is later stays.
+    let x : ConstRef = record { expr = i } in
+    facts_of (constant_body e) b c x i paired is later stays (constant_quiet (tree.constant e))
+    (subst (λ r. Keeps b r.0 r.1) is (kept_by all b))
+    (constant_means e (frames b.scopes) b c x (ribs_frames b.scopes) paired is later stays)
+    (λ depth le. one_spread
+    (inside_once (constant_adds (tree.constant e)) b c x paired is later stays depth le (i ∷ []) (λ k. omega arith))))
+
+limit_facts : (l : Limit) (b c : Builder) (i : ExprId) → Paired b.stored → lower_limit l b ≡ (Ok i, c) → Keeps b (Ok i) c
+    → (later : Stored) → Extends c.stored later → Facts (limit_body l) b c i later
+limit_facts l b c i paired is kept later stays =
+    facts_of (limit_body l) b c i i paired is later stays (limit_quiet l) kept
+    (limit_means l (frames b.scopes) b c i (ribs_frames b.scopes) paired is later stays)
+    (λ depth le. one_spread (inside_once (limit_adds l) b c i paired is later stays depth le (i ∷ []) (λ k. omega arith)))
+
+limit_notes : (l : Limit) → lower_limit l ≡ inner_form (contents (limit_body l))
+    → Notes (limit_body l ∷ []) (inner_form (contents (limit_body l)))
+unfolding inner_form
+limit_notes l is_form =
+    let inside = contents_any (limit_body l) in
+    let all = any (correct_inner inside) in
+    notes_behind (λ i. i) (limit_body l) inside all (λ b c i paired is later stays.
+    limit_facts l b c i paired (ap (λ q. q b) is_form ∙ is) (subst (λ r. Keeps b r.0 r.1) is (kept_by all b)) later stays)
+
+pub notes_limit : (l : Limit) → Notes (limit_body l ∷ []) (lower_limit l)
+notes_limit (tree.item_limit item) = limit_notes (tree.item_limit item) refl
+notes_limit (tree.side_limit s) = limit_notes (tree.side_limit s) refl
+notes_limit (tree.before_limit item s) = limit_notes (tree.before_limit item s) refl

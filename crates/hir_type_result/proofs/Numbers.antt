@@ -19,7 +19,7 @@ use Rattle.hir_store.specs.declared.path.AssociatedTypeBinding.{AssociatedTypeBi
 use Rattle.hir_store.specs.declared.path.AssociatedTypeBinding.TheFolds as folds
 use Rattle.hir_store.specs.declared.path.AssociatedTypeBinding.TheViews.{out-GenericArgs}
 use Rattle.hir_store.specs.declared.path.Path.{Path}
-use Rattle.hir_store.specs.declared.path.Path.TheVariants.{BarePath, Normal}
+use Rattle.hir_store.specs.declared.path.Path.TheVariants.{BarePath, Normal, LangItem}
 use Rattle.hir_env.specs.Answered.{Binder}
 use Rattle.hir_lower_form.specs.declared.args.ArgLists.{ArgLists}
 use Rattle.hir_lower_form.specs.declared.walk.PathWalk.{PathWalk}
@@ -241,6 +241,7 @@ none_beside f (x ∷ xs) k = none_beside f xs k
 
 args_of_less : (f : TypeRefId → List ℕ) (p : Path) (k : ℕ) → times k (of_lists f (args_of p)) ≤ times k (of_path f p)
 args_of_less f (BarePath p) k = let e = none_beside f p.segments k in omega arith
+args_of_less f (LangItem i) k = omega arith
 args_of_less f (Normal p) k = let e = times_append k (of_present f p.type_anchor) (of_lists f p.generic_args) in omega arith
 
 trait_less : (f : TypeRefId → List ℕ) (t : TypeRefId) (p : Path) (w : PathWalk)

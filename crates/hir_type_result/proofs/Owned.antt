@@ -1,14 +1,17 @@
 -- What is answered for types, paths, arguments and bounds names what their parts name, and types that were stored, each once.
-use Rattle.std.proofs.Common.{ℕ, ◌≤◌, Bool, List, [], ◌∷◌, ◌++◌, Option, Some, None, arith}
+use Rattle.std.proofs.Common.{refl, ℕ, ◌+◌, ◌≤◌, Bool, List, [], ◌∷◌, ◌++◌, Option, Some, None, arith}
 use Rattle.std.specs.Prelude.{option_map}
 use Rattle.hir_store.specs.Pointers.{Pointer}
 use Rattle.hir_store.specs.declared.hir.Mutability.{Mutability}
+use Rattle.hir_store.specs.declared.ids.PatId.{PatId}
 use Rattle.hir_store.specs.declared.ids.TypeRefId.{TypeRefId}
 use Rattle.hir_store.specs.declared.name.Name.{Name}
+use Rattle.hir_store.specs.declared.path.AssociatedTypeBinding.{AssociatedTypeBinding}
 use Rattle.hir_store.specs.declared.path.Path.{Path as HirPath}
 use Rattle.hir_store.specs.declared.path.PathKind.{PathKind}
 use Rattle.hir_store.specs.declared.path.GenericArgs.{GenericArgs}
 use Rattle.hir_store.specs.declared.type_ref.ConstRef.{ConstRef}
+use Rattle.hir_store.specs.declared.type_ref.TypeRef.{TypeRef}
 use Rattle.hir_store.specs.declared.type_ref.TypeRef.TheVariants as ty
 use Rattle.hir_store.specs.declared.type_ref.TypeBound.{TypeBound}
 use Rattle.hir_store.specs.declared.type_ref.UseArgRef.{UseArgRef}
@@ -24,12 +27,14 @@ use Rattle.hir_lower_form.specs.Lowering.{Lowering, ◌>>=◌, pure}
 use Rattle.hir_lower_form.specs.Walks.{at_first, no_names, self_read, super_read, one_more_super, named}
 use Rattle.hir_lower_form.specs.Paths.{proceed, whole, counted, read_trait, with_trait, parens_form, or_else, segment_args_form}
 use Rattle.hir_lower_form.specs.Types.{TypeSteps, error_type, unit_type, lower_lifetime, lower_lifetime_option, lower_use, lower_uses}
-use Rattle.hir_lower_form.specs.Types.{over_form, array_type_form}
+use Rattle.hir_lower_form.specs.Types.{over_form, array_type_form, pattern_type_form}
 use Rattle.hir_lower_form.specs.Types.{tuple_type_form, path_type_form, ref_type_form, fn_type_form, impl_type_form, dyn_type_form}
 use Rattle.hir_lower_form.specs.Types.{stored_leaf_type, stored_over_type, path_or_error, stored_impl}
 use Rattle.hir_lower_form.specs.Types.{binding_form, path_bound_of, path_bound_form}
 use Rattle.hir_steps.proofs.Steps.{Correct, correct_count_out}
 use Rattle.hir_type_result.specs.Reached.{of_present, of_each, of_bound, of_args, of_binding, below}
+use Rattle.hir_type_result.specs.Named.{Look}
+use Rattle.hir_type_result.specs.Pats.{of_type}
 use Rattle.hir_type_result.proofs.Counted.{times, ◌⊑◌, times_append, either}
 use Rattle.hir_type_result.proofs.Numbers as numbers
 use Rattle.hir_type_result.proofs.Numbers.{of_arg_lists, of_walk, of_reading, of_read}
@@ -39,31 +44,40 @@ use Rattle.hir_type_result.proofs.Adding.{Quiet, adds_lifetime}
 -- what each kind of answer names
 
 abbrev pub a_type : TypeRefId → Numbers
-a_type i f = f i
+a_type i l = l.types i
 
 abbrev pub maybe_type : Option TypeRefId → Numbers
-maybe_type i f = of_present f i
+maybe_type i l = of_present l.types i
 
 abbrev pub types : List TypeRefId → Numbers
-types is f = of_each f is
+types is l = of_each l.types is
+
+abbrev pub a_bound : TypeBound → Numbers
+a_bound b l = of_bound l.types b
 
 abbrev pub bounds : List TypeBound → Numbers
-bounds bs f = of_each (of_bound f) bs
+bounds bs l = of_each (of_bound l.types) bs
+
+abbrev pub a_binding : AssociatedTypeBinding → Numbers
+a_binding b l = of_binding l.types b
 
 abbrev pub arguments : Option GenericArgs → Numbers
-arguments a f = of_present (of_args f) a
+arguments a l = of_present (of_args l.types) a
 
 abbrev pub lists : ArgLists → Numbers
-lists l f = of_arg_lists f l
+lists al l = of_arg_lists l.types al
 
 abbrev pub maybe_path : Option HirPath → Numbers
-maybe_path p f = of_read f p
+maybe_path p l = of_read l.types p
 
 abbrev pub walk : PathWalk → Numbers
-walk w f = of_walk f w
+walk w l = of_walk l.types w
 
 abbrev pub reading : Reading → Numbers
-reading r f = of_reading f r
+reading r l = of_reading l.types r
+
+abbrev pub a_pat : PatId → Numbers
+a_pat i l = l.pats i
 
 -- with as much beside it
 abbrev pub beside : Numbers → Numbers → Numbers
@@ -89,21 +103,25 @@ uses_add done (u ∷ us) = adds_then (use_adds u) (λ x. uses_add _ us)
 
 -- types
 
-pub leaf_below : (form : TypeLeaf) (f : TypeRefId → List ℕ) → below f (stored_leaf_type form) ⊑ []
-leaf_below tree.never_leaf f k = omega arith
-leaf_below tree.infer_leaf f k = omega arith
+-- what a type names that is stored
+abbrev in_type : TypeRef → Look → ℕ → ℕ
+in_type t l k = times k (below l.types t) + times k (of_type l t)
 
-pub over_below : (form : TypeUnary) (t : TypeRefId) (f : TypeRefId → List ℕ) → below f (stored_over_type form t) ⊑ f t
-over_below (tree.pointer_to mutability) t f k = omega arith
-over_below tree.slice_of t f k = omega arith
+pub leaf_below : (form : TypeLeaf) (l : Look) (k : ℕ) → in_type (stored_leaf_type form) l k ≤ 0
+leaf_below tree.never_leaf l k = omega arith
+leaf_below tree.infer_leaf l k = omega arith
 
-pub path_below : (p : Option HirPath) (f : TypeRefId → List ℕ) → below f (path_or_error p) ⊑ of_read f p
-path_below None f k = omega arith
-path_below (Some p) f k = omega arith
+over_below : (form : TypeUnary) (t : TypeRefId) (l : Look) (k : ℕ) → in_type (stored_over_type form t) l k ≤ times k (a_type t l)
+over_below (tree.pointer_to mutability) t l k = omega arith
+over_below tree.slice_of t l k = omega arith
 
-pub impl_below : (mode : ImplTrait) (bs : List TypeBound) (f : TypeRefId → List ℕ) → below f (stored_impl mode bs) ⊑ of_each (of_bound f) bs
-impl_below becomes.Error bs f k = omega arith
-impl_below becomes.Opaque bs f k = omega arith
+path_below : (p : Option HirPath) (l : Look) (k : ℕ) → in_type (path_or_error p) l k ≤ times k (maybe_path p l)
+path_below None l k = omega arith
+path_below (Some p) l k = omega arith
+
+impl_below : (mode : ImplTrait) (bs : List TypeBound) (l : Look) (k : ℕ) → in_type (stored_impl mode bs) l k ≤ times k (bounds bs l)
+impl_below becomes.Error bs l k = omega arith
+impl_below becomes.Opaque bs l k = omega arith
 
 pub error_adds : Correct error_type (Adds none a_type)
 unfolding error_type
@@ -140,7 +158,14 @@ module _ (at : Pointer) where
       → Correct ts (Adds none types) → Correct r (Adds none a_type) → Correct (fn_type_form at binder head ts r) (Adds none a_type)
   unfolding fn_type_form
   fn_adds binder head h k = adds_then k (λ r. adds_then (adds_beside (a_type r) h) (λ ts. adds_type _ (Some at) (λ f k.
-      let e = numbers.each_push f ts r k in let s = times_append k (f r) (of_each f ts) in omega arith)))
+      let e = numbers.each_push f.types ts r k in let s = times_append k (f.types r) (of_each f.types ts) in omega arith)))
+
+  -- a pattern behind its type
+  pub pattern_adds : {t : TypeSteps} {p : Lowering PatId} → Correct t (Adds none a_type) → Correct p (Adds none a_pat)
+      → Correct (pattern_type_form at t p) (Adds none a_type)
+  unfolding pattern_type_form
+  pattern_adds h k = adds_then h (λ t. adds_then (adds_beside (a_type t) k) (λ p. adds_type _ (Some at)
+      (λ l n. let s = times_append n (l.types t) (l.pats p) in omega arith)))
 
   pub impl_adds : (mode : ImplTrait) {bs : Lowering (List TypeBound)} → Correct bs (Adds none bounds)
       → Correct (impl_type_form at mode bs) (Adds none a_type)
@@ -152,13 +177,13 @@ module _ (at : Pointer) where
   dyn_adds h = adds_then h (λ bs. adds_type _ (Some at) (λ f k. omega arith))
 
   pub bound_of_adds : (maybe : Bool) (binder : Binder) (p : Option HirPath)
-      → Correct (path_bound_of at maybe binder p) (Adds (maybe_path p) (λ b f. of_bound f b))
+      → Correct (path_bound_of at maybe binder p) (Adds (maybe_path p) a_bound)
   bound_of_adds maybe binder None = adds_pure _ (λ f k. omega arith)
   bound_of_adds maybe binder (Some p) = adds_then (adds_type (ty.Path p) (Some at) (λ f k. omega arith))
-      (λ i. adds_pure _ (λ f. numbers.path_bound_less f maybe binder i))
+      (λ i. adds_pure _ (λ l. numbers.path_bound_less l.types maybe binder i))
 
   pub path_bound_adds : (maybe : Bool) (binder : Binder) {p : Lowering (Option HirPath)} → Correct p (Adds none maybe_path)
-      → Correct (path_bound_form at maybe binder p) (Adds none (λ b f. of_bound f b))
+      → Correct (path_bound_form at maybe binder p) (Adds none a_bound)
   unfolding path_bound_form
   path_bound_adds maybe binder h = adds_then h (λ p. bound_of_adds maybe binder p)
 
@@ -183,20 +208,21 @@ super_adds w = go (one_more_super w.kind)
     go (Some k) = adds_pure _ (λ f n. omega arith)
 
 pub self_adds : (w : PathWalk) → Correct (pure (self_read w)) (Adds (walk w) reading)
-self_adds w = adds_pure _ (λ f k. either (λ r. times k (of_reading f r) ≤ times k (of_walk f w)) (no_names w.names)
+self_adds w = adds_pure _ (λ f k. either (λ r. times k (reading r f) ≤ times k (walk w f)) (no_names w.names)
     (omega arith) (omega arith))
 
 pub at_first_adds : {p : Lowering Reading} (leading : Bool) (w : PathWalk) → Correct p (Adds (walk (at_first leading w)) reading)
     → Correct p (Adds (walk w) reading)
-at_first_adds leading w h = adds_from (λ f. numbers.at_first_less f leading w) h
+at_first_adds leading w h = adds_from (λ l. numbers.at_first_less l.types leading w) h
 
 pub bare_adds : (n : Name) (w : PathWalk) → Correct (pure (named n None w)) (Adds (walk w) reading)
-bare_adds n w = adds_pure _ (λ f. numbers.bare_less f n w)
+bare_adds n w = adds_pure _ (λ l. numbers.bare_less l.types n w)
 
 pub trait_adds : (t : TypeRefId) (at : Pointer) (w : PathWalk) (p : Option HirPath)
     → Correct (read_trait t at w p) (Adds (beside (beside (walk w) (a_type t)) (maybe_path p)) reading)
 trait_adds t at w None = adds_pure Refused (λ f k. omega arith)
-trait_adds t at w (Some p) = adds_then (adds_unnamed (ty.Path p) (Some at)) (λ i. adds_pure _ (λ f. numbers.projected_less f t p w))
+trait_adds t at w (Some p) = adds_then (adds_unnamed (ty.Path p) (Some at) (λ l k. refl))
+    (λ i. adds_pure _ (λ l. numbers.projected_less l.types t p w))
 
 pub with_trait_adds : (t : TypeRefId) (at : Pointer) (w : PathWalk) {p : Lowering (Option HirPath)} → Correct p (Adds none maybe_path)
     → Correct (with_trait p t at w) (Adds (beside (walk w) (a_type t)) reading)
@@ -209,7 +235,7 @@ pub parens_form_adds : {ts : Lowering (List TypeRefId)} {r : TypeSteps} → Corr
     → Correct (parens_form ts r) (Adds none arguments)
 unfolding parens_form
 parens_form_adds h k = adds_then h (λ ts. adds_then (adds_type (ty.Tuple ts) None (λ f k. omega arith))
-    (λ t. adds_then (adds_beside (a_type t) k) (λ o. adds_pure _ (λ f. numbers.sugared_less f t o))))
+    (λ t. adds_then (adds_beside (a_type t) k) (λ o. adds_pure _ (λ l. numbers.sugared_less l.types t o))))
 
 pub or_else_adds : (a : Option GenericArgs) {next : Lowering (Option GenericArgs)} → Correct next (Adds none arguments)
     → Correct (or_else a next) (Adds (arguments a) arguments)
@@ -219,25 +245,28 @@ or_else_adds (Some a) h = adds_pure (Some a) (λ f k. omega arith)
 pub args_form_adds : {as' ps : Lowering (Option GenericArgs)} → Correct as' (Adds none arguments) → Correct ps (Adds none arguments)
     → (dots : Bool) → Correct (segment_args_form as' ps dots) (Adds none arguments)
 unfolding segment_args_form
-args_form_adds h k dots = adds_then h (λ a. adds_then (or_else_adds a k) (λ p. adds_pure _ (λ f. numbers.notation_less f p dots)))
+args_form_adds h k dots = adds_then h (λ a. adds_then (or_else_adds a k) (λ p. adds_pure _ (λ l. numbers.notation_less l.types p dots)))
 
 pub binding_adds : (name : Name) (dots : Bool) {a : Lowering (Option GenericArgs)} {t : Lowering (Option TypeRefId)}
     {bs : Lowering (List TypeBound)} → Correct a (Adds none arguments) → Correct t (Adds none maybe_type) → Correct bs (Adds none bounds)
-    → Correct (binding_form name dots a t bs) (Adds none (λ b f. of_binding f b))
+    → Correct (binding_form name dots a t bs) (Adds none a_binding)
 unfolding binding_form
 binding_adds name dots ha ht hb = adds_then ha (λ a. adds_then (adds_beside (arguments a) ht)
     (λ t. adds_then (adds_beside (beside (arguments a) (maybe_type t)) hb)
-    (λ bs. adds_pure _ (λ f. numbers.binding_less f name a dots t bs))))
+    (λ bs. adds_pure _ (λ l. numbers.binding_less l.types name a dots t bs))))
 
 -- lists that grow
 
-module _ {A : Type 0} (names : (TypeRefId → List ℕ) → A → List ℕ) where
-  pub none_more : (done : List A) → Correct (pure done) (Adds (λ f. of_each (names f) done) (λ as' f. of_each (names f) as'))
-  none_more done = adds_pure done (λ f k. omega arith)
+module _ {A : Type 0} (names : Look → A → List ℕ) where
+  abbrev each_named : List A → Numbers
+  each_named as' l = of_each (names l) as'
 
-  pub one_more : {p : Lowering A} {q : List A → Lowering (List A)} → Correct p (Adds none (λ a f. names f a))
-      → ((done : List A) → Correct (q done) (Adds (λ f. of_each (names f) done) (λ as' f. of_each (names f) as')))
-      → (done : List A) → Correct (p >>= (λ a. q (done ++ a ∷ []))) (Adds (λ f. of_each (names f) done) (λ as' f. of_each (names f) as'))
-  one_more h k done = adds_then (adds_beside (λ f. of_each (names f) done) h) (λ a. adds_from
-      (λ f n. let e = numbers.each_push (names f) done a n in let s = times_append n (of_each (names f) done) (names f a) in omega arith)
+  pub none_more : (done : List A) → Correct (pure done) (Adds (each_named done) each_named)
+  none_more done = adds_pure done (λ l k. omega arith)
+
+  pub one_more : {p : Lowering A} {q : List A → Lowering (List A)} → Correct p (Adds none (λ a l. names l a))
+      → ((done : List A) → Correct (q done) (Adds (each_named done) each_named))
+      → (done : List A) → Correct (p >>= (λ a. q (done ++ a ∷ []))) (Adds (each_named done) each_named)
+  one_more h k done = adds_then (adds_beside (each_named done) h) (λ a. adds_from
+      (λ l n. let e = numbers.each_push (names l) done a n in let s = times_append n (of_each (names l) done) (names l a) in omega arith)
       (k (done ++ a ∷ [])))

@@ -1,31 +1,58 @@
 -- Lowering a type or a path records its constants as roots, where no root is being lowered.
 use Rattle.std.proofs.Common.{Bool, true, false, List, [], Option, Some, None, is_some}
+use Rattle.hir_store.specs.declared.ids.PatId.{PatId}
 use Rattle.hir_store.specs.declared.ids.TypeRefId.{TypeRefId}
 use Rattle.hir_store.specs.declared.type_ref.TypeBound.{TypeBound}
 use Rattle.hir_env.specs.Answered as tree
 use Rattle.hir_env.specs.Answered.{Binder, Type_, OptionType, Parts, Path, OptionPath, Segments, Segment, SegmentArgs, OptionParens}
-use Rattle.hir_env.specs.Answered.{OptionRet, OptionArgs, Args, Arg, Bounds, Bound, Constant}
+use Rattle.hir_env.specs.Answered.{OptionRet, OptionArgs, Args, Arg, Bounds, Bound, Constant, Limit, OptionTypePat, TypePat}
+use Rattle.hir_env.specs.Answered.{TypePats}
 use Rattle.hir_lower_form.specs.declared.args.ArgLists.{ArgLists}
 use Rattle.hir_lower_form.specs.declared.walk.PathWalk.{PathWalk}
 use Rattle.hir_lower_form.specs.Walks.{start, super_read}
 use Rattle.hir_lower_form.specs.Types.{no_lists}
 use Rattle.hir_lower_form.specs.Lower.{lower_type, type_part, present_type, type_or_unit, lower_parts, read_segment, read_each, read_path}
 use Rattle.hir_lower_form.specs.Lower.{read_option, lower_path, lower_segment_args, parens_part, output_part, args_part, lower_args}
-use Rattle.hir_lower_form.specs.Lower.{lower_arg, lower_bounds, lower_bound, lower_constant}
+use Rattle.hir_lower_form.specs.Lower.{lower_arg, lower_bounds, lower_bound, lower_constant, lower_limit, lower_type_pat}
+use Rattle.hir_lower_form.specs.Lower.{lower_type_pat_part, lower_type_pats}
 use Rattle.hir_one_result.specs.PathRoom.{at_first, whole_read}
 use Rattle.hir_one_result.specs.Room.{constant_size, type_size, type_part_size, present_size, parts_size, segment_size, segments_size}
 use Rattle.hir_one_result.specs.Room.{path_size, outer_size, whole_size, beside_size, parens_size, output_size, args_size, each_arg_size}
-use Rattle.hir_one_result.specs.Room.{arg_size, bounds_size, bound_size}
+use Rattle.hir_one_result.specs.Room.{arg_size, bounds_size, bound_size, limit_size, type_pat_part_size, type_pat_size, type_pats_size}
 use Rattle.hir_one_result.proofs.PathRooms.{seen}
 use Rattle.hir_one_result.proofs.TreeRooms.{each_tells, own_tells, args_tell}
-use Rattle.hir_type_result.proofs.Noting.{notes_then, notes_end, notes_pure, notes_type, notes_constant}
+use Rattle.hir_type_result.proofs.Noting.{notes_then, notes_end, notes_pure, notes_type, notes_constant, notes_limit, notes_pat}
 use Rattle.hir_type_result.proofs.NotingForms.{NotesOf, error_notes, unit_notes, lifetime_notes, lifetime_option_notes, uses_note}
 use Rattle.hir_type_result.proofs.NotingForms.{over_notes, array_notes, tuple_notes, path_type_notes, ref_notes, fn_notes, impl_notes}
 use Rattle.hir_type_result.proofs.NotingForms.{dyn_notes, path_bound_notes, reads_note, whole_notes, first_notes, counted_notes}
-use Rattle.hir_type_result.proofs.NotingForms.{with_trait_notes, parens_notes, beside_notes, binding_notes}
+use Rattle.hir_type_result.proofs.NotingForms.{with_trait_notes, parens_notes, beside_notes, binding_notes, alternatives_notes}
+use Rattle.hir_type_result.proofs.NotingForms.{limits_notes, missing_pat_notes, pattern_notes}
 
 constant_notes : (c : Constant) → NotesOf (constant_size c) (lower_constant c)
 constant_notes (tree.constant e) = notes_constant e
+
+-- the end of a range in a type
+limit_notes : (l : Limit) → NotesOf (limit_size l) (lower_limit l)
+limit_notes (tree.item_limit item) = notes_limit (tree.item_limit item)
+limit_notes (tree.side_limit s) = notes_limit (tree.side_limit s)
+limit_notes (tree.before_limit item s) = notes_limit (tree.before_limit item s)
+
+-- patterns of types, whose limits are bodies
+
+mutual
+  type_pat_notes : (p : TypePat) → NotesOf (type_pat_size p) (lower_type_pat p)
+  type_pat_notes (tree.not_null_type_pat at) = notes_pat _ _
+  type_pat_notes (tree.or_type_pat at ps) = alternatives_notes at (type_pats_note [] ps)
+  type_pat_notes (tree.range_type_pat at low high) = limits_notes at (limit_notes low) (limit_notes high)
+  type_pat_notes (tree.other_type_pat at) = notes_pat _ _
+
+  type_pats_note : (done : List PatId) (ps : TypePats) → NotesOf (type_pats_size ps) (lower_type_pats done ps)
+  type_pats_note done tree.no_type_pats = notes_pure done
+  type_pats_note done (tree.more_type_pats p ps) = notes_then (type_pat_notes p) (λ i. type_pats_note _ ps)
+
+type_pat_part_notes : (p : OptionTypePat) → NotesOf (type_pat_part_size p) (lower_type_pat_part p)
+type_pat_part_notes tree.no_type_pat = missing_pat_notes
+type_pat_part_notes (tree.some_type_pat p) = type_pat_notes p
 
 mutual
   one_type_notes : (b : Option Binder) (t : Type_) → NotesOf (type_size t) (lower_type b t)
@@ -41,6 +68,7 @@ mutual
   one_type_notes b (tree.impl_type at mode bs) = impl_notes at mode (bounds_note [] bs)
   one_type_notes b (tree.nested_impl at) = notes_type _ _
   one_type_notes b (tree.dyn_type at bs) = dyn_notes at (bounds_note [] bs)
+  one_type_notes b (tree.pattern_type at t own p) = pattern_notes at (type_notes None t) (type_pat_part_notes p)
 
   pub type_notes : (b : Option Binder) (t : OptionType) → NotesOf (type_part_size t) (type_part b t)
   type_notes b tree.no_type = error_notes

@@ -13,7 +13,7 @@ use Rattle.hir_store.specs.declared.path.GenericArgsParentheses.TheVariants as p
 use Rattle.hir_store.specs.declared.path.GenericArgs.{GenericArgs}
 use Rattle.hir_store.specs.declared.path.AssociatedTypeBinding.{AssociatedTypeBinding}
 use Rattle.hir_store.specs.declared.path.Path.{Path}
-use Rattle.hir_store.specs.declared.path.Path.TheVariants.{BarePath, Normal}
+use Rattle.hir_store.specs.declared.path.Path.TheVariants.{BarePath, Normal, LangItem}
 use Rattle.hir_env.specs.Answered.{Binder}
 use Rattle.hir_lower_form.specs.declared.args.ArgLists.{ArgLists}
 use Rattle.hir_lower_form.specs.declared.walk.PathWalk.{PathWalk}
@@ -143,6 +143,7 @@ module _ (k : ExprId → ℕ) (held : Inners) where
 
   args_of_less : (p : Path) → in_beside (args_of p) ≤ in_path (Some p)
   args_of_less (BarePath p) = let e = none_beside p.segments in omega arith
+  args_of_less (LangItem i) = omega arith
   args_of_less (Normal p) = let e = sum_append k (of_present held.type p.type_anchor) (all_of (of_list held) p.generic_args) in omega arith
 
   trait_less : (t : TypeRefId) (p : Path) (w : PathWalk) → in_walk (add_trait t p w) ≤ (in_walk w + sum k (held.type t)) + in_path (Some p)

@@ -1,32 +1,44 @@
 -- What is stored where one type was lowered is one result of its tree.
-use Rattle.std.proofs.Common.{arith, refl, sym, subst, ℕ, ◌≤◌, length, [], None, IsPermutation}
+use Rattle.std.proofs.Common.{◌≡◌, arith, refl, sym, ap, subst, ℕ, ◌≤◌, length, [], None, IsPermutation, is_some, true≢false}
 use Rattle.hir_store.specs.Stored.{store_of, map_of}
+use Rattle.hir_store.proofs.Arenas.{prefix_refl}
 use Rattle.hir_store.proofs.Maps.{maps_back_none}
-use Rattle.hir_store.proofs.Range.{extends_refl}
+use Rattle.hir_store.proofs.Extending.{extends_refl}
 use Rattle.hir_lower_form.specs.Builder.{fresh}
 use Rattle.hir_read_back.proofs.Now.{type_law}
 use Rattle.hir_steps.specs.Keeps.{Paired, Mapped, Keeps, KeepsAll}
 use Rattle.hir_steps.proofs.Keeping.{types_keep}
 use Rattle.hir_one_result.specs.Diagnostics.{type_part_faults}
-use Rattle.hir_one_result.specs.Laws.{Grown, GrownUnless}
+use Rattle.hir_one_result.specs.Laws.{Defined, Grown, GrownUnless, Settled}
 use Rattle.hir_one_result.specs.Room.{type_part_size}
 use Rattle.hir_one_result.proofs.Fits.{types_fit}
-use Rattle.hir_one_result.proofs.Leading.{leads_nowhere}
+use Rattle.hir_one_result.proofs.Led.{leads_nowhere}
 use Rattle.hir_one_result.proofs.TreeBlocks.{type_enters}
 use Rattle.hir_one_result.proofs.TreeFaults.{type_reports}
 use Rattle.hir_one_result.proofs.TreeStands.{type_left}
 use Rattle.hir_one_result.proofs.Whole.{lead_back}
-use Rattle.hir_type_result.specs.Roots.{RootsAre, last_end}
-use Rattle.hir_type_result.specs.TypeResult.{TypeResults, RefusedTypes}
+use Rattle.hir_type_result.specs.Roots.{Further, RootsAre, RootsOf, last_end, no_ends, recorded}
+use Rattle.hir_type_result.specs.TypeResult.{TypeResults, RefusedTypes, ends_of_store}
 use Rattle.hir_type_result.proofs.Behind.{blocks_behind, faults_behind, type_roots, ways_behind}
 use Rattle.hir_type_result.proofs.Inside.{type_inside}
-use Rattle.hir_type_result.proofs.Named.{types_once}
+use Rattle.hir_type_result.proofs.Named.{type_pats_once, types_once}
 
 nothing_paired : (limit : ℕ) → Paired (fresh limit).stored
-nothing_paired limit = record { exprs = refl; labels = refl; types = refl; lifetimes = refl }
+nothing_paired limit = record { exprs = refl; labels = refl; pats = refl; types = refl; lifetimes = refl }
 
 nothing_mapped : (limit : ℕ) → Mapped (fresh limit).stored
-nothing_mapped limit = record { types = maps_back_none (λ i. i.0) limit; lifetimes = maps_back_none (λ i. i.0) limit }
+nothing_mapped limit = record {
+  pats = maps_back_none (λ i. i.0) limit;
+  types = maps_back_none (λ i. i.0) limit;
+  lifetimes = maps_back_none (λ i. i.0) limit;
+}
+
+nothing_defined : (limit : ℕ) → Defined (fresh limit).stored
+nothing_defined limit = record {
+  as_many = refl;
+  each = λ b ps e. absurd (true≢false (sym (ap is_some e)));
+  known = λ n b sub e. absurd (true≢false (sym (ap is_some e)));
+}
 
 pub type_results : TypeResults
 type_results limit t i new is =
@@ -38,31 +50,41 @@ type_results limit t i new is =
     let fits : Grown (type_part_size t) old.stored new.stored =
     subst (λ r. GrownUnless (type_part_size t) old.stored r.0 r.1.stored) is (types_fit None t old) in
     let stays = extends_refl new.stored in
-    let left = ways_behind old new i none is (type_left None t) new.stored stays in
+    let settled : Settled new.stored new.stored = prefix_refl new.stored.bindings.entries in
+    let left = ways_behind old new i none is (type_left None t) new.stored stays settled in
     let rooted = type_roots None t old new i none is new.stored stays in
+    let r : RootsOf [] old.stored new.stored new.stored (type_part_size t).inner = rooted.0 in
     let faults = faults_behind old new i none is (type_reports None t) [] refl in record {
       reads_back = type_law t old new i none is new.stored stays;
       inner = rooted.1;
       exprs = let n = fits.exprs in omega arith;
       labels = let n = fits.labels in omega arith;
+      bindings = let n = fits.bindings in omega arith;
+      pats = let n = fits.pats in omega arith;
       types = let n = fits.types in omega arith;
       lifetimes = let n = fits.lifetimes in omega arith;
       expr_sources = paired.exprs;
       label_sources = paired.labels;
+      pat_sources = fits.pat_sources;
       type_sources = fits.type_sources;
       lifetime_sources = fits.lifetime_sources;
+      pat_ways = lead_back (λ i. i.0) new.stored.pats mapped.pats;
       type_ways = lead_back (λ i. i.0) new.stored.types mapped.types;
       lifetime_ways = lead_back (λ i. i.0) new.stored.lifetimes mapped.lifetimes;
+      definitions = left.moved.defined (nothing_defined limit);
       ways = left.ways;
       stands = left.shown;
       covers = left.moved.covers;
       covers_labels = left.moved.covers_labels;
-      leads = left.moved.led [] (leads_nowhere refl refl refl);
+      covers_bindings = left.moved.covers_bindings;
+      leads = left.moved.led [] (leads_nowhere refl refl refl refl);
       reached_once = types_once None t old new i none is new.stored stays;
       inside_reached_once = type_inside None t old new i none is new.stored stays;
-      roots = let r = rooted.0 in
-          subst (λ rs. RootsAre (store_of new.stored) (map_of new.stored) [] 0 rs (type_part_size t).constants) (sym r.is) r.each;
-      roots_end = let r = rooted.0 in subst (λ rs. last_end 0 rs ≤ length new.stored.exprs.entries) (sym r.is) r.ends;
+      pats_reached_once = λ depth le.
+          type_pats_once None t old new i none is new.stored stays depth le new.stored.exprs.entries refl new.stored.types.entries refl;
+      roots = subst (λ rs. RootsAre (store_of new.stored) (map_of new.stored) [] no_ends rs (type_part_size t).inner) (sym r.is)
+          (r.each settled);
+      roots_end = subst (λ rs. Further (last_end no_ends rs) (ends_of_store (store_of new.stored))) (sym r.is) r.ends;
       blocks = blocks_behind old new i none is (type_enters None t);
       faults = subst (IsPermutation (type_part_faults [] t)) (sym faults.is) faults.like;
     }

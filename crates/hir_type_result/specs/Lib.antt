@@ -1,5 +1,6 @@
 pub mod Reached
 pub mod Named
+pub mod Pats
 pub mod Roots
 pub mod TypeResult
 pub mod Inside

@@ -1,11 +1,19 @@
--- Which types paths and expressions reach that are stored, and that each is reached in one way only.
-use Rattle.std.specs.Prelude.{◌≡◌, ℕ, ◌≤◌, length, List, [], ◌++◌, Option, Ok}
+-- Which types paths, expressions and patterns reach that are stored, and that each is reached in one way only.
+use Rattle.std.specs.Prelude.{◌≡◌, ℕ, ◌≤◌, length, List, [], ◌∷◌, ◌++◌, Option, Ok}
 use Rattle.hir_store.specs.Storing.{Extends}
 use Rattle.hir_store.specs.Stored.{Stored}
 use Rattle.hir_store.specs.declared.hir.Expr.{Expr as HirExpr}
 use Rattle.hir_store.specs.declared.hir.Expr.TheVariants as hir
+use Rattle.hir_store.specs.declared.hir.MatchArm.{MatchArm}
+use Rattle.hir_store.specs.declared.hir.Statement.{Statement}
+use Rattle.hir_store.specs.declared.hir.Statement.TheVariants as statement
+use Rattle.hir_store.specs.declared.ids.BindingId.{BindingId}
 use Rattle.hir_store.specs.declared.ids.ExprId.{ExprId}
+use Rattle.hir_store.specs.declared.ids.PatId.{PatId}
 use Rattle.hir_store.specs.declared.ids.TypeRefId.{TypeRefId}
+use Rattle.hir_store.specs.declared.pat.Pat.{Pat as HirPat}
+use Rattle.hir_store.specs.declared.pat.Pat.TheVariants as pat
+use Rattle.hir_store.specs.declared.pat.RecordFieldPat.{RecordFieldPat}
 use Rattle.hir_store.specs.declared.path.Path.{Path}
 use Rattle.hir_env.specs.Answered.{OptionExpr, OptionPath}
 use Rattle.hir_lower_form.specs.Builder.{Builder}
@@ -14,18 +22,74 @@ use Rattle.hir_steps.specs.Keeps.{Paired}
 use Rattle.hir_same_meaning.specs.Reached.{Spread}
 use Rattle.hir_type_result.specs.Reached.{of_args, of_each, of_path, of_present, types_reached}
 
-module _ (f : TypeRefId → List ℕ) where
-  -- but through its parts
+-- what is reached from each type, from each pattern, and from each binding
+pub record Look : Type 0 where
+  pub types : TypeRefId → List ℕ
+  pub pats : PatId → List ℕ
+  pub bindings : BindingId → List ℕ
+
+-- of types alone
+abbrev pub of_types_alone : (TypeRefId → List ℕ) → Look
+of_types_alone f = record { types = f; pats = λ i. []; bindings = λ b. [] }
+
+-- of patterns alone
+abbrev pub of_pats_alone : (PatId → List ℕ) → Look
+of_pats_alone f = record { types = λ i. []; pats = f; bindings = λ b. [] }
+
+-- of bindings alone, their numbers
+abbrev pub of_bindings_alone : Look
+of_bindings_alone = record { types = λ i. []; pats = λ i. []; bindings = λ b. b.0 ∷ [] }
+
+-- but through expressions that are parts
+module _ (l : Look) where
+  abbrev pub of_statement : Statement → List ℕ
+  of_statement statement.Item = []
+  of_statement (statement.Expr e semi) = []
+  of_statement (statement.Let p t e b) = l.pats p ++ of_present l.types t
+
+  abbrev pub of_arm : MatchArm → List ℕ
+  of_arm a = l.pats a.pat
+
   abbrev pub of_expr : HirExpr → List ℕ
-  of_expr (hir.Path p h) = of_path f p
-  of_expr (hir.MethodCall e name generics es) = of_present (of_args f) generics
-  of_expr (hir.Cast e t) = f t
-  of_expr (hir.RecordLit p fields others) = of_path f p
-  of_expr (hir.OffsetOf t names) = f t
+  of_expr (hir.Path p h) = of_path l.types p
+  of_expr (hir.MethodCall e name generics es) = of_present (of_args l.types) generics
+  of_expr (hir.Cast e t) = l.types t
+  of_expr (hir.RecordLit p fields others) = of_path l.types p
+  of_expr (hir.OffsetOf t names) = l.types t
+  of_expr (hir.Block is_unsafe label number ss tail) = of_each of_statement ss
+  of_expr (hir.Let p e) = l.pats p
+  of_expr (hir.Match e arms) = of_each of_arm arms
+  of_expr (hir.Assignment p e) = l.pats p
   of_expr e = []
 
   abbrev pub of_exprs : List HirExpr → List ℕ
   of_exprs = of_each of_expr
+
+  abbrev pub of_pat_field : RecordFieldPat → List ℕ
+  of_pat_field f = l.pats f.pat
+
+  -- through its path, its binding and its parts
+  abbrev pub of_pat : HirPat → List ℕ
+  of_pat pat.Missing = []
+  of_pat pat.Wild = []
+  of_pat pat.Rest = []
+  of_pat pat.NotNull = []
+  of_pat (pat.Bind b sub) = l.bindings b ++ of_present l.pats sub
+  of_pat (pat.Path p h) = of_path l.types p
+  of_pat (pat.TupleStruct p dots ps) = of_path l.types p ++ of_each l.pats ps
+  of_pat (pat.Tuple dots ps) = of_each l.pats ps
+  of_pat (pat.Record p fs dots) = of_path l.types p ++ of_each of_pat_field fs
+  of_pat (pat.Or ps) = of_each l.pats ps
+  of_pat (pat.Slice before middle behind) = of_each l.pats before ++ (of_present l.pats middle ++ of_each l.pats behind)
+  of_pat (pat.Ref mutability p) = l.pats p
+  of_pat (pat.Box p) = l.pats p
+  of_pat (pat.Deref p) = l.pats p
+  of_pat (pat.Lit e) = []
+  of_pat (pat.Range op start end) = []
+  of_pat (pat.Expr e) = []
+
+  abbrev pub of_pats : List HirPat → List ℕ
+  of_pats = of_each of_pat
 
 -- However deep one looks, each type that a lowered path reaches is reached in one way, and is one of those that lowering it
 -- stored.
@@ -36,12 +100,13 @@ PathTypesReachedOnce =
     → Spread (length b.stored.types.entries) (length b'.stored.types.entries)
     (of_present (of_path (types_reached final.types.entries depth)) r)
 
--- Each type that the expressions of a lowered tree reach is reached in one way, by one of them, and is one of those that
--- lowering the tree stored.
+-- Each type that the expressions and patterns of a lowered tree reach is reached in one way, by one of them, and is one of those
+-- that lowering the tree stored.
 abbrev pub ExprTypesReachedOnce : Type 0
 ExprTypesReachedOnce =
     (e : OptionExpr) (b b' : Builder) (i : ExprId) → Paired b.stored → lower_part e b ≡ (Ok i, b')
     → (final : Stored) → Extends b'.stored final → (depth : ℕ) → length final.types.entries ≤ depth
     → (more : List HirExpr) → b'.stored.exprs.entries ≡ b.stored.exprs.entries ++ more
-    → Spread (length b.stored.types.entries) (length b'.stored.types.entries)
-    (of_exprs (types_reached final.types.entries depth) more)
+    → (pats : List HirPat) → b'.stored.pats.entries ≡ b.stored.pats.entries ++ pats
+    → let l = of_types_alone (types_reached final.types.entries depth) in
+    Spread (length b.stored.types.entries) (length b'.stored.types.entries) (of_exprs l more ++ of_pats l pats)

@@ -4,7 +4,7 @@ use Rattle.hir_store.specs.Storing.{Extends}
 use Rattle.hir_store.specs.Stored.{Stored}
 use Rattle.hir_store.specs.declared.ids.TypeRefId.{TypeRefId}
 use Rattle.hir_store.specs.declared.path.Path.{Path}
-use Rattle.hir_store.specs.declared.path.Path.TheVariants.{BarePath, Normal}
+use Rattle.hir_store.specs.declared.path.Path.TheVariants.{BarePath, Normal, LangItem}
 use Rattle.hir_store.specs.declared.path.GenericArg.{GenericArg}
 use Rattle.hir_store.specs.declared.path.GenericArg.TheVariants as arg
 use Rattle.hir_store.specs.declared.path.GenericArgs.{GenericArgs}
@@ -33,7 +33,8 @@ abbrev pub joined : List (List ℕ) → List ℕ
 joined [] = []
 joined (ks ∷ kss) = ks ++ joined kss
 
--- the numbers that are reached, one for each way; what the expressions of constants name isn't reached through the type
+-- The numbers that are reached, one for each way. What the expressions of constants name isn't reached through the type, nor is what
+-- the ends of ranges in its pattern name, which are expressions too; beside them such a pattern holds patterns alone.
 
 module _ (f : TypeRefId → List ℕ) where
   abbrev pub of_arg : GenericArg → List ℕ
@@ -68,6 +69,7 @@ module _ (f : TypeRefId → List ℕ) where
   abbrev pub of_path : Path → List ℕ
   of_path (BarePath p) = []
   of_path (Normal p) = of_present f p.type_anchor ++ of_lists p.generic_args
+  of_path (LangItem i) = []
 
   abbrev pub below : TypeRef → List ℕ
   below ty.Never = []
@@ -82,6 +84,7 @@ module _ (f : TypeRefId → List ℕ) where
   below (ty.Fn g) = of_each f g.params
   below (ty.ImplTrait bounds) = of_each of_bound bounds
   below (ty.DynTrait bounds) = of_each of_bound bounds
+  below (ty.Pattern t p) = f t
 
   abbrev pub below_found : Option TypeRef → List ℕ
   below_found None = []

@@ -5,30 +5,52 @@
 ghost use Rattle.hir_type_result.specs.TypeResult.{TypeResults, RefusedTypes};
 ghost use Rattle.hir_type_result.specs.Reached.{TypesReachedOnce};
 ghost use Rattle.hir_type_result.specs.Named.{ExprTypesReachedOnce, PathTypesReachedOnce};
+ghost use Rattle.hir_type_result.specs.Pats.{BodyPatsReachedOnce, ExprPatsReachedOnce, PathPatsReachedOnce, TypePatsReachedOnce};
+ghost use Rattle.hir_type_result.specs.Pats.{BodyBindingsCame, ExprBindingsCame, PathBindingsCame, TypeBindingsCame};
 ghost use Rattle.hir_type_result.specs.Roots.{PathRoots, TypeRoots};
-ghost use Rattle.hir_type_result.specs.Inside.{InsideReachedOnce, TypeInsideReachedOnce, PathInsideReachedOnce};
+ghost use Rattle.hir_type_result.specs.Inside.{BodyInsideReachedOnce, InsideReachedOnce, PathInsideReachedOnce, TypeInsideReachedOnce};
 
 /// Each type that a lowered one reaches, through its parts, is one that its lowering stored, and is reached in one way.
 pub fn types_reached_once()
     ensures { TypesReachedOnce }
 {}
 
-/// Each type that a lowered path reaches, or that the expressions of a lowered tree do, is one that its lowering stored, and
-/// is reached in one way.
+/// Each type that a lowered path reaches, or that the expressions and patterns of a lowered tree do, is one that its lowering
+/// stored, and is reached in one way.
 pub fn named_types_reached_once()
     ensures paths { PathTypesReachedOnce }
     ensures exprs { ExprTypesReachedOnce }
 {}
 
+/// Each pattern that the expressions and types of a lowered tree, type or path reach, through its parts, is one that its lowering
+/// stored, and is reached in one way. So it is of a body behind its parameters, and the patterns of these.
+pub fn pats_reached_once()
+    ensures exprs { ExprPatsReachedOnce }
+    ensures types { TypePatsReachedOnce }
+    ensures paths { PathPatsReachedOnce }
+    ensures bodies { BodyPatsReachedOnce }
+{}
+
+/// Each binding that a pattern of a lowered tree, type or path makes is one that its lowering stored. So it is of a body behind its
+/// parameters.
+pub fn bindings_came()
+    ensures exprs { ExprBindingsCame }
+    ensures types { TypeBindingsCame }
+    ensures paths { PathBindingsCame }
+    ensures bodies { BodyBindingsCame }
+{}
+
 /// Each expression that a lowered tree reaches, or that a constant inside it does, is one that its lowering stored, and is reached
-/// in one way by one of them. So it is of the constants inside a type or a path.
+/// in one way by one of them. So it is of the constants inside a type or a path, and of a body behind its parameters, with the
+/// constants inside the patterns of these.
 pub fn inside_reached_once()
     ensures exprs { InsideReachedOnce }
     ensures types { TypeInsideReachedOnce }
     ensures paths { PathInsideReachedOnce }
+    ensures bodies { BodyInsideReachedOnce }
 {}
 
-/// Where no root is being lowered, each constant of a lowered type is recorded as one, in the order in which they are done, and
+/// Where no root is being lowered, each body inside a lowered type is recorded as one, in the order in which they are done, and
 /// does what the written one does; so does each that the type reaches.
 pub fn type_roots()
     ensures { TypeRoots }
@@ -44,8 +66,9 @@ pub fn type_results()
     ensures { TypeResults }
 {}
 
-/// Lowering a type into an empty store is refused only where there is no room for as many types and lifetimes as are
-/// counted in it, or for as many expressions and labels as are in its constants, or where a path counts further than is counted.
+/// Lowering a type into an empty store is refused only where there is no room for as many patterns, types and lifetimes as are
+/// counted in it, or for as many expressions, labels and bindings as are in the bodies inside it, or where something counts further
+/// than is counted.
 pub fn refused_types()
     ensures { RefusedTypes }
 {}

@@ -2,14 +2,14 @@
 use Rattle.std.specs.Prelude.{◌≡◌, ℕ, ◌==◌, Bool, true, not, ◌&&◌, ◌||◌, List, Option, Some, None, is_some, codes, replicate, nat_lt}
 use Rattle.std.specs.Prelude.{option_and_then, Result, Ok, Err, if◌then◌else◌}
 use Rattle.serde_json.specs.Data.{Data, Items, no_items}
-use Rattle.serde_json.specs.Find.{get, as_array, as_bool, as_object}
+use Rattle.serde_json.specs.Find.{get, as_array, as_object}
 use Rattle.serde_json.specs.Written.{has_float}
 use Rattle.json_kinds.specs.Words.{words}
 use Rattle.json_kinds.specs.declared.words.Words.{Words}
 use Rattle.json_kinds.specs.declared.words.Words.TheVariants as set
 use Rattle.json_kinds.specs.declared.kind.Kind.{Kind}
 use Rattle.json_kinds.specs.declared.group.Group.{Group}
-use Rattle.json_faults.specs.Values.{count, index_of, is_word}
+use Rattle.json_faults.specs.Values.{count, flag_if_there, index_of, is_word}
 use Rattle.json_faults.specs.Kinds.{kinds_of, is_of_group}
 use Rattle.json_faults.specs.Levels.{use_at}
 use Rattle.json_faults.specs.Nodes.{◌>>=◌, wanted, there, nodes_from, all_levels}
@@ -22,10 +22,6 @@ use Rattle.json_faults.specs.declared.refusal.Refusal.TheVariants as refusal
 abbrev pub word_if_there : Words → Option Data → Bool
 word_if_there s None = true
 word_if_there s (Some d) = is_word (words s) d
-
-abbrev pub flag_if_there : Option Data → Bool
-flag_if_there None = true
-flag_if_there (Some d) = is_some (as_bool d)
 
 abbrev pub object_if_there : Option Data → Bool
 object_if_there None = true

@@ -6,5 +6,6 @@ pub mod Faults
 pub mod Levels
 pub mod Nodes
 pub mod Tables
+pub mod PathTexts
 pub mod Env
 pub mod Documents

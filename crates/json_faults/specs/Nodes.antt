@@ -11,7 +11,8 @@ use Rattle.json_faults.specs.Kinds.{kind_at, is_of_group}
 use Rattle.json_faults.specs.Faults.{Fault, fault_of}
 use Rattle.json_faults.specs.Faults as fault
 use Rattle.json_faults.specs.declared.fault.Fault as rust
-use Rattle.json_kinds.specs.Table.{NamedSort, row}
+use Rattle.json_kinds.specs.Rows.{NamedSort}
+use Rattle.json_kinds.specs.Table.{row}
 use Rattle.json_kinds.specs.Words.{words}
 use Rattle.json_kinds.specs.declared.field.Sort.{Sort}
 use Rattle.json_kinds.specs.declared.field.Sort.TheVariants as sort

@@ -23,4 +23,5 @@ tables = (codes "disabled" ∶ (cell.Small ∷ cell.Small ∷ cell.Small ∷ [])
     ∷ (codes "hygiene" ∶ (cell.Small ∷ cell.Small ∷ cell.Small ∷ []))
     ∷ (codes "contexts" ∶ (cell.Small ∷ cell.Small ∷ cell.Small ∷ cell.SmallOrNull ∷ cell.Truth ∷ cell.SmallOrNull ∷ []))
     ∷ (codes "blocks" ∶ (cell.Small ∷ cell.Small ∷ cell.Small ∷ cell.Small ∷ []))
+    ∷ (codes "resolve" ∶ (cell.Small ∷ cell.PathText ∷ cell.Resolution ∷ cell.Resolution ∷ cell.SmallOrNull ∷ []))
     ∷ []

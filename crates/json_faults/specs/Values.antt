@@ -1,9 +1,9 @@
 -- What values are.
-use Rattle.std.specs.Prelude.{ℕ, suc, ◌^◌, List, Bool, true, false, ◌&&◌, Option, Some, None, is_some, nat_lt, bytes_eq}
+use Rattle.std.specs.Prelude.{ℕ, suc, ◌^◌, List, Bool, true, false, ◌&&◌, Option, Some, None, is_some, nat_lt, bytes_eq, codes}
 use Rattle.std.specs.Prelude.{option_and_then, if◌then◌else◌}
 use Rattle.std.specs.List.{list_any}
 use Rattle.serde_json.specs.Data.{Data, null, boolean, number, string, array, object, Items, no_items, item}
-use Rattle.serde_json.specs.Find.{as_number, as_str, as_array, as_u64}
+use Rattle.serde_json.specs.Find.{as_number, as_str, as_array, as_bool, as_u64}
 use Rattle.json_kinds.specs.declared.group.Group.{Group}
 use Rattle.json_kinds.specs.declared.group.Group.TheVariants as group
 
@@ -43,6 +43,11 @@ is_decision (boolean b) = true
 is_decision null = true
 is_decision _ = false
 
+-- `true` or `false`, where it is there
+abbrev pub flag_if_there : Option Data → Bool
+flag_if_there None = true
+flag_if_there (Some d) = is_some (as_bool d)
+
 abbrev pub is_pair : Option Items → Bool
 is_pair (Some (item a (item b no_items))) = is_some (small_of a) && is_some (small_of b)
 is_pair _ = false
@@ -61,6 +66,27 @@ word_among words (Some text) = has_word words text
 -- a text among some
 abbrev pub is_word : List (List ℕ) → Data → Bool
 is_word words d = word_among words (as_str d)
+
+abbrev is_alias_text : Option (List ℕ) → Bool
+is_alias_text None = false
+is_alias_text (Some text) = bytes_eq text (codes "alias")
+
+abbrev pub is_alias_word : Data → Bool
+is_alias_word d = is_alias_text (as_str d)
+
+-- an alias with its number
+abbrev pub is_alias : Option Items → Bool
+is_alias (Some (item word (item n no_items))) = is_alias_word word && is_some (small_of n)
+is_alias _ = false
+
+-- what a path stands for: a word among some, an alias, or null
+abbrev pub is_resolution : List (List ℕ) → Data → Bool
+is_resolution known null = true
+is_resolution known (string s) = has_word known s
+is_resolution known (array ds) = is_alias (Some ds)
+is_resolution known (boolean b) = false
+is_resolution known (number n) = false
+is_resolution known (object ms) = false
 
 -- a text may stand in place of a name or a lifetime, also where either may stand
 abbrev pub takes_text : Group → Bool

@@ -17,7 +17,7 @@ use crate::kinds::{is_of_group, whole_kinds_of};
 use crate::levels::use_at;
 use crate::nodes::{check_each, check_levels};
 use crate::refusal::Refusal;
-use crate::value::{index, is_word};
+use crate::value::{flag_if_there, index, is_word};
 use json_kinds::group::Group;
 use json_kinds::kind::Kind;
 use json_kinds::words::Words;
@@ -29,15 +29,6 @@ fn word_if_there(set: Words, value: Option<&Value>) -> bool
 {
     match value {
         Some(value) => is_word(set, value),
-        None => true,
-    }
-}
-
-fn flag_if_there(value: Option<&Value>) -> bool
-    ensures { result ≡ spec.flag_if_there (option_map (λ v. view v.now) value.entry) }
-{
-    match value {
-        Some(value) => value.as_bool().is_some(),
         None => true,
     }
 }

@@ -9,9 +9,20 @@ ghost use Rattle.json_faults.specs.Env.{Finds};
 ghost use Rattle.json_faults.specs.Tables.{table_of};
 
 use crate::fault::Fault;
+use crate::path_text::is_path_text;
 use crate::table::{Cell, Table, tables};
-use crate::value::{is_decision, is_small_or_null, item_at, small};
+use crate::value::{flag_if_there, is_decision, is_resolution, is_small_or_null, item_at, small};
+use json_kinds::words::Words;
 use serde_json::Value;
+
+fn is_path(value: &Value) -> bool
+    ensures { result ≡ spec.is_path (view value.now) }
+{
+    match value.as_str() {
+        Some(text) => is_path_text(text.as_bytes()),
+        None => false,
+    }
+}
 
 /// Whether a value suits a place.
 fn suits(cell: Cell, value: &Value) -> bool
@@ -22,6 +33,8 @@ fn suits(cell: Cell, value: &Value) -> bool
         Cell::SmallOrNull => is_small_or_null(value),
         Cell::Truth => value.as_bool().is_some(),
         Cell::Decision => is_decision(value),
+        Cell::PathText => is_path(value),
+        Cell::Resolution => is_resolution(Words::Resolutions, value),
     }
 }
 
@@ -113,12 +126,62 @@ fn lists(tables: &[Table], env: &Value) -> Result<(), Fault>
     Ok(())
 }
 
+fn item_if_there(value: Option<&Value>) -> bool
+    ensures { result ≡ spec.item_if_there (option_map (λ v. view v.now) value.entry) }
+{
+    match value {
+        Some(value) => is_small_or_null(value),
+        None => true,
+    }
+}
+
+fn are_items(names: &[&str], lang: &Value) -> bool
+    ensures { result ≡ spec.are_items (map (λ n. n.now) names.now) (view lang.now) }
+{
+    for name in names {
+        if !item_if_there(lang.get(*name)) {
+            return false;
+        }
+    }
+    true
+}
+
+/// Whether the items of the language are an object with numbers or nulls, where it is there. Members of other names are
+/// passed over.
+fn items_if_there(lang: Option<&Value>) -> bool
+    ensures { result ≡ spec.items_if_there (option_map (λ v. view v.now) lang.entry) }
+{
+    match lang {
+        Some(lang) => lang.is_object() && are_items(Words::LangItems.all(), lang),
+        None => true,
+    }
+}
+
+fn check_tables(env: &Value) -> Result<(), Fault>
+    ensures { Finds (spec.whole_env (view env.now)) result }
+{
+    if !flag_if_there(env.get("new_range")) {
+        return Err(Fault::Env {
+            table: "new_range",
+            entry: 0,
+        });
+    }
+    lists(tables(), env)?;
+    if !items_if_there(env.get("lang")) {
+        return Err(Fault::Env {
+            table: "lang",
+            entry: 0,
+        });
+    }
+    Ok(())
+}
+
 /// Sees that an environment has no fault.
 pub fn check_env(env: Option<&Value>) -> Result<(), Fault>
     ensures { Finds (spec.env_if_there (option_map (λ e. view e.now) env.entry)) result }
 {
     match env {
-        Some(env) => lists(tables(), env),
+        Some(env) => check_tables(env),
         None => Ok(()),
     }
 }

@@ -10,6 +10,7 @@ mod levels;
 mod listed;
 mod literal;
 mod nodes;
+mod path_text;
 pub mod refusal;
 mod table;
 pub mod value;

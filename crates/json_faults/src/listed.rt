@@ -3,7 +3,7 @@
 ghost use Rattle.std.specs.Prelude.{◌≡◌, ◌<◌, length, map, bytes_eq, codes};
 ghost use Rattle.serde_json.specs.View.{view, items_view};
 ghost use Rattle.serde_json.specs.Find.{as_array, as_str};
-ghost use Rattle.json_kinds.specs.Table.{named_sort};
+ghost use Rattle.json_kinds.specs.Rows.{named_sort};
 ghost use Rattle.json_faults.specs.Literals as text;
 ghost use Rattle.json_faults.specs.Values.{all_items};
 ghost use Rattle.json_faults.specs.Nodes as spec;

@@ -3,6 +3,8 @@
 ghost use Rattle.std.specs.Prelude.{◌≡◌, map};
 ghost use Rattle.json_faults.specs.Tables.{table_of, tables};
 
+use crate::table::Cell::{Decision, PathText, Resolution, Small, SmallOrNull, Truth};
+
 /// What stands at one place of an entry.
 #[derive(Clone, Copy)]
 pub enum Cell {
@@ -14,6 +16,10 @@ pub enum Cell {
     Truth,
     /// `true` or `false`, or null.
     Decision,
+    /// The text of a path without arguments.
+    PathText,
+    /// What a path stands for, or null.
+    Resolution,
 }
 
 /// A table of an environment: its name, and what each entry holds.
@@ -30,30 +36,27 @@ pub fn tables() -> &'static [Table]
     &[
         Table {
             name: "disabled",
-            cells: &[Cell::Small, Cell::Small, Cell::Small],
+            cells: &[Small, Small, Small],
         },
         Table {
             name: "preds",
-            cells: &[Cell::Small, Cell::Decision],
+            cells: &[Small, Decision],
         },
         Table {
             name: "hygiene",
-            cells: &[Cell::Small, Cell::Small, Cell::Small],
+            cells: &[Small, Small, Small],
         },
         Table {
             name: "contexts",
-            cells: &[
-                Cell::Small,
-                Cell::Small,
-                Cell::Small,
-                Cell::SmallOrNull,
-                Cell::Truth,
-                Cell::SmallOrNull,
-            ],
+            cells: &[Small, Small, Small, SmallOrNull, Truth, SmallOrNull],
         },
         Table {
             name: "blocks",
-            cells: &[Cell::Small, Cell::Small, Cell::Small, Cell::Small],
+            cells: &[Small, Small, Small, Small],
+        },
+        Table {
+            name: "resolve",
+            cells: &[Small, PathText, Resolution, Resolution, SmallOrNull],
         },
     ]
 }

@@ -28,6 +28,16 @@ pub fn small(value: &Value) -> Option<u32>
     }
 }
 
+/// Whether a flag is one, where it is there.
+pub fn flag_if_there(value: Option<&Value>) -> bool
+    ensures { result ≡ spec.flag_if_there (option_map (λ v. view v.now) value.entry) }
+{
+    match value {
+        Some(value) => value.as_bool().is_some(),
+        None => true,
+    }
+}
+
 /// Whether the value is `true`, `false` or null.
 pub fn is_decision(value: &Value) -> bool
     ensures { result ≡ spec.is_decision (view value.now) }
@@ -42,6 +52,38 @@ pub fn is_small_or_null(value: &Value) -> bool
     match value {
         Value::Null => true,
         _ => small(value).is_some(),
+    }
+}
+
+/// Whether the value is the word that an alias is told by.
+pub fn is_alias_word(value: &Value) -> bool
+    ensures { result ≡ spec.is_alias_word (view value.now) }
+{
+    match value.as_str() {
+        Some(text) => text == "alias",
+        None => false,
+    }
+}
+
+#[tactic(auto, using(crate::proofs::Pairs::alias_too_short, crate::proofs::Pairs::alias_too_long))]
+fn is_alias(items: &[Value]) -> bool
+    ensures { result ≡ spec.is_alias (Some (items_view items.now)) }
+{
+    match items {
+        [word, number] => is_alias_word(word) && small(number).is_some(),
+        _ => false,
+    }
+}
+
+/// Whether the value says what a path stands for: a word of the set, an alias with its number, or null.
+pub fn is_resolution(set: Words, value: &Value) -> bool
+    ensures { result ≡ spec.is_resolution (words set) (view value.now) }
+{
+    match value {
+        Value::Null => true,
+        Value::String(word) => has_word(set.all(), word.as_str()),
+        Value::Array(items) => is_alias(items.as_slice()),
+        _ => false,
     }
 }
 

@@ -1,55 +1,112 @@
 //! The kinds of nodes.
 
-/// A kind of nodes that a document may use.
-#[derive(Clone, Copy, PartialEq, Eq)]
+/// A kind of nodes that a document may use. Kinds that are read alike stand together, so that a function over a few of them
+/// tells these from their neighbours alone.
+#[derive(Clone, Copy)]
 pub enum Kind {
     IfExpr,
     BlockExpr,
+    Literal,
+    PathType,
+    /// Any other expression.
+    Expr(ExprNode),
+    Stmt(StmtNode),
+    Pat(PatNode),
+    /// Any other type.
+    Type_(TypeNode),
+    /// A path, or what stands beside a name.
+    Path(PathNode),
+    /// A part of any other.
+    Part(PartNode),
+}
+
+/// A kind of expressions, but for those that serve elsewhere too.
+#[derive(Clone, Copy)]
+pub enum ExprNode {
+    LetExpr,
     LoopExpr,
     CallExpr,
+    MethodCallExpr,
+    MatchExpr,
     PathExpr,
     ContinueExpr,
     BreakExpr,
     ParenExpr,
-    Literal,
-    MethodCallExpr,
-    FieldExpr,
-    PrefixExpr,
-    BinExpr,
-    IndexExpr,
-    RefExpr,
-    TupleExpr,
-    ArrayExpr,
     ReturnExpr,
     BecomeExpr,
     YieldExpr,
     YeetExpr,
     AwaitExpr,
+    RecordExpr,
+    FieldExpr,
+    CastExpr,
+    RefExpr,
+    PrefixExpr,
+    BinExpr,
+    TupleExpr,
+    ArrayExpr,
+    IndexExpr,
+    RangeExpr,
+    OffsetOfExpr,
     CfgPredExpr,
     UnderscoreExpr,
     IncludeBytesExpr,
     AsmExpr,
     FormatArgsExpr,
-    CastExpr,
-    RecordExpr,
-    OffsetOfExpr,
-    RecordExprFieldList,
-    RecordExprField,
+}
+
+/// A kind of statements.
+#[derive(Clone, Copy)]
+pub enum StmtNode {
+    LetStmt,
     ExprStmt,
     Item,
+}
+
+/// A kind of patterns.
+#[derive(Clone, Copy)]
+pub enum PatNode {
+    IdentPat,
+    TupleStructPat,
+    TuplePat,
+    RefPat,
+    PathPat,
+    OrPat,
+    ParenPat,
+    BoxPat,
+    DerefPat,
+    RecordPat,
+    SlicePat,
+    LiteralPat,
+    RangePat,
+    CfgPredPat,
+    WildcardPat,
+    RestPat,
+    NotNullPat,
+    ConstBlockPat,
+}
+
+/// A kind of types, but for paths.
+#[derive(Clone, Copy)]
+pub enum TypeNode {
     ParenType,
     SliceType,
     TupleType,
-    PathType,
     PtrType,
-    RefType,
     ArrayType,
+    RefType,
     FnPtrType,
     ForType,
     ImplTraitType,
     DynTraitType,
+    PatternType,
     NeverType,
     InferType,
+}
+
+/// A path, its segments, and the kinds of arguments.
+#[derive(Clone, Copy)]
+pub enum PathNode {
     Path,
     PathSegment,
     GenericArgList,
@@ -58,10 +115,23 @@ pub enum Kind {
     LifetimeArg,
     ConstArg,
     ParenArgs,
+}
+
+/// A kind of parts that are none of these.
+#[derive(Clone, Copy)]
+pub enum PartNode {
     TypeBound,
     ForBinder,
     RetType,
+    MatchArm,
+    Guard,
+    LetElse,
+    RecordExprFieldList,
+    RecordExprField,
+    RecordPatField,
     Param,
+    SelfParam,
+    ParamList,
     Label,
     Lifetime,
     Name,

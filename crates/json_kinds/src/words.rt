@@ -1,7 +1,7 @@
 //! The words that fields hold.
 
 ghost use Rattle.std.specs.Prelude.{◌≡◌, map};
-ghost use Rattle.json_kinds.specs.Words.{words};
+ghost use Rattle.json_kinds.specs.Words.{lang_names, resolutions, words};
 
 /// A set of words.
 #[derive(Clone, Copy)]
@@ -12,8 +12,13 @@ pub enum Words {
     Modifiers,
     UnaryOps,
     BinaryOps,
+    RangeOps,
     Owners,
     Containers,
+    /// What a path may stand for, but for aliases.
+    Resolutions,
+    /// The items that the language itself names, in the order of their numbers.
+    LangItems,
 }
 
 impl Words {
@@ -29,10 +34,52 @@ impl Words {
             Words::UnaryOps => &["*", "!", "-"],
             Words::BinaryOps => &[
                 "||", "&&", "==", "!=", "<=", "<", ">=", ">", "+", "*", "-", "/", "%", "<<", ">>",
-                "^", "|", "&", "+=", "*=", "-=", "/=", "%=", "<<=", ">>=", "^=", "|=", "&=",
+                "^", "|", "&", "=", "+=", "*=", "-=", "/=", "%=", "<<=", ">>=", "^=", "|=", "&=",
             ],
+            Words::RangeOps => &["..", "..="],
             Words::Owners => &["fn", "static", "const", "variant"],
             Words::Containers => &["module", "extern", "impl", "trait"],
+            Words::Resolutions => resolutions(),
+            Words::LangItems => lang_items(),
         }
     }
+}
+
+fn resolutions() -> &'static [&'static str]
+    ensures { map (λ w. w.now) result.now ≡ resolutions }
+{
+    &[
+        "module", "function", "struct", "union", "enum", "variant", "const", "static", "trait",
+        "builtin",
+    ]
+}
+
+fn lang_items() -> &'static [&'static str]
+    ensures { map (λ w. w.now) result.now ≡ lang_names }
+{
+    &[
+        "RangeFull",
+        "RangeFrom",
+        "RangeFromCopy",
+        "RangeTo",
+        "RangeCopy",
+        "Range",
+        "RangeToInclusiveCopy",
+        "RangeToInclusive",
+        "RangeInclusiveCopy",
+        "RangeInclusiveNew",
+        "TryTraitFromOutput",
+        "TryTraitBranch",
+        "ControlFlowContinue",
+        "ControlFlowBreak",
+        "ResidualIntoTryType",
+        "TryTraitFromResidual",
+        "IntoIterIntoIter",
+        "IteratorNext",
+        "OptionSome",
+        "OptionNone",
+        "RangeMin",
+        "RangeMax",
+        "RangeSub",
+    ]
 }

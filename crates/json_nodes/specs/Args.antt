@@ -1,20 +1,17 @@
 -- Arguments of names.
 use Rattle.std.specs.Prelude.{codes, Option, Some, None}
 use Rattle.serde_json.specs.Find.{get}
-use Rattle.hir_syntax.specs.declared.ast.ConstArg.{roll-ConstArg}
 use Rattle.hir_syntax.specs.declared.types.AssocTypeArg.{AssocTypeArg, roll-AssocTypeArg}
 use Rattle.hir_syntax.specs.declared.types.GenericArg.TheVariants as arguments
-use Rattle.hir_syntax.specs.declared.types.GenericArgList.{roll-GenericArgList}
-use Rattle.hir_syntax.specs.declared.types.ParenArgs.{roll-ParenArgs}
-use Rattle.hir_syntax.specs.declared.types.TypeArg.{roll-TypeArg}
 use Rattle.json_kinds.specs.ByWord.{or_else}
-use Rattle.json_kinds.specs.declared.kind.Kind.{Kind}
-use Rattle.json_kinds.specs.declared.kind.Kind.TheVariants as kind
+use Rattle.json_kinds.specs.declared.kind.PathNode.{PathNode}
+use Rattle.json_kinds.specs.declared.kind.PathNode.TheVariants as kind
 use Rattle.json_nodes.specs.Fields.{flag_of}
 use Rattle.json_nodes.specs.Groups.{as_expr, as_type, as_name, as_lifetime, as_generic_args, as_generic_arg, as_type_arg, as_bound}
 use Rattle.json_nodes.specs.Parts.{Here, part_in, list_in}
 use Rattle.json_nodes.specs.declared.part.AnyPart.{AnyPart}
 use Rattle.json_nodes.specs.declared.part.AnyPart.TheVariants as part
+use Rattle.json_nodes.specs.declared.path_parts.PathPart.TheVariants as path_part
 
 unfoldable pub assoc_arg : Here → AssocTypeArg
 assoc_arg h = roll-AssocTypeArg (record {
@@ -28,38 +25,22 @@ assoc_arg h = roll-AssocTypeArg (record {
   bounds = list_in h as_bound (codes "bounds");
 })
 
-unfoldable pub arg : Here → Kind → Option AnyPart
-arg h kind.TypeArg = Some (part.TypeArg (roll-TypeArg (record {
-  id = h.id;
-  range = h.range;
-  ty = part_in h as_type (codes "ty");
-})))
-arg h kind.AssocTypeArg = Some (part.GenericArg (arguments.AssocTypeArg (assoc_arg h)))
-arg h kind.LifetimeArg = Some (part.GenericArg (arguments.LifetimeArg (record {
+unfoldable pub arg : Here → PathNode → Option AnyPart
+arg h kind.TypeArg = Some (part.Path (path_part.TypeArg (part_in h as_type (codes "ty"))))
+arg h kind.AssocTypeArg = Some (part.Path (path_part.GenericArg (arguments.AssocTypeArg (assoc_arg h))))
+arg h kind.LifetimeArg = Some (part.Path (path_part.GenericArg (arguments.LifetimeArg (record {
   id = h.id;
   range = h.range;
   lifetime = part_in h as_lifetime (codes "lifetime");
-})))
-arg h kind.ConstArg = Some (part.ConstArg (roll-ConstArg (record {
-  id = h.id;
-  range = h.range;
-  expr = part_in h as_expr (codes "expr");
-})))
+}))))
+arg h kind.ConstArg = Some (part.Path (path_part.ConstArg (part_in h as_expr (codes "expr"))))
 arg h _ = None
 
-unfoldable pub arg_list : Here → Kind → Option AnyPart
-arg_list h kind.GenericArgList = Some (part.GenericArgs (roll-GenericArgList (record {
-  id = h.id;
-  range = h.range;
-  args = list_in h as_generic_arg (codes "args");
-})))
-arg_list h kind.ParenArgs = Some (part.ParenArgs (roll-ParenArgs (record {
-  id = h.id;
-  range = h.range;
-  args = list_in h as_type_arg (codes "args");
-})))
+unfoldable pub arg_list : Here → PathNode → Option AnyPart
+arg_list h kind.GenericArgList = Some (part.Path (path_part.GenericArgs (list_in h as_generic_arg (codes "args"))))
+arg_list h kind.ParenArgs = Some (part.Path (path_part.ParenArgs (list_in h as_type_arg (codes "args"))))
 arg_list h _ = None
 
 -- an argument, or a list of some
-abbrev pub of_args : Here → Kind → Option AnyPart
+abbrev pub of_args : Here → PathNode → Option AnyPart
 of_args h k = or_else (arg h k) (arg_list h k)

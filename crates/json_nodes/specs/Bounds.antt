@@ -1,19 +1,18 @@
--- Bounds, binders, parameters and return types.
+-- Bounds, binders and return types.
 use Rattle.std.specs.Prelude.{codes, ℕ, List, [], ◌∷◌, Option, Some, None, option_and_then}
 use Rattle.serde_json.specs.Find.{get}
 use Rattle.hir_syntax.specs.declared.types.BoundKind.{BoundKind}
 use Rattle.hir_syntax.specs.declared.types.BoundKind.TheVariants as bound_kinds
 use Rattle.hir_syntax.specs.declared.types.TypeBound.{TypeBound, roll-TypeBound}
-use Rattle.hir_syntax.specs.declared.types.RetType.{roll-RetType}
-use Rattle.hir_syntax.specs.declared.types.Param.{roll-Param}
 use Rattle.json_kinds.specs.ByWord.{with_word}
-use Rattle.json_kinds.specs.declared.kind.Kind.{Kind}
-use Rattle.json_kinds.specs.declared.kind.Kind.TheVariants as kind
+use Rattle.json_kinds.specs.declared.kind.PartNode.{PartNode}
+use Rattle.json_kinds.specs.declared.kind.PartNode.TheVariants as kind
 use Rattle.json_nodes.specs.Fields.{flag_of, text_in}
 use Rattle.json_nodes.specs.Groups.{as_type, as_path_type, as_binder, as_lifetime, as_use_arg}
 use Rattle.json_nodes.specs.Parts.{Here, part_in, list_in, list_with_nulls_in}
 use Rattle.json_nodes.specs.declared.part.AnyPart.{AnyPart}
 use Rattle.json_nodes.specs.declared.part.AnyPart.TheVariants as part
+use Rattle.json_nodes.specs.declared.type_parts.TypePart.TheVariants as type_part
 
 -- the word of a kind of bounds
 abbrev pub bound_word : BoundKind → List ℕ
@@ -38,22 +37,12 @@ bound h = roll-TypeBound (record {
 })
 
 -- a bound, or what else stands beside types
-unfoldable pub of_bound : Here → Kind → Option AnyPart
-of_bound h kind.TypeBound = Some (part.Bound (bound h))
-of_bound h kind.ForBinder = Some (part.Binder (record {
+unfoldable pub of_bound : Here → PartNode → Option AnyPart
+of_bound h kind.TypeBound = Some (part.Type_ (type_part.Bound (bound h)))
+of_bound h kind.ForBinder = Some (part.Type_ (type_part.Binder (record {
   id = h.id;
   range = h.range;
   params = list_with_nulls_in h as_lifetime (codes "params");
-}))
-of_bound h kind.RetType = Some (part.Ret (roll-RetType (record {
-  id = h.id;
-  range = h.range;
-  ty = part_in h as_type (codes "ty");
 })))
-of_bound h kind.Param = Some (part.Param (roll-Param (record {
-  id = h.id;
-  range = h.range;
-  ty = part_in h as_type (codes "ty");
-  variadic = flag_of (get (codes "variadic") h.value);
-})))
+of_bound h kind.RetType = Some (part.Type_ (type_part.Ret (part_in h as_type (codes "ty"))))
 of_bound h _ = None

@@ -1,13 +1,17 @@
 pub mod Fields
 pub mod Literals
 pub mod Groups
+pub mod Kept
 pub mod Parts
 pub mod Nodes
 pub mod Operators
 pub mod Exprs
+pub mod Branches
+pub mod Pats
 pub mod Paths
 pub mod Types
 pub mod Typed
 pub mod Args
 pub mod Bounds
+pub mod Params
 pub mod Others

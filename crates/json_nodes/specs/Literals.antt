@@ -2,8 +2,8 @@
 use Rattle.std.specs.Prelude.{ℕ, List, [], ◌∷◌, Option, Some, None, codes, option_and_then}
 use Rattle.serde_json.specs.Data.{Data}
 use Rattle.hir_syntax.specs.declared.ast.Literal.{Literal}
-use Rattle.hir_syntax.specs.declared.ast.LiteralKind.{LiteralKind}
-use Rattle.hir_syntax.specs.declared.ast.LiteralKind.TheVariants as literal
+use Rattle.hir_base.specs.declared.op.LiteralKind.{LiteralKind}
+use Rattle.hir_base.specs.declared.op.LiteralKind.TheVariants as literal
 use Rattle.json_nodes.specs.Fields.{text_in}
 use Rattle.json_kinds.specs.ByWord.{with_word}
 

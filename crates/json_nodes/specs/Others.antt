@@ -7,44 +7,67 @@ use Rattle.hir_syntax.specs.declared.ast.BlockExpr.{roll-BlockExpr}
 use Rattle.hir_syntax.specs.declared.ast.BlockModifier.{BlockModifier}
 use Rattle.hir_syntax.specs.declared.ast.BlockModifier.TheVariants as modifiers
 use Rattle.hir_syntax.specs.declared.ast.Fn.{Fn}
-use Rattle.json_kinds.specs.declared.kind.Kind.{Kind}
-use Rattle.json_kinds.specs.declared.kind.Kind.TheVariants as kind
+use Rattle.json_kinds.specs.declared.kind.StmtNode.{StmtNode}
+use Rattle.json_kinds.specs.declared.kind.StmtNode.TheVariants as stmt_kind
+use Rattle.json_kinds.specs.declared.kind.PartNode.{PartNode}
+use Rattle.json_kinds.specs.declared.kind.PartNode.TheVariants as kind
 use Rattle.json_nodes.specs.Fields.{flag_of, text_in}
-use Rattle.json_nodes.specs.Groups.{as_expr, as_stmt, as_label, as_lifetime}
+use Rattle.json_nodes.specs.Groups.{as_expr, as_stmt, as_label, as_let_else, as_lifetime, as_param_list, as_pat, as_type}
 use Rattle.json_nodes.specs.Parts.{Here, part_in, list_in}
 use Rattle.json_nodes.specs.declared.part.AnyPart.{AnyPart}
 use Rattle.json_nodes.specs.declared.part.AnyPart.TheVariants as part
+use Rattle.json_nodes.specs.declared.code_parts.CodePart.TheVariants as code_part
+use Rattle.json_nodes.specs.declared.code_parts.ExprPart.TheVariants as expr_part
+use Rattle.json_nodes.specs.declared.name_parts.NamePart.TheVariants as name_part
 
-unfoldable pub statement : Here → Kind → Option StmtKind
-statement h kind.ExprStmt = Some (stmt.ExprStmt (part_in h as_expr (codes "expr")) (flag_of (get (codes "semi") h.value)))
-statement h kind.Item = Some stmt.Item
-statement h _ = None
+unfoldable pub statement : Here → StmtNode → StmtKind
+statement h stmt_kind.LetStmt = stmt.LetStmt
+    (part_in h as_pat (codes "pat"))
+    (part_in h as_type (codes "ty"))
+    (part_in h as_expr (codes "init"))
+    (part_in h as_let_else (codes "else"))
+statement h stmt_kind.ExprStmt = stmt.ExprStmt (part_in h as_expr (codes "expr")) (flag_of (get (codes "semi") h.value))
+statement h stmt_kind.Item = stmt.Item
+
+abbrev pub of_stmt : Here → StmtNode → Option AnyPart
+of_stmt h k = Some (part.Code (code_part.Stmt (record { id = h.id; range = h.range; kind = statement h k })))
 
 -- the modifier whose word it is, the only one that is read yet
 abbrev pub modifier : List ℕ → Option BlockModifier
 modifier word = if bytes_eq word (codes "unsafe") then Some modifiers.Unsafe else None
 
-abbrev pub lifetime : Here → Option AnyPart
-lifetime h = option_map (λ t. part.Lifetime (record { id = h.id; range = h.range; t = t })) (text_in (codes "t") h.value)
-
-abbrev pub name : Here → Option AnyPart
-name h = option_map (λ t. part.Name (record { id = h.id; range = h.range; t = t })) (text_in (codes "t") h.value)
-
--- labels, lifetimes, names and blocks
-unfoldable pub other : Here → Kind → Option AnyPart
-other h kind.BlockExpr = Some (part.Block (roll-BlockExpr (record {
+unfoldable pub of_block : Here → Option AnyPart
+of_block h = Some (part.Expr (expr_part.Block (roll-BlockExpr (record {
   id = h.id;
   range = h.range;
   mod_ = option_and_then modifier (text_in (codes "mod") h.value);
   label = part_in h as_label (codes "label");
   stmts = list_in h as_stmt (codes "stmts");
   tail = part_in h as_expr (codes "tail");
-})))
-other h kind.Label = Some (part.Label (record { id = h.id; range = h.range; lifetime = part_in h as_lifetime (codes "lifetime") }))
+}))))
+
+unfoldable pub label : Here → Option AnyPart
+label h = Some (part.Name (name_part.Label (record { id = h.id; range = h.range; lifetime = part_in h as_lifetime (codes "lifetime") })))
+
+abbrev pub lifetime : Here → Option AnyPart
+lifetime h =
+    option_map (λ t. part.Name (name_part.Lifetime (record { id = h.id; range = h.range; t = t }))) (text_in (codes "t") h.value)
+
+abbrev pub name : Here → Option AnyPart
+name h = option_map (λ t. part.Name (name_part.Name (record { id = h.id; range = h.range; t = t }))) (text_in (codes "t") h.value)
+
+-- labels, lifetimes and names
+abbrev pub other : Here → PartNode → Option AnyPart
+other h kind.Label = label h
 other h kind.Lifetime = lifetime h
 other h kind.Name = name h
 other h _ = None
 
--- a function, of which the body is read alone
+-- a function, of which parameters and body are read alone
 unfoldable pub function : Here → Fn
-function h = record { id = h.id; range = h.range; body = part_in h as_expr (codes "body") }
+function h = record {
+  id = h.id;
+  range = h.range;
+  params = part_in h as_param_list (codes "params");
+  body = part_in h as_expr (codes "body");
+}

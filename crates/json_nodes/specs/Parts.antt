@@ -3,10 +3,12 @@ use Rattle.std.specs.Prelude.{ℕ, List, [], ◌∷◌, Option, Some, None, opti
 use Rattle.serde_json.specs.Data.{Data, null, boolean, number, string, array, object, Items, no_items, item}
 use Rattle.serde_json.specs.Find.{as_array, as_str, get}
 use Rattle.json_faults.specs.Values.{small_of}
-use Rattle.hir_syntax.specs.declared.node.NodeId.{NodeId}
-use Rattle.hir_syntax.specs.declared.node.TextRange.{TextRange}
+use Rattle.json_nodes.specs.Fields.{text_in}
+use Rattle.hir_base.specs.declared.node.NodeId.{NodeId}
+use Rattle.hir_base.specs.declared.node.TextRange.{TextRange}
 use Rattle.json_nodes.specs.declared.part.AnyPart.{AnyPart}
 use Rattle.json_nodes.specs.declared.part.AnyPart.TheVariants as part
+use Rattle.json_nodes.specs.declared.name_parts.NamePart.TheVariants as name_part
 
 -- a node, with what stands at each node
 pub record Here : Type 0 where
@@ -44,9 +46,16 @@ listed f None = []
 listed f (Some ds) = all_read f ds
 
 module _ (h : Here) where
+  -- a text has the number and the range of the node that holds it
+  abbrev pub text_part : List ℕ → Option AnyPart
+  text_part t = Some (part.Name (name_part.Text h.id h.range t))
+
+  abbrev pub text_at : List ℕ → Option (List ℕ)
+  text_at name = text_in name h.value
+
   -- a text, which has the number and the range of the node that holds it, or what stands at a node, by its index
   abbrev pub any_part : Data → Option AnyPart
-  any_part d = text_or (λ t. part.Text h.id h.range t) (option_and_then h.part (small_of d)) (as_str d)
+  any_part d = text_or (λ t. part.Name (name_part.Text h.id h.range t)) (option_and_then h.part (small_of d)) (as_str d)
 
   -- the same as a part of a group
   abbrev pub child : {T : Type 0} → (AnyPart → Option T) → Data → Option T

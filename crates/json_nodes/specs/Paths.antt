@@ -6,13 +6,14 @@ use Rattle.hir_syntax.specs.declared.ast.PathSegment.{PathSegment, roll-PathSegm
 use Rattle.hir_syntax.specs.declared.ast.SegmentKind.{SegmentKind}
 use Rattle.hir_syntax.specs.declared.ast.SegmentKind.TheVariants as written
 use Rattle.json_kinds.specs.ByWord.{with_word}
-use Rattle.json_kinds.specs.declared.kind.Kind.{Kind}
-use Rattle.json_kinds.specs.declared.kind.Kind.TheVariants as kind
+use Rattle.json_kinds.specs.declared.kind.PathNode.{PathNode}
+use Rattle.json_kinds.specs.declared.kind.PathNode.TheVariants as kind
 use Rattle.json_nodes.specs.Fields.{flag_of, text_in}
 use Rattle.json_nodes.specs.Groups.{as_path, as_segment, as_name, as_generic_args, as_paren_args, as_ret, as_type, as_path_type}
 use Rattle.json_nodes.specs.Parts.{Here, part_in, list_with_nulls_in}
 use Rattle.json_nodes.specs.declared.part.AnyPart.{AnyPart}
 use Rattle.json_nodes.specs.declared.part.AnyPart.TheVariants as part
+use Rattle.json_nodes.specs.declared.path_parts.PathPart.TheVariants as path_part
 
 -- the word of a kind of segments
 abbrev pub segment_word : SegmentKind → List ℕ
@@ -55,7 +56,7 @@ path h = roll-Path (record {
 })
 
 -- a path or a segment
-abbrev pub of_path : Here → Kind → Option AnyPart
-of_path h kind.Path = Some (part.Path (path h))
-of_path h kind.PathSegment = Some (part.Segment (segment h))
+abbrev pub of_path : Here → PathNode → Option AnyPart
+of_path h kind.Path = Some (part.Path (path_part.Path (path h)))
+of_path h kind.PathSegment = Some (part.Path (path_part.Segment (segment h)))
 of_path h _ = None

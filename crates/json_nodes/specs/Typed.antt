@@ -1,38 +1,50 @@
 -- Expressions with types or paths, and the parts of a record.
 use Rattle.std.specs.Prelude.{codes, Option, Some, None}
 use Rattle.serde_json.specs.Find.{get}
-use Rattle.hir_syntax.specs.declared.ast.ExprKind.{ExprKind}
 use Rattle.hir_syntax.specs.declared.ast.ExprKind.TheVariants as expr
 use Rattle.hir_syntax.specs.declared.ast.RecordExprFieldList.{roll-RecordExprFieldList}
 use Rattle.hir_syntax.specs.declared.ast.RecordExprField.{roll-RecordExprField}
-use Rattle.json_kinds.specs.declared.kind.Kind.{Kind}
-use Rattle.json_kinds.specs.declared.kind.Kind.TheVariants as kind
+use Rattle.hir_syntax.specs.declared.pats.RecordPatField.{roll-RecordPatField}
+use Rattle.json_kinds.specs.declared.kind.ExprNode.{ExprNode}
+use Rattle.json_kinds.specs.declared.kind.ExprNode.TheVariants as kind
+use Rattle.json_kinds.specs.declared.kind.PartNode.{PartNode}
+use Rattle.json_kinds.specs.declared.kind.PartNode.TheVariants as part_kind
 use Rattle.json_nodes.specs.Fields.{flag_of}
-use Rattle.json_nodes.specs.Groups.{as_expr, as_name, as_path, as_type, as_record_list, as_record_field}
+use Rattle.json_nodes.specs.Exprs.{whole_expr}
+use Rattle.json_nodes.specs.Groups.{as_expr, as_name, as_pat, as_path, as_type, as_record_list, as_record_field}
 use Rattle.json_nodes.specs.Parts.{Here, part_in, list_in}
 use Rattle.json_nodes.specs.declared.part.AnyPart.{AnyPart}
 use Rattle.json_nodes.specs.declared.part.AnyPart.TheVariants as part
+use Rattle.json_nodes.specs.declared.code_parts.CodePart.TheVariants as code_part
+use Rattle.json_nodes.specs.declared.param_parts.PatPart.TheVariants as pat_part
 
 -- casts, records and offsets of fields
-unfoldable pub typed : Here → Kind → Option ExprKind
-typed h kind.CastExpr = Some (expr.CastExpr (part_in h as_expr (codes "expr")) (part_in h as_type (codes "ty")))
-typed h kind.RecordExpr = Some (expr.RecordExpr (part_in h as_path (codes "path")) (part_in h as_record_list (codes "list")))
-typed h kind.OffsetOfExpr = Some (expr.OffsetOfExpr (part_in h as_type (codes "ty")) (list_in h as_name (codes "fields")))
+unfoldable pub typed : Here → ExprNode → Option AnyPart
+typed h kind.CastExpr = Some (whole_expr h (expr.CastExpr (part_in h as_expr (codes "expr")) (part_in h as_type (codes "ty"))))
+typed h kind.RecordExpr =
+    Some (whole_expr h (expr.RecordExpr (part_in h as_path (codes "path")) (part_in h as_record_list (codes "list"))))
+typed h kind.OffsetOfExpr = Some (whole_expr h (expr.OffsetOfExpr (part_in h as_type (codes "ty")) (list_in h as_name (codes "fields"))))
 typed h _ = None
 
--- the fields of a record, and one of them
-unfoldable pub of_record : Here → Kind → Option AnyPart
-of_record h kind.RecordExprFieldList = Some (part.RecordList (roll-RecordExprFieldList (record {
+-- the fields of a record, and one of them, also of a pattern
+unfoldable pub of_record : Here → PartNode → Option AnyPart
+of_record h part_kind.RecordExprFieldList = Some (part.Code (code_part.RecordList (roll-RecordExprFieldList (record {
   id = h.id;
   range = h.range;
   fields = list_in h as_record_field (codes "fields");
   spread = part_in h as_expr (codes "spread");
   dotdot = flag_of (get (codes "dotdot") h.value);
-})))
-of_record h kind.RecordExprField = Some (part.RecordField (roll-RecordExprField (record {
+}))))
+of_record h part_kind.RecordExprField = Some (part.Code (code_part.RecordField (roll-RecordExprField (record {
   id = h.id;
   range = h.range;
   name = part_in h as_name (codes "name");
   expr = part_in h as_expr (codes "expr");
-})))
+}))))
+of_record h part_kind.RecordPatField = Some (part.Pat (pat_part.PatField (roll-RecordPatField (record {
+  id = h.id;
+  range = h.range;
+  name = part_in h as_name (codes "name");
+  pat = part_in h as_pat (codes "pat");
+}))))
 of_record h _ = None

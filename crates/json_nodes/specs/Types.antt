@@ -5,30 +5,26 @@ use Rattle.hir_syntax.specs.declared.types.TypeKind.{TypeKind}
 use Rattle.hir_syntax.specs.declared.types.TypeKind.TheVariants as type_kinds
 use Rattle.hir_syntax.specs.declared.types.PathType.{roll-PathType}
 use Rattle.json_kinds.specs.ByWord.{or_else}
-use Rattle.json_kinds.specs.declared.kind.Kind.{Kind}
-use Rattle.json_kinds.specs.declared.kind.Kind.TheVariants as kind
+use Rattle.json_kinds.specs.declared.kind.TypeNode.{TypeNode}
+use Rattle.json_kinds.specs.declared.kind.TypeNode.TheVariants as kind
 use Rattle.json_nodes.specs.Fields.{flag_of, text_in}
-use Rattle.json_nodes.specs.Groups.{as_type, as_path, as_lifetime, as_const_arg, as_param, as_ret, as_binder, as_bound}
+use Rattle.json_nodes.specs.Groups.{as_type, as_pat, as_path, as_lifetime, as_const_arg, as_param, as_ret, as_binder, as_bound}
 use Rattle.json_nodes.specs.Parts.{Here, part_in, list_in, list_if_there}
 use Rattle.json_nodes.specs.declared.part.AnyPart.{AnyPart}
 use Rattle.json_nodes.specs.declared.part.AnyPart.TheVariants as part
+use Rattle.json_nodes.specs.declared.type_parts.TypePart.TheVariants as type_part
+
+abbrev pub whole_type : Here → TypeKind → AnyPart
+whole_type h x = part.Type_ (type_part.Type_ (record { id = h.id; range = h.range; kind = x }))
 
 -- what is made of other types
-unfoldable pub over_types : Here → Kind → Option TypeKind
-over_types h kind.ParenType = Some (type_kinds.ParenType (part_in h as_type (codes "ty")))
-over_types h kind.SliceType = Some (type_kinds.SliceType (part_in h as_type (codes "ty")))
-over_types h kind.TupleType = Some (type_kinds.TupleType (list_in h as_type (codes "fields")))
-over_types h kind.PtrType = Some (type_kinds.PtrType (flag_of (get (codes "mut") h.value)) (part_in h as_type (codes "ty")))
+unfoldable pub over_types : Here → TypeNode → Option AnyPart
+over_types h kind.ParenType = Some (whole_type h (type_kinds.ParenType (part_in h as_type (codes "ty"))))
+over_types h kind.SliceType = Some (whole_type h (type_kinds.SliceType (part_in h as_type (codes "ty"))))
+over_types h kind.TupleType = Some (whole_type h (type_kinds.TupleType (list_in h as_type (codes "fields"))))
+over_types h kind.PtrType =
+    Some (whole_type h (type_kinds.PtrType (flag_of (get (codes "mut") h.value)) (part_in h as_type (codes "ty"))))
 over_types h _ = None
-
-unfoldable pub reference : Here → TypeKind
-reference h = type_kinds.RefType
-    (part_in h as_lifetime (codes "lifetime"))
-    (flag_of (get (codes "mut") h.value))
-    (part_in h as_type (codes "ty"))
-
-unfoldable pub array : Here → TypeKind
-array h = type_kinds.ArrayType (part_in h as_type (codes "ty")) (part_in h as_const_arg (codes "len"))
 
 unfoldable pub function_pointer : Here → TypeKind
 function_pointer h = type_kinds.FnPtrType
@@ -37,33 +33,36 @@ function_pointer h = type_kinds.FnPtrType
     (list_if_there h as_param (codes "params"))
     (part_in h as_ret (codes "ret"))
 
-unfoldable pub under_binder : Here → TypeKind
-under_binder h = type_kinds.ForType (part_in h as_binder (codes "binder")) (part_in h as_type (codes "ty"))
-
 -- what has a part of another group beside its type, or in its place
-abbrev pub beside_types : Here → Kind → Option TypeKind
-beside_types h kind.RefType = Some (reference h)
-beside_types h kind.ArrayType = Some (array h)
-beside_types h kind.FnPtrType = Some (function_pointer h)
-beside_types h kind.ForType = Some (under_binder h)
+unfoldable pub beside_types : Here → TypeNode → Option AnyPart
+beside_types h kind.RefType = Some (whole_type h (type_kinds.RefType
+    (part_in h as_lifetime (codes "lifetime"))
+    (flag_of (get (codes "mut") h.value))
+    (part_in h as_type (codes "ty"))))
+beside_types h kind.ArrayType =
+    Some (whole_type h (type_kinds.ArrayType (part_in h as_type (codes "ty")) (part_in h as_const_arg (codes "len"))))
+beside_types h kind.FnPtrType = Some (whole_type h (function_pointer h))
+beside_types h kind.ForType =
+    Some (whole_type h (type_kinds.ForType (part_in h as_binder (codes "binder")) (part_in h as_type (codes "ty"))))
+beside_types h kind.PatternType =
+    Some (whole_type h (type_kinds.PatternType (part_in h as_type (codes "ty")) (part_in h as_pat (codes "pat"))))
 beside_types h _ = None
 
 -- what has bounds, and what is a word
-unfoldable pub bounded : Here → Kind → Option TypeKind
-bounded h kind.ImplTraitType = Some (type_kinds.ImplTraitType (list_in h as_bound (codes "bounds")))
-bounded h kind.DynTraitType = Some (type_kinds.DynTraitType (list_in h as_bound (codes "bounds")))
-bounded h kind.NeverType = Some type_kinds.NeverType
-bounded h kind.InferType = Some type_kinds.InferType
+unfoldable pub bounded : Here → TypeNode → Option AnyPart
+bounded h kind.ImplTraitType = Some (whole_type h (type_kinds.ImplTraitType (list_in h as_bound (codes "bounds"))))
+bounded h kind.DynTraitType = Some (whole_type h (type_kinds.DynTraitType (list_in h as_bound (codes "bounds"))))
+bounded h kind.NeverType = Some (whole_type h type_kinds.NeverType)
+bounded h kind.InferType = Some (whole_type h type_kinds.InferType)
 bounded h _ = None
 
-abbrev pub type_kind : Here → Kind → Option TypeKind
-type_kind h k = or_else (over_types h k) (or_else (beside_types h k) (bounded h k))
-
-abbrev pub of_type_kind : Here → TypeKind → AnyPart
-of_type_kind h x = part.Type_ (record { id = h.id; range = h.range; kind = x })
+abbrev pub of_type : Here → TypeNode → Option AnyPart
+of_type h k = or_else (over_types h k) (or_else (beside_types h k) (bounded h k))
 
 -- a path is told from other types, since it may also name a trait
-abbrev pub of_type : Here → Kind → Option AnyPart
-of_type h kind.PathType =
-    Some (part.PathType (roll-PathType (record { id = h.id; range = h.range; path = part_in h as_path (codes "path") })))
-of_type h k = option_map (of_type_kind h) (type_kind h k)
+unfoldable pub of_path_type : Here → Option AnyPart
+of_path_type h = Some (part.Type_ (type_part.PathType (roll-PathType (record {
+  id = h.id;
+  range = h.range;
+  path = part_in h as_path (codes "path");
+}))))

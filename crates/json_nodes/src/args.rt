@@ -1,108 +1,96 @@
 //! Arguments of names.
 
-ghost use Rattle.std.specs.Prelude.{◌≡◌, IfOk};
+ghost use Rattle.std.specs.Prelude.{◌≡◌};
+ghost use Rattle.json_nodes.specs.Kept.{Kept};
 ghost use Rattle.json_nodes.specs.Args as spec;
-ghost use Rattle.json_nodes.specs.Nodes.{here};
 
+use crate::code_parts::Exprs;
 use crate::field::flag;
-use crate::node::{Node, ReadParts};
+use crate::fields::{All, Fields, InBox, One};
+use crate::name_parts::{Lifetimes, Names};
 use crate::part::AnyPart;
-use hir_syntax::Boxed;
-use hir_syntax::ast::{
-    AssocTypeArg, ConstArg, Expr, GenericArg, GenericArgList, Lifetime, LifetimeArg, Name,
-    ParenArgs, Type_, TypeArg, TypeBound,
-};
-use json_kinds::kind::Kind;
-use std::alloc::AllocError;
+use crate::path_parts::{GenericArgLists, GenericArgs, PathPart, TypeArgs};
+use crate::type_parts::{Bounds, Types};
+use hir_syntax::ast::{AssocTypeArg, GenericArg, LifetimeArg};
+use json_kinds::kind::PathNode;
 
 #[tactic(auto, unfolding(crate::specs::Args::assoc_arg))]
-fn assoc_arg<P: ReadParts>(node: &Node<'_, P>) -> Result<AssocTypeArg, AllocError>
-    requires { P.can node.now.parts.now }
-    ensures { IfOk result (λ arg. arg ≡ spec.assoc_arg (here P.parts node.now)) }
+fn assoc_arg<F: Fields>(node: &F, refused: &mut bool) -> AssocTypeArg
+    requires { F.can node.now }
+    ensures { Kept refused.old refused.new (result ≡ spec.assoc_arg (F.here node.now)) }
 {
-    Ok(AssocTypeArg {
-        id: node.id,
-        range: node.range,
-        name: node.part::<Name>("name")?,
-        params: flag(node.value, "params"),
-        generics: node.part::<GenericArgList>("generics")?,
-        rtn: flag(node.value, "rtn"),
-        ty: node.boxed::<Type_>("ty")?,
-        bounds: node.list::<TypeBound>("bounds")?,
-    })
+    let name = node.field::<One<Names>>(refused, "name");
+    let generics = node.field::<One<GenericArgLists>>(refused, "generics");
+    let ty = node.field::<InBox<Types>>(refused, "ty");
+    let bounds = node.field::<All<Bounds>>(refused, "bounds");
+    AssocTypeArg {
+        id: node.id(),
+        range: node.range(),
+        name,
+        params: flag(node.value(), "params"),
+        generics,
+        rtn: flag(node.value(), "rtn"),
+        ty,
+        bounds,
+    }
 }
 
 #[tactic(auto, unfolding(crate::specs::Args::arg))]
-fn arg<P: ReadParts>(node: &Node<'_, P>, kind: Kind) -> Result<Option<AnyPart>, AllocError>
-    requires { P.can node.now.parts.now }
-    ensures { IfOk result (λ part. part ≡ spec.arg (here P.parts node.now) kind) }
+fn arg<F: Fields>(node: &F, refused: &mut bool, kind: PathNode) -> Option<AnyPart>
+    requires { F.can node.now }
+    ensures { Kept refused.old refused.new (result ≡ spec.arg (F.here node.now) kind) }
 {
     match kind {
-        Kind::TypeArg => {
-            let arg = TypeArg {
-                id: node.id,
-                range: node.range,
-                ty: node.boxed::<Type_>("ty")?,
-            };
-            Ok(Some(AnyPart::TypeArg(Boxed::new(node.alloc, arg)?)))
+        PathNode::TypeArg => {
+            let ty = node.field::<InBox<Types>>(refused, "ty");
+            Some(AnyPart::Path(PathPart::TypeArg(ty)))
         }
-        Kind::AssocTypeArg => {
-            let arg = GenericArg::AssocTypeArg(assoc_arg(node)?);
-            Ok(Some(AnyPart::GenericArg(Boxed::new(node.alloc, arg)?)))
+        PathNode::AssocTypeArg => {
+            let arg = GenericArg::AssocTypeArg(assoc_arg(node, refused));
+            Some(AnyPart::Path(PathPart::GenericArg(arg)))
         }
-        Kind::LifetimeArg => {
+        PathNode::LifetimeArg => {
+            let lifetime = node.field::<One<Lifetimes>>(refused, "lifetime");
             let arg = GenericArg::LifetimeArg(LifetimeArg {
-                id: node.id,
-                range: node.range,
-                lifetime: node.part::<Lifetime>("lifetime")?,
+                id: node.id(),
+                range: node.range(),
+                lifetime,
             });
-            Ok(Some(AnyPart::GenericArg(Boxed::new(node.alloc, arg)?)))
+            Some(AnyPart::Path(PathPart::GenericArg(arg)))
         }
-        Kind::ConstArg => {
-            let arg = ConstArg {
-                id: node.id,
-                range: node.range,
-                expr: node.boxed::<Expr>("expr")?,
-            };
-            Ok(Some(AnyPart::ConstArg(Boxed::new(node.alloc, arg)?)))
+        PathNode::ConstArg => {
+            let expr = node.field::<InBox<Exprs>>(refused, "expr");
+            Some(AnyPart::Path(PathPart::ConstArg(expr)))
         }
-        _ => Ok(None),
+        _ => None,
     }
 }
 
 #[tactic(auto, unfolding(crate::specs::Args::arg_list))]
-fn arg_list<P: ReadParts>(node: &Node<'_, P>, kind: Kind) -> Result<Option<AnyPart>, AllocError>
-    requires { P.can node.now.parts.now }
-    ensures { IfOk result (λ part. part ≡ spec.arg_list (here P.parts node.now) kind) }
+fn arg_list<F: Fields>(node: &F, refused: &mut bool, kind: PathNode) -> Option<AnyPart>
+    requires { F.can node.now }
+    ensures { Kept refused.old refused.new (result ≡ spec.arg_list (F.here node.now) kind) }
 {
     match kind {
-        Kind::GenericArgList => {
-            let args = GenericArgList {
-                id: node.id,
-                range: node.range,
-                args: node.list::<GenericArg>("args")?,
-            };
-            Ok(Some(AnyPart::GenericArgs(Boxed::new(node.alloc, args)?)))
+        PathNode::GenericArgList => {
+            let args = node.field::<All<GenericArgs>>(refused, "args");
+            Some(AnyPart::Path(PathPart::GenericArgs(args)))
         }
-        Kind::ParenArgs => {
-            let args = ParenArgs {
-                id: node.id,
-                range: node.range,
-                args: node.list::<TypeArg>("args")?,
-            };
-            Ok(Some(AnyPart::ParenArgs(Boxed::new(node.alloc, args)?)))
+        PathNode::ParenArgs => {
+            let args = node.field::<All<TypeArgs>>(refused, "args");
+            Some(AnyPart::Path(PathPart::ParenArgs(args)))
         }
-        _ => Ok(None),
+        _ => None,
     }
 }
 
 /// An argument, or a list of some.
-pub fn of_args<P: ReadParts>(node: &Node<'_, P>, kind: Kind) -> Result<Option<AnyPart>, AllocError>
-    requires { P.can node.now.parts.now }
-    ensures { IfOk result (λ part. part ≡ spec.of_args (here P.parts node.now) kind) }
+pub fn of_args<F: Fields>(node: &F, refused: &mut bool, kind: PathNode) -> Option<AnyPart>
+    requires { F.can node.now }
+    ensures { Kept refused.old refused.new (result ≡ spec.of_args (F.here node.now) kind) }
 {
-    if let Some(part) = arg(node, kind)? {
-        return Ok(Some(part));
+    if let Some(part) = arg(node, refused, kind) {
+        return Some(part);
     }
-    arg_list(node, kind)
+    arg_list(node, refused, kind)
 }

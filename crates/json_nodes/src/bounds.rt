@@ -1,21 +1,19 @@
-//! Bounds, binders, parameters and return types.
+//! Bounds, binders and return types.
 
-ghost use Rattle.std.specs.Prelude.{◌≡◌, IfOk, codes, option_and_then};
+ghost use Rattle.std.specs.Prelude.{◌≡◌, codes, option_and_then};
 ghost use Rattle.serde_json.specs.View.{view};
+ghost use Rattle.json_nodes.specs.Kept.{Kept};
 ghost use Rattle.json_nodes.specs.Bounds as spec;
 ghost use Rattle.json_nodes.specs.Fields.{text_in};
-ghost use Rattle.json_nodes.specs.Nodes.{here};
 
 use crate::field::{flag, text};
-use crate::node::{Node, ReadParts};
+use crate::fields::{All, AllOrNulls, Fields, InBox, One};
+use crate::name_parts::{Lifetimes, UseArgs};
 use crate::part::AnyPart;
-use hir_syntax::Boxed;
-use hir_syntax::ast::{
-    BoundKind, ForBinder, Lifetime, Param, PathType, RetType, Type_, TypeBound, UseArg,
-};
-use json_kinds::kind::Kind;
+use crate::type_parts::{Binders, PathTypes, TypePart, Types};
+use hir_syntax::ast::{BoundKind, ForBinder, TypeBound};
+use json_kinds::kind::PartNode;
 use serde_json::Value;
-use std::alloc::AllocError;
 
 /// The kind with that word.
 fn bound_kind_of(word: &str) -> Option<BoundKind>
@@ -36,55 +34,46 @@ fn bound_kind(node: &Value) -> Option<BoundKind>
 }
 
 #[tactic(auto, unfolding(crate::specs::Bounds::bound))]
-fn bound<P: ReadParts>(node: &Node<'_, P>) -> Result<TypeBound, AllocError>
-    requires { P.can node.now.parts.now }
-    ensures { IfOk result (λ bound. bound ≡ spec.bound (here P.parts node.now)) }
+fn bound<F: Fields>(node: &F, refused: &mut bool) -> TypeBound
+    requires { F.can node.now }
+    ensures { Kept refused.old refused.new (result ≡ spec.bound (F.here node.now)) }
 {
-    Ok(TypeBound {
-        id: node.id,
-        range: node.range,
-        b: bound_kind(node.value),
-        ty: node.part::<PathType>("ty")?,
-        binder: node.part::<ForBinder>("binder")?,
-        maybe: flag(node.value, "maybe"),
-        lifetime: node.part::<Lifetime>("lifetime")?,
-        uses: node.list::<UseArg>("uses")?,
-    })
+    let ty = node.field::<One<PathTypes>>(refused, "ty");
+    let binder = node.field::<One<Binders>>(refused, "binder");
+    let lifetime = node.field::<One<Lifetimes>>(refused, "lifetime");
+    let uses = node.field::<All<UseArgs>>(refused, "uses");
+    TypeBound {
+        id: node.id(),
+        range: node.range(),
+        b: bound_kind(node.value()),
+        ty,
+        binder,
+        maybe: flag(node.value(), "maybe"),
+        lifetime,
+        uses,
+    }
 }
 
 /// A bound, or what else stands beside types.
 #[tactic(auto, unfolding(crate::specs::Bounds::of_bound))]
-pub fn of_bound<P: ReadParts>(node: &Node<'_, P>, kind: Kind) -> Result<Option<AnyPart>, AllocError>
-    requires { P.can node.now.parts.now }
-    ensures { IfOk result (λ part. part ≡ spec.of_bound (here P.parts node.now) kind) }
+pub fn of_bound<F: Fields>(node: &F, refused: &mut bool, kind: PartNode) -> Option<AnyPart>
+    requires { F.can node.now }
+    ensures { Kept refused.old refused.new (result ≡ spec.of_bound (F.here node.now) kind) }
 {
     match kind {
-        Kind::TypeBound => Ok(Some(AnyPart::Bound(Boxed::new(node.alloc, bound(node)?)?))),
-        Kind::ForBinder => {
-            let binder = ForBinder {
-                id: node.id,
-                range: node.range,
-                params: node.list_with_nulls::<Lifetime>("params")?,
-            };
-            Ok(Some(AnyPart::Binder(Boxed::new(node.alloc, binder)?)))
+        PartNode::TypeBound => Some(AnyPart::Type_(TypePart::Bound(bound(node, refused)))),
+        PartNode::ForBinder => {
+            let params = node.field::<AllOrNulls<Lifetimes>>(refused, "params");
+            Some(AnyPart::Type_(TypePart::Binder(ForBinder {
+                id: node.id(),
+                range: node.range(),
+                params,
+            })))
         }
-        Kind::RetType => {
-            let ret = RetType {
-                id: node.id,
-                range: node.range,
-                ty: node.boxed::<Type_>("ty")?,
-            };
-            Ok(Some(AnyPart::Ret(Boxed::new(node.alloc, ret)?)))
+        PartNode::RetType => {
+            let ty = node.field::<InBox<Types>>(refused, "ty");
+            Some(AnyPart::Type_(TypePart::Ret(ty)))
         }
-        Kind::Param => {
-            let param = Param {
-                id: node.id,
-                range: node.range,
-                ty: node.boxed::<Type_>("ty")?,
-                variadic: flag(node.value, "variadic"),
-            };
-            Ok(Some(AnyPart::Param(Boxed::new(node.alloc, param)?)))
-        }
-        _ => Ok(None),
+        _ => None,
     }
 }

@@ -1,60 +1,130 @@
 //! Expressions of the core, by their kind.
 
-ghost use Rattle.std.specs.Prelude.{◌≡◌, IfOk};
+ghost use Rattle.std.specs.Prelude.{◌≡◌, Some};
+ghost use Rattle.json_nodes.specs.Kept.{Kept};
 ghost use Rattle.json_nodes.specs.Exprs as spec;
-ghost use Rattle.json_nodes.specs.Nodes.{here};
 
+use crate::code_parts::{Blocks, Elses, ExprPart, Exprs};
+use crate::fields::{AllIfThere, Fields, InBox, One};
 use crate::literal::literal;
-use crate::node::{Node, ReadParts};
-use hir_syntax::ast::{BlockExpr, ElseBranch, Expr, ExprKind, Label, Lifetime, Path};
-use json_kinds::kind::Kind;
-use std::alloc::AllocError;
+use crate::name_parts::{Labels, Lifetimes};
+use crate::operators::range_op;
+use crate::part::AnyPart;
+use crate::path_parts::Paths;
+use hir_syntax::ast::{Expr, ExprKind};
+use json_kinds::kind::ExprNode;
 
-/// What steers the order of running.
-#[tactic(auto, unfolding(crate::specs::Exprs::flow))]
-pub fn flow<P: ReadParts>(node: &Node<'_, P>, kind: Kind) -> Result<Option<ExprKind>, AllocError>
-    requires { P.can node.now.parts.now }
-    ensures { IfOk result (λ expr. expr ≡ spec.flow (here P.parts node.now) kind) }
+/// An expression of a kind, in a box.
+pub fn whole_expr<F: Fields>(node: &F, refused: &mut bool, kind: ExprKind) -> Option<AnyPart>
+    ensures { Kept refused.old refused.new (result ≡ Some (spec.whole_expr (F.here node.now) kind)) }
 {
-    match kind {
-        Kind::IfExpr => Ok(Some(ExprKind::IfExpr {
-            condition: node.boxed::<Expr>("condition")?,
-            then: node.boxed::<BlockExpr>("then")?,
-            else_: node.part::<ElseBranch>("else")?,
-        })),
-        Kind::LoopExpr => Ok(Some(ExprKind::LoopExpr {
-            label: node.part::<Label>("label")?,
-            body: node.boxed::<BlockExpr>("body")?,
-        })),
-        Kind::ContinueExpr => Ok(Some(ExprKind::ContinueExpr {
-            lifetime: node.part::<Lifetime>("lifetime")?,
-        })),
-        Kind::BreakExpr => Ok(Some(ExprKind::BreakExpr {
-            lifetime: node.part::<Lifetime>("lifetime")?,
-            expr: node.boxed::<Expr>("expr")?,
-        })),
-        _ => Ok(None),
+    let expr = Expr {
+        id: node.id(),
+        range: node.range(),
+        kind,
+    };
+    let expr = node.boxed_expr(refused, expr)?;
+    Some(AnyPart::Expr(ExprPart::Expr(expr)))
+}
+
+#[tactic(auto, unfolding(crate::specs::Exprs::if_expr))]
+fn if_expr<F: Fields>(node: &F, refused: &mut bool) -> ExprKind
+    requires { F.can node.now }
+    ensures { Kept refused.old refused.new (result ≡ spec.if_expr (F.here node.now)) }
+{
+    let condition = node.field::<InBox<Exprs>>(refused, "condition");
+    let then = node.field::<One<Blocks>>(refused, "then");
+    let else_ = node.field::<One<Elses>>(refused, "else");
+    ExprKind::IfExpr {
+        condition,
+        then,
+        else_,
     }
 }
 
-/// Calls, paths, parentheses and literals.
-#[tactic(auto, unfolding(crate::specs::Exprs::plain))]
-pub fn plain<P: ReadParts>(node: &Node<'_, P>, kind: Kind) -> Result<Option<ExprKind>, AllocError>
-    requires { P.can node.now.parts.now }
-    ensures { IfOk result (λ expr. expr ≡ spec.plain (here P.parts node.now) kind) }
+/// An `if`, which is told from other expressions, since it may follow `else`.
+pub fn of_if<F: Fields>(node: &F, refused: &mut bool) -> Option<AnyPart>
+    requires { F.can node.now }
+    ensures { Kept refused.old refused.new (result ≡ spec.of_if (F.here node.now)) }
+{
+    let expr = Expr {
+        id: node.id(),
+        range: node.range(),
+        kind: if_expr(node, refused),
+    };
+    let expr = node.boxed_expr(refused, expr)?;
+    Some(AnyPart::Expr(ExprPart::If(expr)))
+}
+
+/// A literal, which is told from other expressions, since it may stand in a pattern.
+pub fn of_literal<F: Fields>(node: &F, refused: &mut bool) -> Option<AnyPart>
+    ensures { Kept refused.old refused.new (result ≡ spec.of_literal (F.here node.now)) }
+{
+    match literal(node.alloc(), node.value()) {
+        Ok(Some(literal)) => Some(AnyPart::Expr(ExprPart::Literal(
+            node.id(),
+            node.range(),
+            literal,
+        ))),
+        Ok(None) => None,
+        Err(_) => {
+            *refused = true;
+            None
+        }
+    }
+}
+
+/// What steers the order of running.
+#[tactic(auto, unfolding(crate::specs::Exprs::flow))]
+pub fn flow<F: Fields>(node: &F, refused: &mut bool, kind: ExprNode) -> Option<AnyPart>
+    requires { F.can node.now }
+    ensures { Kept refused.old refused.new (result ≡ spec.flow (F.here node.now) kind) }
 {
     match kind {
-        Kind::CallExpr => Ok(Some(ExprKind::CallExpr {
-            expr: node.boxed::<Expr>("expr")?,
-            args: node.list_if_there::<Expr>("args")?,
-        })),
-        Kind::PathExpr => Ok(Some(ExprKind::PathExpr {
-            path: node.boxed::<Path>("path")?,
-        })),
-        Kind::ParenExpr => Ok(Some(ExprKind::ParenExpr {
-            expr: node.boxed::<Expr>("expr")?,
-        })),
-        Kind::Literal => Ok(literal(node.alloc, node.value)?.map(ExprKind::Literal)),
-        _ => Ok(None),
+        ExprNode::LoopExpr => {
+            let label = node.field::<One<Labels>>(refused, "label");
+            let body = node.field::<One<Blocks>>(refused, "body");
+            whole_expr(node, refused, ExprKind::LoopExpr { label, body })
+        }
+        ExprNode::ContinueExpr => {
+            let lifetime = node.field::<One<Lifetimes>>(refused, "lifetime");
+            whole_expr(node, refused, ExprKind::ContinueExpr { lifetime })
+        }
+        ExprNode::BreakExpr => {
+            let lifetime = node.field::<One<Lifetimes>>(refused, "lifetime");
+            let expr = node.field::<InBox<Exprs>>(refused, "expr");
+            whole_expr(node, refused, ExprKind::BreakExpr { lifetime, expr })
+        }
+        _ => None,
+    }
+}
+
+/// Calls, paths, parentheses and ranges.
+#[tactic(auto, unfolding(crate::specs::Exprs::plain))]
+pub fn plain<F: Fields>(node: &F, refused: &mut bool, kind: ExprNode) -> Option<AnyPart>
+    requires { F.can node.now }
+    ensures { Kept refused.old refused.new (result ≡ spec.plain (F.here node.now) kind) }
+{
+    match kind {
+        ExprNode::CallExpr => {
+            let expr = node.field::<InBox<Exprs>>(refused, "expr");
+            let args = node.field::<AllIfThere<Exprs>>(refused, "args");
+            whole_expr(node, refused, ExprKind::CallExpr { expr, args })
+        }
+        ExprNode::PathExpr => {
+            let path = node.field::<InBox<Paths>>(refused, "path");
+            whole_expr(node, refused, ExprKind::PathExpr { path })
+        }
+        ExprNode::ParenExpr => {
+            let expr = node.field::<InBox<Exprs>>(refused, "expr");
+            whole_expr(node, refused, ExprKind::ParenExpr { expr })
+        }
+        ExprNode::RangeExpr => {
+            let start = node.field::<InBox<Exprs>>(refused, "start");
+            let end = node.field::<InBox<Exprs>>(refused, "end");
+            let op = range_op(node.value());
+            whole_expr(node, refused, ExprKind::RangeExpr { op, start, end })
+        }
+        _ => None,
     }
 }

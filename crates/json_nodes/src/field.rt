@@ -5,8 +5,8 @@ ghost use Rattle.serde_json.specs.View.{view, items_view};
 ghost use Rattle.serde_json.specs.Find.{as_array, get};
 ghost use Rattle.json_nodes.specs.Fields.{number_or, range_in, range_of, flag_of, text_in};
 
-use hir_syntax::Text;
-use hir_syntax::node::TextRange;
+use hir_base::Text;
+use hir_base::node::TextRange;
 use json_faults::value::small;
 use serde_json::Value;
 use std::alloc::{AllocError, Global};

@@ -1,36 +1,43 @@
 //! Expressions that leave a body, or wait in it.
 
-ghost use Rattle.std.specs.Prelude.{◌≡◌, IfOk};
+ghost use Rattle.std.specs.Prelude.{◌≡◌};
+ghost use Rattle.json_nodes.specs.Kept.{Kept};
 ghost use Rattle.json_nodes.specs.Exprs as spec;
-ghost use Rattle.json_nodes.specs.Nodes.{here};
 
-use crate::node::{Node, ReadParts};
-use hir_syntax::ast::{Expr, ExprKind};
-use json_kinds::kind::Kind;
-use std::alloc::AllocError;
+use crate::code_parts::Exprs;
+use crate::exprs::whole_expr;
+use crate::fields::{Fields, InBox};
+use crate::part::AnyPart;
+use hir_syntax::ast::ExprKind;
+use json_kinds::kind::ExprNode;
 
 /// `return`, `become`, `yield`, `do yeet` and `.await`.
 #[tactic(auto, unfolding(crate::specs::Exprs::leaving))]
-pub fn leaving<P: ReadParts>(node: &Node<'_, P>, kind: Kind) -> Result<Option<ExprKind>, AllocError>
-    requires { P.can node.now.parts.now }
-    ensures { IfOk result (λ expr. expr ≡ spec.leaving (here P.parts node.now) kind) }
+pub fn leaving<F: Fields>(node: &F, refused: &mut bool, kind: ExprNode) -> Option<AnyPart>
+    requires { F.can node.now }
+    ensures { Kept refused.old refused.new (result ≡ spec.leaving (F.here node.now) kind) }
 {
     match kind {
-        Kind::ReturnExpr => Ok(Some(ExprKind::ReturnExpr {
-            expr: node.boxed::<Expr>("expr")?,
-        })),
-        Kind::BecomeExpr => Ok(Some(ExprKind::BecomeExpr {
-            expr: node.boxed::<Expr>("expr")?,
-        })),
-        Kind::YieldExpr => Ok(Some(ExprKind::YieldExpr {
-            expr: node.boxed::<Expr>("expr")?,
-        })),
-        Kind::YeetExpr => Ok(Some(ExprKind::YeetExpr {
-            expr: node.boxed::<Expr>("expr")?,
-        })),
-        Kind::AwaitExpr => Ok(Some(ExprKind::AwaitExpr {
-            expr: node.boxed::<Expr>("expr")?,
-        })),
-        _ => Ok(None),
+        ExprNode::ReturnExpr => {
+            let expr = node.field::<InBox<Exprs>>(refused, "expr");
+            whole_expr(node, refused, ExprKind::ReturnExpr { expr })
+        }
+        ExprNode::BecomeExpr => {
+            let expr = node.field::<InBox<Exprs>>(refused, "expr");
+            whole_expr(node, refused, ExprKind::BecomeExpr { expr })
+        }
+        ExprNode::YieldExpr => {
+            let expr = node.field::<InBox<Exprs>>(refused, "expr");
+            whole_expr(node, refused, ExprKind::YieldExpr { expr })
+        }
+        ExprNode::YeetExpr => {
+            let expr = node.field::<InBox<Exprs>>(refused, "expr");
+            whole_expr(node, refused, ExprKind::YeetExpr { expr })
+        }
+        ExprNode::AwaitExpr => {
+            let expr = node.field::<InBox<Exprs>>(refused, "expr");
+            whole_expr(node, refused, ExprKind::AwaitExpr { expr })
+        }
+        _ => None,
     }
 }

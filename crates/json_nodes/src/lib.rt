@@ -3,17 +3,26 @@
 
 pub mod args;
 pub mod bounds;
+pub mod branches;
+pub mod code_parts;
 pub mod exprs;
 pub mod field;
+pub mod fields;
 pub mod leaving;
 pub mod literal;
 pub mod members;
+pub mod name_parts;
 pub mod node;
 pub mod operations;
 pub mod operators;
 pub mod others;
+pub mod param_parts;
+pub mod params;
 pub mod part;
 pub mod partless;
+pub mod path_parts;
 pub mod paths;
+pub mod pats;
+pub mod type_parts;
 pub mod typed;
 pub mod types;

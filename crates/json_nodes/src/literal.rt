@@ -6,7 +6,7 @@ ghost use Rattle.json_nodes.specs.Fields.{text_in};
 ghost use Rattle.json_nodes.specs.Literals.{literal_kind_of, kind_in, literal_of};
 
 use crate::field;
-use hir_syntax::Text;
+use hir_base::Text;
 use hir_syntax::ast::{Literal, LiteralKind};
 use serde_json::Value;
 use std::alloc::{AllocError, Global};

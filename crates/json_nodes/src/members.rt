@@ -1,39 +1,62 @@
 //! Expressions that name a member, or list their elements.
 
-ghost use Rattle.std.specs.Prelude.{◌≡◌, IfOk};
+ghost use Rattle.std.specs.Prelude.{◌≡◌};
+ghost use Rattle.json_nodes.specs.Kept.{Kept};
 ghost use Rattle.json_nodes.specs.Exprs as spec;
-ghost use Rattle.json_nodes.specs.Nodes.{here};
 
+use crate::code_parts::Exprs;
+use crate::exprs::whole_expr;
 use crate::field::flag;
-use crate::node::{Node, ReadParts};
-use hir_syntax::ast::{Expr, ExprKind, GenericArgList, Name};
-use json_kinds::kind::Kind;
-use std::alloc::AllocError;
+use crate::fields::{All, AllIfThere, Fields, InBox, One};
+use crate::name_parts::Names;
+use crate::part::AnyPart;
+use crate::path_parts::GenericArgLists;
+use hir_syntax::ast::ExprKind;
+use json_kinds::kind::ExprNode;
 
 /// Methods and fields, tuples and arrays.
 #[tactic(auto, unfolding(crate::specs::Exprs::member))]
-pub fn member<P: ReadParts>(node: &Node<'_, P>, kind: Kind) -> Result<Option<ExprKind>, AllocError>
-    requires { P.can node.now.parts.now }
-    ensures { IfOk result (λ expr. expr ≡ spec.member (here P.parts node.now) kind) }
+pub fn member<F: Fields>(node: &F, refused: &mut bool, kind: ExprNode) -> Option<AnyPart>
+    requires { F.can node.now }
+    ensures { Kept refused.old refused.new (result ≡ spec.member (F.here node.now) kind) }
 {
     match kind {
-        Kind::MethodCallExpr => Ok(Some(ExprKind::MethodCallExpr {
-            receiver: node.boxed::<Expr>("receiver")?,
-            name: node.part::<Name>("name")?,
-            generics: node.part::<GenericArgList>("generics")?,
-            args: node.list_if_there::<Expr>("args")?,
-        })),
-        Kind::FieldExpr => Ok(Some(ExprKind::FieldExpr {
-            expr: node.boxed::<Expr>("expr")?,
-            name: node.part::<Name>("name")?,
-        })),
-        Kind::TupleExpr => Ok(Some(ExprKind::TupleExpr {
-            leading_comma: flag(node.value, "leading_comma"),
-            fields: node.list::<Expr>("fields")?,
-        })),
-        Kind::ArrayExpr => Ok(Some(ExprKind::ArrayExpr {
-            elems: node.list::<Expr>("elems")?,
-        })),
-        _ => Ok(None),
+        ExprNode::MethodCallExpr => {
+            let receiver = node.field::<InBox<Exprs>>(refused, "receiver");
+            let name = node.field::<One<Names>>(refused, "name");
+            let generics = node.field::<One<GenericArgLists>>(refused, "generics");
+            let args = node.field::<AllIfThere<Exprs>>(refused, "args");
+            whole_expr(
+                node,
+                refused,
+                ExprKind::MethodCallExpr {
+                    receiver,
+                    name,
+                    generics,
+                    args,
+                },
+            )
+        }
+        ExprNode::FieldExpr => {
+            let expr = node.field::<InBox<Exprs>>(refused, "expr");
+            let name = node.field::<One<Names>>(refused, "name");
+            whole_expr(node, refused, ExprKind::FieldExpr { expr, name })
+        }
+        ExprNode::TupleExpr => {
+            let fields = node.field::<All<Exprs>>(refused, "fields");
+            whole_expr(
+                node,
+                refused,
+                ExprKind::TupleExpr {
+                    leading_comma: flag(node.value(), "leading_comma"),
+                    fields,
+                },
+            )
+        }
+        ExprNode::ArrayExpr => {
+            let elems = node.field::<All<Exprs>>(refused, "elems");
+            whole_expr(node, refused, ExprKind::ArrayExpr { elems })
+        }
+        _ => None,
     }
 }

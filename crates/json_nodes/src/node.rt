@@ -1,36 +1,26 @@
 //! A node and its fields.
 
-ghost use Rattle.std.specs.Prelude.{◌≡◌, ℕ, IfOk, Option, option_map};
+ghost use Rattle.std.specs.Prelude.{◌≡◌, option_map};
 ghost use Rattle.serde_json.specs.View.{view, items_view};
+ghost use Rattle.json_nodes.specs.Kept.{Kept};
 ghost use Rattle.json_nodes.specs.Parts as spec;
 ghost use Rattle.json_nodes.specs.Parts.{all_read, or_null};
 ghost use Rattle.json_nodes.specs.Nodes.{here};
-ghost use Rattle.json_nodes.specs.declared.part.AnyPart.{AnyPart};
 
-use crate::part::{AnyPart, Part};
-use hir_syntax::node::{NodeId, TextRange};
-use hir_syntax::{Boxed, Seq, Text};
+use crate::field::own_text;
+use crate::name_parts::NamePart;
+use crate::part::{AnyPart, BoxedGroup, Group, ReadParts};
+use hir_base::node::{NodeId, TextRange};
+use hir_base::{Boxed, Seq, Text};
 use json_faults::value::small;
 use serde_json::Value;
-use std::alloc::{AllocError, Global};
-
-/// What reads the parts of a node.
-pub trait ReadParts {
-    /// It may be asked.
-    ghost can: { Self → Type 0 };
-    /// What stands at each node.
-    ghost parts: { Self → ℕ → Option AnyPart };
-
-    /// The part that stands at a node, if one does.
-    fn part_at(&self, alloc: Global, at: u32) -> Result<Option<AnyPart>, AllocError>
-        requires { can self.now }
-        ensures { IfOk result (λ part. part ≡ parts self.now at) };
-}
+use std::alloc::Global;
+use std::marker::PhantomData;
 
 /// A node of a list, with its number and range, and what reads its parts.
 ///
-/// A value that leads to no part of the group that is wanted says nothing, as if it were absent; memory alone may be
-/// refused.
+/// A value that leads to no part of the group that is wanted says nothing, as if it were absent. Where memory is refused a
+/// reading sets `refused` and goes on, and what it answers then means nothing.
 #[derive_where(Clone, Copy)]
 pub struct Node<'a, P> {
     pub alloc: Global,
@@ -40,129 +30,232 @@ pub struct Node<'a, P> {
     pub range: TextRange,
 }
 
+/// What a list may hold.
+pub trait Item {
+    ghost use Rattle.std.specs.Prelude.{Option};
+    ghost use Rattle.serde_json.specs.Data.{Data};
+    ghost use Rattle.json_nodes.specs.Parts.{Here};
+
+    type Held;
+
+    /// What a value says.
+    ghost said: { Here → Data → Option Self.Held };
+
+    fn read<P: ReadParts>(
+        node: &Node<'_, P>,
+        refused: &mut bool,
+        value: &Value,
+    ) -> Option<Self::Held>
+        requires { P.can node.now.parts.now }
+        ensures { Kept refused.old refused.new (result ≡ said (here P.parts node.now) (view value.now)) };
+}
+
+/// A part.
+pub struct Each<G> {
+    group: PhantomData<G>,
+}
+
+/// A part, or null.
+pub struct OrNull<G> {
+    group: PhantomData<G>,
+}
+
+impl<G: Group> Item for Each<G> {
+    type Held = G::Part;
+
+    ghost said = { λ h d. spec.child h G.as_group d };
+
+    fn read<P: ReadParts>(
+        node: &Node<'_, P>,
+        refused: &mut bool,
+        value: &Value,
+    ) -> Option<G::Part> {
+        node.child::<G>(refused, value)
+    }
+}
+
+impl<G: Group> Item for OrNull<G> {
+    type Held = Option<G::Part>;
+
+    ghost said = { λ h d. or_null (spec.child h G.as_group) d };
+
+    fn read<P: ReadParts>(
+        node: &Node<'_, P>,
+        refused: &mut bool,
+        value: &Value,
+    ) -> Option<Option<G::Part>> {
+        match value {
+            Value::Null => Some(None),
+            _ => match node.child::<G>(refused, value) {
+                Some(part) => Some(Some(part)),
+                None => None,
+            },
+        }
+    }
+}
+
 impl<P: ReadParts> Node<'_, P> {
-    /// What stands at the index in a value, or the text that it is.
-    fn part_in(&self, value: &Value) -> Result<Option<AnyPart>, AllocError>
+    /// A text as a part.
+    fn text_part(&self, refused: &mut bool, text: &str) -> Option<AnyPart>
+        ensures { Kept refused.old refused.new (result ≡ spec.text_part (here P.parts self.now) text.now) }
+    {
+        match Text::new(self.alloc, text) {
+            Ok(text) => Some(AnyPart::Name(NamePart::Text(self.id, self.range, text))),
+            Err(_) => {
+                *refused = true;
+                None
+            }
+        }
+    }
+
+    /// What stands at an index.
+    fn part_at(&self, refused: &mut bool, at: u32) -> Option<AnyPart>
         requires { P.can self.now.parts.now }
-        ensures { IfOk result (λ part. part ≡ spec.any_part (here P.parts self.now) (view value.now)) }
+        ensures { Kept refused.old refused.new (result ≡ (here P.parts self.now).part at) }
+    {
+        match self.parts.part_at(self.alloc, at) {
+            Ok(part) => part,
+            Err(_) => {
+                *refused = true;
+                None
+            }
+        }
+    }
+
+    /// What stands at the index in a value, or the text that it is.
+    fn part_in(&self, refused: &mut bool, value: &Value) -> Option<AnyPart>
+        requires { P.can self.now.parts.now }
+        ensures { Kept refused.old refused.new (result ≡ spec.any_part (here P.parts self.now) (view value.now)) }
     {
         if let Some(text) = value.as_str() {
-            let text = Text::new(self.alloc, text)?;
-            return Ok(Some(AnyPart::Text(self.id, self.range, text)));
+            return self.text_part(refused, text);
         }
         match small(value) {
-            Some(at) => self.parts.part_at(self.alloc, at),
-            None => Ok(None),
+            Some(at) => self.part_at(refused, at),
+            None => None,
         }
     }
 
-    /// The part that a value is or names.
-    fn child<T: Part>(&self, value: &Value) -> Result<Option<T>, AllocError>
-        requires { P.can self.now.parts.now }
-        ensures { IfOk result (λ part. part ≡ spec.child (here P.parts self.now) T.as_group (view value.now)) }
+    /// A part in a group, if it serves there.
+    pub fn served<G: Group>(&self, part: AnyPart) -> Option<G::Part>
+        ensures { result ≡ G.as_group part }
     {
-        match self.part_in(value)? {
-            Some(part) => T::from_part(self.alloc, part),
-            None => Ok(None),
-        }
-    }
-
-    /// The part in a field.
-    pub fn part<T: Part>(&self, field: &str) -> Result<Option<T>, AllocError>
-        requires { P.can self.now.parts.now }
-        ensures { IfOk result (λ part. part ≡ spec.part_in (here P.parts self.now) T.as_group field.now) }
-    {
-        match self.value.get(field) {
-            Some(value) => self.child(value),
-            None => Ok(None),
+        match G::from_part(part) {
+            Ok(part) => Some(part),
+            Err(part) => {
+                self.parts.let_go(part);
+                None
+            }
         }
     }
 
     /// The same in a box.
-    pub fn boxed<T: Part>(&self, field: &str) -> Result<Option<Boxed<T>>, AllocError>
-        requires { P.can self.now.parts.now }
-        ensures { IfOk result (λ part. part ≡ spec.part_in (here P.parts self.now) T.as_group field.now) }
+    pub fn served_in_box<G: BoxedGroup>(
+        &self,
+        refused: &mut bool,
+        part: AnyPart,
+    ) -> Option<Boxed<G::Part>>
+        ensures { Kept refused.old refused.new (result ≡ G.as_group part) }
     {
-        match self.part::<T>(field)? {
-            Some(part) => Ok(Some(Boxed::new(self.alloc, part)?)),
-            None => Ok(None),
+        match self.served::<G>(part) {
+            Some(part) => G::in_box(self.parts, self.alloc, refused, part),
+            None => None,
+        }
+    }
+
+    /// The part that a value is or names.
+    pub fn child<G: Group>(&self, refused: &mut bool, value: &Value) -> Option<G::Part>
+        requires { P.can self.now.parts.now }
+        ensures { Kept refused.old refused.new (result ≡ spec.child (here P.parts self.now) G.as_group (view value.now)) }
+    {
+        match self.part_in(refused, value) {
+            Some(part) => self.served::<G>(part),
+            None => None,
+        }
+    }
+
+    /// The part in a field.
+    pub fn part<G: Group>(&self, refused: &mut bool, field: &str) -> Option<G::Part>
+        requires { P.can self.now.parts.now }
+        ensures { Kept refused.old refused.new (result ≡ spec.part_in (here P.parts self.now) G.as_group field.now) }
+    {
+        match self.value.get(field) {
+            Some(value) => self.child::<G>(refused, value),
+            None => None,
+        }
+    }
+
+    /// The same in a box.
+    pub fn boxed<G: BoxedGroup>(&self, refused: &mut bool, field: &str) -> Option<Boxed<G::Part>>
+        requires { P.can self.now.parts.now }
+        ensures { Kept refused.old refused.new (result ≡ spec.part_in (here P.parts self.now) G.as_group field.now) }
+    {
+        match self.part::<G>(refused, field) {
+            Some(part) => G::in_box(self.parts, self.alloc, refused, part),
+            None => None,
         }
     }
 
     /// The values in a field, if it is a list.
-    fn items(&self, field: &str) -> Option<&[Value]>
+    fn values(&self, field: &str) -> Option<&[Value]>
         ensures { option_map (λ items. items_view items.now) result ≡ spec.items_in (here P.parts self.entry.now) field.now }
     {
         Some(self.value.get(field)?.as_array()?.as_slice())
     }
 
-    /// The parts that values are or name.
-    fn children<T: Part>(&self, items: &[Value]) -> Result<Seq<T>, AllocError>
+    /// What values say.
+    fn items<I: Item>(&self, refused: &mut bool, values: &[Value]) -> Seq<I::Held>
         requires { P.can self.now.parts.now }
-        ensures { IfOk result (λ parts. parts ≡ all_read (spec.child (here P.parts self.now) T.as_group) (items_view items.now)) }
+        ensures { Kept refused.old refused.new (result ≡ all_read (I.said (here P.parts self.now)) (items_view values.now)) }
     {
-        let mut parts = Seq::new(self.alloc);
-        for value in items {
-            if let Some(part) = self.child::<T>(value)? {
-                parts.push(part)?;
+        let mut items = Vec::new(self.alloc);
+        for value in values {
+            match items.reserve(1) {
+                Ok(()) => {
+                    if let Some(item) = I::read(self, refused, value) {
+                        items.push_reserved(item);
+                    }
+                }
+                Err(_) => *refused = true,
             }
         }
-        Ok(parts)
+        Seq::from_vec(items)
     }
 
-    /// The parts in a field, none where it is absent.
-    pub fn list<T: Part>(&self, field: &str) -> Result<Seq<T>, AllocError>
+    /// What the list in a field says, nothing where it is absent.
+    pub fn list<I: Item>(&self, refused: &mut bool, field: &str) -> Seq<I::Held>
         requires { P.can self.now.parts.now }
-        ensures { IfOk result (λ parts. parts ≡ spec.list_in (here P.parts self.now) T.as_group field.now) }
+        ensures { Kept refused.old refused.new
+            (result ≡ spec.listed (I.said (here P.parts self.now)) (spec.items_in (here P.parts self.now) field.now)) }
     {
-        match self.items(field) {
-            Some(items) => self.children(items),
-            None => Ok(Seq::new(self.alloc)),
+        match self.values(field) {
+            Some(values) => self.items::<I>(refused, values),
+            None => Seq::new(self.alloc),
         }
     }
 
-    /// The parts in a field, which may be absent.
-    pub fn list_if_there<T: Part>(&self, field: &str) -> Result<Option<Seq<T>>, AllocError>
+    /// What the list in a field says, if it is there.
+    pub fn list_if_there<I: Item>(&self, refused: &mut bool, field: &str) -> Option<Seq<I::Held>>
         requires { P.can self.now.parts.now }
-        ensures { IfOk result (λ parts. parts ≡ spec.list_if_there (here P.parts self.now) T.as_group field.now) }
+        ensures { Kept refused.old refused.new
+            (result ≡ option_map (all_read (I.said (here P.parts self.now))) (spec.items_in (here P.parts self.now) field.now)) }
     {
-        match self.items(field) {
-            Some(items) => Ok(Some(self.children(items)?)),
-            None => Ok(None),
+        match self.values(field) {
+            Some(values) => Some(self.items::<I>(refused, values)),
+            None => None,
         }
     }
 
-    fn child_or_null<T: Part>(&self, value: &Value) -> Result<Option<Option<T>>, AllocError>
-        requires { P.can self.now.parts.now }
-        ensures { IfOk result (λ part. part ≡ or_null (spec.child (here P.parts self.now) T.as_group) (view value.now)) }
+    /// A copy of the text in a field, if it is there.
+    pub fn text(&self, refused: &mut bool, field: &str) -> Option<Text>
+        ensures { Kept refused.old refused.new (result ≡ spec.text_at (here P.parts self.now) field.now) }
     {
-        match value {
-            Value::Null => Ok(Some(None)),
-            _ => Ok(self.child::<T>(value)?.map(Some)),
-        }
-    }
-
-    fn children_or_nulls<T: Part>(&self, items: &[Value]) -> Result<Seq<Option<T>>, AllocError>
-        requires { P.can self.now.parts.now }
-        ensures { IfOk result (λ parts. parts ≡ all_read (or_null (spec.child (here P.parts self.now) T.as_group)) (items_view items.now)) }
-    {
-        let mut parts = Seq::new(self.alloc);
-        for value in items {
-            if let Some(part) = self.child_or_null::<T>(value)? {
-                parts.push(part)?;
+        match own_text(self.alloc, self.value, field) {
+            Ok(text) => text,
+            Err(_) => {
+                *refused = true;
+                None
             }
-        }
-        Ok(parts)
-    }
-
-    /// The parts in a field, each of which may be null; none where the field is absent.
-    pub fn list_with_nulls<T: Part>(&self, field: &str) -> Result<Seq<Option<T>>, AllocError>
-        requires { P.can self.now.parts.now }
-        ensures { IfOk result (λ parts. parts ≡ spec.list_with_nulls_in (here P.parts self.now) T.as_group field.now) }
-    {
-        match self.items(field) {
-            Some(items) => self.children_or_nulls(items),
-            None => Ok(Seq::new(self.alloc)),
         }
     }
 }

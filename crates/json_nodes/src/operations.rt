@@ -1,44 +1,53 @@
 //! Expressions that are made of operands.
 
-ghost use Rattle.std.specs.Prelude.{◌≡◌, IfOk};
+ghost use Rattle.std.specs.Prelude.{◌≡◌};
+ghost use Rattle.json_nodes.specs.Kept.{Kept};
 ghost use Rattle.json_nodes.specs.Exprs as spec;
-ghost use Rattle.json_nodes.specs.Nodes.{here};
 
+use crate::code_parts::Exprs;
+use crate::exprs::whole_expr;
 use crate::field::flag;
-use crate::node::{Node, ReadParts};
+use crate::fields::{Fields, InBox};
 use crate::operators::{binary_op, unary_op};
-use hir_syntax::ast::{Expr, ExprKind};
-use json_kinds::kind::Kind;
-use std::alloc::AllocError;
+use crate::part::AnyPart;
+use hir_syntax::ast::ExprKind;
+use json_kinds::kind::ExprNode;
 
 /// Operators, references and indexes.
 #[tactic(auto, unfolding(crate::specs::Exprs::operation))]
-pub fn operation<P: ReadParts>(
-    node: &Node<'_, P>,
-    kind: Kind,
-) -> Result<Option<ExprKind>, AllocError>
-    requires { P.can node.now.parts.now }
-    ensures { IfOk result (λ expr. expr ≡ spec.operation (here P.parts node.now) kind) }
+pub fn operation<F: Fields>(node: &F, refused: &mut bool, kind: ExprNode) -> Option<AnyPart>
+    requires { F.can node.now }
+    ensures { Kept refused.old refused.new (result ≡ spec.operation (F.here node.now) kind) }
 {
     match kind {
-        Kind::PrefixExpr => Ok(Some(ExprKind::PrefixExpr {
-            op: unary_op(node.value),
-            expr: node.boxed::<Expr>("expr")?,
-        })),
-        Kind::BinExpr => Ok(Some(ExprKind::BinExpr {
-            op: binary_op(node.value),
-            lhs: node.boxed::<Expr>("lhs")?,
-            rhs: node.boxed::<Expr>("rhs")?,
-        })),
-        Kind::IndexExpr => Ok(Some(ExprKind::IndexExpr {
-            base: node.boxed::<Expr>("base")?,
-            index: node.boxed::<Expr>("index")?,
-        })),
-        Kind::RefExpr => Ok(Some(ExprKind::RefExpr {
-            raw: flag(node.value, "raw"),
-            mut_: flag(node.value, "mut"),
-            expr: node.boxed::<Expr>("expr")?,
-        })),
-        _ => Ok(None),
+        ExprNode::PrefixExpr => {
+            let expr = node.field::<InBox<Exprs>>(refused, "expr");
+            let op = unary_op(node.value());
+            whole_expr(node, refused, ExprKind::PrefixExpr { op, expr })
+        }
+        ExprNode::BinExpr => {
+            let lhs = node.field::<InBox<Exprs>>(refused, "lhs");
+            let rhs = node.field::<InBox<Exprs>>(refused, "rhs");
+            let op = binary_op(node.value());
+            whole_expr(node, refused, ExprKind::BinExpr { op, lhs, rhs })
+        }
+        ExprNode::IndexExpr => {
+            let base = node.field::<InBox<Exprs>>(refused, "base");
+            let index = node.field::<InBox<Exprs>>(refused, "index");
+            whole_expr(node, refused, ExprKind::IndexExpr { base, index })
+        }
+        ExprNode::RefExpr => {
+            let expr = node.field::<InBox<Exprs>>(refused, "expr");
+            whole_expr(
+                node,
+                refused,
+                ExprKind::RefExpr {
+                    raw: flag(node.value(), "raw"),
+                    mut_: flag(node.value(), "mut"),
+                    expr,
+                },
+            )
+        }
+        _ => None,
     }
 }

@@ -7,7 +7,7 @@ ghost use Rattle.json_nodes.specs.Operators.{logic_word, logic_ops, cmp_word, cm
 ghost use Rattle.json_kinds.specs.ByWord.{with_word};
 
 use crate::field::text;
-use hir_syntax::ast::{ArithOp, BinaryOp, CmpOp, LogicOp, Ordering, UnaryOp};
+use hir_syntax::ast::{ArithOp, BinaryOp, CmpOp, LogicOp, Ordering, RangeOp, UnaryOp};
 use serde_json::Value;
 
 fn unary_op_with(word: &str) -> Option<UnaryOp>
@@ -100,9 +100,24 @@ fn binary_op_with(word: &str) -> Option<BinaryOp>
     if let Some(op) = arith_op(word) {
         return Some(BinaryOp::ArithOp(op));
     }
-    Some(BinaryOp::Assignment {
-        op: assigned_op(word)?,
-    })
+    if let Some(op) = assigned_op(word) {
+        return Some(BinaryOp::Assignment { op });
+    }
+    if word == "=" {
+        Some(BinaryOp::Assign)
+    } else {
+        None
+    }
+}
+
+fn range_op_with(word: &str) -> Option<RangeOp>
+    ensures { result ≡ spec.range_op_of word.now }
+{
+    match word {
+        ".." => Some(RangeOp::Exclusive),
+        "..=" => Some(RangeOp::Inclusive),
+        _ => None,
+    }
 }
 
 /// The operator of a prefix expression.
@@ -117,4 +132,11 @@ pub fn binary_op(node: &Value) -> Option<BinaryOp>
     ensures { result ≡ spec.binary_op_in (view node.now) }
 {
     binary_op_with(text(node, "op")?)
+}
+
+/// The operator of a range.
+pub fn range_op(node: &Value) -> Option<RangeOp>
+    ensures { result ≡ spec.range_op_in (view node.now) }
+{
+    range_op_with(text(node, "op")?)
 }

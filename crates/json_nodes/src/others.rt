@@ -1,36 +1,60 @@
 //! Blocks, statements, labels, names and functions.
 
-ghost use Rattle.std.specs.Prelude.{◌≡◌, IfOk, codes, option_and_then};
+ghost use Rattle.std.specs.Prelude.{◌≡◌, codes, option_and_then};
 ghost use Rattle.serde_json.specs.View.{view};
+ghost use Rattle.json_nodes.specs.Kept.{Kept};
 ghost use Rattle.json_nodes.specs.Fields.{text_in};
 ghost use Rattle.json_nodes.specs.Others as spec;
-ghost use Rattle.json_nodes.specs.Nodes.{here};
 
-use crate::field::{flag, own_text, text};
-use crate::node::{Node, ReadParts};
+use crate::code_parts::{CodePart, ExprPart, Exprs, LetElses, Stmts};
+use crate::field::{flag, text};
+use crate::fields::{All, Fields, InBox, One, Written};
+use crate::name_parts::{Labels, Lifetimes, NamePart};
+use crate::param_parts::{ParamLists, Pats};
 use crate::part::AnyPart;
-use hir_syntax::Boxed;
-use hir_syntax::ast::{BlockExpr, BlockModifier, Expr, Fn, Label, Lifetime, Name, Stmt, StmtKind};
-use json_kinds::kind::Kind;
+use crate::type_parts::Types;
+use hir_syntax::ast::{BlockExpr, BlockModifier, Fn, Label, Lifetime, Name, Stmt, StmtKind};
+use json_kinds::kind::{PartNode, StmtNode};
 use serde_json::Value;
-use std::alloc::AllocError;
 
 #[tactic(auto, unfolding(crate::specs::Others::statement))]
-pub fn statement<P: ReadParts>(
-    node: &Node<'_, P>,
-    kind: Kind,
-) -> Result<Option<StmtKind>, AllocError>
-    requires { P.can node.now.parts.now }
-    ensures { IfOk result (λ stmt. stmt ≡ spec.statement (here P.parts node.now) kind) }
+fn statement<F: Fields>(node: &F, refused: &mut bool, kind: StmtNode) -> StmtKind
+    requires { F.can node.now }
+    ensures { Kept refused.old refused.new (result ≡ spec.statement (F.here node.now) kind) }
 {
     match kind {
-        Kind::ExprStmt => Ok(Some(StmtKind::ExprStmt {
-            expr: node.boxed::<Expr>("expr")?,
-            semi: flag(node.value, "semi"),
-        })),
-        Kind::Item => Ok(Some(StmtKind::Item)),
-        _ => Ok(None),
+        StmtNode::LetStmt => {
+            let pat = node.field::<InBox<Pats>>(refused, "pat");
+            let ty = node.field::<InBox<Types>>(refused, "ty");
+            let init = node.field::<InBox<Exprs>>(refused, "init");
+            let else_ = node.field::<One<LetElses>>(refused, "else");
+            StmtKind::LetStmt {
+                pat,
+                ty,
+                init,
+                else_,
+            }
+        }
+        StmtNode::ExprStmt => {
+            let expr = node.field::<InBox<Exprs>>(refused, "expr");
+            let semi = flag(node.value(), "semi");
+            StmtKind::ExprStmt { expr, semi }
+        }
+        StmtNode::Item => StmtKind::Item,
     }
+}
+
+/// A statement.
+pub fn of_stmt<F: Fields>(node: &F, refused: &mut bool, kind: StmtNode) -> Option<AnyPart>
+    requires { F.can node.now }
+    ensures { Kept refused.old refused.new (result ≡ spec.of_stmt (F.here node.now) kind) }
+{
+    let kind = statement(node, refused, kind);
+    Some(AnyPart::Code(CodePart::Stmt(Stmt {
+        id: node.id(),
+        range: node.range(),
+        kind,
+    })))
 }
 
 fn modifier(node: &Value) -> Option<BlockModifier>
@@ -42,73 +66,93 @@ fn modifier(node: &Value) -> Option<BlockModifier>
     }
 }
 
-fn lifetime<P: ReadParts>(node: &Node<'_, P>) -> Result<Option<AnyPart>, AllocError>
-    ensures { IfOk result (λ part. part ≡ spec.lifetime (here P.parts node.now)) }
+/// A block.
+#[tactic(auto, unfolding(crate::specs::Others::of_block))]
+pub fn of_block<F: Fields>(node: &F, refused: &mut bool) -> Option<AnyPart>
+    requires { F.can node.now }
+    ensures { Kept refused.old refused.new (result ≡ spec.of_block (F.here node.now)) }
 {
-    match own_text(node.alloc, node.value, "t")? {
-        Some(t) => Ok(Some(AnyPart::Lifetime(Lifetime {
-            id: node.id,
-            range: node.range,
+    let label = node.field::<One<Labels>>(refused, "label");
+    let stmts = node.field::<All<Stmts>>(refused, "stmts");
+    let tail = node.field::<InBox<Exprs>>(refused, "tail");
+    let block = BlockExpr {
+        id: node.id(),
+        range: node.range(),
+        mod_: modifier(node.value()),
+        label,
+        stmts,
+        tail,
+    };
+    let block = node.boxed_block(refused, block)?;
+    Some(AnyPart::Expr(ExprPart::Block(block)))
+}
+
+#[tactic(auto, unfolding(crate::specs::Others::label))]
+fn label<F: Fields>(node: &F, refused: &mut bool) -> Option<AnyPart>
+    requires { F.can node.now }
+    ensures { Kept refused.old refused.new (result ≡ spec.label (F.here node.now)) }
+{
+    let lifetime = node.field::<One<Lifetimes>>(refused, "lifetime");
+    Some(AnyPart::Name(NamePart::Label(Label {
+        id: node.id(),
+        range: node.range(),
+        lifetime,
+    })))
+}
+
+fn lifetime<F: Fields>(node: &F, refused: &mut bool) -> Option<AnyPart>
+    requires { F.can node.now }
+    ensures { Kept refused.old refused.new (result ≡ spec.lifetime (F.here node.now)) }
+{
+    match node.field::<Written>(refused, "t") {
+        Some(t) => Some(AnyPart::Name(NamePart::Lifetime(Lifetime {
+            id: node.id(),
+            range: node.range(),
             t,
         }))),
-        None => Ok(None),
+        None => None,
     }
 }
 
-fn name<P: ReadParts>(node: &Node<'_, P>) -> Result<Option<AnyPart>, AllocError>
-    ensures { IfOk result (λ part. part ≡ spec.name (here P.parts node.now)) }
+fn name<F: Fields>(node: &F, refused: &mut bool) -> Option<AnyPart>
+    requires { F.can node.now }
+    ensures { Kept refused.old refused.new (result ≡ spec.name (F.here node.now)) }
 {
-    match own_text(node.alloc, node.value, "t")? {
-        Some(t) => Ok(Some(AnyPart::Name(Name {
-            id: node.id,
-            range: node.range,
+    match node.field::<Written>(refused, "t") {
+        Some(t) => Some(AnyPart::Name(NamePart::Name(Name {
+            id: node.id(),
+            range: node.range(),
             t,
         }))),
-        None => Ok(None),
+        None => None,
     }
 }
 
-/// Labels, lifetimes, names and blocks.
-#[tactic(auto, unfolding(crate::specs::Others::other))]
-pub fn other<P: ReadParts>(node: &Node<'_, P>, kind: Kind) -> Result<Option<AnyPart>, AllocError>
-    requires { P.can node.now.parts.now }
-    ensures { IfOk result (λ part. part ≡ spec.other (here P.parts node.now) kind) }
+/// Labels, lifetimes and names.
+pub fn other<F: Fields>(node: &F, refused: &mut bool, kind: PartNode) -> Option<AnyPart>
+    requires { F.can node.now }
+    ensures { Kept refused.old refused.new (result ≡ spec.other (F.here node.now) kind) }
 {
     match kind {
-        Kind::BlockExpr => {
-            let block = BlockExpr {
-                id: node.id,
-                range: node.range,
-                mod_: modifier(node.value),
-                label: node.part::<Label>("label")?,
-                stmts: node.list::<Stmt>("stmts")?,
-                tail: node.boxed::<Expr>("tail")?,
-            };
-            Ok(Some(AnyPart::Block(Boxed::new(node.alloc, block)?)))
-        }
-        Kind::Label => {
-            let label = Label {
-                id: node.id,
-                range: node.range,
-                lifetime: node.part::<Lifetime>("lifetime")?,
-            };
-            Ok(Some(AnyPart::Label(Boxed::new(node.alloc, label)?)))
-        }
-        Kind::Lifetime => lifetime(node),
-        Kind::Name => name(node),
-        _ => Ok(None),
+        PartNode::Label => label(node, refused),
+        PartNode::Lifetime => lifetime(node, refused),
+        PartNode::Name => name(node, refused),
+        _ => None,
     }
 }
 
-/// A function, of which the body is read alone.
+/// A function, of which parameters and body are read alone.
 #[tactic(auto, unfolding(crate::specs::Others::function))]
-pub fn function<P: ReadParts>(node: &Node<'_, P>) -> Result<Fn, AllocError>
-    requires { P.can node.now.parts.now }
-    ensures { IfOk result (λ tree. tree ≡ spec.function (here P.parts node.now)) }
+pub fn function<F: Fields>(node: &F, refused: &mut bool) -> Fn
+    requires { F.can node.now }
+    ensures { Kept refused.old refused.new (result ≡ spec.function (F.here node.now)) }
 {
-    Ok(Fn {
-        id: node.id,
-        range: node.range,
-        body: node.part::<Expr>("body")?,
-    })
+    let params = node.field::<One<ParamLists>>(refused, "params");
+    let body = node.field::<One<Exprs>>(refused, "body");
+    Fn {
+        id: node.id(),
+        range: node.range(),
+        params,
+        body,
+    }
 }

@@ -3,16 +3,20 @@
 ghost use Rattle.std.specs.Prelude.{◌≡◌, codes};
 ghost use Rattle.serde_json.specs.View.{view};
 ghost use Rattle.serde_json.specs.Find.{get};
+ghost use Rattle.json_nodes.specs.Kept.{Kept};
 ghost use Rattle.json_nodes.specs.Exprs as spec;
 
+use crate::exprs::whole_expr;
+use crate::fields::Fields;
+use crate::part::AnyPart;
+use hir_base::node::PredId;
 use hir_syntax::ast::ExprKind;
-use hir_syntax::node::PredId;
 use json_faults::value::small;
-use json_kinds::kind::Kind;
+use json_kinds::kind::ExprNode;
 use serde_json::Value;
 
 /// The predicate that a node names.
-fn pred(node: &Value) -> Option<PredId>
+pub fn pred(node: &Value) -> Option<PredId>
     ensures { result ≡ spec.pred_in (get (codes "pred") (view node.now)) }
 {
     Some(PredId(small(node.get("pred")?)?))
@@ -20,15 +24,21 @@ fn pred(node: &Value) -> Option<PredId>
 
 /// Predicates of conditions, `_`, and what the compiler's own macros write.
 #[tactic(auto, unfolding(crate::specs::Exprs::partless))]
-pub fn partless(node: &Value, kind: Kind) -> Option<ExprKind>
-    ensures { result ≡ spec.partless (view node.now) kind }
+pub fn partless<F: Fields>(node: &F, refused: &mut bool, kind: ExprNode) -> Option<AnyPart>
+    ensures { Kept refused.old refused.new (result ≡ spec.partless (F.here node.now) kind) }
 {
     match kind {
-        Kind::CfgPredExpr => Some(ExprKind::CfgPredExpr { pred: pred(node) }),
-        Kind::UnderscoreExpr => Some(ExprKind::UnderscoreExpr),
-        Kind::IncludeBytesExpr => Some(ExprKind::IncludeBytesExpr),
-        Kind::AsmExpr => Some(ExprKind::AsmExpr),
-        Kind::FormatArgsExpr => Some(ExprKind::FormatArgsExpr),
+        ExprNode::CfgPredExpr => whole_expr(
+            node,
+            refused,
+            ExprKind::CfgPredExpr {
+                pred: pred(node.value()),
+            },
+        ),
+        ExprNode::UnderscoreExpr => whole_expr(node, refused, ExprKind::UnderscoreExpr),
+        ExprNode::IncludeBytesExpr => whole_expr(node, refused, ExprKind::IncludeBytesExpr),
+        ExprNode::AsmExpr => whole_expr(node, refused, ExprKind::AsmExpr),
+        ExprNode::FormatArgsExpr => whole_expr(node, refused, ExprKind::FormatArgsExpr),
         _ => None,
     }
 }

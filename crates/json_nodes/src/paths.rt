@@ -1,21 +1,20 @@
 //! Paths and their segments.
 
-ghost use Rattle.std.specs.Prelude.{◌≡◌, IfOk, codes, option_and_then};
+ghost use Rattle.std.specs.Prelude.{◌≡◌, codes, option_and_then};
 ghost use Rattle.serde_json.specs.View.{view};
+ghost use Rattle.json_nodes.specs.Kept.{Kept};
 ghost use Rattle.json_nodes.specs.Fields.{text_in};
-ghost use Rattle.json_nodes.specs.Nodes.{here};
 ghost use Rattle.json_nodes.specs.Paths as spec;
 
 use crate::field::{flag, text};
-use crate::node::{Node, ReadParts};
+use crate::fields::{AllOrNulls, Fields, InBox, One};
+use crate::name_parts::Names;
 use crate::part::AnyPart;
-use hir_syntax::Boxed;
-use hir_syntax::ast::{
-    GenericArgList, Name, ParenArgs, Path, PathSegment, PathType, RetType, SegmentKind, Type_,
-};
-use json_kinds::kind::Kind;
+use crate::path_parts::{GenericArgLists, ParenArgLists, PathPart, Paths, Segments};
+use crate::type_parts::{PathTypes, Rets, Types};
+use hir_syntax::ast::{Path, PathSegment, SegmentKind};
+use json_kinds::kind::PathNode;
 use serde_json::Value;
-use std::alloc::AllocError;
 
 /// The kind with that word.
 fn segment_kind_of(word: &str) -> Option<SegmentKind>
@@ -39,54 +38,55 @@ fn segment_kind(node: &Value) -> Option<SegmentKind>
 }
 
 #[tactic(auto, unfolding(crate::specs::Paths::segment))]
-fn segment<P: ReadParts>(node: &Node<'_, P>) -> Result<PathSegment, AllocError>
-    requires { P.can node.now.parts.now }
-    ensures { IfOk result (λ segment. segment ≡ spec.segment (here P.parts node.now)) }
+fn segment<F: Fields>(node: &F, refused: &mut bool) -> PathSegment
+    requires { F.can node.now }
+    ensures { Kept refused.old refused.new (result ≡ spec.segment (F.here node.now)) }
 {
-    let mut segment = PathSegment {
-        id: node.id,
-        range: node.range,
-        seg: segment_kind(node.value),
-        name: None,
-        generics: None,
-        parens: None,
-        ret: None,
-        rtn: flag(node.value, "rtn"),
-        ty: None,
-        trait_: None,
-    };
-    segment.name = node.part::<Name>("name")?;
-    segment.generics = node.part::<GenericArgList>("generics")?;
-    segment.parens = node.part::<ParenArgs>("parens")?;
-    segment.ret = node.part::<RetType>("ret")?;
-    segment.ty = node.boxed::<Type_>("ty")?;
-    segment.trait_ = node.part::<PathType>("trait")?;
-    Ok(segment)
+    let name = node.field::<One<Names>>(refused, "name");
+    let generics = node.field::<One<GenericArgLists>>(refused, "generics");
+    let parens = node.field::<One<ParenArgLists>>(refused, "parens");
+    let ret = node.field::<One<Rets>>(refused, "ret");
+    let ty = node.field::<InBox<Types>>(refused, "ty");
+    let trait_ = node.field::<One<PathTypes>>(refused, "trait");
+    PathSegment {
+        id: node.id(),
+        range: node.range(),
+        seg: segment_kind(node.value()),
+        name,
+        generics,
+        parens,
+        ret,
+        rtn: flag(node.value(), "rtn"),
+        ty,
+        trait_,
+    }
 }
 
 /// A path.
 #[tactic(auto, unfolding(crate::specs::Paths::path))]
-pub fn path<P: ReadParts>(node: &Node<'_, P>) -> Result<Path, AllocError>
-    requires { P.can node.now.parts.now }
-    ensures { IfOk result (λ path. path ≡ spec.path (here P.parts node.now)) }
+pub fn path<F: Fields>(node: &F, refused: &mut bool) -> Path
+    requires { F.can node.now }
+    ensures { Kept refused.old refused.new (result ≡ spec.path (F.here node.now)) }
 {
-    Ok(Path {
-        id: node.id,
-        range: node.range,
-        leading: flag(node.value, "leading"),
-        use_: node.boxed::<Path>("use")?,
-        segs: node.list_with_nulls::<PathSegment>("segs")?,
-    })
+    let use_ = node.field::<InBox<Paths>>(refused, "use");
+    let segs = node.field::<AllOrNulls<Segments>>(refused, "segs");
+    Path {
+        id: node.id(),
+        range: node.range(),
+        leading: flag(node.value(), "leading"),
+        use_,
+        segs,
+    }
 }
 
 /// A path or a segment.
-pub fn of_path<P: ReadParts>(node: &Node<'_, P>, kind: Kind) -> Result<Option<AnyPart>, AllocError>
-    requires { P.can node.now.parts.now }
-    ensures { IfOk result (λ part. part ≡ spec.of_path (here P.parts node.now) kind) }
+pub fn of_path<F: Fields>(node: &F, refused: &mut bool, kind: PathNode) -> Option<AnyPart>
+    requires { F.can node.now }
+    ensures { Kept refused.old refused.new (result ≡ spec.of_path (F.here node.now) kind) }
 {
     match kind {
-        Kind::Path => Ok(Some(AnyPart::Path(Boxed::new(node.alloc, path(node)?)?))),
-        Kind::PathSegment => Ok(Some(AnyPart::Segment(Boxed::new(node.alloc, segment(node)?)?))),
-        _ => Ok(None),
+        PathNode::Path => Some(AnyPart::Path(PathPart::Path(path(node, refused)))),
+        PathNode::PathSegment => Some(AnyPart::Path(PathPart::Segment(segment(node, refused)))),
+        _ => None,
     }
 }

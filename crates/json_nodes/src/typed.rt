@@ -1,69 +1,85 @@
 //! Expressions with types or paths, and the parts of a record.
 
-ghost use Rattle.std.specs.Prelude.{◌≡◌, IfOk};
-ghost use Rattle.json_nodes.specs.Nodes.{here};
+ghost use Rattle.std.specs.Prelude.{◌≡◌};
+ghost use Rattle.json_nodes.specs.Kept.{Kept};
 ghost use Rattle.json_nodes.specs.Typed as spec;
 
+use crate::code_parts::{CodePart, Exprs, RecordFields, RecordLists};
+use crate::exprs::whole_expr;
 use crate::field::flag;
-use crate::node::{Node, ReadParts};
+use crate::fields::{All, Fields, InBox, One};
+use crate::name_parts::Names;
+use crate::param_parts::{PatPart, Pats};
 use crate::part::AnyPart;
-use hir_syntax::Boxed;
-use hir_syntax::ast::{Expr, ExprKind, Name, Path, RecordExprField, RecordExprFieldList, Type_};
-use json_kinds::kind::Kind;
-use std::alloc::AllocError;
+use crate::path_parts::Paths;
+use crate::type_parts::Types;
+use hir_syntax::ast::{ExprKind, RecordExprField, RecordExprFieldList, RecordPatField};
+use json_kinds::kind::{ExprNode, PartNode};
 
 /// Casts, records and offsets of fields.
 #[tactic(auto, unfolding(crate::specs::Typed::typed))]
-pub fn typed<P: ReadParts>(node: &Node<'_, P>, kind: Kind) -> Result<Option<ExprKind>, AllocError>
-    requires { P.can node.now.parts.now }
-    ensures { IfOk result (λ expr. expr ≡ spec.typed (here P.parts node.now) kind) }
+pub fn typed<F: Fields>(node: &F, refused: &mut bool, kind: ExprNode) -> Option<AnyPart>
+    requires { F.can node.now }
+    ensures { Kept refused.old refused.new (result ≡ spec.typed (F.here node.now) kind) }
 {
     match kind {
-        Kind::CastExpr => Ok(Some(ExprKind::CastExpr {
-            expr: node.boxed::<Expr>("expr")?,
-            ty: node.boxed::<Type_>("ty")?,
-        })),
-        Kind::RecordExpr => Ok(Some(ExprKind::RecordExpr {
-            path: node.boxed::<Path>("path")?,
-            list: node.part::<RecordExprFieldList>("list")?,
-        })),
-        Kind::OffsetOfExpr => Ok(Some(ExprKind::OffsetOfExpr {
-            ty: node.boxed::<Type_>("ty")?,
-            fields: node.list::<Name>("fields")?,
-        })),
-        _ => Ok(None),
+        ExprNode::CastExpr => {
+            let expr = node.field::<InBox<Exprs>>(refused, "expr");
+            let ty = node.field::<InBox<Types>>(refused, "ty");
+            whole_expr(node, refused, ExprKind::CastExpr { expr, ty })
+        }
+        ExprNode::RecordExpr => {
+            let path = node.field::<InBox<Paths>>(refused, "path");
+            let list = node.field::<One<RecordLists>>(refused, "list");
+            whole_expr(node, refused, ExprKind::RecordExpr { path, list })
+        }
+        ExprNode::OffsetOfExpr => {
+            let ty = node.field::<InBox<Types>>(refused, "ty");
+            let fields = node.field::<All<Names>>(refused, "fields");
+            whole_expr(node, refused, ExprKind::OffsetOfExpr { ty, fields })
+        }
+        _ => None,
     }
 }
 
-/// The fields of a record, and one of them.
+/// The fields of a record, and one of them, also of a pattern.
 #[tactic(auto, unfolding(crate::specs::Typed::of_record))]
-pub fn of_record<P: ReadParts>(
-    node: &Node<'_, P>,
-    kind: Kind,
-) -> Result<Option<AnyPart>, AllocError>
-    requires { P.can node.now.parts.now }
-    ensures { IfOk result (λ part. part ≡ spec.of_record (here P.parts node.now) kind) }
+pub fn of_record<F: Fields>(node: &F, refused: &mut bool, kind: PartNode) -> Option<AnyPart>
+    requires { F.can node.now }
+    ensures { Kept refused.old refused.new (result ≡ spec.of_record (F.here node.now) kind) }
 {
     match kind {
-        Kind::RecordExprFieldList => {
-            let list = RecordExprFieldList {
-                id: node.id,
-                range: node.range,
-                fields: node.list::<RecordExprField>("fields")?,
-                spread: node.boxed::<Expr>("spread")?,
-                dotdot: flag(node.value, "dotdot"),
-            };
-            Ok(Some(AnyPart::RecordList(Boxed::new(node.alloc, list)?)))
+        PartNode::RecordExprFieldList => {
+            let fields = node.field::<All<RecordFields>>(refused, "fields");
+            let spread = node.field::<InBox<Exprs>>(refused, "spread");
+            Some(AnyPart::Code(CodePart::RecordList(RecordExprFieldList {
+                id: node.id(),
+                range: node.range(),
+                fields,
+                spread,
+                dotdot: flag(node.value(), "dotdot"),
+            })))
         }
-        Kind::RecordExprField => {
-            let field = RecordExprField {
-                id: node.id,
-                range: node.range,
-                name: node.part::<Name>("name")?,
-                expr: node.boxed::<Expr>("expr")?,
-            };
-            Ok(Some(AnyPart::RecordField(Boxed::new(node.alloc, field)?)))
+        PartNode::RecordExprField => {
+            let name = node.field::<One<Names>>(refused, "name");
+            let expr = node.field::<InBox<Exprs>>(refused, "expr");
+            Some(AnyPart::Code(CodePart::RecordField(RecordExprField {
+                id: node.id(),
+                range: node.range(),
+                name,
+                expr,
+            })))
         }
-        _ => Ok(None),
+        PartNode::RecordPatField => {
+            let name = node.field::<One<Names>>(refused, "name");
+            let pat = node.field::<InBox<Pats>>(refused, "pat");
+            Some(AnyPart::Pat(PatPart::PatField(RecordPatField {
+                id: node.id(),
+                range: node.range(),
+                name,
+                pat,
+            })))
+        }
+        _ => None,
     }
 }

@@ -1,159 +1,155 @@
 //! Types.
 
-ghost use Rattle.std.specs.Prelude.{◌≡◌, IfOk};
+ghost use Rattle.std.specs.Prelude.{◌≡◌, Some};
+ghost use Rattle.json_nodes.specs.Kept.{Kept};
 ghost use Rattle.json_nodes.specs.Types as spec;
-ghost use Rattle.json_nodes.specs.Nodes.{here};
 
-use crate::field::{flag, own_text};
-use crate::node::{Node, ReadParts};
+use crate::field::flag;
+use crate::fields::{All, AllIfThere, Fields, InBox, One, Written};
+use crate::name_parts::Lifetimes;
+use crate::param_parts::{Params, Pats};
 use crate::part::AnyPart;
-use hir_syntax::Boxed;
-use hir_syntax::ast::{
-    ConstArg, ForBinder, Lifetime, Param, Path, PathType, RetType, Type_, TypeBound, TypeKind,
-};
-use json_kinds::kind::Kind;
-use std::alloc::AllocError;
+use crate::path_parts::{ConstArgs, Paths};
+use crate::type_parts::{Binders, Bounds, Rets, TypePart, Types};
+use hir_syntax::ast::{PathType, Type_, TypeKind};
+use json_kinds::kind::TypeNode;
+
+/// A type of a kind, in a box.
+fn whole_type<F: Fields>(node: &F, refused: &mut bool, kind: TypeKind) -> Option<AnyPart>
+    ensures { Kept refused.old refused.new (result ≡ Some (spec.whole_type (F.here node.now) kind)) }
+{
+    let ty = Type_ {
+        id: node.id(),
+        range: node.range(),
+        kind,
+    };
+    let ty = node.boxed_type(refused, ty)?;
+    Some(AnyPart::Type_(TypePart::Type_(ty)))
+}
 
 #[tactic(auto, unfolding(crate::specs::Types::over_types))]
-fn over_types<P: ReadParts>(node: &Node<'_, P>, kind: Kind) -> Result<Option<TypeKind>, AllocError>
-    requires { P.can node.now.parts.now }
-    ensures { IfOk result (λ part. part ≡ spec.over_types (here P.parts node.now) kind) }
+fn over_types<F: Fields>(node: &F, refused: &mut bool, kind: TypeNode) -> Option<AnyPart>
+    requires { F.can node.now }
+    ensures { Kept refused.old refused.new (result ≡ spec.over_types (F.here node.now) kind) }
 {
     match kind {
-        Kind::ParenType => Ok(Some(TypeKind::ParenType {
-            ty: node.boxed::<Type_>("ty")?,
-        })),
-        Kind::SliceType => Ok(Some(TypeKind::SliceType {
-            ty: node.boxed::<Type_>("ty")?,
-        })),
-        Kind::TupleType => Ok(Some(TypeKind::TupleType {
-            fields: node.list::<Type_>("fields")?,
-        })),
-        Kind::PtrType => Ok(Some(TypeKind::PtrType {
-            mut_: flag(node.value, "mut"),
-            ty: node.boxed::<Type_>("ty")?,
-        })),
-        _ => Ok(None),
+        TypeNode::ParenType => {
+            let ty = node.field::<InBox<Types>>(refused, "ty");
+            whole_type(node, refused, TypeKind::ParenType { ty })
+        }
+        TypeNode::SliceType => {
+            let ty = node.field::<InBox<Types>>(refused, "ty");
+            whole_type(node, refused, TypeKind::SliceType { ty })
+        }
+        TypeNode::TupleType => {
+            let fields = node.field::<All<Types>>(refused, "fields");
+            whole_type(node, refused, TypeKind::TupleType { fields })
+        }
+        TypeNode::PtrType => {
+            let ty = node.field::<InBox<Types>>(refused, "ty");
+            let mut_ = flag(node.value(), "mut");
+            whole_type(node, refused, TypeKind::PtrType { mut_, ty })
+        }
+        _ => None,
     }
 }
 
-#[tactic(auto, unfolding(crate::specs::Types::reference))]
-fn reference<P: ReadParts>(node: &Node<'_, P>) -> Result<TypeKind, AllocError>
-    requires { P.can node.now.parts.now }
-    ensures { IfOk result (λ kind. kind ≡ spec.reference (here P.parts node.now)) }
-{
-    Ok(TypeKind::RefType {
-        lifetime: node.part::<Lifetime>("lifetime")?,
-        mut_: flag(node.value, "mut"),
-        ty: node.boxed::<Type_>("ty")?,
-    })
-}
-
-#[tactic(auto, unfolding(crate::specs::Types::array))]
-fn array<P: ReadParts>(node: &Node<'_, P>) -> Result<TypeKind, AllocError>
-    requires { P.can node.now.parts.now }
-    ensures { IfOk result (λ kind. kind ≡ spec.array (here P.parts node.now)) }
-{
-    Ok(TypeKind::ArrayType {
-        ty: node.boxed::<Type_>("ty")?,
-        len: node.part::<ConstArg>("len")?,
-    })
-}
-
 #[tactic(auto, unfolding(crate::specs::Types::function_pointer))]
-fn function_pointer<P: ReadParts>(node: &Node<'_, P>) -> Result<TypeKind, AllocError>
-    requires { P.can node.now.parts.now }
-    ensures { IfOk result (λ kind. kind ≡ spec.function_pointer (here P.parts node.now)) }
+fn function_pointer<F: Fields>(node: &F, refused: &mut bool) -> TypeKind
+    requires { F.can node.now }
+    ensures { Kept refused.old refused.new (result ≡ spec.function_pointer (F.here node.now)) }
 {
-    Ok(TypeKind::FnPtrType {
-        unsafe_: flag(node.value, "unsafe"),
-        abi: own_text(node.alloc, node.value, "abi")?,
-        params: node.list_if_there::<Param>("params")?,
-        ret: node.part::<RetType>("ret")?,
-    })
-}
-
-#[tactic(auto, unfolding(crate::specs::Types::under_binder))]
-fn under_binder<P: ReadParts>(node: &Node<'_, P>) -> Result<TypeKind, AllocError>
-    requires { P.can node.now.parts.now }
-    ensures { IfOk result (λ kind. kind ≡ spec.under_binder (here P.parts node.now)) }
-{
-    Ok(TypeKind::ForType {
-        binder: node.part::<ForBinder>("binder")?,
-        ty: node.boxed::<Type_>("ty")?,
-    })
+    let abi = node.field::<Written>(refused, "abi");
+    let params = node.field::<AllIfThere<Params>>(refused, "params");
+    let ret = node.field::<One<Rets>>(refused, "ret");
+    TypeKind::FnPtrType {
+        unsafe_: flag(node.value(), "unsafe"),
+        abi,
+        params,
+        ret,
+    }
 }
 
 /// A type with a part of another group beside its type, or in its place.
-fn beside_types<P: ReadParts>(
-    node: &Node<'_, P>,
-    kind: Kind,
-) -> Result<Option<TypeKind>, AllocError>
-    requires { P.can node.now.parts.now }
-    ensures { IfOk result (λ part. part ≡ spec.beside_types (here P.parts node.now) kind) }
+#[tactic(auto, unfolding(crate::specs::Types::beside_types))]
+fn beside_types<F: Fields>(node: &F, refused: &mut bool, kind: TypeNode) -> Option<AnyPart>
+    requires { F.can node.now }
+    ensures { Kept refused.old refused.new (result ≡ spec.beside_types (F.here node.now) kind) }
 {
     match kind {
-        Kind::RefType => Ok(Some(reference(node)?)),
-        Kind::ArrayType => Ok(Some(array(node)?)),
-        Kind::FnPtrType => Ok(Some(function_pointer(node)?)),
-        Kind::ForType => Ok(Some(under_binder(node)?)),
-        _ => Ok(None),
+        TypeNode::RefType => {
+            let lifetime = node.field::<One<Lifetimes>>(refused, "lifetime");
+            let ty = node.field::<InBox<Types>>(refused, "ty");
+            let mut_ = flag(node.value(), "mut");
+            whole_type(node, refused, TypeKind::RefType { lifetime, mut_, ty })
+        }
+        TypeNode::ArrayType => {
+            let ty = node.field::<InBox<Types>>(refused, "ty");
+            let len = node.field::<One<ConstArgs>>(refused, "len");
+            whole_type(node, refused, TypeKind::ArrayType { ty, len })
+        }
+        TypeNode::FnPtrType => {
+            let kind = function_pointer(node, refused);
+            whole_type(node, refused, kind)
+        }
+        TypeNode::ForType => {
+            let binder = node.field::<One<Binders>>(refused, "binder");
+            let ty = node.field::<InBox<Types>>(refused, "ty");
+            whole_type(node, refused, TypeKind::ForType { binder, ty })
+        }
+        TypeNode::PatternType => {
+            let ty = node.field::<InBox<Types>>(refused, "ty");
+            let pat = node.field::<InBox<Pats>>(refused, "pat");
+            whole_type(node, refused, TypeKind::PatternType { ty, pat })
+        }
+        _ => None,
     }
 }
 
 #[tactic(auto, unfolding(crate::specs::Types::bounded))]
-fn bounded<P: ReadParts>(node: &Node<'_, P>, kind: Kind) -> Result<Option<TypeKind>, AllocError>
-    requires { P.can node.now.parts.now }
-    ensures { IfOk result (λ part. part ≡ spec.bounded (here P.parts node.now) kind) }
+fn bounded<F: Fields>(node: &F, refused: &mut bool, kind: TypeNode) -> Option<AnyPart>
+    requires { F.can node.now }
+    ensures { Kept refused.old refused.new (result ≡ spec.bounded (F.here node.now) kind) }
 {
     match kind {
-        Kind::ImplTraitType => Ok(Some(TypeKind::ImplTraitType {
-            bounds: node.list::<TypeBound>("bounds")?,
-        })),
-        Kind::DynTraitType => Ok(Some(TypeKind::DynTraitType {
-            bounds: node.list::<TypeBound>("bounds")?,
-        })),
-        Kind::NeverType => Ok(Some(TypeKind::NeverType)),
-        Kind::InferType => Ok(Some(TypeKind::InferType)),
-        _ => Ok(None),
-    }
-}
-
-fn type_kind<P: ReadParts>(node: &Node<'_, P>, kind: Kind) -> Result<Option<TypeKind>, AllocError>
-    requires { P.can node.now.parts.now }
-    ensures { IfOk result (λ part. part ≡ spec.type_kind (here P.parts node.now) kind) }
-{
-    if let Some(kind) = over_types(node, kind)? {
-        return Ok(Some(kind));
-    }
-    if let Some(kind) = beside_types(node, kind)? {
-        return Ok(Some(kind));
-    }
-    bounded(node, kind)
-}
-
-/// A type. A path is told from others, since it may also name a trait.
-pub fn of_type<P: ReadParts>(node: &Node<'_, P>, kind: Kind) -> Result<Option<AnyPart>, AllocError>
-    requires { P.can node.now.parts.now }
-    ensures { IfOk result (λ part. part ≡ spec.of_type (here P.parts node.now) kind) }
-{
-    if let Kind::PathType = kind {
-        let path_type = PathType {
-            id: node.id,
-            range: node.range,
-            path: node.boxed::<Path>("path")?,
-        };
-        return Ok(Some(AnyPart::PathType(Boxed::new(node.alloc, path_type)?)));
-    }
-    match type_kind(node, kind)? {
-        Some(kind) => {
-            let ty = Type_ {
-                id: node.id,
-                range: node.range,
-                kind,
-            };
-            Ok(Some(AnyPart::Type_(Boxed::new(node.alloc, ty)?)))
+        TypeNode::ImplTraitType => {
+            let bounds = node.field::<All<Bounds>>(refused, "bounds");
+            whole_type(node, refused, TypeKind::ImplTraitType { bounds })
         }
-        None => Ok(None),
+        TypeNode::DynTraitType => {
+            let bounds = node.field::<All<Bounds>>(refused, "bounds");
+            whole_type(node, refused, TypeKind::DynTraitType { bounds })
+        }
+        TypeNode::NeverType => whole_type(node, refused, TypeKind::NeverType),
+        TypeNode::InferType => whole_type(node, refused, TypeKind::InferType),
+        _ => None,
     }
+}
+
+/// A type that is no path.
+pub fn of_type<F: Fields>(node: &F, refused: &mut bool, kind: TypeNode) -> Option<AnyPart>
+    requires { F.can node.now }
+    ensures { Kept refused.old refused.new (result ≡ spec.of_type (F.here node.now) kind) }
+{
+    if let Some(ty) = over_types(node, refused, kind) {
+        return Some(ty);
+    }
+    if let Some(ty) = beside_types(node, refused, kind) {
+        return Some(ty);
+    }
+    bounded(node, refused, kind)
+}
+
+/// A path as a type, which is told from other types, since it may also name a trait.
+#[tactic(auto, unfolding(crate::specs::Types::of_path_type))]
+pub fn of_path_type<F: Fields>(node: &F, refused: &mut bool) -> Option<AnyPart>
+    requires { F.can node.now }
+    ensures { Kept refused.old refused.new (result ≡ spec.of_path_type (F.here node.now)) }
+{
+    let path = node.field::<InBox<Paths>>(refused, "path");
+    Some(AnyPart::Type_(TypePart::PathType(PathType {
+        id: node.id(),
+        range: node.range(),
+        path,
+    })))
 }

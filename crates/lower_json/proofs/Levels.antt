@@ -23,7 +23,8 @@ without_kind : (f : Data → Kind → Option AnyPart) (k : Option Kind) (o : Opt
 without_kind f k None h = refl
 without_kind f k (Some d) h = rw h refl
 
-pub no_kind : (n : ℕ) (kinds : List (Option Kind)) (ns : Items) (at : ℕ) → kind_at kinds at ≡ None → None ≡ part_at n kinds ns at
+pub no_kind : (n : ℕ) (kinds : List (Option Kind)) (ns : Items) (at : ℕ)
+    → kind_at kinds at ≡ None → None ≡ part_at n kinds ns at
 unfolding part_at
 no_kind zero kinds ns at h = refl
 no_kind (suc n) kinds ns at h = without_kind (λ d. of_kind (node_at (part_at n kinds ns) at d)) (kind_at kinds at) (get_item at ns) h

@@ -1,2 +1,3 @@
 pub mod Tuples
 pub mod Levels
+pub mod Pieces

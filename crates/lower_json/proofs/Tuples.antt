@@ -1,8 +1,8 @@
 -- Lists that have not the length that is wanted.
-use Rattle.std.proofs.Common.{◌≡◌, ◌<◌, ◌≤◌, List, [], ◌∷◌, length, refl, arith, Some, None}
+use Rattle.std.proofs.Common.{◌≡◌, ◌≢◌, ◌<◌, ◌≤◌, List, [], ◌∷◌, length, refl, arith, Some, None}
 use Rattle.serde_json.specs.View.{items_view}
 use Rattle.serde_json.specs.declared.value.Value.{Value}
-use Rattle.lower_json.specs.Tables.{decided_of, triple_of, quadruple_of, context_of}
+use Rattle.lower_json.specs.Tables.{alias_of, decided_of, triple_of, quadruple_of, said_of, context_of}
 
 pub under_two : (vs : List Value) → length vs < 2 → None ≡ decided_of (Some (items_view vs))
 under_two [] h = refl
@@ -61,3 +61,23 @@ over_six (v ∷ w ∷ x ∷ y ∷ []) h = absurd (omega arith)
 over_six (v ∷ w ∷ x ∷ y ∷ z ∷ []) h = absurd (omega arith)
 over_six (v ∷ w ∷ x ∷ y ∷ z ∷ u ∷ []) h = absurd (omega arith)
 over_six (v ∷ w ∷ x ∷ y ∷ z ∷ u ∷ t ∷ vs) h = refl
+
+pub alias_under_two : (vs : List Value) → length vs < 2 → None ≡ alias_of (Some (items_view vs))
+alias_under_two [] h = refl
+alias_under_two (v ∷ []) h = refl
+alias_under_two (v ∷ w ∷ vs) h = absurd (omega arith)
+
+pub alias_over_two : (vs : List Value) → 3 ≤ length vs → None ≡ alias_of (Some (items_view vs))
+alias_over_two [] h = absurd (omega arith)
+alias_over_two (v ∷ []) h = absurd (omega arith)
+alias_over_two (v ∷ w ∷ []) h = absurd (omega arith)
+alias_over_two (v ∷ w ∷ x ∷ vs) h = refl
+
+pub not_five : (vs : List Value) → length vs ≢ 5 → None ≡ said_of (Some (items_view vs))
+not_five [] h = refl
+not_five (v ∷ []) h = refl
+not_five (v ∷ w ∷ []) h = refl
+not_five (v ∷ w ∷ x ∷ []) h = refl
+not_five (v ∷ w ∷ x ∷ y ∷ []) h = refl
+not_five (v ∷ w ∷ x ∷ y ∷ z ∷ []) h = absurd (omega (arith, h))
+not_five (v ∷ w ∷ x ∷ y ∷ z ∷ u ∷ vs) h = refl

@@ -1,5 +1,6 @@
 -- What a text says, where it is a document.
-use Rattle.std.specs.Prelude.{◌≡◌, ℕ, Bool, true, false, codes, List, [], ◌∷◌, Option, Some, None, option_and_then, unwrap_or, IsUtf8}
+use Rattle.std.specs.Prelude.{◌≡◌, ℕ, Bool, true, false, codes, List, [], ◌∷◌, Option, Some, None}
+use Rattle.std.specs.Prelude.{option_and_then, unwrap_or, IsUtf8}
 use Rattle.serde_json.specs.Data.{Data}
 use Rattle.serde_json.specs.Find.{as_bool, get}
 use Rattle.serde_json.specs.Read.{read}
@@ -81,12 +82,14 @@ abbrev pub group_of : Root → Group
 group_of root.Fn = group.Fn
 group_of root.Path = group.Path
 group_of root.Type_ = group.Type_
+group_of root.Pat = group.Pat
 
 -- a document may lack it
 abbrev pub is_optional : Root → Bool
 is_optional root.Fn = false
 is_optional root.Path = false
 is_optional root.Type_ = true
+is_optional root.Pat = true
 
 abbrev pub tree_of : Root → Data → Tree
 tree_of want d = tree_at want (kinds_of (nodes d)) (nodes d) (number_or 0 (get (codes "root") d))

@@ -18,7 +18,8 @@ IsErrorOf want d (error.Fault (fault.Document f)) = first_fault want d ≡ Some 
 
 abbrev pub IsTextFault : Root → List ℕ → Fault → Type 0
 IsTextFault want text fault.NotJson = ¬ (IsUtf8 text) ⊎ (read text ≡ None)
-IsTextFault want text (fault.Document f) = IsUtf8 text × ((d : Data) × (read text ≡ Some d) × (first_fault want d ≡ Some (fault_of f)))
+IsTextFault want text (fault.Document f) =
+    IsUtf8 text × ((d : Data) × (read text ≡ Some d) × (first_fault want d ≡ Some (fault_of f)))
 
 -- memory may be refused for any text
 abbrev pub IsTextError : Root → List ℕ → ReadError → Type 0

@@ -1,5 +1,6 @@
 pub mod Reading
 pub mod Reads
+pub mod PathTexts
 pub mod Tables
 pub mod Documents
 pub mod Faults

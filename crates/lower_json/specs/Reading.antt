@@ -1,51 +1,60 @@
 -- What stands at the nodes of a list.
-use Rattle.std.specs.Prelude.{ℕ, suc, zero, codes, List, Option, None, option_and_then, option_map, unwrap_or}
+use Rattle.std.specs.Prelude.{ℕ, suc, zero, codes, List, [], ◌∷◌, false, Option, None, option_and_then, unwrap_or}
 use Rattle.serde_json.specs.Data.{Data, null, Items}
 use Rattle.serde_json.specs.Find.{get, get_item}
-use Rattle.hir_syntax.specs.declared.ast.ExprKind.{ExprKind}
-use Rattle.hir_syntax.specs.declared.ast.StmtKind.{StmtKind}
+use Rattle.hir_base.specs.declared.node.NodeId.{NodeId}
+use Rattle.hir_base.specs.declared.node.TextRange.{TextRange}
+use Rattle.hir_syntax.specs.declared.params.ParamList.{ParamList}
+use Rattle.hir_syntax.specs.declared.pats.Pat.{Pat}
+use Rattle.hir_syntax.specs.declared.types.Param.{roll-Param}
 use Rattle.json_faults.specs.Kinds.{kind_at}
+use Rattle.json_kinds.specs.declared.kind.ExprNode.{ExprNode}
 use Rattle.json_kinds.specs.declared.kind.Kind.{Kind}
 use Rattle.json_kinds.specs.declared.kind.Kind.TheVariants as kind
-use Rattle.json_nodes.specs.Exprs.{flow, plain, operation, member, leaving, partless}
+use Rattle.json_kinds.specs.declared.kind.PartNode.{PartNode}
+use Rattle.json_kinds.specs.declared.kind.PathNode.{PathNode}
+use Rattle.json_nodes.specs.Branches.{branching, of_branch}
+use Rattle.json_nodes.specs.Exprs.{flow, plain, operation, member, leaving, partless, of_if, of_literal}
 use Rattle.json_nodes.specs.Fields.{number_or, range_of}
-use Rattle.json_nodes.specs.Others.{statement, other, function}
+use Rattle.json_nodes.specs.Others.{of_block, of_stmt, other, function}
+use Rattle.json_nodes.specs.Params.{of_param}
+use Rattle.json_nodes.specs.Pats.{of_pat}
 use Rattle.json_nodes.specs.Paths.{path, of_path}
-use Rattle.json_nodes.specs.Types.{of_type}
+use Rattle.json_nodes.specs.Types.{of_type, of_path_type}
 use Rattle.json_nodes.specs.Typed.{typed, of_record}
 use Rattle.json_nodes.specs.Args.{of_args}
 use Rattle.json_nodes.specs.Bounds.{of_bound}
-use Rattle.json_nodes.specs.Groups.{as_type}
+use Rattle.json_nodes.specs.Groups.{as_pat, as_type}
 use Rattle.json_nodes.specs.Parts.{Here}
 use Rattle.json_kinds.specs.ByWord.{or_else}
 use Rattle.json_nodes.specs.declared.part.AnyPart.{AnyPart}
-use Rattle.json_nodes.specs.declared.part.AnyPart.TheVariants as part
 use Rattle.lower_json.specs.declared.document.Root.{Root}
 use Rattle.lower_json.specs.declared.document.Root.TheVariants as root
 use Rattle.lower_json.specs.declared.document.Tree.{Tree}
 use Rattle.lower_json.specs.declared.document.Tree.TheVariants as tree
 
--- an `if` is told from other expressions, since it may follow `else`
-abbrev pub of_expr : Here → Kind → ExprKind → AnyPart
-of_expr h kind.IfExpr x = part.If (record { id = h.id; range = h.range; kind = x })
-of_expr h _ x = part.Expr (record { id = h.id; range = h.range; kind = x })
+abbrev pub of_expr : Here → ExprNode → Option AnyPart
+of_expr h k = or_else (flow h k) (or_else (plain h k) (or_else (branching h k) (or_else (operation h k) (or_else (member h k)
+    (or_else (leaving h k) (or_else (typed h k) (partless h k)))))))
 
-abbrev pub expr_kind : Here → Kind → Option ExprKind
-expr_kind h k = or_else (flow h k) (or_else (plain h k) (or_else (operation h k) (or_else (member h k)
-    (or_else (leaving h k) (or_else (typed h k) (partless h.value k))))))
+abbrev pub of_path_part : Here → PathNode → Option AnyPart
+of_path_part h k = or_else (of_path h k) (of_args h k)
 
-abbrev pub of_stmt : Here → StmtKind → AnyPart
-of_stmt h x = part.Stmt (record { id = h.id; range = h.range; kind = x })
-
-abbrev pub other_than_path : Here → Kind → Option AnyPart
-other_than_path h k = or_else (of_type h k) (or_else (of_args h k) (or_else (of_bound h k) (or_else (of_record h k) (other h k))))
-
-abbrev pub other_than_expr : Here → Kind → Option AnyPart
-other_than_expr h k = or_else (option_map (of_stmt h) (statement h k)) (or_else (of_path h k) (other_than_path h k))
+abbrev pub of_part : Here → PartNode → Option AnyPart
+of_part h k = or_else (of_bound h k) (or_else (of_branch h k) (or_else (of_record h k) (or_else (of_param h k) (other h k))))
 
 -- what stands at a node of each kind
 unfoldable pub of_kind : Here → Kind → Option AnyPart
-of_kind h k = or_else (option_map (of_expr h k) (expr_kind h k)) (other_than_expr h k)
+of_kind h kind.IfExpr = of_if h
+of_kind h kind.BlockExpr = of_block h
+of_kind h kind.Literal = of_literal h
+of_kind h kind.PathType = of_path_type h
+of_kind h (kind.Expr k) = of_expr h k
+of_kind h (kind.Stmt k) = of_stmt h k
+of_kind h (kind.Pat k) = of_pat h k
+of_kind h (kind.Type_ k) = of_type h k
+of_kind h (kind.Path k) = of_path_part h k
+of_kind h (kind.Part k) = of_part h k
 
 -- a node at an index, by its data, of the parts that stand at others
 abbrev pub node_with : (ℕ → Option AnyPart) → ℕ → Data → ℕ → Here
@@ -61,11 +70,27 @@ part_at (suc n) kinds ns at = option_and_then
     (λ d. option_and_then (of_kind (node_at (part_at n kinds ns) at d)) (kind_at kinds at))
     (get_item at ns)
 
+abbrev last_id : NodeId
+last_id = record { 0 = 4294967295 }
+
+abbrev last_range : TextRange
+last_range = record { start = 4294967295; end = 4294967295 }
+
+-- a pattern as the only parameter of a function; parameter and list have the last of all numbers
+abbrev pub only_param : Option Pat → ParamList
+only_param p = record {
+  id = last_id;
+  range = last_range;
+  self_ = None;
+  params = roll-Param (record { id = last_id; range = last_range; pat = p; ty = None; variadic = false }) ∷ [];
+}
+
 -- the tree whose root is such a node, of a kind
 abbrev pub tree_of : Root → Option Kind → Here → Tree
 tree_of root.Fn k h = tree.Fn (function h)
 tree_of root.Path k h = tree.Path (path h)
 tree_of root.Type_ k h = tree.Type_ (option_and_then as_type (option_and_then (of_kind h) k))
+tree_of root.Pat k h = tree.Pat (only_param (option_and_then as_pat (option_and_then (of_kind h) k)))
 
 -- the tree at a node, on at most 256 levels; past the end its root says nothing
 unfoldable pub tree_at : Root → List (Option Kind) → Items → ℕ → Tree

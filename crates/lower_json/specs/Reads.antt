@@ -21,4 +21,5 @@ pub record Reads (pre : Pre) (post : Post) (kinds : List (Option Kind)) (nodes :
   pub callable : (alloc : Global) (ks : Bor (List (Option Kind))) (vs : Bor (List Value)) (at : ℕ)
       → ks.now ≡ kinds → vs.now ≡ nodes → pre alloc ks vs levels at
   pub told : (alloc : Global) (ks : Bor (List (Option Kind))) (vs : Bor (List Value)) (at : ℕ) (r : Result (Option AnyPart) AllocError)
-      → ks.now ≡ kinds → vs.now ≡ nodes → post alloc ks vs levels at r → IfOk r (λ p. p ≡ part_at levels kinds (items_view nodes) at)
+      → ks.now ≡ kinds → vs.now ≡ nodes → post alloc ks vs levels at r
+      → IfOk r (λ p. p ≡ part_at levels kinds (items_view nodes) at)

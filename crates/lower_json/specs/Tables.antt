@@ -1,9 +1,15 @@
 -- The tables of a document. What is no entry of a table says nothing.
-use Rattle.std.specs.Prelude.{ℕ, codes, Bool, List, Option, Some, None, option_map, option_and_then}
+use Rattle.std.specs.Prelude.{ℕ, codes, Bool, true, List, [], ◌∷◌, ◌++◌, Option, Some, None, option_map, option_and_then}
 use Rattle.serde_json.specs.Data.{Data, null, boolean, number, string, array, object, Items, no_items, item}
-use Rattle.serde_json.specs.Find.{get, as_array}
+use Rattle.serde_json.specs.Find.{get, as_array, as_str}
 use Rattle.hir_env.specs.NodeMap.{Site, with_first, with_first_pred, with_first_context}
-use Rattle.hir_env.specs.Tables.{Tables, empty}
+use Rattle.hir_env.specs.Tables as answered
+use Rattle.hir_env.specs.Tables.{Tables, empty, numbered_items}
+use Rattle.hir_env.specs.declared.lang.LangItems.{LangItems}
+use Rattle.hir_env.specs.declared.resolved.Resolution.{Resolution}
+use Rattle.hir_env.specs.declared.resolved.Resolution.TheVariants as resolution
+use Rattle.hir_env.specs.declared.resolved.Resolved.{Resolved}
+use Rattle.hir_env.specs.declared.table.PathEntry.{PathEntry}
 use Rattle.hir_env.specs.declared.table.Context.{Context}
 use Rattle.hir_store.specs.declared.ids.CfgId.{CfgId}
 use Rattle.hir_store.specs.declared.ids.HygieneId.{HygieneId}
@@ -11,10 +17,15 @@ use Rattle.hir_store.specs.declared.ids.CtxId.{CtxId}
 use Rattle.hir_store.specs.declared.ids.MacroDefId.{MacroDefId}
 use Rattle.hir_store.specs.declared.ids.CrateId.{CrateId}
 use Rattle.hir_store.specs.declared.ids.BlockId.{BlockId}
+use Rattle.hir_store.specs.declared.ids.LangItemId.{LangItemId}
+use Rattle.hir_store.specs.declared.path.ModPath.{ModPath}
 use Rattle.hir_store.specs.declared.ids.ModuleId.{ModuleId}
 use Rattle.hir_store.specs.declared.ids.ItemContainerId.{ItemContainerId}
-use Rattle.hir_syntax.specs.declared.node.PredId.{PredId}
-use Rattle.json_faults.specs.Values.{small_of}
+use Rattle.hir_base.specs.declared.node.PredId.{PredId}
+use Rattle.json_faults.specs.Values.{is_alias_word, small_of}
+use Rattle.json_kinds.specs.ByWord.{with_word}
+use Rattle.json_nodes.specs.Fields.{flag_of}
+use Rattle.lower_json.specs.PathTexts.{path_of}
 
 -- the node of a number in a file
 abbrev pub site_of : Option ℕ → Option ℕ → Option Site
@@ -93,7 +104,8 @@ context_of (Some (item c (item p (item o (item m (item l (item r no_items)))))))
     (frame_of (small_of p) (small_of o) (outer_macro_of (number_or_null m)) (crate_root_of (number_or_null r)))
 context_of _ = None
 
-abbrev pub with_entry : {K T : Type 0} → (List (K × T) → K → T → List (K × T)) → Option (K × T) → List (K × T) → List (K × T)
+abbrev pub with_entry : {K T : Type 0}
+    → (List (K × T) → K → T → List (K × T)) → Option (K × T) → List (K × T) → List (K × T)
 with_entry put None es = es
 with_entry put (Some e) es = put es e.0 e.1
 
@@ -111,7 +123,110 @@ items_or_none None = no_items
 abbrev pub rows : List ℕ → Data → Items
 rows name env = items_or_none (option_and_then as_array (get name env))
 
--- the tables with what an environment writes; of two entries for one node, predicate or context the first counts
+-- the word of what a path stands for; an alias has none of its own
+abbrev pub resolution_word : Resolution → List ℕ
+resolution_word resolution.Module = codes "module"
+resolution_word resolution.Function = codes "function"
+resolution_word resolution.Struct = codes "struct"
+resolution_word resolution.Union = codes "union"
+resolution_word resolution.Enum = codes "enum"
+resolution_word resolution.Variant = codes "variant"
+resolution_word resolution.Const = codes "const"
+resolution_word resolution.Static = codes "static"
+resolution_word resolution.Trait = codes "trait"
+resolution_word resolution.BuiltinType = codes "builtin"
+resolution_word (resolution.TypeAlias _) = codes "alias"
+
+-- all but aliases
+abbrev pub resolutions : List Resolution
+resolutions = resolution.Module ∷ resolution.Function ∷ resolution.Struct ∷ resolution.Union ∷ resolution.Enum
+    ∷ resolution.Variant ∷ resolution.Const ∷ resolution.Static ∷ resolution.Trait ∷ resolution.BuiltinType ∷ []
+
+abbrev pub numbered_alias : Bool → Option ℕ → Option Resolution
+numbered_alias true (Some n) = Some (resolution.TypeAlias (record { 0 = n }))
+numbered_alias _ _ = None
+
+abbrev pub alias_of : Option Items → Option Resolution
+alias_of (Some (item word (item n no_items))) = numbered_alias (is_alias_word word) (small_of n)
+alias_of _ = None
+
+-- what a path stands for, or nothing where null stands
+abbrev pub resolution_of : Data → Option (Option Resolution)
+resolution_of null = Some None
+resolution_of (string s) = option_map Some (with_word resolution_word resolutions s)
+resolution_of (array ds) = option_map Some (alias_of (Some ds))
+resolution_of (boolean b) = None
+resolution_of (number n) = None
+resolution_of (object ms) = None
+
+abbrev pub resolved_of : Option (Option Resolution) → Option (Option Resolution) → Option (Option ℕ) → Option Resolved
+resolved_of (Some types) (Some values) (Some rest) = Some (record { types = types; values = values; rest = rest })
+resolved_of _ _ _ = None
+
+-- the path that a text is
+abbrev pub path_in : Data → Option ModPath
+path_in d = option_map path_of (as_str d)
+
+abbrev pub module_of : Option ℕ → Option ModuleId
+module_of n = option_map (λ n. record { 0 = n }) n
+
+-- [module, path, as a type, as a value, the first segment that stands for nothing or null]
+abbrev pub said_of : Option Items → Option (ModPath × (ModuleId × Resolved))
+said_of (Some (item m (item p (item t (item v (item r no_items)))))) = both (path_in p)
+    (both (module_of (small_of m)) (resolved_of (resolution_of t) (resolution_of v) (number_or_null r)))
+said_of _ = None
+
+abbrev with_path : Option (ModPath × (ModuleId × Resolved)) → List PathEntry → List PathEntry
+with_path None es = es
+with_path (Some e) es = es ++ answered.entry e.1.0 e.0 e.1.1 ∷ []
+
+-- paths with those of a list behind
+abbrev pub with_paths : Items → List PathEntry → List PathEntry
+with_paths no_items es = es
+with_paths (item d ds) es = with_paths ds (with_path (said_of (as_array d)) es)
+
+-- an item of the language, which has its own number where nothing is said
+abbrev pub said_item : ℕ → Option (Option ℕ) → Option LangItemId
+said_item k None = Some (record { 0 = k })
+said_item k (Some None) = None
+said_item k (Some (Some n)) = Some (record { 0 = n })
+
+abbrev pub item_in : List ℕ → ℕ → Data → Option LangItemId
+item_in name k lang = said_item k (option_and_then number_or_null (get name lang))
+
+abbrev pub items_in : Data → LangItems
+items_in lang = record {
+  range_full = item_in (codes "RangeFull") 0 lang;
+  range_from = item_in (codes "RangeFrom") 1 lang;
+  range_from_copy = item_in (codes "RangeFromCopy") 2 lang;
+  range_to = item_in (codes "RangeTo") 3 lang;
+  range_copy = item_in (codes "RangeCopy") 4 lang;
+  range = item_in (codes "Range") 5 lang;
+  range_to_inclusive_copy = item_in (codes "RangeToInclusiveCopy") 6 lang;
+  range_to_inclusive = item_in (codes "RangeToInclusive") 7 lang;
+  range_inclusive_copy = item_in (codes "RangeInclusiveCopy") 8 lang;
+  range_inclusive_new = item_in (codes "RangeInclusiveNew") 9 lang;
+  try_trait_from_output = item_in (codes "TryTraitFromOutput") 10 lang;
+  try_trait_branch = item_in (codes "TryTraitBranch") 11 lang;
+  control_flow_continue = item_in (codes "ControlFlowContinue") 12 lang;
+  control_flow_break = item_in (codes "ControlFlowBreak") 13 lang;
+  residual_into_try_type = item_in (codes "ResidualIntoTryType") 14 lang;
+  try_trait_from_residual = item_in (codes "TryTraitFromResidual") 15 lang;
+  into_iter_into_iter = item_in (codes "IntoIterIntoIter") 16 lang;
+  iterator_next = item_in (codes "IteratorNext") 17 lang;
+  option_some = item_in (codes "OptionSome") 18 lang;
+  option_none = item_in (codes "OptionNone") 19 lang;
+  range_min = item_in (codes "RangeMin") 20 lang;
+  range_max = item_in (codes "RangeMax") 21 lang;
+  range_sub = item_in (codes "RangeSub") 22 lang;
+}
+
+-- the items of the language, each with its own number where nothing is said of them
+abbrev pub lang_of : Option Data → LangItems
+lang_of None = numbered_items
+lang_of (Some lang) = items_in lang
+
+-- the tables with what an environment writes; of two entries for one node, predicate, context or path the first counts
 abbrev pub with_tables : Data → Tables → Tables
 with_tables env ts = record ts {
   disabled = with_all with_first disabled_of (rows (codes "disabled") env) ts.disabled;
@@ -119,6 +234,9 @@ with_tables env ts = record ts {
   hygiene = with_all with_first named_of (rows (codes "hygiene") env) ts.hygiene;
   contexts = with_all with_first_context context_of (rows (codes "contexts") env) ts.contexts;
   blocks = with_all with_first numbered_of (rows (codes "blocks") env) ts.blocks;
+  paths = with_paths (rows (codes "resolve") env) ts.paths;
+  lang_items = lang_of (get (codes "lang") env);
+  new_range = flag_of (get (codes "new_range") env);
 }
 
 -- of a body that is not skipped and stands in the container; empty ones where there is no environment

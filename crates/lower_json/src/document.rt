@@ -3,7 +3,7 @@
 use hir_env::place::LoweringMode;
 use hir_env::table::TableEnv;
 use hir_store::ids::DefWithBodyId;
-use hir_syntax::ast::{Fn, Path, Type_};
+use hir_syntax::ast::{Fn, ParamList, Path, Type_};
 
 /// What the root of a document has to be.
 #[derive(Clone, Copy, Debug, PartialEq, Eq)]
@@ -12,6 +12,8 @@ pub enum Root {
     Path,
     /// A type, or nothing at all.
     Type_,
+    /// A pattern, or nothing at all.
+    Pat,
 }
 
 /// The tree of a document, by its root.
@@ -19,6 +21,8 @@ pub enum Tree {
     Fn(Fn),
     Path(Path),
     Type_(Option<Type_>),
+    /// The pattern in the only parameter of a function. Parameter and list have the last of all numbers.
+    Pat(ParamList),
 }
 
 impl Drop for Tree {
@@ -27,6 +31,7 @@ impl Drop for Tree {
             Tree::Fn(_) => {}
             Tree::Path(_) => {}
             Tree::Type_(_) => {}
+            Tree::Pat(_) => {}
         }
     }
 }

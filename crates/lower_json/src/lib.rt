@@ -4,6 +4,10 @@
 pub mod document;
 pub mod fault;
 mod heading;
+mod lang;
+mod letting_go;
+mod path_text;
 pub mod read;
+mod resolve;
 mod tables;
 mod tree;

@@ -30,6 +30,7 @@ fn group(root: Root) -> Group
         Root::Fn => Group::Fn,
         Root::Path => Group::Path,
         Root::Type_ => Group::Type_,
+        Root::Pat => Group::Pat,
     }
 }
 
@@ -37,7 +38,7 @@ fn group(root: Root) -> Group
 fn is_optional(root: Root) -> bool
     ensures { result ≡ is_optional root }
 {
-    matches!(root, Root::Type_)
+    matches!(root, Root::Type_ | Root::Pat)
 }
 
 fn parse(alloc: Global, text: &[u8]) -> Result<Value, ReadError>

@@ -9,12 +9,15 @@ ghost use Rattle.lower_json.specs.Tables.{site_of, triple_of, quadruple_of, both
 ghost use Rattle.lower_json.specs.Tables.{decision_of, decided_of, number_or_null, with_all, rows, with_tables, tables_of};
 ghost use Rattle.lower_json.specs.Tables.{context_id_of, outer_macro_of, crate_root_of, frame_of, context_of};
 
+use crate::lang::lang_items;
+use crate::resolve::resolve_all;
+use hir_base::node::{HirFileId, InFile, NodeId, PredId};
 use hir_env::table::{Context, TableEnv};
 use hir_store::ids::{
     BlockId, CfgId, CrateId, CtxId, HygieneId, ItemContainerId, MacroDefId, ModuleId,
 };
-use hir_syntax::node::{HirFileId, InFile, NodeId, PredId};
 use json_faults::value::small;
+use json_nodes::field::flag;
 use serde_json::Value;
 use std::alloc::{AllocError, Global};
 
@@ -101,7 +104,7 @@ fn decided(entry: &Value) -> Option<(PredId, Option<bool>)>
 }
 
 /// A number, or none where null stands.
-fn number_or_null(value: &Value) -> Option<Option<u32>>
+pub fn number_or_null(value: &Value) -> Option<Option<u32>>
     ensures { result ≡ number_or_null (view value.now) }
 {
     match value {
@@ -240,14 +243,18 @@ fn entries_of<'a>(env: &'a Value, name: &str) -> &'a [Value]
     }
 }
 
-fn fill(tables: &mut TableEnv, env: &Value) -> Result<(), AllocError>
+fn fill(alloc: Global, tables: &mut TableEnv, env: &Value) -> Result<(), AllocError>
     ensures { OnOk result (tables.new ≡ with_tables (view env.now) tables.old) }
 {
     disable_all(tables, entries_of(env, "disabled"))?;
     decide_all(tables, entries_of(env, "preds"))?;
     name_all(tables, entries_of(env, "hygiene"))?;
     frame_all(tables, entries_of(env, "contexts"))?;
-    number_all(tables, entries_of(env, "blocks"))
+    number_all(tables, entries_of(env, "blocks"))?;
+    resolve_all(alloc, tables, entries_of(env, "resolve"))?;
+    tables.set_lang_items(lang_items(env.get("lang")));
+    tables.set_new_range(flag(env, "new_range"));
+    Ok(())
 }
 
 /// The tables that a document writes for a body that is not skipped and stands in the container.
@@ -260,7 +267,7 @@ pub fn tables(
 {
     let mut tables = TableEnv::new(alloc, container);
     if let Some(env) = document.get("env") {
-        fill(&mut tables, env)?;
+        fill(alloc, &mut tables, env)?;
     }
     Ok(tables)
 }

@@ -1,39 +1,53 @@
 //! The trees of a list of nodes.
 
-ghost use Rattle.std.specs.Prelude.{◌≡◌, IfOk, Some, option_and_then};
+ghost use Rattle.std.specs.Prelude.{◌≡◌, IfOk, option_and_then};
 ghost use Rattle.serde_json.specs.View.{view, items_view};
-ghost use Rattle.json_nodes.specs.Groups.{as_type};
+ghost use Rattle.json_nodes.specs.Kept.{Kept};
 ghost use Rattle.json_nodes.specs.Nodes.{here};
 ghost use Rattle.lower_json.specs.Reads.{Reads};
 ghost use Rattle.lower_json.specs.Reading as spec;
-ghost use Rattle.lower_json.specs.Reading.{of_kind, expr_kind, node_at, tree_of, tree_at};
+ghost use Rattle.lower_json.specs.Reading.{of_kind, node_at, tree_of, tree_at};
 
 use crate::document::{Root, Tree};
-use hir_syntax::Boxed;
-use hir_syntax::ast::{Expr, ExprKind, Stmt, Type_};
-use hir_syntax::node::NodeId;
+use crate::letting_go::let_go;
+use hir_base::Boxed;
+use hir_base::node::{NodeId, TextRange};
+use hir_syntax::ast::{BlockExpr, Expr, Param, ParamList, Pat, Path, Type_};
 use json_faults::kinds::kind_at;
 use json_faults::value::item_at;
-use json_kinds::kind::Kind;
+use json_kinds::kind::{ExprNode, Kind, PartNode, PathNode};
 use json_nodes::args::of_args;
 use json_nodes::bounds::of_bound;
-use json_nodes::exprs::{flow, plain};
+use json_nodes::branches::{branching, of_branch};
+use json_nodes::exprs::{flow, of_if, of_literal, plain};
 use json_nodes::field::{number_or, range};
+use json_nodes::fields::Fields;
 use json_nodes::leaving::leaving;
 use json_nodes::members::member;
-use json_nodes::node::{Node, ReadParts};
+use json_nodes::node::Node;
 use json_nodes::operations::operation;
-use json_nodes::others::{function, other, statement};
-use json_nodes::part::{AnyPart, Part};
+use json_nodes::others::{function, of_block, of_stmt, other};
+use json_nodes::param_parts::Pats;
+use json_nodes::params::of_param;
+use json_nodes::part::{AnyPart, BoxedGroup, Group, ReadParts};
 use json_nodes::partless::partless;
 use json_nodes::paths::{of_path, path};
+use json_nodes::pats::of_pat;
+use json_nodes::type_parts::Types;
 use json_nodes::typed::{of_record, typed};
-use json_nodes::types::of_type;
+use json_nodes::types::{of_path_type, of_type};
 use serde_json::Value;
 use std::alloc::{AllocError, Global};
 
 /// The levels below the root.
 const LEVELS_BELOW: u32 = 255;
+
+const LAST_ID: NodeId = NodeId(u32::MAX);
+
+const LAST_RANGE: TextRange = TextRange {
+    start: u32::MAX,
+    end: u32::MAX,
+};
 
 /// A list of nodes with their kinds, read on so many levels at most by a function.
 #[derive_where(Clone, Copy; F)]
@@ -55,105 +69,144 @@ where
     fn part_at(&self, alloc: Global, at: u32) -> Result<Option<AnyPart>, AllocError> {
         (self.read)(alloc, self.kinds, self.nodes, self.levels, at)
     }
+
+    fn let_go(&self, part: AnyPart) {
+        let_go(part);
+    }
+
+    fn boxed_expr(&self, alloc: Global, refused: &mut bool, expr: Expr) -> Option<Boxed<Expr>> {
+        match Boxed::new(alloc, expr) {
+            Ok(boxed) => Some(boxed),
+            Err(_) => {
+                *refused = true;
+                None
+            }
+        }
+    }
+
+    fn boxed_block(
+        &self,
+        alloc: Global,
+        refused: &mut bool,
+        block: BlockExpr,
+    ) -> Option<Boxed<BlockExpr>> {
+        match Boxed::new(alloc, block) {
+            Ok(boxed) => Some(boxed),
+            Err(_) => {
+                *refused = true;
+                None
+            }
+        }
+    }
+
+    fn boxed_pat(&self, alloc: Global, refused: &mut bool, pat: Pat) -> Option<Boxed<Pat>> {
+        match Boxed::new(alloc, pat) {
+            Ok(boxed) => Some(boxed),
+            Err(_) => {
+                *refused = true;
+                None
+            }
+        }
+    }
+
+    fn boxed_type(&self, alloc: Global, refused: &mut bool, ty: Type_) -> Option<Boxed<Type_>> {
+        match Boxed::new(alloc, ty) {
+            Ok(boxed) => Some(boxed),
+            Err(_) => {
+                *refused = true;
+                None
+            }
+        }
+    }
+
+    fn boxed_path(&self, alloc: Global, refused: &mut bool, path: Path) -> Option<Boxed<Path>> {
+        match Boxed::new(alloc, path) {
+            Ok(boxed) => Some(boxed),
+            Err(_) => {
+                *refused = true;
+                None
+            }
+        }
+    }
 }
 
-fn expr_kind<P: ReadParts>(node: &Node<'_, P>, kind: Kind) -> Result<Option<ExprKind>, AllocError>
-    requires { P.can node.now.parts.now }
-    ensures { IfOk result (λ expr. expr ≡ expr_kind (here P.parts node.now) kind) }
+/// An expression.
+fn of_expr<F: Fields>(node: &F, refused: &mut bool, kind: ExprNode) -> Option<AnyPart>
+    requires { F.can node.now }
+    ensures { Kept refused.old refused.new (result ≡ spec.of_expr (F.here node.now) kind) }
 {
-    if let Some(expr) = flow(node, kind)? {
-        return Ok(Some(expr));
+    if let Some(expr) = flow(node, refused, kind) {
+        return Some(expr);
     }
-    if let Some(expr) = plain(node, kind)? {
-        return Ok(Some(expr));
+    if let Some(expr) = plain(node, refused, kind) {
+        return Some(expr);
     }
-    if let Some(expr) = operation(node, kind)? {
-        return Ok(Some(expr));
+    if let Some(expr) = branching(node, refused, kind) {
+        return Some(expr);
     }
-    if let Some(expr) = member(node, kind)? {
-        return Ok(Some(expr));
+    if let Some(expr) = operation(node, refused, kind) {
+        return Some(expr);
     }
-    if let Some(expr) = leaving(node, kind)? {
-        return Ok(Some(expr));
+    if let Some(expr) = member(node, refused, kind) {
+        return Some(expr);
     }
-    if let Some(expr) = typed(node, kind)? {
-        return Ok(Some(expr));
+    if let Some(expr) = leaving(node, refused, kind) {
+        return Some(expr);
     }
-    Ok(partless(node.value, kind))
+    if let Some(expr) = typed(node, refused, kind) {
+        return Some(expr);
+    }
+    partless(node, refused, kind)
 }
 
-/// The expression of a kind. An `if` is told from others, since it may follow `else`.
-fn of_expr<P: ReadParts>(
-    node: &Node<'_, P>,
-    kind: Kind,
-    expr: ExprKind,
-) -> Result<AnyPart, AllocError>
-    ensures { IfOk result (λ part. part ≡ spec.of_expr (here P.parts node.now) kind expr) }
+/// A path, or what stands beside a name.
+fn of_path_part<F: Fields>(node: &F, refused: &mut bool, kind: PathNode) -> Option<AnyPart>
+    requires { F.can node.now }
+    ensures { Kept refused.old refused.new (result ≡ spec.of_path_part (F.here node.now) kind) }
 {
-    let expr = Expr {
-        id: node.id,
-        range: node.range,
-        kind: expr,
-    };
-    let expr = Boxed::new(node.alloc, expr)?;
-    match kind {
-        Kind::IfExpr => Ok(AnyPart::If(expr)),
-        _ => Ok(AnyPart::Expr(expr)),
+    if let Some(part) = of_path(node, refused, kind) {
+        return Some(part);
     }
+    of_args(node, refused, kind)
 }
 
-fn other_than_path<P: ReadParts>(
-    node: &Node<'_, P>,
-    kind: Kind,
-) -> Result<Option<AnyPart>, AllocError>
-    requires { P.can node.now.parts.now }
-    ensures { IfOk result (λ part. part ≡ spec.other_than_path (here P.parts node.now) kind) }
+/// A part of anything else.
+fn of_part<F: Fields>(node: &F, refused: &mut bool, kind: PartNode) -> Option<AnyPart>
+    requires { F.can node.now }
+    ensures { Kept refused.old refused.new (result ≡ spec.of_part (F.here node.now) kind) }
 {
-    if let Some(part) = of_type(node, kind)? {
-        return Ok(Some(part));
+    if let Some(part) = of_bound(node, refused, kind) {
+        return Some(part);
     }
-    if let Some(part) = of_args(node, kind)? {
-        return Ok(Some(part));
+    if let Some(part) = of_branch(node, refused, kind) {
+        return Some(part);
     }
-    if let Some(part) = of_bound(node, kind)? {
-        return Ok(Some(part));
+    if let Some(part) = of_record(node, refused, kind) {
+        return Some(part);
     }
-    if let Some(part) = of_record(node, kind)? {
-        return Ok(Some(part));
+    if let Some(part) = of_param(node, refused, kind) {
+        return Some(part);
     }
-    other(node, kind)
-}
-
-fn other_than_expr<P: ReadParts>(
-    node: &Node<'_, P>,
-    kind: Kind,
-) -> Result<Option<AnyPart>, AllocError>
-    requires { P.can node.now.parts.now }
-    ensures { IfOk result (λ part. part ≡ spec.other_than_expr (here P.parts node.now) kind) }
-{
-    if let Some(kind) = statement(node, kind)? {
-        let stmt = Stmt {
-            id: node.id,
-            range: node.range,
-            kind,
-        };
-        return Ok(Some(AnyPart::Stmt(Boxed::new(node.alloc, stmt)?)));
-    }
-    match of_path(node, kind)? {
-        Some(part) => Ok(Some(part)),
-        None => other_than_path(node, kind),
-    }
+    other(node, refused, kind)
 }
 
 /// What stands at a node of a kind.
 #[tactic(auto, unfolding(crate::specs::Reading::of_kind))]
-fn of_kind<P: ReadParts>(node: &Node<'_, P>, kind: Kind) -> Result<Option<AnyPart>, AllocError>
-    requires { P.can node.now.parts.now }
-    ensures { IfOk result (λ part. part ≡ of_kind (here P.parts node.now) kind) }
+fn of_kind<F: Fields>(node: &F, refused: &mut bool, kind: Kind) -> Option<AnyPart>
+    requires { F.can node.now }
+    ensures { Kept refused.old refused.new (result ≡ of_kind (F.here node.now) kind) }
 {
-    match expr_kind(node, kind)? {
-        Some(expr) => Ok(Some(of_expr(node, kind, expr)?)),
-        None => other_than_expr(node, kind),
+    match kind {
+        Kind::IfExpr => of_if(node, refused),
+        Kind::BlockExpr => of_block(node, refused),
+        Kind::Literal => of_literal(node, refused),
+        Kind::PathType => of_path_type(node, refused),
+        Kind::Expr(kind) => of_expr(node, refused, kind),
+        Kind::Stmt(kind) => of_stmt(node, refused, kind),
+        Kind::Pat(kind) => of_pat(node, refused, kind),
+        Kind::Type_(kind) => of_type(node, refused, kind),
+        Kind::Path(kind) => of_path_part(node, refused, kind),
+        Kind::Part(kind) => of_part(node, refused, kind),
     }
 }
 
@@ -183,7 +236,15 @@ pub fn part_at<P: ReadParts>(
     requires { P.can parts.now }
     ensures { IfOk result (λ part. part ≡ of_kind (node_at (P.parts parts.now) at (view value.now)) kind) }
 {
-    of_kind(&node_at(alloc, parts, value, at), kind)
+    let mut refused = false;
+    let part = of_kind(&node_at(alloc, parts, value, at), &mut refused, kind);
+    if !refused {
+        return Ok(part);
+    }
+    if let Some(part) = part {
+        parts.let_go(part);
+    }
+    Err(AllocError)
 }
 
 fn read_part(
@@ -213,40 +274,83 @@ fn read_part(
     part_at(alloc, &inside, value, at, kind)
 }
 
-/// The type that stands at a node, if one does.
-fn type_of<P: ReadParts>(
-    node: &Node<'_, P>,
-    kind: Option<Kind>,
-) -> Result<Option<Type_>, AllocError>
-    requires { P.can node.now.parts.now }
-    ensures { IfOk result (λ ty. ty ≡ option_and_then as_type (option_and_then (of_kind (here P.parts node.now)) kind)) }
+/// What of a group stands at a node, if anything does.
+fn one_of<G: Group, F: Fields>(node: &F, refused: &mut bool, kind: Option<Kind>) -> Option<G::Part>
+    requires { F.can node.now }
+    ensures { Kept refused.old refused.new
+        (result ≡ option_and_then G.as_group (option_and_then (of_kind (F.here node.now)) kind)) }
 {
-    let Some(kind) = kind else {
-        return Ok(None);
+    let part = of_kind(node, refused, kind?)?;
+    node.served::<G>(part)
+}
+
+/// The same in a box.
+fn boxed_one_of<G: BoxedGroup, F: Fields>(
+    node: &F,
+    refused: &mut bool,
+    kind: Option<Kind>,
+) -> Option<Boxed<G::Part>>
+    requires { F.can node.now }
+    ensures { Kept refused.old refused.new
+        (result ≡ option_and_then G.as_group (option_and_then (of_kind (F.here node.now)) kind)) }
+{
+    let part = of_kind(node, refused, kind?)?;
+    node.served_in_box::<G>(refused, part)
+}
+
+/// A pattern as the only parameter of a function.
+fn only_param<F: Fields>(node: &F, refused: &mut bool, pat: Option<Boxed<Pat>>) -> ParamList
+    ensures { Kept refused.old refused.new (result ≡ spec.only_param pat) }
+{
+    let param = Param {
+        id: LAST_ID,
+        range: LAST_RANGE,
+        pat,
+        ty: None,
+        variadic: false,
     };
-    match of_kind(node, kind)? {
-        Some(part) => Type_::from_part(node.alloc, part),
-        None => Ok(None),
+    ParamList {
+        id: LAST_ID,
+        range: LAST_RANGE,
+        self_: None,
+        params: node.only_param(refused, param),
     }
 }
 
-fn tree_of<P: ReadParts>(
+fn tree_of<F: Fields>(node: &F, refused: &mut bool, want: Root, kind: Option<Kind>) -> Tree
+    requires { F.can node.now }
+    ensures { Kept refused.old refused.new (result ≡ tree_of want kind (F.here node.now)) }
+{
+    match want {
+        Root::Fn => Tree::Fn(function(node, refused)),
+        Root::Path => Tree::Path(path(node, refused)),
+        Root::Type_ => Tree::Type_(one_of::<Types, F>(node, refused, kind)),
+        Root::Pat => {
+            let pat = boxed_one_of::<Pats, F>(node, refused, kind);
+            Tree::Pat(only_param(node, refused, pat))
+        }
+    }
+}
+
+/// The tree at a node whose root is wanted, by its value and kind.
+fn whole_tree<P: ReadParts>(
     alloc: Global,
+    parts: &P,
     want: Root,
     kind: Option<Kind>,
-    parts: &P,
     value: &Value,
     at: u32,
 ) -> Result<Tree, AllocError>
     requires { P.can parts.now }
     ensures { IfOk result (λ tree. tree ≡ tree_of want kind (node_at (P.parts parts.now) at (view value.now))) }
 {
-    let node = node_at(alloc, parts, value, at);
-    match want {
-        Root::Fn => Ok(Tree::Fn(function(&node)?)),
-        Root::Path => Ok(Tree::Path(path(&node)?)),
-        Root::Type_ => Ok(Tree::Type_(type_of(&node, kind)?)),
+    let mut refused = false;
+    let tree = tree_of(&node_at(alloc, parts, value, at), &mut refused, want, kind);
+    if !refused {
+        return Ok(tree);
     }
+    drop(tree);
+    Err(AllocError)
 }
 
 /// The tree whose root is wanted. Past the end the root says nothing.
@@ -268,7 +372,7 @@ pub fn read_tree_at(
     };
     let kind = kind_at(kinds, root as usize);
     match item_at(nodes, root as usize) {
-        Some(value) => tree_of(alloc, want, kind, &inside, value, root),
-        None => tree_of(alloc, want, kind, &inside, &Value::Null, root),
+        Some(value) => whole_tree(alloc, &inside, want, kind, value, root),
+        None => whole_tree(alloc, &inside, want, kind, &Value::Null, root),
     }
 }

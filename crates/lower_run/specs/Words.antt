@@ -9,11 +9,12 @@ use Rattle.lower_run.specs.declared.mode.Mode.TheVariants as mode
 abbrev pub mode_word : Mode → List ℕ
 mode_word mode.Path = codes "path"
 mode_word mode.Type_ = codes "type"
+mode_word mode.Pat = codes "pat"
 mode_word mode.Body = codes "body"
 
 -- the mode whose word it is
 abbrev pub mode_with : List ℕ → Option Mode
-mode_with word = find (λ m. bytes_eq word (mode_word m)) (mode.Path ∷ mode.Type_ ∷ mode.Body ∷ [])
+mode_with word = find (λ m. bytes_eq word (mode_word m)) (mode.Path ∷ mode.Type_ ∷ mode.Pat ∷ mode.Body ∷ [])
 
 -- the mode that words call for: exactly one word, which is a mode's
 abbrev pub called : {W : Type 0} → (W → List ℕ) → List W → Option Mode
@@ -25,4 +26,5 @@ called text (w ∷ v ∷ vs) = None
 abbrev pub root_of : Mode → Root
 root_of mode.Path = root.Path
 root_of mode.Type_ = root.Type_
+root_of mode.Pat = root.Pat
 root_of mode.Body = root.Fn

@@ -2,13 +2,16 @@
 
 mod lines;
 mod numbering;
+mod pats;
 mod printer;
 mod types;
 mod waiting;
 mod words;
 mod writer;
 
-use hir_store::ids::TypeRefId;
+use hir_env::lang::LangItems;
+use hir_lower::Param;
+use hir_store::ids::{BindingId, PatId, TypeRefId};
 use hir_store::path::Path;
 use hir_store::source_map::ExpressionStoreSourceMap;
 use hir_store::store::ExpressionStore;
@@ -16,18 +19,39 @@ use hir_syntax::ast;
 use printer::Printer;
 use std::alloc::{AllocError, Global};
 
-/// The listing of a body: a line with the body, one for each label in it, one for each diagnostic.
-///
-/// `sources` says whether expressions, labels and diagnostics are followed by the node that they came from. Only
-/// memory can fail.
+/// What is listed: a store with its source map, the language's items by whose names those in it are printed, and whether
+/// expressions, patterns, labels and diagnostics are followed by the node that they came from.
+#[derive(Clone, Copy)]
+pub struct Listed<'a> {
+    pub store: &'a ExpressionStore,
+    pub source_map: &'a ExpressionStoreSourceMap,
+    pub lang_items: &'a LangItems,
+    pub sources: bool,
+}
+
+/// The listing of a body: a line with its `self`, where it has one, one for each other parameter, one with itself, one for
+/// each binding and each label in them, one for each diagnostic. Only memory can fail.
 pub fn body_listing(
     alloc: Global,
-    store: &ExpressionStore,
-    source_map: &ExpressionStoreSourceMap,
-    sources: bool,
+    listed: Listed<'_>,
+    self_param: Option<BindingId>,
+    params: &[Param<PatId>],
 ) -> Result<String, AllocError> {
-    let mut printer = Printer::new(alloc, store, source_map, sources);
-    let printed = printer.listing();
+    let mut printer = Printer::new(alloc, listed);
+    let printed = printer.listing(self_param, params);
+    let text = printer.finish();
+    printed?;
+    Ok(text)
+}
+
+/// The listing of parameters without their body. Only memory can fail.
+pub fn params_listing(
+    alloc: Global,
+    listed: Listed<'_>,
+    params: &[Param<PatId>],
+) -> Result<String, AllocError> {
+    let mut printer = Printer::new(alloc, listed);
+    let printed = printer.params_listing(params);
     let text = printer.finish();
     printed?;
     Ok(text)
@@ -37,13 +61,11 @@ pub fn body_listing(
 /// segments and one past the last; then as for a body. Only memory can fail.
 pub fn path_listing<'a>(
     alloc: Global,
+    listed: Listed<'a>,
     path: Option<&'a Path>,
     written: &ast::Path,
-    store: &'a ExpressionStore,
-    source_map: &'a ExpressionStoreSourceMap,
-    sources: bool,
 ) -> Result<String, AllocError> {
-    let mut printer = Printer::new(alloc, store, source_map, sources);
+    let mut printer = Printer::new(alloc, listed);
     let printed = printer.path_listing(path, written);
     let text = printer.finish();
     printed?;
@@ -53,12 +75,10 @@ pub fn path_listing<'a>(
 /// The listing of a type: a line with it, then as for a body. Only memory can fail.
 pub fn type_listing(
     alloc: Global,
+    listed: Listed<'_>,
     ty: TypeRefId,
-    store: &ExpressionStore,
-    source_map: &ExpressionStoreSourceMap,
-    sources: bool,
 ) -> Result<String, AllocError> {
-    let mut printer = Printer::new(alloc, store, source_map, sources);
+    let mut printer = Printer::new(alloc, listed);
     let printed = printer.type_listing(ty);
     let text = printer.finish();
     printed?;

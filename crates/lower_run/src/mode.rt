@@ -11,6 +11,7 @@ use std::convert::AsStr;
 pub enum Mode {
     Path,
     Type_,
+    Pat,
     Body,
 }
 
@@ -21,6 +22,7 @@ impl Mode {
         match word {
             "path" => Some(Mode::Path),
             "type" => Some(Mode::Type_),
+            "pat" => Some(Mode::Pat),
             "body" => Some(Mode::Body),
             _ => None,
         }
@@ -45,6 +47,7 @@ impl Mode {
         match self {
             Mode::Path => Root::Path,
             Mode::Type_ => Root::Type_,
+            Mode::Pat => Root::Pat,
             Mode::Body => Root::Fn,
         }
     }

@@ -7,20 +7,35 @@ ghost use Rattle.std.specs.Io.KnownBytes.{Appends};
 
 use crate::failure::Failure;
 use crate::input::read_all;
-use crate::listing::{body_listing, path_listing, type_listing};
+use crate::listing::{Listed, body_listing, params_listing, path_listing, type_listing};
 use crate::mode::Mode;
+use hir_base::node::{AstPtr, HirFileId, InFile};
+use hir_env::env::LowerEnv;
 use hir_lower::{ErrorImplTrait, ExprCollector, LowerError, lower_body, lower_type_ref};
-use hir_store::ids::ModuleId;
+use hir_store::ids::{DefWithBodyId, FunctionId, ModuleId};
 use hir_store::path::Path;
 use hir_store::source_map::ExpressionStoreSourceMap;
 use hir_store::store::ExpressionStore;
-use hir_syntax::ast;
-use hir_syntax::node::{AstPtr, HirFileId, InFile};
+use hir_syntax::ast::{self, ParamList};
 use lower_json::document::{Document, Tree};
 use lower_json::read::read_tree;
 use std::alloc::Global;
 use std::convert::AsStr;
 use std::io::{Read, Write};
+
+/// What is listed of a document.
+fn listed_in<'a>(
+    document: &'a Document,
+    store: &'a ExpressionStore,
+    source_map: &'a ExpressionStoreSourceMap,
+) -> Listed<'a> {
+    Listed {
+        store,
+        source_map,
+        lang_items: document.env.lang_items(),
+        sources: document.sources,
+    }
+}
 
 /// The listing of a body.
 fn listed_body(alloc: Global, document: &Document, item: &ast::Fn) -> Result<String, Failure>
@@ -37,15 +52,47 @@ fn listed_body(alloc: Global, document: &Document, item: &ast::Fn) -> Result<Str
         node,
         HirFileId(0),
         ModuleId(0),
-        None,
+        item.params.as_ref(),
         item.body.as_ref(),
         false,
         false,
     )?;
-    let listed = body_listing(alloc, &body.store, &source_map.store, document.sources);
+    let listed = listed_in(document, &body.store, &source_map.store);
+    let self_param = match body.self_param {
+        Some(param) => Some(param.formal),
+        None => None,
+    };
+    let text = body_listing(alloc, listed, self_param, body.params.as_slice());
     drop(body);
     drop(source_map);
-    listed.map_err(|_| Failure::Memory)
+    text.map_err(|_| Failure::Memory)
+}
+
+/// The listing of a pattern, which stands in the only parameter of a function.
+fn listed_pat(alloc: Global, document: &Document, params: &ParamList) -> Result<String, Failure>
+    ensures { IfErr result (λ e. (e ≡ Failure.Memory) ⊎ (e ≡ Failure.Full)) }
+{
+    let node = AstPtr {
+        node: params.id,
+        range: params.range,
+    };
+    let (body, source_map) = lower_body(
+        alloc,
+        &document.env,
+        DefWithBodyId::FunctionId(FunctionId(0)),
+        node,
+        HirFileId(0),
+        ModuleId(0),
+        Some(params),
+        None,
+        false,
+        false,
+    )?;
+    let listed = listed_in(document, &body.store, &source_map.store);
+    let text = params_listing(alloc, listed, body.params.as_slice());
+    drop(body);
+    drop(source_map);
+    text.map_err(|_| Failure::Memory)
 }
 
 /// A lowered path, with the store that it names.
@@ -71,18 +118,12 @@ fn listed_path(alloc: Global, document: &Document, path: &ast::Path) -> Result<S
     ensures { IfErr result (λ e. (e ≡ Failure.Memory) ⊎ (e ≡ Failure.Full)) }
 {
     let (lowered, store, source_map) = lowered_path(alloc, document, path)?;
-    let listed = path_listing(
-        alloc,
-        lowered.as_ref(),
-        path,
-        &store,
-        &source_map,
-        document.sources,
-    );
+    let listed = listed_in(document, &store, &source_map);
+    let text = path_listing(alloc, listed, lowered.as_ref(), path);
     drop(lowered);
     drop(store);
     drop(source_map);
-    listed.map_err(|_| Failure::Memory)
+    text.map_err(|_| Failure::Memory)
 }
 
 /// The listing of a type, which may be absent.
@@ -98,10 +139,11 @@ fn listed_type(
         value: ty,
     };
     let (store, source_map, lowered) = lower_type_ref(alloc, &document.env, ModuleId(0), written)?;
-    let listed = type_listing(alloc, lowered, &store, &source_map, document.sources);
+    let listed = listed_in(document, &store, &source_map);
+    let text = type_listing(alloc, listed, lowered);
     drop(store);
     drop(source_map);
-    listed.map_err(|_| Failure::Memory)
+    text.map_err(|_| Failure::Memory)
 }
 
 /// The listing of a document's tree.
@@ -112,6 +154,7 @@ fn document_listing(alloc: Global, document: &Document) -> Result<String, Failur
         Tree::Fn(item) => listed_body(alloc, document, item),
         Tree::Path(path) => listed_path(alloc, document, path),
         Tree::Type_(ty) => listed_type(alloc, document, ty.as_ref()),
+        Tree::Pat(params) => listed_pat(alloc, document, params),
     }
 }
 

@@ -1,13 +1,13 @@
-//! The roots of constants in a collector, and a path with constants for which there is no room.
+//! The roots of constants in a collector, and constants for whose parts there is no room.
 
+use hir_base::node::HirFileId;
 use hir_env::place::LoweringMode;
 use hir_env::table::TableEnv;
 use hir_lower::{ErrorImplTrait, ExprCollector, LowerError};
-use hir_store::ids::{ExprId, ItemContainerId, ModuleId};
+use hir_store::ids::{BindingId, ExprId, ItemContainerId, ModuleId, PatId};
 use hir_store::roots::ExprRoot;
 use hir_store::store::ExpressionStore;
 use hir_syntax::ast::{ConstArg, GenericArg, Path};
-use hir_syntax::node::HirFileId;
 use lower_json::document::{Document, Root, Tree};
 use lower_json::fault::ReadError;
 use lower_json::read::read_tree;
@@ -47,7 +47,7 @@ fn collector(alloc: Global, env: &TableEnv, limit: u32) -> ExprCollector<'_, Tab
 /// The first argument beside the path's only name, where it is a constant.
 fn constant_of(path: &Path) -> Option<&ConstArg> {
     match path.segs.as_slice() {
-        [Some(segment)] => match segment.generics.as_ref()?.args.as_slice() {
+        [Some(segment)] => match segment.generics.as_ref()?.as_slice() {
             [GenericArg::ConstArg(constant)] => Some(constant),
             _ => None,
         },
@@ -113,7 +113,7 @@ fn roots_in_text(alloc: Global, text: &str) -> Result<Option<Recorded>, ReadErro
     let document = read_tree(alloc, Root::Path, text.as_bytes())?;
     let roots = match &document.tree {
         Tree::Path(path) => roots_of(alloc, path),
-        Tree::Fn(_) | Tree::Type_(_) => None,
+        Tree::Fn(_) | Tree::Type_(_) | Tree::Pat(_) => None,
     };
     drop(document);
     Ok(roots)
@@ -145,7 +145,7 @@ fn lowered_twice(alloc: Global, path: &Path, limit: u32) -> Answers {
 fn in_one_and_two(alloc: Global, document: &Document) -> Option<(Answers, Answers)> {
     match &document.tree {
         Tree::Path(path) => Some((lowered_twice(alloc, path, 1), lowered_twice(alloc, path, 2))),
-        Tree::Fn(_) | Tree::Type_(_) => None,
+        Tree::Fn(_) | Tree::Type_(_) | Tree::Pat(_) => None,
     }
 }
 
@@ -167,4 +167,68 @@ fn a_path_does_not_fit_where_its_constants_do_not(rt: HostRuntime) {
         in_one_and_two_in_text(rt.alloc(), PATH),
         Ok(Some((in_one, in_two)))
     );
+}
+
+/// `A<{ let (x, y); }>`, whose constant becomes one expression, three patterns and two bindings.
+const LET: &str = r#"{"nodes": [
+    {"k": "Path", "segs": [1]},
+    {"k": "PathSegment", "seg": "name", "name": "A", "generics": 2},
+    {"k": "GenericArgList", "args": [3]},
+    {"k": "ConstArg", "expr": 4},
+    {"k": "BlockExpr", "stmts": [5]},
+    {"k": "LetStmt", "pat": 6},
+    {"k": "TuplePat", "fields": [7, 8]},
+    {"k": "IdentPat", "name": "x"},
+    {"k": "IdentPat", "name": "y"}
+]}"#;
+
+/// Where the expressions, the patterns and the bindings of a root end.
+type Ends = (ExprId, PatId, BindingId);
+
+fn ends_of(root: &ExprRoot) -> Ends {
+    (root.exprs_end, root.pats_end, root.bindings_end)
+}
+
+/// The ends of the first root that a collector has recorded, or why it hands out no store.
+fn first_ends(collector: ExprCollector<'_, TableEnv>) -> Result<Option<Ends>, LowerError> {
+    match collector.into_store() {
+        Ok((store, source_map)) => {
+            let ends = store.expr_roots().first().map(ends_of);
+            drop(store);
+            drop(source_map);
+            Ok(ends)
+        }
+        Err(error) => Err(error),
+    }
+}
+
+/// What a collector with a limit answers to the path's constant, and the ends of its root.
+type Bounded = (Option<LowerError>, Result<Option<Ends>, LowerError>);
+
+fn ends_within(alloc: Global, path: &Path, limit: u32) -> Option<Bounded> {
+    let constant = constant_of(path)?;
+    let env = table(alloc);
+    let mut collector = collector(alloc, &env, limit);
+    let error = collector.lower_const_arg(constant).err();
+    let ends = first_ends(collector);
+    drop(env);
+    Some((error, ends))
+}
+
+/// In a collector for two of each kind, and in one for three.
+fn let_in_two_and_three(alloc: Global) -> Result<(Option<Bounded>, Option<Bounded>), ReadError> {
+    let document = read_tree(alloc, Root::Path, LET.as_bytes())?;
+    let bounded = match &document.tree {
+        Tree::Path(path) => (ends_within(alloc, path, 2), ends_within(alloc, path, 3)),
+        Tree::Fn(_) | Tree::Type_(_) | Tree::Pat(_) => (None, None),
+    };
+    drop(document);
+    Ok(bounded)
+}
+
+#[test]
+fn a_let_of_two_names_takes_three_patterns_and_two_bindings(rt: HostRuntime) {
+    let in_two = Some((Some(LowerError::Full), Err(LowerError::Failed)));
+    let in_three = Some((None, Ok(Some((ExprId(1), PatId(3), BindingId(2))))));
+    assert_eq!(rt; let_in_two_and_three(rt.alloc()), Ok((in_two, in_three)));
 }

@@ -4,9 +4,9 @@
 #[cfg(test)]
 mod bindings;
 #[cfg(test)]
-mod blocks;
-#[cfg(test)]
 mod constants;
+#[cfg(test)]
+mod definitions;
 #[cfg(test)]
 mod errors;
 #[cfg(test)]
@@ -14,10 +14,22 @@ mod limits;
 #[cfg(test)]
 mod listings;
 #[cfg(test)]
+mod lowered;
+#[cfg(test)]
+mod nodes;
+#[cfg(test)]
+mod objects;
+#[cfg(test)]
 mod paths;
+#[cfg(test)]
+mod patterns;
 #[cfg(test)]
 mod streams;
 #[cfg(test)]
+mod targets;
+#[cfg(test)]
 mod types;
+#[cfg(test)]
+mod ways;
 #[cfg(test)]
 mod ways_back;

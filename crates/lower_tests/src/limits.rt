@@ -1,5 +1,7 @@
 //! Constants that a collector with a limit lowers.
 
+use hir_base::node::{HirFileId, NodeId, TextRange};
+use hir_base::{Boxed, Seq, Text};
 use hir_env::place::LoweringMode;
 use hir_env::table::TableEnv;
 use hir_lower::{ExprCollector, LowerError};
@@ -8,8 +10,6 @@ use hir_store::store::ExpressionStore;
 use hir_syntax::ast::{
     ConstArg, Expr, ExprKind, Literal, LiteralKind, Name, Path, PathSegment, SegmentKind,
 };
-use hir_syntax::node::{HirFileId, NodeId, TextRange};
-use hir_syntax::{Boxed, Seq, Text};
 use std::alloc::{AllocError, Global};
 
 fn range(node: u32) -> TextRange {
@@ -28,11 +28,7 @@ fn expr(node: u32, kind: ExprKind) -> Expr {
 }
 
 fn constant(alloc: Global, value: Expr) -> Result<ConstArg, AllocError> {
-    Ok(ConstArg {
-        id: NodeId(0),
-        range: range(0),
-        expr: Some(Boxed::new(alloc, value)?),
-    })
+    Ok(Some(Boxed::new(alloc, value)?))
 }
 
 fn one(alloc: Global, node: u32) -> Result<Expr, AllocError> {

@@ -1,6 +1,9 @@
-//! Listings that no document leads to yet: a minus, generated names, nodes of other files, faults behind a border or
-//! outside of a body.
+//! Listings that no document leads to yet, as generated names, nodes of other files, and faults behind a border or
+//! outside of a body; and a minus in front of an integer.
 
+use hir_base::node::{AstPtr, HirFileId, InFile, NodeId, TextRange};
+use hir_base::{Boxed, Seq, Text};
+use hir_env::lang::LangItems;
 use hir_env::place::LoweringMode;
 use hir_env::table::TableEnv;
 use hir_lower::{ExprCollector, LowerError};
@@ -12,9 +15,7 @@ use hir_store::ids::{HygieneId, ItemContainerId, ModuleId};
 use hir_store::name::Name;
 use hir_store::path::{ModPath, Path, PathKind};
 use hir_syntax::ast::{self, ConstArg, ExprKind, LiteralKind};
-use hir_syntax::node::{AstPtr, HirFileId, InFile, NodeId, TextRange};
-use hir_syntax::{Boxed, Seq, Text};
-use lower_run::listing::body_listing;
+use lower_run::listing::{Listed, body_listing};
 use std::alloc::{AllocError, Global};
 use std::test::Fail;
 
@@ -29,7 +30,14 @@ const OTHER_FILE: InFile<AstPtr> = InFile {
 /// The listing of what a builder holds, with sources.
 fn listing(alloc: Global, builder: ExpressionStoreBuilder) -> Result<String, AllocError> {
     let (store, source_map) = builder.finish();
-    let text = body_listing(alloc, &store, &source_map, true);
+    let items = LangItems::numbered();
+    let listed = Listed {
+        store: &store,
+        source_map: &source_map,
+        lang_items: &items,
+        sources: true,
+    };
+    let text = body_listing(alloc, listed, None, &[]);
     drop(store);
     drop(source_map);
     text
@@ -130,18 +138,21 @@ fn awaiting(alloc: Global) -> Result<ConstArg, AllocError> {
         range: TextRange { start: 1, end: 2 },
         kind: ExprKind::AwaitExpr { expr: None },
     };
-    Ok(ConstArg {
-        id: NodeId(0),
-        range: TextRange { start: 0, end: 2 },
-        expr: Some(Boxed::new(alloc, expr)?),
-    })
+    Ok(Some(Boxed::new(alloc, expr)?))
 }
 
 /// The listing of what a collector holds, with sources.
 fn collected(alloc: Global, collector: ExprCollector<'_, TableEnv>) -> Result<String, LowerError> {
     match collector.into_store() {
         Ok((store, source_map)) => {
-            let text = body_listing(alloc, &store, &source_map, true);
+            let items = LangItems::numbered();
+            let listed = Listed {
+                store: &store,
+                source_map: &source_map,
+                lang_items: &items,
+                sources: true,
+            };
+            let text = body_listing(alloc, listed, None, &[]);
             drop(store);
             drop(source_map);
             text.map_err(|_| LowerError::Memory)

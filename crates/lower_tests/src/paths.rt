@@ -1,11 +1,11 @@
 //! Paths in collectors, and the way back to their segments.
 
+use hir_base::node::{HirFileId, NodeId};
 use hir_env::place::LoweringMode;
 use hir_env::table::TableEnv;
 use hir_lower::{ErrorImplTrait, ExprCollector, LowerError, hir_segment_to_ast_segment};
 use hir_store::ids::{ItemContainerId, ModuleId};
 use hir_syntax::ast::{ConstArg, Path};
-use hir_syntax::node::{HirFileId, NodeId, TextRange};
 use lower_json::document::{Document, Root, Tree};
 use lower_json::fault::ReadError;
 use lower_json::read::read_tree;
@@ -34,7 +34,7 @@ fn nodes_of(document: &Document) -> Option<[Option<NodeId>; 4]> {
             node_of(path, 2),
             node_of(path, 3),
         ]),
-        Tree::Fn(_) | Tree::Type_(_) => None,
+        Tree::Fn(_) | Tree::Type_(_) | Tree::Pat(_) => None,
     }
 }
 
@@ -51,14 +51,6 @@ fn segments_that_bear_names_are_lent(rt: HostRuntime) {
         nodes_in_text(rt.alloc(), MIXED),
         Ok(Some([Some(NodeId(2)), Some(NodeId(3)), Some(NodeId(5)), None]))
     );
-}
-
-fn no_constant() -> ConstArg {
-    ConstArg {
-        id: NodeId(6),
-        range: TextRange { start: 6, end: 7 },
-        expr: None,
-    }
 }
 
 /// Whether the path has a lowered form, or why that isn't said.
@@ -78,7 +70,7 @@ type Answers = (
 
 fn without_room(alloc: Global, path: &Path) -> Answers {
     let env = TableEnv::new(alloc, ItemContainerId::ModuleId(ModuleId(0)));
-    let constant = no_constant();
+    let constant: ConstArg = None;
     let mut collector = ExprCollector::with_limit(
         alloc,
         &env,
@@ -100,7 +92,7 @@ fn without_room_in_text(alloc: Global, text: &str) -> Result<Option<Answers>, Re
     let document = read_tree(alloc, Root::Path, text.as_bytes())?;
     let answers = match &document.tree {
         Tree::Path(path) => Some(without_room(alloc, path)),
-        Tree::Fn(_) | Tree::Type_(_) => None,
+        Tree::Fn(_) | Tree::Type_(_) | Tree::Pat(_) => None,
     };
     drop(document);
     Ok(answers)

@@ -1,19 +1,22 @@
-//! What an `impl` becomes where the caller chooses, and types for which there is no room.
+//! What an `impl` becomes where the caller chooses, types for which there is no room, and one that is absent.
 
+use hir_base::Seq;
+use hir_base::node::{AstPtr, HirFileId, InFile, NodeId, TextRange};
+use hir_env::lang::LangItems;
 use hir_env::place::LoweringMode;
 use hir_env::table::TableEnv;
 use hir_lower::{
     ErrorImplTrait, ExprCollector, ImplTraitLower, LowerError, OpaqueImplTrait,
-    impl_trait_error_allocator,
+    impl_trait_error_allocator, lower_type_ref,
 };
 use hir_store::ids::{ItemContainerId, ModuleId, TypeRefId};
-use hir_syntax::Seq;
+use hir_store::source_map::ExpressionStoreSourceMap;
+use hir_store::store::ExpressionStore;
 use hir_syntax::ast::Path;
-use hir_syntax::node::{AstPtr, HirFileId, NodeId, TextRange};
 use lower_json::document::{Document, Root, Tree};
 use lower_json::fault::ReadError;
 use lower_json::read::read_tree;
-use lower_run::listing::{path_listing, type_listing};
+use lower_run::listing::{Listed, path_listing, type_listing};
 use std::alloc::Global;
 use std::test::Fail;
 
@@ -50,15 +53,30 @@ fn collector(alloc: Global, env: &TableEnv, limit: u32) -> ExprCollector<'_, Tab
     )
 }
 
+/// What is listed without sources.
+fn listed_in<'a>(
+    store: &'a ExpressionStore,
+    source_map: &'a ExpressionStoreSourceMap,
+    lang_items: &'a LangItems,
+) -> Listed<'a> {
+    Listed {
+        store,
+        source_map,
+        lang_items,
+        sources: false,
+    }
+}
+
 /// The listing of a type in a collector.
 fn listed(
     alloc: Global,
     collector: ExprCollector<'_, TableEnv>,
     ty: TypeRefId,
 ) -> Result<String, LowerError> {
+    let items = LangItems::numbered();
     match collector.into_store() {
         Ok((store, source_map)) => {
-            let text = type_listing(alloc, ty, &store, &source_map, false);
+            let text = type_listing(alloc, listed_in(&store, &source_map, &items), ty);
             drop(store);
             drop(source_map);
             text.map_err(|_| LowerError::Memory)
@@ -118,18 +136,13 @@ fn an_impl_becomes_what_the_caller_chooses(rt: HostRuntime) -> Result<(), Fail> 
 fn opaque_listed(alloc: Global, path: &Path, limit: u32) -> Result<String, LowerError> {
     let env = table(alloc);
     let mut collector = collector(alloc, &env, limit);
+    let items = LangItems::numbered();
     let text = match collector.lower_path(path, &mut OpaqueImplTrait) {
         Ok(lowered) => {
             let text = match collector.into_store() {
                 Ok((store, source_map)) => {
-                    let text = path_listing(
-                        alloc,
-                        lowered.as_ref(),
-                        path,
-                        &store,
-                        &source_map,
-                        false,
-                    );
+                    let listed = listed_in(&store, &source_map, &items);
+                    let text = path_listing(alloc, listed, lowered.as_ref(), path);
                     drop(store);
                     drop(source_map);
                     text.map_err(|_| LowerError::Memory)
@@ -151,7 +164,7 @@ fn opaque_listed(alloc: Global, path: &Path, limit: u32) -> Result<String, Lower
 fn opaque_in(alloc: Global, document: &Document, limit: u32) -> Option<Result<String, LowerError>> {
     match &document.tree {
         Tree::Path(path) => Some(opaque_listed(alloc, path, limit)),
-        Tree::Fn(_) | Tree::Type_(_) => None,
+        Tree::Fn(_) | Tree::Type_(_) | Tree::Pat(_) => None,
     }
 }
 
@@ -179,4 +192,29 @@ fn a_path_of_two_types_does_not_fit_where_one_may_be_stored(rt: HostRuntime) -> 
     let listed = opaque_in_text(rt.alloc(), IMPL_IN_A_PATH, 1)?;
     assert!(rt; matches!(listed, Some(Err(LowerError::Full))));
     Ok(())
+}
+
+/// Whether a type that is absent comes from a node.
+fn absent_has_node(alloc: Global) -> Result<bool, LowerError> {
+    let env = table(alloc);
+    let absent = InFile {
+        file_id: HirFileId(0),
+        value: None,
+    };
+    let has_node = match lower_type_ref(alloc, &env, ModuleId(0), absent) {
+        Ok((store, source_map, ty)) => {
+            let has_node = source_map.type_syntax(ty).is_some();
+            drop(store);
+            drop(source_map);
+            Ok(has_node)
+        }
+        Err(error) => Err(error),
+    };
+    drop(env);
+    has_node
+}
+
+#[test]
+fn an_absent_type_has_no_node(rt: HostRuntime) {
+    assert_eq!(rt; absent_has_node(rt.alloc()), Ok(false));
 }

@@ -1,14 +1,13 @@
 //! The ways back from the parts of what is stored to the written nodes.
 
-use hir_lower::{
-    Body, BodySourceMap, hir_assoc_type_binding_to_ast, hir_generic_arg_to_ast, lower_body,
-};
+use crate::lowered::lowered_text;
+use hir_base::node::NodeId;
+use hir_lower::{Body, BodySourceMap, hir_assoc_type_binding_to_ast, hir_generic_arg_to_ast};
 use hir_store::hir::Expr;
-use hir_store::ids::{ConstId, DefWithBodyId, ExprId, ModuleId};
+use hir_store::ids::ExprId;
 use hir_store::store::ExpressionStore;
-use hir_syntax::ast::{Fn, GenericArg, GenericArgList, Path};
-use hir_syntax::node::{AstPtr, HirFileId, NodeId};
-use lower_json::document::{Document, Root, Tree};
+use hir_syntax::ast::{GenericArg, GenericArgList, Path};
+use lower_json::document::{Root, Tree};
 use lower_json::fault::ReadError;
 use lower_json::read::read_tree;
 use std::alloc::Global;
@@ -31,17 +30,22 @@ const ARGUMENTS: &str = r#"{"nodes": [
     {"k": "Literal", "lit": "int", "t": "3"}
 ]}"#;
 
-fn node_of(arg: &GenericArg) -> NodeId {
+/// The node of a type or a constant that is an argument, of a lifetime with its argument, or of a binding.
+fn node_of(arg: &GenericArg) -> Option<NodeId> {
     match arg {
-        GenericArg::TypeArg(arg) => arg.id,
-        GenericArg::AssocTypeArg(arg) => arg.id,
-        GenericArg::LifetimeArg(arg) => arg.id,
-        GenericArg::ConstArg(arg) => arg.id,
+        GenericArg::TypeArg(ty) => Some(ty.as_ref()?.get().id),
+        GenericArg::AssocTypeArg(arg) => Some(arg.id),
+        GenericArg::LifetimeArg(arg) => Some(arg.id),
+        GenericArg::ConstArg(expr) => Some(expr.as_ref()?.get().id),
     }
 }
 
 fn arg_node(list: &GenericArgList, at: u32) -> Option<NodeId> {
-    Some(node_of(hir_generic_arg_to_ast(list, at, false)?))
+    node_of(hir_generic_arg_to_ast(list, at, false)?)
+}
+
+fn first_node_behind_self(list: &GenericArgList) -> Option<NodeId> {
+    node_of(hir_generic_arg_to_ast(list, 1, true)?)
 }
 
 fn binding_node(list: &GenericArgList, at: u32) -> Option<NodeId> {
@@ -58,9 +62,8 @@ fn lent(list: &GenericArgList) -> Lent {
         arg_node(list, 2),
         arg_node(list, 3),
     ];
-    let behind_self = hir_generic_arg_to_ast(list, 1, true).map(node_of);
     let bindings = [binding_node(list, 0), binding_node(list, 1)];
-    (args, behind_self, bindings)
+    (args, first_node_behind_self(list), bindings)
 }
 
 fn lent_in(path: &Path) -> Option<Lent> {
@@ -74,7 +77,7 @@ fn lent_in_text(alloc: Global, text: &str) -> Result<Option<Lent>, ReadError> {
     let document = read_tree(alloc, Root::Path, text.as_bytes())?;
     let lent = match &document.tree {
         Tree::Path(path) => lent_in(path),
-        Tree::Fn(_) | Tree::Type_(_) => None,
+        Tree::Fn(_) | Tree::Type_(_) | Tree::Pat(_) => None,
     };
     drop(document);
     Ok(lent)
@@ -82,11 +85,11 @@ fn lent_in_text(alloc: Global, text: &str) -> Result<Option<Lent>, ReadError> {
 
 #[test]
 fn arguments_and_bindings_are_lent(rt: HostRuntime) {
-    let args = [Some(NodeId(3)), Some(NodeId(7)), Some(NodeId(12)), None];
+    let args = [Some(NodeId(4)), Some(NodeId(7)), Some(NodeId(13)), None];
     let bindings = [Some(NodeId(8)), None];
     assert_eq!(rt;
         lent_in_text(rt.alloc(), ARGUMENTS),
-        Ok(Some((args, Some(NodeId(3)), bindings)))
+        Ok(Some((args, Some(NodeId(4)), bindings)))
     );
 }
 
@@ -117,41 +120,16 @@ fn field_node(body: &Body, source_map: &BodySourceMap) -> Option<NodeId> {
     Some(source_map.store.field_syntax(value)?.value.node)
 }
 
-fn field_node_in(alloc: Global, document: &Document, item: &Fn) -> Option<NodeId> {
-    let lowered = lower_body(
-        alloc,
-        &document.env,
-        DefWithBodyId::ConstId(ConstId(0)),
-        AstPtr {
-            node: item.id,
-            range: item.range,
-        },
-        HirFileId(0),
-        ModuleId(0),
-        None,
-        item.body.as_ref(),
-        false,
-        false,
-    );
-    match lowered {
-        Ok((body, source_map)) => {
+fn field_node_in_text(alloc: Global, text: &str) -> Result<Option<NodeId>, ReadError> {
+    match lowered_text(alloc, text)? {
+        Some((body, source_map)) => {
             let node = field_node(&body, &source_map);
             drop(body);
             drop(source_map);
-            node
+            Ok(node)
         }
-        Err(_) => None,
+        None => Ok(None),
     }
-}
-
-fn field_node_in_text(alloc: Global, text: &str) -> Result<Option<NodeId>, ReadError> {
-    let document = read_tree(alloc, Root::Fn, text.as_bytes())?;
-    let node = match &document.tree {
-        Tree::Fn(item) => field_node_in(alloc, &document, item),
-        Tree::Path(_) | Tree::Type_(_) => None,
-    };
-    drop(document);
-    Ok(node)
 }
 
 #[test]

@@ -1,4 +1,4 @@
-use Rattle.hir_one_result.proofs.Fits.{all_fit, types_fit, paths_fit}
+use Rattle.hir_one_result.proofs.Fits.{all_fit, types_fit, paths_fit, bodies_fit}
 use Rattle.hir_one_result.proofs.numbers.Goals as goal
 
 pub returns-clause-trees : goal.returns-clause-trees
@@ -9,3 +9,6 @@ returns-clause-types c = types_fit
 
 pub returns-clause-paths : goal.returns-clause-paths
 returns-clause-paths c = paths_fit
+
+pub returns-clause-bodies : goal.returns-clause-bodies
+returns-clause-bodies c = bodies_fit

@@ -1,3 +1,4 @@
+use Rattle.hir_one_result.proofs.PatRows.{patterned}
 use Rattle.hir_one_result.proofs.Rows.{jumps, statements, enters_in_order, leaves, plain_forms}
 use Rattle.hir_one_result.proofs.small_trees.Goals as goal
 
@@ -15,3 +16,6 @@ returns-clause-leaves c = leaves
 
 pub returns-clause-plain_forms : goal.returns-clause-plain_forms
 returns-clause-plain_forms c = plain_forms
+
+pub returns-clause-patterned : goal.returns-clause-patterned
+returns-clause-patterned c = patterned

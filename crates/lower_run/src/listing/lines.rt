@@ -1,14 +1,14 @@
 //! The lines of segments, labels and diagnostics.
 
-use super::words::{await_word, missing_body_word};
+use super::words::{await_word, missing_body_word, mode_word, problem_word};
 use super::writer::Writer;
+use hir_base::node::{AstPtr, InFile};
 use hir_lower::{named_parts, segment_name};
 use hir_store::diagnostics::ExpressionStoreDiagnostics;
-use hir_store::ids::LabelId;
+use hir_store::ids::{BindingId, LabelId};
 use hir_store::source_map::ExpressionStoreSourceMap;
 use hir_store::store::ExpressionStore;
 use hir_syntax::ast::{Path, PathSegment};
-use hir_syntax::node::{AstPtr, InFile};
 use std::alloc::AllocError;
 
 fn segment_line(writer: &mut Writer, number: u32, name: &str) -> Result<(), AllocError> {
@@ -44,6 +44,24 @@ pub fn segments(writer: &mut Writer, path: &Path) -> Result<(), AllocError> {
     let number = segment_lines(writer, 0, of_trait)?;
     let number = segment_lines(writer, number, rest)?;
     segment_line(writer, number, "None")
+}
+
+/// Adds a line for each of these bindings, the k-th with the number k. None is owned yet.
+pub fn bindings(
+    writer: &mut Writer,
+    bindings: &[BindingId],
+    store: &ExpressionStore,
+) -> Result<(), AllocError> {
+    for (number, id) in bindings.iter().enumerate() {
+        writer.numbered("binding ", number)?;
+        if let Some(binding) = store.binding(*id) {
+            writer.named(" ", &binding.name)?;
+            writer.word(mode_word(binding.mode))?;
+            writer.word(problem_word(binding.problems))?;
+        }
+        writer.word(" -\n")?;
+    }
+    Ok(())
 }
 
 /// Adds a line for each of these labels, the k-th with the number k.
@@ -95,6 +113,12 @@ fn detail(writer: &mut Writer, fault: &ExpressionStoreDiagnostics) -> Result<(),
         ExpressionStoreDiagnostics::MissingBody { kind, .. } => {
             writer.word(missing_body_word(*kind))
         }
+        ExpressionStoreDiagnostics::FruInDestructuringAssignment { .. } => {
+            writer.word("diag FruInDestructuringAssignment")
+        }
+        ExpressionStoreDiagnostics::PatternArgInExternFn { .. } => {
+            writer.word("diag PatternArgInExternFn")
+        }
     }
 }
 
@@ -105,5 +129,7 @@ fn node(fault: &ExpressionStoreDiagnostics) -> InFile<AstPtr> {
         ExpressionStoreDiagnostics::UndeclaredLabel { node, .. } => *node,
         ExpressionStoreDiagnostics::AwaitOutsideOfAsync { node, .. } => *node,
         ExpressionStoreDiagnostics::MissingBody { node, .. } => *node,
+        ExpressionStoreDiagnostics::FruInDestructuringAssignment { node } => *node,
+        ExpressionStoreDiagnostics::PatternArgInExternFn { node } => *node,
     }
 }

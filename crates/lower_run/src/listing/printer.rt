@@ -1,28 +1,27 @@
-//! Printing of expressions.
+//! Printing of expressions, patterns and types.
 
-use super::lines;
 use super::numbering::Numbering;
 use super::waiting::{Piece, Waiting, arg_piece};
-use super::words::{expr_word, statement_word};
+use super::words::{expr_word, lang_word, pat_word, statement_word};
 use super::writer::Writer;
-use hir_store::hir::{RecordLitField, Statement};
-use hir_store::ids::{ExprId, HygieneId, LabelId, LifetimeRefId, TypeRefId};
+use super::{Listed, lines};
+use hir_lower::Param;
+use hir_store::hir::{MatchArm, RecordFieldPat, RecordLitField, Statement};
+use hir_store::ids::{BindingId, ExprId, HygieneId, LabelId, LifetimeRefId, PatId, TypeRefId};
 use hir_store::name::Name;
 use hir_store::path::{AssociatedTypeBinding, GenericArg, GenericArgs, Path};
-use hir_store::source_map::ExpressionStoreSourceMap;
-use hir_store::store::ExpressionStore;
 use hir_store::type_ref::{TypeBound, UseArgRef};
 use hir_syntax::ast;
 use std::alloc::{AllocError, Global};
 
-/// Prints what a store holds: expressions, paths and types.
+/// Prints what a store holds: expressions, patterns, paths and types.
 ///
 /// What is still to be printed waits in a list, so that a deep body or type takes memory and no stack, and each
 /// stored part is looked at once.
 pub struct Printer<'a> {
-    store: &'a ExpressionStore,
-    source_map: &'a ExpressionStoreSourceMap,
+    listed: Listed<'a>,
     writer: Writer,
+    bindings: Numbering<BindingId>,
     labels: Numbering<LabelId>,
     waiting: Waiting<'a>,
 }
@@ -30,9 +29,9 @@ pub struct Printer<'a> {
 impl Drop for Printer<'_> {
     fn drop(self) {
         let Printer {
-            store: _,
-            source_map: _,
+            listed: _,
             writer: _,
+            bindings: _,
             labels: _,
             waiting: _,
         } = self;
@@ -40,17 +39,12 @@ impl Drop for Printer<'_> {
 }
 
 impl<'a> Printer<'a> {
-    /// A printer that has printed nothing, and that shows sources or doesn't. It takes no memory.
-    pub fn new(
-        alloc: Global,
-        store: &'a ExpressionStore,
-        source_map: &'a ExpressionStoreSourceMap,
-        sources: bool,
-    ) -> Printer<'a> {
+    /// A printer that has printed nothing. It takes no memory.
+    pub fn new(alloc: Global, listed: Listed<'a>) -> Printer<'a> {
         Printer {
-            store,
-            source_map,
-            writer: Writer::new(alloc, sources),
+            listed,
+            writer: Writer::new(alloc, listed.sources),
+            bindings: Numbering::new(alloc),
             labels: Numbering::new(alloc),
             waiting: Waiting::new(alloc),
         }
@@ -59,18 +53,34 @@ impl<'a> Printer<'a> {
     /// The text printed so far.
     pub fn finish(self) -> String {
         let Printer {
-            store: _,
-            source_map: _,
+            listed: _,
             writer,
+            bindings: _,
             labels: _,
             waiting: _,
         } = self;
         writer.finish()
     }
 
-    /// Prints the whole listing of a body: the body, then its labels by number, then the diagnostics.
-    pub fn listing(&mut self) -> Result<(), AllocError> {
+    /// Prints the whole listing of a body: its `self`, its other parameters and itself, then its bindings and labels by
+    /// number, then the diagnostics.
+    pub fn listing(
+        &mut self,
+        self_param: Option<BindingId>,
+        params: &[Param<PatId>],
+    ) -> Result<(), AllocError> {
+        if let Some(id) = self_param {
+            self.writer.word("self ")?;
+            self.line(Piece::Binding(id))?;
+        }
+        self.params(params)?;
         self.body()?;
+        self.others()
+    }
+
+    /// Prints the whole listing of parameters alone, then as for a body.
+    pub fn params_listing(&mut self, params: &[Param<PatId>]) -> Result<(), AllocError> {
+        self.params(params)?;
         self.others()
     }
 
@@ -104,21 +114,35 @@ impl<'a> Printer<'a> {
         self.writer.word("\n")
     }
 
-    /// Prints the labels by number, then the diagnostics.
+    /// Prints a line for each parameter.
+    fn params(&mut self, params: &[Param<PatId>]) -> Result<(), AllocError> {
+        for param in params {
+            self.writer.word("param ")?;
+            self.line(Piece::Pat(param.formal))?;
+        }
+        Ok(())
+    }
+
+    /// Prints the bindings and the labels by number, then the diagnostics.
     fn others(&mut self) -> Result<(), AllocError> {
+        lines::bindings(
+            &mut self.writer,
+            self.bindings.as_slice(),
+            self.listed.store,
+        )?;
         lines::labels(
             &mut self.writer,
             self.labels.as_slice(),
-            self.store,
-            self.source_map,
+            self.listed.store,
+            self.listed.source_map,
         )?;
-        lines::diagnostics(&mut self.writer, self.source_map.diagnostics())
+        lines::diagnostics(&mut self.writer, self.listed.source_map.diagnostics())
     }
 
     /// Prints the line of the body, which is the last recorded root.
     fn body(&mut self) -> Result<(), AllocError> {
         self.writer.word("body ")?;
-        match self.store.expr_roots().last() {
+        match self.listed.store.expr_roots().last() {
             Some(root) => self.whole(Piece::Expr(root.root))?,
             None => self.writer.word("-")?,
         }
@@ -160,8 +184,25 @@ impl<'a> Printer<'a> {
             Piece::Name(name) => self.writer.name(name),
             Piece::Literal(literal) => self.writer.literal(literal),
             Piece::Names(names) => self.writer.names(names),
+            Piece::Number(number) => self.writer.numbered("", number),
             Piece::FieldList(fields) => self.waiting.push_field_list(fields),
             Piece::Fields(before, fields) => self.fields(before, fields),
+            _ => self.pat_piece(piece),
+        }
+    }
+
+    /// A piece of a pattern, or of what holds one.
+    fn pat_piece(&mut self, piece: Piece<'a>) -> Result<(), AllocError> {
+        match piece {
+            Piece::Pat(id) => self.open_pat(id),
+            Piece::Pats(pats) => self.pats("[", pats, "[]"),
+            Piece::MorePats(pats) => self.pats(" ", pats, "]"),
+            Piece::Binding(id) => self.binding(id),
+            Piece::PatFieldList(fields) => self.waiting.push_pat_field_list(fields),
+            Piece::PatFields(before, fields) => self.pat_fields(before, fields),
+            Piece::Arms(arms) => self.arms("[", arms, "[]"),
+            Piece::MoreArms(arms) => self.arms(" ", arms, "]"),
+            Piece::Arm(arm) => self.open_arm(arm),
             _ => self.path_piece(piece),
         }
     }
@@ -190,6 +231,8 @@ impl<'a> Printer<'a> {
     fn path_piece(&mut self, piece: Piece<'a>) -> Result<(), AllocError> {
         match piece {
             Piece::Path(path, hygiene) => self.waiting.push_path_of(path, hygiene),
+            Piece::PlainPath(path) => self.waiting.push_path(path),
+            Piece::LangItem(item) => self.writer.word(lang_word(self.listed.lang_items, item)),
             Piece::Hygiene(hygiene) => self.writer.hygiene(hygiene),
             Piece::PathKind(kind) => self.writer.path_kind(kind),
             Piece::ModPath(path) => self.writer.mod_path(path),
@@ -203,8 +246,8 @@ impl<'a> Printer<'a> {
         match piece {
             Piece::GenericArgs(args) => self.waiting.push_generic_args(args),
             Piece::Args(before, args) => self.args(before, args),
-            Piece::Bindings(before, bindings) => self.bindings(before, bindings),
-            Piece::Binding(binding) => self.waiting.push_binding(binding),
+            Piece::TypeBindings(before, bindings) => self.type_bindings(before, bindings),
+            Piece::TypeBinding(binding) => self.waiting.push_binding(binding),
             _ => self.type_piece(piece),
         }
     }
@@ -214,6 +257,7 @@ impl<'a> Printer<'a> {
         match piece {
             Piece::Type_(id) => self.open_type(id),
             Piece::Types(before, types) => self.types(before, types),
+            Piece::Params(before, types, names) => self.fn_params(before, types, names),
             Piece::Lifetime(id) => self.lifetime(id),
             Piece::Binder(names) => self.writer.binder(names),
             _ => self.bound_piece(piece),
@@ -262,7 +306,7 @@ impl<'a> Printer<'a> {
         self.writer.word(before)
     }
 
-    fn bindings(
+    fn type_bindings(
         &mut self,
         before: &'static str,
         bindings: &'a [AssociatedTypeBinding],
@@ -270,8 +314,8 @@ impl<'a> Printer<'a> {
         let Some((first, rest)) = bindings.split_first() else {
             return Ok(());
         };
-        self.waiting.push(Piece::Bindings(", ", rest))?;
-        self.waiting.push(Piece::Binding(first))?;
+        self.waiting.push(Piece::TypeBindings(", ", rest))?;
+        self.waiting.push(Piece::TypeBinding(first))?;
         self.writer.word(before)
     }
 
@@ -282,6 +326,32 @@ impl<'a> Printer<'a> {
         self.waiting.push(Piece::Types(", ", rest))?;
         self.waiting.push(Piece::Type_(*first))?;
         self.writer.word(before)
+    }
+
+    /// Prints the name of the first of these parameters, and lets its type and the others wait.
+    fn fn_params(
+        &mut self,
+        before: &'static str,
+        types: &'a [TypeRefId],
+        names: &'a [Option<Name>],
+    ) -> Result<(), AllocError> {
+        let Some((first, types)) = types.split_first() else {
+            return Ok(());
+        };
+        let (name, names) = match names.split_first() {
+            Some((name, names)) => (name.as_ref(), names),
+            None => (None, names),
+        };
+        self.waiting.push(Piece::Params(", ", types, names))?;
+        self.waiting.push(Piece::Type_(*first))?;
+        self.writer.word(before)?;
+        match name {
+            Some(name) => {
+                self.writer.name(name)?;
+                self.writer.word(": ")
+            }
+            None => Ok(()),
+        }
     }
 
     fn bounds(&mut self, before: &'static str, bounds: &'a [TypeBound]) -> Result<(), AllocError> {
@@ -307,7 +377,7 @@ impl<'a> Printer<'a> {
 
     /// Lets the parts of a type wait. A number past the store's end, which no store holds, prints as an error.
     fn open_type(&mut self, id: TypeRefId) -> Result<(), AllocError> {
-        match self.store.type_ref(id) {
+        match self.listed.store.type_ref(id) {
             Some(ty) => self.waiting.push_type(ty),
             None => self.writer.word("{error}"),
         }
@@ -315,7 +385,7 @@ impl<'a> Printer<'a> {
 
     /// Prints a lifetime, likewise.
     fn lifetime(&mut self, id: LifetimeRefId) -> Result<(), AllocError> {
-        match self.store.lifetime(id) {
+        match self.listed.store.lifetime(id) {
             Some(lifetime) => self.writer.lifetime(lifetime),
             None => self.writer.word("'{error}"),
         }
@@ -346,6 +416,50 @@ impl<'a> Printer<'a> {
         self.writer.word(before)
     }
 
+    /// The same of patterns, and of arms.
+    fn pats(&mut self, before: &str, pats: &'a [PatId], end: &str) -> Result<(), AllocError> {
+        let Some((first, rest)) = pats.split_first() else {
+            return self.writer.word(end);
+        };
+        self.waiting.push(Piece::MorePats(rest))?;
+        self.waiting.push(Piece::Pat(*first))?;
+        self.writer.word(before)
+    }
+
+    fn arms(&mut self, before: &str, arms: &'a [MatchArm], end: &str) -> Result<(), AllocError> {
+        let Some((first, rest)) = arms.split_first() else {
+            return self.writer.word(end);
+        };
+        self.waiting.push(Piece::MoreArms(rest))?;
+        self.waiting.push(Piece::Arm(first))?;
+        self.writer.word(before)
+    }
+
+    /// Prints what stands before the first of these fields, and lets them wait.
+    fn pat_fields(
+        &mut self,
+        before: &'static str,
+        fields: &'a [RecordFieldPat],
+    ) -> Result<(), AllocError> {
+        let Some((first, rest)) = fields.split_first() else {
+            return Ok(());
+        };
+        self.waiting.push_all(&[
+            Piece::Name(&first.name),
+            Piece::Word(" "),
+            Piece::Pat(first.pat),
+            Piece::Word(")"),
+            Piece::PatFields(" ", rest),
+        ])?;
+        self.writer.word(before)?;
+        self.writer.word("(")
+    }
+
+    fn binding(&mut self, id: BindingId) -> Result<(), AllocError> {
+        let number = self.bindings.number(id)?;
+        self.writer.numbered("#", number)
+    }
+
     fn label(&mut self, id: LabelId) -> Result<(), AllocError> {
         let number = self.labels.number(id)?;
         self.writer.numbered("L", number)
@@ -355,12 +469,27 @@ impl<'a> Printer<'a> {
     /// no store holds, prints as a missing expression.
     fn open_expr(&mut self, id: ExprId) -> Result<(), AllocError> {
         self.root_mark(id)?;
-        let Some(expr) = self.store.expr(id) else {
+        let Some(expr) = self.listed.store.expr(id) else {
             return self.writer.word("(Missing)");
         };
         self.writer
-            .open(expr_word(expr), self.source_map.expr_syntax(id))?;
+            .open(expr_word(expr), self.listed.source_map.expr_syntax(id))?;
         self.waiting.push_expr_parts(expr)
+    }
+
+    /// The same of a pattern.
+    fn open_pat(&mut self, id: PatId) -> Result<(), AllocError> {
+        let Some(pat) = self.listed.store.pat(id) else {
+            return self.writer.word("(Missing)");
+        };
+        self.writer
+            .open(pat_word(pat), self.listed.source_map.pat_syntax(id))?;
+        self.waiting.push_pat_parts(pat)
+    }
+
+    fn open_arm(&mut self, arm: &'a MatchArm) -> Result<(), AllocError> {
+        self.writer.open("Arm", None)?;
+        self.waiting.push_arm_parts(arm)
     }
 
     fn open_statement(&mut self, statement: &'a Statement) -> Result<(), AllocError> {
@@ -373,6 +502,7 @@ impl<'a> Printer<'a> {
     /// What a root reaches is stored behind all of the root before it, so that the numbers of the roots grow.
     fn root_mark(&mut self, id: ExprId) -> Result<(), AllocError> {
         let number = self
+            .listed
             .store
             .expr_roots()
             .binary_search_by_key(&id.0, |root| root.root.0);

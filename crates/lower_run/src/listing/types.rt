@@ -32,6 +32,11 @@ impl<'a> Waiting<'a> {
             TypeRef::ImplTrait(bounds) => self.push_bounds("impl", bounds.as_slice()),
             TypeRef::DynTrait(bounds) => self.push_bounds("dyn", bounds.as_slice()),
             TypeRef::Fn(pointer) => self.push_function(pointer),
+            TypeRef::Pattern(ty, pat) => self.push_all(&[
+                Piece::Type_(*ty),
+                Piece::Word(" is "),
+                Piece::Pat(*pat),
+            ]),
             TypeRef::Tuple(_)
             | TypeRef::RawPtr(_, _)
             | TypeRef::Reference(_)
@@ -125,7 +130,7 @@ impl<'a> Waiting<'a> {
             Piece::Word(if pointer.is_unsafe { "unsafe " } else { "" }),
             Piece::Word(extern_word(pointer.abi)),
             Piece::Word("fn("),
-            Piece::Types("", params),
+            Piece::Params("", params, pointer.names.as_slice()),
             Piece::Word(dots),
             Piece::Word(") -> "),
             Piece::Type_(*answer),
@@ -159,6 +164,7 @@ impl<'a> Waiting<'a> {
         match path {
             Path::BarePath(path) => self.push(Piece::ModPath(path)),
             Path::Normal(path) => self.push_normal_path(path),
+            Path::LangItem(item) => self.push(Piece::LangItem(*item)),
         }
     }
 
@@ -190,7 +196,7 @@ impl<'a> Waiting<'a> {
             Piece::Word("::<"),
             Piece::Word(if args.has_self_type { "Self = " } else { "" }),
             Piece::Args("", args.args.as_slice()),
-            Piece::Bindings(before_bindings, args.bindings.as_slice()),
+            Piece::TypeBindings(before_bindings, args.bindings.as_slice()),
             Piece::Word(">"),
         ])
     }

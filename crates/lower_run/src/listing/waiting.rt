@@ -3,8 +3,12 @@
 use super::words::{
     binary_word, loop_word, mutability_word, rawness_word, unary_word, unsafe_word,
 };
-use hir_store::hir::{Expr, Literal, RecordLitField, RecordSpread, Statement};
-use hir_store::ids::{BlockId, ExprId, HygieneId, LabelId, LifetimeRefId, TypeRefId};
+use hir_store::hir::{
+    Expr, Literal, MatchArm, RecordFieldPat, RecordLitField, RecordSpread, Statement,
+};
+use hir_store::ids::{
+    BindingId, BlockId, ExprId, HygieneId, LabelId, LangItemId, LifetimeRefId, PatId, TypeRefId,
+};
 use hir_store::name::Name;
 use hir_store::path::{AssociatedTypeBinding, GenericArg, GenericArgs, ModPath, Path, PathKind};
 use hir_store::type_ref::{TypeBound, UseArgRef};
@@ -23,29 +27,46 @@ pub enum Piece<'a> {
     Statement(&'a Statement),
     Statements(&'a [Statement]),
     MoreStatements(&'a [Statement]),
+    Pat(PatId),
+    Pats(&'a [PatId]),
+    MorePats(&'a [PatId]),
+    /// The arms of a `match` as a list.
+    Arms(&'a [MatchArm]),
+    MoreArms(&'a [MatchArm]),
+    Arm(&'a MatchArm),
+    Number(u32),
+    Binding(BindingId),
     Label(LabelId),
     Block(BlockId),
     Name(&'a Name),
     Path(&'a Path, HygieneId),
+    /// A path that no hygiene follows.
+    PlainPath(&'a Path),
     Literal(&'a Literal),
     /// Names as a list.
     Names(&'a [Name]),
     /// The fields of a record as a list.
     FieldList(&'a [RecordLitField]),
+    /// Those of a record pattern.
+    PatFieldList(&'a [RecordFieldPat]),
     Hygiene(HygieneId),
     PathKind(PathKind),
     /// A path without arguments.
     ModPath(&'a ModPath),
+    LangItem(LangItemId),
     /// What stands before the first of these names, the names, and the arguments of each.
     Segments(&'static str, &'a [Name], &'a [Option<GenericArgs>]),
     GenericArgs(&'a GenericArgs),
     /// What stands before the first of these, and they; likewise below.
     Args(&'static str, &'a [GenericArg]),
     Fields(&'static str, &'a [RecordLitField]),
-    Bindings(&'static str, &'a [AssociatedTypeBinding]),
-    Binding(&'a AssociatedTypeBinding),
+    PatFields(&'static str, &'a [RecordFieldPat]),
+    TypeBindings(&'static str, &'a [AssociatedTypeBinding]),
+    TypeBinding(&'a AssociatedTypeBinding),
     Type_(TypeRefId),
     Types(&'static str, &'a [TypeRefId]),
+    /// The types of parameters, and the name of each that has one.
+    Params(&'static str, &'a [TypeRefId], &'a [Option<Name>]),
     Lifetime(LifetimeRefId),
     Bounds(&'static str, &'a [TypeBound]),
     Bound(&'a TypeBound),
@@ -54,9 +75,9 @@ pub enum Piece<'a> {
     Binder(&'a [Name]),
 }
 
-const ABSENT: Piece<'static> = Piece::Word("-");
+pub const ABSENT: Piece<'static> = Piece::Word("-");
 
-fn expr_or_absent(expr: Option<ExprId>) -> Piece<'static> {
+pub fn expr_or_absent(expr: Option<ExprId>) -> Piece<'static> {
     match expr {
         Some(id) => Piece::Expr(id),
         None => ABSENT,
@@ -176,6 +197,9 @@ impl<'a> Waiting<'a> {
             Expr::Cast { .. } | Expr::RecordLit { .. } | Expr::OffsetOf { .. } => {
                 self.push_typed_parts(expr)
             }
+            Expr::Let { .. } | Expr::Match { .. } | Expr::Assignment { .. } => {
+                self.push_branch_parts(expr)
+            }
         }
     }
 
@@ -279,7 +303,7 @@ impl<'a> Waiting<'a> {
                 fields,
                 spread,
             } => self.push_parts(&[
-                Piece::Path(path, HygieneId::ROOT),
+                Piece::PlainPath(path),
                 Piece::FieldList(fields.as_slice()),
                 spread_or_absent(*spread),
             ]),
@@ -291,16 +315,8 @@ impl<'a> Waiting<'a> {
         }
     }
 
-    /// Lets the parts of a statement wait, and the bracket after them.
-    pub fn push_statement_parts(&mut self, statement: &Statement) -> Result<(), AllocError> {
-        match statement {
-            Statement::Expr { expr, .. } => self.push_parts(&[Piece::Expr(*expr)]),
-            Statement::Item => self.push_parts(&[]),
-        }
-    }
-
     /// Lets these parts wait, each after a space, and then a bracket.
-    fn push_parts(&mut self, parts: &[Piece<'a>]) -> Result<(), AllocError> {
+    pub fn push_parts(&mut self, parts: &[Piece<'a>]) -> Result<(), AllocError> {
         self.push(Piece::Word(")"))?;
         for part in parts.iter().rev() {
             self.push(*part)?;

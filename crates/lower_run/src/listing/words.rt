@@ -1,9 +1,13 @@
 //! The words that stored forms are printed with.
 
+use hir_env::lang::LangItems;
 use hir_store::diagnostics::{AwaitLocation, MissingBodyItemKind};
-use hir_store::hir::{Expr, LoopSource, Mutability, Rawness, Statement};
+use hir_store::hir::{
+    BindingAnnotation, BindingProblems, Expr, LoopSource, Mutability, Pat, Rawness, Statement,
+};
+use hir_store::ids::LangItemId;
 use hir_store::type_ref::{ExternAbi, TypeRef};
-use hir_syntax::ast::{ArithOp, BinaryOp, CmpOp, LogicOp, Ordering, UnaryOp};
+use hir_syntax::ast::{ArithOp, BinaryOp, CmpOp, LogicOp, Ordering, RangeOp, UnaryOp};
 
 /// The kind that an expression begins with.
 pub fn expr_word(expr: &Expr) -> &'static str {
@@ -11,9 +15,11 @@ pub fn expr_word(expr: &Expr) -> &'static str {
         Expr::Missing => "Missing",
         Expr::Path { .. } => "Path",
         Expr::If { .. } => "If",
+        Expr::Let { .. } => "Let",
         Expr::Block { .. } => "Block",
         Expr::Loop { .. } => "Loop",
         Expr::Call { .. } => "Call",
+        Expr::Match { .. } => "Match",
         Expr::Continue { .. } => "Continue",
         Expr::Break { .. } => "Break",
         Expr::Literal(_) => "Literal",
@@ -21,6 +27,7 @@ pub fn expr_word(expr: &Expr) -> &'static str {
         Expr::Field { .. } => "Field",
         Expr::UnaryOp { .. } => "UnaryOp",
         Expr::BinaryOp { .. } => "BinaryOp",
+        Expr::Assignment { .. } => "Assignment",
         Expr::Index { .. } => "Index",
         Expr::Ref { .. } => "Ref",
         Expr::Tuple { .. } => "Tuple",
@@ -38,9 +45,33 @@ pub fn expr_word(expr: &Expr) -> &'static str {
     }
 }
 
-/// The kind that a statement begins with: with a semicolon, without one, or an item.
+/// The kind that a pattern begins with.
+pub fn pat_word(pat: &Pat) -> &'static str {
+    match pat {
+        Pat::Missing => "Missing",
+        Pat::Wild => "Wild",
+        Pat::Rest => "Rest",
+        Pat::NotNull => "NotNull",
+        Pat::Bind { .. } => "Bind",
+        Pat::Path { .. } => "Path",
+        Pat::TupleStruct { .. } => "TupleStruct",
+        Pat::Tuple { .. } => "Tuple",
+        Pat::Record { .. } => "Record",
+        Pat::Or(_) => "Or",
+        Pat::Slice { .. } => "Slice",
+        Pat::Ref { .. } => "Ref",
+        Pat::Box { .. } => "Box",
+        Pat::Deref { .. } => "Deref",
+        Pat::Lit(_) => "Lit",
+        Pat::Range { .. } => "Range",
+        Pat::Expr(_) => "Expr",
+    }
+}
+
+/// The kind that a statement begins with: an expression's with a semicolon or without one.
 pub fn statement_word(statement: &Statement) -> &'static str {
     match statement {
+        Statement::Let { .. } => "LetStmt",
         Statement::Expr { has_semi: true, .. } => "Semi",
         Statement::Expr { .. } => "Expr",
         Statement::Item => "Item",
@@ -86,8 +117,71 @@ pub fn binary_word(op: Option<BinaryOp>) -> &'static str {
         Some(BinaryOp::CmpOp(op)) => cmp_word(op),
         Some(BinaryOp::ArithOp(op)) => arith_word(op),
         Some(BinaryOp::Assignment { op }) => assignment_word(op),
+        Some(BinaryOp::Assign) => "=",
         None => "-",
     }
+}
+
+pub fn range_word(op: RangeOp) -> &'static str {
+    match op {
+        RangeOp::Exclusive => "..",
+        RangeOp::Inclusive => "..=",
+    }
+}
+
+/// How a name is bound, behind it.
+pub fn mode_word(mode: BindingAnnotation) -> &'static str {
+    match mode {
+        BindingAnnotation::Unannotated => " plain",
+        BindingAnnotation::Mutable => " mut",
+        BindingAnnotation::Ref => " ref",
+        BindingAnnotation::RefMut => " refmut",
+    }
+}
+
+/// What is wrong with a binding, behind its mode.
+pub fn problem_word(problem: Option<BindingProblems>) -> &'static str {
+    match problem {
+        None => " -",
+        Some(BindingProblems::BoundMoreThanOnce) => " more",
+        Some(BindingProblems::BoundInconsistently) => " inconsistent",
+        Some(BindingProblems::NotBoundAcrossAll) => " notall",
+    }
+}
+
+/// The first of the language's items, in their order, that has the number.
+pub fn lang_word(items: &LangItems, item: LangItemId) -> &'static str {
+    let named = [
+        (items.range_full, "lang:RangeFull"),
+        (items.range_from, "lang:RangeFrom"),
+        (items.range_from_copy, "lang:RangeFromCopy"),
+        (items.range_to, "lang:RangeTo"),
+        (items.range_copy, "lang:RangeCopy"),
+        (items.range, "lang:Range"),
+        (items.range_to_inclusive_copy, "lang:RangeToInclusiveCopy"),
+        (items.range_to_inclusive, "lang:RangeToInclusive"),
+        (items.range_inclusive_copy, "lang:RangeInclusiveCopy"),
+        (items.range_inclusive_new, "lang:RangeInclusiveNew"),
+        (items.try_trait_from_output, "lang:TryTraitFromOutput"),
+        (items.try_trait_branch, "lang:TryTraitBranch"),
+        (items.control_flow_continue, "lang:ControlFlowContinue"),
+        (items.control_flow_break, "lang:ControlFlowBreak"),
+        (items.residual_into_try_type, "lang:ResidualIntoTryType"),
+        (items.try_trait_from_residual, "lang:TryTraitFromResidual"),
+        (items.into_iter_into_iter, "lang:IntoIterIntoIter"),
+        (items.iterator_next, "lang:IteratorNext"),
+        (items.option_some, "lang:OptionSome"),
+        (items.option_none, "lang:OptionNone"),
+        (items.range_min, "lang:RangeMin"),
+        (items.range_max, "lang:RangeMax"),
+        (items.range_sub, "lang:RangeSub"),
+    ];
+    for (number, word) in named.as_slice() {
+        if *number == Some(item) {
+            return *word;
+        }
+    }
+    "lang:?"
 }
 
 fn logic_word(op: LogicOp) -> &'static str {

@@ -2,13 +2,13 @@
 
 use super::numbering::Numbering;
 use super::types::before_first_name;
+use hir_base::node::{AstPtr, InFile};
 use hir_store::hir::Literal;
 use hir_store::ids::HygieneId;
 use hir_store::name::Name;
 use hir_store::path::{ModPath, PathKind};
 use hir_store::type_ref::LifetimeRef;
 use hir_syntax::ast::LiteralKind;
-use hir_syntax::node::{AstPtr, InFile};
 use std::alloc::{AllocError, Global};
 use std::fmt::Display;
 

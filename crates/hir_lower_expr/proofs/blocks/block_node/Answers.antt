@@ -9,7 +9,13 @@ alloc_expr-requires g c =
     let inner = c.in_ok-statements.ensures in
     let settled = settled_in_range c.contents.new.state.stored _ _ _ _ c.settle-tail.ensures inner.2.0 inner.2.1 in
     let label = c.requires.label in
-    (omega (arith, settled.0, settled.1), omega (arith, entered, inner, label), omega arith, omega arith)
+    let has = settled.0 in (
+      omega (arith, has.0, settled.1),
+      omega (arith, entered, inner, label),
+      omega (arith, has.1),
+      omega (arith, has.2),
+      omega (arith, has.3),
+    )
 
 pub returns : goal.returns
 unfolding block_form

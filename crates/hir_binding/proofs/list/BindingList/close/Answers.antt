@@ -5,7 +5,7 @@ use Rattle.hir_binding.specs.declared.seen.SeenNames.{SeenNames}
 use Rattle.hir_binding.specs.Seen.{mark_of, set_of}
 use Rattle.hir_binding.specs.Entries.{ended_entry}
 use Rattle.hir_binding.specs.Bindings.{mode_of, problem_of, noted}
-use Rattle.hir_binding.proofs.Places.{pushed_last, pushed_before}
+use Rattle.hir_binding.proofs.Places.{pushed_end, pushed_before}
 use Rattle.hir_binding.proofs.Lists.{sets_push, mode_ended, problem_ended, closed, has_entry}
 use Rattle.hir_binding.proofs.list.BindingList.close.Goals as goal
 
@@ -13,7 +13,7 @@ pub invariant_of-self-clause-known_here : goal.invariant_of-self-clause-known_he
 invariant_of-self-clause-known_here c = λ k h.
     let t = c.take_last-around.ensures.items in
     c.args.self.now.known_around (length c.take_last-around.new.self.items) c.take_last-around.result k
-    (rw t (pushed_last c.take_last-around.new.self.items c.take_last-around.result))
+    (rw t (pushed_end c.take_last-around.new.self.items c.take_last-around.result))
     (λ u. h (ap (λ (s : SeenNames). mark_of s k) c.replace.ensures.after ∙ u))
 
 pub invariant_of-self-clause-known_around : goal.invariant_of-self-clause-known_around

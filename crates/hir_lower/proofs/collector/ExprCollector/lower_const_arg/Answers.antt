@@ -1,4 +1,8 @@
+use Rattle.hir_lower.proofs.Ways.{stays_refl}
 use Rattle.hir_lower.proofs.collector.ExprCollector.lower_const_arg.Goals as goal
 
 pub returns-clause-rooted : goal.returns-clause-rooted
 returns-clause-rooted g c = rw (← c.unboxed.ensures) (c.in_ok-expr.ensures.rooted (c.args.self.now.paired c.if-self.false))
+
+pub returns-then-self-clause-stays : goal.returns-then-self-clause-stays
+returns-then-self-clause-stays g c = λ n. stays_refl _

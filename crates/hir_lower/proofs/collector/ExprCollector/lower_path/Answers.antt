@@ -1,3 +1,6 @@
+use Rattle.std.proofs.Common.{ap, Err}
+use Rattle.hir_lower.proofs.PathMeanings.{full_before}
+use Rattle.hir_lower.proofs.Ways.{stays_refl}
 use Rattle.hir_lower.proofs.collector.ExprCollector.lower_path.Goals as goal
 
 pub returns-clause-data : goal.returns-clause-data
@@ -7,3 +10,10 @@ pub returns-clause-rooted : goal.returns-clause-rooted
 returns-clause-rooted g c =
     let self = c.args.self.now in
     rw (← c.mode.ensures) (c.in_ok-lowered.ensures.rooted (self.paired c.if-self.false) (self.outside c.if-self.false))
+
+pub returns-then-self-clause-stays : goal.returns-then-self-clause-stays
+returns-then-self-clause-stays g c = λ n. stays_refl _
+
+pub returns-in_err-lowered-clause-too_large : goal.returns-in_err-lowered-clause-too_large
+returns-in_err-lowered-clause-too_large g c =
+    full_before _ _ c.from_residual.ensures.1 (λ is. rw (← c.mode.ensures) (c.in_err-lowered.ensures.too_large (ap Err is)))

@@ -3,7 +3,8 @@ use Rattle.hir_store.specs.declared.builder.ExpressionStoreBuilder.TheView.{view
 use Rattle.hir_store.specs.Stored.{Stored}
 use Rattle.hir_store.specs.Range.{HasLifetime}
 use Rattle.hir_store.specs.Storing.{Extends, Stores, alloc_lifetime}
-use Rattle.hir_store.proofs.Range.{range_lifetime, stores_lifetime, extends_lifetime}
+use Rattle.hir_store.proofs.Extending.{extends_lifetime}
+use Rattle.hir_store.proofs.Range.{range_lifetime, stores_lifetime}
 use Rattle.hir_store.proofs.builder.ExpressionStoreBuilder.alloc_lifetime.Goals as goal
 
 pub invariant_of-self : goal.invariant_of-self

@@ -3,7 +3,8 @@ use Rattle.hir_store.specs.declared.builder.ExpressionStoreBuilder.TheView.{view
 use Rattle.hir_store.specs.Stored.{Stored}
 use Rattle.hir_store.specs.Range.{HasType, HasTypeParts}
 use Rattle.hir_store.specs.Storing.{Extends, Stores, alloc_type}
-use Rattle.hir_store.proofs.Range.{range_type, stores_type, extends_type}
+use Rattle.hir_store.proofs.Extending.{extends_type}
+use Rattle.hir_store.proofs.Range.{range_type, stores_type}
 use Rattle.hir_store.proofs.builder.ExpressionStoreBuilder.alloc_type.Goals as goal
 
 pub invariant_of-self : goal.invariant_of-self

@@ -12,16 +12,23 @@ returns-clause-in_range c =
     let labels = c.split-labels.ensures.kept in
     let types = c.split-types.ensures.kept in
     let lifetimes = c.split-lifetimes.ensures.kept in
+    let pats = c.split-pats.ensures.kept in
+    let bindings = c.split-bindings.ensures.kept in
     subst P c.self.view_is (record {
       store = c.self.invariant.0;
       source_map = record {
         expr_sources = exprs.as_many;
         label_sources = labels.as_many;
+        pat_sources = pats.as_many;
         type_sources = types.as_many;
         lifetime_sources = lifetimes.as_many;
         exprs = exprs.ways;
         labels = labels.ways;
+        pats = pats.ways;
         fields = c.self.invariant.1;
+        pat_fields = c.self.invariant.2;
+        as_many_bindings = bindings.as_many;
+        definitions = c.self.invariant.3;
         types = types.ways;
         lifetimes = lifetimes.ways;
       };

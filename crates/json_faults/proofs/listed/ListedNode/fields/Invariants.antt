@@ -1,5 +1,5 @@
 use Rattle.std.proofs.Common.{◌≡◌, drop, length, map}
-use Rattle.json_kinds.specs.Table.{named_sort}
+use Rattle.json_kinds.specs.Rows.{named_sort}
 use Rattle.json_faults.specs.Nodes as spec
 use Rattle.json_faults.specs.Nodes.{in_list}
 use Rattle.json_faults.proofs.listed.ListedNode.fields.Given as goal

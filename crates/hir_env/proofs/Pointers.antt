@@ -1,0 +1,66 @@
+-- The node of an answered expression is its own.
+use Rattle.std.proofs.Common.{◌≡◌, ◌∙◌, refl, ap, Some, None, Result, Ok, Err}
+use Rattle.hir_base.specs.declared.op.BinaryOp.TheVariants as op
+use Rattle.hir_syntax.specs.declared.ast.ExprKind.{out-ExprKind}
+use Rattle.hir_syntax.specs.declared.ast.Expr.{Expr as AstExpr}
+use Rattle.hir_syntax.specs.declared.ast.ElseBranch.TheOpen.{ExprKind-F}
+use Rattle.hir_store.specs.Pointers.{Pointer}
+use Rattle.hir_store.specs.declared.ids.CfgId.{CfgId}
+use Rattle.hir_env.specs.Spot.{Spot, site_of}
+use Rattle.hir_env.specs.Layers.{ExprKindLayer}
+use Rattle.hir_env.specs.Answering.{asked, expr_at}
+use Rattle.hir_env.specs.Answered.{Expr}
+use Rattle.hir_env.specs.Targets.{pointer_of}
+use Rattle.hir_env.specs.Whole.{written, reader, answered, kept_expr, kind_pointer, own_pointer, pointer_at}
+use Rattle.hir_env.proofs.Levels.{expr_is_level, block_is_level}
+
+asked_pointer : (s : Pointer) (r : Result (Unit {0}) CfgId) (e : Expr) → pointer_of (asked s r e) ≡ pointer_of e
+asked_pointer s (Ok _) e = refl
+asked_pointer s (Err by) e = refl
+
+kept_pointer : (at : Spot) (k : ExprKindLayer written) (s : Pointer)
+    → pointer_of (expr_at at.answers (reader at.answers) k at.place s) ≡ kind_pointer at.place k s
+kept_pointer at (ExprKind-F.BlockExpr b) s = ap pointer_of (block_is_level at b)
+kept_pointer at (ExprKind-F.IfExpr c t e) s = refl
+kept_pointer at (ExprKind-F.LoopExpr l b) s = refl
+kept_pointer at (ExprKind-F.CallExpr f es) s = refl
+kept_pointer at (ExprKind-F.PathExpr x) s = refl
+kept_pointer at (ExprKind-F.ContinueExpr l) s = refl
+kept_pointer at (ExprKind-F.BreakExpr l e) s = refl
+kept_pointer at (ExprKind-F.ParenExpr e) s = refl
+kept_pointer at (ExprKind-F.Literal l) s = refl
+kept_pointer at (ExprKind-F.MethodCallExpr e n as' es) s = refl
+kept_pointer at (ExprKind-F.FieldExpr e n) s = refl
+kept_pointer at (ExprKind-F.PrefixExpr None e) s = refl
+kept_pointer at (ExprKind-F.PrefixExpr (Some o) e) s = refl
+kept_pointer at (ExprKind-F.BinExpr None a b) s = refl
+kept_pointer at (ExprKind-F.BinExpr (Some (op.LogicOp o)) a b) s = refl
+kept_pointer at (ExprKind-F.BinExpr (Some (op.ArithOp o)) a b) s = refl
+kept_pointer at (ExprKind-F.BinExpr (Some (op.CmpOp o)) a b) s = refl
+kept_pointer at (ExprKind-F.BinExpr (Some (op.Assignment o)) a b) s = refl
+kept_pointer at (ExprKind-F.BinExpr (Some op.Assign) a b) s = refl
+kept_pointer at (ExprKind-F.IndexExpr a b) s = refl
+kept_pointer at (ExprKind-F.RefExpr r m e) s = refl
+kept_pointer at (ExprKind-F.TupleExpr comma es) s = refl
+kept_pointer at (ExprKind-F.ArrayExpr es) s = refl
+kept_pointer at (ExprKind-F.ReturnExpr e) s = refl
+kept_pointer at (ExprKind-F.BecomeExpr e) s = refl
+kept_pointer at (ExprKind-F.YieldExpr e) s = refl
+kept_pointer at (ExprKind-F.YeetExpr e) s = refl
+kept_pointer at (ExprKind-F.AwaitExpr e) s = refl
+kept_pointer at (ExprKind-F.CastExpr e t) s = refl
+kept_pointer at (ExprKind-F.RecordExpr x l) s = refl
+kept_pointer at (ExprKind-F.OffsetOfExpr t ns) s = refl
+kept_pointer at (ExprKind-F.CfgPredExpr pred) s = refl
+kept_pointer at (ExprKind-F.LetExpr x e) s = refl
+kept_pointer at (ExprKind-F.MatchExpr e arms) s = refl
+kept_pointer at (ExprKind-F.RangeExpr o a b) s = refl
+kept_pointer at ExprKind-F.UnderscoreExpr s = refl
+kept_pointer at ExprKind-F.IncludeBytesExpr s = refl
+kept_pointer at ExprKind-F.AsmExpr s = refl
+kept_pointer at ExprKind-F.FormatArgsExpr s = refl
+
+pub pointer_is_own : (at : Spot) (e : AstExpr) → pointer_of (answered at e) ≡ own_pointer at e
+pointer_is_own at e = let s = pointer_at at e.id e.range in
+    ap pointer_of (expr_is_level at e)
+    ∙ (asked_pointer s (at.answers.cfg (site_of s)) (kept_expr at e) ∙ kept_pointer at (out-ExprKind e.kind) s)

@@ -1,0 +1,166 @@
+-- What an expression is as something that is assigned to. It is decided before anything of it is lowered.
+use Rattle.std.specs.Prelude.{if◌then◌else◌, Bool, true, false, Option, Some, None, is_some}
+use Rattle.hir_store.specs.Pointers.{Pointer}
+use Rattle.hir_store.specs.declared.ids.HygieneId.{HygieneId}
+use Rattle.hir_store.specs.declared.path.ModPath.{ModPath}
+use Rattle.hir_env.specs.declared.place.Place.{Place}
+use Rattle.hir_env.specs.declared.resolved.Resolution.{Resolution}
+use Rattle.hir_env.specs.declared.resolved.Resolution.TheVariants as resolution
+use Rattle.hir_env.specs.declared.resolved.Resolved.{Resolved}
+use Rattle.hir_env.specs.declared.resolved.Shadow.TheVariants as shadow
+use Rattle.hir_env.specs.Answers.{Answers}
+use Rattle.hir_env.specs.PathNames.{mod_path_of}
+use Rattle.hir_env.specs.Answered as tree
+use Rattle.hir_env.specs.Answered.{Path, OptionPath, Expr, OptionExpr, Exprs, Fields, Field, Spread, Block, Target, Targets}
+use Rattle.hir_env.specs.Answered.{TargetFields, TargetField}
+
+abbrev pub block_pointer : Block → Pointer
+block_pointer (tree.block at is_unsafe label number ss e) = at
+
+-- the node of an expression
+abbrev pub pointer_of : Expr → Pointer
+pointer_of (tree.disabled_expr at by e) = pointer_of e
+pointer_of (tree.if_expr at c t e) = at
+pointer_of (tree.block_expr b) = block_pointer b
+pointer_of (tree.loop_expr at label b) = at
+pointer_of (tree.call_expr at f has_list es) = at
+pointer_of (tree.path_expr at p h) = at
+pointer_of (tree.continue_expr at jump) = at
+pointer_of (tree.break_expr at jump e) = at
+pointer_of (tree.paren_expr at e) = at
+pointer_of (tree.literal_expr at l) = at
+pointer_of (tree.leaf_expr at form) = at
+pointer_of (tree.unary_expr at form e) = at
+pointer_of (tree.binary_expr at form a b) = at
+pointer_of (tree.lazy_expr at op a b) = at
+pointer_of (tree.list_expr at form es) = at
+pointer_of (tree.method_call_expr at e name es as') = at
+pointer_of (tree.leaving_expr at form e) = at
+pointer_of (tree.become_expr at e) = at
+pointer_of (tree.yield_expr at e) = at
+pointer_of (tree.await_expr at location e) = at
+pointer_of (tree.cast_expr at e t) = at
+pointer_of (tree.record_expr at p head fs s) = at
+pointer_of (tree.offset_of_expr at t names) = at
+pointer_of (tree.nameless_expr at e) = at
+pointer_of (tree.let_expr at p e) = at
+pointer_of (tree.match_expr at e arms) = at
+pointer_of (tree.range_expr at form a b) = at
+pointer_of (tree.assign_expr at e t v) = at
+
+-- ---- paths
+
+-- what a path that is found in full stands for where it doesn't stand for a place
+abbrev pub is_pattern : Option Resolution → Bool
+is_pattern (Some resolution.Const) = true
+is_pattern (Some resolution.Variant) = true
+is_pattern (Some resolution.Struct) = true
+is_pattern (Some resolution.Union) = true
+is_pattern (Some resolution.Enum) = true
+is_pattern _ = false
+
+-- one that is found in part may stand for an item of the type that is found
+abbrev pub is_target : Resolved → Bool
+is_target r = if is_some r.rest then is_some r.types else is_pattern r.values
+
+module _ (env : Answers) (p : Place) where
+  abbrev pub names_target : Option ModPath → Bool
+  names_target None = false
+  names_target (Some names) = is_target (env.resolve p.module_id names shadow.Local)
+
+  -- whether a path is no place; a type in front of it doesn't count
+  abbrev pub resolves : Path → Bool
+  resolves x = names_target (mod_path_of (tree.some_path x))
+
+-- ---- two dots, callees and spreads, whose conditions aren't asked for
+
+-- `..`, a range without start and end
+abbrev pub is_dots : Expr → Bool
+is_dots (tree.disabled_expr at by e) = is_dots e
+is_dots (tree.range_expr at form tree.no_expr tree.no_expr) = true
+is_dots _ = false
+
+-- the path of a callee, where the callee is a path as it stands
+abbrev pub callee_path : Expr → Option OptionPath
+callee_path (tree.disabled_expr at by e) = callee_path e
+callee_path (tree.path_expr at p h) = Some p
+callee_path _ = None
+
+-- a call without a list of arguments is a place
+abbrev pub called : OptionExpr → Bool → Option OptionPath
+called (tree.some_expr f) true = callee_path f
+called _ _ = None
+
+abbrev pub spread_pointer : Spread → Option Pointer
+spread_pointer tree.no_spread = None
+spread_pointer tree.field_defaults = None
+spread_pointer (tree.spread_of e) = Some (pointer_of e)
+
+-- the first two dots
+abbrev pub dots_pointer : Exprs → Option Pointer
+dots_pointer tree.no_exprs = None
+dots_pointer (tree.more_exprs e es) = if is_dots e then Some (pointer_of e) else dots_pointer es
+
+-- ---- targets
+
+abbrev pub place_of : Expr → Target
+place_of e = tree.place_target (pointer_of e) e
+
+abbrev pub call_or : Target → Pointer → Option OptionPath → Targets → Target
+call_or place at None ts = place
+call_or place at (Some p) ts = tree.call_target at p ts
+
+module _ (is_found : Path → Bool) where
+  abbrev pub path_or : Target → Pointer → OptionPath → HygieneId → Target
+  path_or place at tree.no_path h = place
+  path_or place at (tree.some_path p) h = if is_found p then tree.path_target at p h else place
+
+  abbrev mutual
+    -- Parentheses are what stands in them. With what it is as a place: a disabled expression is one, and each that isn't named here.
+    pub target_or : Target → Expr → Target
+    target_or place (tree.leaf_expr at tree.underscore) = tree.wild_target at
+    target_or place (tree.paren_expr at tree.no_expr) = place
+    target_or place (tree.paren_expr at (tree.some_expr e)) =
+        if is_dots e then tree.tuple_target at (tree.dots_targets tree.no_targets) else target_or place e
+    target_or place (tree.list_expr at (tree.tuple_of comma) es) = tree.tuple_target at (elements es)
+    target_or place (tree.list_expr at tree.array_of es) = tree.array_target at (before_dots es) (dots_pointer es) (behind_dots es)
+    target_or place (tree.call_expr at f has_list es) = call_or place at (called f has_list) (elements es)
+    target_or place (tree.path_expr at p h) = path_or place at p h
+    target_or place (tree.record_expr at p head fs s) =
+        if head.has_list then tree.record_target at p (target_fields fs) head.has_dots (spread_pointer s) else place
+    target_or place _ = place
+
+    -- of a tuple or a call
+    pub elements : Exprs → Targets
+    elements tree.no_exprs = tree.no_targets
+    elements (tree.more_exprs e es) =
+        if is_dots e then tree.dots_targets (elements es) else tree.more_targets (target_or (place_of e) e) (elements es)
+
+    -- of an array, in front of its first two dots and behind them
+    pub before_dots : Exprs → Targets
+    before_dots tree.no_exprs = tree.no_targets
+    before_dots (tree.more_exprs e es) =
+        if is_dots e then tree.no_targets else tree.more_targets (target_or (place_of e) e) (before_dots es)
+
+    pub behind_dots : Exprs → Targets
+    behind_dots tree.no_exprs = tree.no_targets
+    behind_dots (tree.more_exprs e es) = if is_dots e then each_target es else behind_dots es
+
+    pub each_target : Exprs → Targets
+    each_target tree.no_exprs = tree.no_targets
+    each_target (tree.more_exprs e es) = tree.more_targets (target_or (place_of e) e) (each_target es)
+
+    pub target_fields : Fields → TargetFields
+    target_fields tree.no_fields = tree.no_target_fields
+    target_fields (tree.more_fields f fs) = tree.more_target_fields (target_field_of f) (target_fields fs)
+
+    pub target_field_of : Field → TargetField
+    target_field_of (tree.disabled_field at by f) = tree.disabled_target_field at by
+    target_field_of (tree.nameless_field at tree.no_expr) = tree.partless_target_field
+    target_field_of (tree.nameless_field at (tree.some_expr e)) = tree.target_field at None (target_or (place_of e) e)
+    target_field_of (tree.named_field at n tree.no_expr) = tree.partless_target_field
+    target_field_of (tree.named_field at n (tree.some_expr e)) = tree.target_field at (Some n) (target_or (place_of e) e)
+
+  abbrev pub target_of : OptionExpr → Target
+  target_of tree.no_expr = tree.absent_target
+  target_of (tree.some_expr e) = target_or (place_of e) e

@@ -1,0 +1,86 @@
+-- What a pattern is in a type, in a function pointer's parameter, and where only a plain name or `_` may stand.
+use Rattle.std.specs.Prelude.{Bool, true, false, Option, Some, None}
+use Rattle.hir_base.specs.declared.op.RangeOp.{RangeOp}
+use Rattle.hir_base.specs.declared.op.RangeOp.TheVariants as range
+use Rattle.hir_binding.specs.declared.binding.BindingAnnotation.{BindingAnnotation}
+use Rattle.hir_binding.specs.declared.binding.BindingAnnotation.TheVariants as binding
+use Rattle.hir_store.specs.Pointers.{Pointer}
+use Rattle.hir_store.specs.declared.name.Name.{Name}
+use Rattle.hir_env.specs.declared.lang.LangItems.{LangItems}
+use Rattle.hir_env.specs.Answered as tree
+use Rattle.hir_env.specs.Answered.{Use, Pat, OptionPat, Pats, Side, TypePat, OptionTypePat, TypePats, Limit, Formal}
+
+-- the node of a pattern
+abbrev pub pat_pointer : Pat → Pointer
+pat_pointer (tree.leaf_pat at l) = at
+pat_pointer (tree.bind_pat at u p) = at
+pat_pointer (tree.name_pat at u) = at
+pat_pointer (tree.path_pat at p) = at
+pat_pointer (tree.tuple_struct_pat at p comma ps) = at
+pat_pointer (tree.tuple_pat at comma ps) = at
+pat_pointer (tree.record_pat at p fs dots) = at
+pat_pointer (tree.or_pat at ps) = at
+pat_pointer (tree.paren_pat at p) = at
+pat_pointer (tree.slice_pat at ps middle qs) = at
+pat_pointer (tree.over_pat at form p) = at
+pat_pointer (tree.literal_pat at from l) = at
+pat_pointer (tree.range_pat at o a b) = at
+
+-- a plain name: without `ref`, `mut` and `@`
+abbrev pub is_unannotated : BindingAnnotation → Bool
+is_unannotated binding.Unannotated = true
+is_unannotated _ = false
+
+abbrev pub is_plain : Use → OptionPat → Bool
+is_plain u tree.no_pat = is_unannotated u.mode
+is_plain u (tree.some_pat p) = false
+
+-- ---- in a type
+
+abbrev pub start_limit : LangItems → Side → Limit
+start_limit items tree.no_side = tree.item_limit items.range_min
+start_limit items s = tree.side_limit s
+
+abbrev pub end_at : LangItems → Option RangeOp → Side → Limit
+end_at items (Some range.Exclusive) s = tree.before_limit items.range_sub s
+end_at items _ s = tree.side_limit s
+
+abbrev pub end_limit : LangItems → Option RangeOp → Side → Limit
+end_limit items o tree.no_side = tree.item_limit items.range_max
+end_limit items o s = end_at items o s
+
+module _ (items : LangItems) where
+  abbrev mutual
+    pub type_pat_of : Pat → TypePat
+    type_pat_of (tree.leaf_pat at tree.not_null_leaf) = tree.not_null_type_pat at
+    type_pat_of (tree.or_pat at ps) = tree.or_type_pat at (type_pats_of ps)
+    type_pat_of (tree.range_pat at o a b) = tree.range_type_pat at (start_limit items a) (end_limit items o b)
+    type_pat_of p = tree.other_type_pat (pat_pointer p)
+
+    pub type_pats_of : Pats → TypePats
+    type_pats_of tree.no_pats = tree.no_type_pats
+    type_pats_of (tree.more_pats p ps) = tree.more_type_pats (type_pat_of p) (type_pats_of ps)
+
+  abbrev pub type_pat_or_none : OptionPat → OptionTypePat
+  type_pat_or_none tree.no_pat = tree.no_type_pat
+  type_pat_or_none (tree.some_pat p) = tree.some_type_pat (type_pat_of p)
+
+-- ---- in a parameter
+
+-- the name that a pattern gives a function pointer's parameter
+abbrev pub name_given : OptionPat → Option Name
+name_given (tree.some_pat (tree.bind_pat at u p)) = Some u.name
+name_given (tree.some_pat (tree.name_pat at u)) = Some u.name
+name_given _ = None
+
+-- a plain name binds, whatever it stands for elsewhere
+abbrev pub named_formal : Bool → Pointer → Use → Formal
+named_formal true at u = tree.formal (tree.some_pat (tree.bind_pat at u tree.no_pat))
+named_formal false at u = tree.fault_formal at
+
+abbrev pub bare_formal : OptionPat → Formal
+bare_formal tree.no_pat = tree.formal tree.no_pat
+bare_formal (tree.some_pat (tree.leaf_pat at tree.wild_leaf)) = tree.formal (tree.some_pat (tree.leaf_pat at tree.wild_leaf))
+bare_formal (tree.some_pat (tree.bind_pat at u p)) = named_formal (is_plain u p) at u
+bare_formal (tree.some_pat (tree.name_pat at u)) = tree.formal (tree.some_pat (tree.bind_pat at u tree.no_pat))
+bare_formal (tree.some_pat p) = tree.fault_formal (pat_pointer p)

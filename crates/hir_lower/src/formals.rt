@@ -1,0 +1,314 @@
+//! The parameters of a body.
+
+ghost use Rattle.std.specs.Prelude.{◌≡◌, [], Some, true, option_copied};
+ghost use Rattle.hir_syntax.specs.declared.pats.PatKind.{out-PatKind};
+ghost use Rattle.hir_store.specs.Range.{HasBindingId, HasPatOption, HasPats};
+ghost use Rattle.hir_env.specs.Answered as tree;
+ghost use Rattle.hir_env.specs.Formals.{answered_formal, answered_formals, answered_self, are_bare, formal_of, formals_part};
+ghost use Rattle.hir_env.specs.Formals.{self_mode, self_use};
+ghost use Rattle.hir_env.specs.Pats.{name_hygiene};
+ghost use Rattle.hir_env.specs.Spot.{in_file, ptr};
+ghost use Rattle.hir_env.specs.TypePats.{bare_formal};
+ghost use Rattle.hir_env.specs.Whole.{pat_part};
+ghost use Rattle.hir_lower_form.specs.Lowering.{Lowers, alloc_binding};
+ghost use Rattle.hir_lower_form.specs.Pats.{new_binding};
+ghost use Rattle.hir_lower_handlers.specs.Spots.{spot_at};
+ghost use Rattle.hir_lower.specs.Formals.{HasGiven, HasSelf, LowersFormal, bare_kind, each_formal, formal_as};
+ghost use Rattle.hir_lower.specs.Formals.{is_bare_ident, lower_formal, lower_formals, lower_self, self_source};
+
+use hir_base::node::{AstPtr, InFile, NodeId, TextRange};
+use hir_base::{Boxed, Seq, Text};
+use hir_env::env::LowerEnv;
+use hir_env::place::Place;
+use hir_lower_form::builder::BodyBuilder;
+use hir_lower_form::parts::site;
+use hir_lower_knot::knot::{bare_name, top_pat};
+use hir_store::diagnostics::ExpressionStoreDiagnostics;
+use hir_store::fault::StoreFault;
+use hir_store::hir::{Binding, BindingAnnotation};
+use hir_store::ids::{BindingId, HygieneId, ItemContainerId, PatId};
+use hir_store::lists::push_pat;
+use hir_store::name::Name;
+use hir_syntax::ast;
+use std::alloc::Global;
+
+/// The pointer to a node of the file.
+fn pointer(place: Place, node: NodeId, range: TextRange) -> InFile<AstPtr>
+    ensures { result ≡ in_file place (ptr node range) }
+{
+    InFile {
+        file_id: place.file_id,
+        value: AstPtr { node, range },
+    }
+}
+
+/// A pattern where only a plain name or `_` may stand.
+fn fault(state: &mut BodyBuilder, at: InFile<AstPtr>) -> Result<Option<PatId>, StoreFault>
+    ensures { LowersFormal (tree.fault_formal at) state.old result state.new }
+{
+    state.report(ExpressionStoreDiagnostics::PatternArgInExternFn { node: at })?;
+    Ok(Some(state.missing_pat()?))
+}
+
+/// Whether a name stands there without `ref`, `mut` and `@`.
+fn is_alone(is_ref: bool, is_mut: bool, part: &Option<Boxed<ast::Pat>>) -> bool
+    ensures { result ≡ is_bare_ident is_ref is_mut part.now }
+{
+    match part {
+        None => !is_ref && !is_mut,
+        Some(_) => false,
+    }
+}
+
+/// The pattern of a parameter, by its kind, where only a plain name or `_` may stand.
+fn bare_kind_form<E: LowerEnv>(
+    alloc: Global,
+    env: &E,
+    place: Place,
+    state: &mut BodyBuilder,
+    node: &ast::Pat,
+    whole: &Option<Boxed<ast::Pat>>,
+) -> Result<Option<PatId>, StoreFault>
+    requires { whole.now ≡ Some node.now }
+    ensures { let at = spot_at (E.answers env.now) place in
+        LowersFormal (formal_as at node.now (bare_kind (out-PatKind node.now.kind))) state.old result state.new }
+{
+    let at = pointer(place, node.id, node.range);
+    match &node.kind {
+        ast::PatKind::IdentPat {
+            name,
+            ref_,
+            mut_,
+            pat,
+        } => {
+            if is_alone(*ref_, *mut_, pat) {
+                Ok(Some(bare_name(alloc, env, place, state, at, name)?))
+            } else {
+                fault(state, at)
+            }
+        }
+        ast::PatKind::WildcardPat => Ok(Some(top_pat(alloc, env, place, state, whole)?)),
+        _ => fault(state, at),
+    }
+}
+
+/// The pattern of a parameter where only a plain name or `_` may stand.
+#[tactic(auto, using(crate::proofs::BareFormals::bare_is))]
+fn bare_form<E: LowerEnv>(
+    alloc: Global,
+    env: &E,
+    place: Place,
+    state: &mut BodyBuilder,
+    part: &Option<Boxed<ast::Pat>>,
+) -> Result<Option<PatId>, StoreFault>
+    ensures { LowersFormal (bare_formal (pat_part (spot_at (E.answers env.now) place) part.now)) state.old result state.new }
+{
+    match part {
+        None => Ok(Some(state.missing_pat()?)),
+        Some(node) => bare_kind_form(alloc, env, place, state, node.get(), part),
+    }
+}
+
+/// The pattern of a parameter that is kept.
+fn kept_form<E: LowerEnv>(
+    alloc: Global,
+    env: &E,
+    place: Place,
+    state: &mut BodyBuilder,
+    bare: bool,
+    part: &Option<Boxed<ast::Pat>>,
+) -> Result<Option<PatId>, StoreFault>
+    ensures { let at = spot_at (E.answers env.now) place in
+        LowersFormal (formal_of bare (pat_part at part.now)) state.old result state.new }
+{
+    if bare {
+        bare_form(alloc, env, place, state, part)
+    } else {
+        Ok(Some(top_pat(alloc, env, place, state, part)?))
+    }
+}
+
+/// A parameter, none where a condition disables it. Of a skipped body its pattern isn't read.
+#[tactic(auto, using(crate::proofs::BareFormals::skip_kept))]
+fn formal<E: LowerEnv>(
+    alloc: Global,
+    env: &E,
+    place: Place,
+    state: &mut BodyBuilder,
+    skipped: bool,
+    bare: bool,
+    node: &ast::Param,
+) -> Result<Option<PatId>, StoreFault>
+    ensures { let at = spot_at (E.answers env.now) place in
+        Lowers HasPatOption (lower_formal skipped (answered_formal at bare node.now)) state.old result state.new }
+{
+    let at = pointer(place, node.id, node.range);
+    match env.cfg(site(at)) {
+        Err(cfg) => {
+            state.report(ExpressionStoreDiagnostics::InactiveCode { node: at, cfg })?;
+            Ok(None)
+        }
+        Ok(()) => {
+            if skipped {
+                Ok(Some(state.missing_pat()?))
+            } else {
+                kept_form(alloc, env, place, state, bare, &node.pat)
+            }
+        }
+    }
+}
+
+/// The parameters that are kept, in order.
+fn each_form<E: LowerEnv>(
+    alloc: Global,
+    env: &E,
+    place: Place,
+    state: &mut BodyBuilder,
+    skipped: bool,
+    bare: bool,
+    mut left: &[ast::Param],
+) -> Result<Seq<PatId>, StoreFault>
+    ensures { let at = spot_at (E.answers env.now) place in
+        Lowers HasPats (each_formal skipped [] (formals_part at bare left.entry.now)) state.old result state.new }
+{
+    let mut pats = Seq::new(alloc);
+    while let [one, rest @ ..] = left {
+        if let Some(pat) = formal(alloc, env, place, state, skipped, bare, one)? {
+            push_pat(&mut pats, pat)?;
+        }
+        left = rest;
+    }
+    Ok(pats)
+}
+
+/// It is `mut` where `mut` stands without `&`.
+fn mode_of_self(is_ref: bool, is_mut: bool) -> BindingAnnotation
+    ensures { result ≡ self_mode is_ref is_mut }
+{
+    if is_mut && !is_ref {
+        BindingAnnotation::Mutable
+    } else {
+        BindingAnnotation::Unannotated
+    }
+}
+
+/// The hygiene of the name, that of the root where it is absent.
+fn hygiene_of_name<E: LowerEnv>(env: &E, place: Place, name: &Option<ast::Name>) -> HygieneId
+    ensures { result ≡ name_hygiene (E.answers env.now) place name.now }
+{
+    match name {
+        None => HygieneId::ROOT,
+        Some(name) => env.hygiene(site(pointer(place, name.id, name.range))),
+    }
+}
+
+/// The binding of a `self`, which no pattern defines.
+fn self_binding<E: LowerEnv>(
+    alloc: Global,
+    env: &E,
+    place: Place,
+    state: &mut BodyBuilder,
+    node: &ast::SelfParam,
+) -> Result<BindingId, StoreFault>
+    ensures { let at = spot_at (E.answers env.now) place in
+        Lowers HasBindingId (alloc_binding (new_binding (self_use at node.now))) state.old result state.new }
+{
+    state.alloc_binding(Binding {
+        name: Name::Text(Text::new(alloc, "self")?),
+        mode: mode_of_self(node.ref_, node.mut_),
+        hygiene: hygiene_of_name(env, place, &node.name),
+        problems: None,
+    })
+}
+
+/// The binding of `self`, none where it is absent or a condition disables it.
+fn self_form<E: LowerEnv>(
+    alloc: Global,
+    env: &E,
+    place: Place,
+    state: &mut BodyBuilder,
+    part: &Option<ast::SelfParam>,
+) -> Result<Option<BindingId>, StoreFault>
+    ensures { Lowers HasSelf (lower_self (answered_self (spot_at (E.answers env.now) place) part.now)) state.old result state.new }
+{
+    match part {
+        None => Ok(None),
+        Some(node) => {
+            let at = pointer(place, node.id, node.range);
+            match env.cfg(site(at)) {
+                Err(cfg) => {
+                    state.report(ExpressionStoreDiagnostics::InactiveCode { node: at, cfg })?;
+                    Ok(None)
+                }
+                Ok(()) => Ok(Some(self_binding(alloc, env, place, state, node)?)),
+            }
+        }
+    }
+}
+
+/// The node of a `self` that is kept.
+pub(crate) fn self_node<E: LowerEnv>(
+    env: &E,
+    place: Place,
+    params: Option<&ast::ParamList>,
+) -> Option<InFile<AstPtr>>
+    ensures { let at = spot_at (E.answers env.now) place in
+        result ≡ self_source (answered_formals at true (option_copied params.entry)).receiver }
+{
+    match params {
+        None => None,
+        Some(params) => match &params.self_ {
+            None => None,
+            Some(node) => {
+                let at = pointer(place, node.id, node.range);
+                match env.cfg(site(at)) {
+                    Err(_) => None,
+                    Ok(()) => Some(at),
+                }
+            }
+        },
+    }
+}
+
+/// Whether the parameters of a function may only be plain names: in an extern block, and in a trait where it has no body.
+pub(crate) fn must_be_bare(container: ItemContainerId, has_body: bool) -> bool
+    ensures { result ≡ are_bare container has_body }
+{
+    match container {
+        ItemContainerId::ExternBlockId(_) => true,
+        ItemContainerId::TraitId(_) => !has_body,
+        ItemContainerId::ModuleId(_) | ItemContainerId::ImplId(_) => false,
+    }
+}
+
+/// The binding of `self`, and then the patterns of the other parameters that are kept. Those of a skipped body are missing.
+#[tactic(auto, unfolding(hir_one_result::specs::Formals::lower_formals))]
+pub(crate) fn formals_form<E: LowerEnv>(
+    alloc: Global,
+    env: &E,
+    place: Place,
+    state: &mut BodyBuilder,
+    skipped: bool,
+    bare: bool,
+    params: Option<&ast::ParamList>,
+) -> Result<(Option<BindingId>, Seq<PatId>), StoreFault>
+    ensures { let at = spot_at (E.answers env.now) place in
+        Lowers HasGiven (lower_formals skipped (answered_formals at bare (option_copied params.entry))) state.old result state.new }
+{
+    match params {
+        None => Ok((None, Seq::new(alloc))),
+        Some(params) => {
+            let receiver = self_form(alloc, env, place, state, &params.self_)?;
+            let pats = each_form(
+                alloc,
+                env,
+                place,
+                state,
+                skipped,
+                bare,
+                params.params.as_slice(),
+            )?;
+            Ok((receiver, pats))
+        }
+    }
+}

@@ -1,0 +1,27 @@
+use Rattle.std.proofs.Common.{◌∙◌, sym}
+use Rattle.hir_syntax.specs.declared.ast.ExprKind.TheVariants as kind
+use Rattle.hir_lower_expr.proofs.OfFamily.{opened}
+use Rattle.hir_lower_expr.proofs.families.control_kind.Goals as goal
+
+pub if_form-requires : goal.if_form-requires
+if_form-requires g c =
+    let parts = rw (opened (kind.rolls-IfExpr _ _ _ ∙ sym c.in-IfExpr.is)) at c.requires.parts in
+    record { condition = parts.0; then = parts.1; else_ = parts.2 }
+
+pub loop_form-requires : goal.loop_form-requires
+loop_form-requires g c = rw (opened (kind.rolls-LoopExpr _ _ ∙ sym c.in-LoopExpr.is)) at c.requires.parts
+
+pub break_form-requires : goal.break_form-requires
+break_form-requires g c = rw (opened (kind.rolls-BreakExpr _ _ ∙ sym c.in-BreakExpr.is)) at c.requires.parts
+
+pub returns-in-IfExpr : goal.returns-in-IfExpr
+returns-in-IfExpr g c = rw (opened (kind.rolls-IfExpr _ _ _ ∙ sym c.in-IfExpr.is)) c.if_form.ensures
+
+pub returns-in-LoopExpr : goal.returns-in-LoopExpr
+returns-in-LoopExpr g c = rw (opened (kind.rolls-LoopExpr _ _ ∙ sym c.in-LoopExpr.is)) c.loop_form.ensures
+
+pub returns-in-ContinueExpr : goal.returns-in-ContinueExpr
+returns-in-ContinueExpr g c = rw (opened (kind.rolls-ContinueExpr _ ∙ sym c.in-ContinueExpr.is)) c.continue_form.ensures
+
+pub returns-in-BreakExpr : goal.returns-in-BreakExpr
+returns-in-BreakExpr g c = rw (opened (kind.rolls-BreakExpr _ _ ∙ sym c.in-BreakExpr.is)) c.break_form.ensures

@@ -1,0 +1,5 @@
+use Rattle.hir_env.proofs.Levels.{arm_is_level}
+use Rattle.hir_lower_expr.proofs.matches.arm.Goals as goal
+
+pub returns : goal.returns
+returns g c = rw (arm_is_level (g.P.LowerParts.spot c.args.lowerer.now.parts) c.args.node.now) c.arm_form.ensures

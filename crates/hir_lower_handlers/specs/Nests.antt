@@ -1,0 +1,135 @@
+-- A function value that lowers a given part.
+use Rattle.std.specs.Prelude.{◌≡◌, Bool, Option}
+use Rattle.std.specs.declared.alloc.Global.{Global}
+use denote.Ref.{Bor, MutBor}
+use Rattle.hir_syntax.specs.declared.ast.Expr.{Expr as AstExpr}
+use Rattle.hir_syntax.specs.declared.ast.BlockExpr.{BlockExpr as AstBlockExpr}
+use Rattle.hir_syntax.specs.declared.ast.Path.{Path as AstPath}
+use Rattle.hir_syntax.specs.declared.pats.Pat.{Pat as AstPat}
+use Rattle.hir_syntax.specs.declared.types.Type_.{Type_ as AstType_}
+use Rattle.hir_store.specs.Stored.{Stored}
+use Rattle.hir_store.specs.Range.{HasExpr, HasExprOption, HasLabelOption}
+use Rattle.hir_store.specs.declared.path.GenericArgs.{GenericArgs}
+use Rattle.hir_store.specs.declared.ids.ExprId.{ExprId}
+use Rattle.hir_store.specs.declared.ids.LabelId.{LabelId}
+use Rattle.hir_store.specs.declared.ids.TypeRefId.{TypeRefId}
+use Rattle.hir_env.specs.declared.place.Place.{Place}
+use Rattle.hir_env.specs.Answers.{Answers}
+use Rattle.hir_env.specs.Answered as tree
+use Rattle.hir_env.specs.Answered.{Binder}
+use Rattle.hir_env.specs.Paths.{inside_constant}
+use Rattle.hir_env.specs.Wrapped.{AstGenericArgList}
+use Rattle.hir_env.specs.Whole.{answered, answered_arg_list, answered_path, answered_plain, answered_type}
+use Rattle.hir_lower_form.specs.Builder.{Builder}
+use Rattle.hir_lower_form.specs.Lowering.{Lowering, Checked, Lowers}
+use Rattle.hir_lower_form.specs.Lower.{lower_kept, lower_inside}
+use Rattle.hir_lower_form.specs.Methods.{HasWalk, LowersArgs, LowersType, ReadsPath}
+use Rattle.hir_lower_form.specs.Nests.{Claims, IfPresent}
+use Rattle.hir_lower_pat.specs.Nested.{InPat, InTarget}
+use Rattle.hir_lower_form.specs.declared.walk.PathWalk.{PathWalk}
+use Rattle.hir_lower_form.specs.declared.walk.Reading.{Reading}
+use Rattle.hir_lower_handlers.specs.Spots.{spot_at}
+
+-- what such a function requires and ensures, over an environment
+abbrev pub Pre : Type 0 → Type 1
+Pre E = Global → Bor E → Place → MutBor Builder → Bor AstExpr → Type 0
+
+abbrev pub Post : Type 0 → Type 0 → Type 1
+Post E A = Global → Bor E → Place → MutBor Builder → Bor AstExpr → Checked A → MutBor Builder → Type 0
+
+abbrev pub BlockPre : Type 0 → Type 1
+BlockPre E = Global → Bor E → Place → MutBor Builder → Bool → Option LabelId → Bor AstBlockExpr → Type 0
+
+abbrev pub BlockPost : Type 0 → Type 1
+BlockPost E = Global → Bor E → Place → MutBor Builder → Bool → Option LabelId → Bor AstBlockExpr → Checked ExprId → MutBor Builder → Type 0
+
+abbrev pub PathPre : Type 0 → Type 1
+PathPre E = Global → Bor E → Place → MutBor Builder → PathWalk → Bor AstPath → Type 0
+
+abbrev pub PathPost : Type 0 → Type 1
+PathPost E = Global → Bor E → Place → MutBor Builder → PathWalk → Bor AstPath → Checked Reading → MutBor Builder → Type 0
+
+abbrev pub TypePre : Type 0 → Type 1
+TypePre E = Global → Bor E → Place → MutBor Builder → Bor (Option Binder) → Bor AstType_ → Type 0
+
+abbrev pub TypePost : Type 0 → Type 1
+TypePost E = Global → Bor E → Place → MutBor Builder → Bor (Option Binder) → Bor AstType_ → Checked TypeRefId → MutBor Builder → Type 0
+
+abbrev pub ArgsPre : Type 0 → Type 1
+ArgsPre E = Global → Bor E → Place → MutBor Builder → Bor AstGenericArgList → Type 0
+
+abbrev pub ArgsPost : Type 0 → Type 1
+ArgsPost E = Global → Bor E → Place → MutBor Builder → Bor AstGenericArgList → Checked (Option GenericArgs) → MutBor Builder → Type 0
+
+-- the function may be called on the expression, and then does what `node` says
+pub record Handles {E A : Type 0} (Has : Stored → A → Type 0) (node : Lowering A)
+    (pre : Pre E) (post : Post E A) (env : E) (p : Place) (e : AstExpr) : Type 0 where
+  pub callable : (alloc : Global) (v : Bor E) (old : MutBor Builder) (b : Bor AstExpr)
+      → v.now ≡ env → b.now ≡ e → pre alloc v p old b
+  pub lowers : (alloc : Global) (v : Bor E) (old new : MutBor Builder) (b : Bor AstExpr) (r : Checked A)
+      → v.now ≡ env → b.now ≡ e → post alloc v p old b r new → Lowers Has node old.now r new.now
+
+pub record HandlesBlock {E : Type 0} (answers : E → Answers)
+    (pre : BlockPre E) (post : BlockPost E) (env : E) (p : Place) (b : AstBlockExpr) : Type 0 where
+  pub callable : (alloc : Global) (v : Bor E) (old : MutBor Builder) (is_unsafe : Bool) (label : Option LabelId) (n : Bor AstBlockExpr)
+      → v.now ≡ env → n.now ≡ b → HasLabelOption old.now.stored label → pre alloc v p old is_unsafe label n
+  pub lowers : (alloc : Global) (v : Bor E) (old new : MutBor Builder) (is_unsafe : Bool) (label : Option LabelId)
+      (n : Bor AstBlockExpr) (r : Checked ExprId)
+      → v.now ≡ env → n.now ≡ b → post alloc v p old is_unsafe label n r new
+      → Lowers HasExpr (lower_inside is_unsafe label (answered_plain (spot_at (answers env) p) b)) old.now r new.now
+
+pub record HandlesPath {E : Type 0} (answers : E → Answers)
+    (pre : PathPre E) (post : PathPost E) (env : E) (p : Place) (x : AstPath) : Type 0 where
+  pub callable : (alloc : Global) (v : Bor E) (old : MutBor Builder) (walk : PathWalk) (b : Bor AstPath)
+      → v.now ≡ env → b.now ≡ x → HasWalk old.now.stored walk → pre alloc v p old walk b
+  pub reads : (alloc : Global) (v : Bor E) (old new : MutBor Builder) (walk : PathWalk) (b : Bor AstPath) (r : Checked Reading)
+      → v.now ≡ env → b.now ≡ x → post alloc v p old walk b r new
+      → ReadsPath (answered_path (spot_at (answers env) p) x) walk old.now r new.now
+
+pub record HandlesType {E : Type 0} (answers : E → Answers)
+    (pre : TypePre E) (post : TypePost E) (env : E) (p : Place) (t : AstType_) : Type 0 where
+  pub callable : (alloc : Global) (v : Bor E) (old : MutBor Builder) (binder : Bor (Option Binder)) (b : Bor AstType_)
+      → v.now ≡ env → b.now ≡ t → pre alloc v p old binder b
+  pub lowers : (alloc : Global) (v : Bor E) (old new : MutBor Builder) (binder : Bor (Option Binder)) (b : Bor AstType_)
+      (r : Checked TypeRefId) → v.now ≡ env → b.now ≡ t → post alloc v p old binder b r new
+      → LowersType binder.now (answered_type (spot_at (answers env) p) t) old.now r new.now
+
+pub record HandlesArgs {E : Type 0} (answers : E → Answers)
+    (pre : ArgsPre E) (post : ArgsPost E) (env : E) (p : Place) (l : AstGenericArgList) : Type 0 where
+  pub callable : (alloc : Global) (v : Bor E) (old : MutBor Builder) (b : Bor AstGenericArgList)
+      → v.now ≡ env → b.now ≡ l → pre alloc v p old b
+  pub lowers : (alloc : Global) (v : Bor E) (old new : MutBor Builder) (b : Bor AstGenericArgList) (r : Checked (Option GenericArgs))
+      → v.now ≡ env → b.now ≡ l → post alloc v p old b r new
+      → LowersArgs (tree.some_arg_list (answered_arg_list (spot_at (answers env) p) l)) old.now r new.now
+
+module _ {E : Type 0} (answers : E → Answers) where
+  abbrev pub HandlesExpr : Pre E → Post E (Option ExprId) → E → Place → AstExpr → Type 0
+  HandlesExpr pre post env p e = Handles HasExprOption (lower_kept (answered (spot_at (answers env) p) e)) pre post env p e
+
+  -- the expression of a constant that is written there, where it has one
+  abbrev pub HandlesConstant : Pre E → Post E (Option ExprId) → E → Place → Option AstExpr → Type 0
+  HandlesConstant pre post env p o = IfPresent (HandlesExpr pre post env (inside_constant p)) o
+
+module _ {E : Type 0} (answers : E → Answers) where
+  abbrev pub HandlesPat : PathPre E → PathPost E → E → Place → AstPat → Type 0
+  HandlesPat pre post env = InPat (answers env) (HandlesPath answers pre post env)
+
+  abbrev pub HandlesTarget : Pre E → Post E (Option ExprId) → PathPre E → PathPost E → E → Place → AstExpr → Type 0
+  HandlesTarget pre post path_pre path_post env =
+      InTarget (answers env) (HandlesExpr answers pre post env) (HandlesPath answers path_pre path_post env)
+
+-- what may be handed in to functions of which this is so, at a place
+module _ {E : Type 0} (answers : E → Answers) (pre : Pre E) (post : Post E (Option ExprId)) (block_pre : BlockPre E)
+    (block_post : BlockPost E) (path_pre : PathPre E) (path_post : PathPost E) (type_pre : TypePre E) (type_post : TypePost E)
+    (args_pre : ArgsPre E) (args_post : ArgsPost E) (env : E) where
+  abbrev pub Handled : Place → Claims
+  Handled p = record {
+    expr = HandlesExpr answers pre post env p;
+    block = HandlesBlock answers block_pre block_post env p;
+    path = HandlesPath answers path_pre path_post env;
+    type_ = HandlesType answers type_pre type_post env;
+    args = HandlesArgs answers args_pre args_post env;
+    constant = HandlesConstant answers pre post env;
+    pat = HandlesPat answers path_pre path_post env;
+    target = HandlesTarget answers pre post path_pre path_post env;
+  }

@@ -1,0 +1,85 @@
+//! Constants: the lengths of arrays, and arguments.
+
+ghost use Rattle.hir_env.specs.Answered as tree;
+ghost use Rattle.hir_env.specs.Whole.{answered, expr_part};
+ghost use Rattle.hir_lower_form.specs.Methods.{LowersConstant, LowersExpr, LowersExprOpt};
+ghost use Rattle.hir_lower_form.specs.Nests.{IfPresent};
+ghost use Rattle.hir_lower_handlers.specs.Nests.{HandlesExpr};
+ghost use Rattle.hir_lower_handlers.specs.Spots.{spot_at};
+
+use hir_env::env::LowerEnv;
+use hir_env::place::Place;
+use hir_lower_form::builder::BodyBuilder;
+use hir_store::fault::StoreFault;
+use hir_store::ids::ExprId;
+use hir_store::type_ref::ConstRef;
+use hir_syntax::{Boxed, ast};
+use std::alloc::Global;
+
+/// The expression, missing where a condition disables it.
+#[tactic(auto, using(hir_lower_form::proofs::Kept::lower_on))]
+fn expr_of<
+    E: LowerEnv,
+    F: Fn(Global, &E, Place, &mut BodyBuilder, &ast::Expr) -> Result<Option<ExprId>, StoreFault>,
+>(
+    alloc: Global,
+    env: &E,
+    place: Place,
+    state: &mut BodyBuilder,
+    lower: &F,
+    node: &ast::Expr,
+) -> Result<ExprId, StoreFault>
+    requires { HandlesExpr E.answers (F.pre lower.now) (F.post lower.now) env.now place node.now }
+    ensures { LowersExpr (answered (spot_at (E.answers env.now) place) node.now) state.old result state.new }
+{
+    match lower(alloc, env, place, state, node)? {
+        Some(id) => Ok(id),
+        None => state.missing_expr(),
+    }
+}
+
+/// The expression, missing where it is absent or a condition disables it.
+fn expr_or_missing<
+    E: LowerEnv,
+    F: Fn(Global, &E, Place, &mut BodyBuilder, &ast::Expr) -> Result<Option<ExprId>, StoreFault>,
+>(
+    alloc: Global,
+    env: &E,
+    place: Place,
+    state: &mut BodyBuilder,
+    lower: &F,
+    expr: &Option<Boxed<ast::Expr>>,
+) -> Result<ExprId, StoreFault>
+    requires { IfPresent (HandlesExpr E.answers (F.pre lower.now) (F.post lower.now) env.now place) expr.now }
+    ensures { LowersExprOpt (expr_part (spot_at (E.answers env.now) place) expr.now) state.old result state.new }
+{
+    match expr {
+        None => state.missing_expr(),
+        Some(expr) => expr_of(alloc, env, place, state, lower, expr.get()),
+    }
+}
+
+/// The expression, read at this place, as a constant: no jump in it reaches what is open around it, and it is recorded as a
+/// root unless one is being lowered.
+#[tactic(auto, unfolding(hir_lower_form::specs::Forms::constant_form))]
+pub fn constant_form<
+    E: LowerEnv,
+    F: Fn(Global, &E, Place, &mut BodyBuilder, &ast::Expr) -> Result<Option<ExprId>, StoreFault>,
+>(
+    alloc: Global,
+    env: &E,
+    place: Place,
+    state: &mut BodyBuilder,
+    lower: &F,
+    expr: &Option<Boxed<ast::Expr>>,
+) -> Result<ConstRef, StoreFault>
+    requires { IfPresent (HandlesExpr E.answers (F.pre lower.now) (F.post lower.now) env.now place) expr.now }
+    ensures { LowersConstant (tree.constant (expr_part (spot_at (E.answers env.now) place) expr.now)) state.old result state.new }
+{
+    state.open_barrier()?;
+    let outer = state.enter_root();
+    let id = expr_or_missing(alloc, env, place, state, lower, expr)?;
+    state.close();
+    state.leave_root(outer, id)?;
+    Ok(ConstRef { expr: id })
+}

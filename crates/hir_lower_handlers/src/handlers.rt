@@ -1,0 +1,190 @@
+//! What lowers the parts of a form, of functions that are handed in.
+
+ghost use Rattle.hir_lower_pat.proofs.Nested.{pat_nests, target_is_place, target_nests};
+ghost use Rattle.hir_lower_handlers.specs.Nests.{Handled, HandlesExpr, HandlesPath};
+ghost use Rattle.hir_lower_handlers.specs.Spots.{spot_at};
+
+use crate::constant::constant_form;
+use hir_base::node::{InFile, NodeId, PredId};
+use hir_env::env::LowerEnv;
+use hir_env::lang::LangItems;
+use hir_env::place::Place;
+use hir_env::resolved::{Resolved, Shadow};
+use hir_lower_form::builder::BodyBuilder;
+use hir_lower_form::parts::LowerParts;
+use hir_lower_form::walk::{PathWalk, Reading};
+use hir_lower_scope::labels::{LabelScopes, NoTarget};
+use hir_lower_type::places::inside_constant;
+use hir_store::fault::StoreFault;
+use hir_store::ids::{CfgId, CrateId, ExprId, HygieneId, LabelId, TypeRefId};
+use hir_store::name::Name;
+use hir_store::path::{GenericArgs, ModPath};
+use hir_store::type_ref::ConstRef;
+use hir_syntax::{Boxed, Seq, ast};
+use std::alloc::Global;
+
+/// The functions that lower the parts of a form, at one place.
+#[derive_where(Clone, Copy; F, B, Q, T, G)]
+pub struct Handlers<'e, E, F, B, Q, T, G> {
+    pub alloc: Global,
+    pub env: &'e E,
+    pub place: Place,
+    pub expr: F,
+    pub block: B,
+    pub path: Q,
+    pub type_ref: T,
+    pub args: G,
+}
+
+impl<
+    'e,
+    E: LowerEnv,
+    F: Fn(Global, &E, Place, &mut BodyBuilder, &ast::Expr) -> Result<Option<ExprId>, StoreFault>,
+    B: Fn(
+        Global,
+        &E,
+        Place,
+        &mut BodyBuilder,
+        bool,
+        Option<LabelId>,
+        &ast::BlockExpr,
+    ) -> Result<ExprId, StoreFault>,
+    Q: Fn(Global, &E, Place, &mut BodyBuilder, PathWalk, &ast::Path) -> Result<Reading, StoreFault>,
+    T: Fn(
+        Global,
+        &E,
+        Place,
+        &mut BodyBuilder,
+        &Option<Seq<Name>>,
+        &ast::Type_,
+    ) -> Result<TypeRefId, StoreFault>,
+    G: Fn(
+        Global,
+        &E,
+        Place,
+        &mut BodyBuilder,
+        &ast::GenericArgList,
+    ) -> Result<Option<GenericArgs>, StoreFault>,
+> LowerParts for Handlers<'e, E, F, B, Q, T, G> {
+    ghost can = { λ it. Handled E.answers (F.pre it.expr) (F.post it.expr) (B.pre it.block) (B.post it.block)
+        (Q.pre it.path) (Q.post it.path) (T.pre it.type_ref) (T.post it.type_ref) (G.pre it.args) (G.post it.args) it.env.now it.place };
+
+    ghost pat_kids = { λ it. pat_nests (E.answers it.env.now) (HandlesPath E.answers (Q.pre it.path) (Q.post it.path) it.env.now) };
+
+    ghost target_kids = { λ it. target_nests
+        (Handled E.answers (F.pre it.expr) (F.post it.expr) (B.pre it.block) (B.post it.block)
+        (Q.pre it.path) (Q.post it.path) (T.pre it.type_ref) (T.post it.type_ref) (G.pre it.args) (G.post it.args) it.env.now it.place)
+        (E.answers it.env.now) (HandlesExpr E.answers (F.pre it.expr) (F.post it.expr) it.env.now)
+        (HandlesPath E.answers (Q.pre it.path) (Q.post it.path) it.env.now) };
+
+    ghost target_place = { λ it. target_is_place (E.answers it.env.now) (HandlesExpr E.answers (F.pre it.expr) (F.post it.expr) it.env.now)
+        (HandlesPath E.answers (Q.pre it.path) (Q.post it.path) it.env.now) it.place };
+
+    ghost spot = { λ it. spot_at (E.answers it.env.now) it.place };
+
+    fn place(&self) -> Place {
+        self.place
+    }
+
+    fn cfg(&self, node: InFile<NodeId>) -> Result<(), CfgId> {
+        self.env.cfg(node)
+    }
+
+    fn cfg_pred(&self, pred: Option<PredId>) -> Option<bool> {
+        self.env.cfg_pred(pred)
+    }
+
+    fn hygiene(&self, node: InFile<NodeId>) -> HygieneId {
+        self.env.hygiene(node)
+    }
+
+    fn crate_root(&self, name: InFile<NodeId>) -> Option<CrateId> {
+        self.env.crate_root(self.env.context(name))
+    }
+
+    fn resolve(&self, path: &ModPath, shadow: Shadow) -> Resolved {
+        self.env.resolve(self.place.module_id, path, shadow)
+    }
+
+    fn lang_items(&self) -> &LangItems {
+        self.env.lang_items()
+    }
+
+    fn new_range(&self) -> bool {
+        self.env.new_range(self.place.module_id)
+    }
+
+    fn find_label(
+        &self,
+        scopes: &LabelScopes,
+        name: &Name,
+        hygiene: HygieneId,
+    ) -> Result<LabelId, NoTarget> {
+        scopes.find(self.env, name, hygiene)
+    }
+
+    fn maybe_collect_expr(
+        &self,
+        state: &mut BodyBuilder,
+        node: &ast::Expr,
+    ) -> Result<Option<ExprId>, StoreFault> {
+        (self.expr)(self.alloc, self.env, self.place, state, node)
+    }
+
+    fn collect_block_inside(
+        &self,
+        state: &mut BodyBuilder,
+        is_unsafe: bool,
+        label: Option<LabelId>,
+        node: &ast::BlockExpr,
+    ) -> Result<ExprId, StoreFault> {
+        (self.block)(
+            self.alloc, self.env, self.place, state, is_unsafe, label, node,
+        )
+    }
+
+    fn read_path(
+        &self,
+        state: &mut BodyBuilder,
+        place: Place,
+        walk: PathWalk,
+        node: &ast::Path,
+    ) -> Result<Reading, StoreFault> {
+        (self.path)(self.alloc, self.env, place, state, walk, node)
+    }
+
+    fn lower_type(
+        &self,
+        state: &mut BodyBuilder,
+        place: Place,
+        binder: &Option<Seq<Name>>,
+        node: &ast::Type_,
+    ) -> Result<TypeRefId, StoreFault> {
+        (self.type_ref)(self.alloc, self.env, place, state, binder, node)
+    }
+
+    fn lower_args(
+        &self,
+        state: &mut BodyBuilder,
+        place: Place,
+        node: &ast::GenericArgList,
+    ) -> Result<Option<GenericArgs>, StoreFault> {
+        (self.args)(self.alloc, self.env, place, state, node)
+    }
+
+    fn collect_constant(
+        &self,
+        state: &mut BodyBuilder,
+        place: Place,
+        expr: &Option<Boxed<ast::Expr>>,
+    ) -> Result<ConstRef, StoreFault> {
+        constant_form(
+            self.alloc,
+            self.env,
+            inside_constant(place),
+            state,
+            &self.expr,
+            expr,
+        )
+    }
+}

@@ -1,0 +1,7 @@
+//! What lowers the parts of a form, of functions that lower expressions, blocks, paths, types and arguments; no function here calls
+//! itself.
+#![tactic(auto)]
+
+pub mod constant;
+pub mod handlers;
+pub mod numbers;

@@ -1,0 +1,44 @@
+//! The numbers of blocks, and where the parts of a block are read.
+
+ghost use Rattle.std.specs.Prelude.{◌≡◌, option_map};
+ghost use Rattle.hir_env.specs.Answering.{inside as place_inside, numbered as number_at};
+
+use hir_base::node::{InFile, NodeId};
+use hir_env::env::LowerEnv;
+use hir_env::place::{LoweringMode, Place};
+use hir_store::ids::{BlockId, ModuleId};
+
+/// The number and the module of a block, where numbers are asked for.
+pub fn number<E: LowerEnv>(env: &E, place: Place, node: NodeId) -> Option<(BlockId, ModuleId)>
+    ensures { result ≡ number_at (E.answers env.now) place node }
+{
+    match place.mode {
+        LoweringMode::Untracked => None,
+        LoweringMode::Analysis => env.block(
+            InFile {
+                file_id: place.file_id,
+                value: node,
+            },
+            place.module_id,
+        ),
+    }
+}
+
+/// Where the parts of a block are read.
+pub fn inside(place: Place, number: Option<(BlockId, ModuleId)>) -> Place
+    ensures { result ≡ place_inside number place }
+{
+    match number {
+        None => place,
+        Some((_, module_id)) => Place { module_id, ..place },
+    }
+}
+
+pub fn block_number(number: Option<(BlockId, ModuleId)>) -> Option<BlockId>
+    ensures { result ≡ option_map (λ n. n.0) number }
+{
+    match number {
+        None => None,
+        Some((block, _)) => Some(block),
+    }
+}

@@ -1,0 +1,219 @@
+use Rattle.std.proofs.Common.{arith, ap, ℕ, suc, sym, ◌∙◌, ◌≡◌, ◌+◌, ◌<◌}
+use Rattle.hir_syntax.specs.declared.ast.ExprKind.{out-ExprKind}
+use Rattle.hir_syntax.specs.declared.ast.BlockExpr.{out-BlockExpr}
+use Rattle.hir_syntax.specs.declared.ast.Path.{out-Path}
+use Rattle.hir_syntax.specs.declared.types.TypeKind.{out-TypeKind}
+use Rattle.hir_env.specs.Answering.{ptr, numbered}
+use Rattle.hir_env.specs.declared.place.Place.{Place}
+use Rattle.hir_env.specs.Count.{count_block, count_path, count_stmts, count_option_expr, count_type}
+use Rattle.hir_env.specs.Paths.{inside_constant}
+use Rattle.hir_env.specs.Whole.{answered_path, answered_plain, expr_part, pointer_at, stmts_part}
+use Rattle.hir_env.proofs.Levels.{expr_is_level, plain_is_level}
+use Rattle.hir_env.proofs.PathLevels.{path_is_level, type_is_level}
+use Rattle.hir_lower_handlers.specs.Nests.{HandlesArgs, HandlesBlock, HandlesConstant, HandlesExpr, HandlesPat, HandlesPath, HandlesType}
+use Rattle.hir_lower_handlers.specs.Nests.{HandlesTarget}
+use Rattle.hir_lower_handlers.specs.Spots.{spot_at}
+use Rattle.hir_lower_pat.proofs.AimLemmas.{kept_below}
+use Rattle.hir_lower_knot.proofs.Kids.{kids_expr, kids_block, in_inside}
+use Rattle.hir_lower_knot.proofs.TypeKids.{args_read, kids_args, kids_path, kids_type}
+use Rattle.hir_lower_knot.proofs.knot.+lower.Goals as goal
+
+pub maybe_collect_expr-returns : goal.maybe_collect_expr-returns
+maybe_collect_expr-returns g t c =
+    rw (expr_is_level (spot_at (g.E.LowerEnv.answers c.args.env.now) c.args.place) c.args.node.now) c.expr_node.ensures
+
+pub maybe_collect_expr-expr_node-requires : goal.maybe_collect_expr-expr_node-requires
+maybe_collect_expr-expr_node-requires g t c =
+    let d = c.decreases in
+    let env = g.E.LowerEnv.answers c.args.env.now in
+    let at = spot_at env c.args.place in
+    let size = kept_below at c.args.node.now in
+    kids_expr env (HandlesExpr g.E.LowerEnv.answers _ _ c.args.env.now) (HandlesBlock g.E.LowerEnv.answers _ _ c.args.env.now)
+    (HandlesPath g.E.LowerEnv.answers _ _ c.args.env.now) (HandlesType g.E.LowerEnv.answers _ _ c.args.env.now)
+    (HandlesArgs g.E.LowerEnv.answers _ _ c.args.env.now) (λ p o. Unit {0}) t
+    (λ p e h. record {
+      callable = λ alloc v old b same is. (rw same (rw is h), λ a m. m);
+      lowers = λ alloc v old new b r same is q. rw (← is) (rw (← same) q.2);
+    })
+    (λ p b h. record {
+      callable = λ alloc v old is_unsafe label n same is has. (rw same (rw is h), ((λ a m. m), has));
+      lowers = λ alloc v old new is_unsafe label n r same is q. rw (← is) (rw (← same) q.3);
+    })
+    (λ p x h. record {
+      callable = λ alloc v old walk b same is has. (rw same (rw is h), ((λ a m. m), has));
+      reads = λ alloc v old new walk b r same is q. rw (← is) (rw (← same) q.3);
+    })
+    (λ p x h. record {
+      callable = λ alloc v old binder b same is. (rw same (rw is h), λ a m. m);
+      lowers = λ alloc v old new binder b r same is q. rw (← is) (rw (← same) q.2);
+    })
+    (λ p x h. record {
+      callable = λ alloc v old b same is. (rw same (rw is h), λ a m. m);
+      lowers = λ alloc v old new b r same is q. args_read g.E.LowerEnv.answers p old.now new.now r same is q.2;
+    })
+    c.args.place (pointer_at at c.args.node.now.id c.args.node.now.range) (out-ExprKind c.args.node.now.kind) (omega (arith, d, size))
+
+pub collect_block_inside-returns : goal.collect_block_inside-returns
+collect_block_inside-returns g t c =
+    let env = g.E.LowerEnv.answers c.args.env.now in
+    let node = out-BlockExpr c.args.node.now in
+    let found = rw (c.block_number-block.ensures, c.inside-inner.ensures, c.number-found.ensures) at c.block_node.ensures in
+    rw (plain_is_level (spot_at env c.args.place) c.args.node.now)
+    (rw (in_inside (numbered env c.args.place node.id) c.args.place (ptr node.id node.range)) at found)
+
+pub collect_block_inside-block_node-requires-clause-parts : goal.collect_block_inside-block_node-requires-clause-parts
+collect_block_inside-block_node-requires-clause-parts g t c =
+    let d = c.decreases in
+    let env = g.E.LowerEnv.answers c.args.env.now in
+    let inner = rw c.number-found.ensures at c.inside-inner.ensures in
+    let node = out-BlockExpr c.args.node.now in
+    let tail : Place → ℕ = λ q. count_option_expr (expr_part (spot_at env q) node.tail) in
+    let level : Place → ℕ = λ q. suc (count_stmts (stmts_part (spot_at env q) node.stmts) + tail q) in
+    let size : count_block (answered_plain (spot_at env c.args.place) c.args.node.now) ≡ level c.inside-inner.result =
+    ap count_block (plain_is_level (spot_at env c.args.place) c.args.node.now) ∙ ap level (sym inner) in
+    kids_block env (HandlesExpr g.E.LowerEnv.answers _ _ c.args.env.now) (HandlesBlock g.E.LowerEnv.answers _ _ c.args.env.now)
+    (HandlesPath g.E.LowerEnv.answers _ _ c.args.env.now) (HandlesType g.E.LowerEnv.answers _ _ c.args.env.now)
+    (HandlesArgs g.E.LowerEnv.answers _ _ c.args.env.now) (HandlesConstant g.E.LowerEnv.answers _ _ c.args.env.now) t
+    (λ p e h. record {
+      callable = λ alloc v old b same is. (rw same (rw is h), λ a m. m);
+      lowers = λ alloc v old new b r same is q. rw (← is) (rw (← same) q.2);
+    })
+    (λ p b h. record {
+      callable = λ alloc v old is_unsafe label n same is has. (rw same (rw is h), ((λ a m. m), has));
+      lowers = λ alloc v old new is_unsafe label n r same is q. rw (← is) (rw (← same) q.3);
+    })
+    (λ p x h. record {
+      callable = λ alloc v old walk b same is has. (rw same (rw is h), ((λ a m. m), has));
+      reads = λ alloc v old new walk b r same is q. rw (← is) (rw (← same) q.3);
+    })
+    (λ p x h. record {
+      callable = λ alloc v old binder b same is. (rw same (rw is h), λ a m. m);
+      lowers = λ alloc v old new binder b r same is q. rw (← is) (rw (← same) q.2);
+    })
+    (λ p x h. record {
+      callable = λ alloc v old b same is. (rw same (rw is h), λ a m. m);
+      lowers = λ alloc v old new b r same is q. args_read g.E.LowerEnv.answers p old.now new.now r same is q.2;
+    })
+    c.inside-inner.result c.args.node.now (omega (arith, d, size))
+
+pub read_path_segments-returns : goal.read_path_segments-returns
+read_path_segments-returns g t c =
+    rw (path_is_level (spot_at (g.E.LowerEnv.answers c.args.env.now) c.args.place) c.args.node.now) c.path_node.ensures
+
+pub read_path_segments-path_node-requires-clause-parts : goal.read_path_segments-path_node-requires-clause-parts
+read_path_segments-path_node-requires-clause-parts g t c =
+    let d = c.decreases in
+    let env = g.E.LowerEnv.answers c.args.env.now in
+    let size = ap count_path (path_is_level (spot_at env c.args.place) c.args.node.now) in
+    kids_path env (record {
+      expr = λ e. Unit {0};
+      block = λ b. Unit {0};
+      path = HandlesPath g.E.LowerEnv.answers _ _ c.args.env.now;
+      type_ = HandlesType g.E.LowerEnv.answers _ _ c.args.env.now;
+      args = HandlesArgs g.E.LowerEnv.answers _ _ c.args.env.now;
+      constant = λ p o. Unit {0};
+      pat = λ p x. Unit {0};
+      target = λ p e. Unit {0};
+    }) t
+    (record {
+      types = λ p x h. record {
+        callable = λ alloc v old binder b same is. (rw same (rw is h), λ a m. m);
+        lowers = λ alloc v old new binder b r same is q. rw (← is) (rw (← same) q.2);
+      };
+      paths = λ p x h. record {
+        callable = λ alloc v old walk b same is has. (rw same (rw is h), ((λ a m. m), has));
+        reads = λ alloc v old new walk b r same is q. rw (← is) (rw (← same) q.3);
+      };
+      constants = λ p e h. tt;
+      no_constant = λ p. tt;
+      pats = λ p x h. tt;
+      lists = λ p x h. record {
+        callable = λ alloc v old b same is. (rw same (rw is h), λ a m. m);
+        lowers = λ alloc v old new b r same is q. args_read g.E.LowerEnv.answers p old.now new.now r same is q.2;
+      };
+    })
+    c.args.place (out-Path c.args.node.now) (omega (arith, d, size))
+
+pub lower_type_node-returns : goal.lower_type_node-returns
+lower_type_node-returns g t c =
+    rw (type_is_level (spot_at (g.E.LowerEnv.answers c.args.env.now) c.args.place) c.args.node.now) c.type_node.ensures
+
+pub lower_type_node-type_node-requires : goal.lower_type_node-type_node-requires
+lower_type_node-type_node-requires g t c =
+    let d = c.decreases in
+    let env = g.E.LowerEnv.answers c.args.env.now in
+    let at = spot_at env c.args.place in
+    let size = ap count_type (type_is_level at c.args.node.now) in
+    kids_type env (record {
+      expr = λ e. Unit {0};
+      block = λ b. Unit {0};
+      path = HandlesPath g.E.LowerEnv.answers _ _ c.args.env.now;
+      type_ = HandlesType g.E.LowerEnv.answers _ _ c.args.env.now;
+      args = λ p l. Unit {0};
+      constant = HandlesConstant g.E.LowerEnv.answers _ _ c.args.env.now;
+      pat = HandlesPat g.E.LowerEnv.answers _ _ c.args.env.now;
+      target = λ p e. Unit {0};
+    }) t
+    (record {
+      types = λ p x h. record {
+        callable = λ alloc v old binder b same is. (rw same (rw is h), λ a m. m);
+        lowers = λ alloc v old new binder b r same is q. rw (← is) (rw (← same) q.2);
+      };
+      paths = λ p x h. record {
+        callable = λ alloc v old walk b same is has. (rw same (rw is h), ((λ a m. m), has));
+        reads = λ alloc v old new walk b r same is q. rw (← is) (rw (← same) q.3);
+      };
+      constants = λ p e h. record {
+        callable = λ alloc v old b same is. (rw same (rw is h), λ a m. m);
+        lowers = λ alloc v old new b r same is q. rw (← is) (rw (← same) q.2);
+      };
+      no_constant = λ p. tt;
+      pats = λ p x h q less. let m : count_path (answered_path (spot_at env (inside_constant p)) q) < t = omega (arith, h, less) in record {
+        callable = λ alloc v old walk b same is has. (rw same (rw is m), ((λ a m. m), has));
+        reads = λ alloc v old new walk b r same is q. rw (← is) (rw (← same) q.3);
+      };
+      lists = λ p x h. tt;
+    })
+    c.args.place (pointer_at at c.args.node.now.id c.args.node.now.range) (out-TypeKind c.args.node.now.kind) (omega (arith, d, size))
+
+pub lower_arg_list-returns : goal.lower_arg_list-returns
+lower_arg_list-returns g t c = c.args_node.ensures
+
+pub lower_arg_list-args_node-requires : goal.lower_arg_list-args_node-requires
+lower_arg_list-args_node-requires g t c =
+    let d = c.decreases in
+    let env = g.E.LowerEnv.answers c.args.env.now in
+    kids_args env (record {
+      expr = HandlesExpr g.E.LowerEnv.answers _ _ c.args.env.now c.args.place;
+      block = HandlesBlock g.E.LowerEnv.answers _ _ c.args.env.now c.args.place;
+      path = HandlesPath g.E.LowerEnv.answers _ _ c.args.env.now;
+      type_ = HandlesType g.E.LowerEnv.answers _ _ c.args.env.now;
+      args = HandlesArgs g.E.LowerEnv.answers _ _ c.args.env.now;
+      constant = HandlesConstant g.E.LowerEnv.answers _ _ c.args.env.now;
+      pat = HandlesPat g.E.LowerEnv.answers _ _ c.args.env.now;
+      target = HandlesTarget g.E.LowerEnv.answers _ _ _ _ c.args.env.now;
+    }) t
+    (record {
+      types = λ p x h. record {
+        callable = λ alloc v old binder b same is. (rw same (rw is h), λ a m. m);
+        lowers = λ alloc v old new binder b r same is q. rw (← is) (rw (← same) q.2);
+      };
+      paths = λ p x h. record {
+        callable = λ alloc v old walk b same is has. (rw same (rw is h), ((λ a m. m), has));
+        reads = λ alloc v old new walk b r same is q. rw (← is) (rw (← same) q.3);
+      };
+      constants = λ p e h. record {
+        callable = λ alloc v old b same is. (rw same (rw is h), λ a m. m);
+        lowers = λ alloc v old new b r same is q. rw (← is) (rw (← same) q.2);
+      };
+      no_constant = λ p. tt;
+      pats = λ p x h q less. let m : count_path (answered_path (spot_at env (inside_constant p)) q) < t = omega (arith, h, less) in record {
+        callable = λ alloc v old walk b same is has. (rw same (rw is m), ((λ a m. m), has));
+        reads = λ alloc v old new walk b r same is q. rw (← is) (rw (← same) q.3);
+      };
+      lists = λ p x h. record {
+        callable = λ alloc v old b same is. (rw same (rw is h), λ a m. m);
+        lowers = λ alloc v old new b r same is q. args_read g.E.LowerEnv.answers p old.now new.now r same is q.2;
+      };
+    })
+    c.args.place c.args.node.now (omega (arith, d))

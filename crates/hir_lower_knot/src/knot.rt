@@ -1,0 +1,263 @@
+//! The functions that lower a node call each other through the forms: each hands the others to the forms by name.
+
+ghost use Rattle.hir_store.specs.Range.{HasLabelOption};
+ghost use Rattle.hir_env.specs.Answered.{some_arg_list, some_path};
+ghost use Rattle.hir_binding.specs.declared.binding.BindingAnnotation.TheVariants.{Unannotated};
+ghost use Rattle.hir_env.specs.Answered as tree;
+ghost use Rattle.hir_env.specs.Whole.{answered, answered_arg_list, answered_path, answered_plain, answered_type, pat_part};
+ghost use Rattle.hir_lower_form.specs.Methods.{HasWalk, LowersArgs, LowersExpr, LowersInside, LowersPath, LowersType};
+ghost use Rattle.hir_lower_form.specs.Methods.{LowersTop, MaybeLowersExpr, ReadsPath};
+ghost use Rattle.hir_lower_pat.specs.Methods.{use_with};
+ghost use Rattle.hir_lower_handlers.specs.Spots.{spot_at};
+
+use hir_base::node::{AstPtr, InFile};
+use hir_env::env::LowerEnv;
+use hir_env::place::Place;
+use hir_lower_expr::blocks::block_node;
+use hir_lower_expr::exprs::expr_node;
+use hir_lower_form::builder::BodyBuilder;
+use hir_lower_form::parts::Lowerer;
+use hir_lower_form::walk::{PathWalk, Reading, path_read};
+use hir_lower_handlers::handlers::Handlers;
+use hir_lower_handlers::numbers::{block_number, inside, number};
+use hir_lower_pat::top as patterns;
+use hir_lower_path::path::path_node;
+use hir_lower_type::args::args_node;
+use hir_lower_type::types::type_node;
+use hir_store::fault::StoreFault;
+use hir_store::ids::{ExprId, LabelId, PatId, TypeRefId};
+use hir_store::name::Name;
+use hir_store::path::{GenericArgs, Path};
+use hir_syntax::{Boxed, Seq, ast};
+use std::alloc::Global;
+
+/// The expression, none where a condition disables it.
+#[cycle(lower)]
+pub fn maybe_collect_expr<E: LowerEnv>(
+    alloc: Global,
+    env: &E,
+    place: Place,
+    state: &mut BodyBuilder,
+    node: &ast::Expr,
+) -> Result<Option<ExprId>, StoreFault>
+    ensures { MaybeLowersExpr (answered (spot_at (E.answers env.now) place) node.now) state.old result state.new }
+{
+    let lowerer = Lowerer {
+        alloc,
+        parts: Handlers {
+            alloc,
+            env,
+            place,
+            expr: maybe_collect_expr::<E>,
+            block: collect_block_inside::<E>,
+            path: read_path_segments::<E>,
+            type_ref: lower_type_node::<E>,
+            args: lower_arg_list::<E>,
+        },
+    };
+    expr_node(&lowerer, state, node)
+}
+
+/// The block, as one that is unsafe or isn't, inside the label of this number.
+#[cycle(lower)]
+pub fn collect_block_inside<E: LowerEnv>(
+    alloc: Global,
+    env: &E,
+    place: Place,
+    state: &mut BodyBuilder,
+    is_unsafe: bool,
+    label: Option<LabelId>,
+    node: &ast::BlockExpr,
+) -> Result<ExprId, StoreFault>
+    requires { HasLabelOption state.old.stored label }
+    ensures { LowersInside is_unsafe label (answered_plain (spot_at (E.answers env.now) place) node.now) state.old result state.new }
+{
+    let found = number(env, place, node.id);
+    let inner = inside(place, found);
+    let block = block_number(found);
+    let lowerer = Lowerer {
+        alloc,
+        parts: Handlers {
+            alloc,
+            env,
+            place: inner,
+            expr: maybe_collect_expr::<E>,
+            block: collect_block_inside::<E>,
+            path: read_path_segments::<E>,
+            type_ref: lower_type_node::<E>,
+            args: lower_arg_list::<E>,
+        },
+    };
+    block_node(&lowerer, state, is_unsafe, label, block, node)
+}
+
+/// Goes on with the segments of the path, and then with those of the use tree around it.
+#[cycle(lower)]
+pub fn read_path_segments<E: LowerEnv>(
+    alloc: Global,
+    env: &E,
+    place: Place,
+    state: &mut BodyBuilder,
+    walk: PathWalk,
+    node: &ast::Path,
+) -> Result<Reading, StoreFault>
+    requires { HasWalk state.old.stored walk }
+    ensures { ReadsPath (answered_path (spot_at (E.answers env.now) place) node.now) walk state.old result state.new }
+{
+    let lowerer = Lowerer {
+        alloc,
+        parts: Handlers {
+            alloc,
+            env,
+            place,
+            expr: maybe_collect_expr::<E>,
+            block: collect_block_inside::<E>,
+            path: read_path_segments::<E>,
+            type_ref: lower_type_node::<E>,
+            args: lower_arg_list::<E>,
+        },
+    };
+    path_node(&lowerer, state, walk, node)
+}
+
+/// The type, with the binder of a `for` that stands directly around it.
+#[cycle(lower)]
+pub fn lower_type_node<E: LowerEnv>(
+    alloc: Global,
+    env: &E,
+    place: Place,
+    state: &mut BodyBuilder,
+    binder: &Option<Seq<Name>>,
+    node: &ast::Type_,
+) -> Result<TypeRefId, StoreFault>
+    ensures { LowersType binder.now (answered_type (spot_at (E.answers env.now) place) node.now) state.old result state.new }
+{
+    let lowerer = Lowerer {
+        alloc,
+        parts: Handlers {
+            alloc,
+            env,
+            place,
+            expr: maybe_collect_expr::<E>,
+            block: collect_block_inside::<E>,
+            path: read_path_segments::<E>,
+            type_ref: lower_type_node::<E>,
+            args: lower_arg_list::<E>,
+        },
+    };
+    type_node(&lowerer, state, binder, node)
+}
+
+/// The list of arguments, or none where it has neither an argument nor a binding.
+#[cycle(lower)]
+pub fn lower_arg_list<E: LowerEnv>(
+    alloc: Global,
+    env: &E,
+    place: Place,
+    state: &mut BodyBuilder,
+    node: &ast::GenericArgList,
+) -> Result<Option<GenericArgs>, StoreFault>
+    ensures { let at = spot_at (E.answers env.now) place in
+        LowersArgs (some_arg_list (answered_arg_list at node.now)) state.old result state.new }
+{
+    let lowerer = Lowerer {
+        alloc,
+        parts: Handlers {
+            alloc,
+            env,
+            place,
+            expr: maybe_collect_expr::<E>,
+            block: collect_block_inside::<E>,
+            path: read_path_segments::<E>,
+            type_ref: lower_type_node::<E>,
+            args: lower_arg_list::<E>,
+        },
+    };
+    args_node(&lowerer, state, node)
+}
+
+/// The path, or none where it is refused.
+#[tactic(auto, using(hir_lower_form::proofs::Walked::path_read_has))]
+pub fn lower_path<E: LowerEnv>(
+    alloc: Global,
+    env: &E,
+    place: Place,
+    state: &mut BodyBuilder,
+    node: &ast::Path,
+) -> Result<Option<Path>, StoreFault>
+    ensures { LowersPath (some_path (answered_path (spot_at (E.answers env.now) place) node.now)) state.old result state.new }
+{
+    let walk = PathWalk::new(alloc);
+    Ok(path_read(read_path_segments(alloc, env, place, state, walk, node)?))
+}
+
+/// The expression, missing where a condition disables it.
+#[tactic(auto, using(hir_lower_form::proofs::Kept::lower_on))]
+pub fn collect_expr<E: LowerEnv>(
+    alloc: Global,
+    env: &E,
+    place: Place,
+    state: &mut BodyBuilder,
+    node: &ast::Expr,
+) -> Result<ExprId, StoreFault>
+    ensures { LowersExpr (answered (spot_at (E.answers env.now) place) node.now) state.old result state.new }
+{
+    match maybe_collect_expr(alloc, env, place, state, node)? {
+        Some(id) => Ok(id),
+        None => state.missing_expr(),
+    }
+}
+
+/// A whole pattern, missing where it is absent.
+pub fn top_pat<E: LowerEnv>(
+    alloc: Global,
+    env: &E,
+    place: Place,
+    state: &mut BodyBuilder,
+    part: &Option<Boxed<ast::Pat>>,
+) -> Result<PatId, StoreFault>
+    ensures { LowersTop (pat_part (spot_at (E.answers env.now) place) part.now) state.old result state.new }
+{
+    let lowerer = Lowerer {
+        alloc,
+        parts: Handlers {
+            alloc,
+            env,
+            place,
+            expr: maybe_collect_expr::<E>,
+            block: collect_block_inside::<E>,
+            path: read_path_segments::<E>,
+            type_ref: lower_type_node::<E>,
+            args: lower_arg_list::<E>,
+        },
+    };
+    patterns::top_pat(&lowerer, state, part)
+}
+
+/// A name that binds, whatever it stands for elsewhere.
+pub fn bare_name<E: LowerEnv>(
+    alloc: Global,
+    env: &E,
+    place: Place,
+    state: &mut BodyBuilder,
+    at: InFile<AstPtr>,
+    name: &Option<ast::Name>,
+) -> Result<PatId, StoreFault>
+    ensures { let use_ = use_with (spot_at (E.answers env.now) place) name.now Unannotated in
+        LowersTop (tree.some_pat (tree.bind_pat at use_ tree.no_pat)) state.old result state.new }
+{
+    let lowerer = Lowerer {
+        alloc,
+        parts: Handlers {
+            alloc,
+            env,
+            place,
+            expr: maybe_collect_expr::<E>,
+            block: collect_block_inside::<E>,
+            path: read_path_segments::<E>,
+            type_ref: lower_type_node::<E>,
+            args: lower_arg_list::<E>,
+        },
+    };
+    patterns::bare_name(&lowerer, state, at, name)
+}

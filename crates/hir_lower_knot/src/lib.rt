@@ -1,0 +1,4 @@
+//! The functions that lower expressions, blocks, paths, types and arguments, each of which calls the others through the forms.
+#![tactic(auto)]
+
+pub mod knot;

@@ -1,0 +1,88 @@
+-- The lists of parts of targets, one part after another.
+use Rattle.std.proofs.Common.{◌≡◌, ◌∙◌, ap, arith, slice_index_or, sym, List, [], ◌∷◌, ◌++◌, Option, Some, Ok, Err}
+use Rattle.std.specs.Prelude.{◌≤◌, ◌-◌, drop, length, take}
+use Rattle.hir_syntax.specs.declared.ast.Expr.{Expr as AstExpr}
+use Rattle.hir_syntax.specs.declared.ast.RecordExprField.{RecordExprField as AstField}
+use Rattle.hir_store.specs.Past.{Past, join, past_pat_field, past_pat_fields}
+use Rattle.hir_store.specs.Range.{Grows, HasPatFields}
+use Rattle.hir_store.specs.Stored.{Stored}
+use Rattle.hir_store.specs.declared.fault.StoreFault.{StoreFault}
+use Rattle.hir_store.specs.declared.pat.RecordFieldPat.{RecordFieldPat}
+use Rattle.hir_env.specs.Spot.{Spot}
+use Rattle.hir_env.specs.Targets.{is_dots, pointer_of, target_field_of, target_fields}
+use Rattle.hir_env.specs.Whole.{answered, answered_field, exprs_part, fields_part, target_part}
+use Rattle.hir_lower_form.specs.Builder.{Builder}
+use Rattle.hir_lower_form.specs.Forms.{push_some}
+use Rattle.hir_lower_form.specs.Lowering.{Checked, go_on}
+use Rattle.hir_lower_form.specs.Lower.{lower_target, lower_target_field, lower_target_fields}
+use Rattle.hir_lower_form.specs.Pats.{Elements}
+use Rattle.hir_lower_pat.specs.Aims.{ArrayParts, array_read, array_steps, element_steps, elements_read, found_at, is_first}
+use Rattle.hir_lower_pat.specs.Methods.{HasPatField}
+use Rattle.hir_lower_pat.proofs.KindLemmas.{first_of}
+
+-- no arena is shorter by two steps
+pub grows_on : (a b c : Stored) → Grows a b → Grows b c → Grows a c
+grows_on a b c g h = (
+  omega (arith, g.0, h.0),
+  omega (arith, g.1, h.1),
+  omega (arith, g.2, h.2),
+  omega (arith, g.3, h.3),
+  omega (arith, g.4, h.4),
+  omega (arith, g.5, h.5),
+)
+
+-- a field more
+pub fields_has : (old new : Stored) (done more : List RecordFieldPat) (x : RecordFieldPat)
+    → past_pat_fields more ≡ join (past_pat_fields done) (past_pat_field x) → Grows old new → HasPatFields old done
+    → HasPatField new (Some x) → HasPatFields new more
+fields_has old new done more x is g h k = (
+  omega (arith, ap (λ (p : Past). p.exprs) is, g.0, h.0, k.0),
+  omega (arith, ap (λ (p : Past). p.types) is, g.2, h.1, k.1),
+  omega (arith, ap (λ (p : Past). p.lifetimes) is, g.3, h.2, k.2),
+  omega (arith, ap (λ (p : Past). p.pats) is, g.4, h.3, k.3),
+)
+
+module _ (spot : Spot) (xs : List AstExpr) (x : AstExpr) (b c : Builder) where
+  abbrev behind : List AstExpr
+  behind = take (length xs - 1) (drop 1 xs)
+
+  pub element_refused : (done : Elements) (e : StoreFault) → x ≡ slice_index_or xs 0 x → 1 ≤ length xs
+      → element_steps (is_dots (answered spot x)) done (lower_target (target_part spot (Some x))) b ≡ (Err e, c)
+      → elements_read (found_at spot) done (exprs_part spot xs) b ≡ (Err e, c)
+  element_refused done e h le is =
+      ap (λ ys. elements_read (found_at spot) done (exprs_part spot ys) b) (first_of xs x h le)
+      ∙ ap (λ (r : Checked Elements × Builder). go_on r.0 r.1 (λ d. elements_read (found_at spot) d (exprs_part spot behind))) is
+
+  pub array_refused : (done : ArrayParts) (e : StoreFault) → x ≡ slice_index_or xs 0 x → 1 ≤ length xs
+      → array_steps (is_first done.1 (is_dots (answered spot x))) done (pointer_of (answered spot x))
+      (lower_target (target_part spot (Some x))) b ≡ (Err e, c)
+      → array_read (found_at spot) done (exprs_part spot xs) b ≡ (Err e, c)
+  array_refused done e h le is =
+      ap (λ ys. array_read (found_at spot) done (exprs_part spot ys) b) (first_of xs x h le)
+      ∙ ap (λ (r : Checked ArrayParts × Builder). go_on r.0 r.1 (λ d. array_read (found_at spot) d (exprs_part spot behind))) is
+
+module _ (spot : Spot) (xs : List AstField) (x : AstField) (b c : Builder) (done : List RecordFieldPat) where
+  abbrev fields_behind : List AstField
+  fields_behind = take (length xs - 1) (drop 1 xs)
+
+  abbrev read : List AstField → List RecordFieldPat → Builder → Checked (List RecordFieldPat) × Builder
+  read ys ds = lower_target_fields ds (target_fields (found_at spot) (fields_part spot ys))
+
+  abbrev step : Builder → Checked (Option RecordFieldPat) × Builder
+  step = lower_target_field (target_field_of (found_at spot) (answered_field spot x))
+
+  turn : x ≡ slice_index_or xs 0 x → 1 ≤ length xs
+      → read xs done b ≡ go_on (step b).0 (step b).1 (λ o. read fields_behind (push_some done o))
+  turn h le = ap (λ ys. read ys done b) (first_of xs x h le)
+
+  pub field_refused : (e : StoreFault) → x ≡ slice_index_or xs 0 x → 1 ≤ length xs → step b ≡ (Err e, c) → read xs done b ≡ (Err e, c)
+  field_refused e h le is =
+      turn h le
+      ∙ ap (λ (r : Checked (Option RecordFieldPat) × Builder). go_on r.0 r.1 (λ o. read fields_behind (push_some done o))) is
+
+  pub field_more : (f : RecordFieldPat) (more : List RecordFieldPat) → x ≡ slice_index_or xs 0 x → 1 ≤ length xs
+      → step b ≡ (Ok (Some f), c) → more ≡ done ++ f ∷ [] → read xs done b ≡ read fields_behind more c
+  field_more f more h le is pushed =
+      turn h le
+      ∙ (ap (λ (r : Checked (Option RecordFieldPat) × Builder). go_on r.0 r.1 (λ o. read fields_behind (push_some done o))) is
+      ∙ ap (λ ds. read fields_behind ds c) (sym pushed))

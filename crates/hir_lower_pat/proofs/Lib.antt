@@ -1,0 +1,10 @@
+pub mod NameLemmas
+pub mod KindLemmas
+pub mod Kids
+pub mod PathNames
+pub mod AimLemmas
+pub mod AimSteps
+pub mod AimTurns
+pub mod TypePats
+pub mod TargetKids
+pub mod Nested

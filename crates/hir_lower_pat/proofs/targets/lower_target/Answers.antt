@@ -1,0 +1,7 @@
+use Rattle.hir_lower_pat.proofs.AimSteps.{target_lowers}
+use Rattle.hir_lower_pat.proofs.targets.lower_target.Goals as goal
+
+pub returns-in-Some : goal.returns-in-Some
+returns-in-Some g c =
+    target_lowers (g.P.LowerParts.spot c.args.lowerer.now.parts) c.args.part.now _ _ c.args.state.now _ _
+    c.in-Some.is c.get.ensures c.whole_target.ensures

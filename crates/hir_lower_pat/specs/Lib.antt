@@ -1,0 +1,6 @@
+pub mod Bindings
+pub mod Methods
+pub mod Handlers
+pub mod Aims
+pub mod TypePats
+pub mod Nested

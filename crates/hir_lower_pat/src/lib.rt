@@ -1,0 +1,20 @@
+//! Patterns: as such, in types, and where something is assigned to.
+#![tactic(auto)]
+
+mod aims;
+mod alternatives;
+pub mod bindings;
+pub mod items;
+mod limits;
+mod names;
+pub mod parts;
+pub mod pats;
+mod plain;
+mod records;
+mod sides;
+mod target_lists;
+mod target_records;
+pub mod targets;
+pub mod top;
+mod tuples;
+pub mod type_pats;

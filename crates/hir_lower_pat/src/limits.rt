@@ -1,0 +1,282 @@
+//! The ends of a range in a type: each is a constant, which is a body of its own.
+
+ghost use Rattle.std.specs.Prelude.{◌≡◌, ◌∷◌, [], Ok, Some, IfOk};
+ghost use Rattle.hir_syntax.specs.declared.pats.PatKind.{out-PatKind};
+ghost use Rattle.hir_store.specs.Range.{HasExpr};
+ghost use Rattle.hir_env.specs.Answered as tree;
+ghost use Rattle.hir_env.specs.Answering.{name_or_missing};
+ghost use Rattle.hir_env.specs.Pats.{side_of};
+ghost use Rattle.hir_env.specs.TypePats as of;
+ghost use Rattle.hir_env.specs.Whole.{answered_pat, pat_level, pat_part, path_part};
+ghost use Rattle.hir_lower_form.specs.Lowering.{HasFlag, Lowers};
+ghost use Rattle.hir_lower_form.specs.Lower as steps;
+ghost use Rattle.hir_lower_form.specs.Methods.{LowersLimit, at_place};
+ghost use Rattle.hir_lower_form.specs.Nests.{IfPresent, KidsSide, KidsSidePart};
+ghost use Rattle.hir_lower_form.specs.Ranges as spec;
+ghost use Rattle.hir_lower_pat.specs.TypePats as bodies;
+
+use crate::items::item_expr;
+use crate::names::path_of_name;
+use crate::sides::{minus_fits, signed};
+use hir_base::node::{AstPtr, InFile};
+use hir_env::place::Place;
+use hir_lower_form::builder::BodyBuilder;
+use hir_lower_form::names::name_of;
+use hir_lower_form::parts::{LowerParts, Lowerer, pointer_in};
+use hir_store::fault::StoreFault;
+use hir_store::hir::Expr;
+use hir_store::ids::{ExprId, HygieneId, LangItemId};
+use hir_store::path::Path;
+use hir_syntax::ast::RangeOp;
+use hir_syntax::{Boxed, Seq, ast};
+use std::alloc::{AllocError, Global};
+
+/// From here on a body of its own is being lowered, where no jump reaches what is open around it. It answers whether a root was
+/// being lowered before.
+fn open(state: &mut BodyBuilder) -> Result<bool, StoreFault>
+    ensures { Lowers HasFlag bodies.opened state.old result state.new }
+{
+    state.open_barrier()?;
+    Ok(state.enter_root())
+}
+
+/// The body ends with this expression, and is recorded unless it stands inside of another root.
+fn shut(state: &mut BodyBuilder, outer: bool, id: ExprId) -> Result<ExprId, StoreFault>
+    requires { HasExpr state.old.stored id }
+    ensures { Lowers HasExpr (bodies.shut outer id) state.old result state.new }
+{
+    state.close();
+    state.leave_root(outer, id)?;
+    Ok(id)
+}
+
+/// A literal as it is written, with its minus.
+#[tactic(auto, unfolding(hir_lower_form::specs::Ranges::literal_limit_form))]
+fn literal_side(
+    state: &mut BodyBuilder,
+    at: InFile<AstPtr>,
+    lit: &ast::Literal,
+    minus: bool,
+) -> Result<ExprId, StoreFault>
+    ensures { Lowers HasExpr (spec.literal_limit_form at (record { minus = minus; literal = lit.now })) state.old result state.new }
+{
+    let written = Expr::Literal(signed(lit, minus)?);
+    state.alloc_expr(written, Some(at))
+}
+
+/// A plain name is a path, whatever it stands for.
+#[tactic(auto, unfolding(hir_lower_form::specs::Ranges::name_limit_form))]
+fn name_side(
+    alloc: Global,
+    state: &mut BodyBuilder,
+    at: InFile<AstPtr>,
+    name: &Option<ast::Name>,
+) -> Result<ExprId, StoreFault>
+    ensures { Lowers HasExpr (spec.name_limit_form at (name_or_missing name.now)) state.old result state.new }
+{
+    let path = Path::BarePath(path_of_name(alloc, name_of(name)?)?);
+    let hygiene = HygieneId::ROOT;
+    state.alloc_expr(Expr::Path { path, hygiene }, Some(at))
+}
+
+/// A path that is absent or refused is missing.
+#[tactic(auto, unfolding(hir_lower_form::specs::Ranges::path_limit_form))]
+fn path_side<P: LowerParts>(
+    lowerer: &Lowerer<P>,
+    state: &mut BodyBuilder,
+    place: Place,
+    at: InFile<AstPtr>,
+    path: &Option<Boxed<ast::Path>>,
+) -> Result<ExprId, StoreFault>
+    requires { IfPresent ((P.can lowerer.now.parts).path place) path.now }
+    ensures { let read = path_part (at_place (P.spot lowerer.now.parts) place) path.now in
+        Lowers HasExpr (steps.limit_side (tree.path_side at read)) state.old result state.new }
+{
+    match lowerer.path_if_present(state, place, path)? {
+        None => state.alloc_expr(Expr::Missing, Some(at)),
+        Some(path) => {
+            let hygiene = HygieneId::ROOT;
+            state.alloc_expr(Expr::Path { path, hygiene }, Some(at))
+        }
+    }
+}
+
+/// What a pattern is as a side, missing where it is another pattern.
+#[tactic(auto, using(crate::proofs::KindLemmas::named_side, crate::proofs::TypePats::no_limit_left))]
+fn side_form<P: LowerParts>(
+    lowerer: &Lowerer<P>,
+    state: &mut BodyBuilder,
+    place: Place,
+    node: &ast::Pat,
+) -> Result<ExprId, StoreFault>
+    requires { KidsSide ((P.can lowerer.now.parts).path place) (out-PatKind node.now.kind) }
+    ensures { let here = at_place (P.spot lowerer.now.parts) place in
+        Lowers HasExpr (steps.limit_side (side_of (tree.some_pat (pat_level here node.now)))) state.old result state.new }
+{
+    let at = pointer_in(place, node.id, node.range);
+    match &node.kind {
+        ast::PatKind::LiteralPat {
+            lit: Some(lit),
+            minus,
+        } => {
+            if minus_fits(*minus, &lit.literal) {
+                literal_side(state, at, &lit.literal, *minus)
+            } else {
+                state.missing_expr()
+            }
+        }
+        ast::PatKind::IdentPat {
+            name,
+            ref_: false,
+            mut_: false,
+            pat: None,
+        } => name_side(lowerer.alloc, state, at, name),
+        ast::PatKind::PathPat { path } => path_side(lowerer, state, place, at, path),
+        _ => state.missing_expr(),
+    }
+}
+
+fn side<P: LowerParts>(
+    lowerer: &Lowerer<P>,
+    state: &mut BodyBuilder,
+    place: Place,
+    node: &ast::Pat,
+) -> Result<ExprId, StoreFault>
+    requires { KidsSide ((P.can lowerer.now.parts).path place) (out-PatKind node.now.kind) }
+    ensures { let here = at_place (P.spot lowerer.now.parts) place in
+        Lowers HasExpr (steps.limit_side (side_of (tree.some_pat (answered_pat here node.now)))) state.old result state.new }
+{
+    side_form(lowerer, state, place, node)
+}
+
+/// The item that stands for an absent end.
+#[tactic(auto, unfolding(hir_lower_form::specs::Ranges::inner_form, hir_lower_form::specs::Ranges::item_form))]
+fn item_limit(state: &mut BodyBuilder, item: Option<LangItemId>) -> Result<ExprId, StoreFault>
+    ensures { LowersLimit (tree.item_limit item) state.old result state.new }
+{
+    let outer = open(state)?;
+    let id = state.alloc_expr(item_expr(item), None)?;
+    shut(state, outer, id)
+}
+
+/// The side itself.
+#[tactic(auto, unfolding(hir_lower_form::specs::Ranges::inner_form))]
+fn side_limit<P: LowerParts>(
+    lowerer: &Lowerer<P>,
+    state: &mut BodyBuilder,
+    place: Place,
+    node: &ast::Pat,
+) -> Result<ExprId, StoreFault>
+    requires { KidsSide ((P.can lowerer.now.parts).path place) (out-PatKind node.now.kind) }
+    ensures { let here = at_place (P.spot lowerer.now.parts) place in
+        LowersLimit (tree.side_limit (side_of (tree.some_pat (answered_pat here node.now)))) state.old result state.new }
+{
+    let outer = open(state)?;
+    let id = side(lowerer, state, place, node)?;
+    shut(state, outer, id)
+}
+
+fn operand(alloc: Global, id: ExprId) -> Result<Seq<ExprId>, AllocError>
+    ensures { IfOk result (λ ids. ids ≡ id ∷ []) }
+{
+    let mut operands = Seq::new(alloc);
+    operands.push(id)?;
+    Ok(operands)
+}
+
+/// A call of the item with the side, both from no node.
+#[tactic(auto, unfolding(hir_lower_form::specs::Ranges::before_form))]
+fn before<P: LowerParts>(
+    lowerer: &Lowerer<P>,
+    state: &mut BodyBuilder,
+    place: Place,
+    item: Option<LangItemId>,
+    node: &ast::Pat,
+) -> Result<ExprId, StoreFault>
+    requires { KidsSide ((P.can lowerer.now.parts).path place) (out-PatKind node.now.kind) }
+    ensures { let here = at_place (P.spot lowerer.now.parts) place in
+        let read = steps.limit_side (side_of (tree.some_pat (answered_pat here node.now))) in
+        Lowers HasExpr (spec.before_form item read) state.old result state.new }
+{
+    let excluded = side(lowerer, state, place, node)?;
+    let callee = state.alloc_expr(item_expr(item), None)?;
+    let args = operand(lowerer.alloc, excluded)?;
+    state.alloc_expr(Expr::Call { callee, args }, None)
+}
+
+/// The last before the side.
+#[tactic(auto, unfolding(hir_lower_form::specs::Ranges::inner_form))]
+fn before_limit<P: LowerParts>(
+    lowerer: &Lowerer<P>,
+    state: &mut BodyBuilder,
+    place: Place,
+    item: Option<LangItemId>,
+    node: &ast::Pat,
+) -> Result<ExprId, StoreFault>
+    requires { KidsSide ((P.can lowerer.now.parts).path place) (out-PatKind node.now.kind) }
+    ensures { let here = at_place (P.spot lowerer.now.parts) place in
+        LowersLimit (tree.before_limit item (side_of (tree.some_pat (answered_pat here node.now)))) state.old result state.new }
+{
+    let outer = open(state)?;
+    let id = before(lowerer, state, place, item, node)?;
+    shut(state, outer, id)
+}
+
+/// The least value of the type where no start is written.
+#[tactic(auto, using(crate::proofs::TypePats::start_is_side))]
+pub(crate) fn start_limit<P: LowerParts>(
+    lowerer: &Lowerer<P>,
+    state: &mut BodyBuilder,
+    place: Place,
+    part: &Option<Boxed<ast::Pat>>,
+) -> Result<ExprId, StoreFault>
+    requires { KidsSidePart ((P.can lowerer.now.parts).path place) part.now }
+    ensures { let here = at_place (P.spot lowerer.now.parts) place in
+        LowersLimit (of.start_limit here.answers.lang_items (side_of (pat_part here part.now))) state.old result state.new }
+{
+    match part {
+        None => item_limit(state, lowerer.parts.lang_items().range_min),
+        Some(part) => side_limit(lowerer, state, place, part.get()),
+    }
+}
+
+/// An end that is written is part of the range, unless it is excluded.
+#[tactic(auto, using(crate::proofs::TypePats::end_is_side))]
+fn written_end<P: LowerParts>(
+    lowerer: &Lowerer<P>,
+    state: &mut BodyBuilder,
+    place: Place,
+    op: Option<RangeOp>,
+    node: &ast::Pat,
+) -> Result<ExprId, StoreFault>
+    requires { KidsSide ((P.can lowerer.now.parts).path place) (out-PatKind node.now.kind) }
+    ensures { let here = at_place (P.spot lowerer.now.parts) place in
+        let side = side_of (tree.some_pat (answered_pat here node.now)) in
+        LowersLimit (of.end_limit here.answers.lang_items op side) state.old result state.new }
+{
+    match op {
+        Some(RangeOp::Exclusive) => {
+            let item = lowerer.parts.lang_items().range_sub;
+            before_limit(lowerer, state, place, item, node)
+        }
+        Some(RangeOp::Inclusive) | None => side_limit(lowerer, state, place, node),
+    }
+}
+
+/// The greatest value of the type where no end is written.
+pub(crate) fn end_limit<P: LowerParts>(
+    lowerer: &Lowerer<P>,
+    state: &mut BodyBuilder,
+    place: Place,
+    op: Option<RangeOp>,
+    part: &Option<Boxed<ast::Pat>>,
+) -> Result<ExprId, StoreFault>
+    requires { KidsSidePart ((P.can lowerer.now.parts).path place) part.now }
+    ensures { let here = at_place (P.spot lowerer.now.parts) place in
+        LowersLimit (of.end_limit here.answers.lang_items op (side_of (pat_part here part.now))) state.old result state.new }
+{
+    match part {
+        None => item_limit(state, lowerer.parts.lang_items().range_max),
+        Some(part) => written_end(lowerer, state, place, op, part.get()),
+    }
+}

@@ -1,0 +1,173 @@
+//! Records.
+
+ghost use Rattle.std.specs.Prelude.{[], Some};
+ghost use Rattle.hir_syntax.specs.declared.pats.RecordPatField.{out-RecordPatField};
+ghost use Rattle.hir_store.specs.Range.{HasPat, HasPath};
+ghost use Rattle.hir_env.specs.Answered as tree;
+ghost use Rattle.hir_env.specs.Whole.{answered_pat, answered_pat_field, pat_field_level, pat_fields_part, path_part};
+ghost use Rattle.hir_lower_form.specs.Lower.{lower_pat, lower_pat_fields};
+ghost use Rattle.hir_lower_form.specs.Lowering.{Lowers};
+ghost use Rattle.hir_lower_form.specs.Nests.{IfPresent, KidsPatFields};
+ghost use Rattle.hir_lower_form.specs.Pats as spec;
+ghost use Rattle.hir_lower_pat.specs.Bindings.{HasNames, LowersNamed};
+ghost use Rattle.hir_lower_pat.specs.Methods.{HasPatField, LowersPat, LowersPatField, LowersPatFields, field_name};
+
+use crate::bindings::Bindings;
+use crate::parts::PatParts;
+use hir_base::node::{AstPtr, InFile};
+use hir_lower_form::builder::BodyBuilder;
+use hir_lower_form::parts::site;
+use hir_store::diagnostics::ExpressionStoreDiagnostics;
+use hir_store::fault::StoreFault;
+use hir_store::hir::{Pat, RecordFieldPat};
+use hir_store::ids::PatId;
+use hir_store::lists::push_pat_field;
+use hir_store::name::Name;
+use hir_store::path::Path;
+use hir_syntax::{Boxed, Seq, ast};
+
+/// A field with a name, whose part leads to it. One without is no part of the record.
+fn named_part(
+    state: &mut BodyBuilder,
+    at: InFile<AstPtr>,
+    name: &Option<ast::Name>,
+    pat: PatId,
+) -> Result<Option<RecordFieldPat>, StoreFault>
+    requires { HasPat state.old.stored pat }
+    ensures { Lowers HasPatField (spec.named_part at (field_name name.now) pat) state.old result state.new }
+{
+    match name {
+        None => Ok(None),
+        Some(name) => {
+            state.point_pat_field(pat, at)?;
+            let name = Name::Text(name.t.clone()?);
+            Ok(Some(RecordFieldPat { name, pat }))
+        }
+    }
+}
+
+/// A field with its part.
+#[tactic(auto, unfolding(hir_lower_form::specs::Pats::pat_field_form))]
+fn present_field<S: PatParts>(
+    parts: &S,
+    state: &mut BodyBuilder,
+    bindings: &mut Bindings,
+    at: InFile<AstPtr>,
+    name: &Option<ast::Name>,
+    part: &ast::Pat,
+) -> Result<Option<RecordFieldPat>, StoreFault>
+    requires part { S.can_pat parts.now part.now }
+    requires names { HasNames state.old.stored bindings.old }
+    ensures { let read = answered_pat (S.spot parts.now) part.now in
+        LowersNamed HasPatField (spec.pat_field_form at (field_name name.now) (lower_pat read))
+        bindings.old state.old result bindings.new state.new }
+{
+    let pat = parts.lower_pat(state, bindings, part)?;
+    named_part(state, at, name, pat)
+}
+
+/// The field, none where a condition disables it, or it has no part or no name.
+fn field_form<S: PatParts>(
+    parts: &S,
+    state: &mut BodyBuilder,
+    bindings: &mut Bindings,
+    node: &ast::RecordPatField,
+) -> Result<Option<RecordFieldPat>, StoreFault>
+    requires part { IfPresent (S.can_pat parts.now) (out-RecordPatField node.now).pat }
+    requires names { HasNames state.old.stored bindings.old }
+    ensures { LowersPatField (pat_field_level (S.spot parts.now) node.now) bindings.old state.old result bindings.new state.new }
+{
+    let at = parts.pointer(node.id, node.range);
+    match parts.cfg(site(at)) {
+        Err(cfg) => {
+            state.report(ExpressionStoreDiagnostics::InactiveCode { node: at, cfg })?;
+            Ok(None)
+        }
+        Ok(()) => match &node.pat {
+            None => Ok(None),
+            Some(part) => present_field(parts, state, bindings, at, &node.name, part.get()),
+        },
+    }
+}
+
+fn field<S: PatParts>(
+    parts: &S,
+    state: &mut BodyBuilder,
+    bindings: &mut Bindings,
+    node: &ast::RecordPatField,
+) -> Result<Option<RecordFieldPat>, StoreFault>
+    requires part { IfPresent (S.can_pat parts.now) (out-RecordPatField node.now).pat }
+    requires names { HasNames state.old.stored bindings.old }
+    ensures { LowersPatField (answered_pat_field (S.spot parts.now) node.now) bindings.old state.old result bindings.new state.new }
+{
+    field_form(parts, state, bindings, node)
+}
+
+fn fields<S: PatParts>(
+    parts: &S,
+    state: &mut BodyBuilder,
+    bindings: &mut Bindings,
+    mut left: &[ast::RecordPatField],
+) -> Result<Seq<RecordFieldPat>, StoreFault>
+    requires parts { KidsPatFields (S.can_pat parts.now) left.now }
+    requires names { HasNames state.old.stored bindings.old }
+    ensures { LowersPatFields (pat_fields_part (S.spot parts.now) left.entry.now) bindings.old state.old result bindings.new state.new }
+{
+    let mut done = Seq::new(parts.alloc());
+    while let [one, rest @ ..] = left {
+        if let Some(field) = field(parts, state, bindings, one)? {
+            push_pat_field(&mut done, field)?;
+        }
+        left = rest;
+    }
+    Ok(done)
+}
+
+/// A record of this path.
+fn record_of<S: PatParts>(
+    parts: &S,
+    state: &mut BodyBuilder,
+    bindings: &mut Bindings,
+    at: InFile<AstPtr>,
+    path: Path,
+    written: &Seq<ast::RecordPatField>,
+    ellipsis: bool,
+) -> Result<PatId, StoreFault>
+    requires path { HasPath state.old.stored path }
+    requires parts { KidsPatFields (S.can_pat parts.now) written.now }
+    requires names { HasNames state.old.stored bindings.old }
+    ensures { let read = lower_pat_fields [] (pat_fields_part (S.spot parts.now) written.now) in
+        LowersNamed HasPat (spec.record_pat_of at ellipsis read (Some path)) bindings.old state.old result bindings.new state.new }
+{
+    let args = fields(parts, state, bindings, written.as_slice())?;
+    let pat = Pat::Record {
+        path,
+        args,
+        ellipsis,
+    };
+    state.alloc_pat(pat, Some(at))
+}
+
+/// Where the path is absent or refused the record is missing, and nothing else of it is read.
+#[tactic(auto, unfolding(hir_lower_form::specs::Pats::record_pat_form))]
+pub(crate) fn record_form<S: PatParts>(
+    parts: &S,
+    state: &mut BodyBuilder,
+    bindings: &mut Bindings,
+    at: InFile<AstPtr>,
+    path: &Option<Boxed<ast::Path>>,
+    written: &Seq<ast::RecordPatField>,
+    rest: bool,
+) -> Result<PatId, StoreFault>
+    requires path { IfPresent (S.can_path parts.now) path.now }
+    requires parts { KidsPatFields (S.can_pat parts.now) written.now }
+    requires names { HasNames state.old.stored bindings.old }
+    ensures { let here = S.spot parts.now in
+        LowersPat (tree.record_pat at (path_part here path.now) (pat_fields_part here written.now) rest)
+        bindings.old state.old result bindings.new state.new }
+{
+    match parts.path(state, path)? {
+        None => state.missing_pat(),
+        Some(path) => record_of(parts, state, bindings, at, path, written, rest),
+    }
+}

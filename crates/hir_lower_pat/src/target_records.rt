@@ -1,0 +1,247 @@
+//! Records that are assigned to.
+
+ghost use Rattle.std.specs.Prelude.{◌≡◌, Some, []};
+ghost use Rattle.hir_syntax.specs.declared.ast.RecordExprField.{out-RecordExprField};
+ghost use Rattle.hir_syntax.specs.declared.ast.RecordExprFieldList.{out-RecordExprFieldList};
+ghost use Rattle.hir_store.specs.Range.{HasNone, HasPat, HasPatFields, HasPath};
+ghost use Rattle.hir_env.specs.Answered as tree;
+ghost use Rattle.hir_env.specs.Targets as of;
+ghost use Rattle.hir_env.specs.Answering.{field_of};
+ghost use Rattle.hir_env.specs.Whole.{answered, answered_field, expr_part, field_level, fields_part, path_part, record_part};
+ghost use Rattle.hir_env.specs.Whole.{spread_part, target_part};
+ghost use Rattle.hir_lower_form.specs.Lowering.{Lowers};
+ghost use Rattle.hir_lower_form.specs.Lower as spec;
+ghost use Rattle.hir_lower_form.specs.Methods.{LowersTarget};
+ghost use Rattle.hir_lower_form.specs.Nests.{IfPresent};
+ghost use Rattle.hir_lower_form.specs.Pats as forms;
+ghost use Rattle.hir_lower_form.specs.Targets as steps;
+ghost use Rattle.hir_lower_pat.specs.Aims.{Aims, HasAim, KidsOfFields, found_at, name_written, patterned, record_with};
+ghost use Rattle.hir_lower_pat.specs.Methods.{HasPatField};
+
+use crate::aims::{Aim, TargetParts, place, pointer_of, target};
+use hir_base::node::{AstPtr, InFile};
+use hir_lower_form::builder::BodyBuilder;
+use hir_lower_form::parts::site;
+use hir_store::diagnostics::ExpressionStoreDiagnostics;
+use hir_store::fault::StoreFault;
+use hir_store::hir::{Pat, RecordFieldPat};
+use hir_store::ids::PatId;
+use hir_store::lists::push_pat_field;
+use hir_store::name::Name;
+use hir_store::path::Path;
+use hir_syntax::{Boxed, Seq, ast};
+
+/// The part of a field, which leads to the field where that has a name.
+fn named_part(
+    state: &mut BodyBuilder,
+    at: InFile<AstPtr>,
+    name: &Option<ast::Name>,
+    pat: PatId,
+) -> Result<Option<RecordFieldPat>, StoreFault>
+    requires { HasPat state.old.stored pat }
+    ensures { Lowers HasPatField (forms.named_part at (name_written name.now) pat) state.old result state.new }
+{
+    match name {
+        None => Ok(None),
+        Some(name) => {
+            state.point_pat_field(pat, at)?;
+            let name = Name::Text(name.t.clone()?);
+            Ok(Some(RecordFieldPat { name, pat }))
+        }
+    }
+}
+
+/// A field with an expression. Without a name it is no part of the record.
+#[tactic(auto, unfolding(hir_lower_form::specs::Targets::target_field_form))]
+fn present_field<T: TargetParts>(
+    parts: &T,
+    state: &mut BodyBuilder,
+    at: InFile<AstPtr>,
+    name: &Option<ast::Name>,
+    expr: &ast::Expr,
+) -> Result<Option<RecordFieldPat>, StoreFault>
+    requires { T.can_target parts.now expr.now }
+    ensures { let read = tree.target_field at (name_written name.now) (target_part (T.spot parts.now) (Some expr.now)) in
+        Lowers HasPatField (spec.lower_target_field read) state.old result state.new }
+{
+    let pat = target(parts, state, expr)?;
+    named_part(state, at, name, pat)
+}
+
+/// Without an expression nothing comes of it.
+fn kept_field<T: TargetParts>(
+    parts: &T,
+    state: &mut BodyBuilder,
+    at: InFile<AstPtr>,
+    name: &Option<ast::Name>,
+    expr: &Option<Boxed<ast::Expr>>,
+) -> Result<Option<RecordFieldPat>, StoreFault>
+    requires { IfPresent (T.can_target parts.now) expr.now }
+    ensures { let spot = T.spot parts.now in
+        let field = of.target_field_of (found_at spot) (field_of at name.now (expr_part spot expr.now)) in
+        Lowers HasPatField (spec.lower_target_field field) state.old result state.new }
+{
+    match expr {
+        None => Ok(None),
+        Some(expr) => present_field(parts, state, at, name, expr.get()),
+    }
+}
+
+/// The field, none where a condition disables it.
+fn field_form<T: TargetParts>(
+    parts: &T,
+    state: &mut BodyBuilder,
+    node: &ast::RecordExprField,
+) -> Result<Option<RecordFieldPat>, StoreFault>
+    requires { IfPresent (T.can_target parts.now) (out-RecordExprField node.now).expr }
+    ensures { let spot = T.spot parts.now in
+        let field = of.target_field_of (found_at spot) (field_level spot node.now) in
+        Lowers HasPatField (spec.lower_target_field field) state.old result state.new }
+{
+    let at = parts.pointer(node.id, node.range);
+    match parts.cfg(site(at)) {
+        Err(cfg) => {
+            state.report(ExpressionStoreDiagnostics::InactiveCode { node: at, cfg })?;
+            Ok(None)
+        }
+        Ok(()) => kept_field(parts, state, at, &node.name, &node.expr),
+    }
+}
+
+fn field<T: TargetParts>(
+    parts: &T,
+    state: &mut BodyBuilder,
+    node: &ast::RecordExprField,
+) -> Result<Option<RecordFieldPat>, StoreFault>
+    requires { IfPresent (T.can_target parts.now) (out-RecordExprField node.now).expr }
+    ensures { let spot = T.spot parts.now in
+        let field = of.target_field_of (found_at spot) (answered_field spot node.now) in
+        Lowers HasPatField (spec.lower_target_field field) state.old result state.new }
+{
+    field_form(parts, state, node)
+}
+
+/// The fields that no condition disables and that have a name and an expression.
+fn fields<T: TargetParts>(
+    parts: &T,
+    state: &mut BodyBuilder,
+    mut left: &[ast::RecordExprField],
+) -> Result<Seq<RecordFieldPat>, StoreFault>
+    requires { KidsOfFields (T.can_target parts.now) left.now }
+    ensures { let spot = T.spot parts.now in
+        let fields = of.target_fields (found_at spot) (fields_part spot left.entry.now) in
+        Lowers HasPatFields (spec.lower_target_fields [] fields) state.old result state.new }
+{
+    let mut done = Seq::new(parts.alloc());
+    while let [one, rest @ ..] = left {
+        if let Some(field) = field(parts, state, one)? {
+            push_pat_field(&mut done, field)?;
+        }
+        left = rest;
+    }
+    Ok(done)
+}
+
+/// An expression behind the two dots of a record is a fault.
+#[tactic(auto, using(hir_env::proofs::Pointers::pointer_is_own))]
+fn report_spread<T: TargetParts>(
+    parts: &T,
+    state: &mut BodyBuilder,
+    spread: &Option<Boxed<ast::Expr>>,
+    dots: bool,
+) -> Result<(), StoreFault>
+    ensures { let read = spread_part (T.spot parts.now) spread.now dots in
+        Lowers HasNone (steps.report_spread (of.spread_pointer read)) state.old result state.new }
+{
+    match spread {
+        None => Ok(()),
+        Some(spread) => {
+            let node = pointer_of(parts, spread.get());
+            state.report(ExpressionStoreDiagnostics::FruInDestructuringAssignment { node })
+        }
+    }
+}
+
+/// A record of this path. The fault of a spread comes before those of the fields.
+fn record_of<T: TargetParts>(
+    parts: &T,
+    state: &mut BodyBuilder,
+    at: InFile<AstPtr>,
+    path: Path,
+    list: &ast::RecordExprFieldList,
+) -> Result<PatId, StoreFault>
+    requires path { HasPath state.old.stored path }
+    requires list { KidsOfFields (T.can_target parts.now) (out-RecordExprFieldList list.now).fields }
+    ensures { let spot = T.spot parts.now in
+        let level = out-RecordExprFieldList list.now in
+        let fields = spec.lower_target_fields [] (of.target_fields (found_at spot) (fields_part spot level.fields)) in
+        let spread = of.spread_pointer (spread_part spot level.spread level.dotdot) in
+        Lowers HasPat (steps.record_target_of at level.dotdot spread fields (Some path)) state.old result state.new }
+{
+    report_spread(parts, state, &list.spread, list.dotdot)?;
+    let args = fields(parts, state, list.fields.as_slice())?;
+    let pat = Pat::Record {
+        path,
+        args,
+        ellipsis: list.dotdot,
+    };
+    state.alloc_pat(pat, Some(at))
+}
+
+/// Where the path is absent or refused the record is missing, and nothing else of it is read.
+#[tactic(auto, unfolding(hir_lower_form::specs::Targets::record_target_form))]
+fn record_form<T: TargetParts>(
+    parts: &T,
+    state: &mut BodyBuilder,
+    at: InFile<AstPtr>,
+    path: &Option<Boxed<ast::Path>>,
+    list: &ast::RecordExprFieldList,
+) -> Result<PatId, StoreFault>
+    requires path { IfPresent (T.can_path parts.now) path.now }
+    requires list { KidsOfFields (T.can_target parts.now) (out-RecordExprFieldList list.now).fields }
+    ensures { let spot = T.spot parts.now in
+        LowersTarget (record_with spot at path.now list.now) state.old result state.new }
+{
+    match parts.path(state, path)? {
+        None => state.missing_pat(),
+        Some(path) => record_of(parts, state, at, path, list),
+    }
+}
+
+/// A record with a list of fields.
+fn listed_aim<T: TargetParts>(
+    parts: &T,
+    state: &mut BodyBuilder,
+    at: InFile<AstPtr>,
+    path: &Option<Boxed<ast::Path>>,
+    list: &ast::RecordExprFieldList,
+) -> Result<Aim, StoreFault>
+    requires path { IfPresent (T.can_path parts.now) path.now }
+    requires list { KidsOfFields (T.can_target parts.now) (out-RecordExprFieldList list.now).fields }
+    ensures { let spot = T.spot parts.now in
+        Lowers HasAim (patterned (record_with spot at path.now list.now)) state.old result state.new }
+{
+    Ok(Aim::Pat(record_form(parts, state, at, path, list)?))
+}
+
+/// A record without a list of fields is a place.
+pub(crate) fn record_aim<T: TargetParts>(
+    parts: &T,
+    state: &mut BodyBuilder,
+    at: InFile<AstPtr>,
+    node: &ast::Expr,
+    path: &Option<Boxed<ast::Path>>,
+    list: &Option<ast::RecordExprFieldList>,
+) -> Result<Aim, StoreFault>
+    requires path { IfPresent (T.can_path parts.now) path.now }
+    requires list { IfPresent (λ l. KidsOfFields (T.can_target parts.now) (out-RecordExprFieldList l).fields) list.now }
+    requires place { T.can_place parts.now node.now }
+    requires is { let spot = T.spot parts.now in let read = record_part spot list.now in
+        answered spot node.now ≡ tree.record_expr at (path_part spot path.now) read.head read.fields read.spread }
+    ensures { let spot = T.spot parts.now in Aims spot (answered spot node.now) state.old result state.new }
+{
+    match list {
+        None => place(parts, state, node),
+        Some(list) => listed_aim(parts, state, at, path, list),
+    }
+}

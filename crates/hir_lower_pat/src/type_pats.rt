@@ -1,0 +1,163 @@
+//! The patterns of types.
+
+ghost use Rattle.std.specs.Prelude.{[]};
+ghost use Rattle.hir_syntax.specs.declared.pats.PatKind.{out-PatKind};
+ghost use Rattle.hir_store.specs.Range.{HasPat, HasPats};
+ghost use Rattle.hir_env.specs.Answered as tree;
+ghost use Rattle.hir_env.specs.Pats.{side_of};
+ghost use Rattle.hir_env.specs.Spot.{in_file, ptr};
+ghost use Rattle.hir_env.specs.TypePats as of;
+ghost use Rattle.hir_env.specs.Whole.{answered_pat, pat_level, pat_part, pats_part, type_pat_part};
+ghost use Rattle.hir_lower_form.specs.Lowering.{Lowers};
+ghost use Rattle.hir_lower_form.specs.Lower as steps;
+ghost use Rattle.hir_lower_form.specs.Methods.{LowersTypePat, at_place};
+ghost use Rattle.hir_lower_form.specs.Nests.{Each, IfPresent, KidsSidePart};
+ghost use Rattle.hir_lower_pat.specs.TypePats.{IsOther};
+
+use crate::limits::{end_limit, start_limit};
+use hir_env::place::Place;
+use hir_lower_form::builder::BodyBuilder;
+use hir_lower_form::parts::{LowerParts, Lowerer, pointer_in};
+use hir_store::fault::StoreFault;
+use hir_store::hir::Pat;
+use hir_store::ids::PatId;
+use hir_store::lists::push_pat;
+use hir_syntax::ast::RangeOp;
+use hir_syntax::{Boxed, Seq, ast};
+
+/// What is never null.
+fn not_null_form(
+    state: &mut BodyBuilder,
+    place: Place,
+    node: &ast::Pat,
+) -> Result<PatId, StoreFault>
+    ensures { let at = in_file place (ptr node.now.id node.now.range) in
+        Lowers HasPat (steps.lower_type_pat (tree.not_null_type_pat at)) state.old result state.new }
+{
+    let at = pointer_in(place, node.id, node.range);
+    state.alloc_pat(Pat::NotNull, Some(at))
+}
+
+/// Both ends are part of the range as it is stored.
+#[tactic(auto, unfolding(hir_lower_form::specs::Ranges::limits_form))]
+fn range_form<P: LowerParts>(
+    lowerer: &Lowerer<P>,
+    state: &mut BodyBuilder,
+    place: Place,
+    node: &ast::Pat,
+    op: Option<RangeOp>,
+    start: &Option<Boxed<ast::Pat>>,
+    end: &Option<Boxed<ast::Pat>>,
+) -> Result<PatId, StoreFault>
+    requires start { KidsSidePart ((P.can lowerer.now.parts).path place) start.now }
+    requires end { KidsSidePart ((P.can lowerer.now.parts).path place) end.now }
+    ensures { let here = at_place (P.spot lowerer.now.parts) place in
+        let items = here.answers.lang_items in
+        let at = in_file place (ptr node.now.id node.now.range) in
+        let low = of.start_limit items (side_of (pat_part here start.now)) in
+        let high = of.end_limit items op (side_of (pat_part here end.now)) in
+        Lowers HasPat (steps.lower_type_pat (tree.range_type_pat at low high)) state.old result state.new }
+{
+    let at = pointer_in(place, node.id, node.range);
+    let start = Some(start_limit(lowerer, state, place, start)?);
+    let end = Some(end_limit(lowerer, state, place, op, end)?);
+    let op = RangeOp::Inclusive;
+    state.alloc_pat(Pat::Range { op, start, end }, Some(at))
+}
+
+/// A pattern that no type has is missing.
+#[tactic(auto, using(crate::proofs::TypePats::other_is))]
+fn other_form<P: LowerParts>(
+    lowerer: &Lowerer<P>,
+    state: &mut BodyBuilder,
+    place: Place,
+    node: &ast::Pat,
+) -> Result<PatId, StoreFault>
+    requires { IsOther (out-PatKind node.now.kind) }
+    ensures { let here = at_place (P.spot lowerer.now.parts) place in
+        let read = of.type_pat_of here.answers.lang_items (pat_level here node.now) in
+        Lowers HasPat (steps.lower_type_pat read) state.old result state.new }
+{
+    state.alloc_pat(Pat::Missing, Some(pointer_in(place, node.id, node.range)))
+}
+
+#[cycle(type_pat)]
+fn each_type_pat<P: LowerParts>(
+    lowerer: &Lowerer<P>,
+    state: &mut BodyBuilder,
+    place: Place,
+    mut left: &[ast::Pat],
+) -> Result<Seq<PatId>, StoreFault>
+    requires { Each ((P.can lowerer.now.parts).pat place) left.now }
+    ensures { let here = at_place (P.spot lowerer.now.parts) place in
+        let read = of.type_pats_of here.answers.lang_items (pats_part here left.entry.now) in
+        Lowers HasPats (steps.lower_type_pats [] read) state.old result state.new }
+{
+    let mut done = Seq::new(lowerer.alloc);
+    while let [one, rest @ ..] = left {
+        let id = type_pat(lowerer, state, place, one)?;
+        push_pat(&mut done, id)?;
+        left = rest;
+    }
+    Ok(done)
+}
+
+/// Alternatives stay, also where there is one.
+#[cycle(type_pat)]
+#[tactic(auto, unfolding(hir_lower_form::specs::Ranges::type_alternatives_form))]
+fn alternatives_form<P: LowerParts>(
+    lowerer: &Lowerer<P>,
+    state: &mut BodyBuilder,
+    place: Place,
+    node: &ast::Pat,
+    all: &Seq<ast::Pat>,
+) -> Result<PatId, StoreFault>
+    requires { Each ((P.can lowerer.now.parts).pat place) all.now }
+    ensures { let here = at_place (P.spot lowerer.now.parts) place in
+        let at = in_file place (ptr node.now.id node.now.range) in
+        let read = of.type_pats_of here.answers.lang_items (pats_part here all.now) in
+        Lowers HasPat (steps.lower_type_pat (tree.or_type_pat at read)) state.old result state.new }
+{
+    let at = pointer_in(place, node.id, node.range);
+    let ids = each_type_pat(lowerer, state, place, all.as_slice())?;
+    state.alloc_pat(Pat::Or(ids), Some(at))
+}
+
+#[cycle(type_pat)]
+#[tactic(auto, using(crate::proofs::TypePats::others_left))]
+fn type_pat<P: LowerParts>(
+    lowerer: &Lowerer<P>,
+    state: &mut BodyBuilder,
+    place: Place,
+    node: &ast::Pat,
+) -> Result<PatId, StoreFault>
+    requires { (P.can lowerer.now.parts).pat place node.now }
+    ensures { let here = at_place (P.spot lowerer.now.parts) place in
+        let read = of.type_pat_of here.answers.lang_items (answered_pat here node.now) in
+        Lowers HasPat (steps.lower_type_pat read) state.old result state.new }
+{
+    match &node.kind {
+        ast::PatKind::NotNullPat => not_null_form(state, place, node),
+        ast::PatKind::OrPat { pats } => alternatives_form(lowerer, state, place, node, pats),
+        ast::PatKind::RangePat { op, start, end } => {
+            range_form(lowerer, state, place, node, *op, start, end)
+        }
+        _ => other_form(lowerer, state, place, node),
+    }
+}
+
+/// The pattern of a type, read at this place, missing where it is absent. The ends of its ranges are bodies of their own.
+pub fn lower_type_pat<P: LowerParts>(
+    lowerer: &Lowerer<P>,
+    state: &mut BodyBuilder,
+    place: Place,
+    part: &Option<Boxed<ast::Pat>>,
+) -> Result<PatId, StoreFault>
+    requires { IfPresent ((P.can lowerer.now.parts).pat place) part.now }
+    ensures { LowersTypePat (type_pat_part (at_place (P.spot lowerer.now.parts) place) part.now) state.old result state.new }
+{
+    match part {
+        None => state.missing_pat(),
+        Some(part) => type_pat(lowerer, state, place, part.get()),
+    }
+}

@@ -1,0 +1,18 @@
+use Rattle.std.proofs.Common.{◌∙◌, []}
+use Rattle.hir_store.specs.Range.{HasTypes}
+use Rattle.hir_env.specs.Whole.{read_param}
+use Rattle.hir_lower_form.specs.Lower.{lower_parts}
+use Rattle.hir_lower_type.specs.Params.{params_at}
+use Rattle.hir_lower_type.proofs.Params.{handed_on, params_refused}
+use Rattle.hir_lower_type.proofs.functions.params.Goals as goal
+
+pub returns-in_err-id : goal.returns-in_err-id
+returns-in_err-id g c =
+    let l = c.loop-left in
+    let at = g.P.LowerParts.spot c.args.lowerer.now.parts in
+    handed_on HasTypes (lower_parts [] (params_at at c.args.left.now)) c.args.state.now _ c.from_residual.result c.param.new.state
+    c.from_residual.ensures.1
+    (λ other.
+    let h = c.in_err-id.ensures other in
+    let is = params_refused (read_param at.answers) at.place l.done l.left.now _ _ _ _ c.one-item.is c.in-len1-up.len_at_least h.0 in
+    (l.invariant.so_far ∙ is, h.1))

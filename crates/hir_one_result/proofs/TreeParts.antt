@@ -1,0 +1,134 @@
+-- Parts of trees: what is kept of lists, statements and blocks, and what stands for all of it.
+use Rattle.std.proofs.Common.{◌≡◌, ◌∙◌, refl, sym, ap, subst, List, [], append-nil, Bool, Option, Some, None}
+use Rattle.hir_store.specs.Pointers.{Pointer}
+use Rattle.hir_store.specs.Stored.{Stored, store_of, map_of}
+use Rattle.hir_store.specs.declared.diagnostics.ExpressionStoreDiagnostics.TheVariants.{InactiveCode}
+use Rattle.hir_store.specs.declared.hir.Expr.TheVariants as hir
+use Rattle.hir_store.specs.declared.hir.MatchArm.{MatchArm}
+use Rattle.hir_store.specs.declared.hir.RecordLitField.{RecordLitField}
+use Rattle.hir_store.specs.declared.hir.Statement.{Statement}
+use Rattle.hir_store.specs.declared.ids.ExprId.{ExprId}
+use Rattle.hir_store.specs.declared.ids.LabelId.{LabelId}
+use Rattle.hir_store.specs.declared.ids.BlockId.{BlockId}
+use Rattle.hir_store.specs.declared.ids.PatId.{PatId}
+use Rattle.hir_store.specs.declared.pat.RecordFieldPat.{RecordFieldPat}
+use Rattle.hir_env.specs.Answered as tree
+use Rattle.hir_env.specs.Answered.{Expr, OptionExpr, Exprs, Fields, Stmts, Arms, Target, Targets, TargetFields}
+use Rattle.hir_meaning.specs.Contents.{BlockContents}
+use Rattle.hir_meaning.specs.Left.{is_kept, is_left, gives_value}
+use Rattle.hir_read_back.proofs.Targets.{target_now}
+use Rattle.hir_lower_form.specs.Lower.{ExprSteps, StoredContents, push_some, block_form, kept, settled, kept_part, lower_stmts}
+use Rattle.hir_lower_form.specs.Lower.{lower_target}
+use Rattle.hir_lower_form.specs.Lowering.{Lowering, ◌>>=◌, pure}
+use Rattle.hir_lower_form.specs.Pats.{Elements}
+use Rattle.hir_steps.proofs.Frames.{ribs}
+use Rattle.hir_one_result.specs.Leads.{Ways, No, OneWay, ◌&◌}
+use Rattle.hir_one_result.specs.Stands.{StandsFields, Open, ThereIf, statement_of, StandsPart, StandsKept, StandsEach, StandsContents}
+use Rattle.hir_one_result.specs.Stands.{StandsArms, StandsAssigned, StandsTarget, StandsTargets, StandsTargetFields}
+use Rattle.hir_one_result.proofs.Contents.{has_contents}
+use Rattle.hir_one_result.proofs.Lasting.{Correct, correct_as, correct_bind, correct_both, correct_pure, correct_report}
+use Rattle.hir_one_result.proofs.Leading.{Shown, shown_as, shown_none, shown_before, moved_then}
+use Rattle.hir_one_result.proofs.PatStanding.{Behind}
+use Rattle.hir_one_result.proofs.Standing.{Of, Placed, Shows, moved_pure, moved_fault, present_some, block_form_stands}
+
+pub kept_stands : (e : Expr) {p : ExprSteps} {S : Of ExprId} → Correct p (Shows S)
+    → Correct (kept e p) (Shows (λ final rs o. ThereIf (is_kept e) (λ i. S final rs i) o))
+kept_stands (tree.disabled_expr at by e) h = correct_as (correct_bind (correct_report _) (λ u. correct_pure None)) (λ final ps m m' o g row.
+    let moved = moved_then (moved_fault (InactiveCode at by) row.first.stored) (moved_pure row.second.still) in
+    record { shown = shown_none moved (row.second.is, refl) })
+kept_stands e h = present_some h
+
+pub behind_none : {A : Type 0} (S : List A → Ways) {a b : Stored} {is : List A} → Shown (Behind [] S is) a b → Shown (S is) a b
+behind_none S x = shown_as x (λ ws y. subst (λ k. S k ws) (sym y.1) y.2)
+
+module _ (final : Stored) where
+  abbrev pub part : Open → OptionExpr → ExprId → Ways
+  part = StandsPart (store_of final) (map_of final)
+
+  abbrev pub each : Open → Exprs → List ExprId → Ways
+  each = StandsEach (store_of final) (map_of final)
+
+  abbrev pub fields : Open → Fields → List RecordLitField → Ways
+  fields = StandsFields (store_of final) (map_of final)
+
+  abbrev pub arms : Open → Arms → List MatchArm → Ways
+  arms = StandsArms (store_of final) (map_of final)
+
+  abbrev pub targets : Open → Targets → List PatId → Ways
+  targets = StandsTargets (store_of final) (map_of final)
+
+  abbrev pub target_fields : Open → TargetFields → List RecordFieldPat → Ways
+  target_fields = StandsTargetFields (store_of final) (map_of final)
+
+  abbrev pub kept_or_none : Open → OptionExpr → Option ExprId → Ways
+  kept_or_none = StandsKept (store_of final) (map_of final)
+
+  abbrev pub contents : Open → Stmts → OptionExpr → List Statement → Option ExprId → Ways
+  contents rs ss e = StandsContents (store_of final) (map_of final) rs ss (λ around o. kept_or_none around e o)
+
+pub all_fields_stand : (fs : Fields) {p : Lowering (List RecordLitField)}
+    → Correct p (Shows (λ final rs is. Behind [] (fields final rs fs) is))
+    → Correct p (Shows (λ final rs is. fields final rs fs is))
+all_fields_stand fs h =
+    correct_as h (λ final ps m m' is g row. record { shown = behind_none (fields final (ribs ps) fs) row.shown })
+
+-- one that is left out
+pub left_out : {A : Type 0} (S : List A → Ways) (done : List A) (o : Option A) {is : List A} {a b : Stored} → o ≡ None
+    → Shown (Behind (push_some done o) S is) a b → Shown (Behind done S is) a b
+left_out S done o {is = is} {a = a} {b = b} e x = subst (λ z. Shown (Behind (push_some done z) S is) a b) e x
+
+pub all_stand_for : (es : Exprs) {p : Lowering (List ExprId)} → Correct p (Shows (λ final rs is. Behind [] (each final rs es) is))
+    → Correct p (Shows (λ final rs is. each final rs es is))
+all_stand_for es h =
+    correct_as h (λ final ps m m' is g row. record { shown = behind_none (each final (ribs ps) es) row.shown })
+
+-- an expression statement, and what it became
+pub expr_stmt_stands : (semi : Bool) {p : Lowering (Option ExprId)} {S : Of (Option ExprId)} → Correct p (Shows S)
+    → Correct (p >>= (λ x. pure (statement_of semi x)))
+    (Shows (λ final rs o ws. (v : Option ExprId) × (o ≡ statement_of semi v) × S final rs v ws))
+expr_stmt_stands semi h =
+    correct_as (correct_bind h (λ x. correct_pure (statement_of semi x))) (λ final ps m m' o g row.
+    record { shown = shown_as (shown_before row.first.shown (moved_pure row.second.still)) (λ ws y. (row.one, row.second.is, y)) })
+
+-- what is in a block
+pub inside_stands : (at : Pointer) (is_unsafe : Bool) (n : Option LabelId) (number : Option BlockId) (ss : Stmts) (e : OptionExpr)
+    → Correct (lower_stmts [] ss (kept_part e)) (Shows (λ final rs r. Behind [] (λ is. contents final rs ss e is r.1) r.0))
+    → Correct (block_form at is_unsafe n number (lower_stmts [] ss (kept_part e)))
+    (Shows (λ final rs i ws. (kept : List Statement) × (last : Option ExprId) × (r : StoredContents)
+    × BlockContents (gives_value ss (is_left e)) kept last r × Placed final i (hir.Block is_unsafe n number r.0 r.1) (Some at)
+    × (contents final rs ss e kept last & OneWay at i) ws))
+inside_stands at is_unsafe n number ss e h =
+    correct_as (block_form_stands at is_unsafe n number {S = λ final rs r. contents final rs ss e r.0 r.1}
+    (correct_as h (λ final ps m m' r g row. record { shown = behind_none (λ is. contents final (ribs ps) ss e is r.1) row.shown })))
+    (λ final ps m m' i g row. record {
+      shown = shown_as row.shown (λ ws y.
+          let is = has_contents (store_of final) (map_of final) (ribs ps) ss e y.0.0 y.0.1 y.2.left y.2.first in
+          (y.0.0, y.0.1, settled y.0.0 y.0.1, is, y.1, y.2));
+    })
+
+pub all_arms_stand : (as' : Arms) {p : Lowering (List MatchArm)} → Correct p (Shows (λ final rs is. Behind [] (arms final rs as') is))
+    → Correct p (Shows (λ final rs is. arms final rs as' is))
+all_arms_stand as' h =
+    correct_as h (λ final ps m m' is g row. record { shown = behind_none (arms final (ribs ps) as') row.shown })
+
+pub all_targets_stand : (ts : Targets) {p : Lowering Elements} → Correct p (Shows (λ final rs es. Behind [] (targets final rs ts) es.0))
+    → Correct p (Shows (λ final rs es. targets final rs ts es.0))
+all_targets_stand ts h =
+    correct_as h (λ final ps m m' is g row. record { shown = behind_none (targets final (ribs ps) ts) row.shown })
+
+pub all_target_fields_stand : (fs : TargetFields) {p : Lowering (List RecordFieldPat)}
+    → Correct p (Shows (λ final rs is. Behind [] (target_fields final rs fs) is))
+    → Correct p (Shows (λ final rs is. target_fields final rs fs is))
+all_target_fields_stand fs h =
+    correct_as h (λ final ps m m' is g row. record { shown = behind_none (target_fields final (ribs ps) fs) row.shown })
+
+pub no_targets_stand : (done : Elements)
+    → Correct (pure done) (Shows (λ final rs es. Behind done.0 (λ js ws. (js ≡ []) × No ws) es.0))
+no_targets_stand done = correct_as (correct_pure done) (λ final ps m m' es g row.
+    record { shown = shown_none (moved_pure row.still) ([], ap (λ e. e.0) row.is ∙ sym (append-nil done.0), (refl, refl)) })
+
+pub assigned_stands : (t : Target) → Correct (lower_target t) (Shows (λ final rs i. StandsTarget (store_of final) (map_of final) rs t i))
+    → Correct (lower_target t)
+    (Shows (λ final rs i. StandsAssigned (store_of final) (map_of final) rs t i))
+assigned_stands t h = correct_as (correct_both h (target_now t))
+    (λ final ps m m' i g row. record { shown = shown_as row.one.shown (λ ws y. (row.other.is, y)) })

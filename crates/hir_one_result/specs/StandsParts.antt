@@ -1,0 +1,81 @@
+-- What stands for parts that may be absent, that are read as far as something is, or that have names.
+use Rattle.std.specs.Prelude.{◌≡◌, Bool, true, false, List, ◌∷◌, Option, Some, None, option_map, slice_get}
+use Rattle.hir_store.specs.declared.hir.Statement.{Statement}
+use Rattle.hir_store.specs.declared.hir.Statement.TheVariants as statement
+use Rattle.hir_store.specs.declared.ids.BindingId.{BindingId}
+use Rattle.hir_store.specs.declared.ids.ExprId.{ExprId}
+use Rattle.hir_store.specs.declared.ids.LabelId.{LabelId}
+use Rattle.hir_store.specs.declared.ids.PatId.{PatId}
+use Rattle.hir_scope.specs.Ribs.{Rib, label_rib}
+use Rattle.hir_env.specs.Answered.{Label, Use}
+use Rattle.hir_data.specs.Data.{PathData}
+use Rattle.hir_data.specs.Uses.{FirstUses, number_of}
+use Rattle.hir_one_result.specs.PathRoom.{Seen, Read, goes_on}
+use Rattle.hir_one_result.specs.PatRoom.{is_known}
+use Rattle.hir_one_result.specs.Leads.{Ways, No, OneBindingWay, ◌&◌}
+
+-- the numbers of the labels that are open, innermost first
+abbrev pub Open : Type 0
+Open = List (Rib LabelId)
+
+abbrev pub opened : Label → LabelId → Open → Open
+opened l n rs = label_rib l.name l.hygiene n ∷ rs
+
+-- parts that may be absent in the store too
+
+abbrev pub Absent : {A : Type 0} → Option A → Ways
+Absent o = λ ws. (o ≡ None) × No ws
+
+abbrev pub There : {A : Type 0} → (A → Ways) → Option A → Ways
+There {A = A} S o = λ ws. (a : A) × (o ≡ Some a) × S a ws
+
+abbrev pub ThereIf : {A : Type 0} → Bool → (A → Ways) → Option A → Ways
+ThereIf true S o = There S o
+ThereIf false S o = Absent o
+
+-- a part that is no expression: it reads back as this
+abbrev pub ReadsAs : {A D : Type 0} → (A → D) → D → A → Ways
+ReadsAs read d a = λ ws. (read a ≡ d) × No ws
+
+abbrev pub statement_of : Bool → Option ExprId → Option Statement
+statement_of semi o = option_map (λ id. statement.Expr id semi) o
+
+-- of some expression, whatever its number
+abbrev pub SomeExpr : (ExprId → Ways) → Ways
+SomeExpr S = λ ws. (i : ExprId) × S i ws
+
+-- what stands before is read where the reading goes on
+abbrev pub WhereOn : Read → (Seen → Ways) → Ways
+WhereOn (goes_on x) W = W x
+WhereOn read W = No
+
+abbrev pub Unless : Bool → Ways → Ways
+Unless true W = No
+Unless false W = W
+
+-- one part before others, or none where two dots stand
+abbrev pub StandsBefore : {A : Type 0} → Bool → (A → Ways) → (List A → Ways) → List A → Ways
+StandsBefore true S T is = T is
+StandsBefore {A = A} false S T is = λ ws. (i : A) × (others : List A) × (is ≡ i ∷ others) × (S i & T others) ws
+
+-- what is so where the path is read, and where it isn't
+abbrev pub WherePath : Option PathData → (PathData → Ways) → Ways → Ways
+WherePath None S T = T
+WherePath (Some d) S T = S d
+
+-- in front of parts with a leading comma stands one that is missing
+abbrev pub BehindFront : Bool → List PatId → List PatId → Type 0
+BehindFront false is others = is ≡ others
+BehindFront true is others = (front : PatId) × (is ≡ front ∷ others)
+
+-- the names of a top pattern have these bindings, in the order of their first uses
+abbrev pub Names : Type 0
+Names = List BindingId
+
+-- where a name is used first, its binding is new
+abbrev pub NewName : Bool → BindingId → Ways
+NewName true b = No
+NewName false b = OneBindingWay b
+
+abbrev pub StandsName : Names → FirstUses → Use → BindingId → Ways
+StandsName ks us u b = λ ws. (slice_get ks (number_of us u) ≡ Some b) × NewName (is_known us u) b ws

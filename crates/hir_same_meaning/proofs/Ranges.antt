@@ -1,0 +1,222 @@
+-- A range runs as the record or the call that it is made as.
+use Rattle.std.proofs.Common.{◌≡◌, ℕ, ◌≤◌, List, [], ◌∷◌, ◌++◌, map, append-nil, Option, Some, None, refl, arith}
+use Rattle.hir_store.specs.Pointers.{Pointer}
+use Rattle.hir_store.specs.Stored.{Stored, store_of, map_of}
+use Rattle.hir_store.specs.declared.hir.Expr.TheVariants as hir
+use Rattle.hir_store.specs.declared.hir.RecordSpread.TheVariants as spread
+use Rattle.hir_store.specs.declared.ids.ExprId.{ExprId}
+use Rattle.hir_store.specs.declared.ids.LangItemId.{LangItemId}
+use Rattle.hir_store.specs.declared.name.Name.{Name}
+use Rattle.hir_store.specs.declared.path.Path.TheVariants.{LangItem}
+use Rattle.hir_env.specs.Answering.{site_of}
+use Rattle.hir_env.specs.Answered as tree
+use Rattle.hir_env.specs.Answered.{OptionExpr, RangeForm}
+use Rattle.hir_lower_form.specs.Lowering.{Lowering}
+use Rattle.hir_lower_form.specs.Ranges.{range_fields, end_operand, item_expr, made_range, range_form}
+use Rattle.hir_data.specs.Data.{item_path}
+use Rattle.hir_data.specs.Reading.{stored_path}
+use Rattle.hir_meaning.specs.Jumps.{EnclosedTo}
+use Rattle.hir_meaning.specs.Run.{Value, item, call, made_record, no_spread, leave, missing, Outcome, value, break, continue, World}
+use Rattle.hir_meaning.specs.Run.{after, pure, ends, ◌>>=◌, ask}
+use Rattle.hir_meaning.specs.Store.{StoreRun, JumpLabel}
+use Rattle.hir_meaning.specs.Store.{run_each as stored_each}
+use Rattle.hir_meaning.specs.Syntax.{SyntaxRun, run_expr, run_present, range_names, run_range}
+use Rattle.hir_scope.specs.Each.{Each}
+use Rattle.hir_scope.specs.Scopes.{Count}
+use Rattle.hir_steps.proofs.Frames.{Frame, scopes, Falls}
+use Rattle.hir_steps.proofs.Steps.{Mark, Rel, Correct, Allocated, correct_bind, correct_as, correct_alloc}
+use Rattle.hir_same_meaning.proofs.Nodes
+use Rattle.hir_same_meaning.proofs.Relation.{Agrees, SameWhere, same_pure, same_bind, same_ask, same_stop}
+use Rattle.hir_same_meaning.proofs.Senses.{Walk, run_in, one, Goes, Runs, Wider, goes_within, goes_at}
+use Rattle.hir_same_meaning.proofs.Views.{numbers}
+
+-- ---- steps in a row, however they are grouped
+
+module _ {A B C : Type 0} {ps : List Frame} where
+  pub stored_row : (m : StoreRun A) (f : A → StoreRun B) (g : B → StoreRun C) {n : SyntaxRun C}
+      → SameWhere ps (m >>= (λ a. f a >>= g)) n → SameWhere ps ((m >>= f) >>= g) n
+  unfolding ◌>>=◌
+  stored_row m f g {n = n} h = record { same = λ w. by (m w).0 (m w).1 (n w) (h.same w) }
+    where
+      by : (o : Outcome JumpLabel A) (w : World (Unit {0})) (r : Outcome Count C × World (Unit {0}))
+          → Agrees ps (after o w (λ a. f a >>= g)).0 (after o w (λ a. f a >>= g)).1 r.0 r.1
+          → Agrees ps (after (after o w f).0 (after o w f).1 g).0 (after (after o w f).0 (after o w f).1 g).1 r.0 r.1
+      by (value a) w r h = h
+      by (break j v) w r h = h
+      by (continue j) w r h = h
+      by (leave x) w r h = h
+
+  written_row : {m : StoreRun C} (n : SyntaxRun A) (f : A → SyntaxRun B) (g : B → SyntaxRun C)
+      → SameWhere ps m (n >>= (λ a. f a >>= g)) → SameWhere ps m ((n >>= f) >>= g)
+  unfolding ◌>>=◌
+  written_row {m = m} n f g h = record { same = λ w. by (n w).0 (n w).1 (m w) (h.same w) }
+    where
+      by : (o : Outcome Count A) (w : World (Unit {0})) (r : Outcome JumpLabel C × World (Unit {0}))
+          → Agrees ps r.0 r.1 (after o w (λ a. f a >>= g)).0 (after o w (λ a. f a >>= g)).1
+          → Agrees ps r.0 r.1 (after (after o w f).0 (after o w f).1 g).0 (after (after o w f).0 (after o w f).1 g).1
+      by (value a) w r h = h
+      by (break j v) w r h = h
+      by (continue j) w r h = h
+      by (leave x) w r h = h
+
+module _ {A B : Type 0} {ps : List Frame} where
+  pub stored_pure : {a : A} (f : A → StoreRun B) {n : SyntaxRun B} → SameWhere ps (f a) n → SameWhere ps (pure a >>= f) n
+  unfolding ends ◌>>=◌
+  stored_pure f h = record { same = λ w. h.same w }
+
+  written_pure : {a : A} {m : StoreRun B} (g : A → SyntaxRun B) → SameWhere ps m (g a) → SameWhere ps m (pure a >>= g)
+  unfolding ends ◌>>=◌
+  written_pure g h = record { same = λ w. h.same w }
+
+  written_value : {m : StoreRun B} (a : A) (g : A → SyntaxRun B) → SameWhere ps m (pure a >>= g) → SameWhere ps m (g a)
+  unfolding ends ◌>>=◌
+  written_value a g h = record { same = λ w. h.same w }
+
+-- ---- ends
+
+-- what an end became: nothing where it is absent
+abbrev pub EndIs : ℕ → ℕ → Stored → List Frame → OptionExpr → Option ExprId → Type 0
+EndIs labels nodes final ps tree.no_expr None = Unit {0}
+EndIs labels nodes final ps tree.no_expr (Some i) = ⊥
+EndIs labels nodes final ps (tree.some_expr e) None = ⊥
+EndIs labels nodes final ps (tree.some_expr e) (Some i) = Goes labels nodes one (λ turns. run_expr turns e) final ps i
+
+abbrev pub EndRel : OptionExpr → Rel (Option ExprId)
+EndRel e final ps m m' o = EndIs m.labels m'.nodes final ps e o
+
+end_within : {labels nodes labels' nodes' : ℕ} (final : Stored) (ps : List Frame) (e : OptionExpr) (o : Option ExprId)
+    → Wider labels nodes labels' nodes' → EndIs labels nodes final ps e o → EndIs labels' nodes' final ps e o
+end_within final ps tree.no_expr None w h = tt
+end_within final ps tree.no_expr (Some i) w h = absurd h
+end_within final ps (tree.some_expr e) None w h = absurd h
+end_within final ps (tree.some_expr e) (Some i) w h = goes_within w h
+
+same_labels : {nodes nodes' : ℕ} (labels : ℕ) → nodes ≤ nodes' → Wider labels nodes labels nodes'
+same_labels labels le = record { labels_from = omega arith; nodes_to = le }
+
+module _ (labels : ℕ) {nodes : ℕ} (final : Stored) {ps : List Frame} (turns d : ℕ) (le : nodes ≤ d) (f : Falls labels ps)
+    {k : List Value → StoreRun Value} {l : List Value → SyntaxRun Value} where
+  -- both ends, and then the same
+  same_ends_of : ((vs : List Value) → SameWhere ps (k vs) (l vs)) → (start end : OptionExpr) (s e : Option ExprId)
+      → EndIs labels nodes final ps start s → EndIs labels nodes final ps end e
+      → SameWhere ps (stored_each turns (run_in final d turns) (end_operand s ++ end_operand e) >>= k)
+      (run_present turns start (scopes ps) >>= (λ vs. run_present turns end (scopes ps) >>= (λ ws. l (vs ++ ws))))
+  same_ends_of same tree.no_expr tree.no_expr None None h h' = stored_pure _ (written_pure _ (written_pure _ (same [])))
+  same_ends_of same tree.no_expr (tree.some_expr y) None (Some e) h h' =
+      stored_row _ _ _ (written_pure _ (written_row _ _ _ (same_bind (h'.same turns d le f)
+      (λ v. stored_row _ _ _ (stored_pure _ (stored_pure _ (written_pure _ (same (v ∷ [])))))))))
+  same_ends_of same (tree.some_expr x) tree.no_expr (Some s) None h h' =
+      stored_row _ _ _ (written_row _ _ _ (same_bind (h.same turns d le f)
+      (λ v. stored_row _ _ _ (stored_pure _ (stored_pure _ (written_pure _ (written_pure _ (same (v ∷ [])))))))))
+  same_ends_of same (tree.some_expr x) (tree.some_expr y) (Some s) (Some e) h h' =
+      stored_row _ _ _ (written_row _ _ _ (same_bind (h.same turns d le f)
+      (λ v. stored_row _ _ _ (stored_row _ _ _ (written_pure _ (written_row _ _ _ (same_bind (h'.same turns d le f)
+      (λ w. stored_row _ _ _ (stored_pure _ (stored_pure _ (stored_pure _ (written_pure _ (same (v ∷ w ∷ []))))))))))))))
+  same_ends_of same tree.no_expr end (Some s) e h h' = absurd h
+  same_ends_of same (tree.some_expr x) end None e h h' = absurd h
+  same_ends_of same start tree.no_expr s (Some e) h h' = absurd h'
+  same_ends_of same start (tree.some_expr y) s None h h' = absurd h'
+
+module _ (labels nodes : ℕ) (final : Stored) (ps : List Frame) where
+  ends_jump : (d : ℕ) → nodes ≤ d → (start end : OptionExpr) (s e : Option ExprId)
+      → EndIs labels nodes final ps start s → EndIs labels nodes final ps end e
+      → Each (EnclosedTo (store_of final) d (numbers ps)) (end_operand s ++ end_operand e)
+  ends_jump d le tree.no_expr tree.no_expr None None h h' = tt
+  ends_jump d le tree.no_expr (tree.some_expr y) None (Some e) h h' = (h'.jumps d le, tt)
+  ends_jump d le (tree.some_expr x) tree.no_expr (Some s) None h h' = (h.jumps d le, tt)
+  ends_jump d le (tree.some_expr x) (tree.some_expr y) (Some s) (Some e) h h' = (h.jumps d le, (h'.jumps d le, tt))
+  ends_jump d le tree.no_expr end (Some s) e h h' = absurd h
+  ends_jump d le (tree.some_expr x) end None e h h' = absurd h
+  ends_jump d le start tree.no_expr s (Some e) h h' = absurd h'
+  ends_jump d le start (tree.some_expr y) s None h h' = absurd h'
+
+  names_are : (last : Name) (start end : OptionExpr) (s e : Option ExprId)
+      → EndIs labels nodes final ps start s → EndIs labels nodes final ps end e
+      → map (λ f. f.name) (range_fields last s e) ≡ range_names last start end
+  names_are last tree.no_expr tree.no_expr None None h h' = refl
+  names_are last tree.no_expr (tree.some_expr y) None (Some e) h h' = refl
+  names_are last (tree.some_expr x) tree.no_expr (Some s) None h h' = refl
+  names_are last (tree.some_expr x) (tree.some_expr y) (Some s) (Some e) h h' = refl
+  names_are last tree.no_expr end (Some s) e h h' = absurd h
+  names_are last (tree.some_expr x) end None e h h' = absurd h
+  names_are last start tree.no_expr s (Some e) h h' = absurd h'
+  names_are last start (tree.some_expr y) s None h h' = absurd h'
+
+fields_are : (last : Name) (s e : Option ExprId) → map (λ f. f.expr) (range_fields last s e) ≡ end_operand s ++ end_operand e
+fields_are last None None = refl
+fields_are last None (Some e) = refl
+fields_are last (Some s) None = refl
+fields_are last (Some s) (Some e) = refl
+
+-- ---- what it is made as
+
+item_is : (final : Stored) (i : LangItemId) → stored_path (store_of final) (map_of final) (LangItem i) ≡ item_path i
+unfolding stored_path
+item_is final i = refl
+
+pub goes_item : {labels : ℕ} {m m' : Mark} {final : Stored} {ps qs : List Frame} {i : ExprId} (item' : LangItemId)
+    → Allocated (item_expr (Some item')) None final qs m m' i
+    → Goes labels m'.nodes one (λ turns ss. pure (item item')) final ps i
+goes_item {final = final} item' a = goes_at a (λ turns d le f. rw (item_is final item') (same_pure (item item'))) (λ d le. tt)
+
+module _ (at : Pointer) (start end : OptionExpr) where
+  abbrev range_walk : RangeForm → Walk Value
+  range_walk form turns ss = run_range form start end (run_present turns start ss) (run_present turns end ss) (Some (site_of at))
+
+  goes_record_range : {labels : ℕ} {m m' : Mark} {final : Stored} {ps qs : List Frame} {i : ExprId} (named : LangItemId) (last : Name)
+      (s e : Option ExprId) → EndIs labels m.nodes final ps start s → EndIs labels m.nodes final ps end e
+      → Allocated (hir.RecordLit (LangItem named) (range_fields last s e) spread.None) (Some at) final qs m m' i
+      → Goes labels m'.nodes one (range_walk (tree.record_range named last)) final ps i
+  goes_record_range {labels = labels} {m = m} {final = final} {ps = ps} named last s e h h' a = goes_at a
+      (λ turns d le f. rw (item_is final named, fields_are last s e, names_are labels m.nodes final ps last start end s e h h')
+      (same_ends_of labels final turns d le f (λ vs. stored_pure _ (of_all (range_names last start end) vs)) start end s e h h'))
+      (λ d le. rw (fields_are last s e) (ends_jump labels m.nodes final ps d le start end s e h h', tt))
+    where
+      of_all : (names : List Name) (vs : List Value)
+          → SameWhere ps (ask (made_record (item_path named) names no_spread) (vs ++ []) (Some (site_of at)))
+          (ask (made_record (item_path named) names no_spread) vs (Some (site_of at)))
+      of_all names vs = rw (append-nil vs) (same_ask (made_record (item_path named) names no_spread) vs (Some (site_of at)))
+
+  goes_call_range : {labels : ℕ} {m m1 m' : Mark} {final : Stored} {ps qs : List Frame} {c i : ExprId} (called : Option LangItemId)
+      (s e : Option ExprId) → EndIs labels m1.nodes final ps start s → EndIs labels m1.nodes final ps end e
+      → Allocated (item_expr called) None final qs m m1 c
+      → Allocated (hir.Call c (end_operand s ++ end_operand e)) (Some at) final qs m1 m' i
+      → Goes labels m'.nodes one (range_walk (tree.call_range called)) final ps i
+  goes_call_range {labels = labels} {m1 = m1} {final = final} {ps = ps} {c = c} None s e h h' b a =
+      let callee : Goes labels m1.nodes one (λ turns ss. ends (leave missing)) final ps c = Nodes.goes_missing b in goes_at a
+      (λ turns d le f. same_stop _ missing (callee.same turns d le f))
+      (λ d le. (callee.jumps d le, ends_jump labels m1.nodes final ps d le start end s e h h'))
+  goes_call_range {labels = labels} {m1 = m1} {final = final} {ps = ps} {c = c} (Some item') s e h h' b a =
+      let callee : Goes labels m1.nodes one (λ turns ss. pure (item item')) final ps c = goes_item item' b in goes_at a
+      (λ turns d le f. written_value (item item') (λ v. run_present turns start (scopes ps)
+      >>= (λ vs. run_present turns end (scopes ps) >>= (λ ws. ask call (v ∷ (vs ++ ws)) (Some (site_of at)))))
+      (same_bind (callee.same turns d le f)
+      (λ v. same_ends_of labels final turns d le f (λ vs. same_ask call (v ∷ vs) (Some (site_of at))) start end s e h h')))
+      (λ d le. (callee.jumps d le, ends_jump labels m1.nodes final ps d le start end s e h h'))
+
+  -- whatever its ends became
+  abbrev MadeOf : RangeForm → Option ExprId → Option ExprId → Rel ExprId
+  MadeOf form s e final ps m m' i =
+      (labels : ℕ) → EndIs labels m.nodes final ps start s → EndIs labels m.nodes final ps end e
+      → Goes labels m'.nodes one (range_walk form) final ps i
+
+  made_fine : (form : RangeForm) (s e : Option ExprId) → Correct (made_range at form s e) (MadeOf form s e)
+  made_fine (tree.record_range named last) s e =
+      correct_as (correct_alloc (hir.RecordLit (LangItem named) (range_fields last s e) spread.None) (Some at))
+      (λ final ps m m' i g a labels h h'. goes_record_range named last s e h h' a)
+  made_fine (tree.call_range called) s e = correct_as
+      (correct_bind (correct_alloc (item_expr called) None)
+      (λ c. correct_alloc (hir.Call c (end_operand s ++ end_operand e)) (Some at)))
+      (λ final ps m m' i g row labels h h'. goes_call_range called s e
+      (end_within final ps start s (same_labels labels row.before.nodes) h)
+      (end_within final ps end e (same_labels labels row.before.nodes) h') row.first row.second)
+  made_fine tree.itemless_range s e =
+      correct_as (correct_alloc hir.Missing (Some at)) (λ final ps m m' i g a labels h h'. Nodes.goes_missing a)
+
+  pub range_fine : (form : RangeForm) {q r : Lowering (Option ExprId)} → Correct q (EndRel start) → Correct r (EndRel end)
+      → Correct (range_form at form q r) (Runs one (range_walk form))
+  unfolding range_form
+  range_fine form hq hr = correct_as (correct_bind hq (λ s. correct_bind hr (λ e. made_fine form s e)))
+      (λ final ps m m' i g row. let u = row.second in
+      u.second m.labels (end_within final ps start row.one (omega arith) row.first)
+      (end_within final ps end u.one (omega arith) u.first))

@@ -1,0 +1,86 @@
+-- Bindings, each with the patterns that make it.
+use Rattle.std.specs.Prelude.{◌≡◌, ◌≢◌, ◌≤◌, ℕ, zero, suc, nat_lt, if◌then◌else◌}
+use Rattle.std.specs.Prelude.{List, [], ◌∷◌, ◌++◌, length, map, Option, None, Result, Ok, Err}
+use Rattle.hir_store.specs.Arenas.{Prefix}
+use Rattle.hir_store.specs.declared.fault.StoreFault.{StoreFault}
+use Rattle.hir_store.specs.declared.fault.StoreFault.TheVariants.{Memory, Full}
+use Rattle.hir_store.specs.declared.ids.BindingId.{BindingId}
+use Rattle.hir_store.specs.declared.ids.PatId.{PatId}
+use Rattle.hir_store.specs.declared.pat.Binding.{Binding}
+use Rattle.hir_binding.specs.declared.binding.BindingProblems.{BindingProblems}
+
+-- Entry i of `entries` has number i; entry i of `definitions` has the patterns that make it, in the order in which they came.
+pub record Bindings : Type 0 where
+  pub entries : List Binding
+  pub definitions : List (List PatId)
+  pub limit : ℕ
+
+-- these parts as one
+abbrev pub bindings_of : List Binding → List (List PatId) → ℕ → Bindings
+bindings_of entries definitions limit = record { entries = entries; definitions = definitions; limit = limit }
+
+abbrev pub none_bound : ℕ → Bindings
+none_bound limit = record { entries = []; definitions = []; limit = limit }
+
+-- each binding has its patterns, and no more are there than there may be
+pub record KeptBindings (a : Bindings) : Type 0 where
+  pub as_many : length a.definitions ≡ length a.entries
+  pub fits : length a.entries ≤ a.limit
+
+abbrev pub binding_id : ℕ → BindingId
+binding_id n = record { 0 = n }
+
+-- the entry at this place is another, where there is one
+abbrev pub at_place : {A : Type 0} → ℕ → (A → A) → List A → List A
+at_place n f [] = []
+at_place zero f (x ∷ xs) = f x ∷ xs
+at_place (suc n) f (x ∷ xs) = x ∷ at_place n f xs
+
+-- the binding, with this wrong about it
+abbrev pub problem_set : Option BindingProblems → Binding → Binding
+problem_set problem b = record b { problems = problem }
+
+-- a pattern more at the end
+abbrev pub pattern_added : PatId → List PatId → List PatId
+pattern_added p ps = ps ++ p ∷ []
+
+-- a binding more, which no pattern makes yet
+abbrev pub with_binding : Bindings → Binding → Bindings
+with_binding a x = record a { entries = a.entries ++ x ∷ []; definitions = a.definitions ++ [] ∷ [] }
+
+abbrev pub with_definition : Bindings → BindingId → PatId → Bindings
+with_definition a id p = record a { definitions = at_place id.0 (pattern_added p) a.definitions }
+
+abbrev pub with_problem : Bindings → BindingId → Option BindingProblems → Bindings
+with_problem a id problem = record a { entries = at_place id.0 (problem_set problem) a.entries }
+
+abbrev pub add_binding : Binding → Bindings → Result BindingId StoreFault × Bindings
+add_binding x a =
+    if nat_lt (length a.entries) a.limit then (Ok (binding_id (length a.entries)), with_binding a x) else (Err Full, a)
+
+-- ---- what stays
+
+-- what is settled of a binding as soon as it is stored
+abbrev pub without_problem : Binding → Binding
+without_problem = problem_set None
+
+-- each list goes on
+abbrev pub EachGoesOn : {A : Type 0} → List (List A) → List (List A) → Type 0
+EachGoesOn [] yss = Unit {0}
+EachGoesOn (xs ∷ xss) [] = ⊥
+EachGoesOn (xs ∷ xss) (ys ∷ yss) = Prefix xs ys × EachGoesOn xss yss
+
+-- Bindings stay, but for their problems, and so do the patterns that make them.
+pub record BindingsContinue (a b : Bindings) : Type 0 where
+  pub entries : Prefix (map without_problem a.entries) (map without_problem b.entries)
+  pub definitions : EachGoesOn a.definitions b.definitions
+  pub limit : b.limit ≡ a.limit
+
+-- ---- outcomes
+
+-- The outcome of `alloc`, unless memory was refused, and then nothing changes.
+abbrev pub AddsBinding : Binding → Bindings → Result BindingId StoreFault → Bindings → Type 0
+AddsBinding x old (Ok id) new =
+    (add_binding x old ≡ (Ok id, new)) × BindingsContinue old new
+    × (new ≡ with_binding old x) × (id ≡ binding_id (length old.entries))
+AddsBinding x old (Err e) new = (new ≡ old) × (e ≢ Memory → (add_binding x old ≡ (Err e, new)) × (new.limit ≤ length new.entries))

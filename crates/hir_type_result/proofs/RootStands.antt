@@ -1,0 +1,85 @@
+-- What stands for a body inside, in its root.
+use Rattle.std.proofs.Common.{◌≡◌, sym, subst, List, None, Ok}
+use Rattle.hir_store.specs.Stored.{Stored, store_of, map_of}
+use Rattle.hir_store.specs.Storing.{Extends}
+use Rattle.hir_store.specs.declared.ids.ExprId.{ExprId}
+use Rattle.hir_store.proofs.Extending.{extends_refl}
+use Rattle.hir_env.specs.Answered as tree
+use Rattle.hir_env.specs.Answered.{Limit, Side}
+use Rattle.hir_lower_form.specs.Builder.{Builder}
+use Rattle.hir_lower_form.specs.Lower.{ExprSteps, limit_side, lower_part, missing}
+use Rattle.hir_lower_form.specs.Ranges.{before_form, item_form}
+use Rattle.hir_meaning.specs.Inner.{InnerBody, constant_body, limit_body}
+use Rattle.hir_steps.specs.Keeps.{Paired}
+use Rattle.hir_steps.proofs.Frames.{ribs_frames}
+use Rattle.hir_steps.proofs.Keeping.{lower_path_any, part_any}
+use Rattle.hir_steps.proofs.PatAny.{before_any, item_any, literal_limit_any, name_limit_any, path_limit_any}
+use Rattle.hir_steps.proofs.Steps as steps
+use Rattle.hir_steps.proofs.Steps.{correct_alloc}
+use Rattle.hir_steps.proofs.TypeAny.{Any, any}
+use Rattle.hir_one_result.specs.Laws.{Settled}
+use Rattle.hir_one_result.specs.Leads.{Way}
+use Rattle.hir_one_result.specs.Stands.{StandsLimitSide}
+use Rattle.hir_one_result.proofs.AfterLowering.{after_lowering}
+use Rattle.hir_one_result.proofs.Lasting.{Correct, bound, unchanged_settled}
+use Rattle.hir_one_result.proofs.Leading.{Shown}
+use Rattle.hir_one_result.proofs.PathStanding.{before_stands, item_stands, literal_limit_stands, name_limit_stands, path_limit_stands}
+use Rattle.hir_one_result.proofs.Standing.{Shows, missing_stands}
+use Rattle.hir_one_result.proofs.TreeStands.{part_stands, whole_left}
+use Rattle.hir_type_result.specs.Roots.{StandsInner}
+
+-- what is done behind the barrier
+abbrev pub contents : InnerBody → ExprSteps
+contents (constant_body e) = lower_part e
+contents (limit_body (tree.item_limit item)) = item_form item
+contents (limit_body (tree.side_limit s)) = limit_side s
+contents (limit_body (tree.before_limit item s)) = before_form item (limit_side s)
+
+missing_any : steps.Correct missing Any
+unfolding missing
+missing_any = any (correct_alloc _ None)
+
+side_any : (s : Side) → steps.Correct (limit_side s) Any
+side_any tree.no_side = missing_any
+side_any (tree.literal_side at l) = literal_limit_any at l
+side_any (tree.name_side at n) = name_limit_any at n
+side_any (tree.path_side at p) = path_limit_any at (lower_path_any p)
+side_any tree.other_side = missing_any
+
+-- it is made of steps
+pub contents_any : (x : InnerBody) → steps.Correct (contents x) Any
+contents_any (constant_body e) = part_any e
+contents_any (limit_body (tree.item_limit item)) = item_any item
+contents_any (limit_body (tree.side_limit s)) = side_any s
+contents_any (limit_body (tree.before_limit item s)) = before_any item (side_any s)
+
+side_shows : (s : Side) → Correct (limit_side s) (Shows (λ final rs i. StandsLimitSide (store_of final) (map_of final) rs s i))
+side_shows tree.no_side = missing_stands
+side_shows (tree.literal_side at l) = literal_limit_stands at l
+side_shows (tree.name_side at n) = name_limit_stands at n
+side_shows (tree.path_side at p) = path_limit_stands at p (whole_left p)
+side_shows tree.other_side = missing_stands
+
+inner_shows : (x : InnerBody)
+    → Correct (contents x) (Shows (λ final rs i. StandsInner (store_of final) (map_of final) rs x i))
+inner_shows (constant_body e) = part_stands e
+inner_shows (limit_body (tree.item_limit item)) = item_stands item
+inner_shows (limit_body (tree.side_limit s)) = side_shows s
+inner_shows (limit_body (tree.before_limit item s)) = before_stands item (side_shows s)
+
+-- what stands for it in a later store in which nothing is wrong with the bindings that wasn't
+pub record Rooted (x : InnerBody) (b : Builder) (i : ExprId) (later : Stored) : Type 0 where
+  pub ways : List Way
+  pub stands : StandsInner (store_of later) (map_of later) b.scopes x i ways
+
+pub rooted : (x : InnerBody) (b c : Builder) (i : ExprId) → Paired b.stored → contents x b ≡ (Ok i, c)
+    → (later : Stored) → Extends c.stored later → Settled c.stored later → Rooted x b i later
+rooted x b c i paired is later stays settled =
+    let lasts = after_lowering (inner_shows x) b i c paired is later stays in
+    let y = subst (λ rs. Shown (StandsInner (store_of later) (map_of later) rs x i) b.stored c.stored) (sym (ribs_frames b.scopes))
+    (lasts.rel (unchanged_settled (bound b.stored) settled)).shown in
+    record { ways = y.ways; stands = y.shown }
+
+-- what was settled of the bindings stays
+pub root_settles : (x : InnerBody) (b c : Builder) (i : ExprId) → Paired b.stored → contents x b ≡ (Ok i, c) → Settled b.stored c.stored
+root_settles x b c i paired is = (after_lowering (inner_shows x) b i c paired is c.stored (extends_refl c.stored)).settled

@@ -1,0 +1,31 @@
+-- Texts of paths: names joined by double colons, which one may also stand in front of. A name isn't empty and holds no colon.
+use Rattle.std.specs.Prelude.{ℕ, ◌==◌, List, [], ◌∷◌, Bool, true, false, Option, Some, None, option_map, unwrap_or, if◌then◌else◌}
+use Rattle.json_faults.specs.declared.path_text.Spot.{Spot}
+use Rattle.json_faults.specs.declared.path_text.Spot.TheVariants as spot
+
+-- where a colon leads
+abbrev behind_colon : Spot → Option Spot
+behind_colon spot.Begin = Some spot.Colon
+behind_colon spot.Name = Some spot.Colon
+behind_colon spot.Colon = Some spot.Owed
+behind_colon spot.Owed = None
+
+-- where any other byte leads
+abbrev behind_other : Spot → Option Spot
+behind_other spot.Colon = None
+behind_other _ = Some spot.Name
+
+abbrev pub next : Spot → ℕ → Option Spot
+next s b = if b == 58 then behind_colon s else behind_other s
+
+abbrev ends_name : Spot → Bool
+ends_name spot.Name = true
+ends_name _ = false
+
+-- the rest of a text, from a place in it
+abbrev pub is_rest : Spot → List ℕ → Bool
+is_rest s [] = ends_name s
+is_rest s (b ∷ bs) = unwrap_or (option_map (λ t. is_rest t bs) (next s b)) false
+
+abbrev pub is_path_text : List ℕ → Bool
+is_path_text text = is_rest spot.Begin text

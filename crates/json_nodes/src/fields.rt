@@ -1,0 +1,251 @@
+//! A node as what reads its kind sees it: through a type parameter, so that none of the functions of kinds may drop a tree.
+
+ghost use Rattle.std.specs.Prelude.{◌≡◌, [], ◌∷◌, Some};
+ghost use Rattle.serde_json.specs.View.{view};
+ghost use Rattle.json_nodes.specs.Kept.{Kept};
+ghost use Rattle.json_nodes.specs.Nodes.{here};
+ghost use Rattle.json_nodes.specs.Parts.{list_if_there, list_in, list_with_nulls_in, part_in, text_at};
+
+use crate::node::{Each, Node, OrNull};
+use crate::param_parts::ParamPart;
+use crate::part::{AnyPart, BoxedGroup, Group, ReadParts};
+use hir_base::node::{NodeId, TextRange};
+use hir_base::{Boxed, Seq, Text};
+use hir_syntax::ast::{BlockExpr, Expr, Param, Pat, Type_};
+use serde_json::Value;
+use std::alloc::Global;
+use std::marker::PhantomData;
+
+/// What a field may hold.
+pub trait Field {
+    ghost use Rattle.std.specs.Prelude.{List, ℕ};
+    ghost use Rattle.json_nodes.specs.Parts.{Here};
+
+    type Held;
+
+    /// What the field of that name says.
+    ghost said: { Here → List ℕ → Self.Held };
+
+    fn read<P: ReadParts>(node: &Node<'_, P>, refused: &mut bool, name: &str) -> Self::Held
+        requires { P.can node.now.parts.now }
+        ensures { Kept refused.old refused.new (result ≡ said (here P.parts node.now) name.now) };
+}
+
+/// One part.
+pub struct One<G> {
+    group: PhantomData<G>,
+}
+
+/// One part in a box.
+pub struct InBox<G> {
+    group: PhantomData<G>,
+}
+
+/// The parts of a list, none where it is absent.
+pub struct All<G> {
+    group: PhantomData<G>,
+}
+
+/// The parts of a list that may be absent.
+pub struct AllIfThere<G> {
+    group: PhantomData<G>,
+}
+
+/// The parts of a list, each of which may be null.
+pub struct AllOrNulls<G> {
+    group: PhantomData<G>,
+}
+
+/// A text.
+pub struct Written;
+
+impl<G: Group> Field for One<G> {
+    type Held = Option<G::Part>;
+
+    ghost said = { λ h name. part_in h G.as_group name };
+
+    fn read<P: ReadParts>(node: &Node<'_, P>, refused: &mut bool, name: &str) -> Option<G::Part> {
+        node.part::<G>(refused, name)
+    }
+}
+
+impl<G: BoxedGroup> Field for InBox<G> {
+    type Held = Option<Boxed<G::Part>>;
+
+    ghost said = { λ h name. part_in h G.as_group name };
+
+    fn read<P: ReadParts>(
+        node: &Node<'_, P>,
+        refused: &mut bool,
+        name: &str,
+    ) -> Option<Boxed<G::Part>> {
+        node.boxed::<G>(refused, name)
+    }
+}
+
+impl<G: Group> Field for All<G> {
+    type Held = Seq<G::Part>;
+
+    ghost said = { λ h name. list_in h G.as_group name };
+
+    fn read<P: ReadParts>(node: &Node<'_, P>, refused: &mut bool, name: &str) -> Seq<G::Part> {
+        node.list::<Each<G>>(refused, name)
+    }
+}
+
+impl<G: Group> Field for AllIfThere<G> {
+    type Held = Option<Seq<G::Part>>;
+
+    ghost said = { λ h name. list_if_there h G.as_group name };
+
+    fn read<P: ReadParts>(
+        node: &Node<'_, P>,
+        refused: &mut bool,
+        name: &str,
+    ) -> Option<Seq<G::Part>> {
+        node.list_if_there::<Each<G>>(refused, name)
+    }
+}
+
+impl<G: Group> Field for AllOrNulls<G> {
+    type Held = Seq<Option<G::Part>>;
+
+    ghost said = { λ h name. list_with_nulls_in h G.as_group name };
+
+    fn read<P: ReadParts>(
+        node: &Node<'_, P>,
+        refused: &mut bool,
+        name: &str,
+    ) -> Seq<Option<G::Part>> {
+        node.list::<OrNull<G>>(refused, name)
+    }
+}
+
+impl Field for Written {
+    type Held = Option<Text>;
+
+    ghost said = { λ h name. text_at h name };
+
+    fn read<P: ReadParts>(node: &Node<'_, P>, refused: &mut bool, name: &str) -> Option<Text> {
+        node.text(refused, name)
+    }
+}
+
+/// A node. Where memory is refused, what is read or put in a box sets `refused`.
+pub trait Fields {
+    ghost use Rattle.json_nodes.specs.Parts.{Here};
+
+    /// It may be asked.
+    ghost can: { Self → Type 0 };
+    /// The node.
+    ghost here: { Self → Here };
+
+    fn alloc(&self) -> Global;
+
+    fn id(&self) -> NodeId
+        ensures { result ≡ (here self.now).id };
+
+    fn range(&self) -> TextRange
+        ensures { result ≡ (here self.now).range };
+
+    fn value(&self) -> &Value
+        ensures { view result.now ≡ (here self.now).value };
+
+    fn field<A: Field>(&self, refused: &mut bool, name: &str) -> A::Held
+        requires { can self.now }
+        ensures { Kept refused.old refused.new (result ≡ A.said (here self.now) name.now) };
+
+    /// What a part is in a group, if it serves there.
+    fn served<G: Group>(&self, part: AnyPart) -> Option<G::Part>
+        ensures { result ≡ G.as_group part };
+
+    /// The same in a box.
+    fn served_in_box<G: BoxedGroup>(
+        &self,
+        refused: &mut bool,
+        part: AnyPart,
+    ) -> Option<Boxed<G::Part>>
+        ensures { Kept refused.old refused.new (result ≡ G.as_group part) };
+
+    /// A parameter as the only one of a list.
+    fn only_param(&self, refused: &mut bool, param: Param) -> Seq<Param>
+        ensures { Kept refused.old refused.new (result ≡ param ∷ []) };
+
+    fn boxed_expr(&self, refused: &mut bool, expr: Expr) -> Option<Boxed<Expr>>
+        ensures { Kept refused.old refused.new (result ≡ Some expr) };
+
+    fn boxed_block(&self, refused: &mut bool, block: BlockExpr) -> Option<Boxed<BlockExpr>>
+        ensures { Kept refused.old refused.new (result ≡ Some block) };
+
+    fn boxed_pat(&self, refused: &mut bool, pat: Pat) -> Option<Boxed<Pat>>
+        ensures { Kept refused.old refused.new (result ≡ Some pat) };
+
+    fn boxed_type(&self, refused: &mut bool, ty: Type_) -> Option<Boxed<Type_>>
+        ensures { Kept refused.old refused.new (result ≡ Some ty) };
+}
+
+impl<P: ReadParts> Fields for Node<'_, P> {
+    ghost can = { λ node. P.can node.parts.now };
+
+    ghost here = { λ node. here P.parts node };
+
+    fn alloc(&self) -> Global {
+        self.alloc
+    }
+
+    fn id(&self) -> NodeId {
+        self.id
+    }
+
+    fn range(&self) -> TextRange {
+        self.range
+    }
+
+    fn value(&self) -> &Value {
+        self.value
+    }
+
+    fn field<A: Field>(&self, refused: &mut bool, name: &str) -> A::Held {
+        A::read(self, refused, name)
+    }
+
+    fn served<G: Group>(&self, part: AnyPart) -> Option<G::Part> {
+        Node::served::<G>(self, part)
+    }
+
+    fn served_in_box<G: BoxedGroup>(
+        &self,
+        refused: &mut bool,
+        part: AnyPart,
+    ) -> Option<Boxed<G::Part>> {
+        Node::served_in_box::<G>(self, refused, part)
+    }
+
+    fn only_param(&self, refused: &mut bool, param: Param) -> Seq<Param> {
+        let mut params = Vec::new(self.alloc);
+        match params.reserve(1) {
+            Ok(()) => params.push_reserved(param),
+            Err(_) => {
+                *refused = true;
+                self.parts.let_go(AnyPart::Param(ParamPart::Param(param)));
+            }
+        }
+        Seq::from_vec(params)
+    }
+
+    fn boxed_expr(&self, refused: &mut bool, expr: Expr) -> Option<Boxed<Expr>> {
+        self.parts.boxed_expr(self.alloc, refused, expr)
+    }
+
+    fn boxed_block(&self, refused: &mut bool, block: BlockExpr) -> Option<Boxed<BlockExpr>> {
+        self.parts.boxed_block(self.alloc, refused, block)
+    }
+
+    fn boxed_pat(&self, refused: &mut bool, pat: Pat) -> Option<Boxed<Pat>> {
+        self.parts.boxed_pat(self.alloc, refused, pat)
+    }
+
+    fn boxed_type(&self, refused: &mut bool, ty: Type_) -> Option<Boxed<Type_>> {
+        self.parts.boxed_type(self.alloc, refused, ty)
+    }
+}

@@ -1,0 +1,68 @@
+//! Parameters.
+
+ghost use Rattle.std.specs.Prelude.{◌≡◌};
+ghost use Rattle.json_nodes.specs.Kept.{Kept};
+ghost use Rattle.json_nodes.specs.Params as spec;
+
+use crate::field::flag;
+use crate::fields::{All, Fields, InBox, One};
+use crate::name_parts::{Lifetimes, Names};
+use crate::param_parts::{ParamPart, Params, Pats, SelfParams};
+use crate::part::AnyPart;
+use crate::type_parts::Types;
+use hir_syntax::ast::{Param, ParamList, SelfParam};
+use json_kinds::kind::PartNode;
+
+#[tactic(auto, unfolding(crate::specs::Params::self_param))]
+fn self_param<F: Fields>(node: &F, refused: &mut bool) -> SelfParam
+    requires { F.can node.now }
+    ensures { Kept refused.old refused.new (result ≡ spec.self_param (F.here node.now)) }
+{
+    let name = node.field::<One<Names>>(refused, "name");
+    let lifetime = node.field::<One<Lifetimes>>(refused, "lifetime");
+    let ty = node.field::<InBox<Types>>(refused, "ty");
+    SelfParam {
+        id: node.id(),
+        range: node.range(),
+        name,
+        ref_: flag(node.value(), "ref"),
+        mut_: flag(node.value(), "mut"),
+        lifetime,
+        ty,
+    }
+}
+
+/// A parameter, a `self`, or all of a function.
+#[tactic(auto, unfolding(crate::specs::Params::of_param))]
+pub fn of_param<F: Fields>(node: &F, refused: &mut bool, kind: PartNode) -> Option<AnyPart>
+    requires { F.can node.now }
+    ensures { Kept refused.old refused.new (result ≡ spec.of_param (F.here node.now) kind) }
+{
+    match kind {
+        PartNode::Param => {
+            let pat = node.field::<InBox<Pats>>(refused, "pat");
+            let ty = node.field::<InBox<Types>>(refused, "ty");
+            Some(AnyPart::Param(ParamPart::Param(Param {
+                id: node.id(),
+                range: node.range(),
+                pat,
+                ty,
+                variadic: flag(node.value(), "variadic"),
+            })))
+        }
+        PartNode::SelfParam => {
+            Some(AnyPart::Param(ParamPart::SelfParam(self_param(node, refused))))
+        }
+        PartNode::ParamList => {
+            let self_ = node.field::<One<SelfParams>>(refused, "self");
+            let params = node.field::<All<Params>>(refused, "params");
+            Some(AnyPart::Param(ParamPart::ParamList(ParamList {
+                id: node.id(),
+                range: node.range(),
+                self_,
+                params,
+            })))
+        }
+        _ => None,
+    }
+}

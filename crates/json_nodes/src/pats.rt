@@ -1,0 +1,200 @@
+//! Patterns.
+
+ghost use Rattle.std.specs.Prelude.{◌≡◌, Some};
+ghost use Rattle.json_nodes.specs.Kept.{Kept};
+ghost use Rattle.json_nodes.specs.Pats as spec;
+
+use crate::code_parts::PatLiterals;
+use crate::field::flag;
+use crate::fields::{All, Fields, InBox, One};
+use crate::name_parts::Names;
+use crate::operators::range_op;
+use crate::param_parts::{PatFields, PatPart, Pats};
+use crate::part::AnyPart;
+use crate::partless::pred;
+use crate::path_parts::Paths;
+use hir_syntax::ast::{Pat, PatKind};
+use json_kinds::kind::PatNode;
+
+/// A pattern of a kind, in a box.
+fn whole_pat<F: Fields>(node: &F, refused: &mut bool, kind: PatKind) -> Option<AnyPart>
+    ensures { Kept refused.old refused.new (result ≡ Some (spec.whole_pat (F.here node.now) kind)) }
+{
+    let pat = Pat {
+        id: node.id(),
+        range: node.range(),
+        kind,
+    };
+    let pat = node.boxed_pat(refused, pat)?;
+    Some(AnyPart::Pat(PatPart::Pat(pat)))
+}
+
+/// Names and paths, and tuples behind a path or without one.
+#[tactic(auto, unfolding(crate::specs::Pats::named))]
+fn named<F: Fields>(node: &F, refused: &mut bool, kind: PatNode) -> Option<AnyPart>
+    requires { F.can node.now }
+    ensures { Kept refused.old refused.new (result ≡ spec.named (F.here node.now) kind) }
+{
+    match kind {
+        PatNode::IdentPat => {
+            let name = node.field::<One<Names>>(refused, "name");
+            let pat = node.field::<InBox<Pats>>(refused, "pat");
+            let kind = PatKind::IdentPat {
+                name,
+                ref_: flag(node.value(), "ref"),
+                mut_: flag(node.value(), "mut"),
+                pat,
+            };
+            whole_pat(node, refused, kind)
+        }
+        PatNode::TupleStructPat => {
+            let path = node.field::<InBox<Paths>>(refused, "path");
+            let fields = node.field::<All<Pats>>(refused, "fields");
+            let kind = PatKind::TupleStructPat {
+                path,
+                leading_comma: flag(node.value(), "leading_comma"),
+                fields,
+            };
+            whole_pat(node, refused, kind)
+        }
+        PatNode::TuplePat => {
+            let fields = node.field::<All<Pats>>(refused, "fields");
+            let kind = PatKind::TuplePat {
+                leading_comma: flag(node.value(), "leading_comma"),
+                fields,
+            };
+            whole_pat(node, refused, kind)
+        }
+        PatNode::PathPat => {
+            let path = node.field::<InBox<Paths>>(refused, "path");
+            whole_pat(node, refused, PatKind::PathPat { path })
+        }
+        _ => None,
+    }
+}
+
+/// What stands around one pattern, or between some.
+#[tactic(auto, unfolding(crate::specs::Pats::around))]
+fn around<F: Fields>(node: &F, refused: &mut bool, kind: PatNode) -> Option<AnyPart>
+    requires { F.can node.now }
+    ensures { Kept refused.old refused.new (result ≡ spec.around (F.here node.now) kind) }
+{
+    match kind {
+        PatNode::RefPat => {
+            let pat = node.field::<InBox<Pats>>(refused, "pat");
+            let mut_ = flag(node.value(), "mut");
+            whole_pat(node, refused, PatKind::RefPat { mut_, pat })
+        }
+        PatNode::OrPat => {
+            let pats = node.field::<All<Pats>>(refused, "pats");
+            whole_pat(node, refused, PatKind::OrPat { pats })
+        }
+        PatNode::ParenPat => {
+            let pat = node.field::<InBox<Pats>>(refused, "pat");
+            whole_pat(node, refused, PatKind::ParenPat { pat })
+        }
+        PatNode::BoxPat => {
+            let pat = node.field::<InBox<Pats>>(refused, "pat");
+            whole_pat(node, refused, PatKind::BoxPat { pat })
+        }
+        PatNode::DerefPat => {
+            let pat = node.field::<InBox<Pats>>(refused, "pat");
+            whole_pat(node, refused, PatKind::DerefPat { pat })
+        }
+        _ => None,
+    }
+}
+
+/// Records and slices.
+#[tactic(auto, unfolding(crate::specs::Pats::pieces))]
+fn pieces<F: Fields>(node: &F, refused: &mut bool, kind: PatNode) -> Option<AnyPart>
+    requires { F.can node.now }
+    ensures { Kept refused.old refused.new (result ≡ spec.pieces (F.here node.now) kind) }
+{
+    match kind {
+        PatNode::RecordPat => {
+            let path = node.field::<InBox<Paths>>(refused, "path");
+            let fields = node.field::<All<PatFields>>(refused, "fields");
+            let rest = flag(node.value(), "rest");
+            whole_pat(node, refused, PatKind::RecordPat { path, fields, rest })
+        }
+        PatNode::SlicePat => {
+            let prefix = node.field::<All<Pats>>(refused, "prefix");
+            let slice = node.field::<InBox<Pats>>(refused, "slice");
+            let suffix = node.field::<All<Pats>>(refused, "suffix");
+            whole_pat(
+                node,
+                refused,
+                PatKind::SlicePat {
+                    prefix,
+                    slice,
+                    suffix,
+                },
+            )
+        }
+        _ => None,
+    }
+}
+
+/// Values, and ranges between two.
+#[tactic(auto, unfolding(crate::specs::Pats::values))]
+fn values<F: Fields>(node: &F, refused: &mut bool, kind: PatNode) -> Option<AnyPart>
+    requires { F.can node.now }
+    ensures { Kept refused.old refused.new (result ≡ spec.values (F.here node.now) kind) }
+{
+    match kind {
+        PatNode::LiteralPat => {
+            let lit = node.field::<One<PatLiterals>>(refused, "lit");
+            let minus = flag(node.value(), "minus");
+            whole_pat(node, refused, PatKind::LiteralPat { lit, minus })
+        }
+        PatNode::RangePat => {
+            let start = node.field::<InBox<Pats>>(refused, "start");
+            let end = node.field::<InBox<Pats>>(refused, "end");
+            let op = range_op(node.value());
+            whole_pat(node, refused, PatKind::RangePat { op, start, end })
+        }
+        _ => None,
+    }
+}
+
+/// Predicates of conditions, `_`, `..`, `!null`, and blocks of constants.
+#[tactic(auto, unfolding(crate::specs::Pats::partless_pat))]
+fn partless_pat<F: Fields>(node: &F, refused: &mut bool, kind: PatNode) -> Option<AnyPart>
+    ensures { Kept refused.old refused.new (result ≡ spec.partless_pat (F.here node.now) kind) }
+{
+    match kind {
+        PatNode::CfgPredPat => whole_pat(
+            node,
+            refused,
+            PatKind::CfgPredPat {
+                pred: pred(node.value()),
+            },
+        ),
+        PatNode::WildcardPat => whole_pat(node, refused, PatKind::WildcardPat),
+        PatNode::RestPat => whole_pat(node, refused, PatKind::RestPat),
+        PatNode::NotNullPat => whole_pat(node, refused, PatKind::NotNullPat),
+        PatNode::ConstBlockPat => whole_pat(node, refused, PatKind::ConstBlockPat),
+        _ => None,
+    }
+}
+
+/// A pattern.
+pub fn of_pat<F: Fields>(node: &F, refused: &mut bool, kind: PatNode) -> Option<AnyPart>
+    requires { F.can node.now }
+    ensures { Kept refused.old refused.new (result ≡ spec.of_pat (F.here node.now) kind) }
+{
+    if let Some(pat) = named(node, refused, kind) {
+        return Some(pat);
+    }
+    if let Some(pat) = around(node, refused, kind) {
+        return Some(pat);
+    }
+    if let Some(pat) = pieces(node, refused, kind) {
+        return Some(pat);
+    }
+    if let Some(pat) = values(node, refused, kind) {
+        return Some(pat);
+    }
+    partless_pat(node, refused, kind)
+}

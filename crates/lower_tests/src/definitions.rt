@@ -1,0 +1,91 @@
+//! The patterns that make a binding, which no listing prints by number, and how many patterns and bindings are stored.
+
+use crate::lowered::lowered_text;
+use hir_lower::{Body, BodySourceMap};
+use hir_store::ids::{BindingId, PatId};
+use lower_json::fault::ReadError;
+use std::alloc::Global;
+
+/// A function with the one parameter `(x, x)` and no body.
+const TWICE: &str = r#"{"nodes": [
+    {"k": "Fn", "params": 1},
+    {"k": "ParamList", "params": [2]},
+    {"k": "Param", "pat": 3},
+    {"k": "TuplePat", "fields": [4, 5]},
+    {"k": "IdentPat", "name": "x"},
+    {"k": "IdentPat", "name": "x"}
+]}"#;
+
+/// The same with `(x, y) | (y, x)`.
+const TURNED: &str = r#"{"nodes": [
+    {"k": "Fn", "params": 1},
+    {"k": "ParamList", "params": [2]},
+    {"k": "Param", "pat": 3},
+    {"k": "OrPat", "pats": [4, 7]},
+    {"k": "TuplePat", "fields": [5, 6]},
+    {"k": "IdentPat", "name": "x"},
+    {"k": "IdentPat", "name": "y"},
+    {"k": "TuplePat", "fields": [8, 9]},
+    {"k": "IdentPat", "name": "y"},
+    {"k": "IdentPat", "name": "x"}
+]}"#;
+
+/// The first three.
+type Definitions = [Option<PatId>; 3];
+
+fn definitions(source_map: &BodySourceMap, binding: BindingId) -> Option<Definitions> {
+    let patterns = source_map.store.binding_definitions(binding)?.as_slice();
+    Some([
+        patterns.first().copied(),
+        patterns.get(1).copied(),
+        patterns.get(2).copied(),
+    ])
+}
+
+/// The patterns of the first two bindings, and how many patterns and bindings there are.
+#[derive(Clone, Copy, Debug, PartialEq)]
+struct Defined {
+    first: Option<Definitions>,
+    second: Option<Definitions>,
+    pats: u32,
+    bindings: u32,
+}
+
+fn what_is_defined(body: &Body, source_map: &BodySourceMap) -> Defined {
+    Defined {
+        first: definitions(source_map, BindingId(0)),
+        second: definitions(source_map, BindingId(1)),
+        pats: body.store.pats_len(),
+        bindings: body.store.bindings_len(),
+    }
+}
+
+fn defined_in_text(alloc: Global, text: &str) -> Result<Option<Defined>, ReadError> {
+    match lowered_text(alloc, text)? {
+        Some((body, source_map)) => {
+            let defined = what_is_defined(&body, &source_map);
+            drop(body);
+            drop(source_map);
+            Ok(Some(defined))
+        }
+        None => Ok(None),
+    }
+}
+
+#[test]
+fn a_name_used_twice_is_one_binding_of_two_patterns(rt: HostRuntime) {
+    let twice = Defined {
+        first: Some([Some(PatId(0)), Some(PatId(1)), None]),
+        second: None,
+        pats: 3,
+        bindings: 1,
+    };
+    assert_eq!(rt; defined_in_text(rt.alloc(), TWICE), Ok(Some(twice)));
+    let turned = Defined {
+        first: Some([Some(PatId(0)), Some(PatId(4)), None]),
+        second: Some([Some(PatId(1)), Some(PatId(3)), None]),
+        pats: 7,
+        bindings: 2,
+    };
+    assert_eq!(rt; defined_in_text(rt.alloc(), TURNED), Ok(Some(turned)));
+}

@@ -1,0 +1,102 @@
+//! What an object answers: the numbers of blocks, which no listing prints in order, what names stand for, and which ranges are meant.
+
+use crate::lowered::lowered_text_by_object;
+use hir_env::lang::LangItems;
+use hir_lower::{Body, BodySourceMap};
+use hir_store::ids::BlockId;
+use lower_json::fault::ReadError;
+use lower_run::listing::{Listed, body_listing};
+use std::alloc::{AllocError, Global};
+use std::test::Fail;
+
+const BLOCK_IN_BLOCK: &str = r#"{
+    "nodes": [{"k": "Fn", "body": 1}, {"k": "BlockExpr", "tail": 2}, {"k": "BlockExpr"}],
+    "env": {"blocks": [[0, 1, 3, 1], [0, 2, 4, 2]]}
+}"#;
+
+/// The first three.
+fn entered(source_map: &BodySourceMap) -> [Option<BlockId>; 3] {
+    let scopes = source_map.store.block_scopes();
+    [
+        scopes.first().copied(),
+        scopes.get(1).copied(),
+        scopes.get(2).copied(),
+    ]
+}
+
+fn entered_in_text(alloc: Global, text: &str) -> Result<Option<[Option<BlockId>; 3]>, ReadError> {
+    match lowered_text_by_object(alloc, text)? {
+        Some((body, source_map)) => {
+            let blocks = entered(&source_map);
+            drop(body);
+            drop(source_map);
+            Ok(Some(blocks))
+        }
+        None => Ok(None),
+    }
+}
+
+#[test]
+fn blocks_are_noted_in_the_order_of_entering(rt: HostRuntime) {
+    assert_eq!(rt;
+        entered_in_text(rt.alloc(), BLOCK_IN_BLOCK),
+        Ok(Some([Some(BlockId(3)), Some(BlockId(4)), None]))
+    );
+}
+
+/// `fn f(C, x) { a..=b }`, where C stands for a constant and ranges are the newer ones.
+const NAMES_AND_RANGES: &str = r#"{
+    "nodes": [
+        {"k": "Fn", "params": 1, "body": 6},
+        {"k": "ParamList", "params": [2, 4]},
+        {"k": "Param", "pat": 3},
+        {"k": "IdentPat", "name": "C"},
+        {"k": "Param", "pat": 5},
+        {"k": "IdentPat", "name": "x"},
+        {"k": "BlockExpr", "tail": 7},
+        {"k": "RangeExpr", "op": "..=", "start": 8, "end": 11},
+        {"k": "PathExpr", "path": 9},
+        {"k": "Path", "segs": [10]},
+        {"k": "PathSegment", "seg": "name", "name": "a"},
+        {"k": "PathExpr", "path": 12},
+        {"k": "Path", "segs": [13]},
+        {"k": "PathSegment", "seg": "name", "name": "b"}
+    ],
+    "env": {"resolve": [[0, "C", null, "const", null]], "new_range": true}
+}"#;
+
+const LISTED: &str = r"param (Path C)
+param (Bind #0 -)
+body r0=(Block - - - [] (RecordLit lang:RangeInclusiveCopy [(start (Path a)) (last (Path b))] -))
+binding 0 x plain - -
+";
+
+fn listed(alloc: Global, body: &Body, source_map: &BodySourceMap) -> Result<String, AllocError> {
+    let items = LangItems::numbered();
+    let listed = Listed {
+        store: &body.store,
+        source_map: &source_map.store,
+        lang_items: &items,
+        sources: false,
+    };
+    body_listing(alloc, listed, None, body.params.as_slice())
+}
+
+fn listed_text(alloc: Global, text: &str) -> Result<Option<Result<String, AllocError>>, ReadError> {
+    match lowered_text_by_object(alloc, text)? {
+        Some((body, source_map)) => {
+            let text = listed(alloc, &body, &source_map);
+            drop(body);
+            drop(source_map);
+            Ok(Some(text))
+        }
+        None => Ok(None),
+    }
+}
+
+#[test]
+fn names_are_looked_up_and_ranges_are_the_newer_ones(rt: HostRuntime) -> Result<(), Fail> {
+    let listed = listed_text(rt.alloc(), NAMES_AND_RANGES)?;
+    assert!(rt; matches!(&listed, Some(Ok(found)) if found.as_str() == LISTED));
+    Ok(())
+}
