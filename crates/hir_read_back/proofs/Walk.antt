@@ -24,10 +24,9 @@ use Rattle.hir_data.specs.Data as datum
 use Rattle.hir_data.specs.Data.{TypeData, OptionArgsData, no_args, some_args, PathData, NamesData}
 use Rattle.hir_data.specs.Rule as rule
 use Rattle.hir_data.specs.Rule.{Named, PathRead, What, Item, broken, named, root, self_, super_, anchor, projection, empty_list}
-use Rattle.hir_data.specs.Rule.{plain_kind, supers}
+use Rattle.hir_data.specs.Rule.{plain_kind, supers, is_list, anchor_data, names_data, data_of, read_of, path_read}
 use Rattle.hir_data.specs.Rule.{ends, ended, read, refuses, refused, set_kind, supers_left, counted, open_kind, first_behind_self}
 use Rattle.hir_data.specs.Rule.{last_behind_self, first_without_self, last_without_self, ending_self, read_kind, own_kind, anchor_of, found}
-use Rattle.hir_data.specs.Rule.{is_list, anchor_data, names_data, data_of, read_of, path_read}
 use Rattle.hir_data.specs.Reading.{names_alone, names_beside, present_layer}
 use Rattle.hir_data.specs.Written as written
 use Rattle.hir_read_back.proofs.Layers.{a_list, a_path, within}
