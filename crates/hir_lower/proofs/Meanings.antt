@@ -27,7 +27,7 @@ use Rattle.hir_one_result.proofs.TreeFaults.{diagnostics_are}
 use Rattle.hir_one_result.proofs.TreeBlocks.{blocks_are}
 use Rattle.hir_one_result.proofs.Fits.{all_fit}
 use Rattle.hir_type_result.proofs.Inside.{expr_inside}
-use Rattle.hir_type_result.proofs.Named.{expr_pats_once, expr_types_once}
+use Rattle.hir_type_result.proofs.Named.{expr_bindings_came, expr_pats_once, expr_types_once}
 use Rattle.hir_lower.specs.Calls.{Outside}
 use Rattle.hir_lower.specs.Roots.{root_of}
 use Rattle.hir_lower.specs.Stays.{Stays}
@@ -143,9 +143,9 @@ rooted_inside e b inner i none_open in_root paired is =
               defined = standing.reaches.defined;
             };
             reached_once = λ depth le. expr_inside e b inner i lowered later ext depth le;
-            types_reached_once = λ depth le more new pats pats_new.
-                expr_types_once e b inner i paired is later ext depth le more new pats pats_new;
+            types_reached_once = expr_types_once e b inner i paired is later ext;
             pats_reached_once = expr_pats_once e b inner i paired is later ext;
+            bindings_came = expr_bindings_came e b inner i paired is;
           };
       grown = record {
         exprs = fits.exprs;

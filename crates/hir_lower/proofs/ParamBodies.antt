@@ -20,9 +20,8 @@ use Rattle.hir_same_meaning.proofs.HeldTree.{top_holds}
 use Rattle.hir_same_meaning.proofs.Holding.{Holds, SameIn, a_pat, each, holds_behind, holds_none, holds_one, inners_in, maybe, none_held}
 use Rattle.hir_same_meaning.proofs.Holding.{same_ids}
 use Rattle.hir_one_result.proofs.AfterLowering.{after_lowering}
-use Rattle.hir_type_result.specs.Inside.{pats_inner_bodies}
 use Rattle.hir_lower.specs.Formals.{Given, each_formal, formals_read, lower_formal, lower_formals, lower_self}
-use Rattle.hir_lower.specs.Means.{tops_bodies}
+use Rattle.hir_lower.specs.Means.{pats_inner_bodies, tops_bodies}
 
 abbrev pub read_bodies : Bool → List Formal → Bodies
 read_bodies skipped fs = tops_bodies (formals_read skipped fs)

@@ -32,12 +32,11 @@ use Rattle.hir_steps.proofs.Steps.{Mark, mark, Rel, Holds, Correct, correct_as, 
 use Rattle.hir_read_back.proofs.PatTree.{PatNow, top_now}
 use Rattle.hir_same_meaning.specs.Reached.{Spread}
 use Rattle.hir_same_meaning.proofs.Holding.{SameIn}
-use Rattle.hir_type_result.specs.Inside.{pats_inner_bodies}
 use Rattle.hir_type_result.specs.Named.{of_exprs, of_pats_alone}
 use Rattle.hir_type_result.specs.Pats.{of_types, pats_reached}
 use Rattle.hir_type_result.specs.Reached.{of_each}
 use Rattle.hir_lower.specs.Formals.{Given, each_formal, formals_read, lower_formal, lower_formals, lower_self}
-use Rattle.hir_lower.specs.Means.{HasParams, owed_faults, receiver_read, unless_skipped}
+use Rattle.hir_lower.specs.Means.{HasParams, owed_faults, pats_inner_bodies, receiver_read, unless_skipped}
 use Rattle.hir_one_result.specs.OneResult.{fresh_owing}
 use Rattle.hir_lower.specs.Roots.{GivenFromNothing, StoresFromNothing, as_written, behind, body_of, fresh}
 use Rattle.hir_lower.specs.declared.body.Body.{Body}

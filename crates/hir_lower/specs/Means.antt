@@ -13,8 +13,6 @@ use Rattle.hir_store.specs.declared.ids.TypeRefId.{TypeRefId}
 use Rattle.hir_store.specs.declared.type_ref.TypeBound.{TypeBound}
 use Rattle.hir_store.specs.declared.type_ref.TypeRef.{TypeRef}
 use Rattle.hir_store.specs.declared.type_ref.TypeRef.TheVariants as ty
-use Rattle.hir_store.specs.declared.hir.Expr.{Expr as HirExpr}
-use Rattle.hir_store.specs.declared.pat.Pat.{Pat as HirPat}
 use Rattle.hir_store.specs.declared.ids.BindingId.{BindingId}
 use Rattle.hir_store.specs.declared.ids.ExprId.{ExprId}
 use Rattle.hir_store.specs.declared.ids.PatId.{PatId}
@@ -41,7 +39,7 @@ use Rattle.hir_data.specs.Reading.{stored_pat, stored_path}
 use Rattle.hir_data.specs.Written.{written_path}
 use Rattle.hir_data.specs.Segments.{PlainTrait, Whole, first_trait, named_segments, segment_name}
 use Rattle.hir_data.specs.Tops.{Tops}
-use Rattle.hir_meaning.specs.Inner.{Bodies, inner_bodies, pat_part_bodies, path_bodies, path_inner_bodies}
+use Rattle.hir_meaning.specs.Inner.{Bodies, all_inners, all_of, pat_part_bodies, path_bodies, path_inner_bodies}
 use Rattle.hir_meaning.specs.Inner.{of_present as of_some}
 use Rattle.hir_meaning.specs.Same.{SameBodies, SameMeaning}
 use Rattle.hir_same_meaning.specs.Reached.{Spread, of_each, reached_to}
@@ -54,9 +52,9 @@ use Rattle.hir_one_result.specs.Leads.{Way}
 use Rattle.hir_one_result.specs.Stands.{StandsPart, WholeWays}
 use Rattle.hir_lower.specs.declared.body.Param.{Param}
 use Rattle.hir_lower.specs.Formals.{formals_read}
-use Rattle.hir_type_result.specs.Inside.{pats_inner_bodies}
-use Rattle.hir_type_result.specs.Named.{of_exprs, of_pats, of_pats_alone, of_types_alone}
-use Rattle.hir_type_result.specs.Pats.{PatsSpread, of_types, pats_reached}
+use Rattle.hir_type_result.specs.Unrun.{unrun_in, unrun_in_path, unrun_in_pats}
+use Rattle.hir_type_result.specs.Named.{TypesSpread, of_exprs, of_pats, of_pats_alone, of_types_alone}
+use Rattle.hir_type_result.specs.Pats.{BindingsCame, PatsSpread, of_types, pats_reached}
 use Rattle.hir_type_result.specs.Roots.{RootsOf}
 use Rattle.hir_type_result.specs.Reached.{of_path, of_present, types_reached}
 use Rattle.hir_type_result.specs.Reached.{of_each as of_all}
@@ -64,9 +62,10 @@ use Rattle.hir_type_result.specs.Reached.{of_each as of_all}
 -- What is so of a root in a later store. Its expression does what the tree does; it stands for the tree, and each expression
 -- that came with it is what a written one became, or a missing one for an absent or disabled part or in front of a tuple with a
 -- leading comma, or what is called for a range; where the source map led by then it leads still, or by the ways of the tree; each
--- label and each binding more is what a written one became, and there are as many; each number that it reaches is reached once, and
--- is one that lowering it gave out, and so is each type that the expressions and patterns reach that came with it, and each pattern
--- that the expressions and types do.
+-- label and each binding more is what a written one became, and there are as many; each number that it reaches, or that one does
+-- which it holds and doesn't run, is reached once, and is one that lowering it gave out, and so is each type that the expressions and
+-- patterns reach that came with it, and each pattern that the expressions and types do. The patterns that came with it make bindings
+-- that came with it.
 pub record Lives (old new later : Stored) (i : ExprId) (e : OptionExpr) : Type 0 where
   pub same : SameMeaning (store_of later) (map_of later) i e
   pub ways : List Way
@@ -74,13 +73,10 @@ pub record Lives (old new later : Stored) (i : ExprId) (e : OptionExpr) : Type 0
   pub reaches : Reaches old new ways
   pub reached_once : (depth : ℕ) → length later.exprs.entries ≤ depth
       → Spread (length old.exprs.entries) (length new.exprs.entries)
-      (of_each (reached_to (store_of later) depth) (i ∷ inner_bodies (store_of later) i))
-  pub types_reached_once : (depth : ℕ) → length later.types.entries ≤ depth
-      → (more : List HirExpr) → new.exprs.entries ≡ old.exprs.entries ++ more
-      → (pats : List HirPat) → new.pats.entries ≡ old.pats.entries ++ pats
-      → let l = of_types_alone (types_reached later.types.entries depth) in
-      Spread (length old.types.entries) (length new.types.entries) (of_exprs l more ++ of_pats l pats)
+      (of_each (reached_to (store_of later) depth) (i ∷ unrun_in (store_of later) i))
+  pub types_reached_once : TypesSpread old new later
   pub pats_reached_once : PatsSpread old new later []
+  pub bindings_came : BindingsCame old new
 
 -- What lowering a root leaves. It is the last of the recorded roots, to which all belongs that was stored since the one before:
 -- as many expressions, labels and bindings as the tree becomes, and patterns, types and lifetimes from just those of its nodes that
@@ -96,15 +92,15 @@ pub record Rooted (old new : Stored) (i : ExprId) (e : OptionExpr) : Type 0 wher
   pub paired : Paired new
   pub mapped : Mapped old → Mapped new
 
--- The one recorded root does what the written body does. It, the bodies inside it and those inside the patterns of its parameters
--- reach each expression in one way only. The expressions and patterns reach each type in one way only.
+-- The one recorded root does what the written body does. It and what it and the patterns of its parameters hold and don't run reach
+-- each expression in one way only. The expressions and patterns reach each type in one way only.
 pub record HasBody (store : Store) (source_map : SourceMap) (params : List PatId) (e : OptionExpr) : Type 0 where
   pub root : ExprRoot
   pub only : store.roots ≡ root ∷ []
   pub same : SameMeaning store source_map root.root e
   pub reached_once : (depth : ℕ) → length store.exprs ≤ depth
       → Spread 0 (length store.exprs)
-      (of_each (reached_to store depth) (pats_inner_bodies store params ++ root.root ∷ inner_bodies store root.root))
+      (of_each (reached_to store depth) (unrun_in_pats store params ++ root.root ∷ unrun_in store root.root))
   pub types_reached_once : (depth : ℕ) → length store.types ≤ depth → let l = of_types_alone (types_reached store.types depth) in
       Spread 0 (length store.types) (of_exprs l store.exprs ++ of_pats l store.pats)
 
@@ -165,7 +161,7 @@ pub record PathRooted (old new : Stored) (r : Option Path) (p : OptionPath) : Ty
   pub pats_reached_once : (later : Stored) → Extends new later → PatsSpread old new later []
   pub inside_reached_once : (later : Stored) → Extends new later → (depth : ℕ) → length later.exprs.entries ≤ depth
       → Spread (length old.exprs.entries) (length new.exprs.entries)
-      (of_each (reached_to (store_of later) depth) (of_some (path_inner_bodies (store_of later)) r))
+      (of_each (reached_to (store_of later) depth) (of_some (unrun_in_path (store_of later)) r))
   pub grown : Grown (whole_size p) old new
   pub paired : Paired new
   pub mapped : Mapped old → Mapped new
@@ -211,6 +207,10 @@ body_owes at owner node body =
 abbrev pub receiver_read : SelfFormal → Option Binding
 receiver_read (tree.self_formal at u) = Some (record { name = u.name; mode = u.mode; hygiene = u.hygiene; problems = None })
 receiver_read _ = None
+
+-- the bodies inside stored patterns
+unfoldable pub pats_inner_bodies : Store → List PatId → List ExprId
+pats_inner_bodies store ps = all_of (all_inners store).pat ps
 
 -- the bodies inside written patterns
 abbrev pub tops_bodies : Tops → Bodies

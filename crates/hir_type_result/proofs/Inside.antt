@@ -37,7 +37,7 @@ use Rattle.hir_lower_form.specs.Lower.{lower_top, lower_pat, pat_part, present_p
 use Rattle.hir_lower_form.specs.Lower.{lower_later, lower_pat_fields, lower_pat_field, lower_side, lower_type_pat_part, lower_type_pat}
 use Rattle.hir_lower_form.specs.Lower.{lower_type_pats, lower_limit, limit_side, lower_target, lower_targets, lower_target_fields}
 use Rattle.hir_lower_form.specs.Lower.{lower_target_field, push_some}
-use Rattle.hir_meaning.specs.Inner.{inners, inner_bodies, of_bound, of_present, path_inner_bodies, type_inner_bodies}
+use Rattle.hir_meaning.specs.Inner.{of_bound, of_present}
 use Rattle.hir_steps.specs.Keeps.{Paired}
 use Rattle.hir_steps.proofs.Steps.{Correct, correct_in_store, correct_report}
 use Rattle.hir_steps.proofs.PatAny.{settle_any}
@@ -45,6 +45,7 @@ use Rattle.hir_steps.proofs.TypeAny.{lifetime_any, uses_any}
 use Rattle.hir_one_result.proofs.AfterLowering.{after_lowering}
 use Rattle.hir_same_meaning.specs.Reached.{of_each, reached_to, Spread}
 use Rattle.hir_type_result.specs.Inside.{InsideReachedOnce, TypeInsideReachedOnce, PathInsideReachedOnce}
+use Rattle.hir_type_result.specs.Unrun.{unruns, unrun_in, unrun_in_path, unrun_in_type}
 use Rattle.hir_type_result.proofs.Meaning.{held_deep}
 use Rattle.hir_type_result.proofs.Counted.{times, times_append, counted_spread}
 use Rattle.hir_type_result.proofs.Weighed.{Cost, view, free, an_expr, a_type, a_type_pat, a_pat, a_limit, a_target, a_constant, sum}
@@ -442,23 +443,23 @@ inside_once h b b' a paired is final stays depth le list less =
     let w = weighed (reached_to (store_of final) depth) k list in omega arith)
 
 pub expr_inside : InsideReachedOnce
-unfolding inner_bodies
+unfolding unrun_in
 expr_inside e b b' i l final stays depth le =
-    inside_once (body_adds e) b b' i l.paired l.is final stays depth le (i ∷ inner_bodies (store_of final) i) (λ k. omega arith)
+    inside_once (body_adds e) b b' i l.paired l.is final stays depth le (i ∷ unrun_in (store_of final) i) (λ k. omega arith)
 
 pub type_inside : TypeInsideReachedOnce
-unfolding type_inner_bodies
+unfolding unrun_in_type
 type_inside binder t b b' i paired is final stays depth le =
-    inside_once (part_adds binder t) b b' i paired is final stays depth le (type_inner_bodies (store_of final) i) (λ k. omega arith)
+    inside_once (part_adds binder t) b b' i paired is final stays depth le (unrun_in_type (store_of final) i) (λ k. omega arith)
 
 held_path : (final : Stored) (r : Option Path) (k : ExprId → ℕ)
-    → sum k (of_present (path_inner_bodies (store_of final)) r)
-    ≤ weights.in_path k (inners (store_of final) (held_deep final)) r
-unfolding path_inner_bodies
+    → sum k (of_present (unrun_in_path (store_of final)) r)
+    ≤ weights.in_path k (unruns (store_of final) (held_deep final)) r
+unfolding unrun_in_path
 held_path final None k = omega arith
 held_path final (Some p) k = omega arith
 
 pub path_inside : PathInsideReachedOnce
 path_inside p b b' r paired is final stays depth le =
-    inside_once (path_adds p) b b' r paired is final stays depth le (of_present (path_inner_bodies (store_of final)) r)
+    inside_once (path_adds p) b b' r paired is final stays depth le (of_present (unrun_in_path (store_of final)) r)
     (λ k. held_path final r (λ i. times k (reached_to (store_of final) depth i)))

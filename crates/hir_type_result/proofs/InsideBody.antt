@@ -7,11 +7,12 @@ use Rattle.hir_env.specs.Answered as tree
 use Rattle.hir_env.specs.Answered.{Formal, Formals, OptionExpr, SelfFormal}
 use Rattle.hir_lower_form.specs.Forms.{some}
 use Rattle.hir_lower_form.specs.Lowering.{Lowering}
-use Rattle.hir_meaning.specs.Inner.{all_of, inner_bodies}
+use Rattle.hir_meaning.specs.Inner.{all_of}
 use Rattle.hir_steps.proofs.PatSteps.{correct_alloc_binding}
 use Rattle.hir_steps.proofs.Steps.{Correct, correct_report}
 use Rattle.hir_one_result.specs.Formals.{Given, each_formal, lower_body, lower_formal, lower_formals, lower_self}
-use Rattle.hir_type_result.specs.Inside.{BodyInsideReachedOnce, pats_inner_bodies}
+use Rattle.hir_type_result.specs.Inside.{BodyInsideReachedOnce}
+use Rattle.hir_type_result.specs.Unrun.{unrun_in, unrun_in_pats}
 use Rattle.hir_type_result.proofs.Meaning.{held_deep}
 use Rattle.hir_type_result.proofs.Weighed.{View, Cost, Adds, view, free, beside, an_expr, a_pat, sum, sum_append}
 use Rattle.hir_type_result.proofs.Weighed.{adds_any, adds_beside, adds_pure, adds_then}
@@ -60,10 +61,10 @@ pats_are (p ∷ ps) v =
     let r = pats_are ps v in omega arith
 
 pub body_inside : BodyInsideReachedOnce
-unfolding inner_bodies pats_inner_bodies
+unfolding unrun_in unrun_in_pats
 body_inside skipped f e b b' g i paired is final stays depth le =
     let s = store_of final in
-    inside_once (whole_adds skipped f e) b b' (g, i) paired is final stays depth le (pats_inner_bodies s g.1 ++ i ∷ inner_bodies s i) (λ k.
+    inside_once (whole_adds skipped f e) b b' (g, i) paired is final stays depth le (unrun_in_pats s g.1 ++ i ∷ unrun_in s i) (λ k.
     let v = view final depth k depth (held_deep final) (length final.pats.entries) in
     let x = sum_append v.weight (all_of v.held.pat g.1) (i ∷ v.held.expr i) in
     let y = pats_are g.1 v in omega arith)

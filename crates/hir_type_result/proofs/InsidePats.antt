@@ -3,6 +3,7 @@ use Rattle.std.proofs.Common.{◌≡◌, refl, ℕ, ◌+◌, ◌≤◌, Bool, tr
 use Rattle.hir_base.specs.declared.op.RangeOp.{RangeOp}
 use Rattle.hir_base.specs.declared.op.RangeOp.TheVariants as op
 use Rattle.hir_store.specs.Pointers.{Pointer}
+use Rattle.hir_store.specs.Stored.{Stored}
 use Rattle.hir_store.specs.declared.hir.Expr.TheVariants as hir
 use Rattle.hir_store.specs.declared.hir.MatchArm.{MatchArm}
 use Rattle.hir_store.specs.declared.hir.RecordSpread.TheVariants as spread
@@ -33,8 +34,8 @@ use Rattle.hir_same_meaning.specs.Reached.{of_arms, of_some}
 use Rattle.hir_type_result.proofs.Counted.{times, times_append}
 use Rattle.hir_type_result.proofs.Weights as weights
 use Rattle.hir_type_result.proofs.Weighed.{View, Cost, free, beside, an_expr, a_limit, a_pat, a_type_pat, in_expr, in_pat}
-use Rattle.hir_type_result.proofs.Weighed.{in_type_pat, sum, sum_append, Adds, adds_pure, adds_then, adds_beside, adds_any}
-use Rattle.hir_type_result.proofs.Weighed.{adds_from, adds_expr, adds_pat, adds_type_pat}
+use Rattle.hir_type_result.proofs.Weighed.{in_type_pat, view, sum, sum_append, Adds, adds_pure, adds_then, adds_beside, adds_any}
+use Rattle.hir_type_result.proofs.Weighed.{adds_aside, adds_from, adds_expr, adds_pat, adds_type_pat}
 use Rattle.hir_type_result.proofs.InsideTypes.{maybe_path, maybe_type}
 use Rattle.hir_type_result.proofs.InsideForms.{maybe, each, a_field, a_statement, both, maybe_is, first_less}
 use Rattle.hir_type_result.proofs.InsideForms as of_exprs
@@ -132,14 +133,27 @@ path_pat : (o : Option HirPath) (v : View) → in_pat (forms.path_pat_of o) v �
 path_pat None v = omega arith
 path_pat (Some p) v = omega arith
 
--- the ends are data, but hold what is in their paths
+-- a side is held
+side_is : (o : Option ExprId) (v : View) → sum v.weight (of_present (of_limit v.held) o) ≡ maybe a_limit o v
+side_is None v = refl
+side_is (Some e) v = refl
+
 range_pat : (o : Option RangeOp) (s e : Option ExprId) (v : View)
-    → in_pat (forms.stored_range o s e) v ≤ maybe an_expr s v + maybe an_expr e v
+    → in_pat (forms.stored_range o s e) v ≤ maybe a_limit s v + maybe a_limit e v
 range_pat None s e v = omega arith
 range_pat (Some o) s e v =
-    let x = sum_append v.weight (of_present v.held.expr s) (of_present v.held.expr e) in
-    let y = maybe_is s v in
-    let z = maybe_is e v in omega arith
+    let x = sum_append v.weight (of_present (of_limit v.held) s) (of_present (of_limit v.held) e) in
+    let y = side_is s v in
+    let z = side_is e v in omega arith
+
+literal_aside : (e : ExprId) (final : Stored) (all number reach hold place : ℕ)
+    → a_limit e (view final all number reach hold place) ≤ an_expr e (view final all number all hold place)
+literal_aside e final all number reach hold place = omega arith
+
+side_aside : (o : Option ExprId) (final : Stored) (all number reach hold place : ℕ)
+    → maybe a_limit o (view final all number reach hold place) ≤ maybe an_expr o (view final all number all hold place)
+side_aside None final all number reach hold place = omega arith
+side_aside (Some e) final all number reach hold place = literal_aside e final all number reach hold place
 
 tuple_struct_less : (p : HirPath) (dots : Option ℕ) (is : List PatId) (v : View)
     → in_pat (pat.TupleStruct p dots is) v ≤ maybe_path (Some p) v + pats is v
@@ -231,7 +245,8 @@ module _ (at : Pointer) where
 
   pub literal_pat_adds : (own : Option Pointer) (s : Signed) → Correct (forms.literal_pat_form at own s) (Adds free a_pat)
   unfolding forms.literal_pat_form
-  literal_pat_adds own s = adds_then (adds_any (correct_alloc _ _)) (λ e. adds_pat (pat.Lit e) (Some at) (λ v. omega arith))
+  literal_pat_adds own s = adds_then (adds_aside literal_aside (adds_expr _ _ (λ v. omega arith)))
+      (λ e. adds_pat (pat.Lit e) (Some at) (λ v. omega arith))
 
   pub literal_side_adds : (s : Signed) → Correct (forms.literal_side_form at s) (Adds free (maybe an_expr))
   unfolding forms.literal_side_form
@@ -253,7 +268,7 @@ module _ (at : Pointer) where
   pub range_pat_adds : (o : Option RangeOp) {s e : Lowering (Option ExprId)} → Correct s (Adds free (maybe an_expr))
       → Correct e (Adds free (maybe an_expr)) → Correct (forms.range_pat_form at o s e) (Adds free a_pat)
   unfolding forms.range_pat_form
-  range_pat_adds o hs he = adds_then hs (λ s. adds_then (adds_beside (maybe an_expr s) he)
+  range_pat_adds o hs he = adds_then (adds_aside side_aside hs) (λ s. adds_then (adds_beside (maybe a_limit s) (adds_aside side_aside he))
       (λ e. adds_pat _ (Some at) (range_pat o s e)))
 
   -- ---- patterns of types

@@ -24,7 +24,7 @@ use Rattle.hir_same_meaning.specs.Reached.{Between, Spread}
 use Rattle.hir_store.proofs.Extending.{extends_refl}
 use Rattle.hir_type_result.specs.Reached.{of_each, types_reached, TypesReachedOnce}
 use Rattle.hir_type_result.specs.Named.{Look, of_types_alone, of_pats_alone, of_bindings_alone, of_expr, of_exprs, of_pat, of_pats}
-use Rattle.hir_type_result.specs.Named.{ExprTypesReachedOnce, PathTypesReachedOnce}
+use Rattle.hir_type_result.specs.Named.{TypesSpread, ExprTypesReachedOnce, PathTypesReachedOnce}
 use Rattle.hir_type_result.specs.Pats.{of_type, of_types, pats_reached, PatsSpread, ExprPatsReachedOnce, TypePatsReachedOnce}
 use Rattle.hir_type_result.specs.Pats.{PathPatsReachedOnce, BodyPatsReachedOnce, BindingsCame, ExprBindingsCame, TypeBindingsCame}
 use Rattle.hir_type_result.specs.Pats.{PathBindingsCame, BodyBindingsCame}
@@ -65,22 +65,28 @@ none_held f (t ∷ ts) k =
     let y = no_pats_named f t k in
     let z = none_held f ts k in omega arith
 
+-- what came where the answer names nothing
+module _ {A : Type 0} {p : Lowering A} (h : Correct p Quiet) (b b' : Builder) (a : A) (paired : Paired b.stored)
+    (is : p b ≡ (Ok a, b')) (final : Stored) (stays : Extends b'.stored final) where
+  pub types_came : TypesSpread b.stored b'.stored final
+  types_came depth le more new more_pats new_pats =
+      let r = after_lowering (correct_in_store h) b a b' paired is final stays in
+      let n = r.types in
+      let f = types_reached final.types.entries depth in
+      let l = of_types_alone f in
+      let x = r.rel.earlier the_types depth depth (omega arith) (omega arith) in
+      counted_spread _ _ _ (λ k.
+      let c = x.counted k in
+      let e = each_append (of_expr l) b.stored.exprs.entries more k in
+      let s = ap (λ xs. times k (of_exprs l xs)) new in
+      let e' = each_append (of_pat l) b.stored.pats.entries more_pats k in
+      let s' = ap (λ xs. times k (of_pats l xs)) new_pats in
+      let z = none_held f b.stored.types.entries k in
+      let z' = none_held f b'.stored.types.entries k in
+      let w = times_append k (of_exprs l more) (of_pats l more_pats) in omega arith)
+
 pub expr_types_once : ExprTypesReachedOnce
-expr_types_once e b b' i paired is final stays depth le more new more_pats new_pats =
-    let r = after_lowering (correct_in_store (part_quiet e)) b i b' paired is final stays in
-    let n = r.types in
-    let f = types_reached final.types.entries depth in
-    let l = of_types_alone f in
-    let x = r.rel.earlier the_types depth depth (omega arith) (omega arith) in
-    counted_spread _ _ _ (λ k.
-    let c = x.counted k in
-    let a = each_append (of_expr l) b.stored.exprs.entries more k in
-    let s = ap (λ xs. times k (of_exprs l xs)) new in
-    let a' = each_append (of_pat l) b.stored.pats.entries more_pats k in
-    let s' = ap (λ xs. times k (of_pats l xs)) new_pats in
-    let z = none_held f b.stored.types.entries k in
-    let z' = none_held f b'.stored.types.entries k in
-    let w = times_append k (of_exprs l more) (of_pats l more_pats) in omega arith)
+expr_types_once e b b' i paired is final stays = types_came (part_quiet e) b b' i paired is final stays
 
 -- ---- patterns
 
@@ -178,7 +184,7 @@ each_came lo hi final old (p ∷ ps) more n is at h =
 
 module _ {A : Type 0} {now : A → Numbers} {p : Lowering A} (h : Correct p (Adds none now)) (b b' : Builder) (a : A)
     (paired : Paired b.stored) (is : p b ≡ (Ok a, b')) where
-  bindings_came : BindingsCame b.stored b'.stored
+  pub bindings_came : BindingsCame b.stored b'.stored
   bindings_came ps new =
       let r = after_lowering h b a b' paired is b'.stored (extends_refl b'.stored) in
       let x = r.bound (length b.stored.bindings.entries) (omega arith) tt tt in

@@ -1,6 +1,7 @@
 -- Steps by the bodies inside that they record as roots, where no root is being lowered.
 use Rattle.std.proofs.Common.{◌≡◌, ◌∙◌, refl, sym, ap, subst, arith, ℕ, ◌+◌, ◌≤◌, length, Bool, true, false, true≢false, List, [], ◌∷◌}
-use Rattle.std.proofs.Common.{◌++◌, append_assoc, append-nil, length-append, slice_get, Option, Some, None, Ok, Err}
+use Rattle.std.proofs.Common.{◌++◌, append_assoc, append-nil, Ok, Err}
+use Rattle.std.specs.Prelude.{slice_range}
 use Rattle.hir_store.specs.Arenas.{Prefix}
 use Rattle.hir_store.specs.Pointers.{Pointer}
 use Rattle.hir_store.specs.Stored.{Store, SourceMap, Stored, store_of, map_of}
@@ -38,19 +39,17 @@ use Rattle.hir_one_result.specs.Stands.{Open}
 use Rattle.hir_one_result.proofs.AfterLowering.{after_lowering}
 use Rattle.hir_one_result.proofs.Tellings.{Told, Tells}
 use Rattle.hir_scope.specs.Each.{Each}
-use Rattle.hir_same_meaning.specs.Reached.{Between, Spread, reached_to}
-use Rattle.hir_same_meaning.proofs.Spread.{spread_wider}
-use Rattle.hir_type_result.specs.Named.{of_expr, of_exprs, of_pats_alone}
+use Rattle.hir_same_meaning.specs.Reached.{Between, Spread, of_each, reached_to}
+use Rattle.hir_type_result.specs.Named.{of_bindings_alone, of_exprs, of_pats, of_pats_alone, of_types_alone}
 use Rattle.hir_type_result.specs.Pats.{of_types, pats_reached}
-use Rattle.hir_type_result.specs.Roots.{Ends, ends_now, ends_of, Further, RootIs, RootsAre, RootsOf, SameInner, last_end, pats_of_exprs}
-use Rattle.hir_type_result.specs.Roots.{bindings_of_found, bindings_of_pats}
-use Rattle.hir_type_result.specs.Roots.{pats_of_found}
-use Rattle.hir_type_result.proofs.Adding.{Made, Quiet, both}
-use Rattle.hir_type_result.proofs.Counted.{times, times_append, counted_spread}
+use Rattle.hir_type_result.specs.Reached.{types_reached}
+use Rattle.hir_type_result.specs.Roots.{Ends, ends_now, ends_of, Further, RootIs, RootsAre, RootsOf, SameInner, last_end}
+use Rattle.hir_type_result.specs.Unrun.{unrun_in}
+use Rattle.hir_type_result.proofs.Adding.{Quiet}
 use Rattle.hir_type_result.proofs.Inside.{constant_adds, inside_once, limit_adds}
 use Rattle.hir_type_result.proofs.Meaning.{constant_means, limit_means}
-use Rattle.hir_type_result.proofs.Named.{pats_counted}
-use Rattle.hir_type_result.proofs.Ranges.{found_between, in_range, times_total}
+use Rattle.hir_type_result.proofs.Named.{bindings_came, pats_once, types_came}
+use Rattle.hir_type_result.proofs.Ranges.{came_between}
 use Rattle.hir_type_result.proofs.RootStands.{contents, contents_any, rooted, root_settles}
 use Rattle.hir_type_result.proofs.TreeNamed.{constant_quiet, limit_quiet}
 
@@ -89,21 +88,20 @@ pub record Notes {A : Type 0} (es : Bodies) (p : Lowering A) : Type 0 where
 
 -- ---- one after another
 
-lower : (lo lo' hi : ℕ) (ks : List ℕ) → lo ≤ lo' → Each (Between lo' hi) ks → Each (Between lo hi) ks
-lower lo lo' hi [] le h = tt
-lower lo lo' hi (k ∷ ks) le h = let a : lo' ≤ k = h.0.0 in ((omega (arith, le, a), h.0.1), lower lo lo' hi ks le h.1)
-
--- what begins later begins earlier too
+-- what stands behind the one also stands behind what was before that
 root_earlier : {store : Store} {source_map : SourceMap} {around : Open} (lo hi : Ends) (r : ExprRoot) (x : InnerBody) → Further lo hi
     → RootIs store source_map around hi r x → RootIs store source_map around lo r x
 root_earlier lo hi r x le h = record {
   same = h.same;
   ways = h.ways;
   stands = h.stands;
-  goes_on = further_trans le h.goes_on;
-  reached_once = λ depth d. spread_wider lo.exprs r.exprs_end.0 le.exprs (omega arith) (h.reached_once depth d);
-  pats_reached_once = λ depth deep d d'. spread_wider lo.pats r.pats_end.0 le.pats (omega arith) (h.pats_reached_once depth deep d d');
-  bindings_reached = λ depth deep d d'. lower lo.bindings hi.bindings r.bindings_end.0 _ le.bindings (h.bindings_reached depth deep d d');
+  came = h.came;
+  behind = further_trans le h.behind;
+  goes_on = h.goes_on;
+  reached_once = h.reached_once;
+  pats_reached_once = h.pats_reached_once;
+  types_reached_once = h.types_reached_once;
+  bindings_came = h.bindings_came;
 }
 
 roots_earlier : (store : Store) (source_map : SourceMap) (around : Open) (lo hi : Ends) (rs : List ExprRoot) (es : Bodies) → Further lo hi
@@ -246,90 +244,56 @@ notes_count_out = record { notes = λ b. tt }
 
 -- ---- bodies inside
 
+-- the expressions, types and patterns that came with it
+
+abbrev came_exprs : Stored → Stored → Stored → List HirExpr
+came_exprs old new later = slice_range later.exprs.entries (length old.exprs.entries) (length new.exprs.entries)
+
+abbrev came_types : Stored → Stored → Stored → List TypeRef
+came_types old new later = slice_range later.types.entries (length old.types.entries) (length new.types.entries)
+
+abbrev came_pats : Stored → Stored → Stored → List Pat
+came_pats old new later = slice_range later.pats.entries (length old.pats.entries) (length new.pats.entries)
+
 -- what is so of a body inside by what its lowering stored
-record Facts (x : InnerBody) (b c : Builder) (i : ExprId) (later : Stored) : Type 0 where
+record Facts (x : InnerBody) (old new : Stored) (i : ExprId) (later : Stored) : Type 0 where
   same : SameInner (store_of later) (map_of later) i x
   reached_once : (depth : ℕ) → length later.exprs.entries ≤ depth
-      → Spread (length b.stored.exprs.entries) (length c.stored.exprs.entries) (reached_to (store_of later) depth i)
-  pats_reached_once : (depth deep : ℕ) → length later.exprs.entries ≤ depth → length later.pats.entries ≤ deep
-      → Spread (length b.stored.pats.entries) (length c.stored.pats.entries)
-      (pats_of_exprs (store_of later) deep (reached_to (store_of later) depth i))
-  bindings_reached : (depth deep : ℕ) → length later.exprs.entries ≤ depth → length later.pats.entries ≤ deep
-      → Each (Between (length b.stored.bindings.entries) (length c.stored.bindings.entries))
-      (bindings_of_pats (store_of later) (pats_of_exprs (store_of later) deep (reached_to (store_of later) depth i)))
-
--- patterns that came make bindings that came
-bindings_made : (lo : ℕ) (final : Stored) (m m' : Mark) → Made lo final m m' → (ns : List ℕ)
-    → Each (Between (length m.stored.pats.entries) (length m'.stored.pats.entries)) ns
-    → Each (Between lo m'.bindings) (bindings_of_pats (store_of final) ns)
-bindings_made lo final m m' made [] h = tt
-bindings_made lo final m m' made (n ∷ ns) h =
-    both (Between lo m'.bindings) (bindings_of_found (slice_get final.pats.entries n)) (bindings_of_pats (store_of final) ns)
-    (by (slice_get final.pats.entries n) refl) (bindings_made lo final m m' made ns h.1)
-  where
-    by : (o : Option Pat) → slice_get final.pats.entries n ≡ o → Each (Between lo m'.bindings) (bindings_of_found o)
-    by None e = tt
-    by (Some p) e = made n p h.0.0 h.0.1 e
-
--- of expressions that came, each reached once, no pattern is reached more often than of all that came
-reached_pats : (a b later : Stored) (es more : List HirExpr) → b.exprs.entries ≡ a.exprs.entries ++ es
-    → later.exprs.entries ≡ b.exprs.entries ++ more → (deep k : ℕ) (ns : List ℕ)
-    → Spread (length a.exprs.entries) (length b.exprs.entries) ns
-    → times k (pats_of_exprs (store_of later) deep ns) ≤ times k (of_exprs (of_pats_alone (pats_reached later.pats.entries deep)) es)
-reached_pats a b later es more new behind deep k ns spread =
-    let l = of_pats_alone (pats_reached later.pats.entries deep) in
-    let n = ap length new in
-    let n' = length-append a.exprs.entries es in
-    let x = times_total k (λ n. pats_of_found (store_of later) deep (slice_get later.exprs.entries n)) ns in
-    let y = times_total k (of_expr l) es in
-    let z = in_range (λ e. times k (of_expr l e)) (λ n. times k (pats_of_found (store_of later) deep (slice_get later.exprs.entries n)))
-    es (length a.exprs.entries) (length b.exprs.entries) ns (omega (arith, n, n')) found spread.within spread.distinct in
-    omega (arith, x, y, z)
-  where
-    all : later.exprs.entries ≡ (a.exprs.entries ++ es) ++ more
-    all = behind ∙ ap (λ xs. xs ++ more) new
-
-    found : (n m : ℕ) (e : HirExpr) → n ≡ length a.exprs.entries + m → slice_get es m ≡ Some e
-        → times k (pats_of_found (store_of later) deep (slice_get later.exprs.entries n))
-        ≤ times k (of_expr (of_pats_alone (pats_reached later.pats.entries deep)) e)
-    found n m e at is =
-        let here : slice_get later.exprs.entries n ≡ Some e =
-        ap (λ xs. slice_get xs n) all ∙ found_between a.exprs.entries es more n m e at is in
-        rw here (omega arith)
-
--- one expression alone
-one_spread : {lo hi : ℕ} {ks : List ℕ} → Spread lo hi (ks ++ []) → Spread lo hi ks
-one_spread {lo = lo} {hi = hi} {ks = ks} h = subst (Spread lo hi) (append-nil ks) h
+      → Spread (length old.exprs.entries) (length new.exprs.entries)
+      (of_each (reached_to (store_of later) depth) (i ∷ unrun_in (store_of later) i))
+  pats_reached_once : (depth : ℕ) → length later.pats.entries ≤ depth
+      → let l = of_pats_alone (pats_reached later.pats.entries depth) in
+      Spread (length old.pats.entries) (length new.pats.entries)
+      (of_exprs l (came_exprs old new later) ++ of_types l (came_types old new later))
+  types_reached_once : (depth : ℕ) → length later.types.entries ≤ depth
+      → let l = of_types_alone (types_reached later.types.entries depth) in
+      Spread (length old.types.entries) (length new.types.entries)
+      (of_exprs l (came_exprs old new later) ++ of_pats l (came_pats old new later))
+  bindings_came : Each (Between (length old.bindings.entries) (length new.bindings.entries))
+      (of_pats of_bindings_alone (came_pats old new later))
 
 module _ {A : Type 0} {p : Lowering A} (x : InnerBody) (b c : Builder) (a : A) (i : ExprId) (paired : Paired b.stored)
     (is : p b ≡ (Ok a, c)) (later : Stored) (stays : Extends c.stored later) where
   facts_of : Correct p Quiet → Keeps b (Ok a) c → SameInner (store_of later) (map_of later) i x
       → ((depth : ℕ) → length later.exprs.entries ≤ depth
-      → Spread (length b.stored.exprs.entries) (length c.stored.exprs.entries) (reached_to (store_of later) depth i))
-      → Facts x b c i later
+      → Spread (length b.stored.exprs.entries) (length c.stored.exprs.entries)
+      (of_each (reached_to (store_of later) depth) (i ∷ unrun_in (store_of later) i)))
+      → Facts x b.stored c.stored i later
   facts_of quiet kept same once =
       let es = kept.stays.exprs.entries in
       let ts = kept.stays.types.entries in
-      let behind = stays.exprs.entries in
-      let row = after_lowering quiet b a c paired is later stays in
-      let pats : (depth deep : ℕ) → length later.exprs.entries ≤ depth → length later.pats.entries ≤ deep
-      → Spread (length b.stored.pats.entries) (length c.stored.pats.entries)
-      (pats_of_exprs (store_of later) deep (reached_to (store_of later) depth i)) =
-      λ depth deep le le'. counted_spread _ _ _ (λ k.
-      let u = pats_counted (λ a. []) quiet (λ a l k. omega arith) b c a paired is later stays deep le' es.more es.is ts.more ts.is k
-      in
-      let v = reached_pats b.stored c.stored later es.more behind.more es.is behind.is deep k
-      (reached_to (store_of later) depth i) (once depth le) in
-      let l = of_pats_alone (pats_reached later.pats.entries deep) in
-      let w = times_append k (of_exprs l es.more) (of_types l ts.more) in omega (arith, u, v, w)) in
+      let ps = kept.stays.pats.entries in
+      let exprs = came_between _ es.more stays.exprs.entries.more _ _ es.is stays.exprs.entries.is in
+      let types = came_between _ ts.more stays.types.entries.more _ _ ts.is stays.types.entries.is in
+      let pats = came_between _ ps.more stays.pats.entries.more _ _ ps.is stays.pats.entries.is in
       record {
         same = same;
         reached_once = once;
-        pats_reached_once = pats;
-        bindings_reached = λ depth deep le le'.
-            let x = row.bound (length b.stored.bindings.entries) (omega arith) tt tt in
-            bindings_made (length b.stored.bindings.entries) later (mark b) (mark c) x.made
-            (pats_of_exprs (store_of later) deep (reached_to (store_of later) depth i)) (pats depth deep le le').within;
+        pats_reached_once = λ depth le. rw (exprs, types)
+            (pats_once (λ a. []) quiet (λ a l k. omega arith) b c a paired is later stays depth le es.more es.is ts.more ts.is);
+        types_reached_once = λ depth le. rw (exprs, pats)
+            (types_came quiet b c a paired is later stays depth le es.more es.is ps.more ps.is);
+        bindings_came = rw pats (bindings_came quiet b c a paired is ps.more ps.is);
       }
 
 -- behind the barrier, in a root
@@ -345,7 +309,7 @@ module _ {A : Type 0} (make : ExprId → A) (x : InnerBody) where
 
   notes_behind : Correct (contents x) Any → Correct behind Any
       → ((b c : Builder) (i : ExprId) → Paired b.stored → behind b ≡ (Ok (make i), c) → (later : Stored) → Extends c.stored later
-      → Facts x b c i later) → Notes (x ∷ []) behind
+      → Facts x b.stored c.stored i later) → Notes (x ∷ []) behind
   unfolding open_barrier enter_root close leave_root outside_root record_root storing.record_root
   notes_behind any_inside any_all facts = record {
     notes = λ b. by b b.in_root refl (contents x (entered b)).0 (contents x (entered b)).1 refl (kept_by any_inside (entered b))
@@ -355,7 +319,7 @@ module _ {A : Type 0} (make : ExprId → A) (x : InnerBody) where
       by : (b : Builder) (outer : Bool) → b.in_root ≡ outer → (o : Checked ExprId) (c : Builder) → contents x (entered b) ≡ (o, c)
           → Keeps (entered b) o c → Keeps b (go_on o c (leaving outer)).0 (go_on o c (leaving outer)).1
           → ((d : Builder) (i : ExprId) → Paired b.stored → go_on o c (leaving outer) ≡ (Ok (make i), d) → (later : Stored)
-          → Extends d.stored later → Facts x b d i later)
+          → Extends d.stored later → Facts x b.stored d.stored i later)
           → Noted (x ∷ []) b (go_on o c (leaving outer)).0 (go_on o c (leaving outer)).1
       by b true in' (Ok i) c is inner kept facts = record {
         kept = kept;
@@ -376,10 +340,17 @@ module _ {A : Type 0} (make : ExprId → A) (x : InnerBody) where
                   same = f.same;
                   ways = shown.ways;
                   stands = shown.stands;
+                  came = record {
+                    from = ends_now b.stored;
+                    types_from = length b.stored.types.entries;
+                    types_to = length c.stored.types.entries;
+                  };
+                  behind = further_refl (ends_now b.stored);
                   goes_on = goes_on;
                   reached_once = f.reached_once;
                   pats_reached_once = f.pats_reached_once;
-                  bindings_reached = f.bindings_reached;
+                  types_reached_once = f.types_reached_once;
+                  bindings_came = f.bindings_came;
                 } in
                 record {
                   roots = root ∷ [];
@@ -391,7 +362,7 @@ module _ {A : Type 0} (make : ExprId → A) (x : InnerBody) where
       by b outer in' (Err f) c is inner kept facts = tt
 
 pub notes_constant : (e : OptionExpr) → Notes (constant_body e ∷ []) (constant_form (lower_part e))
-unfolding constant_form
+unfolding constant_form unrun_in
 notes_constant e =
     let inside = contents_any (constant_body e) in
     let all = any (correct_constant inside) in
@@ -400,15 +371,16 @@ notes_constant e =
     facts_of (constant_body e) b c x i paired is later stays (constant_quiet (tree.constant e))
     (subst (λ r. Keeps b r.0 r.1) is (kept_by all b))
     (constant_means e (frames b.scopes) b c x (ribs_frames b.scopes) paired is later stays)
-    (λ depth le. one_spread
-    (inside_once (constant_adds (tree.constant e)) b c x paired is later stays depth le (i ∷ []) (λ k. omega arith))))
+    (λ depth le. inside_once (constant_adds (tree.constant e)) b c x paired is later stays depth le
+    (i ∷ unrun_in (store_of later) i) (λ k. omega arith)))
 
 limit_facts : (l : Limit) (b c : Builder) (i : ExprId) → Paired b.stored → lower_limit l b ≡ (Ok i, c) → Keeps b (Ok i) c
-    → (later : Stored) → Extends c.stored later → Facts (limit_body l) b c i later
+    → (later : Stored) → Extends c.stored later → Facts (limit_body l) b.stored c.stored i later
+unfolding unrun_in
 limit_facts l b c i paired is kept later stays =
     facts_of (limit_body l) b c i i paired is later stays (limit_quiet l) kept
     (limit_means l (frames b.scopes) b c i (ribs_frames b.scopes) paired is later stays)
-    (λ depth le. one_spread (inside_once (limit_adds l) b c i paired is later stays depth le (i ∷ []) (λ k. omega arith)))
+    (λ depth le. inside_once (limit_adds l) b c i paired is later stays depth le (i ∷ unrun_in (store_of later) i) (λ k. omega arith))
 
 limit_notes : (l : Limit) → lower_limit l ≡ inner_form (contents (limit_body l))
     → Notes (limit_body l ∷ []) (inner_form (contents (limit_body l)))

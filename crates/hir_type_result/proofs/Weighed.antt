@@ -14,7 +14,7 @@ use Rattle.hir_env.specs.Answered.{Label}
 use Rattle.hir_lower_form.specs.Lowering.{Lowering, ◌>>=◌, pure, alloc_expr, alloc_pat, alloc_type, open_label, close}
 use Rattle.hir_lower_form.specs.Lower.{ExprSteps, constant_form}
 use Rattle.hir_lower_form.specs.Ranges.{inner_form}
-use Rattle.hir_meaning.specs.Inner.{Inners, inners, of_type, of_expr, of_constant, of_limit, of_pat, of_type_pat}
+use Rattle.hir_meaning.specs.Inner.{Inners, of_type, of_expr, of_constant, of_limit, of_type_pat}
 use Rattle.hir_meaning.specs.Places.{places_in, places_to}
 use Rattle.hir_steps.proofs.Constants.{correct_constant, correct_inner}
 use Rattle.hir_steps.proofs.Frames.{Frame, rib, ribs}
@@ -22,6 +22,7 @@ use Rattle.hir_steps.proofs.PatSteps.{correct_alloc_pat}
 use Rattle.hir_steps.proofs.Steps.{Mark, Grows, Rel, Correct, correct_bind, correct_as, correct_in_store, correct_pure, correct_alloc}
 use Rattle.hir_steps.proofs.Steps.{correct_alloc_type, correct_opened, with_label}
 use Rattle.hir_same_meaning.specs.Reached.{below, of_each, reached_to}
+use Rattle.hir_type_result.specs.Unrun.{unrun_of_pat, unruns}
 use Rattle.hir_type_result.proofs.Counted.{times, less, one_past, less_grows}
 use Rattle.hir_type_result.proofs.Adding.{linked}
 
@@ -52,7 +53,7 @@ view final all number reach hold place = record {
   number = number;
   reach = reached_to (store_of final) reach;
   weight = λ i. times number (reached_to (store_of final) all i);
-  held = inners (store_of final) hold;
+  held = unruns (store_of final) hold;
   place = place;
 }
 
@@ -179,6 +180,22 @@ adds_any h = correct_as h (λ final ps m m' a g row. record {
       still_deep reach hold place g d (let e = less_grows number m.nodes m'.nodes g.nodes in omega arith);
 })
 
+-- An expression that is held and not run costs what it reaches by itself.
+pub adds_aside : {A : Type 0} {now held : A → Cost} {p : Lowering A}
+    → ((a : A) (final : Stored) (all number reach hold place : ℕ)
+    → held a (view final all number reach hold place) ≤ now a (view final all number all hold place))
+    → Correct p (Adds free now) → Correct p (Adds free held)
+adds_aside less_is h = correct_as h (λ final ps m m' a g row. record {
+  earlier = λ all number reach hold place d.
+      let x = row.earlier all number all hold place (record {
+        all_of = d.all_of;
+        deep = d.all_of;
+        inside = d.inside;
+        placed = d.placed;
+      }) in
+      still_deep reach hold place g d (let c = x.counted in let l = less_is a final all number reach hold place in omega arith);
+})
+
 -- of more
 pub adds_from : {A : Type 0} {was was' : Cost} {now : A → Cost} {p : Lowering A} → ((v : View) → was v ≤ was' v)
     → Correct p (Adds was now) → Correct p (Adds was' now)
@@ -200,7 +217,7 @@ adds_from h c = correct_as c (λ final ps m m' a g row. record {
 -- a type holds what it names
 pub adds_type : {was : Cost} (t : TypeRef) (source : Option Pointer) → ((v : View) → sum v.weight (of_type v.held t) ≤ was v)
     → Correct (alloc_type t source) (Adds was a_type)
-unfolding inners
+unfolding unruns
 adds_type {was = was} t source h = correct_as (correct_alloc_type t source) (λ final ps m m' i g row. record {
   earlier = λ all number reach hold place d.
       at_depth final m m' i all number reach hold place g d row.number row.here row.entries row.nodes;
@@ -254,11 +271,11 @@ adds_pat_as {was = was} cost step p source law h = correct_as (correct_alloc_pat
 
 -- a pattern holds what it names
 abbrev pub in_pat : Pat → Cost
-in_pat p v = sum v.weight (of_pat v.held p)
+in_pat p v = sum v.weight (unrun_of_pat v.held p)
 
 pub adds_pat : {was : Cost} (p : Pat) (source : Option Pointer) → ((v : View) → in_pat p v ≤ was v)
     → Correct (alloc_pat p source) (Adds was a_pat)
-unfolding inners
+unfolding unruns
 adds_pat p source h = adds_pat_as a_pat (in_pat p) p source (λ final all number reach hold place i here. rw here refl) h
 
 abbrev pub in_type_pat : Pat → Cost
@@ -266,17 +283,17 @@ in_type_pat p v = sum v.weight (of_type_pat v.held p)
 
 pub adds_type_pat : {was : Cost} (p : Pat) (source : Option Pointer) → ((v : View) → in_type_pat p v ≤ was v)
     → Correct (alloc_pat p source) (Adds was a_type_pat)
-unfolding inners
+unfolding unruns
 adds_type_pat p source h =
     adds_pat_as a_type_pat (in_type_pat p) p source (λ final all number reach hold place i here. rw here refl) h
 
 -- and its places are reached where it is assigned to
 abbrev pub in_target : Pat → Cost
-in_target p v = times v.number (of_each v.reach (places_in (places_to v.store v.place) p [])) + sum v.weight (of_pat v.held p)
+in_target p v = times v.number (of_each v.reach (places_in (places_to v.store v.place) p [])) + sum v.weight (unrun_of_pat v.held p)
 
 pub adds_target : {was : Cost} (p : Pat) (source : Option Pointer) → ((v : View) → in_target p v ≤ was v)
     → Correct (alloc_pat p source) (Adds was a_target)
-unfolding inners places_to
+unfolding unruns places_to
 adds_target p source h = adds_pat_as a_target (in_target p) p source (λ final all number reach hold place i here. rw here refl) h
 
 -- an expression reaches itself and what it names, with all places looked for
@@ -285,7 +302,7 @@ pub adds_expr_at : {was : Cost} (e : HirExpr) (source : Option Pointer)
     → in_expr e (view final all number reach hold (length final.pats.entries))
     ≤ was (view final all number reach hold (length final.pats.entries)))
     → Correct (alloc_expr e source) (Adds was an_expr)
-unfolding inners reached_to
+unfolding unruns reached_to
 adds_expr_at {was = was} e source h = correct_as (correct_in_store (correct_alloc e source)) (λ final ps m m' i g row. record {
   earlier = λ all number reach hold place d.
       let r = row.rel in at_depth final m m' i all number reach hold place g row.pats d r.number r.here r.next;

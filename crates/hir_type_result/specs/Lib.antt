@@ -1,4 +1,5 @@
 pub mod Reached
+pub mod Unrun
 pub mod Named
 pub mod Pats
 pub mod Roots

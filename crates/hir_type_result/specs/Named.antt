@@ -100,13 +100,17 @@ PathTypesReachedOnce =
     → Spread (length b.stored.types.entries) (length b'.stored.types.entries)
     (of_present (of_path (types_reached final.types.entries depth)) r)
 
--- Each type that the expressions and patterns of a lowered tree reach is reached in one way, by one of them, and is one of those
--- that lowering the tree stored.
+-- Each type that the expressions and patterns reach which came is reached in one way, by one of them, and is one of those that came.
+abbrev pub TypesSpread : Stored → Stored → Stored → Type 0
+TypesSpread old new final =
+    (depth : ℕ) → length final.types.entries ≤ depth
+    → (more : List HirExpr) → new.exprs.entries ≡ old.exprs.entries ++ more
+    → (pats : List HirPat) → new.pats.entries ≡ old.pats.entries ++ pats
+    → let l = of_types_alone (types_reached final.types.entries depth) in
+    Spread (length old.types.entries) (length new.types.entries) (of_exprs l more ++ of_pats l pats)
+
+-- so it is of a lowered tree
 abbrev pub ExprTypesReachedOnce : Type 0
 ExprTypesReachedOnce =
     (e : OptionExpr) (b b' : Builder) (i : ExprId) → Paired b.stored → lower_part e b ≡ (Ok i, b')
-    → (final : Stored) → Extends b'.stored final → (depth : ℕ) → length final.types.entries ≤ depth
-    → (more : List HirExpr) → b'.stored.exprs.entries ≡ b.stored.exprs.entries ++ more
-    → (pats : List HirPat) → b'.stored.pats.entries ≡ b.stored.pats.entries ++ pats
-    → let l = of_types_alone (types_reached final.types.entries depth) in
-    Spread (length b.stored.types.entries) (length b'.stored.types.entries) (of_exprs l more ++ of_pats l pats)
+    → (final : Stored) → Extends b'.stored final → TypesSpread b.stored b'.stored final

@@ -1,5 +1,5 @@
 -- The bodies inside types and paths that stand alone are roots, in the order in which they are done.
-use Rattle.std.specs.Prelude.{◌≡◌, ℕ, ◌≤◌, length, Bool, true, false, List, [], ◌∷◌, ◌++◌, Option, Some, None, Ok, slice_get}
+use Rattle.std.specs.Prelude.{◌≡◌, ℕ, ◌≤◌, length, Bool, true, false, List, [], ◌∷◌, ◌++◌, Option, None, Ok, slice_range}
 use Rattle.hir_store.specs.Storing.{Extends}
 use Rattle.hir_store.specs.Stored.{Store, SourceMap, Stored, store_of, map_of}
 use Rattle.hir_store.specs.declared.hir.Expr.{Expr as HirExpr}
@@ -8,6 +8,7 @@ use Rattle.hir_store.specs.declared.ids.TypeRefId.{TypeRefId}
 use Rattle.hir_store.specs.declared.pat.Pat.{Pat as HirPat}
 use Rattle.hir_store.specs.declared.path.Path.{Path}
 use Rattle.hir_store.specs.declared.roots.ExprRoot.{ExprRoot}
+use Rattle.hir_store.specs.declared.type_ref.TypeRef.{TypeRef}
 use Rattle.hir_scope.specs.Ribs.{barrier_rib}
 use Rattle.hir_env.specs.Answered as tree
 use Rattle.hir_env.specs.Answered.{Binder, OptionType, OptionPath}
@@ -20,14 +21,15 @@ use Rattle.hir_meaning.specs.Same.{SameBody, SameBodies}
 use Rattle.hir_meaning.specs.Store.{stored_body}
 use Rattle.hir_steps.specs.Keeps.{Paired}
 use Rattle.hir_scope.specs.Each.{Each}
-use Rattle.hir_same_meaning.specs.Reached.{Between, Spread, reached_to}
+use Rattle.hir_same_meaning.specs.Reached.{Between, Spread, of_each, reached_to}
 use Rattle.hir_one_result.specs.Laws.{Settled}
 use Rattle.hir_one_result.specs.Leads.{Way, Ways}
 use Rattle.hir_one_result.specs.Room.{type_part_size, whole_size}
 use Rattle.hir_one_result.specs.Stands.{Open, StandsLimit, StandsPart}
-use Rattle.hir_type_result.specs.Named.{of_bindings_alone, of_expr, of_pat, of_pats_alone}
-use Rattle.hir_type_result.specs.Pats.{pats_reached}
-use Rattle.hir_type_result.specs.Reached.{of_each}
+use Rattle.hir_type_result.specs.Named.{of_bindings_alone, of_exprs, of_pats, of_pats_alone, of_types_alone}
+use Rattle.hir_type_result.specs.Pats.{of_types, pats_reached}
+use Rattle.hir_type_result.specs.Reached.{types_reached}
+use Rattle.hir_type_result.specs.Unrun.{unrun_in}
 
 -- how far the numbers of a root go
 pub record Ends : Type 0 where
@@ -68,36 +70,41 @@ pub record SameInner (store : Store) (source_map : SourceMap) (root : ExprId) (b
   pub body : SameBody store (stored_body store source_map root) root (written_inner b)
   pub inner : SameBodies store source_map (inner_bodies store root) (inside b)
 
--- so deep, the patterns that are reached from the expressions of these numbers
-abbrev pub pats_of_found : Store → ℕ → Option HirExpr → List ℕ
-pats_of_found store depth None = []
-pats_of_found store depth (Some e) = of_expr (of_pats_alone (pats_reached store.pats depth)) e
+-- where what came with a root begins, and, since no root tells it, where its types end
+pub record Came : Type 0 where
+  pub from : Ends
+  pub types_from : ℕ
+  pub types_to : ℕ
 
-abbrev pub pats_of_exprs : Store → ℕ → List ℕ → List ℕ
-pats_of_exprs store depth = of_each (λ n. pats_of_found store depth (slice_get store.exprs n))
+-- the expressions, types and patterns that came with it
 
--- the bindings that the patterns of these numbers make
-abbrev pub bindings_of_found : Option HirPat → List ℕ
-bindings_of_found None = []
-bindings_of_found (Some p) = of_pat of_bindings_alone p
+abbrev pub exprs_of : Store → Came → ExprRoot → List HirExpr
+exprs_of store came r = slice_range store.exprs came.from.exprs r.exprs_end.0
 
-abbrev pub bindings_of_pats : Store → List ℕ → List ℕ
-bindings_of_pats store = of_each (λ n. bindings_of_found (slice_get store.pats n))
+abbrev pub types_of : Store → Came → List TypeRef
+types_of store came = slice_range store.types came.types_from came.types_to
 
--- A root that begins where the one before it ended, as a body with this around it: it does what the body does and stands for it,
--- and each expression that it reaches is reached in one way, and belongs to it. So do the patterns that these expressions reach,
--- and the bindings that those make.
+abbrev pub pats_of : Store → Came → ExprRoot → List HirPat
+pats_of store came r = slice_range store.pats came.from.pats r.pats_end.0
+
+-- A root that begins behind the one before it, as a body with this around it: it does what the body does and stands for it. Each
+-- expression that it reaches, or that one does which it holds and doesn't run, came with it and is reached in one way. Of all that
+-- came with it the expressions and types reach patterns that came with it, and the expressions and patterns types, each in one way,
+-- and the patterns make bindings that came with it.
 pub record RootIs (store : Store) (source_map : SourceMap) (around : Open) (begins : Ends) (r : ExprRoot) (b : InnerBody) : Type 0 where
   pub same : SameInner store source_map r.root b
   pub ways : List Way
   pub stands : StandsInner store source_map (barrier_rib ∷ around) b r.root ways
-  pub goes_on : Further begins (ends_of r)
-  pub reached_once : (depth : ℕ) → length store.exprs ≤ depth → Spread begins.exprs r.exprs_end.0 (reached_to store depth r.root)
-  pub pats_reached_once : (depth deep : ℕ) → length store.exprs ≤ depth → length store.pats ≤ deep
-      → Spread begins.pats r.pats_end.0 (pats_of_exprs store deep (reached_to store depth r.root))
-  pub bindings_reached : (depth deep : ℕ) → length store.exprs ≤ depth → length store.pats ≤ deep
-      → Each (Between begins.bindings r.bindings_end.0)
-      (bindings_of_pats store (pats_of_exprs store deep (reached_to store depth r.root)))
+  pub came : Came
+  pub behind : Further begins came.from
+  pub goes_on : Further came.from (ends_of r)
+  pub reached_once : (depth : ℕ) → length store.exprs ≤ depth
+      → Spread came.from.exprs r.exprs_end.0 (of_each (reached_to store depth) (r.root ∷ unrun_in store r.root))
+  pub pats_reached_once : (depth : ℕ) → length store.pats ≤ depth → let l = of_pats_alone (pats_reached store.pats depth) in
+      Spread came.from.pats r.pats_end.0 (of_exprs l (exprs_of store came r) ++ of_types l (types_of store came))
+  pub types_reached_once : (depth : ℕ) → length store.types ≤ depth → let l = of_types_alone (types_reached store.types depth) in
+      Spread came.types_from came.types_to (of_exprs l (exprs_of store came r) ++ of_pats l (pats_of store came r))
+  pub bindings_came : Each (Between came.from.bindings r.bindings_end.0) (of_pats of_bindings_alone (pats_of store came r))
 
 -- each is for the body in the same place of the list
 abbrev pub RootsAre : Store → SourceMap → Open → Ends → List ExprRoot → Bodies → Type 0

@@ -21,6 +21,7 @@ use Rattle.hir_type_result.specs.Named.{of_exprs, of_pats_alone}
 use Rattle.hir_type_result.specs.Pats.{of_types, pats_reached}
 use Rattle.hir_type_result.specs.Reached.{types_reached}
 use Rattle.hir_type_result.specs.Roots.{Ends, Further, RootsAre, last_end, no_ends}
+use Rattle.hir_type_result.specs.Unrun.{unrun_in_type}
 
 -- all that is stored
 abbrev pub ends_of_store : Store → Ends
@@ -31,7 +32,7 @@ ends_of_store s = record { exprs = length s.exprs; pats = length s.pats; binding
 -- expressions, labels and bindings as the bodies inside it become, and nothing besides. Each body inside is a root, in the order in
 -- which they are done, also one that the type doesn't reach. Nodes of patterns, types and lifetimes lead to them, those of
 -- expressions and labels to what they became, and no other nodes lead anywhere. However deep one looks, the type reaches no type in
--- two ways, the bodies inside it no expression, and types and expressions together no pattern. Each binding is that of a name of a
+-- two ways, what it holds and doesn't run no expression, and types and expressions together no pattern. Each binding is that of a name of a
 -- top pattern in these bodies, and has the patterns that make it. The faults and the entered blocks are those of these bodies.
 pub record TypeResult (store : Store) (source_map : SourceMap) (i : TypeRefId) (t : OptionType) : Type 0 where
   pub reads_back : stored_type store source_map i ≡ written_type t
@@ -59,7 +60,7 @@ pub record TypeResult (store : Store) (source_map : SourceMap) (i : TypeRefId) (
   pub leads : MapLeads source_map ways
   pub reached_once : (depth : ℕ) → length store.types ≤ depth → Spread 0 (length store.types) (types_reached store.types depth i)
   pub inside_reached_once : (depth : ℕ) → length store.exprs ≤ depth
-      → Spread 0 (length store.exprs) (of_each (reached_to store depth) (type_inner_bodies store i))
+      → Spread 0 (length store.exprs) (of_each (reached_to store depth) (unrun_in_type store i))
   pub pats_reached_once : (depth : ℕ) → length store.pats ≤ depth → let l = of_pats_alone (pats_reached store.pats depth) in
       Spread 0 (length store.pats) (of_exprs l store.exprs ++ of_types l store.types)
   pub roots : RootsAre store source_map [] no_ends store.roots (type_part_size t).inner
