@@ -21,7 +21,7 @@ use Rattle.hir_store.specs.declared.path.Path.TheVariants.{LangItem}
 use Rattle.hir_env.specs.Answered as tree
 use Rattle.hir_env.specs.Answered.{PatLeaf, PatUnary, RangeForm, Signed, Use}
 use Rattle.hir_lower_form.specs.Forms.{ExprSteps, push_some, let_form, match_form, arm_form, let_stmt_form}
-use Rattle.hir_lower_form.specs.Lowering.{Lowering, ◌>>=◌, pure, alloc_pat}
+use Rattle.hir_lower_form.specs.Lowering.{Lowering, ◌>>=◌, pure, alloc_expr, alloc_pat}
 use Rattle.hir_lower_form.specs.Pats as forms
 use Rattle.hir_lower_form.specs.Pats.{Table, Elements, PatSteps, missing_pat}
 use Rattle.hir_lower_form.specs.Ranges as ranges
@@ -150,6 +150,10 @@ literal_aside : (e : ExprId) (final : Stored) (all number reach hold place : ℕ
     → a_limit e (view final all number reach hold place) ≤ an_expr e (view final all number all hold place)
 literal_aside e final all number reach hold place = omega arith
 
+literal_held : (s : Signed) (source : Option Pointer)
+    → Correct (alloc_expr (hir.Literal (forms.signed_literal s)) source) (Adds free a_limit)
+literal_held s source = adds_aside literal_aside (adds_expr (hir.Literal (forms.signed_literal s)) source (λ v. omega arith))
+
 side_aside : (o : Option ExprId) (final : Stored) (all number reach hold place : ℕ)
     → maybe a_limit o (view final all number reach hold place) ≤ maybe an_expr o (view final all number all hold place)
 side_aside None final all number reach hold place = omega arith
@@ -245,8 +249,7 @@ module _ (at : Pointer) where
 
   pub literal_pat_adds : (own : Option Pointer) (s : Signed) → Correct (forms.literal_pat_form at own s) (Adds free a_pat)
   unfolding forms.literal_pat_form
-  literal_pat_adds own s = adds_then (adds_aside literal_aside (adds_expr _ _ (λ v. omega arith)))
-      (λ e. adds_pat (pat.Lit e) (Some at) (λ v. omega arith))
+  literal_pat_adds own s = adds_then (literal_held s _) (λ e. adds_pat (pat.Lit e) (Some at) (λ v. omega arith))
 
   pub literal_side_adds : (s : Signed) → Correct (forms.literal_side_form at s) (Adds free (maybe an_expr))
   unfolding forms.literal_side_form

@@ -1,6 +1,6 @@
 -- Steps by the bodies inside that they record as roots, where no root is being lowered.
 use Rattle.std.proofs.Common.{◌≡◌, ◌∙◌, refl, sym, ap, subst, arith, ℕ, ◌+◌, ◌≤◌, length, Bool, true, false, true≢false, List, [], ◌∷◌}
-use Rattle.std.proofs.Common.{◌++◌, append_assoc, append-nil, Ok, Err}
+use Rattle.std.proofs.Common.{◌++◌, append_assoc, append-nil, Option, Ok, Err}
 use Rattle.std.specs.Prelude.{slice_range}
 use Rattle.hir_store.specs.Arenas.{Prefix}
 use Rattle.hir_store.specs.Pointers.{Pointer}

@@ -1,8 +1,8 @@
 -- What stands between others.
 use Rattle.std.proofs.Common.{◌≡◌, ◌∙◌, sym, ap, subst, arith, ℕ, zero, suc, ◌+◌, List, [], ◌∷◌, ◌++◌, length, slice_get, Option, Some}
-use Rattle.std.proofs.Common.{is_some, true≢false}
-use Rattle.std.specs.Prelude.{slice_range}
-use Rattle.std.proofs.Math.Seq.{take-append_seam}
+use Rattle.std.proofs.Common.{append_assoc, length-append, is_some, true≢false}
+use Rattle.std.specs.Prelude.{◌-◌, take, drop, slice_range}
+use Rattle.std.proofs.Math.Seq.{take-append_seam, drop-append_seam}
 
 -- by its number
 pub found_between : {A : Type 0} (before xs behind : List A) (n m : ℕ) (x : A) → n ≡ length before + m → slice_get xs m ≡ Some x
@@ -18,14 +18,12 @@ found_between (b ∷ before) xs behind zero m x e h = absurd (omega (arith, e))
 found_between (b ∷ before) xs behind (suc n) m x e h = found_between before xs behind n m x (omega (arith, e)) h
 
 -- all of it
-
-between_others : {A : Type 0} (before here behind : List A)
-    → slice_range ((before ++ here) ++ behind) (length before) (length (before ++ here)) ≡ here
-between_others [] here behind = take-append_seam here behind
-between_others (x ∷ before) here behind = between_others before here behind
-
 pub came_between : {A : Type 0} (old here behind new later : List A) → new ≡ old ++ here → later ≡ new ++ behind
     → slice_range later (length old) (length new) ≡ here
 came_between old here behind new later is stays =
-    ap (λ xs. slice_range xs (length old) (length new)) stays
-    ∙ (ap (λ xs. slice_range (xs ++ behind) (length old) (length xs)) is ∙ between_others old here behind)
+    let whole = stays ∙ (ap (λ xs. xs ++ behind) is ∙ append_assoc old here behind) in
+    let rest = ap (λ xs. drop (length old) xs) whole ∙ drop-append_seam old (here ++ behind) in
+    let long : length new - length old ≡ length here =
+    let n = ap length is in
+    let m = length-append old here in omega arith in
+    ap (λ n. take n (drop (length old) later)) long ∙ (ap (λ xs. take (length here) xs) rest ∙ take-append_seam here behind)
