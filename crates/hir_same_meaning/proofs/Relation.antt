@@ -138,6 +138,11 @@ pub record SameTurns (ps : List Frame) (leaves : Outward JumpLabel) (m : StoreRu
     (n : SyntaxRun (Option Value)) : Type 0 where
   pub same : (w : World (Unit {0})) → TurnsAgree ps (turn_end leaves (m w).0) (m w).1 (turn_end outward (n w).0) (n w).1
 
+-- To a loop the one turn is the other.
+pub record TurnsAlike (m n : SyntaxRun (Option Value)) : Type 0 where
+  pub steps : (w : World (Unit {0})) → turn_end outward (m w).0 ≡ turn_end outward (n w).0
+  pub worlds : (w : World (Unit {0})) → (m w).1 ≡ (n w).1
+
 module _ {ps : List Frame} where
   pub same_turns : (x : Option Numbered) {m : StoreRun (Option Value)} {n : SyntaxRun (Option Value)} → SameWhere (loop_frame x ∷ ps) m n
       → SameTurns ps (past_loop (number x)) m n
@@ -146,6 +151,12 @@ module _ {ps : List Frame} where
       step = turn_ends x ps (m w).0 ∙ ap (turn_end outward) a.outcome;
       world = a.world;
     };
+  }
+
+  pub same_turns_as : {leaves : Outward JumpLabel} {m : StoreRun (Option Value)} {n n' : SyntaxRun (Option Value)} → TurnsAlike n n'
+      → SameTurns ps leaves m n → SameTurns ps leaves m n'
+  same_turns_as alike h = record {
+    same = λ w. let a = h.same w in record { step = a.step ∙ alike.steps w; world = a.world ∙ alike.worlds w };
   }
 
   goes_same : {f : StoreRun Value} {g : SyntaxRun Value} → SameWhere ps f g → (s : Step JumpLabel) (w : World (Unit {0}))
