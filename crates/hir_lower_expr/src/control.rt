@@ -145,18 +145,17 @@ fn turn_form<P: LowerParts>(
         (lower_part (expr_part (P.spot lowerer.now.parts) condition.now))
         (lower_block_part (block_part (P.spot lowerer.now.parts) body.now))) state.old result state.new }
 {
-    let then_branch = lowerer.collect_block_opt(state, body)?;
+    let body = lowerer.collect_block_opt(state, body)?;
     let condition = lowerer.collect_expr_opt(state, condition)?;
     let out = Expr::Break {
         label: None,
         expr: None,
     };
     let out = state.alloc_expr(out, Some(at))?;
-    let else_branch = Some(out);
     let turn = Expr::If {
         condition,
-        then_branch,
-        else_branch,
+        then_branch: body,
+        else_branch: Some(out),
     };
     state.alloc_expr(turn, Some(at))
 }

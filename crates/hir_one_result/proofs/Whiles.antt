@@ -58,5 +58,5 @@ module _ (at : Pointer) where
       (correct_opened loop_at l (λ n ps. refl) (λ n. turned hc hb) (λ n i. correct_alloc (hir.Loop i (Some n) source.While) (Some at)))
       (λ final ps m m' i g row. let t = row.first in let a = row.second in
       let whole = shown_as (t.shown (hir.Loop row.one (Some row.number) source.While) i a.stored (a.number ∙ a.last))
-          (λ ws x. (t.condition, t.body, t.out, row.one, expr_at a, t.turn_at, t.out_at, x)) in
+      (λ ws x. (t.condition, t.body, t.out, row.one, expr_at a, t.turn_at, t.out_at, x)) in
       record { shown = shown_as (shown_both (own_label row) whole) (λ ws x. (row.number, label_at row, x)) })
