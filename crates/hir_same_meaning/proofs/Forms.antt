@@ -108,7 +108,7 @@ module _ (at : Pointer) where
 
   -- a loop whose body goes as a turn that is one of the loop, in its scope
   turns_fine : {from : LoopSource} (l : Option Label) {p : ExprSteps} {x : Walk Value} {y : Walk (Option Value)}
-      → ((turns : ℕ) (ss : List Scope) → TurnsAlike (turn (x turns (loop_scope l ∷ ss))) (y turns (loop_scope l ∷ ss)))
+      → ((turns : ℕ) (ss : List Scope) → TurnsAlike (x turns (loop_scope l ∷ ss)) (y turns (loop_scope l ∷ ss)))
       → Correct p (Runs one x)
       → Correct (loop_form at from l p) (Runs one (λ turns ss. loop outward turns (y turns (loop_scope l ∷ ss))))
   unfolding loop_form
@@ -126,7 +126,7 @@ module _ (at : Pointer) where
   pub loop_fine : {from : LoopSource} (l : Option Label) {p : ExprSteps} {x : Walk Value} → Correct p (Runs one x)
       → Correct (loop_form at from l p) (Runs one (λ turns ss. loop outward turns (turn (x turns (loop_scope l ∷ ss)))))
   loop_fine l {x = x} h =
-      turns_fine l {x = x} {y = λ turns ss. turn (x turns ss)} (λ turns ss. alike_same (turn (x turns (loop_scope l ∷ ss)))) h
+      turns_fine l {x = x} {y = λ turns ss. turn (x turns ss)} (λ turns ss. alike_same (x turns (loop_scope l ∷ ss))) h
 
   -- the body where the condition holds, else a break of the innermost loop
   abbrev turn_walk : Walk Value → Walk Value → Walk Value

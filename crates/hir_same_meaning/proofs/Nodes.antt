@@ -77,7 +77,7 @@ module _ {labels : ℕ} {m m' : Mark} {at : Pointer} {final : Stored} {ps qs : L
 
   -- where the body goes as a turn that is one of the loop
   pub goes_loop : {from : LoopSource} {labels' : ℕ} {b : ExprId} {x : Walk Value} {y : Walk (Option Value)} (n : Option Numbered)
-      → ((turns : ℕ) → TurnsAlike (turn (x turns (inside (loop_frame n) (scopes ps)))) (y turns (inside (loop_frame n) (scopes ps))))
+      → ((turns : ℕ) → TurnsAlike (x turns (inside (loop_frame n) (scopes ps))) (y turns (inside (loop_frame n) (scopes ps))))
       → (Falls labels ps → Falls labels' (loop_frame n ∷ ps)) → Goes labels' m.nodes one x final (loop_frame n ∷ ps) b
       → Allocated (hir.Loop b (number n) from) (Some at) final qs m m' i
       → Goes labels m'.nodes one (λ turns ss. loop outward turns (y turns (inside (loop_frame n) ss))) final ps i

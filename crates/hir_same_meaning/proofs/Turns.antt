@@ -8,10 +8,10 @@ use Rattle.hir_meaning.specs.Catching.{turn, turn_end}
 use Rattle.hir_meaning.specs.Syntax.{SyntaxRun, while_turn}
 use Rattle.hir_same_meaning.proofs.Relation.{TurnsAlike}
 
-pub alike_same : (m : SyntaxRun (Option Value)) → TurnsAlike m m
+pub alike_same : (m : SyntaxRun Value) → TurnsAlike m (turn m)
 alike_same m = record { steps = λ w. refl; worlds = λ w. refl }
 
-module _ {A : Type 0} {f : A → SyntaxRun Value} {g : A → SyntaxRun (Option Value)} (h : (a : A) → TurnsAlike (turn (f a)) (g a)) where
+module _ {A : Type 0} {f : A → SyntaxRun Value} {g : A → SyntaxRun (Option Value)} (h : (a : A) → TurnsAlike (f a) (g a)) where
   abbrev nothing : Value → SyntaxRun (Option Value)
   nothing _ = pure None
 
@@ -32,12 +32,12 @@ module _ {A : Type 0} {f : A → SyntaxRun Value} {g : A → SyntaxRun (Option V
   worlds_after (leave x) w = refl
 
   -- behind the same steps
-  pub alike_bind : (m : SyntaxRun A) → TurnsAlike (turn (m >>= f)) (m >>= g)
+  pub alike_bind : (m : SyntaxRun A) → TurnsAlike (m >>= f) (m >>= g)
   unfolding ◌>>=◌
   alike_bind m = record { steps = λ w. steps_after (m w).0 (m w).1; worlds = λ w. worlds_after (m w).0 (m w).1 }
 
-alike_if : (b : Bool) {m m' : SyntaxRun Value} {n n' : SyntaxRun (Option Value)} → TurnsAlike (turn m) n → TurnsAlike (turn m') n'
-    → TurnsAlike (turn (if b then m else m')) (if b then n else n')
+alike_if : (b : Bool) {m m' : SyntaxRun Value} {n n' : SyntaxRun (Option Value)} → TurnsAlike m n → TurnsAlike m' n'
+    → TurnsAlike (if b then m else m') (if b then n else n')
 alike_if true h h' = h
 alike_if false h h' = h'
 
@@ -46,7 +46,7 @@ abbrev pub out : SyntaxRun Value
 out = pure unit >>= (λ v. ends (break (Some 0) v))
 
 -- Such a break is a turn that ends the loop with unit.
-alike_out : TurnsAlike (turn out) (pure (Some unit))
+alike_out : TurnsAlike out (pure (Some unit))
 unfolding ◌>>=◌ ends
 alike_out = record { steps = λ w. refl; worlds = λ w. refl }
 
@@ -55,6 +55,6 @@ abbrev pub branched : SyntaxRun Value → SyntaxRun Value → SyntaxRun Value �
 branched condition body other site = condition >>= (λ v. tests is_true v site >>= (λ holds. if holds then body else other))
 
 pub while_alike : (condition body : SyntaxRun Value) (site : Option Site)
-    → TurnsAlike (turn (branched condition body out site)) (while_turn condition body site)
+    → TurnsAlike (branched condition body out site) (while_turn condition body site)
 while_alike condition body site =
-    alike_bind (λ v. alike_bind (λ holds. alike_if holds (alike_same (turn body)) alike_out) (tests is_true v site)) condition
+    alike_bind (λ v. alike_bind (λ holds. alike_if holds (alike_same body) alike_out) (tests is_true v site)) condition

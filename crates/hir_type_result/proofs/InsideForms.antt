@@ -228,7 +228,7 @@ module _ (at : Pointer) where
       → Correct (turn_form at c b) (Adds free an_expr)
   unfolding turn_form
   turn_adds hc hb = adds_then hb (λ b. adds_then (adds_beside (an_expr b) hc)
-      (λ c. adds_then (adds_beside (beside (an_expr b) (an_expr c)) (adds_expr _ (Some at) (λ v. omega arith)))
+      (λ c. adds_then (adds_beside (beside (an_expr b) (an_expr c)) (adds_expr (hir.Break None None) (Some at) (λ v. omega arith)))
       (λ o. adds_expr _ (Some at) (turn_less c b o))))
 
   pub call_adds : {g : ExprSteps} {xs : Lowering (List ExprId)} → Correct g (Adds free an_expr) → Correct xs (Adds free (each an_expr))
