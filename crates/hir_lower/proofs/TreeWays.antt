@@ -74,10 +74,10 @@ module _ (at : Pointer) where
   unfolding if_form
   if_leads hc ht he = makes ht (λ i. makes he (λ j. makes hc (λ k. leading_alloc _ (Some at))))
 
-  loop_leads : {from : LoopSource} (label : Option Label) {b : ExprSteps} → Leading since b → Leading since (loop_form at from label b)
+  loop_leads : (from : LoopSource) (label : Option Label) {b : ExprSteps} → Leading since b → Leading since (loop_form at from label b)
   unfolding loop_form
-  loop_leads None h = makes h (λ i. leading_alloc _ (Some at))
-  loop_leads (Some l) h = makes (leading_open l) (λ n. makes h (λ i. makes leading_close (λ u. leading_alloc _ (Some at))))
+  loop_leads from None h = makes h (λ i. leading_alloc _ (Some at))
+  loop_leads from (Some l) h = makes (leading_open l) (λ n. makes h (λ i. makes leading_close (λ u. leading_alloc _ (Some at))))
 
   turn_leads : {c b : ExprSteps} → Leading since c → Leading since b → Leading since (turn_form at c b)
   unfolding turn_form
@@ -292,8 +292,8 @@ mutual
   node_leads (tree.disabled_expr at by e) = makes (leading_report _) (λ u. missing_leads)
   node_leads (tree.if_expr at c t e) = if_leads at (part_leads c) (block_part_leads t) (present_leads e)
   node_leads (tree.block_expr b) = block_leads b
-  node_leads (tree.loop_expr at label b) = loop_leads at label (block_part_leads b)
-  node_leads (tree.while_expr at label c b) = loop_leads at label (turn_leads at (part_leads c) (block_part_leads b))
+  node_leads (tree.loop_expr at label b) = loop_leads at _ label (block_part_leads b)
+  node_leads (tree.while_expr at label c b) = loop_leads at _ label (turn_leads at (part_leads c) (block_part_leads b))
   node_leads (tree.call_expr at f has_list es) = call_leads at (part_leads f) (each_leads [] es)
   node_leads (tree.path_expr at x h) = path_leads at h (option_path_leads x)
   node_leads (tree.continue_expr at jump) = continue_leads at jump

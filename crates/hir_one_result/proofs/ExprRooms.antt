@@ -52,11 +52,11 @@ module _ (at : Pointer) where
   unfolding if_form
   if_takes hc ht he = takes_then ht (λ x. takes_then he (λ y. takes_then hc (λ z. takes_alloc _ (Some at))))
 
-  pub loop_takes : {from : LoopSource} (label : Option Label) {n : Size} {b : ExprSteps} → Takes n b
+  pub loop_takes : (from : LoopSource) (label : Option Label) {n : Size} {b : ExprSteps} → Takes n b
       → Takes (label_size label ∪ (n ∪ an_expr)) (loop_form at from label b)
   unfolding loop_form
-  loop_takes None h = takes_as (nothing_first _) (takes_then h (λ i. takes_alloc _ (Some at)))
-  loop_takes (Some l) h =
+  loop_takes from None h = takes_as (nothing_first _) (takes_then h (λ i. takes_alloc _ (Some at)))
+  loop_takes from (Some l) h =
       takes_then (takes_open l) (λ n. takes_then h (λ i. takes_begin takes_close (λ u. takes_alloc _ (Some at))))
 
   pub turn_takes : {n k : Size} {c b : ExprSteps} → Takes n c → Takes k b

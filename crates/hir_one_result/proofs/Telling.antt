@@ -250,13 +250,13 @@ module _ {X : Type 0} (L : Listing X) where
     unfolding if_form
     if_tells hc ht he = tells_bind ht (λ i. tells_bind he (λ j. tells_end hc (λ k. tells_alloc _ _)))
 
-    pub loop_tells : {from : LoopSource} (label : Option Label) {D : List Scope → List X} {b : ExprSteps} → Correct b (Tells D)
+    pub loop_tells : (from : LoopSource) (label : Option Label) {D : List Scope → List X} {b : ExprSteps} → Correct b (Tells D)
         → Correct (loop_form at from label b) (Tells (λ ss. D (loop_scope label ∷ ss)))
     unfolding loop_form
-    loop_tells None h = tells_end
+    loop_tells from None h = tells_end
         (correct_as h (λ final ps m m' a g row. record { told = λ ss e. row.told (loop_scope None ∷ ss) (in_loop ss (ribs ps) e) }))
         (λ i. tells_alloc _ _)
-    loop_tells (Some l) h =
+    loop_tells from (Some l) h =
         opened_tells loop_at l (loop_scope (Some l)) (λ n ps. refl) (λ n. loop_is_rib l n) (λ n. h) (λ n i. tells_alloc _ _)
 
     -- the body first

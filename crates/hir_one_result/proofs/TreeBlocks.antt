@@ -257,8 +257,8 @@ mutual
   node_blocks (tree.disabled_expr at by e) = tells_end entered (tells_report entered _) (λ u. missing_tells entered)
   node_blocks (tree.if_expr at c t e) = if_tells entered at (part_blocks c) (block_part_blocks t) (present_blocks e)
   node_blocks (tree.block_expr b) = block_blocks b
-  node_blocks (tree.loop_expr at label b) = loop_tells entered at label (block_part_blocks b)
-  node_blocks (tree.while_expr at label c b) = loop_tells entered at label (turn_tells entered at (part_blocks c) (block_part_blocks b))
+  node_blocks (tree.loop_expr at label b) = loop_tells entered at _ label (block_part_blocks b)
+  node_blocks (tree.while_expr at label c b) = loop_tells entered at _ label (turn_tells entered at (part_blocks c) (block_part_blocks b))
   node_blocks (tree.call_expr at f has_list es) = call_tells entered at (part_blocks f) (each_blocks [] es)
   node_blocks (tree.path_expr at p h) = path_tells entered at h (whole_enters p)
   node_blocks (tree.continue_expr at jump) = continue_tells entered at jump

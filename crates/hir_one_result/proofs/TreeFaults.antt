@@ -264,9 +264,9 @@ mutual
   node_faults (tree.if_expr at c t e) = tells_as reported (if_tells reported at (part_faults c) (block_part_faults t) (present_faults e))
       (λ ss. turned (part_diagnostics ss c) (block_part_diagnostics ss t) (part_diagnostics ss e))
   node_faults (tree.block_expr b) = block_faults b
-  node_faults (tree.loop_expr at label b) = loop_tells reported at label (block_part_faults b)
+  node_faults (tree.loop_expr at label b) = loop_tells reported at _ label (block_part_faults b)
   node_faults (tree.while_expr at label c b) =
-      tells_as reported (loop_tells reported at label (turn_tells reported at (part_faults c) (block_part_faults b)))
+      tells_as reported (loop_tells reported at _ label (turn_tells reported at (part_faults c) (block_part_faults b)))
       (λ ss. IsPermutation-append_comm (part_diagnostics (loop_scope label ∷ ss) c) (block_part_diagnostics (loop_scope label ∷ ss) b))
   node_faults (tree.call_expr at f has_list es) = call_tells reported at (part_faults f) (each_faults [] es)
   node_faults (tree.path_expr at p h) = path_tells reported at h (whole_reports p)

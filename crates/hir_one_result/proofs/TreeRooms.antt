@@ -257,8 +257,8 @@ mutual
   node_takes (tree.disabled_expr at by e) = takes_begin (takes_report _) (λ u. missing_takes)
   node_takes (tree.if_expr at c t e) = if_takes at (part_takes c) (block_part_takes t) (present_takes e)
   node_takes (tree.block_expr b) = block_takes b
-  node_takes (tree.loop_expr at label b) = loop_takes at label (block_part_takes b)
-  node_takes (tree.while_expr at label c b) = loop_takes at label (turn_takes at (part_takes c) (block_part_takes b))
+  node_takes (tree.loop_expr at label b) = loop_takes at _ label (block_part_takes b)
+  node_takes (tree.while_expr at label c b) = loop_takes at _ label (turn_takes at (part_takes c) (block_part_takes b))
   node_takes (tree.call_expr at f has_list es) = call_takes at (part_takes f) (each_takes [] es)
   node_takes (tree.path_expr at p h) = path_takes at h (takes_of (path_tells p))
   node_takes (tree.continue_expr at jump) = continue_takes at jump

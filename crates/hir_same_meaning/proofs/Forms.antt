@@ -107,26 +107,26 @@ module _ (at : Pointer) where
       Nodes.goes_if (goes_within (omega arith) q.first) (goes_within (omega arith) row.first) (goes_within (omega arith) r.first) q.second)
 
   -- a loop whose body goes as a turn that is one of the loop, in its scope
-  turns_fine : {from : LoopSource} (l : Option Label) {p : ExprSteps} {x : Walk Value} {y : Walk (Option Value)}
+  turns_fine : (from : LoopSource) (l : Option Label) (y : Walk (Option Value)) {p : ExprSteps} {x : Walk Value}
       → ((turns : ℕ) (ss : List Scope) → TurnsAlike (x turns (loop_scope l ∷ ss)) (y turns (loop_scope l ∷ ss)))
       → Correct p (Runs one x)
       → Correct (loop_form at from l p) (Runs one (λ turns ss. loop outward turns (y turns (loop_scope l ∷ ss))))
   unfolding loop_form
-  turns_fine {from = from} None {y = y} alike h = correct_as
+  turns_fine from None y alike h = correct_as
       (correct_bind (correct_in_loop h) (λ i. correct_alloc (hir.Loop i None from) (Some at)))
       (λ final ps m m' i g row.
-      Nodes.goes_loop {y = y} None (λ turns. alike turns (scopes ps)) (λ f. f) (goes_within (omega arith) row.first.rel) row.second)
-  turns_fine {from = from} (Some l) {y = y} alike h = correct_as
+      Nodes.goes_loop None y (λ turns. alike turns (scopes ps)) (λ f. f) (goes_within (omega arith) row.first.rel) row.second)
+  turns_fine from (Some l) y alike h = correct_as
       (correct_opened loop_at l (λ n ps. refl) (λ n. h) (λ n i. correct_alloc (hir.Loop i (Some n) from) (Some at)))
       (λ final ps m m' i g row.
-      Nodes.goes_loop {labels' = row.entered.labels} {y = y} (Some (record { label = l; number = row.number }))
+      Nodes.goes_loop {labels' = row.entered.labels} (Some (record { label = l; number = row.number })) y
       (λ turns. alike turns (scopes ps)) (falls_new m.labels row.entered.labels l row.number ps row.new row.labels)
       (goes_within (omega arith) row.first) row.second)
 
-  pub loop_fine : {from : LoopSource} (l : Option Label) {p : ExprSteps} {x : Walk Value} → Correct p (Runs one x)
+  pub loop_fine : (from : LoopSource) (l : Option Label) {p : ExprSteps} {x : Walk Value} → Correct p (Runs one x)
       → Correct (loop_form at from l p) (Runs one (λ turns ss. loop outward turns (turn (x turns (loop_scope l ∷ ss)))))
-  loop_fine l {x = x} h =
-      turns_fine l {x = x} {y = λ turns ss. turn (x turns ss)} (λ turns ss. alike_same (x turns (loop_scope l ∷ ss))) h
+  loop_fine from l {x = x} h =
+      turns_fine from l (λ turns ss. turn (x turns ss)) (λ turns ss. alike_same (x turns (loop_scope l ∷ ss))) h
 
   -- the body where the condition holds, else a break of the innermost loop
   abbrev turn_walk : Walk Value → Walk Value → Walk Value
@@ -143,12 +143,12 @@ module _ (at : Pointer) where
       Nodes.goes_if (goes_within (omega arith) r.first) (goes_within (omega arith) row.first)
       (Nodes.goes_some (goes_within (omega arith) out)) q.second)
 
-  pub while_fine : {from : LoopSource} (l : Option Label) {c b : ExprSteps} {x y : Walk Value} → Correct c (Runs one x)
+  pub while_fine : (from : LoopSource) (l : Option Label) {c b : ExprSteps} {x y : Walk Value} → Correct c (Runs one x)
       → Correct b (Runs one y)
       → Correct (loop_form at from l (turn_form at c b))
       (Runs one (λ turns ss. run_while turns (x turns (loop_scope l ∷ ss)) (y turns (loop_scope l ∷ ss)) here))
-  while_fine l {x = x} {y = y} hc hb =
-      turns_fine l {x = turn_walk x y} {y = λ turns ss. while_turn (x turns ss) (y turns ss) here}
+  while_fine from l {x = x} {y = y} hc hb =
+      turns_fine from l (λ turns ss. while_turn (x turns ss) (y turns ss) here)
       (λ turns ss. while_alike (x turns (loop_scope l ∷ ss)) (y turns (loop_scope l ∷ ss)) here) (turn_fine hc hb)
 
   pub break_fine : (j : Option Jump) {p : Lowering (Option ExprId)} {x : Walk Value} → Correct p (Runs optional x)

@@ -209,11 +209,11 @@ module _ (at : Pointer) {es : Bodies} where
   unfolding break_form
   break_held j h = holds_behind (correct_target j) (λ n. expr1 (Some at) (hir.Break n) (λ r o. refl) h)
 
-  pub loop_held : {from : LoopSource} (label : Option Label) {b : ExprSteps} → Correct b (Holds an_expr es)
+  pub loop_held : (from : LoopSource) (label : Option Label) {b : ExprSteps} → Correct b (Holds an_expr es)
       → Correct (loop_form at from label b) (Holds an_expr es)
   unfolding loop_form
-  loop_held {from = from} None h = expr1 (Some at) (λ b. hir.Loop b None from) (λ r i. refl) h
-  loop_held {from = from} (Some l) h = correct_as
+  loop_held from None h = expr1 (Some at) (λ b. hir.Loop b None from) (λ r i. refl) h
+  loop_held from (Some l) h = correct_as
       (correct_opened loop_at l (λ n ps. refl) (λ n. h) (λ n i. correct_alloc (hir.Loop i (Some n) from) (Some at)))
       (λ final ps m m' i g row. expr_held row.second row.after (λ d le. row.first.same d le))
 

@@ -76,12 +76,12 @@ module _ {labels : ℕ} {m m' : Mark} {at : Pointer} {final : Stored} {ps qs : L
   goes_continue {n = n} j meets named a = goes_at a (λ turns d le f. same_ends (continue n) (ap continue (meets f))) (λ d le. named)
 
   -- where the body goes as a turn that is one of the loop
-  pub goes_loop : {from : LoopSource} {labels' : ℕ} {b : ExprId} {x : Walk Value} {y : Walk (Option Value)} (n : Option Numbered)
+  pub goes_loop : {from : LoopSource} {labels' : ℕ} {b : ExprId} {x : Walk Value} (n : Option Numbered) (y : Walk (Option Value))
       → ((turns : ℕ) → TurnsAlike (x turns (inside (loop_frame n) (scopes ps))) (y turns (inside (loop_frame n) (scopes ps))))
       → (Falls labels ps → Falls labels' (loop_frame n ∷ ps)) → Goes labels' m.nodes one x final (loop_frame n ∷ ps) b
       → Allocated (hir.Loop b (number n) from) (Some at) final qs m m' i
       → Goes labels m'.nodes one (λ turns ss. loop outward turns (y turns (inside (loop_frame n) ss))) final ps i
-  goes_loop n alike falls h a = goes_at a
+  goes_loop n y alike falls h a = goes_at a
       (λ turns d le f. same_loop (same_turns_as (alike turns)
       (same_turns n (same_bind (h.same turns d le (falls f)) (λ v. same_pure None)))) turns)
       (λ d le. let r = h.jumps d le in rw (loop_numbers n ps) at r)

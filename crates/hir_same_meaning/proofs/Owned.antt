@@ -43,8 +43,8 @@ mutual
   expr_owns (tree.paren_expr at e) = paren_owns at (part_owns e)
   expr_owns (tree.call_expr at f has_list es) = call_owns at (part_owns f) (each_owns_all (each_owns es []))
   expr_owns (tree.if_expr at c t e) = if_owns at (part_owns c) (block_part_owns t) (present_owns e)
-  expr_owns (tree.loop_expr at label b) = loop_owns at label (block_part_owns b)
-  expr_owns (tree.while_expr at label c b) = loop_owns at label (turn_owns at (part_owns c) (block_part_owns b))
+  expr_owns (tree.loop_expr at label b) = loop_owns at _ label (block_part_owns b)
+  expr_owns (tree.while_expr at label c b) = loop_owns at _ label (turn_owns at (part_owns c) (block_part_owns b))
   expr_owns (tree.break_expr at jump e) = break_owns at jump (present_owns e)
   expr_owns (tree.continue_expr at jump) = continue_owns at jump
   expr_owns (tree.block_expr b) = block_is_owns b

@@ -241,11 +241,11 @@ module _ (at : Pointer) where
   unfolding call_form
   call_owns hf hs = owns2 hir.Call (Some at) (λ f s g xs. refl) hf hs
 
-  pub loop_owns : {from : LoopSource} (l : Option Label) {p : ExprSteps} → Correct p Owns → Correct (loop_form at from l p) Owns
+  pub loop_owns : (from : LoopSource) (l : Option Label) {p : ExprSteps} → Correct p Owns → Correct (loop_form at from l p) Owns
   unfolding loop_form
-  loop_owns {from = from} None h = correct_as (correct_bind h (λ i. correct_alloc (hir.Loop i None from) (Some at)))
+  loop_owns from None h = correct_as (correct_bind h (λ i. correct_alloc (hir.Loop i None from) (Some at)))
       (λ final ps m m' i g row. owns_at m row.second (omega arith) (λ d le. row.first.spread d le))
-  loop_owns {from = from} (Some l) h = correct_as
+  loop_owns from (Some l) h = correct_as
       (correct_opened loop_at l (λ n ps. refl) (λ n. h) (λ n i. correct_alloc (hir.Loop i (Some n) from) (Some at)))
       (λ final ps m m' i g row. let e = row.nodes in let b = row.before in
       owns_at m row.second (omega arith) (λ d le. spread_wider m.nodes row.left.nodes (omega arith) (omega arith) (row.first.spread d le)))

@@ -11,30 +11,31 @@ use Rattle.hir_same_meaning.proofs.Relation.{TurnsAlike}
 pub alike_same : (m : SyntaxRun Value) → TurnsAlike m (turn m)
 alike_same m = record { steps = λ w. refl; worlds = λ w. refl }
 
-module _ {A : Type 0} {f : A → SyntaxRun Value} {g : A → SyntaxRun (Option Value)} (h : (a : A) → TurnsAlike (f a) (g a)) where
-  abbrev nothing : Value → SyntaxRun (Option Value)
-  nothing _ = pure None
+abbrev nothing : Value → SyntaxRun (Option Value)
+nothing _ = pure None
 
-  steps_after : (o : Outcome Count A) (w : World (Unit {0}))
-      → turn_end outward (after (after o w f).0 (after o w f).1 nothing).0 ≡ turn_end outward (after o w g).0
-  unfolding ◌>>=◌
-  steps_after (value a) w = (h a).steps w
-  steps_after (break j v) w = refl
-  steps_after (continue j) w = refl
-  steps_after (leave x) w = refl
+steps_after : {A : Type 0} {f : A → SyntaxRun Value} {g : A → SyntaxRun (Option Value)} → ((a : A) → TurnsAlike (f a) (g a))
+    → (o : Outcome Count A) (w : World (Unit {0}))
+    → turn_end outward (after (after o w f).0 (after o w f).1 nothing).0 ≡ turn_end outward (after o w g).0
+unfolding ◌>>=◌
+steps_after h (value a) w = (h a).steps w
+steps_after h (break j v) w = refl
+steps_after h (continue j) w = refl
+steps_after h (leave x) w = refl
 
-  worlds_after : (o : Outcome Count A) (w : World (Unit {0}))
-      → (after (after o w f).0 (after o w f).1 nothing).1 ≡ (after o w g).1
-  unfolding ◌>>=◌
-  worlds_after (value a) w = (h a).worlds w
-  worlds_after (break j v) w = refl
-  worlds_after (continue j) w = refl
-  worlds_after (leave x) w = refl
+worlds_after : {A : Type 0} {f : A → SyntaxRun Value} {g : A → SyntaxRun (Option Value)} → ((a : A) → TurnsAlike (f a) (g a))
+    → (o : Outcome Count A) (w : World (Unit {0})) → (after (after o w f).0 (after o w f).1 nothing).1 ≡ (after o w g).1
+unfolding ◌>>=◌
+worlds_after h (value a) w = (h a).worlds w
+worlds_after h (break j v) w = refl
+worlds_after h (continue j) w = refl
+worlds_after h (leave x) w = refl
 
-  -- behind the same steps
-  pub alike_bind : (m : SyntaxRun A) → TurnsAlike (m >>= f) (m >>= g)
-  unfolding ◌>>=◌
-  alike_bind m = record { steps = λ w. steps_after (m w).0 (m w).1; worlds = λ w. worlds_after (m w).0 (m w).1 }
+-- behind the same steps
+alike_bind : {A : Type 0} (m : SyntaxRun A) {f : A → SyntaxRun Value} {g : A → SyntaxRun (Option Value)}
+    → ((a : A) → TurnsAlike (f a) (g a)) → TurnsAlike (m >>= f) (m >>= g)
+unfolding ◌>>=◌
+alike_bind m h = record { steps = λ w. steps_after h (m w).0 (m w).1; worlds = λ w. worlds_after h (m w).0 (m w).1 }
 
 alike_if : (b : Bool) {m m' : SyntaxRun Value} {n n' : SyntaxRun (Option Value)} → TurnsAlike m n → TurnsAlike m' n'
     → TurnsAlike (if b then m else m') (if b then n else n')
@@ -57,4 +58,4 @@ branched condition body other site = condition >>= (λ v. tests is_true v site >
 pub while_alike : (condition body : SyntaxRun Value) (site : Option Site)
     → TurnsAlike (branched condition body out site) (while_turn condition body site)
 while_alike condition body site =
-    alike_bind (λ v. alike_bind (λ holds. alike_if holds (alike_same body) alike_out) (tests is_true v site)) condition
+    alike_bind condition (λ v. alike_bind (tests is_true v site) (λ holds. alike_if holds (alike_same body) alike_out))

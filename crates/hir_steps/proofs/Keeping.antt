@@ -82,10 +82,10 @@ module _ (at : Pointer) where
   unfolding if_form
   if_any hc ht he = then_any ht (λ i. then_any he (λ j. then_any hc (λ k. stored_any _ at)))
 
-  loop_any : {from : LoopSource} (label : Option Label) {b : ExprSteps} → Correct b Any → Correct (loop_form at from label b) Any
+  loop_any : (from : LoopSource) (label : Option Label) {b : ExprSteps} → Correct b Any → Correct (loop_form at from label b) Any
   unfolding loop_form
-  loop_any None h = then_any h (λ i. stored_any _ at)
-  loop_any (Some l) h = any (correct_opened loop_at l (λ n ps. refl) (λ n. h) (λ n i. stored_any _ at))
+  loop_any from None h = then_any h (λ i. stored_any _ at)
+  loop_any from (Some l) h = any (correct_opened loop_at l (λ n ps. refl) (λ n. h) (λ n i. stored_any _ at))
 
   pub turn_any : {c b : ExprSteps} → Correct c Any → Correct b Any → Correct (turn_form at c b) Any
   unfolding turn_form
@@ -293,8 +293,8 @@ mutual
   node_any (tree.disabled_expr at by e) = then_any (any (correct_report _)) (λ u. missing_any)
   node_any (tree.if_expr at c t e) = if_any at (part_any c) (block_part_any t) (present_any e)
   node_any (tree.block_expr b) = block_any b
-  node_any (tree.loop_expr at label b) = loop_any at label (block_part_any b)
-  node_any (tree.while_expr at label c b) = loop_any at label (turn_any at (part_any c) (block_part_any b))
+  node_any (tree.loop_expr at label b) = loop_any at _ label (block_part_any b)
+  node_any (tree.while_expr at label c b) = loop_any at _ label (turn_any at (part_any c) (block_part_any b))
   node_any (tree.call_expr at f has_list es) = call_any at (part_any f) (each_any [] es)
   node_any (tree.path_expr at p h) = path_any at h (lower_path_any p)
   node_any (tree.continue_expr at jump) = continue_any at jump

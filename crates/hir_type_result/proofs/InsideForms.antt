@@ -217,11 +217,11 @@ module _ (at : Pointer) where
   if_adds hc ht he = adds_then ht (λ t. adds_then (adds_beside (an_expr t) he)
       (λ e. adds_then (adds_beside (beside (an_expr t) (maybe an_expr e)) hc) (λ c. adds_expr _ (Some at) (if_less c t e))))
 
-  pub loop_adds : {from : LoopSource} (label : Option Label) {b : ExprSteps} → Correct b (Adds free an_expr)
+  pub loop_adds : (from : LoopSource) (label : Option Label) {b : ExprSteps} → Correct b (Adds free an_expr)
       → Correct (loop_form at from label b) (Adds free an_expr)
   unfolding loop_form
-  loop_adds None h = adds_then h (λ i. adds_expr _ (Some at) (λ v. omega arith))
-  loop_adds (Some l) h = adds_opened loop_at l (λ n ps. refl) (λ n. h) (λ n i. adds_expr _ (Some at) (λ v. omega arith))
+  loop_adds from None h = adds_then h (λ i. adds_expr _ (Some at) (λ v. omega arith))
+  loop_adds from (Some l) h = adds_opened loop_at l (λ n ps. refl) (λ n. h) (λ n i. adds_expr _ (Some at) (λ v. omega arith))
 
   -- the condition behind the body, and behind both a break
   pub turn_adds : {c b : ExprSteps} → Correct c (Adds free an_expr) → Correct b (Adds free an_expr)

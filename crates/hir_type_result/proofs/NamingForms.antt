@@ -87,11 +87,11 @@ module _ (at : Pointer) where
   unfolding if_form
   if_quiet hc ht he = quiet_then ht (λ i. quiet_then he (λ j. quiet_then hc (λ k. quiet_alloc _ (Some at) (λ f n. omega arith))))
 
-  pub loop_quiet : {from : LoopSource} (label : Option Label) {b : ExprSteps} → Correct b Quiet
+  pub loop_quiet : (from : LoopSource) (label : Option Label) {b : ExprSteps} → Correct b Quiet
       → Correct (loop_form at from label b) Quiet
   unfolding loop_form
-  loop_quiet None h = quiet_then h (λ i. quiet_alloc _ (Some at) (λ f k. omega arith))
-  loop_quiet (Some l) h =
+  loop_quiet from None h = quiet_then h (λ i. quiet_alloc _ (Some at) (λ f k. omega arith))
+  loop_quiet from (Some l) h =
       quiet_opened loop_at l (λ n ps. refl) (λ n. h) (λ n i. quiet_alloc _ (Some at) (λ f k. omega arith))
 
   pub turn_quiet : {c b : ExprSteps} → Correct c Quiet → Correct b Quiet → Correct (turn_form at c b) Quiet

@@ -230,8 +230,8 @@ mutual
   node_quiet (tree.disabled_expr at by e) = quiet_then (quiet_report _) (λ u. missing_quiet)
   node_quiet (tree.if_expr at c t e) = if_quiet at (part_quiet c) (block_part_quiet t) (present_quiet e)
   node_quiet (tree.block_expr b) = block_quiet b
-  node_quiet (tree.loop_expr at label b) = loop_quiet at label (block_part_quiet b)
-  node_quiet (tree.while_expr at label c b) = loop_quiet at label (turn_quiet at (part_quiet c) (block_part_quiet b))
+  node_quiet (tree.loop_expr at label b) = loop_quiet at _ label (block_part_quiet b)
+  node_quiet (tree.while_expr at label c b) = loop_quiet at _ label (turn_quiet at (part_quiet c) (block_part_quiet b))
   node_quiet (tree.call_expr at f has_list es) = call_quiet at (part_quiet f) (each_quiet [] es)
   node_quiet (tree.path_expr at p h) = path_quiet at h (path_adds p)
   node_quiet (tree.continue_expr at jump) = continue_quiet at jump
