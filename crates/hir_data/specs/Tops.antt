@@ -21,6 +21,7 @@ abbrev mutual
   expr_tops (tree.if_expr at c t e) = block_part_tops t ++ (tops_of e ++ tops_of c)
   expr_tops (tree.block_expr b) = block_tops b
   expr_tops (tree.loop_expr at label b) = block_part_tops b
+  expr_tops (tree.while_expr at label c b) = block_part_tops b ++ tops_of c
   expr_tops (tree.call_expr at f has_list es) = tops_of f ++ each_tops es
   expr_tops (tree.path_expr at p h) = []
   expr_tops (tree.continue_expr at jump) = []

@@ -320,6 +320,7 @@ abbrev mutual
   expr_site (tree.record_expr at p head fs s) = record_site at (path_of p)
   expr_site (tree.if_expr at c t e) = Some (site_of at)
   expr_site (tree.loop_expr at label b) = Some (site_of at)
+  expr_site (tree.while_expr at label c b) = Some (site_of at)
   expr_site (tree.call_expr at f has_list es) = Some (site_of at)
   expr_site (tree.path_expr at p h) = Some (site_of at)
   expr_site (tree.continue_expr at jump) = Some (site_of at)

@@ -97,6 +97,8 @@ module _ (env : Answers) where
       tree.if_expr s (expr_is rd.expr c p j) (plain_is rd.block_expr t p j) (expr_is rd.else_branch e p j)
   expr_at_is (ExprKind-F.BlockExpr b) p s = refl
   expr_at_is (ExprKind-F.LoopExpr l b) p s = λ j. tree.loop_expr s (option_map (of.label_of env p) l) (plain_is rd.block_expr b p j)
+  expr_at_is (ExprKind-F.WhileExpr l c b) p s = λ j.
+      tree.while_expr s (option_map (of.label_of env p) l) (expr_is rd.expr c p j) (plain_is rd.block_expr b p j)
   expr_at_is (ExprKind-F.CallExpr f None) p s = λ j. tree.call_expr s (expr_is rd.expr f p j) false tree.no_exprs
   expr_at_is (ExprKind-F.CallExpr f (Some es)) p s = λ j. tree.call_expr s (expr_is rd.expr f p j) true (exprs_is rd.expr es p j)
   expr_at_is (ExprKind-F.PathExpr x) p s = λ j. tree.path_expr s (path_is rd.path x p j) (env.hygiene (of.site_of s))

@@ -23,6 +23,7 @@ kept_pointer : (at : Spot) (k : ExprKindLayer written) (s : Pointer)
 kept_pointer at (ExprKind-F.BlockExpr b) s = ap pointer_of (block_is_level at b)
 kept_pointer at (ExprKind-F.IfExpr c t e) s = refl
 kept_pointer at (ExprKind-F.LoopExpr l b) s = refl
+kept_pointer at (ExprKind-F.WhileExpr l c b) s = refl
 kept_pointer at (ExprKind-F.CallExpr f es) s = refl
 kept_pointer at (ExprKind-F.PathExpr x) s = refl
 kept_pointer at (ExprKind-F.ContinueExpr l) s = refl

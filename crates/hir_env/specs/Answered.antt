@@ -244,6 +244,7 @@ mutual
     if_expr : Pointer → OptionExpr → OptionBlock → OptionExpr → Expr
     block_expr : Block → Expr
     loop_expr : Pointer → Option Label → OptionBlock → Expr
+    while_expr : Pointer → Option Label → OptionExpr → OptionBlock → Expr
     -- with whether it has a list of arguments
     call_expr : Pointer → OptionExpr → Bool → Exprs → Expr
     path_expr : Pointer → OptionPath → HygieneId → Expr

@@ -202,6 +202,8 @@ module _ (env : Answers) {S : Sorts} (part : Reader S) where
       tree.if_expr s (expr_or_none part.expr c p) (plain_or_none part.block_expr t p) (expr_or_none part.else_branch e p)
   expr_at (ExprKind-F.BlockExpr b) p s = (part.block_expr b).own p
   expr_at (ExprKind-F.LoopExpr l b) p s = tree.loop_expr s (option_map (label_of env p) l) (plain_or_none part.block_expr b p)
+  expr_at (ExprKind-F.WhileExpr l c b) p s =
+      tree.while_expr s (option_map (label_of env p) l) (expr_or_none part.expr c p) (plain_or_none part.block_expr b p)
   expr_at (ExprKind-F.CallExpr f es) p s = tree.call_expr s (expr_or_none part.expr f p) (is_some es) (exprs_or_none part.expr es p)
   expr_at (ExprKind-F.PathExpr x) p s = tree.path_expr s (path_or_none part.path x p) (env.hygiene (site_of s))
   expr_at (ExprKind-F.ContinueExpr l) p s = tree.continue_expr s (option_map (jump_of env p) l)

@@ -98,6 +98,7 @@ abbrev mutual
   count_expr (tree.if_expr at c t e) = suc (count_option_expr c + (count_option_block t + count_option_expr e))
   count_expr (tree.block_expr b) = suc (count_block b)
   count_expr (tree.loop_expr at label b) = suc (count_option_block b)
+  count_expr (tree.while_expr at label c b) = suc (count_option_expr c + count_option_block b)
   count_expr (tree.call_expr at f has_list es) = suc (count_option_expr f + count_exprs es)
   count_expr (tree.path_expr at x h) = suc (count_option_path x)
   count_expr (tree.continue_expr at jump) = 1

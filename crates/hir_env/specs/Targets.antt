@@ -23,6 +23,7 @@ pointer_of (tree.disabled_expr at by e) = pointer_of e
 pointer_of (tree.if_expr at c t e) = at
 pointer_of (tree.block_expr b) = block_pointer b
 pointer_of (tree.loop_expr at label b) = at
+pointer_of (tree.while_expr at label c b) = at
 pointer_of (tree.call_expr at f has_list es) = at
 pointer_of (tree.path_expr at p h) = at
 pointer_of (tree.continue_expr at jump) = at

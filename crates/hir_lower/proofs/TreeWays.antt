@@ -2,6 +2,7 @@
 use Rattle.std.proofs.Common.{Bool, true, false, List, [], Option, Some, None}
 use Rattle.hir_store.specs.Pointers.{Pointer}
 use Rattle.hir_store.specs.declared.hir.Expr.{Expr as HirExpr}
+use Rattle.hir_store.specs.declared.hir.LoopSource.{LoopSource}
 use Rattle.hir_store.specs.declared.path.Path.{Path as HirPath}
 use Rattle.hir_store.specs.declared.path.GenericArgs.{GenericArgs}
 use Rattle.hir_store.specs.declared.hir.RecordLitField.{RecordLitField}
@@ -27,7 +28,7 @@ use Rattle.hir_env.specs.Answered.{Limit, Target, Targets, TargetFields, TargetF
 use Rattle.hir_lower_form.specs.declared.args.ArgLists.{ArgLists}
 use Rattle.hir_lower_form.specs.declared.walk.PathWalk.{PathWalk}
 use Rattle.hir_lower_form.specs.Lowering.{Lowering, ◌>>=◌}
-use Rattle.hir_lower_form.specs.Lower.{ExprSteps, StoredContents, missing, some, if_form, loop_form, call_form, continue_form}
+use Rattle.hir_lower_form.specs.Lower.{ExprSteps, StoredContents, missing, some, if_form, loop_form, turn_form, call_form, continue_form}
 use Rattle.hir_lower_form.specs.Lower.{break_form, paren_form, operand_form, operands_form, value_form, list_form}
 use Rattle.hir_lower_form.specs.Types.{TypeSteps}
 use Rattle.hir_lower_form.specs.Lower.{path_form, method_call_form, await_form, block_form, labelled, kept, lower, lower_part}
@@ -73,10 +74,14 @@ module _ (at : Pointer) where
   unfolding if_form
   if_leads hc ht he = makes ht (λ i. makes he (λ j. makes hc (λ k. leading_alloc _ (Some at))))
 
-  loop_leads : (label : Option Label) {b : ExprSteps} → Leading since b → Leading since (loop_form at label b)
+  loop_leads : (from : LoopSource) (label : Option Label) {b : ExprSteps} → Leading since b → Leading since (loop_form at from label b)
   unfolding loop_form
-  loop_leads None h = makes h (λ i. leading_alloc _ (Some at))
-  loop_leads (Some l) h = makes (leading_open l) (λ n. makes h (λ i. makes leading_close (λ u. leading_alloc _ (Some at))))
+  loop_leads from None h = makes h (λ i. leading_alloc _ (Some at))
+  loop_leads from (Some l) h = makes (leading_open l) (λ n. makes h (λ i. makes leading_close (λ u. leading_alloc _ (Some at))))
+
+  turn_leads : {c b : ExprSteps} → Leading since c → Leading since b → Leading since (turn_form at c b)
+  unfolding turn_form
+  turn_leads hc hb = makes hb (λ i. makes hc (λ k. makes (leading_alloc _ (Some at)) (λ o. leading_alloc _ (Some at))))
 
   call_leads : {f : ExprSteps} {xs : Lowering (List ExprId)} → Leading since f → Leading any xs → Leading since (call_form at f xs)
   unfolding call_form
@@ -287,7 +292,8 @@ mutual
   node_leads (tree.disabled_expr at by e) = makes (leading_report _) (λ u. missing_leads)
   node_leads (tree.if_expr at c t e) = if_leads at (part_leads c) (block_part_leads t) (present_leads e)
   node_leads (tree.block_expr b) = block_leads b
-  node_leads (tree.loop_expr at label b) = loop_leads at label (block_part_leads b)
+  node_leads (tree.loop_expr at label b) = loop_leads at _ label (block_part_leads b)
+  node_leads (tree.while_expr at label c b) = loop_leads at _ label (turn_leads at (part_leads c) (block_part_leads b))
   node_leads (tree.call_expr at f has_list es) = call_leads at (part_leads f) (each_leads [] es)
   node_leads (tree.path_expr at x h) = path_leads at h (option_path_leads x)
   node_leads (tree.continue_expr at jump) = continue_leads at jump

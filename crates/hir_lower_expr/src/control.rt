@@ -3,6 +3,10 @@
 ghost use Rattle.hir_syntax.specs.declared.ast.ElseBranch.{out-ElseBranch};
 ghost use Rattle.hir_env.specs.Answered as tree;
 ghost use Rattle.hir_env.specs.Whole.{answered_else, block_part, else_level, else_part, expr_part, label_part};
+ghost use Rattle.hir_store.specs.Range.{HasExpr};
+ghost use Rattle.hir_lower_form.specs.Lower.{lower_block_part, lower_part};
+ghost use Rattle.hir_lower_form.specs.Lower as spec;
+ghost use Rattle.hir_lower_form.specs.Lowering.{Lowers};
 ghost use Rattle.hir_lower_form.specs.Nests.{IfPresent, KidsElse};
 ghost use Rattle.hir_lower_form.specs.Methods.{LowersExpr, LowersIfPresent};
 
@@ -112,6 +116,84 @@ pub(crate) fn loop_form<P: LowerParts>(
         Some(label) => {
             let label = lowerer.open_label(state, label)?;
             let body = lowerer.collect_block_opt(state, body)?;
+            state.close();
+            let label = Some(label);
+            state.alloc_expr(
+                Expr::Loop {
+                    body,
+                    label,
+                    source,
+                },
+                Some(at),
+            )
+        }
+    }
+}
+
+/// The turn of a `while`: its body where the condition holds, else a break. The body is lowered before the condition.
+#[tactic(auto, unfolding(hir_lower_form::specs::Forms::turn_form))]
+fn turn_form<P: LowerParts>(
+    lowerer: &Lowerer<P>,
+    state: &mut BodyBuilder,
+    at: InFile<AstPtr>,
+    condition: &Option<Boxed<ast::Expr>>,
+    body: &Option<Boxed<ast::BlockExpr>>,
+) -> Result<ExprId, StoreFault>
+    requires condition { IfPresent (P.can lowerer.now.parts).expr condition.now }
+    requires body { IfPresent (P.can lowerer.now.parts).block body.now }
+    ensures { Lowers HasExpr (spec.turn_form at
+        (lower_part (expr_part (P.spot lowerer.now.parts) condition.now))
+        (lower_block_part (block_part (P.spot lowerer.now.parts) body.now))) state.old result state.new }
+{
+    let body = lowerer.collect_block_opt(state, body)?;
+    let condition = lowerer.collect_expr_opt(state, condition)?;
+    let out = Expr::Break {
+        label: None,
+        expr: None,
+    };
+    let out = state.alloc_expr(out, Some(at))?;
+    let turn = Expr::If {
+        condition,
+        then_branch: body,
+        else_branch: Some(out),
+    };
+    state.alloc_expr(turn, Some(at))
+}
+
+/// A loop over such a turn. The condition lies under the label as the body does.
+#[tactic(auto, unfolding(hir_lower_form::specs::Forms::loop_form))]
+pub(crate) fn while_form<P: LowerParts>(
+    lowerer: &Lowerer<P>,
+    state: &mut BodyBuilder,
+    at: InFile<AstPtr>,
+    label: &Option<ast::Label>,
+    condition: &Option<Boxed<ast::Expr>>,
+    body: &Option<Boxed<ast::BlockExpr>>,
+) -> Result<ExprId, StoreFault>
+    requires condition { IfPresent (P.can lowerer.now.parts).expr condition.now }
+    requires body { IfPresent (P.can lowerer.now.parts).block body.now }
+    ensures { LowersExpr (tree.while_expr at
+        (label_part (P.spot lowerer.now.parts) label.now)
+        (expr_part (P.spot lowerer.now.parts) condition.now)
+        (block_part (P.spot lowerer.now.parts) body.now)) state.old result state.new }
+{
+    let source = LoopSource::While;
+    match label {
+        None => {
+            let body = turn_form(lowerer, state, at, condition, body)?;
+            let label = None;
+            state.alloc_expr(
+                Expr::Loop {
+                    body,
+                    label,
+                    source,
+                },
+                Some(at),
+            )
+        }
+        Some(label) => {
+            let label = lowerer.open_label(state, label)?;
+            let body = turn_form(lowerer, state, at, condition, body)?;
             state.close();
             let label = Some(label);
             state.alloc_expr(

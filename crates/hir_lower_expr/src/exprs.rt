@@ -30,6 +30,7 @@ fn expr_form<P: LowerParts>(
         ast::ExprKind::IfExpr { .. }
         | ast::ExprKind::BlockExpr(_)
         | ast::ExprKind::LoopExpr { .. }
+        | ast::ExprKind::WhileExpr { .. }
         | ast::ExprKind::ContinueExpr { .. }
         | ast::ExprKind::BreakExpr { .. } => control_kind(lowerer, state, at, &node.kind),
         ast::ExprKind::CallExpr { .. }

@@ -9,7 +9,7 @@ ghost use Rattle.hir_lower_form.specs.Methods.{LowersExpr, kind_at};
 use crate::assignments::bin_form;
 use crate::blocks::block_form;
 use crate::calls::{call_form, method_call_form, paren_form};
-use crate::control::{if_form, loop_form};
+use crate::control::{if_form, loop_form, while_form};
 use crate::jumps::{break_form, continue_form};
 use crate::leaves::{
     include_bytes_form, left_out_form, literal_form, predicate_form, underscore_form,
@@ -49,6 +49,11 @@ pub(crate) fn control_kind<P: LowerParts>(
         } => if_form(lowerer, state, at, condition, then, else_),
         ast::ExprKind::BlockExpr(block) => block_form(lowerer, state, block.get()),
         ast::ExprKind::LoopExpr { label, body } => loop_form(lowerer, state, at, label, body),
+        ast::ExprKind::WhileExpr {
+            label,
+            condition,
+            body,
+        } => while_form(lowerer, state, at, label, condition, body),
         ast::ExprKind::ContinueExpr { lifetime } => continue_form(lowerer, state, at, lifetime),
         ast::ExprKind::BreakExpr { lifetime, expr } => break_form(
             lowerer, state, at, lifetime, expr,

@@ -8,6 +8,7 @@ abbrev pub IsControl : ExprKindLayer written → Type 0
 IsControl (ExprKind-F.IfExpr c t e) = Unit {0}
 IsControl (ExprKind-F.BlockExpr b) = Unit {0}
 IsControl (ExprKind-F.LoopExpr l b) = Unit {0}
+IsControl (ExprKind-F.WhileExpr l c b) = Unit {0}
 IsControl (ExprKind-F.ContinueExpr l) = Unit {0}
 IsControl (ExprKind-F.BreakExpr l e) = Unit {0}
 IsControl _ = ⊥

@@ -7,7 +7,7 @@ use Rattle.hir_base.specs.declared.op.BinaryOp.TheVariants as operator
 use Rattle.hir_store.specs.Pointers.{Pointer}
 use Rattle.hir_store.specs.declared.hir.Expr.{Expr as HirExpr}
 use Rattle.hir_store.specs.declared.hir.Expr.TheVariants as hir
-use Rattle.hir_store.specs.declared.hir.LoopSource.TheVariants as source
+use Rattle.hir_store.specs.declared.hir.LoopSource.{LoopSource}
 use Rattle.hir_store.specs.declared.hir.MatchArm.{MatchArm}
 use Rattle.hir_store.specs.declared.hir.Statement.{Statement}
 use Rattle.hir_store.specs.declared.hir.Statement.TheVariants as statement
@@ -125,15 +125,25 @@ if_form at condition then_branch else_branch = do
   c ← condition
   alloc_expr (hir.If c t e) (Some at)
 
-unfoldable pub loop_form : Pointer → Option Label → ExprSteps → ExprSteps
-loop_form at None body = do
+-- with what the loop was written as
+unfoldable pub loop_form : Pointer → LoopSource → Option Label → ExprSteps → ExprSteps
+loop_form at from None body = do
   b ← body
-  alloc_expr (hir.Loop b None source.Loop) (Some at)
-loop_form at (Some l) body = do
+  alloc_expr (hir.Loop b None from) (Some at)
+loop_form at from (Some l) body = do
   id ← open_label l
   b ← body
   close
-  alloc_expr (hir.Loop b (Some id) source.Loop) (Some at)
+  alloc_expr (hir.Loop b (Some id) from) (Some at)
+
+-- The turn of a `while`, which is the body of a loop: the body where the condition holds, else a break. The body is lowered before
+-- the condition.
+unfoldable pub turn_form : Pointer → ExprSteps → ExprSteps → ExprSteps
+turn_form at condition body = do
+  b ← body
+  c ← condition
+  out ← alloc_expr (hir.Break None None) (Some at)
+  alloc_expr (hir.If c b (Some out)) (Some at)
 
 unfoldable pub call_form : Pointer → ExprSteps → Lowering (List ExprId) → ExprSteps
 call_form at callee arguments = do

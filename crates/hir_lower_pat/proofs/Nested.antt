@@ -209,6 +209,7 @@ module _ (C : Claims) (env : Answers) (P : Place → AstExpr → Type 0) (Q : Pl
   in_callee s (ExprKind-F.IfExpr c t e) h = tt
   in_callee s (ExprKind-F.BlockExpr b) h = tt
   in_callee s (ExprKind-F.LoopExpr l b) h = tt
+  in_callee s (ExprKind-F.WhileExpr l c b) h = tt
   in_callee s (ExprKind-F.CallExpr f es) h = tt
   in_callee s (ExprKind-F.PathExpr x) h = target_path x (omega (arith, h))
   in_callee s (ExprKind-F.ContinueExpr l) h = tt
@@ -253,6 +254,7 @@ module _ (C : Claims) (env : Answers) (P : Place → AstExpr → Type 0) (Q : Pl
   target_kids s (ExprKind-F.IfExpr c t e) h = tt
   target_kids s (ExprKind-F.BlockExpr b) h = tt
   target_kids s (ExprKind-F.LoopExpr l b) h = tt
+  target_kids s (ExprKind-F.WhileExpr l c b) h = tt
   target_kids s (ExprKind-F.CallExpr f None) h = (callee f (omega (arith, h)), tt)
   target_kids s (ExprKind-F.CallExpr f (Some es)) h = (callee f (omega (arith, h)), targets es (omega (arith, h)))
   target_kids s (ExprKind-F.PathExpr x) h = target_path x (omega (arith, h))

@@ -15,7 +15,7 @@ use Rattle.hir_meaning.specs.Run.{became, unmatched, ends, pure, ◌>>=◌, ◌>
 use Rattle.hir_meaning.specs.Catching.{turn, loop}
 use Rattle.hir_meaning.specs.Left.{is_kept, is_left, is_last, field_names}
 use Rattle.hir_meaning.specs.Syntax.{SyntaxRun, catching, run_expr, run_part, run_block_part, run_or_unit, run_each}
-use Rattle.hir_meaning.specs.Syntax.{spread_form, run_record, run_fields, run_spread, run_range, if_read, run_present, run_arms}
+use Rattle.hir_meaning.specs.Syntax.{run_while, spread_form, run_record, run_fields, run_spread, run_range, if_read, run_present, run_arms}
 use Rattle.hir_meaning.specs.Syntax.{run_guarded, run_else, run_places, run_each_place, run_field_places}
 use Rattle.hir_meaning.specs.Syntax.{run_block, run_tail, run_stmts, unary_operation, run_binary, run_lazy, run_list, leaves_with}
 use Rattle.hir_meaning.specs.Rows.{RunsAlone}
@@ -38,6 +38,8 @@ module _ (turns : ℕ) (outer : List Scope) where
         part_alone c inner i >>= (λ v. tests is_true v (Some (site_of at))
         >>= (λ holds. if holds then block_part_alone t inner i else or_unit_alone e inner i))
     expr_alone (tree.loop_expr at label b) inner = λ i. loop outward turns (turn (block_part_alone b (loop_scope label ∷ inner) i))
+    expr_alone (tree.while_expr at label c b) inner = λ i.
+        run_while turns (part_alone c (loop_scope label ∷ inner) i) (block_part_alone b (loop_scope label ∷ inner) i) (Some (site_of at))
     expr_alone (tree.break_expr at jump e) inner = λ i.
         or_unit_alone e inner i >>= (λ v. ends (break ((nothing_outside inner outer jump).breaks i) v))
     expr_alone (tree.continue_expr at jump) inner = λ i. ends (continue ((nothing_outside inner outer jump).continues i))

@@ -98,7 +98,7 @@ unanswered = record {
 abbrev pub AnswersNoPastTheEnd : Type 0
 AnswersNoPastTheEnd = BothDo unanswered 0 [] (literal_event one 1 ∷ event_of (test is_true) (answered 0 ∷ []) 0 ∷ []) (ended unit)
 
--- steps that no form takes so far, and jumps
+-- steps, and jumps
 
 -- A turn that ends with a value for the loop ends the loop with it.
 abbrev pub ValueEndsTheLoop : Type 0

@@ -272,6 +272,7 @@ abbrev mutual
   expr_bodies (tree.if_expr at c t e) = bodies_in c ++ (block_part_bodies t ++ bodies_in e)
   expr_bodies (tree.block_expr b) = block_bodies b
   expr_bodies (tree.loop_expr at label b) = block_part_bodies b
+  expr_bodies (tree.while_expr at label c b) = bodies_in c ++ block_part_bodies b
   expr_bodies (tree.call_expr at f has_list es) = bodies_in f ++ each_bodies es
   expr_bodies (tree.path_expr at p h) = path_bodies p
   expr_bodies (tree.continue_expr at jump) = []

@@ -21,3 +21,4 @@ pub mod Typed
 pub mod InnerRows
 pub mod Endings
 pub mod Patterned
+pub mod Whiles

@@ -51,9 +51,13 @@ abbrev pub map_of_patterns : PatternExample → SourceMap
 map_of_patterns x = record (from x.nodes) { pat_sources = map (λ p. option_map at p.1) x.pats }
 
 -- as it is written and as it is stored
-pub record BothDoPatterned (x : PatternExample) (answers : Answerer) (es : List Event) (end : Ending) : Type 0 where
-  pub written : Does (written_body x.written) 0 answers es end
-  pub stored : Does (stored_body (patterns_in x) (map_of_patterns x) (id x.root)) 0 answers es end
+pub record BothDoTurns (x : PatternExample) (turns : ℕ) (answers : Answerer) (es : List Event) (end : Ending) : Type 0 where
+  pub written : Does (written_body x.written) turns answers es end
+  pub stored : Does (stored_body (patterns_in x) (map_of_patterns x) (id x.root)) turns answers es end
+
+-- where no loop has a turn
+abbrev pub BothDoPatterned : PatternExample → Answerer → List Event → Ending → Type 0
+BothDoPatterned x answers es end = BothDoTurns x 0 answers es end
 
 abbrev pub pat_number : ℕ → PatId
 pat_number n = record { 0 = n }

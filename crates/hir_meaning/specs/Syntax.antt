@@ -128,6 +128,16 @@ abbrev pub if_read : {A : Type 0} → Option PathRead → A → A → A
 if_read None there behind = behind
 if_read (Some p) there behind = there
 
+-- A turn of `while` runs the condition and tests it at the form; where it doesn't hold the turn ends the loop with unit.
+abbrev pub while_turn : SyntaxRun Value → SyntaxRun Value → Option Site → SyntaxRun (Option Value)
+while_turn condition body site = do
+  v ← condition
+  holds ← tests is_true v site
+  if holds then turn body else pure (Some unit)
+
+abbrev pub run_while : ℕ → SyntaxRun Value → SyntaxRun Value → Option Site → SyntaxRun Value
+run_while turns condition body site = loop outward turns (while_turn condition body site)
+
 -- with so many turns at each entry of a loop
 module _ (turns : ℕ) where
   abbrev mutual
@@ -145,6 +155,9 @@ module _ (turns : ℕ) where
       holds ← tests is_true v (Some (site_of at))
       if holds then run_block_part t ss else run_or_unit e ss
     run_expr (tree.loop_expr at label b) ss = loop outward turns (turn (run_block_part b (loop_scope label ∷ ss)))
+    -- its condition lies under its label, too
+    run_expr (tree.while_expr at label c b) ss =
+        run_while turns (run_part c (loop_scope label ∷ ss)) (run_block_part b (loop_scope label ∷ ss)) (Some (site_of at))
     run_expr (tree.break_expr at jump e) ss = do
       v ← run_or_unit e ss
       ends (break (break_target ss jump) v)

@@ -14,6 +14,7 @@ ghost use Rattle.hir_meaning.specs.Endings.{MissingEndsTheLoop, StraysWithItsVal
 ghost use Rattle.hir_meaning.specs.Endings.{ContinuesPastTheBlock, AnswersNoPastTheEnd, ValueEndsTheLoop, ForeignIsNotEnclosed};
 ghost use Rattle.hir_meaning.specs.Patterned.{AssignsInOrder, TestsThePattern, TriesTheArms, LeavesByElse, BindsNoValue, MakesRanges};
 ghost use Rattle.hir_meaning.specs.Patterned.{CallsForTheLast};
+ghost use Rattle.hir_meaning.specs.Whiles.{WhileHasNoTurn, AsksAgain, ContinuesTheWhile, JumpsInItsCondition, LeavesByItsCondition};
 ghost use Rattle.hir_meaning.specs.InnerRows.{TypesInOrder, PathsInOrder, ExprsInOrder, PatternsInOrder, StoredInOrder};
 
 /// `'a: { loop { break 'a 1 } }` with one turn is the literal and its value.
@@ -275,4 +276,29 @@ pub fn makes_ranges()
 /// In a type, the last before the end of a range is what a call of an item answers, at no node.
 pub fn calls_for_the_last()
     ensures { CallsForTheLast }
+{}
+
+/// With no turn `while a {}` is cut before anything happens.
+pub fn while_has_no_turn()
+    ensures { WhileHasNoTurn }
+{}
+
+/// The second turn of `while a {}` reads a again and tests it; where that fails the loop ends with unit.
+pub fn asks_again()
+    ensures { AsksAgain }
+{}
+
+/// `while a { continue; 1 }` reads and tests a, turn after turn.
+pub fn continues_the_while()
+    ensures { ContinuesTheWhile }
+{}
+
+/// `while continue {}` goes from turn to turn without a test, and the value of `while break 1 {}` is the literal's.
+pub fn jumps_in_its_condition()
+    ensures { JumpsInItsCondition }
+{}
+
+/// `'a: while match a { _ => break 'a } {}` reads a, tries `_` and ends with unit, without a test of the condition.
+pub fn leaves_by_its_condition()
+    ensures { LeavesByItsCondition }
 {}

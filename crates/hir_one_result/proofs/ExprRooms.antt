@@ -2,6 +2,7 @@
 use Rattle.std.proofs.Common.{◌≡◌, ◌∙◌, refl, ap, subst, is_some, Bool, true, false, List, Option, Some, None}
 use Rattle.hir_store.specs.Pointers.{Pointer}
 use Rattle.hir_store.specs.declared.hir.Expr.{Expr as HirExpr}
+use Rattle.hir_store.specs.declared.hir.LoopSource.{LoopSource}
 use Rattle.hir_store.specs.declared.name.Name.{Name}
 use Rattle.hir_store.specs.declared.diagnostics.AwaitLocation.{AwaitLocation}
 use Rattle.hir_store.specs.declared.ids.ExprId.{ExprId}
@@ -12,7 +13,8 @@ use Rattle.hir_env.specs.Answered as tree
 use Rattle.hir_env.specs.Answered.{Listing, Label, Jump, Expr}
 use Rattle.hir_meaning.specs.Left.{is_kept}
 use Rattle.hir_lower_form.specs.Lowering.{Lowering}
-use Rattle.hir_lower_form.specs.Lower.{ExprSteps, StoredContents, missing, some, if_form, loop_form, call_form, continue_form, break_form}
+use Rattle.hir_lower_form.specs.Lower.{ExprSteps, StoredContents, missing, some, if_form, loop_form, turn_form, call_form}
+use Rattle.hir_lower_form.specs.Lower.{continue_form, break_form}
 use Rattle.hir_lower_form.specs.Lower.{paren_form, path_form, operand_form, operands_form, value_form, list_form, method_call_form}
 use Rattle.hir_lower_form.specs.Lower.{await_form, block_form, labelled, kept, StoredFields, cast_form, offset_of_form, record_contents}
 use Rattle.hir_lower_form.specs.Lower.{record_of, record_form, field_form}
@@ -50,12 +52,17 @@ module _ (at : Pointer) where
   unfolding if_form
   if_takes hc ht he = takes_then ht (λ x. takes_then he (λ y. takes_then hc (λ z. takes_alloc _ (Some at))))
 
-  pub loop_takes : (label : Option Label) {n : Size} {b : ExprSteps} → Takes n b
-      → Takes (label_size label ∪ (n ∪ an_expr)) (loop_form at label b)
+  pub loop_takes : (from : LoopSource) (label : Option Label) {n : Size} {b : ExprSteps} → Takes n b
+      → Takes (label_size label ∪ (n ∪ an_expr)) (loop_form at from label b)
   unfolding loop_form
-  loop_takes None h = takes_as (nothing_first _) (takes_then h (λ i. takes_alloc _ (Some at)))
-  loop_takes (Some l) h =
+  loop_takes from None h = takes_as (nothing_first _) (takes_then h (λ i. takes_alloc _ (Some at)))
+  loop_takes from (Some l) h =
       takes_then (takes_open l) (λ n. takes_then h (λ i. takes_begin takes_close (λ u. takes_alloc _ (Some at))))
+
+  pub turn_takes : {n k : Size} {c b : ExprSteps} → Takes n c → Takes k b
+      → Takes (k ∪ (n ∪ (an_expr ∪ an_expr))) (turn_form at c b)
+  unfolding turn_form
+  turn_takes hc hb = takes_then hb (λ i. takes_then hc (λ j. takes_then (takes_alloc _ (Some at)) (λ o. takes_alloc _ (Some at))))
 
   pub call_takes : {n k : Size} {f : ExprSteps} {xs : Lowering (List ExprId)} → Takes n f → Takes k xs
       → Takes (n ∪ (k ∪ an_expr)) (call_form at f xs)

@@ -7,7 +7,7 @@ use Rattle.indexmap.specs.IndexMap.{insert_entry}
 use Rattle.hir_store.specs.Bindings.{binding_id}
 use Rattle.hir_store.specs.Pointers.{Pointer, same_pointer, found}
 use Rattle.hir_store.specs.Stored.{SourceMap, Stored, map_of}
-use Rattle.hir_store.proofs.Maps.{found_new, found_split}
+use Rattle.hir_store.proofs.Maps.{found_new, found_split, same_self}
 use Rattle.hir_store.specs.declared.hir.Expr.{Expr}
 use Rattle.hir_store.specs.declared.ids.ExprId.{ExprId}
 use Rattle.hir_store.specs.declared.ids.LabelId.{LabelId}
@@ -139,6 +139,50 @@ led_unled e a = λ before h. record {
   pat_fields = beside_pat_fields (map_of a) before h (unled_way (expr_id (length a.exprs.entries))) (λ q u w. cc);
 }
 
+-- expressions from one node, which leads to the last of them
+
+-- a node leads to what was entered last
+entered_twice : {T : Type 0} (p : Pointer) (t u : T) (es : List (Pointer × T))
+    → insert_entry same_pointer (insert_entry same_pointer es p t) p u ≡ insert_entry same_pointer es p u
+entered_twice p t u [] = ap (λ b. if b then (p, u) ∷ [] else (p, t) ∷ (p, u) ∷ []) (same_self p)
+entered_twice {T = T} p t u (e ∷ es) = by (same_pointer p e.0) refl (entered_twice p t u es)
+  where
+    by : (b : Bool) → same_pointer p e.0 ≡ b
+        → insert_entry same_pointer (insert_entry same_pointer es p t) p u ≡ insert_entry same_pointer es p u
+        → insert_entry same_pointer (if b then (e.0, t) ∷ es else e ∷ insert_entry same_pointer es p t) p u
+        ≡ (if b then (e.0, u) ∷ es else e ∷ insert_entry same_pointer es p u)
+    by true n k = ap (λ b. if b then (e.0, u) ∷ es else (e.0, t) ∷ insert_entry same_pointer es p u) n
+    by false n k =
+        ap (λ b. if b then (e.0, u) ∷ insert_entry same_pointer es p t
+        else e ∷ insert_entry same_pointer (insert_entry same_pointer es p t) p u) n
+        ∙ ap (λ xs. e ∷ xs) k
+
+-- one of which no node leads to
+led_hidden : (map : SourceMap) (i : ExprId) → Led map map (unled_way i ∷ [])
+led_hidden map i = λ before h. record {
+  exprs = beside_exprs map before h (unled_way i) (λ q u w. cc);
+  labels = beside_labels map before h (unled_way i) (λ q u w. cc);
+  fields = beside_fields map before h (unled_way i) (λ q u w. cc);
+  pat_fields = beside_pat_fields map before h (unled_way i) (λ q u w. cc);
+}
+
+module _ (d e : Expr) (p : Pointer) (a : Stored) where
+  abbrev pub two_more : Stored
+  two_more = with_expr e (Some p) (with_expr d (Some p) a)
+
+  abbrev pub third : ExprId
+  third = expr_id (length two_more.exprs.entries)
+
+  led_last : (f : Expr) → Led (map_of a) (map_of (with_expr f (Some p) two_more)) (expr_way p third ∷ [])
+  led_last f = λ before h. record {
+    exprs = subst (λ es. Leads es expr_way (before ++ expr_way p third ∷ []))
+        (sym (entered_twice p _ third (with_expr d (Some p) a).exprs.map ∙ entered_twice p _ third a.exprs.map))
+        (leads_more expr_way a.exprs.map before h.exprs (λ p q t u w. (cc, cc)) p third);
+    labels = beside_labels (map_of a) before h (expr_way p third) (λ q u w. cc);
+    fields = beside_fields (map_of a) before h (expr_way p third) (λ q u w. cc);
+    pat_fields = beside_pat_fields (map_of a) before h (expr_way p third) (λ q u w. cc);
+  }
+
 pub led_binding : (x : Binding) (a : Stored)
     → Led (map_of a) (map_of (with_new_binding x a)) (binding_way (binding_id (length a.bindings.entries)) ∷ [])
 led_binding x a = λ before h. record {
@@ -176,6 +220,11 @@ led_pat_field i p a = λ before h. record {
 pub led_then : {a b c : SourceMap} {us vs : List Way} → Led a b us → Led b c vs → Led a c (us ++ vs)
 led_then {c = c} {us = us} {vs = vs} g k =
     λ before h. subst (λ ws. MapLeads c ws) (append_assoc before us vs) (k (before ++ us) (g before h))
+
+-- three from one node, which leads to the last
+pub led_third : (d e f : Expr) (p : Pointer) (a : Stored) (i j : ExprId)
+    → Led (map_of a) (map_of (with_expr f (Some p) (two_more d e p a))) (unled_way i ∷ unled_way j ∷ expr_way p (third d e p a) ∷ [])
+led_third d e f p a i j = led_then (led_hidden (map_of a) i) (led_then (led_hidden (map_of a) j) (led_last d e p a f))
 
 pub swapped : (xs ys zs : List Way) (w : Way) → Contains (xs ++ (ys ++ zs)) w → Contains (ys ++ (xs ++ zs)) w
 swapped xs ys zs w c = ⊎_elim (λ x. Contains-append_right ys (xs ++ zs) w (Contains-append_left xs zs w x))

@@ -117,14 +117,14 @@ module _ {e : HirExpr} {final : Stored} {ps : List Frame} {m m' : Mark} {i : Exp
 
 module _ {A B : Type 0} {at : Label → LabelId → Frame} {l : Label} {R : LabelId → Rel A} {Q : LabelId → A → Rel B}
     {final : Stored} {ps : List Frame} {m m' : Mark} {b : B} where
-  label_at : (row : Opened at l R Q final ps m m' b) → LabelAt (store_of final) (map_of final) row.number l
+  pub label_at : (row : Opened at l R Q final ps m m' b) → LabelAt (store_of final) (map_of final) row.number l
   label_at row =
       record {
         stored = ap (λ n. slice_get final.labels.entries n) row.new ∙ row.here;
         source = ap (λ n. slice_get final.labels.sources n) row.new ∙ row.from;
       }
 
-  own_label : (row : Opened at l R Q final ps m m' b) → Shown (OneLabelWay l.pointer row.number) m.stored row.entered.stored
+  pub own_label : (row : Opened at l R Q final ps m m' b) → Shown (OneLabelWay l.pointer row.number) m.stored row.entered.stored
   own_label row = shown_label l row.number (row.new ∙ row.last) row.stored
 
 -- leaves
@@ -257,7 +257,7 @@ module _ (at : Pointer) where
       record { shown = shown_as parts (λ ws x. (q.one, row.one, r.one, expr_at q.second, x)) })
 
   pub loop_stands : (label : Option Label) {b : ExprSteps} {B : Of ExprId} → Correct b (Shows B)
-      → Correct (loop_form at label b) (Shows (λ final rs i. InLabel (store_of final) (map_of final) rs label (λ inner n ws. (body : ExprId)
+      → Correct (loop_form at source.Loop label b) (Shows (λ final rs i. InLabel (store_of final) (map_of final) rs label (λ inner n ws. (body : ExprId)
       × Placed final i (hir.Loop body n source.Loop) (Some at) × (B final inner body & OneWay at i) ws)))
   unfolding loop_form
   loop_stands None h = correct_as (correct_bind h (λ i. correct_alloc (hir.Loop i None source.Loop) (Some at))) (λ final ps m m' i g row.

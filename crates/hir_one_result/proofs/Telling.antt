@@ -4,6 +4,7 @@ use Rattle.std.proofs.Common.{Bool, true, false, ◌⊎◌, inl, inr}
 use Rattle.hir_store.specs.Pointers.{Pointer}
 use Rattle.hir_store.specs.Stored.{Stored, store_of, map_of}
 use Rattle.hir_store.specs.declared.hir.Expr.{Expr as HirExpr}
+use Rattle.hir_store.specs.declared.hir.LoopSource.{LoopSource}
 use Rattle.hir_store.specs.declared.ids.ExprId.{ExprId}
 use Rattle.hir_store.specs.declared.ids.LabelId.{LabelId}
 use Rattle.hir_store.specs.declared.ids.BlockId.{BlockId}
@@ -22,7 +23,8 @@ use Rattle.hir_scope.specs.Scopes.{Scope, loop_scope, block_scope, scopes_in_blo
 use Rattle.hir_scope.proofs.Ribs.{target_map}
 use Rattle.hir_lower_form.specs.Lowering.{Lowering, ◌>>=◌, pure, alloc_expr, point, report, report_await, enter_block, open_label, close}
 use Rattle.hir_lower_form.specs.Lowering.{jump_target, point_field}
-use Rattle.hir_lower_form.specs.Lower.{ExprSteps, StoredContents, missing, some, if_form, loop_form, call_form, continue_form, break_form}
+use Rattle.hir_lower_form.specs.Lower.{ExprSteps, StoredContents, missing, some, if_form, loop_form, turn_form, call_form}
+use Rattle.hir_lower_form.specs.Lower.{continue_form, break_form}
 use Rattle.hir_lower_form.specs.Lower.{operand_form, operands_form, value_form, list_form, method_call_form, await_form, paren_form}
 use Rattle.hir_lower_form.specs.Lower.{path_form, block_form, labelled, StoredFields, lower_path, cast_form, offset_of_form}
 use Rattle.hir_lower_form.specs.Lower.{record_contents, record_of, record_form, field_form, constant_form}
@@ -248,14 +250,20 @@ module _ {X : Type 0} (L : Listing X) where
     unfolding if_form
     if_tells hc ht he = tells_bind ht (λ i. tells_bind he (λ j. tells_end hc (λ k. tells_alloc _ _)))
 
-    pub loop_tells : (label : Option Label) {D : List Scope → List X} {b : ExprSteps} → Correct b (Tells D)
-        → Correct (loop_form at label b) (Tells (λ ss. D (loop_scope label ∷ ss)))
+    pub loop_tells : (from : LoopSource) (label : Option Label) {D : List Scope → List X} {b : ExprSteps} → Correct b (Tells D)
+        → Correct (loop_form at from label b) (Tells (λ ss. D (loop_scope label ∷ ss)))
     unfolding loop_form
-    loop_tells None h = tells_end
+    loop_tells from None h = tells_end
         (correct_as h (λ final ps m m' a g row. record { told = λ ss e. row.told (loop_scope None ∷ ss) (in_loop ss (ribs ps) e) }))
         (λ i. tells_alloc _ _)
-    loop_tells (Some l) h =
+    loop_tells from (Some l) h =
         opened_tells loop_at l (loop_scope (Some l)) (λ n ps. refl) (λ n. loop_is_rib l n) (λ n. h) (λ n i. tells_alloc _ _)
+
+    -- the body first
+    pub turn_tells : {C B : List Scope → List X} {c b : ExprSteps} → Correct c (Tells C) → Correct b (Tells B)
+        → Correct (turn_form at c b) (Tells (λ ss. B ss ++ C ss))
+    unfolding turn_form
+    turn_tells hc hb = tells_bind hb (λ i. tells_end hc (λ k. tells_end (tells_alloc _ _) (λ o. tells_alloc _ _)))
 
     pub call_tells : {D E : List Scope → List X} {f : ExprSteps} {xs : Lowering (List ExprId)} → Correct f (Tells D) → Correct xs (Tells E)
         → Correct (call_form at f xs) (Tells (λ ss. D ss ++ E ss))

@@ -41,7 +41,7 @@ use Rattle.hir_store.specs.Pointers.{Pointer}
 use Rattle.hir_one_result.proofs.Around.{scopes_around}
 use Rattle.hir_one_result.proofs.AfterLowering.{after_lowering}
 use Rattle.hir_one_result.proofs.Telling.{Listing, Tells, tells_bind, tells_as, tells_end, tells_pure, tells_some, tells_report}
-use Rattle.hir_one_result.proofs.Telling.{missing_tells, if_tells, loop_tells, call_tells, continue_tells, break_tells, paren_tells}
+use Rattle.hir_one_result.proofs.Telling.{missing_tells, if_tells, loop_tells, turn_tells, call_tells, continue_tells, break_tells, paren_tells}
 use Rattle.hir_one_result.proofs.Telling.{operand_tells, operands_tells, value_tells, list_tells, method_call_tells, await_tells}
 use Rattle.hir_one_result.proofs.Telling.{cast_tells, record_tells, offset_of_tells, field_tells, contents_tells, path_tells}
 use Rattle.hir_one_result.proofs.Telling.{block_form_tells, labelled_tells, tells_alloc, tells_aside, constant_tells, inner_tells}
@@ -257,7 +257,8 @@ mutual
   node_blocks (tree.disabled_expr at by e) = tells_end entered (tells_report entered _) (λ u. missing_tells entered)
   node_blocks (tree.if_expr at c t e) = if_tells entered at (part_blocks c) (block_part_blocks t) (present_blocks e)
   node_blocks (tree.block_expr b) = block_blocks b
-  node_blocks (tree.loop_expr at label b) = loop_tells entered at label (block_part_blocks b)
+  node_blocks (tree.loop_expr at label b) = loop_tells entered at _ label (block_part_blocks b)
+  node_blocks (tree.while_expr at label c b) = loop_tells entered at _ label (turn_tells entered at (part_blocks c) (block_part_blocks b))
   node_blocks (tree.call_expr at f has_list es) = call_tells entered at (part_blocks f) (each_blocks [] es)
   node_blocks (tree.path_expr at p h) = path_tells entered at h (whole_enters p)
   node_blocks (tree.continue_expr at jump) = continue_tells entered at jump

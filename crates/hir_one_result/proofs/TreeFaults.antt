@@ -8,7 +8,7 @@ use Rattle.hir_store.specs.declared.hir.Statement.{Statement}
 use Rattle.hir_store.specs.declared.ids.ExprId.{ExprId}
 use Rattle.hir_store.specs.declared.diagnostics.ExpressionStoreDiagnostics.{ExpressionStoreDiagnostics}
 use Rattle.hir_store.proofs.Extending.{extends_refl}
-use Rattle.hir_scope.specs.Scopes.{Scope}
+use Rattle.hir_scope.specs.Scopes.{Scope, loop_scope}
 use Rattle.hir_env.specs.Answered as tree
 use Rattle.hir_store.specs.declared.hir.RecordLitField.{RecordLitField}
 use Rattle.hir_lower_form.specs.Lower.{lower_fields, lower_field, lower_spread, ExprSteps, kept, lower, lower_part, present, kept_part}
@@ -41,7 +41,7 @@ use Rattle.hir_one_result.specs.Diagnostics.{each_formal_faults, body_faults}
 use Rattle.hir_one_result.specs.Laws.{DiagnosticsAre}
 use Rattle.hir_one_result.proofs.AfterLowering.{after_lowering}
 use Rattle.hir_one_result.proofs.Telling.{Listing, Tells, tells_bind, tells_as, tells_end, tells_pure, tells_some, tells_report}
-use Rattle.hir_one_result.proofs.Telling.{missing_tells, if_tells, loop_tells, call_tells, continue_tells, break_tells, paren_tells}
+use Rattle.hir_one_result.proofs.Telling.{missing_tells, if_tells, loop_tells, turn_tells, call_tells, continue_tells, break_tells, paren_tells}
 use Rattle.hir_one_result.proofs.Telling.{operand_tells, operands_tells, value_tells, list_tells, method_call_tells, await_tells}
 use Rattle.hir_one_result.proofs.Telling.{cast_tells, record_tells, offset_of_tells, field_tells, contents_tells, path_tells}
 use Rattle.hir_one_result.proofs.Telling.{block_form_tells, labelled_tells, tells_alloc, tells_aside, constant_tells, inner_tells}
@@ -264,7 +264,10 @@ mutual
   node_faults (tree.if_expr at c t e) = tells_as reported (if_tells reported at (part_faults c) (block_part_faults t) (present_faults e))
       (λ ss. turned (part_diagnostics ss c) (block_part_diagnostics ss t) (part_diagnostics ss e))
   node_faults (tree.block_expr b) = block_faults b
-  node_faults (tree.loop_expr at label b) = loop_tells reported at label (block_part_faults b)
+  node_faults (tree.loop_expr at label b) = loop_tells reported at _ label (block_part_faults b)
+  node_faults (tree.while_expr at label c b) =
+      tells_as reported (loop_tells reported at _ label (turn_tells reported at (part_faults c) (block_part_faults b)))
+      (λ ss. IsPermutation-append_comm (part_diagnostics (loop_scope label ∷ ss) c) (block_part_diagnostics (loop_scope label ∷ ss) b))
   node_faults (tree.call_expr at f has_list es) = call_tells reported at (part_faults f) (each_faults [] es)
   node_faults (tree.path_expr at p h) = path_tells reported at h (whole_reports p)
   node_faults (tree.continue_expr at jump) = continue_tells reported at jump

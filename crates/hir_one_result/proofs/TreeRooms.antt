@@ -70,7 +70,7 @@ use Rattle.hir_lower_form.specs.declared.walk.PathWalk.{PathWalk}
 use Rattle.hir_lower_form.specs.Walks as walks
 use Rattle.hir_lower_form.specs.Walks.{start}
 use Rattle.hir_lower_form.specs.Paths.{proceed}
-use Rattle.hir_one_result.proofs.ExprRooms.{missing_takes, some_takes, if_takes, loop_takes, call_takes, continue_takes, break_takes}
+use Rattle.hir_one_result.proofs.ExprRooms.{missing_takes, some_takes, if_takes, loop_takes, turn_takes, call_takes, continue_takes, break_takes}
 use Rattle.hir_one_result.proofs.ExprRooms.{paren_takes, path_takes, operand_takes, operands_take, value_takes, list_takes}
 use Rattle.hir_one_result.proofs.ExprRooms.{method_call_takes, cast_takes, offset_of_takes, record_takes, field_takes, await_takes}
 use Rattle.hir_one_result.proofs.ExprRooms.{block_form_takes, contents_take, labelled_takes, kept_takes}
@@ -257,7 +257,8 @@ mutual
   node_takes (tree.disabled_expr at by e) = takes_begin (takes_report _) (λ u. missing_takes)
   node_takes (tree.if_expr at c t e) = if_takes at (part_takes c) (block_part_takes t) (present_takes e)
   node_takes (tree.block_expr b) = block_takes b
-  node_takes (tree.loop_expr at label b) = loop_takes at label (block_part_takes b)
+  node_takes (tree.loop_expr at label b) = loop_takes at _ label (block_part_takes b)
+  node_takes (tree.while_expr at label c b) = loop_takes at _ label (turn_takes at (part_takes c) (block_part_takes b))
   node_takes (tree.call_expr at f has_list es) = call_takes at (part_takes f) (each_takes [] es)
   node_takes (tree.path_expr at p h) = path_takes at h (takes_of (path_tells p))
   node_takes (tree.continue_expr at jump) = continue_takes at jump

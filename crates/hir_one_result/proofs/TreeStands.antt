@@ -72,6 +72,7 @@ use Rattle.hir_one_result.proofs.Settling.{no_top_stands, some_top_stands}
 use Rattle.hir_one_result.proofs.Standing.{cast_stands, record_stands, offset_of_stands, field_stands, contents_stand, Shows}
 use Rattle.hir_one_result.proofs.Standing.{moved_pure, moved_fault, missing_stands, path_stands, literal_stands, present_none}
 use Rattle.hir_one_result.proofs.Standing.{present_some, if_stands, loop_stands, call_stands, continue_stands, break_stands, unary_is}
+use Rattle.hir_one_result.proofs.Whiles.{while_stands}
 use Rattle.hir_one_result.proofs.Standing.{binary_is, leaving_is, leaf_stands, operand_stands, operands_stand, value_stands, list_stands}
 use Rattle.hir_one_result.proofs.Standing.{method_call_stands, await_stands, paren_stands, labelled_stands, Leaves}
 use Rattle.hir_one_result.proofs.Standing.{type_shown, option_type_shown, args_shown, let_stands, match_stands, assign_stands, range_stands}
@@ -211,6 +212,7 @@ mutual
   node_stands (tree.if_expr at c t e) = if_stands at (part_stands c) (block_part_stands t) (present_stands e)
   node_stands (tree.block_expr b) = block_stands b
   node_stands (tree.loop_expr at label b) = loop_stands at label (block_part_stands b)
+  node_stands (tree.while_expr at label c b) = while_stands at label (part_stands c) (block_part_stands b)
   node_stands (tree.call_expr at f has_list es) = call_stands at (part_stands f) (all_stand_for es (each_stands [] es))
   node_stands (tree.path_expr at p h) = path_stands at p h (whole_left p)
   node_stands (tree.continue_expr at jump) = continue_stands at jump

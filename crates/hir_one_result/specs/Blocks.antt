@@ -153,6 +153,7 @@ abbrev mutual
   blocks_of (tree.if_expr at c t e) = blocks_of_block_part t ++ (blocks_of_part e ++ blocks_of_part c)
   blocks_of (tree.block_expr b) = blocks_of_block b
   blocks_of (tree.loop_expr at label b) = blocks_of_block_part b
+  blocks_of (tree.while_expr at label c b) = blocks_of_block_part b ++ blocks_of_part c
   blocks_of (tree.call_expr at f has_list es) = blocks_of_part f ++ blocks_of_each es
   blocks_of (tree.path_expr at p h) = blocks_of_whole p
   blocks_of (tree.continue_expr at jump) = []

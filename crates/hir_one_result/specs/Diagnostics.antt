@@ -172,6 +172,8 @@ abbrev mutual
   diagnostics ss (tree.if_expr at c t e) = part_diagnostics ss c ++ (block_part_diagnostics ss t ++ part_diagnostics ss e)
   diagnostics ss (tree.block_expr b) = block_diagnostics ss b
   diagnostics ss (tree.loop_expr at label b) = block_part_diagnostics (loop_scope label ∷ ss) b
+  diagnostics ss (tree.while_expr at label c b) =
+      part_diagnostics (loop_scope label ∷ ss) c ++ block_part_diagnostics (loop_scope label ∷ ss) b
   diagnostics ss (tree.call_expr at f has_list es) = part_diagnostics ss f ++ each_diagnostics ss es
   diagnostics ss (tree.path_expr at p h) = whole_faults ss p
   diagnostics ss (tree.continue_expr at jump) = jump_faults ss jump

@@ -172,6 +172,8 @@ abbrev mutual
   size (tree.if_expr at c t e) = block_part_size t ∪ size_present e ∪ size_part c ∪ an_expr
   size (tree.block_expr b) = block_size b
   size (tree.loop_expr at label b) = label_size label ∪ block_part_size b ∪ an_expr
+  -- the body before the condition, then a break and the turn, and the loop last
+  size (tree.while_expr at label c b) = label_size label ∪ (block_part_size b ∪ size_part c ∪ an_expr ∪ an_expr) ∪ an_expr
   size (tree.call_expr at f has_list es) = size_part f ∪ size_each es ∪ an_expr
   size (tree.path_expr at p h) = whole_size p ∪ an_expr
   size (tree.continue_expr at jump) = an_expr

@@ -123,6 +123,14 @@ module _ (store : Store) (source_map : SourceMap) where
   InLabel rs None S = S rs None
   InLabel rs (Some l) S = λ ws. (n : LabelId) × LabelAt n l × (OneLabelWay l.pointer n & S (opened l n rs) (Some n)) ws
 
+  -- The turn of a `while` is its body where the condition holds, else a break. It, the break and the loop came from the node of the
+  -- `while`, which leads to the loop alone.
+  abbrev pub StandsWhile : Pointer → Option LabelId → (ExprId → Ways) → (ExprId → Ways) → ExprId → Ways
+  StandsWhile at n C B i = λ ws.
+      (condition : ExprId) × (body : ExprId) × (out : ExprId) × (turn : ExprId) × ExprAt i (hir.Loop turn n source.While) (Some at)
+      × ExprAt turn (hir.If condition body (Some out)) (Some at) × ExprAt out (hir.Break None None) (Some at)
+      × (C condition & B body & OneUnled out & OneUnled turn & OneWay at i) ws
+
   -- an item of the language comes from no node
   abbrev pub StandsItem : Option LangItemId → ExprId → Ways
   StandsItem item i = λ ws. ExprAt i (item_form item) None × OneUnled i ws
@@ -331,6 +339,9 @@ module _ (store : Store) (source_map : SourceMap) where
     Stands rs (tree.loop_expr at label b) i =
         InLabel rs label (λ inner n ws. (body : ExprId) × ExprAt i (hir.Loop body n source.Loop) (Some at)
         × (StandsBlockPart inner b body & OneWay at i) ws)
+    -- its condition lies under its label, too
+    Stands rs (tree.while_expr at label c b) i =
+        InLabel rs label (λ inner n. StandsWhile at n (λ x. StandsPart inner c x) (λ x. StandsBlockPart inner b x) i)
     Stands rs (tree.call_expr at f has_list es) i = λ ws.
         (callee : ExprId) × (arguments : List ExprId) × ExprAt i (hir.Call callee arguments) (Some at)
         × (StandsPart rs f callee & StandsEach rs es arguments & OneWay at i) ws

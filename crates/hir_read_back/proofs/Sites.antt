@@ -3,6 +3,7 @@ use Rattle.std.proofs.Common.{arith, refl, Bool, true, false, List, Option, Some
 use Rattle.hir_store.specs.Pointers.{Pointer}
 use Rattle.hir_store.specs.Stored.{Stored}
 use Rattle.hir_store.specs.declared.hir.Expr.{Expr as HirExpr}
+use Rattle.hir_store.specs.declared.hir.LoopSource.{LoopSource}
 use Rattle.hir_store.specs.declared.hir.MatchArm.{MatchArm}
 use Rattle.hir_store.specs.declared.ids.BlockId.{BlockId}
 use Rattle.hir_store.specs.declared.ids.ExprId.{ExprId}
@@ -63,10 +64,10 @@ module _ (at : Pointer) where
   unfolding if_form
   if_from hc ht he = ends_from ht (λ i. ends_from he (λ j. ends_from hc (λ k. stored_from _)))
 
-  pub loop_from : (label : Option Label) {b : ExprSteps} → Correct b Any → From here (loop_form at label b)
+  pub loop_from : (from : LoopSource) (label : Option Label) {b : ExprSteps} → Correct b Any → From here (loop_form at from label b)
   unfolding loop_form
-  loop_from None h = ends_from h (λ i. stored_from _)
-  loop_from (Some l) h = correct_as (correct_opened loop_at l (λ n ps. refl) (λ n. h) (λ n i. stored_from _))
+  loop_from from None h = ends_from h (λ i. stored_from _)
+  loop_from from (Some l) h = correct_as (correct_opened loop_at l (λ n ps. refl) (λ n. h) (λ n i. stored_from _))
       (λ final ps m m' i g row. record { is = row.second.is })
 
   pub call_from : {f : ExprSteps} {xs : Lowering (List ExprId)} → Correct f Any → Correct xs Any → From here (call_form at f xs)

@@ -24,7 +24,7 @@ use Rattle.hir_lower_form.specs.Types.{no_lists}
 use Rattle.hir_lower_form.specs.Lower as lower
 use Rattle.hir_steps.proofs.Steps.{Correct, correct_report}
 use Rattle.hir_steps.proofs.Keeping.{part_any, present_any, each_any, block_part_any, stmts_any, kept_part_any, contents_any, fields_any}
-use Rattle.hir_steps.proofs.Keeping.{spread_any, type_any, lower_path_any, args_any, top_any, arms_any, target_any}
+use Rattle.hir_steps.proofs.Keeping.{turn_any, spread_any, type_any, lower_path_any, args_any, top_any, arms_any, target_any}
 use Rattle.hir_data.specs.Data as datum
 use Rattle.hir_data.specs.Data.{TypesData, no_args}
 use Rattle.hir_data.specs.Rule.{broken, named}
@@ -235,7 +235,8 @@ mutual
   expr_from (tree.record_expr at p head fs s) =
       sites.record_from at (written.path_of p) (path_reads p) (contents_any (fields_any [] fs) (spread_any s))
   expr_from (tree.if_expr at c t e) = sites.if_from at (part_any c) (block_part_any t) (present_any e)
-  expr_from (tree.loop_expr at label b) = sites.loop_from at label (block_part_any b)
+  expr_from (tree.loop_expr at label b) = sites.loop_from at _ label (block_part_any b)
+  expr_from (tree.while_expr at label c b) = sites.loop_from at _ label (turn_any at (part_any c) (block_part_any b))
   expr_from (tree.call_expr at f has_list es) = sites.call_from at (part_any f) (each_any [] es)
   expr_from (tree.path_expr at p h) = sites.path_from at h (lower_path_any p)
   expr_from (tree.continue_expr at jump) = sites.continue_from at jump

@@ -5,7 +5,7 @@ use Rattle.hir_syntax.specs.declared.ast.Literal.{Literal as AstLiteral}
 use Rattle.hir_store.specs.Pointers.{Pointer}
 use Rattle.hir_store.specs.Stored.{Stored, store_of, map_of}
 use Rattle.hir_store.specs.declared.hir.Expr.TheVariants as hir
-use Rattle.hir_store.specs.declared.hir.LoopSource.TheVariants as source
+use Rattle.hir_store.specs.declared.hir.LoopSource.{LoopSource}
 use Rattle.hir_store.specs.declared.hir.Statement.{Statement}
 use Rattle.hir_store.specs.declared.hir.Statement.TheVariants as statement
 use Rattle.hir_store.specs.declared.path.Path.{Path}
@@ -21,7 +21,7 @@ use Rattle.hir_env.specs.NodeMap.{Site}
 use Rattle.hir_env.specs.Answering.{site_of}
 use Rattle.hir_lower_form.specs.Builder.{Builder}
 use Rattle.hir_lower_form.specs.Lowering.{Checked, Lowering, ◌>>=◌, pure, alloc_expr, report}
-use Rattle.hir_lower_form.specs.Lower.{ExprSteps, StoredContents, push_some, missing, some, if_form, loop_form, call_form}
+use Rattle.hir_lower_form.specs.Lower.{ExprSteps, StoredContents, push_some, missing, some, if_form, loop_form, turn_form, call_form}
 use Rattle.hir_lower_form.specs.Lower.{continue_form, break_form}
 use Rattle.hir_lower_form.specs.Lower.{paren_form, stored_literal, path_or_missing, path_form, lower_path, settled}
 use Rattle.hir_lower_form.specs.Lower.{settled_block, block_form, labelled, kept}
@@ -35,14 +35,15 @@ use Rattle.hir_meaning.specs.Data.{literal_data}
 use Rattle.hir_meaning.specs.Run.{Value, unit, is_true, literal, call, break, continue, leave, missing as is_missing}
 use Rattle.hir_meaning.specs.Run.{ends, pure as gives, ◌>>=◌ as ◌then◌, ask, tests, entering}
 use Rattle.hir_meaning.specs.Catching.{turn, loop}
-use Rattle.hir_scope.specs.Scopes.{loop_scope, break_target, continue_target, outward, scopes_in_block}
+use Rattle.hir_scope.specs.Scopes.{Scope, loop_scope, break_target, continue_target, outward, scopes_in_block}
 use Rattle.hir_meaning.specs.Left.{is_kept, is_left}
-use Rattle.hir_meaning.specs.Syntax.{SyntaxRun, run_path, run_stmts, run_tail, catching}
-use Rattle.hir_steps.proofs.Frames.{Frame, plain_loop, loop_at, block_at, Falls}
+use Rattle.hir_meaning.specs.Syntax.{SyntaxRun, run_path, run_stmts, run_tail, catching, while_turn, run_while}
+use Rattle.hir_steps.proofs.Frames.{Frame, plain_loop, loop_at, block_at, scopes, Falls}
 use Rattle.hir_steps.proofs.Steps.{Mark, Grows, Rel, Holds, Correct, Allocated, correct_bind, correct_as, correct_pure}
 use Rattle.hir_steps.proofs.Steps.{correct_report, correct_point, correct_enter_block, correct_alloc, correct_opened, correct_target}
 use Rattle.hir_same_meaning.proofs.Targets.{break_meets, continue_meets, among}
-use Rattle.hir_same_meaning.proofs.Relation.{same_read_path}
+use Rattle.hir_same_meaning.proofs.Relation.{TurnsAlike, same_read_path}
+use Rattle.hir_same_meaning.proofs.Turns.{alike_same, branched, while_alike}
 use Rattle.hir_same_meaning.proofs.Senses.{Walk, one, optional, many, contents, Goes, Runs, Wider, goes_within, goes_at}
 use Rattle.hir_same_meaning.proofs.Nodes
 use Rattle.hir_same_meaning.proofs.Strict.{event0_fine, event2_fine}
@@ -105,15 +106,50 @@ module _ (at : Pointer) where
       (λ final ps m m' i g row. let r = row.second in let q = r.second in
       Nodes.goes_if (goes_within (omega arith) q.first) (goes_within (omega arith) row.first) (goes_within (omega arith) r.first) q.second)
 
-  pub loop_fine : (l : Option Label) {p : ExprSteps} {x : Walk Value} → Correct p (Runs one x)
-      → Correct (loop_form at l p) (Runs one (λ turns ss. loop outward turns (turn (x turns (loop_scope l ∷ ss)))))
+  -- a loop whose body goes as a turn that is one of the loop, in its scope
+  turns_fine : (from : LoopSource) (l : Option Label) (y : Walk (Option Value)) {p : ExprSteps} {x : Walk Value}
+      → ((turns : ℕ) (ss : List Scope) → TurnsAlike (x turns (loop_scope l ∷ ss)) (y turns (loop_scope l ∷ ss)))
+      → Correct p (Runs one x)
+      → Correct (loop_form at from l p) (Runs one (λ turns ss. loop outward turns (y turns (loop_scope l ∷ ss))))
   unfolding loop_form
-  loop_fine None h = correct_as (correct_bind (correct_in_loop h) (λ i. correct_alloc (hir.Loop i None source.Loop) (Some at)))
-      (λ final ps m m' i g row. Nodes.goes_loop None (λ f. f) (goes_within (omega arith) row.first.rel) row.second)
-  loop_fine (Some l) h = correct_as
-      (correct_opened loop_at l (λ n ps. refl) (λ n. h) (λ n i. correct_alloc (hir.Loop i (Some n) source.Loop) (Some at)))
-      (λ final ps m m' i g row. Nodes.goes_loop {labels' = row.entered.labels} (Some (record { label = l; number = row.number }))
-      (falls_new m.labels row.entered.labels l row.number ps row.new row.labels) (goes_within (omega arith) row.first) row.second)
+  turns_fine from None y alike h = correct_as
+      (correct_bind (correct_in_loop h) (λ i. correct_alloc (hir.Loop i None from) (Some at)))
+      (λ final ps m m' i g row.
+      Nodes.goes_loop None y (λ turns. alike turns (scopes ps)) (λ f. f) (goes_within (omega arith) row.first.rel) row.second)
+  turns_fine from (Some l) y alike h = correct_as
+      (correct_opened loop_at l (λ n ps. refl) (λ n. h) (λ n i. correct_alloc (hir.Loop i (Some n) from) (Some at)))
+      (λ final ps m m' i g row.
+      Nodes.goes_loop {labels' = row.entered.labels} (Some (record { label = l; number = row.number })) y
+      (λ turns. alike turns (scopes ps)) (falls_new m.labels row.entered.labels l row.number ps row.new row.labels)
+      (goes_within (omega arith) row.first) row.second)
+
+  pub loop_fine : (from : LoopSource) (l : Option Label) {p : ExprSteps} {x : Walk Value} → Correct p (Runs one x)
+      → Correct (loop_form at from l p) (Runs one (λ turns ss. loop outward turns (turn (x turns (loop_scope l ∷ ss)))))
+  loop_fine from l {x = x} h =
+      turns_fine from l (λ turns ss. turn (x turns ss)) (λ turns ss. alike_same (x turns (loop_scope l ∷ ss))) h
+
+  -- the body where the condition holds, else a break of the innermost loop
+  abbrev turn_walk : Walk Value → Walk Value → Walk Value
+  turn_walk x y turns ss = branched (x turns ss) (y turns ss) (◌then◌ (gives unit) (λ v. ends (break (break_target ss None) v))) here
+
+  turn_fine : {c b : ExprSteps} {x y : Walk Value} → Correct c (Runs one x) → Correct b (Runs one y)
+      → Correct (turn_form at c b) (Runs one (turn_walk x y))
+  unfolding turn_form
+  turn_fine hc hb = correct_as
+      (correct_bind hb (λ j. correct_bind hc (λ k. correct_bind (correct_alloc (hir.Break None None) (Some at))
+      (λ o. correct_alloc (hir.If k j (Some o)) (Some at)))))
+      (λ final ps m m' i g row. let r = row.second in let q = r.second in
+      let out = Nodes.goes_break None (break_meets m.labels ps None) (among ps None) Nodes.goes_none q.first in
+      Nodes.goes_if (goes_within (omega arith) r.first) (goes_within (omega arith) row.first)
+      (Nodes.goes_some (goes_within (omega arith) out)) q.second)
+
+  pub while_fine : (from : LoopSource) (l : Option Label) {c b : ExprSteps} {x y : Walk Value} → Correct c (Runs one x)
+      → Correct b (Runs one y)
+      → Correct (loop_form at from l (turn_form at c b))
+      (Runs one (λ turns ss. run_while turns (x turns (loop_scope l ∷ ss)) (y turns (loop_scope l ∷ ss)) here))
+  while_fine from l {x = x} {y = y} hc hb =
+      turns_fine from l (λ turns ss. while_turn (x turns ss) (y turns ss) here)
+      (λ turns ss. while_alike (x turns (loop_scope l ∷ ss)) (y turns (loop_scope l ∷ ss)) here) (turn_fine hc hb)
 
   pub break_fine : (j : Option Jump) {p : Lowering (Option ExprId)} {x : Walk Value} → Correct p (Runs optional x)
       → Correct (break_form at j p) (Runs one (λ turns ss. ◌then◌ (x turns ss) (λ v. ends (break (break_target ss j) v))))

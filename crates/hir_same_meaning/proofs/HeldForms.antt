@@ -7,7 +7,7 @@ use Rattle.hir_store.specs.declared.diagnostics.AwaitLocation.{AwaitLocation}
 use Rattle.hir_store.specs.declared.diagnostics.ExpressionStoreDiagnostics.TheVariants.{InactiveCode}
 use Rattle.hir_store.specs.declared.hir.Expr.{Expr as HirExpr}
 use Rattle.hir_store.specs.declared.hir.Expr.TheVariants as hir
-use Rattle.hir_store.specs.declared.hir.LoopSource.TheVariants as source
+use Rattle.hir_store.specs.declared.hir.LoopSource.{LoopSource}
 use Rattle.hir_store.specs.declared.hir.RecordLitField.{RecordLitField}
 use Rattle.hir_store.specs.declared.hir.RecordSpread.{RecordSpread}
 use Rattle.hir_store.specs.declared.hir.Statement.{Statement}
@@ -25,7 +25,7 @@ use Rattle.hir_data.specs.Rule.{PathRead}
 use Rattle.hir_lower_form.specs.Lowering.{Lowering, ◌>>=◌, pure, alloc_expr}
 use Rattle.hir_lower_form.specs.Types.{TypeSteps}
 use Rattle.hir_lower_form.specs.Lower.{ExprSteps, StoredContents, StoredFields, push_some, missing, some, if_form, loop_form, call_form}
-use Rattle.hir_lower_form.specs.Lower.{continue_form, break_form, operand_form, operands_form, value_form, list_form}
+use Rattle.hir_lower_form.specs.Lower.{turn_form, continue_form, break_form, operand_form, operands_form, value_form, list_form}
 use Rattle.hir_lower_form.specs.Lower.{method_call_form, await_form, paren_form, path_form, path_or_missing, cast_form}
 use Rattle.hir_lower_form.specs.Lower.{offset_of_form, record_contents, record_of, record_form, field_form, block_form, labelled}
 use Rattle.hir_lower_form.specs.Lower.{stored_leaf, stored_unary, stored_binary, stored_leaving, settled, settled_block, kept}
@@ -38,7 +38,7 @@ use Rattle.hir_steps.proofs.Frames.{Frame, loop_at, block_at}
 use Rattle.hir_steps.proofs.Steps.{Mark, Rel, Correct, correct_bind, correct_as, correct_both, correct_pure, correct_alloc}
 use Rattle.hir_steps.proofs.Steps.{correct_report, correct_report_await, correct_point, correct_point_field, correct_enter_block}
 use Rattle.hir_steps.proofs.Steps.{correct_opened, correct_target}
-use Rattle.hir_same_meaning.proofs.Holding.{inners_in, same_append, same_ids, Ids, an_expr, a_type, each, maybe, Holds}
+use Rattle.hir_same_meaning.proofs.Holding.{inners_in, same_append, same_ids, same_bodies, Ids, an_expr, a_type, each, maybe, Holds}
 use Rattle.hir_same_meaning.proofs.Holding.{holds_none, holds_one, holds_two, holds_behind, expr_held, expr0, expr1, expr2}
 use Rattle.hir_same_meaning.proofs.HeldTypes.{a_path, some_args}
 
@@ -209,12 +209,12 @@ module _ (at : Pointer) {es : Bodies} where
   unfolding break_form
   break_held j h = holds_behind (correct_target j) (λ n. expr1 (Some at) (hir.Break n) (λ r o. refl) h)
 
-  pub loop_held : (label : Option Label) {b : ExprSteps} → Correct b (Holds an_expr es)
-      → Correct (loop_form at label b) (Holds an_expr es)
+  pub loop_held : (from : LoopSource) (label : Option Label) {b : ExprSteps} → Correct b (Holds an_expr es)
+      → Correct (loop_form at from label b) (Holds an_expr es)
   unfolding loop_form
-  loop_held None h = expr1 (Some at) (λ b. hir.Loop b None source.Loop) (λ r i. refl) h
-  loop_held (Some l) h = correct_as
-      (correct_opened loop_at l (λ n ps. refl) (λ n. h) (λ n i. correct_alloc (hir.Loop i (Some n) source.Loop) (Some at)))
+  loop_held from None h = expr1 (Some at) (λ b. hir.Loop b None from) (λ r i. refl) h
+  loop_held from (Some l) h = correct_as
+      (correct_opened loop_at l (λ n ps. refl) (λ n. h) (λ n i. correct_alloc (hir.Loop i (Some n) from) (Some at)))
       (λ final ps m m' i g row. expr_held row.second row.after (λ d le. row.first.same d le))
 
   pub offset_of_held : (names : List Name) {t : TypeSteps} → Correct t (Holds a_type es)
@@ -247,6 +247,22 @@ module _ (at : Pointer) {es : Bodies} where
         → Correct (call_form at p q) (Holds an_expr (es ++ fs))
     unfolding call_form
     call_held hp hq = expr2 (Some at) hir.Call (λ r f xs. refl) hp hq
+
+    -- the body is lowered before the condition, and a break behind both
+    pub turn_held : {c b : ExprSteps} → Correct c (Holds an_expr es) → Correct b (Holds an_expr fs)
+        → Correct (turn_form at c b) (Holds an_expr (es ++ fs))
+    unfolding turn_form
+    turn_held hc hb = correct_as
+        (correct_bind hb (λ b. correct_bind hc (λ c. correct_bind (expr0 (hir.Break None None) (Some at) (λ r. refl))
+        (λ o. correct_alloc (hir.If c b (Some o)) (Some at)))))
+        (λ final ps m m' i g row. let s = row.second in let u = s.second in
+        expr_held u.second u.after (λ d le. let r = inners_in final d in
+        same_append final (r.expr s.one) (r.expr row.one ++ r.expr u.one) es fs
+        (s.first.same d (omega (le, u.before.nodes, u.before.entries, arith)))
+        (same_bodies final (r.expr row.one ++ r.expr u.one) (append-nil fs)
+        (same_append final (r.expr row.one) (r.expr u.one) fs []
+        (row.first.same d (omega (le, s.before.nodes, s.before.entries, u.before.nodes, u.before.entries, arith)))
+        (u.first.same d le)))))
 
     pub cast_held : {p : ExprSteps} {t : TypeSteps} → Correct p (Holds an_expr es) → Correct t (Holds a_type fs)
         → Correct (cast_form at p t) (Holds an_expr (es ++ fs))

@@ -201,7 +201,8 @@ mutual
   expr_holds (tree.disabled_expr at by e) = holds_behind (correct_report (InactiveCode at by)) (λ u. forms.missing_held)
   expr_holds (tree.if_expr at c t e) = forms.if_held at (body_holds c) (block_part_holds t) (present_holds e)
   expr_holds (tree.block_expr b) = block_holds b
-  expr_holds (tree.loop_expr at label b) = forms.loop_held at label (block_part_holds b)
+  expr_holds (tree.loop_expr at label b) = forms.loop_held at _ label (block_part_holds b)
+  expr_holds (tree.while_expr at label c b) = forms.loop_held at _ label (forms.turn_held at (body_holds c) (block_part_holds b))
   expr_holds (tree.call_expr at f has_list es) = forms.call_held at (body_holds f) (pushed_all (each_holds es []))
   expr_holds (tree.path_expr at p h) = forms.path_held at h (paths.path_held p (outer_holds p))
   expr_holds (tree.continue_expr at jump) = forms.continue_held at jump

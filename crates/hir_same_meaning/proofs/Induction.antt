@@ -44,7 +44,8 @@ mutual
   expr_fine (tree.paren_expr at e) = Forms.paren_fine at (part_fine e)
   expr_fine (tree.call_expr at f has_list es) = Forms.call_fine at (part_fine f) (Forms.pushed_all (each_fine es []))
   expr_fine (tree.if_expr at c t e) = Forms.if_fine at (part_fine c) (block_part_fine t) (present_fine e)
-  expr_fine (tree.loop_expr at label b) = Forms.loop_fine at label (block_part_fine b)
+  expr_fine (tree.loop_expr at label b) = Forms.loop_fine at _ label (block_part_fine b)
+  expr_fine (tree.while_expr at label c b) = Forms.while_fine at _ label (part_fine c) (block_part_fine b)
   expr_fine (tree.break_expr at jump e) = Forms.break_fine at jump (present_fine e)
   expr_fine (tree.continue_expr at jump) = Forms.continue_fine at jump
   expr_fine (tree.block_expr b) = block_is_fine b

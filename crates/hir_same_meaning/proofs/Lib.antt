@@ -1,6 +1,7 @@
 pub mod Views
 pub mod Targets
 pub mod Relation
+pub mod Turns
 pub mod Senses
 pub mod Nodes
 pub mod Blocks

@@ -5,7 +5,7 @@ use Rattle.hir_base.specs.declared.op.BinaryOp.TheVariants as ast
 use Rattle.hir_store.specs.Pointers.{Pointer}
 use Rattle.hir_store.specs.Stored.{Stored}
 use Rattle.hir_store.specs.declared.hir.Expr.TheVariants as hir
-use Rattle.hir_store.specs.declared.hir.LoopSource.TheVariants as source
+use Rattle.hir_store.specs.declared.hir.LoopSource.{LoopSource}
 use Rattle.hir_store.specs.declared.hir.RecordSpread.TheVariants as spread
 use Rattle.hir_store.specs.declared.hir.Statement.{Statement}
 use Rattle.hir_store.specs.declared.ids.ExprId.{ExprId}
@@ -23,6 +23,7 @@ use Rattle.hir_steps.proofs.Frames.{Frame, block_at, inside, scopes, Falls}
 use Rattle.hir_steps.proofs.Steps.{Mark, Allocated}
 use Rattle.hir_same_meaning.proofs.Views.{Numbered, number, numbers, loop_frame, loop_numbers, count_break, count_continue}
 use Rattle.hir_same_meaning.proofs.Relation.{same_ends, same_pure, same_bind, same_tests, same_if, same_turns, same_loop}
+use Rattle.hir_same_meaning.proofs.Relation.{TurnsAlike, same_turns_as}
 use Rattle.hir_same_meaning.proofs.Relation.{same_lazily, same_stop, same_block, same_plain_block, same_entering}
 use Rattle.hir_same_meaning.proofs.Senses.{Walk, one, optional, many, others, present, contents, Goes, goes_at}
 
@@ -74,12 +75,15 @@ module _ {labels : ℕ} {m m' : Mark} {at : Pointer} {final : Stored} {ps qs : L
       → Goes labels m'.nodes one (λ turns ss. ends (continue (continue_target ss j))) final ps i
   goes_continue {n = n} j meets named a = goes_at a (λ turns d le f. same_ends (continue n) (ap continue (meets f))) (λ d le. named)
 
-  pub goes_loop : {labels' : ℕ} {b : ExprId} {x : Walk Value} (n : Option Numbered)
+  -- where the body goes as a turn that is one of the loop
+  pub goes_loop : {from : LoopSource} {labels' : ℕ} {b : ExprId} {x : Walk Value} (n : Option Numbered) (y : Walk (Option Value))
+      → ((turns : ℕ) → TurnsAlike (x turns (inside (loop_frame n) (scopes ps))) (y turns (inside (loop_frame n) (scopes ps))))
       → (Falls labels ps → Falls labels' (loop_frame n ∷ ps)) → Goes labels' m.nodes one x final (loop_frame n ∷ ps) b
-      → Allocated (hir.Loop b (number n) source.Loop) (Some at) final qs m m' i
-      → Goes labels m'.nodes one (λ turns ss. loop outward turns (turn (x turns (inside (loop_frame n) ss)))) final ps i
-  goes_loop n falls h a = goes_at a
-      (λ turns d le f. same_loop (same_turns n (same_bind (h.same turns d le (falls f)) (λ v. same_pure None))) turns)
+      → Allocated (hir.Loop b (number n) from) (Some at) final qs m m' i
+      → Goes labels m'.nodes one (λ turns ss. loop outward turns (y turns (inside (loop_frame n) ss))) final ps i
+  goes_loop n y alike falls h a = goes_at a
+      (λ turns d le f. same_loop (same_turns_as (alike turns)
+      (same_turns n (same_bind (h.same turns d le (falls f)) (λ v. same_pure None)))) turns)
       (λ d le. let r = h.jumps d le in rw (loop_numbers n ps) at r)
 
   pub goes_plain_block : {r : List Statement × Option ExprId} {x : Walk Value} (is_unsafe : Bool) (number : Option BlockId)

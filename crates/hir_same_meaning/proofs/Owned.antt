@@ -26,7 +26,8 @@ use Rattle.hir_same_meaning.proofs.OwningPats as Pats
 use Rattle.hir_same_meaning.proofs.Owning.{OwnsAs, Owns, OwnsSome, owns_none, leaf_owns, missing_owns, none_owns, some_owns, leaf_below}
 use Rattle.hir_same_meaning.proofs.Owning.{unary_below, binary_below, leaving_below, of_field, contents_owns, operand_owns}
 use Rattle.hir_same_meaning.proofs.Owning.{operands_owns, value_owns, list_owns, method_call_owns, cast_owns, offset_of_owns, record_owns}
-use Rattle.hir_same_meaning.proofs.Owning.{field_owns, await_owns, nameless_owns, if_owns, call_owns, loop_owns, break_owns}
+use Rattle.hir_same_meaning.proofs.Owning.{field_owns, await_owns, nameless_owns, if_owns, call_owns, loop_owns, turn_owns}
+use Rattle.hir_same_meaning.proofs.Owning.{break_owns}
 use Rattle.hir_same_meaning.proofs.Owning.{continue_owns, paren_owns, path_owns, kept_owns, disabled_owns, each_more, fields_more}
 use Rattle.hir_same_meaning.proofs.Owning.{fields_own_all, Filled, filled_end, filled_silent, filled_expr, block_owns, each_owns_all}
 use Rattle.hir_same_meaning.proofs.Spread.{spread_none}
@@ -42,7 +43,8 @@ mutual
   expr_owns (tree.paren_expr at e) = paren_owns at (part_owns e)
   expr_owns (tree.call_expr at f has_list es) = call_owns at (part_owns f) (each_owns_all (each_owns es []))
   expr_owns (tree.if_expr at c t e) = if_owns at (part_owns c) (block_part_owns t) (present_owns e)
-  expr_owns (tree.loop_expr at label b) = loop_owns at label (block_part_owns b)
+  expr_owns (tree.loop_expr at label b) = loop_owns at _ label (block_part_owns b)
+  expr_owns (tree.while_expr at label c b) = loop_owns at _ label (turn_owns at (part_owns c) (block_part_owns b))
   expr_owns (tree.break_expr at jump e) = break_owns at jump (present_owns e)
   expr_owns (tree.continue_expr at jump) = continue_owns at jump
   expr_owns (tree.block_expr b) = block_is_owns b

@@ -1,12 +1,12 @@
 -- What each form of an expression holds: each number is reached in one way, and the numbers of a part are those that its lowering
 -- gave out.
 use Rattle.std.proofs.Common.{◌≡◌, ℕ, zero, suc, ◌≤◌, inl, inr, Bool, true, false, List, [], ◌∷◌, ◌++◌, append-nil}
-use Rattle.std.proofs.Common.{append_assoc, Option, Some, None, option_map, refl, sym, ap, ◌∙◌, arith}
+use Rattle.std.proofs.Common.{append_assoc, Option, Some, None, option_map, refl, sym, ap, subst, ◌∙◌, arith}
 use Rattle.hir_store.specs.Pointers.{Pointer}
 use Rattle.hir_store.specs.Stored.{Stored, Store, store_of}
 use Rattle.hir_store.specs.declared.hir.Expr.{Expr as HirExpr}
 use Rattle.hir_store.specs.declared.hir.Expr.TheVariants as hir
-use Rattle.hir_store.specs.declared.hir.LoopSource.TheVariants as source
+use Rattle.hir_store.specs.declared.hir.LoopSource.{LoopSource}
 use Rattle.hir_store.specs.declared.hir.Statement.{Statement}
 use Rattle.hir_store.specs.declared.hir.Statement.TheVariants as statement
 use Rattle.hir_store.specs.declared.name.Name.{Name}
@@ -24,7 +24,8 @@ use Rattle.hir_env.specs.Answered as tree
 use Rattle.hir_env.specs.Answered.{Leaf, Unary, Binary, Listing, Leaving}
 use Rattle.hir_env.specs.Answered.{OptionType, OptionPath, OptionArgs, Label, Jump, Expr}
 use Rattle.hir_lower_form.specs.Lowering.{Lowering, ◌>>=◌, pure, alloc_expr, report}
-use Rattle.hir_lower_form.specs.Lower.{ExprSteps, push_some, missing, some, if_form, loop_form, call_form, continue_form, break_form}
+use Rattle.hir_lower_form.specs.Lower.{ExprSteps, push_some, missing, some, if_form, loop_form, turn_form, call_form, continue_form}
+use Rattle.hir_lower_form.specs.Lower.{break_form}
 use Rattle.hir_lower_form.specs.Lower.{paren_form, path_or_missing, path_form, lower_path, settled, settled_block, StoredContents}
 use Rattle.hir_lower_form.specs.Lower.{block_form}
 use Rattle.hir_lower_form.specs.Lower.{labelled, kept}
@@ -240,14 +241,28 @@ module _ (at : Pointer) where
   unfolding call_form
   call_owns hf hs = owns2 hir.Call (Some at) (λ f s g xs. refl) hf hs
 
-  pub loop_owns : (l : Option Label) {p : ExprSteps} → Correct p Owns → Correct (loop_form at l p) Owns
+  pub loop_owns : (from : LoopSource) (l : Option Label) {p : ExprSteps} → Correct p Owns → Correct (loop_form at from l p) Owns
   unfolding loop_form
-  loop_owns None h = correct_as (correct_bind h (λ i. correct_alloc (hir.Loop i None source.Loop) (Some at)))
+  loop_owns from None h = correct_as (correct_bind h (λ i. correct_alloc (hir.Loop i None from) (Some at)))
       (λ final ps m m' i g row. owns_at m row.second (omega arith) (λ d le. row.first.spread d le))
-  loop_owns (Some l) h = correct_as
-      (correct_opened loop_at l (λ n ps. refl) (λ n. h) (λ n i. correct_alloc (hir.Loop i (Some n) source.Loop) (Some at)))
+  loop_owns from (Some l) h = correct_as
+      (correct_opened loop_at l (λ n ps. refl) (λ n. h) (λ n i. correct_alloc (hir.Loop i (Some n) from) (Some at)))
       (λ final ps m m' i g row. let e = row.nodes in let b = row.before in
       owns_at m row.second (omega arith) (λ d le. spread_wider m.nodes row.left.nodes (omega arith) (omega arith) (row.first.spread d le)))
+
+  -- the break is stored behind the condition, and that behind the body
+  pub turn_owns : {c b : ExprSteps} → Correct c Owns → Correct b Owns → Correct (turn_form at c b) Owns
+  unfolding turn_form
+  turn_owns hc hb = correct_as
+      (correct_bind hb (λ j. correct_bind hc (λ k. correct_bind (leaf_owns (hir.Break None None) (Some at) (λ f s. refl))
+      (λ o. correct_alloc (hir.If k j (Some o)) (Some at)))))
+      (λ final ps m m' i g row. let r = row.second in let q = r.second in
+      owns_at m q.second (omega arith) (λ d le. let f = reached_to (store_of final) d in
+      subst (Spread m.nodes q.middle.nodes) (append_assoc (f r.one) (f row.one) (f q.one))
+      (spread_append m.nodes q.middle.nodes (inl (omega arith)) (omega arith)
+      (spread_append m.nodes r.middle.nodes (inr (omega arith)) (omega arith)
+      (r.first.spread d (omega arith)) (row.first.spread d (omega arith)))
+      (q.first.spread d le))))
 
   pub break_owns : (j : Option Jump) {p : Lowering (Option ExprId)} → Correct p OwnsSome → Correct (break_form at j p) Owns
   unfolding break_form

@@ -10,7 +10,7 @@ use Rattle.hir_data.specs.Data.{PathData, path_data, item_path, OptionTypeData, 
 use Rattle.hir_meaning.specs.Run.{Value, answered, unit, truth, Operation, enter, tuple, Test, test, Outcome, value, break, continue}
 use Rattle.hir_meaning.specs.Run.{Leave, leave, cut, World, ends, pure, after, ◌>>=◌, event, ask, tests, entering, made_tuple, lazily}
 use Rattle.hir_meaning.specs.Run.{item, read, matches, bound, assigned, tests_pattern, binds, assigns, read_path}
-use Rattle.hir_meaning.specs.Catching.{Step, again, done, Outward, turn_end, goes_on, loop, block, block_end}
+use Rattle.hir_meaning.specs.Catching.{Step, again, done, Outward, turn, turn_end, goes_on, loop, block, block_end}
 use Rattle.hir_scope.specs.Scopes.{Count, outward, continue_past_block}
 use Rattle.hir_meaning.specs.Syntax.{SyntaxRun}
 use Rattle.hir_meaning.specs.Store.{JumpLabel, StoreRun, past_loop, past_block}
@@ -138,6 +138,11 @@ pub record SameTurns (ps : List Frame) (leaves : Outward JumpLabel) (m : StoreRu
     (n : SyntaxRun (Option Value)) : Type 0 where
   pub same : (w : World (Unit {0})) → TurnsAgree ps (turn_end leaves (m w).0) (m w).1 (turn_end outward (n w).0) (n w).1
 
+-- To a loop a turn that runs the one is the other.
+pub record TurnsAlike (m : SyntaxRun Value) (n : SyntaxRun (Option Value)) : Type 0 where
+  pub steps : (w : World (Unit {0})) → turn_end outward (turn m w).0 ≡ turn_end outward (n w).0
+  pub worlds : (w : World (Unit {0})) → (turn m w).1 ≡ (n w).1
+
 module _ {ps : List Frame} where
   pub same_turns : (x : Option Numbered) {m : StoreRun (Option Value)} {n : SyntaxRun (Option Value)} → SameWhere (loop_frame x ∷ ps) m n
       → SameTurns ps (past_loop (number x)) m n
@@ -146,6 +151,12 @@ module _ {ps : List Frame} where
       step = turn_ends x ps (m w).0 ∙ ap (turn_end outward) a.outcome;
       world = a.world;
     };
+  }
+
+  pub same_turns_as : {leaves : Outward JumpLabel} {m : StoreRun (Option Value)} {n : SyntaxRun Value} {n' : SyntaxRun (Option Value)}
+      → TurnsAlike n n' → SameTurns ps leaves m (turn n) → SameTurns ps leaves m n'
+  same_turns_as alike h = record {
+    same = λ w. let a = h.same w in record { step = a.step ∙ alike.steps w; world = a.world ∙ alike.worlds w };
   }
 
   goes_same : {f : StoreRun Value} {g : SyntaxRun Value} → SameWhere ps f g → (s : Step JumpLabel) (w : World (Unit {0}))

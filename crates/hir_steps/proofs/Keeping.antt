@@ -3,6 +3,7 @@ use Rattle.std.proofs.Common.{Bool, true, false, List, [], Option, Some, None, O
 use Rattle.hir_store.specs.Pointers.{Pointer}
 use Rattle.hir_store.specs.Stored.{Stored}
 use Rattle.hir_store.specs.declared.hir.Expr.{Expr as HirExpr}
+use Rattle.hir_store.specs.declared.hir.LoopSource.{LoopSource}
 use Rattle.hir_store.specs.declared.hir.Statement.{Statement}
 use Rattle.hir_store.specs.declared.hir.RecordLitField.{RecordLitField}
 use Rattle.hir_store.specs.declared.hir.RecordSpread.{RecordSpread}
@@ -35,7 +36,7 @@ use Rattle.hir_lower_form.specs.Lower.{read_option, lower_path, lower_segment_ar
 use Rattle.hir_lower_form.specs.Lower.{lower_arg, lower_bounds, lower_bound, lower_constant}
 use Rattle.hir_lower_form.specs.Builder.{Builder}
 use Rattle.hir_lower_form.specs.Lowering.{Checked, Lowering, ◌>>=◌, alloc_expr}
-use Rattle.hir_lower_form.specs.Lower.{ExprSteps, StoredContents, missing, some, if_form, loop_form, call_form, continue_form}
+use Rattle.hir_lower_form.specs.Lower.{ExprSteps, StoredContents, missing, some, if_form, loop_form, turn_form, call_form, continue_form}
 use Rattle.hir_lower_form.specs.Lower.{break_form, paren_form, path_form, operand_form, operands_form, value_form, list_form}
 use Rattle.hir_lower_form.specs.Types.{TypeSteps}
 use Rattle.hir_lower_form.specs.Lower.{StoredFields, cast_form, offset_of_form, record_contents, record_of, record_form, field_form}
@@ -81,10 +82,14 @@ module _ (at : Pointer) where
   unfolding if_form
   if_any hc ht he = then_any ht (λ i. then_any he (λ j. then_any hc (λ k. stored_any _ at)))
 
-  loop_any : (label : Option Label) {b : ExprSteps} → Correct b Any → Correct (loop_form at label b) Any
+  loop_any : (from : LoopSource) (label : Option Label) {b : ExprSteps} → Correct b Any → Correct (loop_form at from label b) Any
   unfolding loop_form
-  loop_any None h = then_any h (λ i. stored_any _ at)
-  loop_any (Some l) h = any (correct_opened loop_at l (λ n ps. refl) (λ n. h) (λ n i. stored_any _ at))
+  loop_any from None h = then_any h (λ i. stored_any _ at)
+  loop_any from (Some l) h = any (correct_opened loop_at l (λ n ps. refl) (λ n. h) (λ n i. stored_any _ at))
+
+  pub turn_any : {c b : ExprSteps} → Correct c Any → Correct b Any → Correct (turn_form at c b) Any
+  unfolding turn_form
+  turn_any hc hb = then_any hb (λ i. then_any hc (λ k. then_any (stored_any _ at) (λ o. stored_any _ at)))
 
   call_any : {f : ExprSteps} {xs : Lowering (List ExprId)} → Correct f Any → Correct xs Any → Correct (call_form at f xs) Any
   unfolding call_form
@@ -288,7 +293,8 @@ mutual
   node_any (tree.disabled_expr at by e) = then_any (any (correct_report _)) (λ u. missing_any)
   node_any (tree.if_expr at c t e) = if_any at (part_any c) (block_part_any t) (present_any e)
   node_any (tree.block_expr b) = block_any b
-  node_any (tree.loop_expr at label b) = loop_any at label (block_part_any b)
+  node_any (tree.loop_expr at label b) = loop_any at _ label (block_part_any b)
+  node_any (tree.while_expr at label c b) = loop_any at _ label (turn_any at (part_any c) (block_part_any b))
   node_any (tree.call_expr at f has_list es) = call_any at (part_any f) (each_any [] es)
   node_any (tree.path_expr at p h) = path_any at h (lower_path_any p)
   node_any (tree.continue_expr at jump) = continue_any at jump

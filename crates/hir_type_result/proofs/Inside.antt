@@ -221,7 +221,8 @@ mutual
   node_adds (tree.disabled_expr at by e) = adds_then (adds_any (correct_report _)) (λ u. missing_adds)
   node_adds (tree.if_expr at c t e) = forms.if_adds at (body_adds c) (block_part_adds t) (present_expr_adds e)
   node_adds (tree.block_expr b) = block_adds b
-  node_adds (tree.loop_expr at label b) = forms.loop_adds at label (block_part_adds b)
+  node_adds (tree.loop_expr at label b) = forms.loop_adds at _ label (block_part_adds b)
+  node_adds (tree.while_expr at label c b) = forms.loop_adds at _ label (forms.turn_adds at (body_adds c) (block_part_adds b))
   node_adds (tree.call_expr at f has_list es) = forms.call_adds at (body_adds f) (each_expr_adds [] es)
   node_adds (tree.path_expr at p h) = forms.path_adds at h (path_adds p)
   node_adds (tree.continue_expr at jump) = forms.continue_adds at jump

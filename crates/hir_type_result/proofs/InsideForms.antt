@@ -5,6 +5,7 @@ use Rattle.hir_store.specs.declared.diagnostics.AwaitLocation.{AwaitLocation}
 use Rattle.hir_store.specs.declared.diagnostics.ExpressionStoreDiagnostics.TheVariants.{InactiveCode}
 use Rattle.hir_store.specs.declared.hir.Expr.{Expr as HirExpr}
 use Rattle.hir_store.specs.declared.hir.Expr.TheVariants as hir
+use Rattle.hir_store.specs.declared.hir.LoopSource.{LoopSource}
 use Rattle.hir_store.specs.declared.hir.RecordLitField.{RecordLitField}
 use Rattle.hir_store.specs.declared.hir.RecordSpread.{RecordSpread}
 use Rattle.hir_store.specs.declared.hir.Statement.{Statement}
@@ -21,6 +22,7 @@ use Rattle.hir_env.specs.Answered.{Leaf, Unary, Binary, Listing, Leaving, Label,
 use Rattle.hir_lower_form.specs.Lowering.{Lowering, ◌>>=◌, pure, alloc_expr}
 use Rattle.hir_lower_form.specs.Types.{TypeSteps}
 use Rattle.hir_lower_form.specs.Lower.{ExprSteps, StoredContents, StoredFields, push_some, missing, some, if_form, loop_form, call_form}
+use Rattle.hir_lower_form.specs.Lower.{turn_form}
 use Rattle.hir_lower_form.specs.Lower.{continue_form, break_form, operand_form, operands_form, value_form, list_form}
 use Rattle.hir_lower_form.specs.Lower.{method_call_form, await_form, paren_form, path_form, path_or_missing, cast_form}
 use Rattle.hir_lower_form.specs.Lower.{offset_of_form, record_contents, record_of, record_form, field_form, block_form, labelled}
@@ -170,6 +172,9 @@ if_less c t e v =
     let y = both v (v.reach t) (of_some v.reach e) (v.held.expr t) (of_present v.held.expr e) in
     let z = maybe_is e v in omega arith
 
+turn_less : (c t e : ExprId) (v : View) → in_expr (hir.If c t (Some e)) v ≤ (an_expr t v + an_expr c v) + an_expr e v
+turn_less c t e v = let x = if_less c t (Some e) v in omega arith
+
 method_call_less : (i : ExprId) (name : Name) (a : Option GenericArgs) (is : List ExprId) (v : View)
     → in_expr (hir.MethodCall i name a is) v ≤ (an_expr i v + each an_expr is v) + arguments a v
 method_call_less i name a is v =
@@ -212,11 +217,19 @@ module _ (at : Pointer) where
   if_adds hc ht he = adds_then ht (λ t. adds_then (adds_beside (an_expr t) he)
       (λ e. adds_then (adds_beside (beside (an_expr t) (maybe an_expr e)) hc) (λ c. adds_expr _ (Some at) (if_less c t e))))
 
-  pub loop_adds : (label : Option Label) {b : ExprSteps} → Correct b (Adds free an_expr)
-      → Correct (loop_form at label b) (Adds free an_expr)
+  pub loop_adds : (from : LoopSource) (label : Option Label) {b : ExprSteps} → Correct b (Adds free an_expr)
+      → Correct (loop_form at from label b) (Adds free an_expr)
   unfolding loop_form
-  loop_adds None h = adds_then h (λ i. adds_expr _ (Some at) (λ v. omega arith))
-  loop_adds (Some l) h = adds_opened loop_at l (λ n ps. refl) (λ n. h) (λ n i. adds_expr _ (Some at) (λ v. omega arith))
+  loop_adds from None h = adds_then h (λ i. adds_expr _ (Some at) (λ v. omega arith))
+  loop_adds from (Some l) h = adds_opened loop_at l (λ n ps. refl) (λ n. h) (λ n i. adds_expr _ (Some at) (λ v. omega arith))
+
+  -- the condition behind the body, and behind both a break
+  pub turn_adds : {c b : ExprSteps} → Correct c (Adds free an_expr) → Correct b (Adds free an_expr)
+      → Correct (turn_form at c b) (Adds free an_expr)
+  unfolding turn_form
+  turn_adds hc hb = adds_then hb (λ b. adds_then (adds_beside (an_expr b) hc)
+      (λ c. adds_then (adds_beside (beside (an_expr b) (an_expr c)) (adds_expr (hir.Break None None) (Some at) (λ v. omega arith)))
+      (λ o. adds_expr _ (Some at) (turn_less c b o))))
 
   pub call_adds : {g : ExprSteps} {xs : Lowering (List ExprId)} → Correct g (Adds free an_expr) → Correct xs (Adds free (each an_expr))
       → Correct (call_form at g xs) (Adds free an_expr)

@@ -3,6 +3,7 @@ use Rattle.std.proofs.Common.{refl, arith, Bool, true, false, List, [], ◌∷�
 use Rattle.hir_store.specs.Pointers.{Pointer}
 use Rattle.hir_store.specs.declared.diagnostics.AwaitLocation.{AwaitLocation}
 use Rattle.hir_store.specs.declared.hir.Expr.{Expr as HirExpr}
+use Rattle.hir_store.specs.declared.hir.LoopSource.{LoopSource}
 use Rattle.hir_store.specs.declared.hir.RecordLitField.{RecordLitField}
 use Rattle.hir_store.specs.declared.hir.RecordSpread.{RecordSpread}
 use Rattle.hir_store.specs.declared.hir.Statement.{Statement}
@@ -18,7 +19,7 @@ use Rattle.hir_env.specs.Answered as tree
 use Rattle.hir_env.specs.Answered.{Leaf, Unary, Binary, Listing, Leaving, Label, Jump, Expr}
 use Rattle.hir_lower_form.specs.Lowering.{Lowering}
 use Rattle.hir_lower_form.specs.Types.{TypeSteps}
-use Rattle.hir_lower_form.specs.Lower.{ExprSteps, StoredContents, StoredFields, missing, if_form, loop_form, call_form}
+use Rattle.hir_lower_form.specs.Lower.{ExprSteps, StoredContents, StoredFields, missing, if_form, loop_form, turn_form, call_form}
 use Rattle.hir_lower_form.specs.Lower.{continue_form, break_form, operand_form, operands_form, value_form, list_form}
 use Rattle.hir_lower_form.specs.Lower.{method_call_form, await_form, paren_form, path_form, path_or_missing, cast_form}
 use Rattle.hir_lower_form.specs.Lower.{offset_of_form, record_contents, record_of, record_form, field_form, block_form, labelled}
@@ -86,11 +87,17 @@ module _ (at : Pointer) where
   unfolding if_form
   if_quiet hc ht he = quiet_then ht (λ i. quiet_then he (λ j. quiet_then hc (λ k. quiet_alloc _ (Some at) (λ f n. omega arith))))
 
-  pub loop_quiet : (label : Option Label) {b : ExprSteps} → Correct b Quiet → Correct (loop_form at label b) Quiet
+  pub loop_quiet : (from : LoopSource) (label : Option Label) {b : ExprSteps} → Correct b Quiet
+      → Correct (loop_form at from label b) Quiet
   unfolding loop_form
-  loop_quiet None h = quiet_then h (λ i. quiet_alloc _ (Some at) (λ f k. omega arith))
-  loop_quiet (Some l) h =
+  loop_quiet from None h = quiet_then h (λ i. quiet_alloc _ (Some at) (λ f k. omega arith))
+  loop_quiet from (Some l) h =
       quiet_opened loop_at l (λ n ps. refl) (λ n. h) (λ n i. quiet_alloc _ (Some at) (λ f k. omega arith))
+
+  pub turn_quiet : {c b : ExprSteps} → Correct c Quiet → Correct b Quiet → Correct (turn_form at c b) Quiet
+  unfolding turn_form
+  turn_quiet hc hb = quiet_then hb (λ i. quiet_then hc (λ k. quiet_then (quiet_alloc _ (Some at) (λ f n. omega arith))
+      (λ o. quiet_alloc _ (Some at) (λ f n. omega arith))))
 
   pub call_quiet : {g : ExprSteps} {xs : Lowering (List ExprId)} → Correct g Quiet → Correct xs Quiet → Correct (call_form at g xs) Quiet
   unfolding call_form

@@ -52,6 +52,7 @@ use Rattle.hir_type_result.proofs.OwnedPats as pats
 use Rattle.hir_type_result.proofs.Naming.{quiet_pure, quiet_then, quiet_some, quiet_alloc, quiet_report, quiet_constant, quiet_inner}
 use Rattle.hir_type_result.proofs.Naming.{quiet_settle}
 use Rattle.hir_type_result.proofs.NamingForms.{missing_quiet, leaf_quiet, unary_quiet, binary_quiet, leaving_quiet, if_quiet, loop_quiet}
+use Rattle.hir_type_result.proofs.NamingForms.{turn_quiet}
 use Rattle.hir_type_result.proofs.NamingForms.{call_quiet, continue_quiet, break_quiet, paren_quiet, operand_quiet, operands_quiet}
 use Rattle.hir_type_result.proofs.NamingForms.{value_quiet, list_quiet, await_quiet, field_quiet, block_form_quiet, path_quiet, cast_quiet}
 use Rattle.hir_type_result.proofs.NamingForms.{offset_of_quiet, method_call_quiet, record_quiet, contents_quiet, labelled_quiet}
@@ -229,7 +230,8 @@ mutual
   node_quiet (tree.disabled_expr at by e) = quiet_then (quiet_report _) (λ u. missing_quiet)
   node_quiet (tree.if_expr at c t e) = if_quiet at (part_quiet c) (block_part_quiet t) (present_quiet e)
   node_quiet (tree.block_expr b) = block_quiet b
-  node_quiet (tree.loop_expr at label b) = loop_quiet at label (block_part_quiet b)
+  node_quiet (tree.loop_expr at label b) = loop_quiet at _ label (block_part_quiet b)
+  node_quiet (tree.while_expr at label c b) = loop_quiet at _ label (turn_quiet at (part_quiet c) (block_part_quiet b))
   node_quiet (tree.call_expr at f has_list es) = call_quiet at (part_quiet f) (each_quiet [] es)
   node_quiet (tree.path_expr at p h) = path_quiet at h (path_adds p)
   node_quiet (tree.continue_expr at jump) = continue_quiet at jump

@@ -18,6 +18,14 @@ expr_row kind.LoopExpr = record {
   groups = group.Expr ∷ [];
   fields = (codes "label" ∶ sort.Part group.Label) ∷ (codes "body" ∶ sort.Part group.Block) ∷ [];
 }
+expr_row kind.WhileExpr = record {
+  word = codes "WhileExpr";
+  groups = group.Expr ∷ [];
+  fields = (codes "label" ∶ sort.Part group.Label)
+      ∷ (codes "condition" ∶ sort.Part group.Expr)
+      ∷ (codes "body" ∶ sort.Part group.Block)
+      ∷ [];
+}
 expr_row kind.CallExpr = record {
   word = codes "CallExpr";
   groups = group.Expr ∷ [];

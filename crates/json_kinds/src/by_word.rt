@@ -13,6 +13,7 @@ fn exprs(word: &str) -> Option<Kind>
         "IfExpr" => Some(Kind::IfExpr),
         "BlockExpr" => Some(Kind::BlockExpr),
         "LoopExpr" => Some(Kind::Expr(ExprNode::LoopExpr)),
+        "WhileExpr" => Some(Kind::Expr(ExprNode::WhileExpr)),
         "CallExpr" => Some(Kind::Expr(ExprNode::CallExpr)),
         "PathExpr" => Some(Kind::Expr(ExprNode::PathExpr)),
         "ContinueExpr" => Some(Kind::Expr(ExprNode::ContinueExpr)),

@@ -25,6 +25,7 @@ pub enum Kind {
 pub enum ExprNode {
     LetExpr,
     LoopExpr,
+    WhileExpr,
     CallExpr,
     MethodCallExpr,
     MatchExpr,

@@ -29,6 +29,7 @@ macro_rules! exprs {
         $use! { ExprNode $at;
             LetExpr [Expr] { "pat": Part(Pat), "expr": Part(Expr) }
             LoopExpr [Expr] { "label": Part(Label), "body": Part(Block) }
+            WhileExpr [Expr] { "label": Part(Label), "condition": Part(Expr), "body": Part(Block) }
             CallExpr [Expr] { "expr": Part(Expr), "args": List(Expr) }
             MethodCallExpr [Expr] {
                 "receiver": Part(Expr), "name": Part(Name), "generics": Part(GenericArgs), "args": List(Expr)

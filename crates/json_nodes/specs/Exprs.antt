@@ -37,6 +37,8 @@ of_literal h = option_map (λ l. part.Expr (expr_part.Literal h.id h.range l)) (
 -- what steers the order of running
 unfoldable pub flow : Here → ExprNode → Option AnyPart
 flow h kind.LoopExpr = Some (whole_expr h (expr.LoopExpr (part_in h as_label (codes "label")) (part_in h as_block (codes "body"))))
+flow h kind.WhileExpr = Some (whole_expr h
+    (expr.WhileExpr (part_in h as_label (codes "label")) (part_in h as_expr (codes "condition")) (part_in h as_block (codes "body"))))
 flow h kind.ContinueExpr = Some (whole_expr h (expr.ContinueExpr (part_in h as_lifetime (codes "lifetime"))))
 flow h kind.BreakExpr = Some (whole_expr h (expr.BreakExpr (part_in h as_lifetime (codes "lifetime")) (part_in h as_expr (codes "expr"))))
 flow h _ = None

@@ -86,6 +86,20 @@ pub fn flow<F: Fields>(node: &F, refused: &mut bool, kind: ExprNode) -> Option<A
             let body = node.field::<One<Blocks>>(refused, "body");
             whole_expr(node, refused, ExprKind::LoopExpr { label, body })
         }
+        ExprNode::WhileExpr => {
+            let label = node.field::<One<Labels>>(refused, "label");
+            let condition = node.field::<InBox<Exprs>>(refused, "condition");
+            let body = node.field::<One<Blocks>>(refused, "body");
+            whole_expr(
+                node,
+                refused,
+                ExprKind::WhileExpr {
+                    label,
+                    condition,
+                    body,
+                },
+            )
+        }
         ExprNode::ContinueExpr => {
             let lifetime = node.field::<One<Lifetimes>>(refused, "lifetime");
             whole_expr(node, refused, ExprKind::ContinueExpr { lifetime })

@@ -81,6 +81,7 @@ pub fn statement_word(statement: &Statement) -> &'static str {
 pub fn loop_word(source: LoopSource) -> &'static str {
     match source {
         LoopSource::Loop => "loop",
+        LoopSource::While => "while",
     }
 }
 

@@ -11,6 +11,11 @@ if_form-requires g c =
 pub loop_form-requires : goal.loop_form-requires
 loop_form-requires g c = rw (opened (kind.rolls-LoopExpr _ _ ∙ sym c.in-LoopExpr.is)) at c.requires.parts
 
+pub while_form-requires : goal.while_form-requires
+while_form-requires g c =
+    let parts = rw (opened (kind.rolls-WhileExpr _ _ _ ∙ sym c.in-WhileExpr.is)) at c.requires.parts in
+    record { condition = parts.0; body = parts.1 }
+
 pub break_form-requires : goal.break_form-requires
 break_form-requires g c = rw (opened (kind.rolls-BreakExpr _ _ ∙ sym c.in-BreakExpr.is)) at c.requires.parts
 
@@ -19,6 +24,9 @@ returns-in-IfExpr g c = rw (opened (kind.rolls-IfExpr _ _ _ ∙ sym c.in-IfExpr.
 
 pub returns-in-LoopExpr : goal.returns-in-LoopExpr
 returns-in-LoopExpr g c = rw (opened (kind.rolls-LoopExpr _ _ ∙ sym c.in-LoopExpr.is)) c.loop_form.ensures
+
+pub returns-in-WhileExpr : goal.returns-in-WhileExpr
+returns-in-WhileExpr g c = rw (opened (kind.rolls-WhileExpr _ _ _ ∙ sym c.in-WhileExpr.is)) c.while_form.ensures
 
 pub returns-in-ContinueExpr : goal.returns-in-ContinueExpr
 returns-in-ContinueExpr g c = rw (opened (kind.rolls-ContinueExpr _ ∙ sym c.in-ContinueExpr.is)) c.continue_form.ensures
