@@ -176,7 +176,8 @@ module _ (d e : Expr) (p : Pointer) (a : Stored) where
   led_last : (f : Expr) → Led (map_of a) (map_of (with_expr f (Some p) two_more)) (expr_way p third ∷ [])
   led_last f = λ before h. record {
     exprs = subst (λ es. Leads es expr_way (before ++ expr_way p third ∷ []))
-        (sym (entered_twice p _ third (with_expr d (Some p) a).exprs.map ∙ entered_twice p _ third a.exprs.map))
+        (sym (entered_twice p (expr_id (length (with_expr d (Some p) a).exprs.entries)) third (with_expr d (Some p) a).exprs.map
+        ∙ entered_twice p (expr_id (length a.exprs.entries)) third a.exprs.map))
         (leads_more expr_way a.exprs.map before h.exprs (λ p q t u w. (cc, cc)) p third);
     labels = beside_labels (map_of a) before h (expr_way p third) (λ q u w. cc);
     fields = beside_fields (map_of a) before h (expr_way p third) (λ q u w. cc);

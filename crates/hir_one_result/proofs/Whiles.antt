@@ -24,7 +24,7 @@ module _ (at : Pointer) where
     out : ExprId
     turn_at : Placed final i (hir.If condition body (Some out)) (Some at)
     out_at : Placed final out (hir.Break None None) (Some at)
-    shown : (e : HirExpr) (k : ExprId) {s : Stored} → s ≡ with_expr e (Some at) m'.stored → k.0 ≡ length m'.stored.exprs.entries
+    shown : (e : HirExpr) (k : ExprId) (s : Stored) → s ≡ with_expr e (Some at) m'.stored → k.0 ≡ length m'.stored.exprs.entries
         → Shown (C final (ribs ps) condition & B final (ribs ps) body & OneUnled out & OneUnled i & OneWay at k) m.stored s
 
   turned : {c b : ExprSteps} {C B : Of ExprId} → Correct c (Shows C) → Correct b (Shows B) → Correct (turn_form at c b) (Turned C B)
@@ -38,7 +38,7 @@ module _ (at : Pointer) where
         out = q.one;
         turn_at = expr_at q.second;
         out_at = expr_at q.first;
-        shown = λ e k is number. shown_swap (shown_both row.first.shown (shown_both r.first.shown
+        shown = λ e k s is number. shown_swap (shown_both row.first.shown (shown_both r.first.shown
             (shown_third (hir.Break None None) (hir.If r.one row.one (Some q.one)) e at q.one i k
             q.first.stored q.second.stored is (q.first.number ∙ q.first.last) (q.second.number ∙ q.second.last) number)));
       })
@@ -51,12 +51,12 @@ module _ (at : Pointer) where
   while_stands None hc hb = correct_as
       (correct_bind (turned hc hb) (λ i. correct_alloc (hir.Loop i None source.While) (Some at)))
       (λ final ps m m' i g row. let t = row.first in let a = row.second in record {
-        shown = shown_as (t.shown (hir.Loop row.one None source.While) i a.stored (a.number ∙ a.last))
+        shown = shown_as (t.shown (hir.Loop row.one None source.While) i m'.stored a.stored (a.number ∙ a.last))
             (λ ws x. (t.condition, t.body, t.out, row.one, expr_at a, t.turn_at, t.out_at, x));
       })
   while_stands (Some l) hc hb = correct_as
       (correct_opened loop_at l (λ n ps. refl) (λ n. turned hc hb) (λ n i. correct_alloc (hir.Loop i (Some n) source.While) (Some at)))
       (λ final ps m m' i g row. let t = row.first in let a = row.second in
-      let whole = shown_as (t.shown (hir.Loop row.one (Some row.number) source.While) i a.stored (a.number ∙ a.last))
+      let whole = shown_as (t.shown (hir.Loop row.one (Some row.number) source.While) i m'.stored a.stored (a.number ∙ a.last))
       (λ ws x. (t.condition, t.body, t.out, row.one, expr_at a, t.turn_at, t.out_at, x)) in
       record { shown = shown_as (shown_both (own_label row) whole) (λ ws x. (row.number, label_at row, x)) })
