@@ -145,7 +145,6 @@ rooted_inside e b inner i none_open in_root paired is =
             reached_once = λ depth le. expr_inside e b inner i lowered later ext depth le;
             types_reached_once = expr_types_once e b inner i paired is later ext;
             pats_reached_once = expr_pats_once e b inner i paired is later ext;
-            bindings_came = expr_bindings_came e b inner i paired is;
           };
       grown = record {
         exprs = fits.exprs;
@@ -159,6 +158,7 @@ rooted_inside e b inner i none_open in_root paired is =
         lifetime_sources = fits.lifetime_sources;
       };
       roots = ap (λ rs. rs ++ root_at (store_of inner.stored) i ∷ []) (kept.roots in_root);
+      bindings_came = expr_bindings_came e b inner i paired is;
       more = faults.more;
       faults = faults.is;
       permuted = faults.permuted;

@@ -30,7 +30,7 @@ use Rattle.hir_one_result.proofs.TreeStands.{whole_left}
 use Rattle.hir_type_result.specs.Roots.{RootsOf, recorded}
 use Rattle.hir_type_result.proofs.Behind.{blocks_behind, faults_behind, path_roots, ways_behind}
 use Rattle.hir_type_result.proofs.Inside.{path_inside}
-use Rattle.hir_type_result.proofs.Named.{path_pats_once, path_types_once}
+use Rattle.hir_type_result.proofs.Named.{path_bindings_came, path_pats_once, path_types_once}
 use Rattle.hir_lower.specs.declared.error.LowerError.{LowerError}
 use Rattle.hir_lower.specs.declared.error.LowerError.TheVariants as refused
 use Rattle.hir_lower.specs.Calls.{Outside, refusal}
@@ -126,9 +126,10 @@ module _ (at : Spot) (x : AstPath) (b b' : Builder) where
         faults = faults.is;
         permuted = faults.like;
         blocks = blocks_behind b b' y d l.0 (whole_enters p);
-        reached_once = λ later ext depth le. path_types_once (whole_path at x) b b' y d l.0 later ext depth le;
+        types_reached_once = λ later ext. path_types_once (whole_path at x) b b' y d l.0 later ext;
         pats_reached_once = λ later ext. path_pats_once (whole_path at x) b b' y d l.0 later ext;
         inside_reached_once = λ later ext depth le. path_inside p b b' y d l.0 later ext depth le;
+        bindings_came = path_bindings_came p b b' y d l.0;
         grown = grown;
         paired = kept.paired d;
         mapped = kept.mapped d;

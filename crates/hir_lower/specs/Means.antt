@@ -64,8 +64,7 @@ use Rattle.hir_type_result.specs.Reached.{of_each as of_all}
 -- leading comma, or what is called for a range; where the source map led by then it leads still, or by the ways of the tree; each
 -- label and each binding more is what a written one became, and there are as many; each number that it reaches, or that one does
 -- which it holds and doesn't run, is reached once, and is one that lowering it gave out, and so is each type that the expressions and
--- patterns reach that came with it, and each pattern that the expressions and types do. The patterns that came with it make bindings
--- that came with it.
+-- patterns reach that came with it, and each pattern that the expressions and types do.
 pub record Lives (old new later : Stored) (i : ExprId) (e : OptionExpr) : Type 0 where
   pub same : SameMeaning (store_of later) (map_of later) i e
   pub ways : List Way
@@ -74,17 +73,18 @@ pub record Lives (old new later : Stored) (i : ExprId) (e : OptionExpr) : Type 0
   pub reached_once : (depth : ℕ) → length later.exprs.entries ≤ depth
       → Spread (length old.exprs.entries) (length new.exprs.entries)
       (of_each (reached_to (store_of later) depth) (i ∷ unrun_in (store_of later) i))
-  pub types_reached_once : TypesSpread old new later
+  pub types_reached_once : TypesSpread old new later (λ f. [])
   pub pats_reached_once : PatsSpread old new later []
-  pub bindings_came : BindingsCame old new
 
 -- What lowering a root leaves. It is the last of the recorded roots, to which all belongs that was stored since the one before:
 -- as many expressions, labels and bindings as the tree becomes, and patterns, types and lifetimes from just those of its nodes that
--- become one. Behind the faults and the blocks that were noted before come those of the tree.
+-- become one. The patterns that came make bindings that came. Behind the faults and the blocks that were noted before come those of
+-- the tree.
 pub record Rooted (old new : Stored) (i : ExprId) (e : OptionExpr) : Type 0 where
   pub lives : (later : Stored) → Extends new later → Settled new later → Lives old new later i e
   pub grown : Grown (size_part e) old new
   pub roots : new.roots ≡ old.roots ++ root_at (store_of new) i ∷ []
+  pub bindings_came : BindingsCame old new
   pub more : Faults
   pub faults : new.diagnostics ≡ old.diagnostics ++ more
   pub permuted : IsPermutation (part_diagnostics [] e) more
@@ -145,8 +145,8 @@ pub record ConstantsLive (old new later : Stored) (p : OptionPath) : Type 0 wher
 
 -- What lowering a path to r leaves: types and lifetimes from just those of its nodes that become one, and its constants. Those are
 -- roots, also where r is none; behind the faults and the blocks that were noted before come theirs. In each later store each body
--- inside r does what the written one does, and r reaches each type in one way only, and none that was stored before; so do the
--- expressions and types that came with it reach each pattern.
+-- inside r does what the written one does; r and the expressions and patterns that came reach each type in one way only, and none that
+-- was stored before; so do the expressions and types that came reach each pattern. The patterns that came make bindings that came.
 pub record PathRooted (old new : Stored) (r : Option Path) (p : OptionPath) : Type 0 where
   pub inner : (later : Stored) → Extends new later
       → SameBodies (store_of later) (map_of later) (of_some (path_inner_bodies (store_of later)) r) (path_bodies p)
@@ -156,12 +156,12 @@ pub record PathRooted (old new : Stored) (r : Option Path) (p : OptionPath) : Ty
   pub faults : new.diagnostics ≡ old.diagnostics ++ more
   pub permuted : IsPermutation (whole_faults [] p) more
   pub blocks : new.block_scopes ≡ old.block_scopes ++ blocks_of_whole p
-  pub reached_once : (later : Stored) → Extends new later → (depth : ℕ) → length later.types.entries ≤ depth
-      → Spread (length old.types.entries) (length new.types.entries) (of_present (of_path (types_reached later.types.entries depth)) r)
+  pub types_reached_once : (later : Stored) → Extends new later → TypesSpread old new later (λ f. of_present (of_path f) r)
   pub pats_reached_once : (later : Stored) → Extends new later → PatsSpread old new later []
   pub inside_reached_once : (later : Stored) → Extends new later → (depth : ℕ) → length later.exprs.entries ≤ depth
       → Spread (length old.exprs.entries) (length new.exprs.entries)
       (of_each (reached_to (store_of later) depth) (of_some (unrun_in_path (store_of later)) r))
+  pub bindings_came : BindingsCame old new
   pub grown : Grown (whole_size p) old new
   pub paired : Paired new
   pub mapped : Mapped old → Mapped new

@@ -22,9 +22,9 @@ use Rattle.hir_one_result.proofs.AfterLowering.{after_lowering}
 use Rattle.hir_scope.specs.Each.{Each}
 use Rattle.hir_same_meaning.specs.Reached.{Between, Spread}
 use Rattle.hir_store.proofs.Extending.{extends_refl}
-use Rattle.hir_type_result.specs.Reached.{of_each, types_reached, TypesReachedOnce}
+use Rattle.hir_type_result.specs.Reached.{of_each, of_path, of_present, types_reached}
 use Rattle.hir_type_result.specs.Named.{Look, of_types_alone, of_pats_alone, of_bindings_alone, of_expr, of_exprs, of_pat, of_pats}
-use Rattle.hir_type_result.specs.Named.{TypesSpread, ExprTypesReachedOnce, PathTypesReachedOnce}
+use Rattle.hir_type_result.specs.Named.{TypesSpread, ExprTypesReachedOnce, PathTypesReachedOnce, TypesReachedOnce}
 use Rattle.hir_type_result.specs.Pats.{of_type, of_types, pats_reached, PatsSpread, ExprPatsReachedOnce, TypePatsReachedOnce}
 use Rattle.hir_type_result.specs.Pats.{PathPatsReachedOnce, BodyPatsReachedOnce, BindingsCame, ExprBindingsCame, TypeBindingsCame}
 use Rattle.hir_type_result.specs.Pats.{PathBindingsCame, BodyBindingsCame}
@@ -39,23 +39,6 @@ use Rattle.hir_type_result.proofs.TreeNamed.{part_adds, part_quiet, path_adds, s
 
 -- ---- types
 
--- where nothing was named before
-named_once : {A : Type 0} {now : A → Numbers} {p : Lowering A} → Correct p (Adds none now) → (b b' : Builder) (a : A) → Paired b.stored
-    → p b ≡ (Ok a, b') → (final : Stored) → Extends b'.stored final → (depth : ℕ) → length final.types.entries ≤ depth
-    → Spread (length b.stored.types.entries) (length b'.stored.types.entries)
-    (now a (of_types_alone (types_reached final.types.entries depth)))
-named_once h b b' a paired is final stays depth le =
-    let r = after_lowering (correct_in_store h) b a b' paired is final stays in
-    let n = r.types in
-    let e = r.rel.earlier the_types depth depth (omega arith) (omega arith) in
-    counted_spread _ _ _ (λ k. let c = e.counted k in let w = r.rel.grown the_types depth k in omega arith)
-
-pub types_once : TypesReachedOnce
-types_once binder t b b' i paired is final stays depth le = named_once (part_adds binder t) b b' i paired is final stays depth le
-
-pub path_types_once : PathTypesReachedOnce
-path_types_once p b b' r paired is final stays depth le = named_once (path_adds p) b b' r paired is final stays depth le
-
 -- types hold no pattern where types are counted
 none_held : (f : TypeRefId → List ℕ) (ts : List TypeRef) (k : ℕ) → times k (of_types (of_types_alone f) ts) ≡ 0
 none_held f [] k = refl
@@ -65,10 +48,11 @@ none_held f (t ∷ ts) k =
     let y = no_pats_named f t k in
     let z = none_held f ts k in omega arith
 
--- what came where the answer names nothing
-module _ {A : Type 0} {p : Lowering A} (h : Correct p Quiet) (b b' : Builder) (a : A) (paired : Paired b.stored)
-    (is : p b ≡ (Ok a, b')) (final : Stored) (stays : Extends b'.stored final) where
-  pub types_came : TypesSpread b.stored b'.stored final
+-- where these are reached from what is answered
+module _ {A : Type 0} {now : A → Numbers} {p : Lowering A} (here : A → (TypeRefId → List ℕ) → List ℕ) (h : Correct p (Adds none now))
+    (less_than : (a : A) (f : TypeRefId → List ℕ) (k : ℕ) → times k (here a f) ≤ times k (now a (of_types_alone f))) (b b' : Builder)
+    (a : A) (paired : Paired b.stored) (is : p b ≡ (Ok a, b')) (final : Stored) (stays : Extends b'.stored final) where
+  pub types_came : TypesSpread b.stored b'.stored final (here a)
   types_came depth le more new more_pats new_pats =
       let r = after_lowering (correct_in_store h) b a b' paired is final stays in
       let n = r.types in
@@ -83,10 +67,21 @@ module _ {A : Type 0} {p : Lowering A} (h : Correct p Quiet) (b b' : Builder) (a
       let s' = ap (λ xs. times k (of_pats l xs)) new_pats in
       let z = none_held f b.stored.types.entries k in
       let z' = none_held f b'.stored.types.entries k in
+      let u = less_than a f k in
+      let v = times_append k (here a f) (of_exprs l more ++ of_pats l more_pats) in
       let w = times_append k (of_exprs l more) (of_pats l more_pats) in omega arith)
 
+pub types_once : TypesReachedOnce
+types_once binder t b b' i paired is final stays =
+    types_came (λ i f. f i) (part_adds binder t) (λ i f k. omega arith) b b' i paired is final stays
+
+pub path_types_once : PathTypesReachedOnce
+path_types_once p b b' r paired is final stays =
+    types_came (λ r f. of_present (of_path f) r) (path_adds p) (λ r f k. omega arith) b b' r paired is final stays
+
 pub expr_types_once : ExprTypesReachedOnce
-expr_types_once e b b' i paired is final stays = types_came (part_quiet e) b b' i paired is final stays
+expr_types_once e b b' i paired is final stays =
+    types_came (λ i f. []) (part_quiet e) (λ i f k. omega arith) b b' i paired is final stays
 
 -- ---- patterns
 

@@ -43,7 +43,8 @@ use Rattle.hir_same_meaning.specs.Reached.{Between, Spread, of_each, reached_to}
 use Rattle.hir_type_result.specs.Named.{of_bindings_alone, of_exprs, of_pats, of_pats_alone, of_types_alone}
 use Rattle.hir_type_result.specs.Pats.{of_types, pats_reached}
 use Rattle.hir_type_result.specs.Reached.{types_reached}
-use Rattle.hir_type_result.specs.Roots.{Ends, ends_now, ends_of, Further, RootIs, RootsAre, RootsOf, SameInner, last_end}
+use Rattle.hir_type_result.specs.Roots.{Lengths, lengths_now, ends_of, Further, RootIs, RootsAre, RootsOf, SameInner, exprs_between}
+use Rattle.hir_type_result.specs.Roots.{pats_between, types_between}
 use Rattle.hir_type_result.specs.Unrun.{unrun_in}
 use Rattle.hir_type_result.proofs.Adding.{Quiet}
 use Rattle.hir_type_result.proofs.Inside.{constant_adds, inside_once, limit_adds}
@@ -53,21 +54,27 @@ use Rattle.hir_type_result.proofs.Ranges.{came_between}
 use Rattle.hir_type_result.proofs.RootStands.{contents, contents_any, rooted, root_settles}
 use Rattle.hir_type_result.proofs.TreeNamed.{constant_quiet, limit_quiet}
 
--- ---- ends
+-- ---- lengths
 
-further_refl : (a : Ends) → Further a a
-further_refl a = record { exprs = omega arith; pats = omega arith; bindings = omega arith }
+further_refl : (a : Lengths) → Further a a
+further_refl a = record { exprs = omega arith; pats = omega arith; bindings = omega arith; types = omega arith }
 
-further_trans : {a b c : Ends} → Further a b → Further b c → Further a c
+further_trans : {a b c : Lengths} → Further a b → Further b c → Further a c
 further_trans g h = record {
   exprs = omega (arith, g.exprs, h.exprs);
   pats = omega (arith, g.pats, h.pats);
   bindings = omega (arith, g.bindings, h.bindings);
+  types = omega (arith, g.types, h.types);
 }
 
 -- what is stored goes on
-pub further_stored : {a b : Stored} → Extends a b → Settled a b → Further (ends_now a) (ends_now b)
-further_stored e s = record { exprs = longer e.exprs.entries; pats = longer e.pats.entries; bindings = longer s }
+pub further_stored : {a b : Stored} → Extends a b → Settled a b → Further (lengths_now a) (lengths_now b)
+further_stored e s = record {
+  exprs = longer e.exprs.entries;
+  pats = longer e.pats.entries;
+  bindings = longer s;
+  types = longer e.types.entries;
+}
 
 settled_trans : (a b c : Stored) → Settled a b → Settled b c → Settled a c
 settled_trans a b c g h = prefix_trans g h
@@ -88,58 +95,47 @@ pub record Notes {A : Type 0} (es : Bodies) (p : Lowering A) : Type 0 where
 
 -- ---- one after another
 
--- what stands behind the one also stands behind what was before that
-root_earlier : {store : Store} {source_map : SourceMap} {around : Open} (lo hi : Ends) (r : ExprRoot) (x : InnerBody) → Further lo hi
-    → RootIs store source_map around hi r x → RootIs store source_map around lo r x
-root_earlier lo hi r x le h = record {
-  same = h.same;
-  ways = h.ways;
-  stands = h.stands;
-  came = h.came;
-  behind = further_trans le h.behind;
-  goes_on = h.goes_on;
-  reached_once = h.reached_once;
-  pats_reached_once = h.pats_reached_once;
-  types_reached_once = h.types_reached_once;
-  bindings_came = h.bindings_came;
-}
+module _ (store : Store) (source_map : SourceMap) (around : Open) where
+  -- what stands behind the one also stands behind what was before that
+  root_earlier : (lo hi ends : Lengths) (r : ExprRoot) (x : InnerBody) → Further lo hi
+      → RootIs store source_map around hi ends r x → RootIs store source_map around lo ends r x
+  root_earlier lo hi ends r x le h = record {
+    same = h.same;
+    ways = h.ways;
+    stands = h.stands;
+    from = h.from;
+    behind = further_trans le h.behind;
+    goes_on = h.goes_on;
+    reached_once = h.reached_once;
+    pats_reached_once = h.pats_reached_once;
+    types_reached_once = h.types_reached_once;
+    bindings_came = h.bindings_came;
+  }
 
-roots_earlier : (store : Store) (source_map : SourceMap) (around : Open) (lo hi : Ends) (rs : List ExprRoot) (es : Bodies) → Further lo hi
-    → RootsAre store source_map around hi rs es → RootsAre store source_map around lo rs es
-roots_earlier store source_map around lo hi [] [] le h = tt
-roots_earlier store source_map around lo hi [] (e ∷ es) le h = absurd h
-roots_earlier store source_map around lo hi (r ∷ rs) [] le h = absurd h
-roots_earlier store source_map around lo hi (r ∷ rs) (e ∷ es) le h = (root_earlier lo hi r e le h.0, h.1)
+  roots_earlier : (lo mid hi : Lengths) (rs : List ExprRoot) (es : Bodies) → Further lo mid
+      → RootsAre store source_map around mid hi rs es → RootsAre store source_map around lo hi rs es
+  roots_earlier lo mid hi [] [] le h = further_trans le h
+  roots_earlier lo mid hi [] (e ∷ es) le h = absurd h
+  roots_earlier lo mid hi (r ∷ rs) [] le h = absurd h
+  roots_earlier lo mid hi (r ∷ rs) (e ∷ es) le h = (h.0, (root_earlier lo mid (ends_of r h.0) r e le h.1.0, h.1.1))
 
-ends_later : (lo hi : Ends) (rs : List ExprRoot) → Further lo hi → Further (last_end lo rs) (last_end hi rs)
-ends_later lo hi [] le = le
-ends_later lo hi (r ∷ rs) le = further_refl _
-
-ends_append : (lo : Ends) (rs ss : List ExprRoot) → last_end lo (rs ++ ss) ≡ last_end (last_end lo rs) ss
-ends_append lo [] ss = refl
-ends_append lo (r ∷ rs) ss = ends_append (ends_of r) rs ss
-
-roots_append : (store : Store) (source_map : SourceMap) (around : Open) (lo hi : Ends) (rs : List ExprRoot) (es : Bodies)
-    (ss : List ExprRoot) (fs : Bodies) → Further (last_end lo rs) hi → RootsAre store source_map around lo rs es
-    → RootsAre store source_map around hi ss fs → RootsAre store source_map around lo (rs ++ ss) (es ++ fs)
-roots_append store source_map around lo hi [] [] ss fs le g h = roots_earlier store source_map around lo hi ss fs le h
-roots_append store source_map around lo hi [] (e ∷ es) ss fs le g h = absurd g
-roots_append store source_map around lo hi (r ∷ rs) [] ss fs le g h = absurd g
-roots_append store source_map around lo hi (r ∷ rs) (e ∷ es) ss fs le g h =
-    (g.0, roots_append store source_map around (ends_of r) hi rs es ss fs le g.1 h)
+  roots_append : (lo mid hi : Lengths) (rs : List ExprRoot) (es : Bodies) (ss : List ExprRoot) (fs : Bodies)
+      → RootsAre store source_map around lo mid rs es → RootsAre store source_map around mid hi ss fs
+      → RootsAre store source_map around lo hi (rs ++ ss) (es ++ fs)
+  roots_append lo mid hi [] [] ss fs g h = roots_earlier lo mid hi ss fs g h
+  roots_append lo mid hi [] (e ∷ es) ss fs g h = absurd g
+  roots_append lo mid hi (r ∷ rs) [] ss fs g h = absurd g
+  roots_append lo mid hi (r ∷ rs) (e ∷ es) ss fs g h =
+      (g.0, (g.1.0, roots_append (ends_of r g.0) mid hi rs es ss fs g.1.1 h))
 
 roots_then : {around : Open} {a b c later : Stored} {es fs : Bodies} → Settled b c → RootsOf around a b later es
     → RootsOf around b c later fs → RootsOf around a c later (es ++ fs)
-roots_then {around = around} {a = a} {b = b} {c = c} {later = later} {es = es} {fs = fs} settled g h =
-    let from = ends_now a in
-    let to = ends_now b in
-    let after = ends_later (last_end from g.roots) to h.roots g.ends in record {
-      roots = g.roots ++ h.roots;
-      is = h.is ∙ (ap (λ rs. rs ++ h.roots) g.is ∙ append_assoc a.roots g.roots h.roots);
-      each = λ s. roots_append (store_of later) (map_of later) around from to g.roots es h.roots fs g.ends
-          (g.each (settled_trans b c later settled s)) (h.each s);
-      ends = subst (λ x. Further x (ends_now c)) (sym (ends_append from g.roots h.roots)) (further_trans after h.ends);
-    }
+roots_then {around = around} {a = a} {b = b} {c = c} {later = later} {es = es} {fs = fs} settled g h = record {
+  roots = g.roots ++ h.roots;
+  is = h.is ∙ (ap (λ rs. rs ++ h.roots) g.is ∙ append_assoc a.roots g.roots h.roots);
+  each = λ s. roots_append (store_of later) (map_of later) around (lengths_now a) (lengths_now b) (lengths_now c) g.roots es h.roots fs
+      (g.each (settled_trans b c later settled s)) (h.each s);
+}
 
 noting_then : {es fs : Bodies} {a b c : Builder} → Noting es a b → Noting fs b c → Noting (es ++ fs) a c
 noting_then {fs = fs} {a = a} {b = b} {c = c} g h = record {
@@ -184,9 +180,9 @@ notes_end {es = es} h k = notes_as (append-nil es) (notes_then h k)
 
 -- ---- steps that record none
 
-pub no_roots : {around : Open} {a b later : Stored} → Further (ends_now a) (ends_now b) → b.roots ≡ a.roots
+pub no_roots : {around : Open} {a b later : Stored} → Further (lengths_now a) (lengths_now b) → b.roots ≡ a.roots
     → RootsOf around a b later []
-no_roots {a = a} le e = record { roots = []; is = e ∙ sym (append-nil a.roots); each = λ s. tt; ends = le }
+no_roots {a = a} le e = record { roots = []; is = e ∙ sym (append-nil a.roots); each = λ s. le }
 
 -- neither roots nor bindings come
 record Aside (m m' : Mark) : Type 0 where
@@ -244,17 +240,6 @@ notes_count_out = record { notes = λ b. tt }
 
 -- ---- bodies inside
 
--- the expressions, types and patterns that came with it
-
-abbrev came_exprs : Stored → Stored → Stored → List HirExpr
-came_exprs old new later = slice_range later.exprs.entries (length old.exprs.entries) (length new.exprs.entries)
-
-abbrev came_types : Stored → Stored → Stored → List TypeRef
-came_types old new later = slice_range later.types.entries (length old.types.entries) (length new.types.entries)
-
-abbrev came_pats : Stored → Stored → Stored → List Pat
-came_pats old new later = slice_range later.pats.entries (length old.pats.entries) (length new.pats.entries)
-
 -- what is so of a body inside by what its lowering stored
 record Facts (x : InnerBody) (old new : Stored) (i : ExprId) (later : Stored) : Type 0 where
   same : SameInner (store_of later) (map_of later) i x
@@ -264,13 +249,15 @@ record Facts (x : InnerBody) (old new : Stored) (i : ExprId) (later : Stored) : 
   pats_reached_once : (depth : ℕ) → length later.pats.entries ≤ depth
       → let l = of_pats_alone (pats_reached later.pats.entries depth) in
       Spread (length old.pats.entries) (length new.pats.entries)
-      (of_exprs l (came_exprs old new later) ++ of_types l (came_types old new later))
+      (of_exprs l (exprs_between (store_of later) (lengths_now old) (lengths_now new))
+      ++ of_types l (types_between (store_of later) (lengths_now old) (lengths_now new)))
   types_reached_once : (depth : ℕ) → length later.types.entries ≤ depth
       → let l = of_types_alone (types_reached later.types.entries depth) in
       Spread (length old.types.entries) (length new.types.entries)
-      (of_exprs l (came_exprs old new later) ++ of_pats l (came_pats old new later))
+      (of_exprs l (exprs_between (store_of later) (lengths_now old) (lengths_now new))
+      ++ of_pats l (pats_between (store_of later) (lengths_now old) (lengths_now new)))
   bindings_came : Each (Between (length old.bindings.entries) (length new.bindings.entries))
-      (of_pats of_bindings_alone (came_pats old new later))
+      (of_pats of_bindings_alone (pats_between (store_of later) (lengths_now old) (lengths_now new)))
 
 module _ {A : Type 0} {p : Lowering A} (x : InnerBody) (b c : Builder) (a : A) (i : ExprId) (paired : Paired b.stored)
     (is : p b ≡ (Ok a, c)) (later : Stored) (stays : Extends c.stored later) where
@@ -292,7 +279,7 @@ module _ {A : Type 0} {p : Lowering A} (x : InnerBody) (b c : Builder) (a : A) (
         pats_reached_once = λ depth le. rw (exprs, types)
             (pats_once (λ a. []) quiet (λ a l k. omega arith) b c a paired is later stays depth le es.more es.is ts.more ts.is);
         types_reached_once = λ depth le. rw (exprs, pats)
-            (types_came quiet b c a paired is later stays depth le es.more es.is ps.more ps.is);
+            (types_came (λ a f. []) quiet (λ a f k. omega arith) b c a paired is later stays depth le es.more es.is ps.more ps.is);
         bindings_came = rw pats (bindings_came quiet b c a paired is ps.more ps.is);
       }
 
@@ -335,17 +322,16 @@ module _ {A : Type 0} (make : ExprId → A) (x : InnerBody) where
                 let stays = extends_trans (extends_root c.stored root) e in
                 let f = facts left i d refl later e in
                 let goes_on = further_stored inner.stays (root_settles x (entered b) c i d is) in
-                let whole : Settled c.stored later → RootIs (store_of later) (map_of later) b.scopes (ends_now b.stored) root x =
+                let types_end = length c.stored.types.entries in
+                let begins = lengths_now b.stored in
+                let whole : Settled c.stored later
+                → RootIs (store_of later) (map_of later) b.scopes begins (ends_of root types_end) root x =
                 λ s. let shown = rooted x (entered b) c i d is later stays s in record {
                   same = f.same;
                   ways = shown.ways;
                   stands = shown.stands;
-                  came = record {
-                    from = ends_now b.stored;
-                    types_from = length b.stored.types.entries;
-                    types_to = length c.stored.types.entries;
-                  };
-                  behind = further_refl (ends_now b.stored);
+                  from = begins;
+                  behind = further_refl begins;
                   goes_on = goes_on;
                   reached_once = f.reached_once;
                   pats_reached_once = f.pats_reached_once;
@@ -355,8 +341,7 @@ module _ {A : Type 0} (make : ExprId → A) (x : InnerBody) where
                 record {
                   roots = root ∷ [];
                   is = ap (λ rs. rs ++ root ∷ []) (inner.roots refl);
-                  each = λ s. (whole s, tt);
-                  ends = further_refl (ends_of root);
+                  each = λ s. (types_end, (whole s, further_refl (ends_of root types_end)));
                 };
           }
       by b outer in' (Err f) c is inner kept facts = tt

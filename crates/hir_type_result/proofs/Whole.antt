@@ -17,8 +17,8 @@ use Rattle.hir_one_result.proofs.TreeBlocks.{type_enters}
 use Rattle.hir_one_result.proofs.TreeFaults.{type_reports}
 use Rattle.hir_one_result.proofs.TreeStands.{type_left}
 use Rattle.hir_one_result.proofs.Whole.{lead_back}
-use Rattle.hir_type_result.specs.Roots.{Further, RootsAre, RootsOf, last_end, no_ends, recorded}
-use Rattle.hir_type_result.specs.TypeResult.{TypeResults, RefusedTypes, ends_of_store}
+use Rattle.hir_type_result.specs.Roots.{RootsAre, RootsOf, lengths_of, no_lengths, recorded}
+use Rattle.hir_type_result.specs.TypeResult.{TypeResults, RefusedTypes}
 use Rattle.hir_type_result.proofs.Behind.{blocks_behind, faults_behind, type_roots, ways_behind}
 use Rattle.hir_type_result.proofs.Inside.{type_inside}
 use Rattle.hir_type_result.proofs.Named.{type_pats_once, types_once}
@@ -78,13 +78,14 @@ type_results limit t i new is =
       covers_labels = left.moved.covers_labels;
       covers_bindings = left.moved.covers_bindings;
       leads = left.moved.led [] (leads_nowhere refl refl refl refl);
-      reached_once = types_once None t old new i none is new.stored stays;
+      types_reached_once = λ depth le.
+          types_once None t old new i none is new.stored stays depth le new.stored.exprs.entries refl new.stored.pats.entries refl;
       inside_reached_once = type_inside None t old new i none is new.stored stays;
       pats_reached_once = λ depth le.
           type_pats_once None t old new i none is new.stored stays depth le new.stored.exprs.entries refl new.stored.types.entries refl;
-      roots = subst (λ rs. RootsAre (store_of new.stored) (map_of new.stored) [] no_ends rs (type_part_size t).inner) (sym r.is)
-          (r.each settled);
-      roots_end = subst (λ rs. Further (last_end no_ends rs) (ends_of_store (store_of new.stored))) (sym r.is) r.ends;
+      roots =
+          let s = store_of new.stored in
+          subst (λ rs. RootsAre s (map_of new.stored) [] no_lengths (lengths_of s) rs (type_part_size t).inner) (sym r.is) (r.each settled);
       blocks = blocks_behind old new i none is (type_enters None t);
       faults = subst (IsPermutation (type_part_faults [] t)) (sym faults.is) faults.like;
     }

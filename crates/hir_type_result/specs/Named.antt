@@ -15,9 +15,9 @@ use Rattle.hir_store.specs.declared.pat.Pat.{Pat as HirPat}
 use Rattle.hir_store.specs.declared.pat.Pat.TheVariants as pat
 use Rattle.hir_store.specs.declared.pat.RecordFieldPat.{RecordFieldPat}
 use Rattle.hir_store.specs.declared.path.Path.{Path}
-use Rattle.hir_env.specs.Answered.{OptionExpr, OptionPath}
+use Rattle.hir_env.specs.Answered.{Binder, OptionExpr, OptionPath, OptionType}
 use Rattle.hir_lower_form.specs.Builder.{Builder}
-use Rattle.hir_lower_form.specs.Lower.{lower_part, lower_path}
+use Rattle.hir_lower_form.specs.Lower.{lower_part, lower_path, type_part}
 use Rattle.hir_steps.specs.Keeps.{Paired}
 use Rattle.hir_same_meaning.specs.Reached.{Spread}
 use Rattle.hir_type_result.specs.Reached.{of_args, of_each, of_path, of_present, types_reached}
@@ -91,26 +91,30 @@ module _ (l : Look) where
   abbrev pub of_pats : List HirPat → List ℕ
   of_pats = of_each of_pat
 
--- However deep one looks, each type that a lowered path reaches is reached in one way, and is one of those that lowering it
--- stored.
-abbrev pub PathTypesReachedOnce : Type 0
-PathTypesReachedOnce =
-    (p : OptionPath) (b b' : Builder) (r : Option Path) → Paired b.stored → lower_path p b ≡ (Ok r, b')
-    → (final : Stored) → Extends b'.stored final → (depth : ℕ) → length final.types.entries ≤ depth
-    → Spread (length b.stored.types.entries) (length b'.stored.types.entries)
-    (of_present (of_path (types_reached final.types.entries depth)) r)
-
--- Each type that the expressions and patterns reach which came is reached in one way, by one of them, and is one of those that came.
-abbrev pub TypesSpread : Stored → Stored → Stored → Type 0
-TypesSpread old new final =
+-- However deep one looks, each type that is reached from here, or by the expressions and patterns that came, is reached in one way by
+-- one of them, so none reaches itself, and is one of those that came.
+abbrev pub TypesSpread : Stored → Stored → Stored → ((TypeRefId → List ℕ) → List ℕ) → Type 0
+TypesSpread old new final here =
     (depth : ℕ) → length final.types.entries ≤ depth
     → (more : List HirExpr) → new.exprs.entries ≡ old.exprs.entries ++ more
     → (pats : List HirPat) → new.pats.entries ≡ old.pats.entries ++ pats
-    → let l = of_types_alone (types_reached final.types.entries depth) in
-    Spread (length old.types.entries) (length new.types.entries) (of_exprs l more ++ of_pats l pats)
+    → let f = types_reached final.types.entries depth in let l = of_types_alone f in
+    Spread (length old.types.entries) (length new.types.entries) (here f ++ (of_exprs l more ++ of_pats l pats))
 
--- so it is of a lowered tree
+-- so it is of a lowered type,
+abbrev pub TypesReachedOnce : Type 0
+TypesReachedOnce =
+    (binder : Option Binder) (t : OptionType) (b b' : Builder) (i : TypeRefId) → Paired b.stored → type_part binder t b ≡ (Ok i, b')
+    → (final : Stored) → Extends b'.stored final → TypesSpread b.stored b'.stored final (λ f. f i)
+
+-- of a lowered path,
+abbrev pub PathTypesReachedOnce : Type 0
+PathTypesReachedOnce =
+    (p : OptionPath) (b b' : Builder) (r : Option Path) → Paired b.stored → lower_path p b ≡ (Ok r, b')
+    → (final : Stored) → Extends b'.stored final → TypesSpread b.stored b'.stored final (λ f. of_present (of_path f) r)
+
+-- and of a lowered tree.
 abbrev pub ExprTypesReachedOnce : Type 0
 ExprTypesReachedOnce =
     (e : OptionExpr) (b b' : Builder) (i : ExprId) → Paired b.stored → lower_part e b ≡ (Ok i, b')
-    → (final : Stored) → Extends b'.stored final → TypesSpread b.stored b'.stored final
+    → (final : Stored) → Extends b'.stored final → TypesSpread b.stored b'.stored final (λ f. [])

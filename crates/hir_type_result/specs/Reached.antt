@@ -94,11 +94,3 @@ module _ (f : TypeRefId → List ℕ) where
 unfoldable pub types_reached : List TypeRef → ℕ → TypeRefId → List ℕ
 types_reached types zero i = []
 types_reached types (suc depth) i = i.0 ∷ below_found (types_reached types depth) (slice_get types i.0)
-
--- However deep one looks, each type that a lowered one reaches is reached in one way, so none reaches itself, and is one of
--- those that its lowering stored.
-abbrev pub TypesReachedOnce : Type 0
-TypesReachedOnce =
-    (binder : Option Binder) (t : OptionType) (b b' : Builder) (i : TypeRefId) → Paired b.stored → type_part binder t b ≡ (Ok i, b')
-    → (final : Stored) → Extends b'.stored final → (depth : ℕ) → length final.types.entries ≤ depth
-    → Spread (length b.stored.types.entries) (length b'.stored.types.entries) (types_reached final.types.entries depth i)

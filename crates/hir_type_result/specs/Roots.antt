@@ -31,27 +31,32 @@ use Rattle.hir_type_result.specs.Pats.{of_types, pats_reached}
 use Rattle.hir_type_result.specs.Reached.{types_reached}
 use Rattle.hir_type_result.specs.Unrun.{unrun_in}
 
--- how far the numbers of a root go
-pub record Ends : Type 0 where
+-- how many there are of each sort
+pub record Lengths : Type 0 where
   pub exprs : ℕ
   pub pats : ℕ
   pub bindings : ℕ
+  pub types : ℕ
 
-abbrev pub no_ends : Ends
-no_ends = record { exprs = 0; pats = 0; bindings = 0 }
+abbrev pub no_lengths : Lengths
+no_lengths = record { exprs = 0; pats = 0; bindings = 0; types = 0 }
 
-abbrev pub ends_of : ExprRoot → Ends
-ends_of r = record { exprs = r.exprs_end.0; pats = r.pats_end.0; bindings = r.bindings_end.0 }
+abbrev pub lengths_of : Store → Lengths
+lengths_of s = record { exprs = length s.exprs; pats = length s.pats; bindings = length s.bindings; types = length s.types }
 
--- what is stored so far
-abbrev pub ends_now : Stored → Ends
-ends_now s = record { exprs = length s.exprs.entries; pats = length s.pats.entries; bindings = length s.bindings.entries }
+abbrev pub lengths_now : Stored → Lengths
+lengths_now s = lengths_of (store_of s)
 
--- none of them goes less far
-pub record Further (a b : Ends) : Type 0 where
+-- where a root ends; where its types do it doesn't tell
+abbrev pub ends_of : ExprRoot → ℕ → Lengths
+ends_of r types_end = record { exprs = r.exprs_end.0; pats = r.pats_end.0; bindings = r.bindings_end.0; types = types_end }
+
+-- there are no fewer of any sort
+pub record Further (a b : Lengths) : Type 0 where
   pub exprs : a.exprs ≤ b.exprs
   pub pats : a.pats ≤ b.pats
   pub bindings : a.bindings ≤ b.bindings
+  pub types : a.types ≤ b.types
 
 -- a body inside, written: what is inside it, and what stands for it
 
@@ -70,62 +75,52 @@ pub record SameInner (store : Store) (source_map : SourceMap) (root : ExprId) (b
   pub body : SameBody store (stored_body store source_map root) root (written_inner b)
   pub inner : SameBodies store source_map (inner_bodies store root) (inside b)
 
--- where what came with a root begins, and, since no root tells it, where its types end
-pub record Came : Type 0 where
-  pub from : Ends
-  pub types_from : ℕ
-  pub types_to : ℕ
+-- those that came from the one to the other
 
--- the expressions, types and patterns that came with it
+abbrev pub exprs_between : Store → Lengths → Lengths → List HirExpr
+exprs_between store from to = slice_range store.exprs from.exprs to.exprs
 
-abbrev pub exprs_of : Store → Came → ExprRoot → List HirExpr
-exprs_of store came r = slice_range store.exprs came.from.exprs r.exprs_end.0
+abbrev pub types_between : Store → Lengths → Lengths → List TypeRef
+types_between store from to = slice_range store.types from.types to.types
 
-abbrev pub types_of : Store → Came → List TypeRef
-types_of store came = slice_range store.types came.types_from came.types_to
+abbrev pub pats_between : Store → Lengths → Lengths → List HirPat
+pats_between store from to = slice_range store.pats from.pats to.pats
 
-abbrev pub pats_of : Store → Came → ExprRoot → List HirPat
-pats_of store came r = slice_range store.pats came.from.pats r.pats_end.0
-
--- A root that begins behind the one before it, as a body with this around it: it does what the body does and stands for it. Each
--- expression that it reaches, or that one does which it holds and doesn't run, came with it and is reached in one way. Of all that
--- came with it the expressions and types reach patterns that came with it, and the expressions and patterns types, each in one way,
--- and the patterns make bindings that came with it.
-pub record RootIs (store : Store) (source_map : SourceMap) (around : Open) (begins : Ends) (r : ExprRoot) (b : InnerBody) : Type 0 where
+-- A root that begins behind the one before it, and ends there, as a body with this around it: it does what the body does and stands for
+-- it. From some place on, all is its own. Each expression that it reaches, or that one does which it holds and doesn't run, is its own
+-- and reached in one way. Its expressions and types reach patterns of its own, and its expressions and patterns reach types of its own,
+-- each in one way. Its patterns make bindings of its own.
+pub record RootIs (store : Store) (source_map : SourceMap) (around : Open) (begins ends : Lengths) (r : ExprRoot) (b : InnerBody)
+    : Type 0 where
   pub same : SameInner store source_map r.root b
   pub ways : List Way
   pub stands : StandsInner store source_map (barrier_rib ∷ around) b r.root ways
-  pub came : Came
-  pub behind : Further begins came.from
-  pub goes_on : Further came.from (ends_of r)
+  pub from : Lengths
+  pub behind : Further begins from
+  pub goes_on : Further from ends
   pub reached_once : (depth : ℕ) → length store.exprs ≤ depth
-      → Spread came.from.exprs r.exprs_end.0 (of_each (reached_to store depth) (r.root ∷ unrun_in store r.root))
+      → Spread from.exprs ends.exprs (of_each (reached_to store depth) (r.root ∷ unrun_in store r.root))
   pub pats_reached_once : (depth : ℕ) → length store.pats ≤ depth → let l = of_pats_alone (pats_reached store.pats depth) in
-      Spread came.from.pats r.pats_end.0 (of_exprs l (exprs_of store came r) ++ of_types l (types_of store came))
+      Spread from.pats ends.pats (of_exprs l (exprs_between store from ends) ++ of_types l (types_between store from ends))
   pub types_reached_once : (depth : ℕ) → length store.types ≤ depth → let l = of_types_alone (types_reached store.types depth) in
-      Spread came.types_from came.types_to (of_exprs l (exprs_of store came r) ++ of_pats l (pats_of store came r))
-  pub bindings_came : Each (Between came.from.bindings r.bindings_end.0) (of_pats of_bindings_alone (pats_of store came r))
+      Spread from.types ends.types (of_exprs l (exprs_between store from ends) ++ of_pats l (pats_between store from ends))
+  pub bindings_came : Each (Between from.bindings ends.bindings) (of_pats of_bindings_alone (pats_between store from ends))
 
--- each is for the body in the same place of the list
-abbrev pub RootsAre : Store → SourceMap → Open → Ends → List ExprRoot → Bodies → Type 0
-RootsAre store source_map around begins [] [] = Unit {0}
-RootsAre store source_map around begins (r ∷ rs) (b ∷ bs) =
-    RootIs store source_map around begins r b × RootsAre store source_map around (ends_of r) rs bs
-RootsAre store source_map around begins [] (b ∷ bs) = ⊥
-RootsAre store source_map around begins (r ∷ rs) [] = ⊥
-
--- where the last of them ends
-abbrev pub last_end : Ends → List ExprRoot → Ends
-last_end begins [] = begins
-last_end begins (r ∷ rs) = last_end (ends_of r) rs
+-- Each is for the body in the same place of the list, and the last ends no later than there.
+abbrev pub RootsAre : Store → SourceMap → Open → Lengths → Lengths → List ExprRoot → Bodies → Type 0
+RootsAre store source_map around begins ends [] [] = Further begins ends
+RootsAre store source_map around begins ends (r ∷ rs) (b ∷ bs) =
+    (types_end : ℕ) × RootIs store source_map around begins (ends_of r types_end) r b
+    × RootsAre store source_map around (ends_of r types_end) ends rs bs
+RootsAre store source_map around begins ends [] (b ∷ bs) = ⊥
+RootsAre store source_map around begins ends (r ∷ rs) [] = ⊥
 
 -- Behind the roots that were recorded before comes one for each of these bodies. In a later store each stands there as long as what
 -- was settled of the bindings stays.
 pub record RootsOf (around : Open) (old new later : Stored) (bs : Bodies) : Type 0 where
   pub roots : List ExprRoot
   pub is : new.roots ≡ old.roots ++ roots
-  pub each : Settled new later → RootsAre (store_of later) (map_of later) around (ends_now old) roots bs
-  pub ends : Further (last_end (ends_now old) roots) (ends_now new)
+  pub each : Settled new later → RootsAre (store_of later) (map_of later) around (lengths_now old) (lengths_now new) roots bs
 
 -- inside of another root none is recorded
 abbrev pub recorded : Bool → Bodies → Bodies

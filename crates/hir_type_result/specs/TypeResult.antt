@@ -17,23 +17,20 @@ use Rattle.hir_one_result.specs.Blocks.{blocks_of_type_part}
 use Rattle.hir_one_result.specs.Diagnostics.{type_part_faults}
 use Rattle.hir_one_result.specs.Room.{Short, type_part_size}
 use Rattle.hir_one_result.specs.Stands.{TypePartWays}
-use Rattle.hir_type_result.specs.Named.{of_exprs, of_pats_alone}
+use Rattle.hir_type_result.specs.Named.{of_exprs, of_pats, of_pats_alone, of_types_alone}
 use Rattle.hir_type_result.specs.Pats.{of_types, pats_reached}
 use Rattle.hir_type_result.specs.Reached.{types_reached}
-use Rattle.hir_type_result.specs.Roots.{Ends, Further, RootsAre, last_end, no_ends}
+use Rattle.hir_type_result.specs.Roots.{RootsAre, lengths_of, no_lengths}
 use Rattle.hir_type_result.specs.Unrun.{unrun_in_type}
-
--- all that is stored
-abbrev pub ends_of_store : Store → Ends
-ends_of_store s = record { exprs = length s.exprs; pats = length s.pats; bindings = length s.bindings }
 
 -- What is stored where one type was lowered. It reads back as what is written, and each body inside it does what the written one
 -- does. There are patterns, types and lifetimes from just those of its nodes that become one, in the order of lowering, and as many
 -- expressions, labels and bindings as the bodies inside it become, and nothing besides. Each body inside is a root, in the order in
 -- which they are done, also one that the type doesn't reach. Nodes of patterns, types and lifetimes lead to them, those of
--- expressions and labels to what they became, and no other nodes lead anywhere. However deep one looks, the type reaches no type in
--- two ways, what it holds and doesn't run no expression, and types and expressions together no pattern. Each binding is that of a name of a
--- top pattern in these bodies, and has the patterns that make it. The faults and the entered blocks are those of these bodies.
+-- expressions and labels to what they became, and no other nodes lead anywhere. However deep one looks, the type, all expressions
+-- and all patterns together reach no type in two ways, types and expressions no pattern, and what the type holds and doesn't run no
+-- expression. Each binding is that of a name of a top pattern in these bodies, and has the patterns that make it. The faults and the
+-- entered blocks are those of these bodies.
 pub record TypeResult (store : Store) (source_map : SourceMap) (i : TypeRefId) (t : OptionType) : Type 0 where
   pub reads_back : stored_type store source_map i ≡ written_type t
   pub inner : SameBodies store source_map (type_inner_bodies store i) (part_bodies t)
@@ -58,13 +55,14 @@ pub record TypeResult (store : Store) (source_map : SourceMap) (i : TypeRefId) (
   pub covers_labels : CoversLabels ways 0 (length store.labels)
   pub covers_bindings : CoversBindings ways 0 (length store.bindings)
   pub leads : MapLeads source_map ways
-  pub reached_once : (depth : ℕ) → length store.types ≤ depth → Spread 0 (length store.types) (types_reached store.types depth i)
+  pub types_reached_once : (depth : ℕ) → length store.types ≤ depth
+      → let f = types_reached store.types depth in let l = of_types_alone f in
+      Spread 0 (length store.types) (f i ++ (of_exprs l store.exprs ++ of_pats l store.pats))
   pub inside_reached_once : (depth : ℕ) → length store.exprs ≤ depth
       → Spread 0 (length store.exprs) (of_each (reached_to store depth) (unrun_in_type store i))
   pub pats_reached_once : (depth : ℕ) → length store.pats ≤ depth → let l = of_pats_alone (pats_reached store.pats depth) in
       Spread 0 (length store.pats) (of_exprs l store.exprs ++ of_types l store.types)
-  pub roots : RootsAre store source_map [] no_ends store.roots (type_part_size t).inner
-  pub roots_end : Further (last_end no_ends store.roots) (ends_of_store store)
+  pub roots : RootsAre store source_map [] no_lengths (lengths_of store) store.roots (type_part_size t).inner
   pub blocks : source_map.block_scopes ≡ blocks_of_type_part t
   pub faults : IsPermutation (type_part_faults [] t) source_map.diagnostics
 

@@ -3,20 +3,19 @@
 #![tactic(auto)]
 
 ghost use Rattle.hir_type_result.specs.TypeResult.{TypeResults, RefusedTypes};
-ghost use Rattle.hir_type_result.specs.Reached.{TypesReachedOnce};
-ghost use Rattle.hir_type_result.specs.Named.{ExprTypesReachedOnce, PathTypesReachedOnce};
+ghost use Rattle.hir_type_result.specs.Named.{ExprTypesReachedOnce, PathTypesReachedOnce, TypesReachedOnce};
 ghost use Rattle.hir_type_result.specs.Pats.{BodyPatsReachedOnce, ExprPatsReachedOnce, PathPatsReachedOnce, TypePatsReachedOnce};
 ghost use Rattle.hir_type_result.specs.Pats.{BodyBindingsCame, ExprBindingsCame, PathBindingsCame, TypeBindingsCame};
 ghost use Rattle.hir_type_result.specs.Roots.{PathRoots, TypeRoots};
 ghost use Rattle.hir_type_result.specs.Inside.{BodyInsideReachedOnce, InsideReachedOnce, PathInsideReachedOnce, TypeInsideReachedOnce};
 
-/// Each type that a lowered one reaches, through its parts, is one that its lowering stored, and is reached in one way.
+/// Each type that a lowered one reaches, through its parts, or that the expressions and patterns do which came with it, is one that its
+/// lowering stored, and is reached in one way.
 pub fn types_reached_once()
     ensures { TypesReachedOnce }
 {}
 
-/// Each type that a lowered path reaches, or that the expressions and patterns of a lowered tree do, is one that its lowering
-/// stored, and is reached in one way.
+/// So it is of a lowered path, and of the expressions and patterns of a lowered tree.
 pub fn named_types_reached_once()
     ensures paths { PathTypesReachedOnce }
     ensures exprs { ExprTypesReachedOnce }
@@ -40,9 +39,9 @@ pub fn bindings_came()
     ensures bodies { BodyBindingsCame }
 {}
 
-/// Each expression that a lowered tree reaches, or that a constant inside it does, is one that its lowering stored, and is reached
-/// in one way by one of them. So it is of the constants inside a type or a path, and of a body behind its parameters, with the
-/// constants inside the patterns of these.
+/// Each expression that a lowered tree reaches, or that one does which it holds and doesn't run, is one that its lowering stored, and is
+/// reached in one way by one of them. So it is of what a type or a path holds, and of a body behind its parameters, with what the
+/// patterns of these hold.
 pub fn inside_reached_once()
     ensures exprs { InsideReachedOnce }
     ensures types { TypeInsideReachedOnce }
