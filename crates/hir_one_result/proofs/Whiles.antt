@@ -1,5 +1,5 @@
 -- What a `while` becomes stands for it: a loop, the turn in it, and the break in that.
-use Rattle.std.proofs.Common.{◌≡◌, ◌∙◌, refl, length, Option, Some, None}
+use Rattle.std.proofs.Common.{◌≡◌, ◌∙◌, refl, length, List, Option, Some, None}
 use Rattle.hir_store.specs.Pointers.{Pointer}
 use Rattle.hir_store.specs.Stored.{Stored, store_of, map_of}
 use Rattle.hir_store.specs.declared.hir.Expr.{Expr as HirExpr}
