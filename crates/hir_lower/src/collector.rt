@@ -216,7 +216,8 @@ impl<'db, E: LowerEnv> ExprCollector<'db, E> {
     ///
     /// In each later store that keeps the problems of its bindings its expression does what the constant does, for every
     /// answerer and every number of turns that a loop may take; what is stored stands for the tree, and faults, blocks and
-    /// ways of the source map come behind those of before. `Memory` where a growth was refused, `Full` where an arena has no
+    /// ways of the source map come behind those of before. Each expression, type and pattern that it reaches came with it, and
+    /// is reached in one way only. `Memory` where a growth was refused, `Full` where an arena has no
     /// room for the tree, or a path in the tree has more `super`s, or a pattern more parts in front of its two dots, than
     /// 32 bits count, `Failed` after an error, and then nothing changes. All that was stored is stored still, unless memory
     /// was refused, and a node leads to where it led, or to what came since.
