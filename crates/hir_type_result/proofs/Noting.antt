@@ -117,7 +117,7 @@ module _ (store : Store) (source_map : SourceMap) (around : Open) where
   roots_earlier lo mid hi [] [] le h = further_trans le h
   roots_earlier lo mid hi [] (e ∷ es) le h = absurd h
   roots_earlier lo mid hi (r ∷ rs) [] le h = absurd h
-  roots_earlier lo mid hi (r ∷ rs) (e ∷ es) le h = (h.0, (root_earlier lo mid (ends_of r h.0) r e le h.1.0, h.1.1))
+  roots_earlier lo mid hi (r ∷ rs) (e ∷ es) le h = (h.0, root_earlier lo mid (ends_of r h.0) r e le h.1, h.2)
 
   roots_append : (lo mid hi : Lengths) (rs : List ExprRoot) (es : Bodies) (ss : List ExprRoot) (fs : Bodies)
       → RootsAre store source_map around lo mid rs es → RootsAre store source_map around mid hi ss fs
@@ -126,7 +126,7 @@ module _ (store : Store) (source_map : SourceMap) (around : Open) where
   roots_append lo mid hi [] (e ∷ es) ss fs g h = absurd g
   roots_append lo mid hi (r ∷ rs) [] ss fs g h = absurd g
   roots_append lo mid hi (r ∷ rs) (e ∷ es) ss fs g h =
-      (g.0, (g.1.0, roots_append (ends_of r g.0) mid hi rs es ss fs g.1.1 h))
+      (g.0, g.1, roots_append (ends_of r g.0) mid hi rs es ss fs g.2 h)
 
 roots_then : {around : Open} {a b c later : Stored} {es fs : Bodies} → Settled b c → RootsOf around a b later es
     → RootsOf around b c later fs → RootsOf around a c later (es ++ fs)
@@ -341,7 +341,7 @@ module _ {A : Type 0} (make : ExprId → A) (x : InnerBody) where
                 record {
                   roots = root ∷ [];
                   is = ap (λ rs. rs ++ root ∷ []) (inner.roots refl);
-                  each = λ s. (types_end, (whole s, further_refl (ends_of root types_end)));
+                  each = λ s. (types_end, whole s, further_refl (ends_of root types_end));
                 };
           }
       by b outer in' (Err f) c is inner kept facts = tt
