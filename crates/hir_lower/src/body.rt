@@ -375,7 +375,8 @@ fn body_steps<E: LowerEnv>(
 ///
 /// The stored body does what the written one does, for every answerer and every number of turns that a loop may take,
 /// and so does each body inside it or inside the pattern of a parameter. Each expression that one of these reaches, or a literal or a
-/// side of a range in a pattern is, is reached in one way only; so is each type that the expressions and patterns reach, and each pattern that the parameters, expressions and types do.
+/// side of a range in a pattern is, is reached in one way only; so is each type that the expressions and patterns reach, and each
+/// pattern that the parameters, expressions and types do.
 /// Store, source map and diagnostics are one result of the parameters and the tree: what is stored stands for them and no more is
 /// stored, each expression and pattern with its source, all in the range of the one root; the source map leads from each written
 /// expression and label to what it became, from the nodes of patterns, types and lifetimes to them, from the values and patterns

@@ -42,8 +42,8 @@ StandsGiven store source_map rs skipped f given =
 -- those of its nodes that become one. The root stands for the tree, and each expression is what a written one became, or a missing
 -- one for an absent or disabled part, or in front of a tuple with a leading comma, or what is called for a range, or the turn of a
 -- `while` or the break in it; each label is what a written one became, and there are as many; each binding is that of a name of a
--- top pattern, or of `self`, and has the patterns that make it. The source map leads from each written expression and label to what it became, and from nowhere else;
--- the nodes of patterns, types and lifetimes lead to them, and no other nodes do. Behind the faults that the body owes as a whole
+-- top pattern, or of `self`, and has the patterns that make it. The source map leads from each written expression and label to what it
+-- became, and from nowhere else; the nodes of patterns, types and lifetimes lead to them, and no other nodes do. Behind the faults that the body owes as a whole
 -- come those of what is read of the tree, in some order. The blocks with numbers are those of the tree, in the order of entering.
 pub record OneResult (store : Store) (source_map : SourceMap) (owed : Faults) (skipped : Bool) (f : Formals) (given : Given)
     (e : OptionExpr) : Type 0 where
