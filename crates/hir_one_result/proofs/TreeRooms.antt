@@ -70,7 +70,8 @@ use Rattle.hir_lower_form.specs.declared.walk.PathWalk.{PathWalk}
 use Rattle.hir_lower_form.specs.Walks as walks
 use Rattle.hir_lower_form.specs.Walks.{start}
 use Rattle.hir_lower_form.specs.Paths.{proceed}
-use Rattle.hir_one_result.proofs.ExprRooms.{missing_takes, some_takes, if_takes, loop_takes, turn_takes, call_takes, continue_takes, break_takes}
+use Rattle.hir_one_result.proofs.ExprRooms.{missing_takes, some_takes, if_takes, loop_takes, turn_takes, call_takes, continue_takes}
+use Rattle.hir_one_result.proofs.ExprRooms.{break_takes}
 use Rattle.hir_one_result.proofs.ExprRooms.{paren_takes, path_takes, operand_takes, operands_take, value_takes, list_takes}
 use Rattle.hir_one_result.proofs.ExprRooms.{method_call_takes, cast_takes, offset_of_takes, record_takes, field_takes, await_takes}
 use Rattle.hir_one_result.proofs.ExprRooms.{block_form_takes, contents_take, labelled_takes, kept_takes}
