@@ -257,7 +257,8 @@ module _ (at : Pointer) where
       record { shown = shown_as parts (λ ws x. (q.one, row.one, r.one, expr_at q.second, x)) })
 
   pub loop_stands : (label : Option Label) {b : ExprSteps} {B : Of ExprId} → Correct b (Shows B)
-      → Correct (loop_form at source.Loop label b) (Shows (λ final rs i. InLabel (store_of final) (map_of final) rs label (λ inner n ws. (body : ExprId)
+      → Correct (loop_form at source.Loop label b)
+      (Shows (λ final rs i. InLabel (store_of final) (map_of final) rs label (λ inner n ws. (body : ExprId)
       × Placed final i (hir.Loop body n source.Loop) (Some at) × (B final inner body & OneWay at i) ws)))
   unfolding loop_form
   loop_stands None h = correct_as (correct_bind h (λ i. correct_alloc (hir.Loop i None source.Loop) (Some at))) (λ final ps m m' i g row.

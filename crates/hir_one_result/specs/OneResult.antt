@@ -38,13 +38,14 @@ StandsGiven store source_map rs skipped f given =
     StandsSelf store f.receiver given.0 & StandsTops store source_map rs (formals_read skipped f.formals) given.1
 
 -- What is stored where one body was lowered, behind its parameters, which may be skipped. To the one root belongs all that is
--- stored, each with its source, as many expressions and bindings as the tree becomes, and patterns, types and lifetimes from just
--- those of its nodes that become one. The root stands for the tree, and each expression is what a written one became, or a missing
--- one for an absent or disabled part, or in front of a tuple with a leading comma, or what is called for a range, or the turn of a
--- `while` or the break in it; each label is what a written one became, and there are as many; each binding is that of a name of a
--- top pattern, or of `self`, and has the patterns that make it. The source map leads from each written expression and label to what it
--- became, and from nowhere else; the nodes of patterns, types and lifetimes lead to them, and no other nodes do. Behind the faults that the body owes as a whole
--- come those of what is read of the tree, in some order. The blocks with numbers are those of the tree, in the order of entering.
+-- stored, each with its source, as many expressions and bindings as the tree becomes, and patterns, types and lifetimes from
+-- just those of its nodes that become one. The root stands for the tree, and each expression is what a written one became, or a
+-- missing one for an absent or disabled part, or in front of a tuple with a leading comma, or what is called for a range, or
+-- the turn of a `while` or the break in it; each label is what a written one became, and there are as many; each binding is
+-- that of a name of a top pattern, or of `self`, and has the patterns that make it. The source map leads from each written
+-- expression and label to what it became, and from nowhere else; the nodes of patterns, types and lifetimes lead to them, and
+-- no other nodes do. Behind the faults that the body owes as a whole come those of what is read of the tree, in some order. The
+-- blocks with numbers are those of the tree, in the order of entering.
 pub record OneResult (store : Store) (source_map : SourceMap) (owed : Faults) (skipped : Bool) (f : Formals) (given : Given)
     (e : OptionExpr) : Type 0 where
   pub root : ExprId
