@@ -199,11 +199,28 @@ def arms(size):
     return nodes
 
 
+def turns(size):
+    """Many chains of `while`s, each the condition of the one around it, the innermost with a break."""
+    nodes, block = body()
+    while len(nodes.all) + 2 * CHAIN + 2 <= size:
+        nodes.statement(block)
+        chain = []
+        for _ in range(CHAIN - 1):
+            here = nodes.add("WhileExpr")
+            nodes.all[here]["condition"] = here + 1
+            chain.append(here)
+        nodes.add("BreakExpr")
+        for here in chain:
+            nodes.all[here]["body"] = nodes.add("BlockExpr", stmts=[])
+    return nodes
+
+
 SHAPES = {
     "wide": wide,
     "calls": calls,
     "deep": deep,
     "labels": labels,
+    "turns": turns,
     "segments": segments,
     "arguments": arguments,
     "constants": constants,
