@@ -215,12 +215,27 @@ def turns(size):
     return nodes
 
 
+def questions(size):
+    """Many chains of `try` blocks, each with the next one and its `?` as its tail."""
+    nodes, block = body()
+    while len(nodes.all) + CHAIN + 2 <= size:
+        nodes.statement(block)
+        for _ in range(CHAIN // 2):
+            here = nodes.add("TryExpr")
+            nodes.all[here]["expr"] = here + 1
+            here = nodes.add("BlockExpr", mod="try")
+            nodes.all[here]["tail"] = here + 1
+        nodes.add("Literal", lit="int", t="1")
+    return nodes
+
+
 SHAPES = {
     "wide": wide,
     "calls": calls,
     "deep": deep,
     "labels": labels,
     "turns": turns,
+    "questions": questions,
     "segments": segments,
     "arguments": arguments,
     "constants": constants,

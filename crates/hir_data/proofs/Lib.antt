@@ -1,3 +1,4 @@
+pub mod MadeNames
 pub mod Segments
 mod Arguments
 mod Worked

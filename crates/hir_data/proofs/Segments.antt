@@ -38,7 +38,7 @@ clash h = subst holds h tt
 no_some : {A : Type 0} {x : A} → None ≡ Some x → ⊥
 no_some h = clash (sym (ap is_some h))
 
-abbrev name_at : Named → Name
+abbrev pub name_at : Named → Name
 name_at n = n.name
 
 -- ---- all is read
@@ -46,7 +46,7 @@ name_at n = n.name
 behind_goes_on : (s : Segment) (ns : List Named) → ends (what false s) ns ≡ false
 behind_goes_on tree.absent_segment ns = refl
 behind_goes_on tree.broken_segment ns = refl
-behind_goes_on (tree.name_segment n a) ns = refl
+behind_goes_on (tree.name_segment n _ a) ns = refl
 behind_goes_on tree.self_type_segment ns = refl
 behind_goes_on tree.crate_segment ns = refl
 behind_goes_on (tree.dollar_crate_segment c) ns = refl
@@ -74,7 +74,7 @@ said first s = map name_at (names_of (what first s))
 
 abbrev named_or_root : Spot → AstName → SegmentArgs → Bool → Segment
 named_or_root at n a b =
-    if b then tree.dollar_crate_segment (crate_root_at at.answers at.place n.id) else tree.name_segment (name.Text n.t) a
+    if b then tree.dollar_crate_segment (crate_root_at at.answers at.place n.id) else tree.name_segment (name.Text n.t) tt a
 
 dollar_said : (at : Spot) (first : Bool) (n : AstName) (a : SegmentArgs) (b : Bool)
     → said first (named_or_root at n a b) ≡ borne (if b then None else Some (name.Text n.t))
@@ -169,16 +169,16 @@ map_reverse f (x ∷ xs) =
     ∙ sym (reverse-append (f x ∷ []) (map f xs))))
 
 -- the last of a list is changed, and its names aren't
-last_changed : (f : List Named → List Named) → ((ns : List Named) → map name_at (f ns) ≡ map name_at ns) → (ns : List Named)
+pub last_changed : (f : List Named → List Named) → ((ns : List Named) → map name_at (f ns) ≡ map name_at ns) → (ns : List Named)
     → map name_at (reverse (f (reverse ns))) ≡ map name_at ns
 last_changed f h ns = map_reverse name_at (f (reverse ns))
     ∙ (ap reverse (h (reverse ns) ∙ map_reverse name_at ns) ∙ reverse-reverse (map name_at ns))
 
-without_names : (ns : List Named) → map name_at (first_without_self ns) ≡ map name_at ns
+pub without_names : (ns : List Named) → map name_at (first_without_self ns) ≡ map name_at ns
 without_names [] = refl
 without_names (n ∷ ns) = refl
 
-behind_names : (t : TypeData) (ns : List Named) → map name_at (first_behind_self t ns) ≡ map name_at ns
+pub behind_names : (t : TypeData) (ns : List Named) → map name_at (first_behind_self t ns) ≡ map name_at ns
 behind_names t [] = refl
 behind_names t (n ∷ ns) = refl
 

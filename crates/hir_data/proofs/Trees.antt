@@ -103,7 +103,7 @@ never_is at n = type_made at n _
 
 -- a name, with what stands behind it
 abbrev segment_with : List ℕ → SegmentArgs → Segment
-segment_with t a = tree.name_segment (name.Text t) a
+segment_with t a = tree.name_segment (name.Text t) tt a
 
 abbrev list_with : Arg → SegmentArgs
 list_with a = tree.segment_args (tree.some_arg_list (tree.more_args a tree.no_args)) tree.no_parens false

@@ -117,6 +117,8 @@ mutual
     not_null_pattern : PatShape
     -- a name with its hygiene, the mode of its first use in the top pattern, and what stands behind `@`
     bind_pattern : Name → HygieneId → BindingAnnotation → OptionPatData → PatShape
+    -- a name that lowering made up
+    generated_pattern : PatShape
     path_pattern : PathData → HygieneId → PatShape
     tuple_struct_pattern : PathData → Option ℕ → PatsData → PatShape
     tuple_pattern : Option ℕ → PatsData → PatShape

@@ -1,5 +1,6 @@
 pub mod Literals
 pub mod Data
+pub mod MadeNames
 pub mod Rule
 pub mod Written
 pub mod Uses

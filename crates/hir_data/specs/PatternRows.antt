@@ -36,7 +36,7 @@ x_with h m = record { name = x; hygiene = h; mode = m }
 
 -- `x`, `ref x` and the like
 abbrev pub x_as : Pointer → BindingAnnotation → Pat
-x_as at m = tree.bind_pat at (x_with root_hygiene m) tree.no_pat
+x_as at m = tree.bind_pat at (x_with root_hygiene m) tt tree.no_pat
 
 abbrev pub dots : Pointer → Pat
 dots at = tree.leaf_pat at tree.rest_leaf
@@ -80,9 +80,9 @@ abbrev pub ModesOfFirstUses : Type 0
 ModesOfFirstUses = (at a b : Pointer)
     → reads (tuple at (x_as a Unannotated ∷ x_as b Ref ∷ []))
     (pat_at (Some at) (datum.tuple_pattern None (patterns (bound a root_hygiene Unannotated ∷ bound b root_hygiene Unannotated ∷ []))))
-    × reads (tuple at (x_as a Unannotated ∷ tree.bind_pat b (x_with other_hygiene Ref) tree.no_pat ∷ []))
+    × reads (tuple at (x_as a Unannotated ∷ tree.bind_pat b (x_with other_hygiene Ref) tt tree.no_pat ∷ []))
     (pat_at (Some at) (datum.tuple_pattern None (patterns (bound a root_hygiene Unannotated ∷ bound b other_hygiene Ref ∷ []))))
-    × reads (tree.bind_pat a (x_with root_hygiene Ref) (tree.some_pat (x_as b Unannotated)))
+    × reads (tree.bind_pat a (x_with root_hygiene Ref) tt (tree.some_pat (x_as b Unannotated)))
     (pat_at (Some a) (datum.bind_pattern x root_hygiene Unannotated (datum.some_pattern (bound b root_hygiene Unannotated))))
 
 -- `A { : ref x, n: x, disabled: x }`
@@ -152,9 +152,9 @@ abbrev pub SidesOfRanges : Type 0
 SidesOfRanges = (at a b : Pointer) (l : Literal)
     → reads_range at (Some Inclusive) (tree.literal_side a (minus l)) (tree.path_side b path_a)
     (datum.range_pattern Inclusive (datum.some_side (literal_read_as l)) (datum.some_side (datum.path_side data_a root_hygiene)))
-    × reads_range at (Some Inclusive) (tree.name_side a x) (tree.path_side b refused_path)
+    × reads_range at (Some Inclusive) (tree.name_side a x tt) (tree.path_side b refused_path)
     (datum.range_pattern Inclusive (datum.some_side (datum.path_side (bare_path x) root_hygiene)) datum.no_side)
-    × reads_range at (Some Inclusive) tree.other_side (tree.name_side b name.Missing)
+    × reads_range at (Some Inclusive) tree.other_side (tree.name_side b name.Missing tt)
     (datum.range_pattern Inclusive datum.no_side datum.no_side)
     × reads_range at None (tree.literal_side a (minus l)) tree.no_side datum.missing_pattern
 
@@ -175,7 +175,7 @@ LimitsOfTypes = (at a b : Pointer) (l : Literal) (i : LangItemId)
     (datum.path_side data_a root_hygiene) (datum.called_side (Some i) (literal_read_as l))
     × reads_limits at a (tree.side_limit (tree.path_side b refused_path)) (tree.item_limit (Some i))
     datum.missing_side (datum.path_side (datum.item_path i) root_hygiene)
-    × reads_limits at a (tree.side_limit (tree.name_side b name.Missing)) (tree.item_limit None)
+    × reads_limits at a (tree.side_limit (tree.name_side b name.Missing tt)) (tree.item_limit None)
     (datum.path_side (bare_path name.Missing) root_hygiene) datum.missing_side
 
 -- ---- targets
@@ -211,10 +211,10 @@ abbrev pub ProblemsOfPatterns : Type 0
 ProblemsOfPatterns = (at a b : Pointer) (n : Name)
     → let call = λ (p : Pat). tree.tuple_struct_pat at path_a false (pats (p ∷ [])) in
     shows (tuple at (x_as a Unannotated ∷ x_as b Unannotated ∷ [])) (Some BoundMoreThanOnce)
-    × shows (tree.bind_pat a (x_with root_hygiene Unannotated) (tree.some_pat (x_as b Unannotated))) (Some BoundMoreThanOnce)
+    × shows (tree.bind_pat a (x_with root_hygiene Unannotated) tt (tree.some_pat (x_as b Unannotated))) (Some BoundMoreThanOnce)
     × shows (tree.or_pat at (pats (call (x_as a Unannotated) ∷ tree.path_pat b path_a ∷ []))) (Some NotBoundAcrossAll)
     × shows (tree.or_pat at (pats (call (x_as a Unannotated) ∷ call (x_as b Ref) ∷ []))) (Some BoundInconsistently)
     × shows (tree.or_pat at (pats (call (x_as a Unannotated) ∷ call (x_as b Unannotated) ∷ []))) None
     × shows (tree.record_pat at path_a (tree.more_pat_fields (tree.pat_field a None (x_as a Unannotated))
     (tree.more_pat_fields (tree.pat_field b (Some n) (x_as b Unannotated)) tree.no_pat_fields)) false) (Some BoundMoreThanOnce)
-    × shows (tuple at (x_as a Unannotated ∷ tree.bind_pat b (x_with other_hygiene Unannotated) tree.no_pat ∷ [])) None
+    × shows (tuple at (x_as a Unannotated ∷ tree.bind_pat b (x_with other_hygiene Unannotated) tt tree.no_pat ∷ [])) None

@@ -45,7 +45,7 @@ name_side_of n = datum.some_side (datum.path_side (bare_path n) root_hygiene)
 abbrev pub side_data : Side → OptionSideData
 side_data tree.no_side = datum.no_side
 side_data (tree.literal_side at l) = datum.some_side (datum.literal_side (signed_data l))
-side_data (tree.name_side at n) = name_side_of n
+side_data (tree.name_side at n _) = name_side_of n
 side_data (tree.path_side at p) = path_side_of (path_of p)
 side_data tree.other_side = datum.no_side
 
@@ -103,8 +103,8 @@ abbrev mutual
 
   pub uses_after : Pat → FirstUses → FirstUses
   uses_after (tree.leaf_pat at form) us = us
-  uses_after (tree.bind_pat at u sub) us = with_use (uses_after_part sub us) u
-  uses_after (tree.name_pat at u) us = us
+  uses_after (tree.bind_pat at u _ sub) us = with_use (uses_after_part sub us) u
+  uses_after (tree.name_pat at u _) us = us
   uses_after (tree.path_pat at p) us = us
   uses_after (tree.tuple_struct_pat at p comma ps) us = if_path (path_of p) (λ _. uses_after_each ps us) us
   uses_after (tree.tuple_pat at comma ps) us = uses_after_each ps us
@@ -139,9 +139,9 @@ abbrev mutual
 
   pub pattern_data : Pat → FirstUses → PatData
   pattern_data (tree.leaf_pat at form) us = pat_at (Some at) (leaf_pattern form)
-  pattern_data (tree.bind_pat at u sub) us =
+  pattern_data (tree.bind_pat at u _ sub) us =
       pat_at (Some at) (bind_as (first_use (uses_after_part sub us) u) (subpattern_data sub us))
-  pattern_data (tree.name_pat at u) us = pat_at (Some at) (datum.path_pattern (bare_path u.name) root_hygiene)
+  pattern_data (tree.name_pat at u _) us = pat_at (Some at) (datum.path_pattern (bare_path u.name) root_hygiene)
   pattern_data (tree.path_pat at p) us = pat_at (Some at) (path_pattern_of (path_of p))
   pattern_data (tree.tuple_struct_pat at p comma ps) us = if_path (path_of p)
       (λ d. pat_at (Some at) (datum.tuple_struct_pattern d (ellipsis_of comma ps) (behind_comma comma (tuple_parts_data ps us))))
@@ -192,9 +192,9 @@ abbrev mutual
 
   pub uses_of : Pat → FirstUses → Uses
   uses_of (tree.leaf_pat at form) us = product no_parts
-  uses_of (tree.bind_pat at u sub) us =
+  uses_of (tree.bind_pat at u _ sub) us =
       product (more_parts (part_uses sub us) (more_parts (name_use (number_of (uses_after_part sub us) u) u.mode) no_parts))
-  uses_of (tree.name_pat at u) us = product no_parts
+  uses_of (tree.name_pat at u _) us = product no_parts
   uses_of (tree.path_pat at p) us = product no_parts
   uses_of (tree.tuple_struct_pat at p comma ps) us = product (if_path (path_of p) (λ _. each_uses ps us) no_parts)
   uses_of (tree.tuple_pat at comma ps) us = product (each_uses ps us)

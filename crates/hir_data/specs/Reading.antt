@@ -1,5 +1,6 @@
 -- The data of what is stored, read back from numbers.
 use Rattle.std.specs.Prelude.{ℕ, zero, suc, ◌+◌, true, false, List, [], ◌∷◌, length, map, slice_get, Option, Some, None, option_map}
+use Rattle.hir_binding.specs.declared.binding.BindingAnnotation.{BindingAnnotation}
 use Rattle.hir_store.specs.Bindings.{without_problem}
 use Rattle.hir_store.specs.Pointers.{Pointer, flattened}
 use Rattle.hir_store.specs.Stored.{Store, SourceMap}
@@ -7,6 +8,7 @@ use Rattle.hir_store.specs.declared.hir.Expr.{Expr}
 use Rattle.hir_store.specs.declared.hir.Expr.TheVariants as hir
 use Rattle.hir_store.specs.declared.ids.BindingId.{BindingId}
 use Rattle.hir_store.specs.declared.ids.ExprId.{ExprId}
+use Rattle.hir_store.specs.declared.ids.HygieneId.{HygieneId}
 use Rattle.hir_store.specs.declared.ids.LangItemId.{LangItemId}
 use Rattle.hir_store.specs.declared.ids.LifetimeRefId.{LifetimeRefId}
 use Rattle.hir_store.specs.declared.ids.PatId.{PatId}
@@ -207,10 +209,16 @@ module _ (store : Store) (source_map : SourceMap) where
     pattern_fields_layer [] = datum.no_pattern_fields
     pattern_fields_layer (f ∷ fs) = pattern_field_layer f (pattern_fields_layer fs)
 
+    -- which name it is that was made up isn't told
+    abbrev pub name_layer : Name → HygieneId → BindingAnnotation → OptionPatData → PatShape
+    name_layer (name.Text t) h m sub = datum.bind_pattern (name.Text t) h m sub
+    name_layer name.Missing h m sub = datum.bind_pattern name.Missing h m sub
+    name_layer (name.Generated n) h m sub = datum.generated_pattern
+
     -- a binding has the mode of its first use
     abbrev pub bind_layer : Option Binding → OptionPatData → PatShape
     bind_layer None sub = datum.unwritten_pattern
-    bind_layer (Some b) sub = datum.bind_pattern b.name b.hygiene b.mode sub
+    bind_layer (Some b) sub = name_layer b.name b.hygiene b.mode sub
 
     abbrev pub literal_layer : Option Expr → PatShape
     literal_layer (Some (hir.Literal l)) = datum.literal_pattern (literal_read l)

@@ -20,8 +20,11 @@ abbrev mutual
   expr_tops (tree.disabled_expr at by e) = []
   expr_tops (tree.if_expr at c t e) = block_part_tops t ++ (tops_of e ++ tops_of c)
   expr_tops (tree.block_expr b) = block_tops b
-  expr_tops (tree.loop_expr at label b) = block_part_tops b
-  expr_tops (tree.while_expr at label c b) = block_part_tops b ++ tops_of c
+  expr_tops (tree.loop_expr at label _ b) = block_part_tops b
+  expr_tops (tree.while_expr at label _ c b) = block_part_tops b ++ tops_of c
+  expr_tops (tree.question_expr at items e) = tops_of e
+  expr_tops (tree.itemless_expr at) = []
+  expr_tops (tree.try_expr at item t number ss e) = stmts_tops ss ++ tops_of e
   expr_tops (tree.call_expr at f has_list es) = tops_of f ++ each_tops es
   expr_tops (tree.path_expr at p h) = []
   expr_tops (tree.continue_expr at jump) = []
@@ -77,7 +80,7 @@ abbrev mutual
   guard_tops (tree.guard c) = tops_of c
 
   pub block_tops : Block → Tops
-  block_tops (tree.block at is_unsafe label number ss e) = stmts_tops ss ++ tops_of e
+  block_tops (tree.block at is_unsafe label _ number ss e) = stmts_tops ss ++ tops_of e
 
   pub block_part_tops : OptionBlock → Tops
   block_part_tops tree.no_block = []

@@ -39,7 +39,7 @@ abbrev pub text : List ℕ → Name
 text t = name.Text t
 
 abbrev pub word : List ℕ → Segment
-word t = tree.name_segment (text t) (tree.segment_args tree.no_arg_list tree.no_parens false)
+word t = tree.name_segment (text t) tt (tree.segment_args tree.no_arg_list tree.no_parens false)
 
 abbrev pub alone : List Name → NamesData
 alone [] = datum.no_names
@@ -137,7 +137,7 @@ sugared from to =
     (datum.more_bindings output datum.no_bindings) parens.ParenSugar)
 
 abbrev pub fn_behind : Type_ → OptionRet → OptionPath
-fn_behind a r = whole (tree.name_segment (text (codes "Fn")) (tree.segment_args tree.no_arg_list
+fn_behind a r = whole (tree.name_segment (text (codes "Fn")) tt (tree.segment_args tree.no_arg_list
     (tree.some_parens (tree.more_parts (tree.some_type a) tree.no_parts) r) false)) []
 
 abbrev pub reads_fn : OptionPath → TypeData → TypeData → Type 0

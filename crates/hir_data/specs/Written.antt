@@ -105,7 +105,7 @@ side_of_item None = datum.missing_side
 side_of_item (Some i) = datum.path_side (datum.item_path i) root_hygiene
 
 abbrev pub block_site : Block → Option Site
-block_site (tree.block at is_unsafe label number ss e) = Some (site_of at)
+block_site (tree.block at is_unsafe label _ number ss e) = Some (site_of at)
 
 -- ---- lists of arguments
 
@@ -240,7 +240,7 @@ abbrev mutual
   pub what : Bool → Segment → What
   what first tree.absent_segment = named (record { name = name.Missing; args = no_args })
   what first tree.broken_segment = broken
-  what first (tree.name_segment n a) = named (record { name = n; args = segment_args_data a })
+  what first (tree.name_segment n _ a) = named (record { name = n; args = segment_args_data a })
   what first tree.self_type_segment = named (record { name = name.Text (codes "Self"); args = no_args })
   what first tree.super_segment = super_
   what false tree.crate_segment = broken
@@ -298,7 +298,7 @@ abbrev mutual
   pub limit_side : Side → SideData
   limit_side tree.no_side = datum.missing_side
   limit_side (tree.literal_side at l) = datum.literal_side (signed_data l)
-  limit_side (tree.name_side at n) = datum.path_side (bare_path n) root_hygiene
+  limit_side (tree.name_side at n _) = datum.path_side (bare_path n) root_hygiene
   limit_side (tree.path_side at p) = side_of_path (path_of p)
   limit_side tree.other_side = datum.missing_side
 
@@ -319,8 +319,12 @@ abbrev mutual
   expr_site (tree.block_expr b) = block_site b
   expr_site (tree.record_expr at p head fs s) = record_site at (path_of p)
   expr_site (tree.if_expr at c t e) = Some (site_of at)
-  expr_site (tree.loop_expr at label b) = Some (site_of at)
-  expr_site (tree.while_expr at label c b) = Some (site_of at)
+  expr_site (tree.loop_expr at label _ b) = Some (site_of at)
+  expr_site (tree.while_expr at label _ c b) = Some (site_of at)
+  expr_site (tree.question_expr at _ e) = Some (site_of at)
+  -- what is missing comes from none
+  expr_site (tree.itemless_expr at) = None
+  expr_site (tree.try_expr at item t number ss e) = Some (site_of at)
   expr_site (tree.call_expr at f has_list es) = Some (site_of at)
   expr_site (tree.path_expr at p h) = Some (site_of at)
   expr_site (tree.continue_expr at jump) = Some (site_of at)

@@ -5,6 +5,8 @@ use Rattle.hir_base.specs.declared.node.AstPtr.{AstPtr}
 use Rattle.hir_syntax.specs.declared.ast.ElseBranch.{ElseBranch as AstElseBranch, out-ElseBranch}
 use Rattle.hir_syntax.specs.declared.ast.ExprKind.{ExprKind as AstExprKind, out-ExprKind}
 use Rattle.hir_syntax.specs.declared.ast.StmtKind.{StmtKind as AstStmtKind, out-StmtKind}
+use Rattle.hir_syntax.specs.declared.ast.BlockModifier.{BlockModifier}
+use Rattle.hir_syntax.specs.declared.ast.BlockModifier.TheVariants as modifier
 use Rattle.hir_syntax.specs.declared.ast.BlockExpr.{BlockExpr as AstBlockExpr, out-BlockExpr}
 use Rattle.hir_syntax.specs.declared.ast.Expr.{Expr as AstExpr}
 use Rattle.hir_syntax.specs.declared.ast.RecordExprField.{RecordExprField as AstRecordExprField, out-RecordExprField}
@@ -21,13 +23,15 @@ use Rattle.hir_env.specs.Layers.{BlockReading, StmtReading, RecordReading, Reade
 use Rattle.hir_env.specs.Layers.{BlockExprLayer, RecordExprFieldLayer, RecordExprFieldListLayer}
 use Rattle.hir_env.specs.Layers.{MatchArmLayer, itself}
 use Rattle.hir_env.specs.Answering as of
+use Rattle.hir_env.specs.Answering.{BlockHead}
 use Rattle.hir_env.specs.Folds.{written, reader, read_else_branch, read_expr_kind, read_stmt_kind, read_block}
 use Rattle.hir_env.specs.Folds.{read_expr, read_field, read_record, read_stmt, read_arm}
 use Rattle.hir_env.specs.Answered as tree
-use Rattle.hir_env.specs.Answered.{Label, Expr, OptionExpr, Field, OptionBlock, Arm}
+use Rattle.hir_env.specs.Answered.{Expr, OptionExpr, Field, OptionBlock, Arm}
 use Rattle.hir_env.specs.Targets.{resolves}
 use Rattle.hir_env.specs.Whole.{answered, answered_plain, answered_block, answered_else, answered_constant, answered_field}
 use Rattle.hir_env.specs.Whole.{answered_record, block_head, stmts_part, in_block, block_number, pointer_at, asked_expr}
+use Rattle.hir_env.specs.Whole.{own_level, try_level, type_part}
 use Rattle.hir_env.specs.Whole.{block_level, stmt_level, else_level, constant_level, field_level, record_level, guard_level}
 use Rattle.hir_env.specs.Whole.{let_else_level, arm_level, answered_guard, answered_let_else, answered_arm}
 use Rattle.hir_env.proofs.Mapped.{optional, listed, mapped_else, mapped_kind, mapped_stmt_kind, mapped_block}
@@ -96,9 +100,12 @@ module _ (env : Answers) where
   expr_at_is (ExprKind-F.IfExpr c t e) p s = λ j.
       tree.if_expr s (expr_is rd.expr c p j) (plain_is rd.block_expr t p j) (expr_is rd.else_branch e p j)
   expr_at_is (ExprKind-F.BlockExpr b) p s = refl
-  expr_at_is (ExprKind-F.LoopExpr l b) p s = λ j. tree.loop_expr s (option_map (of.label_of env p) l) (plain_is rd.block_expr b p j)
+  expr_at_is (ExprKind-F.LoopExpr l b) p s = λ j.
+      tree.loop_expr s (option_map (of.label_of env p) l) (of.label_written env p l) (plain_is rd.block_expr b p j)
   expr_at_is (ExprKind-F.WhileExpr l c b) p s = λ j.
-      tree.while_expr s (option_map (of.label_of env p) l) (expr_is rd.expr c p j) (plain_is rd.block_expr b p j)
+      tree.while_expr s (option_map (of.label_of env p) l) (of.label_written env p l) (expr_is rd.expr c p j)
+      (plain_is rd.block_expr b p j)
+  expr_at_is (ExprKind-F.TryExpr e) p s = λ j. of.question_of (of.question_items env.lang_items) s (expr_is rd.expr e p j)
   expr_at_is (ExprKind-F.CallExpr f None) p s = λ j. tree.call_expr s (expr_is rd.expr f p j) false tree.no_exprs
   expr_at_is (ExprKind-F.CallExpr f (Some es)) p s = λ j. tree.call_expr s (expr_is rd.expr f p j) true (exprs_is rd.expr es p j)
   expr_at_is (ExprKind-F.PathExpr x) p s = λ j. tree.path_expr s (path_is rd.path x p j) (env.hygiene (of.site_of s))
@@ -164,13 +171,28 @@ module _ (env : Answers) where
   arm_step_is x p = λ j. let s = of.in_file p (of.ptr x.id x.range) in of.asked_arm s (env.cfg (of.site_of s))
       (tree.arm (pat_is rd.pat x.pat p j) (expr_is rd.expr x.expr p j) (guard_is rd.expr x.guard p j))
 
-  block_at_is : (b : BlockExprLayer written) (head : Bool × Option Label) (p : Place)
+  block_at_is : (b : BlockExprLayer written) (head : BlockHead) (p : Place)
       → of.block_at env itself (mapped_block env b) head p ≡ of.block_at env rd b head p
   block_at_is b head p = λ j.
       let number = of.numbered env p b.id in
       let c = contents_is rd.stmt b.stmts (of.expr_or_none (λ y. y) (optional rd.expr b.tail))
       (of.expr_or_none rd.expr b.tail) (expr_is rd.expr b.tail) (of.inside number p) j in
-      tree.block (of.in_file p (of.ptr b.id b.range)) head.0 head.1 (option_map (λ n. n.0) number) c.0 c.1
+      tree.block (of.in_file p (of.ptr b.id b.range)) head.is_unsafe head.label head.written (option_map (λ n. n.0) number) c.0 c.1
+
+  try_at_is : (b : BlockExprLayer written) (p : Place) → of.try_at env itself (mapped_block env b) p ≡ of.try_at env rd b p
+  try_at_is b p = λ j.
+      let number = of.numbered env p b.id in
+      let c = contents_is rd.stmt b.stmts (of.expr_or_none (λ y. y) (optional rd.expr b.tail))
+      (of.expr_or_none rd.expr b.tail) (expr_is rd.expr b.tail) (of.inside number p) j in
+      tree.try_expr (of.in_file p (of.ptr b.id b.range)) env.lang_items.try_trait_from_output (type_is rd.type_ b.ty p j)
+      (option_map (λ n. n.0) number) c.0 c.1
+
+  own_block_is : (m : Option BlockModifier) (b : BlockExprLayer written) (p : Place)
+      → of.own_block env itself m (mapped_block env b) p ≡ of.own_block env rd m b p
+  own_block_is None b p = λ j.
+      tree.block_expr (block_at_is b (of.labelled_head (option_map (of.label_of env p) b.label) (of.label_written env p b.label)) p j)
+  own_block_is (Some modifier.Unsafe) b p = λ j. tree.block_expr (block_at_is b of.unsafe_head p j)
+  own_block_is (Some modifier.Try) b p = try_at_is b p
 
   stmt_at_is : (k : StmtKindLayer written) (p : Place) (s : Pointer)
       → of.stmt_at env itself (mapped_stmt_kind env k) p s ≡ of.stmt_at env rd k p s
@@ -193,17 +215,12 @@ module _ (env : Answers) where
   read_expr_is : (e : AstExpr) (p : Place) → read_expr env e p ≡ of.expr_kind env rd (out-ExprKind e.kind) (of.ptr e.id e.range) p
   read_expr_is e p = opened_expr env e p ∙ read_expr_kind_is e.kind (of.ptr e.id e.range) p
 
-  read_plain_is : (b : AstBlockExpr) (p : Place) → (read_block env b).plain p ≡ of.block_at env rd (out-BlockExpr b) (false, None) p
-  read_plain_is b p = (λ j. (opened_block env b j).plain p) ∙ block_at_is (out-BlockExpr b) (false, None) p
-
-  -- what a block's label and its modifiers say of it
-  abbrev own_head : BlockExprLayer written → Place → Bool × Option Label
-  own_head b p = of.modified b.mod_ (option_map (of.label_of env p) b.label)
+  read_plain_is : (b : AstBlockExpr) (p : Place) → (read_block env b).plain p ≡ of.block_at env rd (out-BlockExpr b) of.plain_head p
+  read_plain_is b p = (λ j. (opened_block env b j).plain p) ∙ block_at_is (out-BlockExpr b) of.plain_head p
 
   read_own_is : (b : AstBlockExpr) (p : Place) → (read_block env b).own p
-      ≡ tree.block_expr (of.block_at env rd (out-BlockExpr b) (own_head (out-BlockExpr b) p) p)
-  read_own_is b p = (λ j. (opened_block env b j).own p)
-      ∙ (λ j. tree.block_expr (block_at_is (out-BlockExpr b) (own_head (out-BlockExpr b) p) p j))
+      ≡ of.own_block env rd (out-BlockExpr b).mod_ (out-BlockExpr b) p
+  read_own_is b p = (λ j. (opened_block env b j).own p) ∙ own_block_is (out-BlockExpr b).mod_ (out-BlockExpr b) p
 
   read_stmt_kind_is : (k : AstStmtKind) (n : AstPtr) (p : Place) → read_stmt_kind env k n p ≡ of.stmt_kind env rd (out-StmtKind k) n p
   read_stmt_kind_is k n p = opened_stmt_kind env k n p ∙ stmt_kind_is (out-StmtKind k) n p
@@ -231,21 +248,34 @@ flat env (s ∷ ss) tail p = (λ j. let r = read_stmt_is env s p j in
     let rest = of.contents_of (read_stmt env) ss tail r.place in (r.before rest.0, rest.1))
     ∙ (λ j. let rest = flat env ss tail p j in (tree.more_stmts (stmt_level (record { answers = env; place = p }) s) rest.0, rest.1))
 
-block_at_level : (at : Spot) (head : Bool × Option Label) (b : AstBlockExpr)
+block_at_level : (at : Spot) (head : BlockHead) (b : AstBlockExpr)
     → of.block_at at.answers (reader at.answers) (out-BlockExpr b) head at.place ≡ block_level at head b
 block_at_level at head b = λ j.
     let level = out-BlockExpr b in
     let c = flat at.answers level.stmts (of.expr_or_none (read_expr at.answers) level.tail) (in_block at level.id).place j in
-    tree.block (pointer_at at level.id level.range) head.0 head.1 (block_number at level.id) c.0 c.1
+    tree.block (pointer_at at level.id level.range) head.is_unsafe head.label head.written (block_number at level.id) c.0 c.1
+
+try_at_level : (at : Spot) (b : AstBlockExpr) → of.try_at at.answers (reader at.answers) (out-BlockExpr b) at.place ≡ try_level at b
+try_at_level at b = λ j.
+    let level = out-BlockExpr b in
+    let c = flat at.answers level.stmts (of.expr_or_none (read_expr at.answers) level.tail) (in_block at level.id).place j in
+    tree.try_expr (pointer_at at level.id level.range) at.answers.lang_items.try_trait_from_output (type_part at level.ty)
+    (block_number at level.id) c.0 c.1
+
+own_block_level : (at : Spot) (m : Option BlockModifier) (b : AstBlockExpr)
+    → of.own_block at.answers (reader at.answers) m (out-BlockExpr b) at.place ≡ own_level at m b
+own_block_level at None b = ap tree.block_expr (block_at_level at (block_head at b) b)
+own_block_level at (Some modifier.Unsafe) b = ap tree.block_expr (block_at_level at of.unsafe_head b)
+own_block_level at (Some modifier.Try) b = try_at_level at b
 
 pub expr_is_level : (at : Spot) (e : AstExpr) → answered at e ≡ asked_expr at e
 expr_is_level at e = read_expr_is at.answers e at.place
 
-pub plain_is_level : (at : Spot) (b : AstBlockExpr) → answered_plain at b ≡ block_level at (false, None) b
-plain_is_level at b = read_plain_is at.answers b at.place ∙ block_at_level at (false, None) b
+pub plain_is_level : (at : Spot) (b : AstBlockExpr) → answered_plain at b ≡ block_level at of.plain_head b
+plain_is_level at b = read_plain_is at.answers b at.place ∙ block_at_level at of.plain_head b
 
-pub block_is_level : (at : Spot) (b : AstBlockExpr) → answered_block at b ≡ tree.block_expr (block_level at (block_head at b) b)
-block_is_level at b = read_own_is at.answers b at.place ∙ ap tree.block_expr (block_at_level at (block_head at b) b)
+pub block_is_level : (at : Spot) (b : AstBlockExpr) → answered_block at b ≡ own_level at (out-BlockExpr b).mod_ b
+block_is_level at b = read_own_is at.answers b at.place ∙ own_block_level at (out-BlockExpr b).mod_ b
 
 pub else_is_level : (at : Spot) (e : AstElseBranch) → answered_else at e ≡ else_level at e
 else_is_level at e = read_else_is at.answers e at.place

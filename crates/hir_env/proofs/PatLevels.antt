@@ -12,6 +12,7 @@ use Rattle.hir_env.specs.Spot.{Spot, in_file, ptr, site_of}
 use Rattle.hir_env.specs.Layers.{Reader, itself}
 use Rattle.hir_env.specs.PatLayers.{PatKindLayer, RecordPatFieldLayer}
 use Rattle.hir_env.specs.Paths.{mutability}
+use Rattle.hir_env.specs.Answering.{name_written}
 use Rattle.hir_env.specs.Pats as of
 use Rattle.hir_env.specs.Folds.{written, reader, read_pat_kind, read_pat, read_pat_field}
 use Rattle.hir_env.specs.Answered as tree
@@ -37,7 +38,7 @@ module _ (env : Answers) where
   pat_at_is : (k : PatKindLayer written) (p : Place) (s : Pointer)
       → of.pat_at env itself (mapped_pat_kind env k) p s ≡ of.pat_at env rd k p s
   pat_at_is (PatKind-F.IdentPat n is_ref is_mut x) p s = λ j.
-      of.ident_pat env p s (of.use_at env p n is_ref is_mut) (pat_is rd.pat x p j)
+      of.ident_pat env p s (of.use_at env p n is_ref is_mut) (name_written n) (pat_is rd.pat x p j)
   pat_at_is (PatKind-F.TupleStructPat x comma xs) p s = λ j.
       tree.tuple_struct_pat s (path_is rd.path x p j) comma (pats_is rd.pat xs p j)
   pat_at_is (PatKind-F.TuplePat comma xs) p s = λ j. tree.tuple_pat s comma (pats_is rd.pat xs p j)

@@ -1,6 +1,9 @@
 -- The node of an answered expression is its own.
-use Rattle.std.proofs.Common.{◌≡◌, ◌∙◌, refl, ap, Some, None, Result, Ok, Err}
+use Rattle.std.proofs.Common.{◌≡◌, ◌∙◌, refl, ap, Option, Some, None, Result, Ok, Err}
 use Rattle.hir_base.specs.declared.op.BinaryOp.TheVariants as op
+use Rattle.hir_syntax.specs.declared.ast.BlockModifier.{BlockModifier}
+use Rattle.hir_syntax.specs.declared.ast.BlockModifier.TheVariants as modifier
+use Rattle.hir_syntax.specs.declared.ast.BlockExpr.{BlockExpr as AstBlockExpr, out-BlockExpr}
 use Rattle.hir_syntax.specs.declared.ast.ExprKind.{out-ExprKind}
 use Rattle.hir_syntax.specs.declared.ast.Expr.{Expr as AstExpr}
 use Rattle.hir_syntax.specs.declared.ast.ElseBranch.TheOpen.{ExprKind-F}
@@ -8,22 +11,35 @@ use Rattle.hir_store.specs.Pointers.{Pointer}
 use Rattle.hir_store.specs.declared.ids.CfgId.{CfgId}
 use Rattle.hir_env.specs.Spot.{Spot, site_of}
 use Rattle.hir_env.specs.Layers.{ExprKindLayer}
-use Rattle.hir_env.specs.Answering.{asked, expr_at}
-use Rattle.hir_env.specs.Answered.{Expr}
+use Rattle.hir_env.specs.Answering.{asked, expr_at, expr_or_none, question_items, question_of}
+use Rattle.hir_env.specs.Answered.{Expr, OptionExpr, QuestionItems}
 use Rattle.hir_env.specs.Targets.{pointer_of}
-use Rattle.hir_env.specs.Whole.{written, reader, answered, kept_expr, kind_pointer, own_pointer, pointer_at}
+use Rattle.hir_env.specs.Whole.{read_expr, own_level, written, reader, answered, kept_expr, kind_pointer, own_pointer, pointer_at}
 use Rattle.hir_env.proofs.Levels.{expr_is_level, block_is_level}
 
 asked_pointer : (s : Pointer) (r : Result (Unit {0}) CfgId) (e : Expr) → pointer_of (asked s r e) ≡ pointer_of e
 asked_pointer s (Ok _) e = refl
 asked_pointer s (Err by) e = refl
 
+-- that of a block as an expression is the block's, whatever its modifier
+own_block_pointer : (at : Spot) (m : Option BlockModifier) (b : AstBlockExpr)
+    → pointer_of (own_level at m b) ≡ pointer_at at (out-BlockExpr b).id (out-BlockExpr b).range
+own_block_pointer at None b = refl
+own_block_pointer at (Some modifier.Unsafe) b = refl
+own_block_pointer at (Some modifier.Try) b = refl
+
+question_pointer : (items : Option QuestionItems) (s : Pointer) (e : OptionExpr) → pointer_of (question_of items s e) ≡ s
+question_pointer None s e = refl
+question_pointer (Some items) s e = refl
+
 kept_pointer : (at : Spot) (k : ExprKindLayer written) (s : Pointer)
     → pointer_of (expr_at at.answers (reader at.answers) k at.place s) ≡ kind_pointer at.place k s
-kept_pointer at (ExprKind-F.BlockExpr b) s = ap pointer_of (block_is_level at b)
+kept_pointer at (ExprKind-F.BlockExpr b) s = ap pointer_of (block_is_level at b) ∙ own_block_pointer at (out-BlockExpr b).mod_ b
 kept_pointer at (ExprKind-F.IfExpr c t e) s = refl
 kept_pointer at (ExprKind-F.LoopExpr l b) s = refl
 kept_pointer at (ExprKind-F.WhileExpr l c b) s = refl
+kept_pointer at (ExprKind-F.TryExpr e) s =
+    question_pointer (question_items at.answers.lang_items) s (expr_or_none (read_expr at.answers) e at.place)
 kept_pointer at (ExprKind-F.CallExpr f es) s = refl
 kept_pointer at (ExprKind-F.PathExpr x) s = refl
 kept_pointer at (ExprKind-F.ContinueExpr l) s = refl

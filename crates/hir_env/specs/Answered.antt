@@ -1,6 +1,6 @@
 -- A tree with all that the environment says of it written into it. What lowering does, how a body runs and what is
 -- wrong with it are each a recursion over this one family.
-use Rattle.std.specs.Prelude.{List, Option, Bool}
+use Rattle.std.specs.Prelude.{List, Option, Some, None, Bool}
 use Rattle.hir_base.specs.declared.op.UnaryOp.{UnaryOp}
 use Rattle.hir_base.specs.declared.op.LogicOp.{LogicOp}
 use Rattle.hir_base.specs.declared.op.BinaryOp.{BinaryOp}
@@ -14,6 +14,7 @@ use Rattle.hir_store.specs.declared.ids.HygieneId.{HygieneId}
 use Rattle.hir_store.specs.declared.ids.BlockId.{BlockId}
 use Rattle.hir_store.specs.declared.ids.LangItemId.{LangItemId}
 use Rattle.hir_store.specs.declared.name.Name.{Name}
+use Rattle.hir_store.specs.Names.{IsWritten}
 use Rattle.hir_store.specs.declared.hir.Rawness.{Rawness}
 use Rattle.hir_store.specs.declared.hir.Mutability.{Mutability}
 use Rattle.hir_store.specs.declared.type_ref.LifetimeRef.{LifetimeRef}
@@ -27,6 +28,11 @@ pub record Label : Type 0 where
   pub pointer : Pointer
   pub name : Name
   pub hygiene : HygieneId
+
+-- its name is one that a text has or lacks
+abbrev pub IsWrittenLabel : Option Label → Type 0
+IsWrittenLabel None = Unit {0}
+IsWrittenLabel (Some l) = IsWritten l.name
 
 -- the lifetime of a jump, with what is answered about the contexts that its hygiene came from
 pub record Jump : Type 0 where
@@ -121,6 +127,15 @@ pub data RangeForm : Type 0 where
   -- there is no item to make a record of, so it is missing
   itemless_range : RangeForm
 
+-- The items that a `?` takes: what it calls, the two kinds of what that answers, and what makes of a residual the value of the `try`
+-- around it, or of the body; these two may be absent.
+pub record QuestionItems : Type 0 where
+  pub branch : LangItemId
+  pub goes_on : LangItemId
+  pub breaks : LangItemId
+  pub into_try_type : Option LangItemId
+  pub from_residual : Option LangItemId
+
 -- families of patterns, by their parts
 
 -- a broken one is missing: a block of a constant, and a literal that isn't there
@@ -182,7 +197,7 @@ mutual
     absent_segment : Segment
     -- without a kind
     broken_segment : Segment
-    name_segment : Name → SegmentArgs → Segment
+    name_segment : (n : Name) → IsWritten n → SegmentArgs → Segment
     self_type_segment : Segment
     crate_segment : Segment
     -- `$crate`, with the root of its context's crate
@@ -243,8 +258,15 @@ mutual
     disabled_expr : Pointer → CfgId → Expr → Expr
     if_expr : Pointer → OptionExpr → OptionBlock → OptionExpr → Expr
     block_expr : Block → Expr
-    loop_expr : Pointer → Option Label → OptionBlock → Expr
-    while_expr : Pointer → Option Label → OptionExpr → OptionBlock → Expr
+    loop_expr : Pointer → (label : Option Label) → IsWrittenLabel label → OptionBlock → Expr
+    while_expr : Pointer → (label : Option Label) → IsWrittenLabel label → OptionExpr → OptionBlock → Expr
+    -- `e?`
+    question_expr : Pointer → QuestionItems → OptionExpr → Expr
+    -- a `?` for which the language lacks an item: it is missing, and nothing in it is read
+    itemless_expr : Pointer → Expr
+    -- A `try` block: the item through which its value goes, its type, where one is written, its number, its statements and its
+    -- written tail.
+    try_expr : Pointer → Option LangItemId → OptionType → Option BlockId → Stmts → OptionExpr → Expr
     -- with whether it has a list of arguments
     call_expr : Pointer → OptionExpr → Bool → Exprs → Expr
     path_expr : Pointer → OptionPath → HygieneId → Expr
@@ -317,7 +339,7 @@ mutual
   -- whether it is unsafe, its label, its number, its statements and its written tail; a block that stands where only a
   -- block may is neither unsafe nor labelled
   pub data Block : Type 0 where
-    block : Pointer → Bool → Option Label → Option BlockId → Stmts → OptionExpr → Block
+    block : Pointer → Bool → (label : Option Label) → IsWrittenLabel label → Option BlockId → Stmts → OptionExpr → Block
 
   pub data OptionBlock : Type 0 where
     no_block : OptionBlock
@@ -337,9 +359,9 @@ mutual
   pub data Pat : Type 0 where
     leaf_pat : Pointer → PatLeaf → Pat
     -- a name that is bound, with what stands behind `@`
-    bind_pat : Pointer → Use → OptionPat → Pat
+    bind_pat : Pointer → (u : Use) → IsWritten u.name → OptionPat → Pat
     -- A plain name that stands for a constant, a variant or a struct: a path. Where names always bind it is the use.
-    name_pat : Pointer → Use → Pat
+    name_pat : Pointer → (u : Use) → IsWritten u.name → Pat
     path_pat : Pointer → OptionPath → Pat
     -- with whether a comma stands in front of all parts
     tuple_struct_pat : Pointer → OptionPath → Bool → Pats → Pat
@@ -380,7 +402,7 @@ mutual
     no_side : Side
     literal_side : Pointer → Signed → Side
     -- a plain name, always a path; it is missing where the text lacks it
-    name_side : Pointer → Name → Side
+    name_side : Pointer → (n : Name) → IsWritten n → Side
     path_side : Pointer → OptionPath → Side
     -- another pattern
     other_side : Side
@@ -447,7 +469,7 @@ mutual
 pub data SelfFormal : Type 0 where
   no_self : SelfFormal
   disabled_self : Pointer → CfgId → SelfFormal
-  self_formal : Pointer → Use → SelfFormal
+  self_formal : Pointer → (u : Use) → IsWritten u.name → SelfFormal
 
 pub data Formal : Type 0 where
   disabled_formal : Pointer → CfgId → Formal

@@ -19,12 +19,15 @@ use Rattle.hir_store.specs.Pointers.{Pointer}
 use Rattle.hir_store.specs.declared.ids.CfgId.{CfgId}
 use Rattle.hir_store.specs.declared.ids.HygieneId.{HygieneId}
 use Rattle.hir_store.specs.declared.ids.BlockId.{BlockId}
+use Rattle.hir_store.specs.declared.ids.LangItemId.{LangItemId}
 use Rattle.hir_store.specs.declared.ids.ModuleId.{ModuleId}
 use Rattle.hir_store.specs.declared.name.Name.{Name}
+use Rattle.hir_store.specs.Names.{IsWritten}
 use Rattle.hir_store.specs.declared.name.Name.TheVariants as name
 use Rattle.hir_env.specs.declared.place.Place.{Place}
 use Rattle.hir_env.specs.declared.place.LoweringMode.{LoweringMode}
 use Rattle.hir_env.specs.declared.place.LoweringMode.TheVariants as mode
+use Rattle.hir_env.specs.declared.lang.LangItems.{LangItems}
 use Rattle.hir_env.specs.Answers.{Answers}
 pub use Rattle.hir_env.specs.Spot.{in_file, ptr, site_of}
 pub use Rattle.hir_env.specs.Paths.{mutability, expr_or_none, constant_step, generic_arg_list_step}
@@ -36,7 +39,7 @@ use Rattle.hir_env.specs.Layers.{StmtKindLayer, BlockExprLayer, ExprLayer, Recor
 use Rattle.hir_env.specs.Layers.{RecordExprFieldListLayer, StmtLayer, MatchArmLayer}
 use Rattle.hir_env.specs.Answered as tree
 use Rattle.hir_env.specs.Answered.{Label, Jump, Path, Expr, OptionExpr, Exprs, RecordHead, Fields, Field, Spread, Block, OptionBlock}
-use Rattle.hir_env.specs.Answered.{Stmts, Stmt, Constant, Arms, Arm, Guard}
+use Rattle.hir_env.specs.Answered.{Stmts, Stmt, Constant, Arms, Arm, Guard, IsWrittenLabel, QuestionItems}
 
 -- names and labels
 
@@ -49,6 +52,14 @@ label_of env p l =
     let s = in_file p (ptr l.id l.range) in
     record { pointer = s; name = label_name l.lifetime; hygiene = env.hygiene (site_of s) }
 
+abbrev pub label_name_written : (l : Option AstLifetime) → IsWritten (label_name l)
+label_name_written None = tt
+label_name_written (Some l) = tt
+
+abbrev pub label_written : (env : Answers) (p : Place) (l : Option AstLabel) → IsWrittenLabel (option_map (label_of env p) l)
+label_written env p None = tt
+label_written env p (Some l) = label_name_written l.lifetime
+
 -- a jump to this name, with what is answered about contexts
 abbrev pub jump : Answers → Pointer → Name → HygieneId → Jump
 jump env s n h = record { pointer = s; name = n; hygiene = h; contexts = env.contexts }
@@ -60,6 +71,10 @@ jump_of env p l = let s = in_file p (ptr l.id l.range) in jump env s (name.Text 
 abbrev pub name_or_missing : Option AstName → Name
 name_or_missing None = name.Missing
 name_or_missing (Some n) = name.Text n.t
+
+abbrev pub name_written : (n : Option AstName) → IsWritten (name_or_missing n)
+name_written None = tt
+name_written (Some n) = tt
 
 abbrev pub names_of : List AstName → List Name
 names_of ns = map (λ n. name.Text n.t) ns
@@ -85,12 +100,42 @@ abbrev pub truth : Option Bool → Literal
 truth (Some false) = record { lit = literal.Bool; t = codes "false"; suffix = None }
 truth _ = record { lit = literal.Bool; t = codes "true"; suffix = None }
 
+-- `?`
+
+abbrev pub items_if : Option LangItemId → Option LangItemId → Option LangItemId → LangItems → Option QuestionItems
+items_if (Some branch) (Some goes_on) (Some breaks) items = Some (record {
+  branch = branch;
+  goes_on = goes_on;
+  breaks = breaks;
+  into_try_type = items.residual_into_try_type;
+  from_residual = items.try_trait_from_residual;
+})
+items_if _ _ _ items = None
+
+-- where all that it can't do without is there
+abbrev pub question_items : LangItems → Option QuestionItems
+question_items items = items_if items.try_trait_branch items.control_flow_continue items.control_flow_break items
+
+abbrev pub question_of : Option QuestionItems → Pointer → OptionExpr → Expr
+question_of None s e = tree.itemless_expr s
+question_of (Some items) s e = tree.question_expr s items e
+
 -- blocks
 
--- whether a block is unsafe, and its label, which counts only where no modifier stands
-abbrev pub modified : Option BlockModifier → Option Label → Bool × Option Label
-modified None label = (false, label)
-modified (Some modifier.Unsafe) label = (true, None)
+-- whether a block is unsafe, and its label
+pub record BlockHead : Type 0 where
+  pub is_unsafe : Bool
+  pub label : Option Label
+  pub written : IsWrittenLabel label
+
+abbrev pub labelled_head : (label : Option Label) → IsWrittenLabel label → BlockHead
+labelled_head label w = record { is_unsafe = false; label = label; written = w }
+
+abbrev pub plain_head : BlockHead
+plain_head = labelled_head None tt
+
+abbrev pub unsafe_head : BlockHead
+unsafe_head = record { is_unsafe = true; label = None; written = tt }
 
 -- the number and the module of a block, where numbers are asked for
 abbrev pub numbered : Answers → Place → NodeId → Option (BlockId × ModuleId)
@@ -201,9 +246,12 @@ module _ (env : Answers) {S : Sorts} (part : Reader S) where
   expr_at (ExprKind-F.IfExpr c t e) p s =
       tree.if_expr s (expr_or_none part.expr c p) (plain_or_none part.block_expr t p) (expr_or_none part.else_branch e p)
   expr_at (ExprKind-F.BlockExpr b) p s = (part.block_expr b).own p
-  expr_at (ExprKind-F.LoopExpr l b) p s = tree.loop_expr s (option_map (label_of env p) l) (plain_or_none part.block_expr b p)
+  expr_at (ExprKind-F.LoopExpr l b) p s =
+      tree.loop_expr s (option_map (label_of env p) l) (label_written env p l) (plain_or_none part.block_expr b p)
   expr_at (ExprKind-F.WhileExpr l c b) p s =
-      tree.while_expr s (option_map (label_of env p) l) (expr_or_none part.expr c p) (plain_or_none part.block_expr b p)
+      tree.while_expr s (option_map (label_of env p) l) (label_written env p l) (expr_or_none part.expr c p)
+      (plain_or_none part.block_expr b p)
+  expr_at (ExprKind-F.TryExpr e) p s = question_of (question_items env.lang_items) s (expr_or_none part.expr e p)
   expr_at (ExprKind-F.CallExpr f es) p s = tree.call_expr s (expr_or_none part.expr f p) (is_some es) (exprs_or_none part.expr es p)
   expr_at (ExprKind-F.PathExpr x) p s = tree.path_expr s (path_or_none part.path x p) (env.hygiene (site_of s))
   expr_at (ExprKind-F.ContinueExpr l) p s = tree.continue_expr s (option_map (jump_of env p) l)
@@ -269,17 +317,27 @@ module _ (env : Answers) {S : Sorts} (part : Reader S) where
   abbrev pub arm_step : MatchArmLayer S → Place → Arm
   arm_step x p = arm_at x p (in_file p (ptr x.id x.range))
 
-  abbrev pub block_at : BlockExprLayer S → Bool × Option Label → Place → Block
+  abbrev pub block_at : BlockExprLayer S → BlockHead → Place → Block
   block_at b head p =
       let number = numbered env p b.id in
       let c = contents_of part.stmt b.stmts (expr_or_none part.expr b.tail) (inside number p) in
-      tree.block (in_file p (ptr b.id b.range)) head.0 head.1 (option_map (λ n. n.0) number) c.0 c.1
+      tree.block (in_file p (ptr b.id b.range)) head.is_unsafe head.label head.written (option_map (λ n. n.0) number) c.0 c.1
+
+  abbrev pub try_at : BlockExprLayer S → Place → Expr
+  try_at b p =
+      let number = numbered env p b.id in
+      let c = contents_of part.stmt b.stmts (expr_or_none part.expr b.tail) (inside number p) in
+      tree.try_expr (in_file p (ptr b.id b.range)) env.lang_items.try_trait_from_output (type_or_none part.type_ b.ty p)
+      (option_map (λ n. n.0) number) c.0 c.1
+
+  -- A label counts only where no modifier stands, and a type only behind `try`.
+  abbrev pub own_block : Option BlockModifier → BlockExprLayer S → Place → Expr
+  own_block None b p = tree.block_expr (block_at b (labelled_head (option_map (label_of env p) b.label) (label_written env p b.label)) p)
+  own_block (Some modifier.Unsafe) b p = tree.block_expr (block_at b unsafe_head p)
+  own_block (Some modifier.Try) b p = try_at b p
 
   abbrev pub block_step : BlockExprLayer S → BlockReading
-  block_step b = record {
-    plain = λ p. block_at b (false, None) p;
-    own = λ p. tree.block_expr (block_at b (modified b.mod_ (option_map (label_of env p) b.label)) p);
-  }
+  block_step b = record { plain = λ p. block_at b plain_head p; own = λ p. own_block b.mod_ b p }
 
   abbrev pub let_else_step : Option S.BlockExpr → Place → OptionBlock
   let_else_step x p = plain_or_none part.block_expr x p

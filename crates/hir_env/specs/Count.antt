@@ -45,7 +45,7 @@ abbrev mutual
   pub count_segment : Segment → ℕ
   count_segment tree.absent_segment = 0
   count_segment tree.broken_segment = 0
-  count_segment (tree.name_segment n args) = count_segment_args args
+  count_segment (tree.name_segment n _ args) = count_segment_args args
   count_segment tree.self_type_segment = 0
   count_segment tree.crate_segment = 0
   count_segment (tree.dollar_crate_segment root) = 0
@@ -97,8 +97,11 @@ abbrev mutual
   count_expr (tree.disabled_expr at by e) = suc (count_expr e)
   count_expr (tree.if_expr at c t e) = suc (count_option_expr c + (count_option_block t + count_option_expr e))
   count_expr (tree.block_expr b) = suc (count_block b)
-  count_expr (tree.loop_expr at label b) = suc (count_option_block b)
-  count_expr (tree.while_expr at label c b) = suc (count_option_expr c + count_option_block b)
+  count_expr (tree.loop_expr at label _ b) = suc (count_option_block b)
+  count_expr (tree.while_expr at label _ c b) = suc (count_option_expr c + count_option_block b)
+  count_expr (tree.question_expr at items e) = suc (count_option_expr e)
+  count_expr (tree.itemless_expr at) = 1
+  count_expr (tree.try_expr at item t number ss e) = suc (count_option_type t + (suc (count_stmts ss + count_option_expr e)))
   count_expr (tree.call_expr at f has_list es) = suc (count_option_expr f + count_exprs es)
   count_expr (tree.path_expr at x h) = suc (count_option_path x)
   count_expr (tree.continue_expr at jump) = 1
@@ -159,7 +162,7 @@ abbrev mutual
   count_spread (tree.spread_of e) = count_expr e
 
   pub count_block : Block → ℕ
-  count_block (tree.block at is_unsafe label number ss e) = suc (count_stmts ss + count_option_expr e)
+  count_block (tree.block at is_unsafe label _ number ss e) = suc (count_stmts ss + count_option_expr e)
 
   pub count_option_block : OptionBlock → ℕ
   count_option_block tree.no_block = 0
@@ -177,8 +180,8 @@ abbrev mutual
 
   pub count_pat : Pat → ℕ
   count_pat (tree.leaf_pat at form) = 1
-  count_pat (tree.bind_pat at u p) = suc (count_option_pat p)
-  count_pat (tree.name_pat at u) = 1
+  count_pat (tree.bind_pat at u _ p) = suc (count_option_pat p)
+  count_pat (tree.name_pat at u _) = 1
   count_pat (tree.path_pat at x) = suc (count_option_path x)
   count_pat (tree.tuple_struct_pat at x comma ps) = suc (count_option_path x + count_pats ps)
   count_pat (tree.tuple_pat at comma ps) = suc (count_pats ps)
@@ -210,6 +213,6 @@ abbrev mutual
   pub count_side : Side → ℕ
   count_side tree.no_side = 0
   count_side (tree.literal_side at l) = 0
-  count_side (tree.name_side at n) = 0
+  count_side (tree.name_side at n _) = 0
   count_side (tree.path_side at x) = count_option_path x
   count_side tree.other_side = 0

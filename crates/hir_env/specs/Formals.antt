@@ -9,6 +9,7 @@ use Rattle.hir_store.specs.Pointers.{Pointer}
 use Rattle.hir_store.specs.declared.ids.CfgId.{CfgId}
 use Rattle.hir_store.specs.declared.ids.ItemContainerId.{ItemContainerId}
 use Rattle.hir_store.specs.declared.ids.ItemContainerId.TheVariants as holder
+use Rattle.hir_store.specs.Names.{IsWritten}
 use Rattle.hir_store.specs.declared.name.Name.TheVariants as name
 use Rattle.hir_env.specs.Spot.{Spot, site_of}
 use Rattle.hir_env.specs.TypePats.{bare_formal}
@@ -28,9 +29,9 @@ abbrev pub self_mode : Bool → Bool → BindingAnnotation
 self_mode false true = binding.Mutable
 self_mode _ _ = binding.Unannotated
 
-abbrev pub asked_self : Pointer → Result (Unit {0}) CfgId → Use → SelfFormal
-asked_self s (Ok _) u = tree.self_formal s u
-asked_self s (Err by) u = tree.disabled_self s by
+abbrev pub asked_self : Pointer → Result (Unit {0}) CfgId → (u : Use) → IsWritten u.name → SelfFormal
+asked_self s (Ok _) u w = tree.self_formal s u w
+asked_self s (Err by) u w = tree.disabled_self s by
 
 abbrev pub self_use : Spot → AstSelfParam → Use
 self_use at x = record {
@@ -41,7 +42,7 @@ self_use at x = record {
 
 abbrev pub answered_self : Spot → Option AstSelfParam → SelfFormal
 answered_self at None = tree.no_self
-answered_self at (Some x) = let s = pointer_at at x.id x.range in asked_self s (at.answers.cfg (site_of s)) (self_use at x)
+answered_self at (Some x) = let s = pointer_at at x.id x.range in asked_self s (at.answers.cfg (site_of s)) (self_use at x) tt
 
 abbrev pub asked_formal : Pointer → Result (Unit {0}) CfgId → Formal → Formal
 asked_formal s (Ok _) f = f

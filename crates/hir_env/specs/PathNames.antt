@@ -127,7 +127,7 @@ abbrev mutual
   pub piece : Bool → Segment → Piece
   piece first tree.absent_segment = named name.Missing
   piece first tree.broken_segment = refusing
-  piece first (tree.name_segment n a) = named n
+  piece first (tree.name_segment n _ a) = named n
   piece first tree.self_type_segment = named (name.Text (codes "Self"))
   piece first tree.super_segment = super_
   piece false tree.crate_segment = refusing

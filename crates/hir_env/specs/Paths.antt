@@ -117,7 +117,9 @@ crate_root_at env p id = env.crate_root (env.context (record { file_id = p.file_
 abbrev pub named_segment : Answers → Place → Option AstName → SegmentArgs → Segment
 named_segment env p None args = tree.broken_segment
 named_segment env p (Some n) args =
-    if bytes_eq n.t (codes "$crate") then tree.dollar_crate_segment (crate_root_at env p n.id) else tree.name_segment (name.Text n.t) args
+    if bytes_eq n.t (codes "$crate")
+    then tree.dollar_crate_segment (crate_root_at env p n.id)
+    else tree.name_segment (name.Text n.t) tt args
 
 -- `<T>` or `<T as Trait>`
 abbrev pub qualified_segment : OptionType → Option PathTypeReading → Segment

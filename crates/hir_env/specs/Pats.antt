@@ -12,6 +12,7 @@ use Rattle.hir_store.specs.Pointers.{Pointer}
 use Rattle.hir_store.specs.declared.ids.CfgId.{CfgId}
 use Rattle.hir_store.specs.declared.ids.HygieneId.{HygieneId}
 use Rattle.hir_store.specs.declared.name.Name.{Name}
+use Rattle.hir_store.specs.Names.{IsWritten}
 use Rattle.hir_store.specs.declared.name.Name.TheVariants as name
 use Rattle.hir_store.specs.declared.path.ModPath.{ModPath}
 use Rattle.hir_store.specs.declared.path.PathKind.TheVariants as kind
@@ -25,7 +26,7 @@ use Rattle.hir_env.specs.Layers.{Sorts, Reader}
 use Rattle.hir_env.specs.PatLayers.{PatKindLayer, PatLayer, RecordPatFieldLayer}
 use Rattle.hir_env.specs.Paths.{path_or_none, pat_or_none, mutability}
 use Rattle.hir_env.specs.TypePats.{is_plain}
-use Rattle.hir_env.specs.Answering.{name_or_missing, truth}
+use Rattle.hir_env.specs.Answering.{name_or_missing, name_written, truth}
 use Rattle.hir_env.specs.Answered as tree
 use Rattle.hir_env.specs.Answered.{Use, Pat, OptionPat, Pats, PatFields, PatField, Side}
 
@@ -59,12 +60,12 @@ is_constant _ = false
 abbrev pub is_found : Answers → Place → Name → Bool
 is_found env p n = is_constant (env.resolve p.module_id (plain_path n) shadow.Other).values
 
-abbrev pub name_or_bind : Bool → Pointer → Use → OptionPat → Pat
-name_or_bind true s u q = tree.name_pat s u
-name_or_bind false s u q = tree.bind_pat s u q
+abbrev pub name_or_bind : Bool → Pointer → (u : Use) → IsWritten u.name → OptionPat → Pat
+name_or_bind true s u w q = tree.name_pat s u w
+name_or_bind false s u w q = tree.bind_pat s u w q
 
-abbrev pub ident_pat : Answers → Place → Pointer → Use → OptionPat → Pat
-ident_pat env p s u q = name_or_bind (is_plain u q && is_found env p u.name) s u q
+abbrev pub ident_pat : Answers → Place → Pointer → (u : Use) → IsWritten u.name → OptionPat → Pat
+ident_pat env p s u w q = name_or_bind (is_plain u q && is_found env p u.name) s u w q
 
 -- literals and sides
 
@@ -85,16 +86,16 @@ literal_or_broken p s (Some l) minus =
     then tree.literal_pat s (Some (in_file p (ptr l.id l.range))) (record { minus = minus; literal = l.literal })
     else tree.leaf_pat s tree.broken_leaf
 
-abbrev pub plain_side : Bool → Pointer → Name → Side
-plain_side true s n = tree.name_side s n
-plain_side false s n = tree.other_side
+abbrev pub plain_side : Bool → Pointer → (n : Name) → IsWritten n → Side
+plain_side true s n w = tree.name_side s n w
+plain_side false s n w = tree.other_side
 
 -- a plain name is a path here, whatever it stands for
 abbrev pub side_of : OptionPat → Side
 side_of tree.no_pat = tree.no_side
 side_of (tree.some_pat (tree.literal_pat s (Some at) l)) = tree.literal_side s l
-side_of (tree.some_pat (tree.bind_pat s u q)) = plain_side (is_plain u q) s u.name
-side_of (tree.some_pat (tree.name_pat s u)) = tree.name_side s u.name
+side_of (tree.some_pat (tree.bind_pat s u w q)) = plain_side (is_plain u q) s u.name w
+side_of (tree.some_pat (tree.name_pat s u w)) = tree.name_side s u.name w
 side_of (tree.some_pat (tree.path_pat s x)) = tree.path_side s x
 side_of (tree.some_pat _) = tree.other_side
 
@@ -122,7 +123,8 @@ pat_fields_of read (x ∷ xs) p = tree.more_pat_fields (read x p) (pat_fields_of
 
 module _ (env : Answers) {S : Sorts} (part : Reader S) where
   abbrev pub pat_at : PatKindLayer S → Place → Pointer → Pat
-  pat_at (PatKind-F.IdentPat n is_ref is_mut x) p s = ident_pat env p s (use_at env p n is_ref is_mut) (pat_or_none part.pat x p)
+  pat_at (PatKind-F.IdentPat n is_ref is_mut x) p s =
+      ident_pat env p s (use_at env p n is_ref is_mut) (name_written n) (pat_or_none part.pat x p)
   pat_at (PatKind-F.TupleStructPat x comma xs) p s =
       tree.tuple_struct_pat s (path_or_none part.path x p) comma (pats_of part.pat xs p)
   pat_at (PatKind-F.TuplePat comma xs) p s = tree.tuple_pat s comma (pats_of part.pat xs p)

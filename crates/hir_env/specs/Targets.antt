@@ -15,15 +15,18 @@ use Rattle.hir_env.specs.Answered.{Path, OptionPath, Expr, OptionExpr, Exprs, Fi
 use Rattle.hir_env.specs.Answered.{TargetFields, TargetField}
 
 abbrev pub block_pointer : Block → Pointer
-block_pointer (tree.block at is_unsafe label number ss e) = at
+block_pointer (tree.block at is_unsafe label _ number ss e) = at
 
 -- the node of an expression
 abbrev pub pointer_of : Expr → Pointer
 pointer_of (tree.disabled_expr at by e) = pointer_of e
 pointer_of (tree.if_expr at c t e) = at
 pointer_of (tree.block_expr b) = block_pointer b
-pointer_of (tree.loop_expr at label b) = at
-pointer_of (tree.while_expr at label c b) = at
+pointer_of (tree.loop_expr at label _ b) = at
+pointer_of (tree.while_expr at label _ c b) = at
+pointer_of (tree.question_expr at items e) = at
+pointer_of (tree.itemless_expr at) = at
+pointer_of (tree.try_expr at item t number ss e) = at
 pointer_of (tree.call_expr at f has_list es) = at
 pointer_of (tree.path_expr at p h) = at
 pointer_of (tree.continue_expr at jump) = at

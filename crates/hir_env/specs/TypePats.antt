@@ -5,6 +5,7 @@ use Rattle.hir_base.specs.declared.op.RangeOp.TheVariants as range
 use Rattle.hir_binding.specs.declared.binding.BindingAnnotation.{BindingAnnotation}
 use Rattle.hir_binding.specs.declared.binding.BindingAnnotation.TheVariants as binding
 use Rattle.hir_store.specs.Pointers.{Pointer}
+use Rattle.hir_store.specs.Names.{IsWritten}
 use Rattle.hir_store.specs.declared.name.Name.{Name}
 use Rattle.hir_env.specs.declared.lang.LangItems.{LangItems}
 use Rattle.hir_env.specs.Answered as tree
@@ -13,8 +14,8 @@ use Rattle.hir_env.specs.Answered.{Use, Pat, OptionPat, Pats, Side, TypePat, Opt
 -- the node of a pattern
 abbrev pub pat_pointer : Pat → Pointer
 pat_pointer (tree.leaf_pat at l) = at
-pat_pointer (tree.bind_pat at u p) = at
-pat_pointer (tree.name_pat at u) = at
+pat_pointer (tree.bind_pat at u _ p) = at
+pat_pointer (tree.name_pat at u _) = at
 pat_pointer (tree.path_pat at p) = at
 pat_pointer (tree.tuple_struct_pat at p comma ps) = at
 pat_pointer (tree.tuple_pat at comma ps) = at
@@ -69,18 +70,18 @@ module _ (items : LangItems) where
 
 -- the name that a pattern gives a function pointer's parameter
 abbrev pub name_given : OptionPat → Option Name
-name_given (tree.some_pat (tree.bind_pat at u p)) = Some u.name
-name_given (tree.some_pat (tree.name_pat at u)) = Some u.name
+name_given (tree.some_pat (tree.bind_pat at u _ p)) = Some u.name
+name_given (tree.some_pat (tree.name_pat at u _)) = Some u.name
 name_given _ = None
 
 -- a plain name binds, whatever it stands for elsewhere
-abbrev pub named_formal : Bool → Pointer → Use → Formal
-named_formal true at u = tree.formal (tree.some_pat (tree.bind_pat at u tree.no_pat))
-named_formal false at u = tree.fault_formal at
+abbrev pub named_formal : Bool → Pointer → (u : Use) → IsWritten u.name → Formal
+named_formal true at u w = tree.formal (tree.some_pat (tree.bind_pat at u w tree.no_pat))
+named_formal false at u w = tree.fault_formal at
 
 abbrev pub bare_formal : OptionPat → Formal
 bare_formal tree.no_pat = tree.formal tree.no_pat
 bare_formal (tree.some_pat (tree.leaf_pat at tree.wild_leaf)) = tree.formal (tree.some_pat (tree.leaf_pat at tree.wild_leaf))
-bare_formal (tree.some_pat (tree.bind_pat at u p)) = named_formal (is_plain u p) at u
-bare_formal (tree.some_pat (tree.name_pat at u)) = tree.formal (tree.some_pat (tree.bind_pat at u tree.no_pat))
+bare_formal (tree.some_pat (tree.bind_pat at u w p)) = named_formal (is_plain u p) at u w
+bare_formal (tree.some_pat (tree.name_pat at u w)) = tree.formal (tree.some_pat (tree.bind_pat at u w tree.no_pat))
 bare_formal (tree.some_pat p) = tree.fault_formal (pat_pointer p)

@@ -1,11 +1,13 @@
 -- A tree with the answers written into it at a spot, and the equations of its levels.
-use Rattle.std.specs.Prelude.{Bool, List, [], ◌∷◌, Option, option_map}
+use Rattle.std.specs.Prelude.{Bool, List, [], ◌∷◌, Option, Some, None, option_map}
 use Rattle.hir_syntax.specs.declared.ast.ElseBranch.{ElseBranch as AstElseBranch, out-ElseBranch}
 use Rattle.hir_syntax.specs.declared.ast.ExprKind.{out-ExprKind}
 use Rattle.hir_syntax.specs.declared.ast.ElseBranch.TheOpen.{ExprKind-F}
 use Rattle.hir_syntax.specs.declared.ast.StmtKind.{out-StmtKind}
 use Rattle.hir_syntax.specs.declared.types.GenericArg.{GenericArg as AstGenericArg, out-GenericArg}
 use Rattle.hir_syntax.specs.declared.types.TypeKind.{out-TypeKind}
+use Rattle.hir_syntax.specs.declared.ast.BlockModifier.{BlockModifier}
+use Rattle.hir_syntax.specs.declared.ast.BlockModifier.TheVariants as modifier
 use Rattle.hir_syntax.specs.declared.ast.BlockExpr.{BlockExpr as AstBlockExpr, out-BlockExpr}
 use Rattle.hir_syntax.specs.declared.ast.Expr.{Expr as AstExpr}
 use Rattle.hir_syntax.specs.declared.ast.Path.{Path as AstPath, out-Path}
@@ -33,7 +35,8 @@ use Rattle.hir_store.specs.declared.ids.BlockId.{BlockId}
 use Rattle.hir_store.specs.declared.name.Name.{Name}
 use Rattle.hir_env.specs.declared.place.Place.{Place}
 use Rattle.hir_env.specs.Layers.{RecordReading, ExprKindLayer}
-use Rattle.hir_env.specs.Answering.{in_file, ptr, site_of, label_of, jump_of, modified, expr_or_none, plain_or_none, exprs_of}
+use Rattle.hir_env.specs.Answering.{in_file, ptr, site_of, label_of, label_written, jump_of, expr_or_none, plain_or_none, exprs_of}
+use Rattle.hir_env.specs.Answering.{BlockHead, labelled_head, unsafe_head}
 use Rattle.hir_env.specs.Answering.{exprs_or_none, numbered, inside, asked, else_branch, expr_at, constant_step, stmt_at}
 use Rattle.hir_env.specs.Answering.{field_step, record_step, fields_of, spread_or_none, record_or_empty, arms_of, arms_or_none}
 use Rattle.hir_env.specs.Answering.{guard_or_none, let_else_or_none, guard_step, let_else_step, arm_step}
@@ -254,9 +257,10 @@ jump_part at l = option_map (jump_of at.answers at.place) l
 abbrev pub pointer_at : Spot → NodeId → TextRange → Pointer
 pointer_at at id range = in_file at.place (ptr id range)
 
--- whether the block is unsafe, and its label
-abbrev pub block_head : Spot → AstBlockExpr → Bool × Option Label
-block_head at b = let level = out-BlockExpr b in modified level.mod_ (label_part at level.label)
+-- its label, where no modifier stands
+abbrev pub block_head : Spot → AstBlockExpr → BlockHead
+block_head at b = let level = out-BlockExpr b in
+    labelled_head (label_part at level.label) (label_written at.answers at.place level.label)
 
 -- the node of an expression, and of a block as an expression the block's
 abbrev pub kind_pointer : Place → ExprKindLayer written → Pointer → Pointer
@@ -288,12 +292,25 @@ in_block at id = record at { place = inside (numbered at.answers at.place id) at
 abbrev pub block_number : Spot → NodeId → Option BlockId
 block_number at id = option_map (λ n. n.0) (numbered at.answers at.place id)
 
-abbrev pub block_level : Spot → Bool × Option Label → AstBlockExpr → Block
+abbrev pub block_level : Spot → BlockHead → AstBlockExpr → Block
 block_level at head b =
     let level = out-BlockExpr b in
     let within = in_block at level.id in
-    tree.block (pointer_at at level.id level.range) head.0 head.1 (block_number at level.id)
+    tree.block (pointer_at at level.id level.range) head.is_unsafe head.label head.written (block_number at level.id)
     (stmts_part within level.stmts) (expr_part within level.tail)
+
+abbrev pub try_level : Spot → AstBlockExpr → Expr
+try_level at b =
+    let level = out-BlockExpr b in
+    let within = in_block at level.id in
+    tree.try_expr (pointer_at at level.id level.range) at.answers.lang_items.try_trait_from_output (type_part at level.ty)
+    (block_number at level.id) (stmts_part within level.stmts) (expr_part within level.tail)
+
+-- a block as an expression, by its modifier
+abbrev pub own_level : Spot → Option BlockModifier → AstBlockExpr → Expr
+own_level at None b = tree.block_expr (block_level at (block_head at b) b)
+own_level at (Some modifier.Unsafe) b = tree.block_expr (block_level at unsafe_head b)
+own_level at (Some modifier.Try) b = try_level at b
 
 abbrev pub else_level : Spot → AstElseBranch → Expr
 else_level at e = else_branch at.answers (reader at.answers) (out-ElseBranch e) at.place

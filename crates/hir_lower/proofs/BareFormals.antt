@@ -4,9 +4,11 @@ use Rattle.hir_syntax.specs.declared.ast.ElseBranch.TheOpen.{PatKind-F}
 use Rattle.hir_syntax.specs.declared.ast.Name.{Name as AstName}
 use Rattle.hir_syntax.specs.declared.pats.Pat.{Pat as AstPat}
 use Rattle.hir_syntax.specs.declared.pats.PatKind.{out-PatKind}
+use Rattle.hir_store.specs.Names.{IsWritten}
 use Rattle.hir_store.specs.Pointers.{Pointer}
 use Rattle.hir_env.specs.Answered as tree
 use Rattle.hir_env.specs.Answered.{Formal, OptionPat, Pat, PatLeaf, Signed, Use}
+use Rattle.hir_env.specs.Answering.{name_written}
 use Rattle.hir_env.specs.PatLayers.{PatKindLayer}
 use Rattle.hir_env.specs.Pats.{is_found, minus_fits, name_or_bind, pat_at, use_at}
 use Rattle.hir_env.specs.Formals.{formal_of}
@@ -18,10 +20,10 @@ use Rattle.hir_lower_form.specs.Forms.{some}
 use Rattle.hir_lower_form.specs.Pats.{missing_pat}
 use Rattle.hir_lower.specs.Formals.{Bare, as_elsewhere, bare_kind, faulty, formal_as, lower_formal, plain_name}
 
-plain_binds : (b : Bool) (s : Pointer) (u : Use) → is_plain u tree.no_pat ≡ true
-    → bare_formal (tree.some_pat (name_or_bind b s u tree.no_pat)) ≡ tree.formal (tree.some_pat (tree.bind_pat s u tree.no_pat))
-plain_binds true s u h = refl
-plain_binds false s u h = ap (λ b. named_formal b s u) h
+plain_binds : (b : Bool) (s : Pointer) (u : Use) (w : IsWritten u.name) → is_plain u tree.no_pat ≡ true
+    → bare_formal (tree.some_pat (name_or_bind b s u w tree.no_pat)) ≡ tree.formal (tree.some_pat (tree.bind_pat s u w tree.no_pat))
+plain_binds true s u w h = refl
+plain_binds false s u w h = ap (λ b. named_formal b s u w) h
 
 module _ (at : Spot) (s : Pointer) where
   abbrev level : PatKindLayer written → Pat
@@ -31,7 +33,7 @@ module _ (at : Spot) (s : Pointer) where
   abbrev read_as : Pat → Bare → Formal
   read_as q as_elsewhere = tree.formal (tree.some_pat q)
   read_as q (plain_name n) =
-      tree.formal (tree.some_pat (tree.bind_pat s (use_at at.answers at.place n false false) tree.no_pat))
+      tree.formal (tree.some_pat (tree.bind_pat s (use_at at.answers at.place n false false) (name_written n) tree.no_pat))
   read_as q faulty = tree.fault_formal s
 
   abbrev Reads : PatKindLayer written → Type 0
@@ -39,7 +41,7 @@ module _ (at : Spot) (s : Pointer) where
 
   ident_reads : (n : Option AstName) (is_ref is_mut : Bool) (p : Option AstPat) → Reads (PatKind-F.IdentPat n is_ref is_mut p)
   ident_reads n false false None =
-      let u = use_at at.answers at.place n false false in plain_binds (is_found at.answers at.place u.name) s u refl
+      let u = use_at at.answers at.place n false false in plain_binds (is_found at.answers at.place u.name) s u (name_written n) refl
   ident_reads n false false (Some x) = refl
   ident_reads n false true None = refl
   ident_reads n false true (Some x) = refl
@@ -92,9 +94,9 @@ bare_is at p =
 
 -- ---- of a skipped body nothing of a parameter is read
 
-skip_named : (b : Bool) (s : Pointer) (u : Use) → lower_formal true (named_formal b s u) ≡ some missing_pat
-skip_named true s u = refl
-skip_named false s u = refl
+skip_named : (b : Bool) (s : Pointer) (u : Use) (w : IsWritten u.name) → lower_formal true (named_formal b s u w) ≡ some missing_pat
+skip_named true s u w = refl
+skip_named false s u w = refl
 
 skip_leaf : (s : Pointer) (l : PatLeaf) → lower_formal true (bare_formal (tree.some_pat (tree.leaf_pat s l))) ≡ some missing_pat
 skip_leaf s tree.wild_leaf = refl
@@ -104,8 +106,8 @@ skip_leaf s tree.broken_leaf = refl
 
 skip_bare : (p : Pat) → lower_formal true (bare_formal (tree.some_pat p)) ≡ some missing_pat
 skip_bare (tree.leaf_pat s l) = skip_leaf s l
-skip_bare (tree.bind_pat s u q) = skip_named (is_plain u q) s u
-skip_bare (tree.name_pat s u) = refl
+skip_bare (tree.bind_pat s u w q) = skip_named (is_plain u q) s u w
+skip_bare (tree.name_pat s u _) = refl
 skip_bare (tree.path_pat s x) = refl
 skip_bare (tree.tuple_struct_pat s x comma ps) = refl
 skip_bare (tree.tuple_pat s comma ps) = refl

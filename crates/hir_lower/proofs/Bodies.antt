@@ -5,7 +5,7 @@ use Rattle.std.specs.Prelude.{IfOk}
 use Rattle.hir_store.specs.Pointers.{Pointer}
 use Rattle.hir_store.specs.Stored.{Store, SourceMap, store_of, map_of}
 use Rattle.hir_store.specs.Storing as storing
-use Rattle.hir_store.specs.Storing.{empty, root_at}
+use Rattle.hir_store.specs.Storing.{root_at}
 use Rattle.hir_store.specs.declared.diagnostics.MissingBodyItemKind.{MissingBodyItemKind}
 use Rattle.hir_store.specs.declared.fault.StoreFault.TheVariants.{Full}
 use Rattle.hir_store.specs.declared.ids.BindingId.{BindingId}
@@ -14,7 +14,7 @@ use Rattle.hir_store.specs.declared.ids.PatId.{PatId}
 use Rattle.hir_store.proofs.Arenas.{prefix_refl}
 use Rattle.hir_store.proofs.Extending.{extends_refl, extends_root}
 use Rattle.hir_env.specs.Answered.{Formals, OptionExpr}
-use Rattle.hir_lower_form.specs.Builder.{Builder}
+use Rattle.hir_lower_form.specs.Builder.{Builder, fresh}
 use Rattle.hir_lower_form.specs.Lowering.{Checked}
 use Rattle.hir_steps.specs.Keeps.{Keeps, KeepsAll}
 use Rattle.hir_steps.proofs.Keeping.{kept_by}
@@ -75,10 +75,10 @@ module _ (skipped : Bool) (f : Formals) (e : OptionExpr) (limit : ℕ) (owed : F
               (extends_root s.inner.stored root) depth le;
         })
 
-  too_large : (b' : Builder) → behind (lower_formals skipped f) e start ≡ (Err Full, b') → BodyTooLarge (empty limit) skipped f e
+  too_large : (b' : Builder) → behind (lower_formals skipped f) e start ≡ (Err Full, b') → BodyTooLarge (fresh limit) skipped f e
   too_large b' h =
       let own = lower_body skipped f e (closed start) in
-      subst (λ r. GrownUnless (body_size skipped f e) (closed start).stored r own.1.stored) (refused skipped f e start b' Full h)
+      subst (λ r. GrownUnless (body_size skipped f e) (closed start) r own.1) (refused skipped f e start b' Full h)
       (bodies_fit skipped f e (closed start))
 
 -- the body of an item, from nothing
@@ -132,7 +132,7 @@ module _ (skipped : Bool) (node : Pointer) (k : Option MissingBodyItemKind) (f :
       subst P (sym (s.store_is ∙ ap store_of same)) (subst Q (sym (s.source_map_is ∙ ap map_of same))
       (subst R (sym (given_is b g.given g.receiver g.params)) w))
 
-  pub body_too_large : RefusedAtEnd item limit → BodyTooLarge (empty limit) skipped f read
+  pub body_too_large : RefusedAtEnd item limit → BodyTooLarge (fresh limit) skipped f read
   body_too_large r = too_large skipped f read limit owed r.builder (sym (item_is skipped node k f e limit) ∙ r.refused)
 
   module _ {A E : Type 0} (store : A → Store) (source_map : A → SourceMap) where

@@ -14,8 +14,9 @@ use Rattle.hir_lower_form.specs.Builder.{Builder}
 use Rattle.hir_lower_form.specs.Lowering.{Checked, Lowering, Lowers, go_on, close_labels, enter_root, outside_root, record_root}
 use Rattle.hir_lower_form.specs.Lower.{lower_part}
 use Rattle.hir_scope.specs.Ribs.{map_ribs}
-use Rattle.hir_steps.specs.Keeps.{KeepsAll, Keeps, Paired}
-use Rattle.hir_steps.proofs.Keeping.{keeping}
+use Rattle.hir_steps.specs.Keeps.{KeepsAll, Keeps, MadeApart, Paired}
+use Rattle.hir_steps.proofs.ApartTree.{part_apart}
+use Rattle.hir_steps.proofs.Keeping.{apart_by, keeping}
 use Rattle.hir_same_meaning.specs.Headline.{Lowered}
 use Rattle.hir_same_meaning.proofs.Whole.{headline}
 use Rattle.hir_one_result.specs.Laws.{Fits, FitsUnless}
@@ -86,15 +87,15 @@ stays_unless e b b' (Err x) l n =
 
 -- where there is no room
 
-root_too_large : (e : OptionExpr) (b b' : Builder) (x : StoreFault) → root_of e b ≡ (Err x, b') → TooLarge b.stored e
+root_too_large : (e : OptionExpr) (b b' : Builder) (x : StoreFault) → root_of e b ≡ (Err x, b') → TooLarge b e
 root_too_large e b b' x h = by (lower_part e (closed b)).0 (lower_part e (closed b)).1 (all_fit e (closed b)) (sym (root_steps e b) ∙ h)
   where
-    by : (o : Checked ExprId) (c : Builder) → FitsUnless e b.stored o c.stored → go_on o c recorded ≡ (Err x, b') → TooLarge b.stored e
+    by : (o : Checked ExprId) (c : Builder) → FitsUnless e b o c → go_on o c recorded ≡ (Err x, b') → TooLarge b e
     by (Ok i) c f g = let no = ap (λ (q : Checked ExprId × Builder). q.0) g in cc
     by (Err y) c f g = f
 
 pub too_large_if : (e : OptionExpr) (b b' : Builder) (r : Checked ExprId) → Lowers HasExpr (root_of e) b r b'
-    → IsErrOf r Full → TooLarge b.stored e
+    → IsErrOf r Full → TooLarge b e
 too_large_if e b b' (Ok i) l is = cc
 too_large_if e b b' (Err x) l is = let other : x ≢ Memory = λ m. cc in root_too_large e b b' x (l other).0
 
@@ -123,7 +124,7 @@ pub rooted_inside : (e : OptionExpr) (b inner : Builder) (i : ExprId) → b.scop
 rooted_inside e b inner i none_open in_root paired is =
     let lowered : Lowered e b i inner = record { none_open = none_open; paired = paired; is = is } in
     let kept : KeepsAll b inner = subst (λ r. Keeps b r.0 r.1) is (keeping e b) in
-    let fits : Fits e b.stored inner.stored = subst (λ r. FitsUnless e b.stored r.0 r.1.stored) is (all_fit e b) in
+    let fits : Fits e b.stored inner.stored = subst (λ r. FitsUnless e b r.0 r.1) is (all_fit e b) in
     let faults = diagnostics_are e b i inner paired is [] (ap (λ rs. map_ribs forget rs) (sym none_open)) in
     let after = kept.paired paired in
     record {
@@ -182,6 +183,16 @@ pub rooted_if : (e : OptionExpr) (b b' : Builder) (r : Checked ExprId) → Lower
     → IfOk r (λ i. Rooted b.stored b'.stored i e)
 rooted_if e b b' (Ok i) l d = root_rooted e b b' i d l.0
 rooted_if e b b' (Err f) l d = tt
+
+-- made names stay apart
+pub apart_if : (e : OptionExpr) (b b' : Builder) (r : Checked ExprId) → Lowers HasExpr (root_of e) b r b' → Paired b.stored
+    → MadeApart b.names b.stored → IfOk r (λ i. MadeApart b'.names b'.stored)
+apart_if e b b' (Ok i) l d m =
+    let p : Parts e b i b' = parts e b b' i l.0 in
+    let kept : MadeApart p.inner.names p.inner.stored = apart_by (part_apart e) (closed b) p.inner i d p.is m in
+    let P : Builder → Type 0 = λ x. MadeApart x.names x.stored in
+    subst P p.left (record { once = kept.once; later = kept.later })
+apart_if e b b' (Err f) l d m = tt
 
 -- after a root all is closed again
 root_outside : (e : OptionExpr) (b b' : Builder) (i : ExprId) → root_of e b ≡ (Ok i, b') → Outside b'

@@ -61,7 +61,7 @@ each_hold skipped (f ∷ fs) done =
 pub self_any : (s : SelfFormal) → Correct (lower_self s) Any
 self_any tree.no_self = pure_any None
 self_any (tree.disabled_self at by) = then_any (any (correct_report _)) (λ u. pure_any None)
-self_any (tree.self_formal at u) = then_any (any (correct_alloc_binding _)) (λ i. pure_any (Some i))
+self_any (tree.self_formal at u _) = then_any (any (correct_alloc_binding _)) (λ i. pure_any (Some i))
 
 record GivenHolds (es : Bodies) (final : Stored) (ps : List Frame) (m m' : Mark) (given : Given) : Type 0 where
   same : (d : ℕ) → m'.nodes + m'.entries ≤ d → SameIn final (all_of (inners_in final d).pat given.1) es

@@ -125,10 +125,10 @@ self_reads : (s : SelfFormal) (b : Builder) → SelfReads s (lower_self s b)
 unfolding report storing.report alloc_binding storing.alloc_binding
 self_reads tree.no_self b = λ later p. refl
 self_reads (tree.disabled_self at by) b = λ later p. refl
-self_reads (tree.self_formal at u) b = by (nat_lt (length b.stored.bindings.entries) b.stored.bindings.limit)
+self_reads (tree.self_formal at u w) b = by (nat_lt (length b.stored.bindings.entries) b.stored.bindings.limit)
   where
     by : (room : Bool) → let made = bound_if room (new_binding u) b.stored.bindings in
-        SelfReads (tree.self_formal at u)
+        SelfReads (tree.self_formal at u w)
         (go_on made.0 (record b { stored = record b.stored { bindings = made.1 } }) (λ i. pure (Some i)))
     by true = λ later p. in_prefix b.stored.bindings.entries (new_binding u) (length b.stored.bindings.entries) refl p
     by false = tt

@@ -15,8 +15,9 @@ use Rattle.hir_lower_form.specs.Builder.{Builder}
 use Rattle.hir_lower_form.specs.Lowering.{Checked, SomeEnd}
 use Rattle.hir_lower_form.specs.Lower.{lower_path}
 use Rattle.hir_lower_form.specs.Methods.{LowersPath}
-use Rattle.hir_steps.specs.Keeps.{Keeps, KeepsAll, Paired}
-use Rattle.hir_steps.proofs.Keeping.{paths_keep}
+use Rattle.hir_steps.specs.Keeps.{Keeps, KeepsAll, MadeApart, Paired}
+use Rattle.hir_steps.proofs.ApartTree.{lower_path_apart}
+use Rattle.hir_steps.proofs.Keeping.{apart_by, paths_keep}
 use Rattle.hir_read_back.proofs.Now.{path_law}
 use Rattle.hir_one_result.specs.Laws.{Grown, GrownUnless, Settled}
 use Rattle.hir_one_result.specs.Diagnostics.{Around}
@@ -117,7 +118,7 @@ module _ (at : Spot) (x : AstPath) (b b' : Builder) where
       let faults = faults_behind b b' y d l.0 (whole_reports p) [] (none_around none) in
       let kept : KeepsAll b b' = subst (λ q. Keeps b q.0 q.1) l.0 (paths_keep (whole_path at x) b) in
       let grown : Grown (whole_size (whole_path at x)) b.stored b'.stored =
-      subst (λ q. GrownUnless (whole_size (whole_path at x)) b.stored q.0 q.1.stored) l.0 (paths_fit (whole_path at x) b) in
+      subst (λ q. GrownUnless (whole_size (whole_path at x)) b q.0 q.1) l.0 (paths_fit (whole_path at x) b) in
       record {
         inner = λ later ext. (path_roots p b b' y d l.0 later ext).1;
         lives = λ later ext still. constants_live later none stays.bindings (ways_behind b b' y d l.0 (whole_left p) later ext still);
@@ -142,14 +143,19 @@ module _ (at : Spot) (x : AstPath) (b b' : Builder) where
       record { scopes = kept.scopes ∙ o.scopes; in_root = kept.in_root ∙ o.in_root }
   outside_path_if (Err e) l o = tt
 
+  pub path_apart_if : (r : Checked (Option Path)) → Alone r → Paired b.stored → MadeApart b.names b.stored
+      → IfOk r (λ y. MadeApart b'.names b'.stored)
+  path_apart_if (Ok y) l d m = apart_by (lower_path_apart (whole_path at x)) b b' y d l.0 m
+  path_apart_if (Err e) l d m = tt
+
   pub ends_if : (r : Checked (Option Path)) → Alone r → IsErrOf r Full → SomeEnd b'
   ends_if (Ok y) l is = cc
   ends_if (Err e) l is = let other : e ≢ Memory = λ m. cc in (l other).1
 
-  short_if : (e : StoreFault) → lower_path (whole_path at x) b ≡ (Err e, b') → Short (whole_size (whole_path at x)) b.stored
-  short_if e is = subst (λ q. GrownUnless (whole_size (whole_path at x)) b.stored q.0 q.1.stored) is (paths_fit (whole_path at x) b)
+  short_if : (e : StoreFault) → lower_path (whole_path at x) b ≡ (Err e, b') → Short (whole_size (whole_path at x)) b
+  short_if e is = subst (λ q. GrownUnless (whole_size (whole_path at x)) b q.0 q.1) is (paths_fit (whole_path at x) b)
 
-  pub path_too_large_if : (r : Checked (Option Path)) → Alone r → IsErrOf r Full → Short (whole_size (whole_path at x)) b.stored
+  pub path_too_large_if : (r : Checked (Option Path)) → Alone r → IsErrOf r Full → Short (whole_size (whole_path at x)) b
   path_too_large_if (Ok y) l is = cc
   path_too_large_if (Err e) l is = let other : e ≢ Memory = λ m. cc in short_if e (l other).0
 

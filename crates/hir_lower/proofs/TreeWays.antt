@@ -41,7 +41,7 @@ use Rattle.hir_lower_form.specs.Lower.{lower_arg, lower_bounds, lower_bound, con
 use Rattle.hir_lower_form.specs.Lower.{present_block, lower_arms, lower_arm, lower_guard, lower_top, lower_pat, pat_part}
 use Rattle.hir_lower_form.specs.Lower.{present_pat, lower_pats, lower_elements, lower_alternatives, lower_later, lower_pat_fields}
 use Rattle.hir_lower_form.specs.Lower.{lower_pat_field, lower_side, lower_type_pat_part, lower_type_pat, lower_type_pats, lower_limit}
-use Rattle.hir_lower_form.specs.Lower.{limit_side, lower_target, lower_targets, lower_target_fields, lower_target_field}
+use Rattle.hir_lower_form.specs.Lower.{limit_side, lower_target, lower_targets, lower_target_fields, lower_target_field, try_form}
 use Rattle.hir_lower_form.specs.Pats.{Table, next_alternative, Elements, no_elements, is_dots}
 use Rattle.hir_lower_form.specs.Walks.{at_first, start, path_read}
 use Rattle.hir_lower.proofs.TypeWays.{error_leads, unit_leads, lifetime_leads, lifetime_option_leads, uses_lead, over_leads, array_leads}
@@ -60,6 +60,7 @@ use Rattle.hir_lower.proofs.PatWays.{path_side_leads, path_target_leads, place_t
 use Rattle.hir_lower.proofs.PatWays.{record_target_leads, slice_pat_leads, target_field_leads, tuple_pat_leads}
 use Rattle.hir_lower.proofs.PatWays.{tuple_struct_leads, tuple_target_leads, type_alternatives_leads, names, unnamed, beside}
 use Rattle.hir_lower.proofs.PatWays.{then_names, top_form_leads}
+use Rattle.hir_lower.proofs.MadeWays.{question_leads, try_block_leads, typed_try_leads}
 
 missing_leads : Leading since missing
 unfolding missing
@@ -213,7 +214,7 @@ mutual
   segment_leads : (first : Bool) (s : Segment) (w : PathWalk) → Leading any (read_segment first s w)
   segment_leads first tree.absent_segment w = leading_pure _
   segment_leads first tree.broken_segment w = leading_pure _
-  segment_leads first (tree.name_segment n as') w = then' (segment_args_lead as') (λ a. leading_pure _)
+  segment_leads first (tree.name_segment n _ as') w = then' (segment_args_lead as') (λ a. leading_pure _)
   segment_leads first tree.self_type_segment w = leading_pure _
   segment_leads false tree.crate_segment w = leading_pure _
   segment_leads true tree.crate_segment w = leading_pure _
@@ -292,8 +293,12 @@ mutual
   node_leads (tree.disabled_expr at by e) = makes (leading_report _) (λ u. missing_leads)
   node_leads (tree.if_expr at c t e) = if_leads at (part_leads c) (block_part_leads t) (present_leads e)
   node_leads (tree.block_expr b) = block_leads b
-  node_leads (tree.loop_expr at label b) = loop_leads at _ label (block_part_leads b)
-  node_leads (tree.while_expr at label c b) = loop_leads at _ label (turn_leads at (part_leads c) (block_part_leads b))
+  node_leads (tree.loop_expr at label _ b) = loop_leads at _ label (block_part_leads b)
+  node_leads (tree.while_expr at label _ c b) = loop_leads at _ label (turn_leads at (part_leads c) (block_part_leads b))
+  node_leads (tree.question_expr at items e) = question_leads at items (part_leads e)
+  node_leads (tree.itemless_expr at) = missing_leads
+  node_leads (tree.try_expr at item t number ss e) =
+      try_leads at t (λ typed. try_block_leads at item typed number (stmts_leads [] ss (kept_part_leads e)))
   node_leads (tree.call_expr at f has_list es) = call_leads at (part_leads f) (each_leads [] es)
   node_leads (tree.path_expr at x h) = path_leads at h (option_path_leads x)
   node_leads (tree.continue_expr at jump) = continue_leads at jump
@@ -320,6 +325,11 @@ mutual
   node_leads (tree.match_expr at e arms) = match_leads at (part_leads e) (arms_lead [] arms)
   node_leads (tree.range_expr at form low high) = range_leads at form (present_leads low) (present_leads high)
   node_leads (tree.assign_expr at own t v) = assign_leads at (target_leads t) (part_leads v)
+
+  try_leads : (at : Pointer) (t : OptionType) {block : Bool → ExprSteps} → ((typed : Bool) → Leading since (block typed))
+      → Leading since (try_form at t block)
+  try_leads at tree.no_type h = h false
+  try_leads at (tree.some_type t) h = typed_try_leads at (h true) (type_leads None t)
 
   pub part_leads : (e : OptionExpr) → Leading since (lower_part e)
   part_leads tree.no_expr = missing_leads
@@ -352,7 +362,7 @@ mutual
   spread_leads (tree.spread_of e) = then' (node_leads e) (λ i. leading_pure _)
 
   block_leads : (b : Block) → Leading since (lower_block b)
-  block_leads (tree.block at is_unsafe label number ss e) =
+  block_leads (tree.block at is_unsafe label _ number ss e) =
       labelled_leads label (λ n. block_form_leads at is_unsafe n number (stmts_leads [] ss (kept_part_leads e)))
 
   block_part_leads : (b : OptionBlock) → Leading since (lower_block_part b)
@@ -394,8 +404,8 @@ mutual
 
   pat_leads : (p : Pat) (t : Table) → Leading (names t) (lower_pat p t)
   pat_leads (tree.leaf_pat at form) t = alone_leads (leading_alloc_pat _ (Some at)) t
-  pat_leads (tree.bind_pat at u p) t = bind_leads at u (present_pat_leads p) t
-  pat_leads (tree.name_pat at u) t = alone_leads (leading_alloc_pat _ (Some at)) t
+  pat_leads (tree.bind_pat at u _ p) t = bind_leads at u (present_pat_leads p) t
+  pat_leads (tree.name_pat at u _) t = alone_leads (leading_alloc_pat _ (Some at)) t
   pat_leads (tree.path_pat at p) t = alone_leads (path_pat_leads at (option_path_leads p)) t
   pat_leads (tree.tuple_struct_pat at p comma ps) t =
       tuple_struct_leads at comma (elements_part_leads no_elements ps) (option_path_leads p) t
@@ -446,7 +456,7 @@ mutual
   side_leads : (s : Side) → Leading any (lower_side s)
   side_leads tree.no_side = leading_pure None
   side_leads (tree.literal_side at l) = literal_side_leads at l
-  side_leads (tree.name_side at n) = name_side_leads at n
+  side_leads (tree.name_side at n _) = name_side_leads at n
   side_leads (tree.path_side at p) = path_side_leads at (option_path_leads p)
   side_leads tree.other_side = leading_pure None
 
@@ -474,7 +484,7 @@ mutual
   limit_side_leads : (s : Side) → Leading any (limit_side s)
   limit_side_leads tree.no_side = anyway missing_leads
   limit_side_leads (tree.literal_side at l) = literal_limit_leads at l
-  limit_side_leads (tree.name_side at n) = name_limit_leads at n
+  limit_side_leads (tree.name_side at n _) = name_limit_leads at n
   limit_side_leads (tree.path_side at p) = path_limit_leads at (option_path_leads p)
   limit_side_leads tree.other_side = anyway missing_leads
 

@@ -16,6 +16,7 @@ use Rattle.hir_env.specs.Spot.{Spot}
 use Rattle.hir_lower_form.specs.Builder.{Builder}
 use Rattle.hir_lower_form.specs.Lower.{type_part}
 use Rattle.hir_lower_form.specs.Lowering.{Checked, Lowers, SomeEnd, alloc_type}
+use Rattle.hir_steps.specs.Keeps.{MadeApart}
 use Rattle.hir_type_result.specs.TypeResult.{TypeResult, TypeTooLarge}
 use Rattle.hir_type_result.proofs.Whole.{refused_types, type_results}
 use Rattle.hir_lower.specs.Calls.{Outside}
@@ -96,6 +97,16 @@ module _ (b b' : Builder) (ty : TypeRef) (at : Pointer) where
       let t = nat_lt (length b.stored.types.entries) b.stored.types.limit in
       subst (λ (q : Checked TypeRefId × Builder). Outside q.1) (sym (alloc_is b ty at) ∙ l.0) (outside_after t o)
   outside_type_if (Err e) l o = tt
+
+  apart_after : (t : Bool) → MadeApart b.names b.stored → MadeApart (after t b ty at).1.names (after t b ty at).1.stored
+  apart_after true m = record { once = m.once; later = m.later }
+  apart_after false m = record { once = m.once; later = m.later }
+
+  pub apart_type_if : (r : Checked TypeRefId) → Alone r → MadeApart b.names b.stored → IfOk r (λ i. MadeApart b'.names b'.stored)
+  apart_type_if (Ok i) l m =
+      let t = nat_lt (length b.stored.types.entries) b.stored.types.limit in
+      subst (λ (q : Checked TypeRefId × Builder). MadeApart q.1.names q.1.stored) (sym (alloc_is b ty at) ∙ l.0) (apart_after t m)
+  apart_type_if (Err e) l m = tt
 
 -- a type that stands alone, lowered from nothing
 module _ (at : Spot) (x : Option AstType_) (limit : ℕ) where

@@ -1,9 +1,9 @@
 -- Each step of lowering lets nodes lead to what came since it began.
-use Rattle.std.proofs.Common.{arith, ◌≡◌, ◌∙◌, refl, sym, ap, subst, ℕ, ◌≤◌, Bool, true, false, if◌then◌else◌, nat_lt, length}
-use Rattle.std.proofs.Common.{length-append}
+use Rattle.std.proofs.Common.{arith, ◌≡◌, ◌∙◌, refl, sym, ap, subst, ℕ, suc, ◌^◌, ◌≤◌, Bool, true, false, nat_lt, length}
+use Rattle.std.proofs.Common.{if◌then◌else◌, length-append}
 use Rattle.std.proofs.Common.{List, [], ◌∷◌, Option, Some, None, Ok, Err, ◌⊎◌, inl, inr, ⊎_elim, true≢false, is_some}
 use Rattle.hir_store.specs.Pointers.{Pointer, same_pointer, found}
-use Rattle.hir_store.specs.Arenas.{Prefix, Sourced, pointed, with_entry}
+use Rattle.hir_store.specs.Arenas.{Prefix, Sourced, pointed, with_entry, with_made}
 use Rattle.hir_store.proofs.Extending.{extends_refl}
 use Rattle.hir_store.proofs.Arenas.{prefix_push, prefix_refl, prefix_trans}
 use Rattle.hir_store.specs.Stored.{Stored}
@@ -17,6 +17,7 @@ use Rattle.hir_store.specs.declared.hir.Expr.{Expr}
 use Rattle.hir_store.specs.declared.hir.Label.{Label as HirLabel}
 use Rattle.hir_store.specs.declared.pat.Binding.{Binding}
 use Rattle.hir_store.specs.declared.pat.Pat.{Pat as HirPat}
+use Rattle.hir_store.specs.declared.name.Name.TheVariants.{Generated}
 use Rattle.hir_store.specs.declared.ids.ExprId.{ExprId}
 use Rattle.hir_store.specs.declared.ids.LabelId.{LabelId}
 use Rattle.hir_store.specs.declared.ids.LifetimeRefId.{LifetimeRefId}
@@ -30,7 +31,8 @@ use Rattle.hir_env.specs.Answered.{Label, Jump}
 use Rattle.hir_scope.specs.Ribs.{Target, reachable, unreachable, undeclared, target}
 use Rattle.hir_lower_form.specs.Builder.{Builder}
 use Rattle.hir_lower_form.specs.Lowering.{Checked, go_on, Lowering, ◌>>=◌, pure, alloc_expr, alloc_lifetime, alloc_type, point, report}
-use Rattle.hir_lower_form.specs.Lowering.{alloc_binding, alloc_pat, define, point_pat_field}
+use Rattle.hir_lower_form.specs.Lowering.{alloc_binding, alloc_made, alloc_pat, define, made_number, point_pat_field}
+use Rattle.hir_lower_form.specs.Lowering.{open_try, open_try_as, open_try_named, try_target}
 use Rattle.hir_lower_form.specs.Lowering.{point_field, open_barrier, enter_root, outside_root, leave_root, record_root}
 use Rattle.hir_lower_form.specs.Lowering.{enter_block, open_label, close, jump_target, found_or_fault, open_as, report_await, count_out}
 use Rattle.hir_lower.specs.Stays.{LeadsOn, Stays}
@@ -100,9 +102,17 @@ module _ {E I : Type 0} (place : I → ℕ) where
       let at = placed (length a.entries) in
       record { grown = omega arith; ways = on_pointed place _ a.map source (number (length a.entries)) (omega (arith, at)) }
 
+  -- and one that was made up, to which no node leads
+  onward_made : (a : Sourced E I) (x : E) (source : Option Pointer) → Onward place a (with_made a x source)
+  onward_made a x source =
+      let grown = length-append a.entries (x ∷ []) in record { grown = omega arith; ways = on_refl place _ _ }
+
 -- an entry, where there is room for one
 abbrev pub made : {E I : Type 0} → (ℕ → I) → Bool → E → Option Pointer → Sourced E I → Checked I × Sourced E I
 made number t x source a = if t then (Ok (number (length a.entries)), with_entry number a x source) else (Err Full, a)
+
+abbrev made_up : {E I : Type 0} → (ℕ → I) → Bool → E → Option Pointer → Sourced E I → Checked I × Sourced E I
+made_up number t x source a = if t then (Ok (number (length a.entries)), with_made a x source) else (Err Full, a)
 
 -- what is stored
 
@@ -315,6 +325,27 @@ leading_alloc e source = record { goes = λ b. by b (nat_lt (length b.stored.exp
     )
     by b false = went_refl b.stored
 
+-- its node doesn't lead to it
+pub leading_made : (e : Expr) (source : Option Pointer) → Leading since (alloc_made e source)
+unfolding alloc_made storing.alloc_made
+leading_made e source = record { goes = λ b. by b (nat_lt (length b.stored.exprs.entries) b.stored.exprs.limit) }
+  where
+    by : (b : Builder) (t : Bool)
+        → Goes since b (made_up expr_id t e source b.stored.exprs).0
+        (record b { stored = record b.stored { exprs = (made_up expr_id t e source b.stored.exprs).1 } })
+    by b true = (
+      record {
+        exprs = onward_made expr_place b.stored.exprs e source;
+        labels = onward_refl label_place _;
+        pats = onward_refl pat_place _;
+        types = onward_refl type_place _;
+        lifetimes = onward_refl lifetime_place _;
+        bindings = prefix_refl _;
+      },
+      omega arith,
+    )
+    by b false = went_refl b.stored
+
 pub leading_alloc_pat : (p : HirPat) (source : Option Pointer) → Leading any (alloc_pat p source)
 unfolding alloc_pat storing.alloc_pat
 leading_alloc_pat p source = record { goes = λ b. by b (nat_lt (length b.stored.pats.entries) b.stored.pats.limit) }
@@ -437,6 +468,39 @@ leading_open l = record { goes = λ b. by b (nat_lt (length b.stored.labels.entr
     by : (b : Builder) (t : Bool) → Goes any b (opening l t b).0 (opening l t b).1
     by b true = (label_made (record { name = l.name }) (Some l.pointer) b true, tt)
     by b false = label_made (record { name = l.name }) (Some l.pointer) b false
+
+-- the number of a made name, where there is one more
+abbrev number_if : Bool → Builder → Checked ℕ × Builder
+number_if t b = if t then (Ok b.names, record b { names = suc b.names }) else count_out b
+
+pub leading_number : Leading any made_number
+unfolding made_number count_out
+leading_number = record { goes = λ b. by b (nat_lt (suc b.names) (2 ^ 32)) }
+  where
+    by : (b : Builder) (t : Bool) → Goes any b (number_if t b).0 (number_if t b).1
+    by b true = (went_refl b.stored, tt)
+    by b false = went_refl b.stored
+
+abbrev opening_try : Pointer → Bool → ℕ → Bool → Builder → Checked LabelId × Builder
+opening_try at typed n t b =
+    let r = made label_id t (record { name = Generated n }) (Some at) b.stored.labels in
+    go_on r.0 (record b { stored = record b.stored { labels = r.1 } }) (λ l. open_try_as l typed >>= (λ _. pure l))
+
+leading_open_named : (at : Pointer) (typed : Bool) (n : ℕ) → Leading any (open_try_named at typed n)
+unfolding storing.alloc_label
+leading_open_named at typed n = record { goes = λ b. by b (nat_lt (length b.stored.labels.entries) b.stored.labels.limit) }
+  where
+    by : (b : Builder) (t : Bool) → Goes any b (opening_try at typed n t b).0 (opening_try at typed n t b).1
+    by b true = (label_made (record { name = Generated n }) (Some at) b true, tt)
+    by b false = label_made (record { name = Generated n }) (Some at) b false
+
+pub leading_open_try : (at : Pointer) (typed : Bool) → Leading any (open_try at typed)
+unfolding open_try
+leading_open_try at typed = then' leading_number (λ n. leading_open_named at typed n)
+
+pub leading_try_target : Leading any try_target
+unfolding try_target
+leading_try_target = record { goes = λ b. (went_refl b.stored, tt) }
 
 -- a node more leads to what has come since
 pub leading_point : (at : Pointer) {p : Lowering ExprId} → Leading since p → Leading since (p >>= (λ i. point at i >>= (λ _. pure i)))

@@ -21,6 +21,7 @@ use Rattle.hir_env.specs.Whole.{answered_pat, pointer_at, written}
 use Rattle.hir_env.specs.Formals.{answered_formals, are_bare}
 use Rattle.hir_env.specs.Answered as tree
 use Rattle.hir_env.specs.Answered.{Formal, Formals, SelfFormal}
+use Rattle.hir_env.specs.Answering.{name_written}
 use Rattle.hir_lower_form.specs.Builder.{Builder}
 use Rattle.hir_lower_form.specs.Lowering.{Checked, Lowers}
 use Rattle.hir_lower_pat.specs.Methods.{use_with}
@@ -41,7 +42,7 @@ LowersFormal f old result new = Lowers HasPatOption (lower_formal false f) old r
 
 -- the node of `self`, where that is kept
 abbrev pub self_source : SelfFormal → Option Pointer
-self_source (tree.self_formal at u) = Some at
+self_source (tree.self_formal at u _) = Some at
 self_source _ = None
 
 -- ---- which are read
@@ -97,5 +98,5 @@ abbrev pub formal_as : Spot → AstPat → Bare → Formal
 formal_as at p as_elsewhere = tree.formal (tree.some_pat (answered_pat at p))
 formal_as at p (plain_name n) =
     let use_ = use_with at n Unannotated in
-    tree.formal (tree.some_pat (tree.bind_pat (pointer_at at p.id p.range) use_ tree.no_pat))
+    tree.formal (tree.some_pat (tree.bind_pat (pointer_at at p.id p.range) use_ (name_written n) tree.no_pat))
 formal_as at p faulty = tree.fault_formal (pointer_at at p.id p.range)

@@ -43,7 +43,7 @@ use Rattle.hir_meaning.specs.Inner.{Bodies, all_inners, all_of, pat_part_bodies,
 use Rattle.hir_meaning.specs.Inner.{of_present as of_some}
 use Rattle.hir_meaning.specs.Same.{SameBodies, SameMeaning}
 use Rattle.hir_same_meaning.specs.Reached.{Spread, of_each, reached_to}
-use Rattle.hir_steps.specs.Keeps.{Mapped, Paired}
+use Rattle.hir_steps.specs.Keeps.{Mapped, Paired, times_bound, times_labelled}
 use Rattle.hir_one_result.specs.Blocks.{blocks_of_part, blocks_of_whole}
 use Rattle.hir_one_result.specs.Diagnostics.{Faults, part_diagnostics, whole_faults}
 use Rattle.hir_one_result.specs.Laws.{Grown, Reaches, Settled}
@@ -61,8 +61,9 @@ use Rattle.hir_type_result.specs.Reached.{of_each as of_all}
 
 -- What is so of a root in a later store. Its expression does what the tree does; it stands for the tree, and each expression
 -- that came with it is what a written one became, or a missing one for an absent or disabled part or in front of a tuple with a
--- leading comma, or what is called for a range; where the source map led by then it leads still, or by the ways of the tree; each
--- label and each binding more is what a written one became, and there are as many; each number that it reaches, or that one does
+-- leading comma, or what is called for a range, or a further node of a `while`, a `?` or a `try`; where the source map led by then it
+-- leads still, or by the ways of the tree; each label and each binding more is what a written one became, or of a made name, and there
+-- are as many; each number that it reaches, or that one does
 -- which it holds and doesn't run, is reached once, and is one that lowering it gave out, and so is each type that the expressions and
 -- patterns reach that came with it, and each pattern that the expressions and types do.
 pub record Lives (old new later : Stored) (i : ExprId) (e : OptionExpr) : Type 0 where
@@ -103,6 +104,10 @@ pub record HasBody (store : Store) (source_map : SourceMap) (params : List PatId
       (of_each (reached_to store depth) (unrun_in_pats store params ++ root.root ∷ unrun_in store root.root))
   pub types_reached_once : (depth : ℕ) → length store.types ≤ depth → let l = of_types_alone (types_reached store.types depth) in
       Spread 0 (length store.types) (of_exprs l store.exprs ++ of_pats l store.pats)
+
+-- each name that lowering makes up is of one binding or label at most
+abbrev pub MadeOnce : Store → Type 0
+MadeOnce store = (k : ℕ) → times_bound k store.bindings + times_labelled k store.labels ≤ 1
 
 -- paths and types
 
@@ -205,7 +210,7 @@ body_owes at owner node body =
 
 -- the binding of a `self` that no condition disables
 abbrev pub receiver_read : SelfFormal → Option Binding
-receiver_read (tree.self_formal at u) = Some (record { name = u.name; mode = u.mode; hygiene = u.hygiene; problems = None })
+receiver_read (tree.self_formal at u _) = Some (record { name = u.name; mode = u.mode; hygiene = u.hygiene; problems = None })
 receiver_read _ = None
 
 -- the bodies inside stored patterns

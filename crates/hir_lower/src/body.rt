@@ -3,7 +3,7 @@
 ghost use Rattle.std.specs.Prelude.{◌≡◌, ◌≢◌, Bool, false, is_some, map, IfOk, IsErrOf, option_copied, option_map};
 ghost use Rattle.hir_store.specs.Range.{InRange};
 ghost use Rattle.hir_store.specs.Stored.{map_of, store_of};
-ghost use Rattle.hir_store.specs.Storing.{empty};
+ghost use Rattle.hir_lower_form.specs.Builder.{fresh};
 ghost use Rattle.hir_env.specs.Answered as tree;
 ghost use Rattle.hir_env.specs.Formals.{answered_formals};
 ghost use Rattle.hir_env.specs.Whole.{expr_part};
@@ -12,7 +12,7 @@ ghost use Rattle.hir_one_result.specs.OneResult.{OneResult};
 ghost use Rattle.hir_one_result.specs.Room.{BodyTooLarge};
 ghost use Rattle.hir_lower_handlers.specs.Spots.{spot_at};
 ghost use Rattle.hir_lower.specs.Formals.{are_read, item_formals, lower_formals, outside_place, outside_the_body, self_source};
-ghost use Rattle.hir_lower.specs.Means.{HasBody, HasParams, body_owes, body_read, required_body};
+ghost use Rattle.hir_lower.specs.Means.{HasBody, HasParams, MadeOnce, body_owes, body_read, required_body};
 ghost use Rattle.hir_lower.specs.Roots.{GivenFromNothing, HasBehind, RefusedAtEnd, StoresFromNothing, await_location, behind, body_of};
 ghost use Rattle.hir_lower.specs.Roots.{body_spot, given_of, item_of};
 ghost use Rattle.hir_lower.specs.Roots.{as_written as written};
@@ -381,10 +381,11 @@ fn body_steps<E: LowerEnv>(
 /// stored, each expression and pattern with its source, all in the range of the one root; the source map leads from each written
 /// expression and label to what it became, from the nodes of patterns, types and lifetimes to them, from the values and patterns
 /// of a record's kept fields to their fields, and from nothing else; the numbers of blocks come in the order of entering; the
-/// diagnostics are those that body, parameters and tree owe. Each number in store and source map is in range. A skipped body is a
-/// missing expression and owes no fault. `Memory` where a growth was refused; `Full` only where parameters and tree become more
-/// expressions, labels, patterns, bindings, types or lifetimes than the arenas have room for, or a path in them has more `super`s,
-/// or a pattern more parts in front of its two dots, than 32 bits count; never `Failed`.
+/// diagnostics are those that body, parameters and tree owe. Each name that is made up is of one binding or label at most. Each
+/// number in store and source map is in range. A skipped body is a missing expression and owes no fault. `Memory` where a growth
+/// was refused; `Full` only where parameters and tree become more expressions, labels, patterns, bindings, types or lifetimes than
+/// the arenas have room for, or a path in them has more `super`s, a pattern more parts in front of its two dots, or they more names
+/// that are made up, than 32 bits count; never `Failed`.
 /// Each parameter reads back as it is written, in order, and `self` is the binding of its name, of which nothing is wrong.
 /// Parameters are read of functions alone, and of each item that is skipped, `self` first and then those that no condition
 /// disables. In an extern block, and in a trait where the function has no body, a parameter is a plain name or `_`, and any other
@@ -418,12 +419,13 @@ pub fn lower_body<E: LowerEnv>(
     ensures self_source { let at = body_spot (E.answers db.now) owner current_file_id inside in
         let formals = item_formals at owner (option_copied params.entry) (is_some (option_copied body.entry)) in
         IfOk result (λ r. r.1.self_param ≡ self_source formals.receiver) }
+    ensures made_once { IfOk result (λ r. MadeOnce r.0.store) }
     ensures in_range { IfOk result (λ r. InRange r.0.store r.1.store) }
     ensures too_large { let at = body_spot (E.answers db.now) owner current_file_id inside in
         let formals = item_formals at owner (option_copied params.entry) (is_some (option_copied body.entry)) in
         let skipped = at.answers.skip owner in
         let read = body_read at owner (option_copied body.entry) in
-        IsErrOf result LowerError.Full → BodyTooLarge (empty 4294967295) skipped formals read }
+        IsErrOf result LowerError.Full → BodyTooLarge (fresh 4294967295) skipped formals read }
     ensures own { result ≢ Err LowerError.Failed }
 {
     body_steps(

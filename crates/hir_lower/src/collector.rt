@@ -7,12 +7,13 @@ ghost use Rattle.hir_env.specs.Spot.{in_file};
 ghost use Rattle.hir_env.specs.Whole.{expr_part};
 ghost use Rattle.hir_lower_form.specs.Lowering.{Lowers, SomeEnd};
 ghost use Rattle.hir_lower_form.specs.Methods.{LowersExprOpt};
-ghost use Rattle.hir_steps.specs.Keeps.{Paired};
+ghost use Rattle.hir_steps.specs.Keeps.{MadeApart, Paired};
 ghost use Rattle.hir_one_result.specs.Room.{whole_size};
 ghost use Rattle.hir_one_result.specs.Room.{Short, TooLarge};
 ghost use Rattle.hir_lower_handlers.specs.Spots.{spot_at};
 ghost use Rattle.hir_lower.specs.Calls.{Calls, Outside};
-ghost use Rattle.hir_lower.specs.Means.{AddsType, BearsNames, NoRoomForType, PathRooted, ReadsBack, Rooted, whole_path};
+ghost use Rattle.hir_lower.specs.Means.{AddsType, BearsNames, MadeOnce, NoRoomForType, PathRooted, ReadsBack, Rooted};
+ghost use Rattle.hir_lower.specs.Means.{whole_path};
 ghost use Rattle.hir_lower.specs.Roots.{becoming, fresh, outside_body, root_of};
 ghost use Rattle.hir_lower.specs.Stays.{Stays};
 
@@ -93,8 +94,10 @@ pub(crate) fn lower_root<E: LowerEnv>(
     ensures rooted { let e = expr_part (spot_at (E.answers env.now) place) (option_copied expr.entry) in
         Paired state.old.stored → IfOk result (λ i. Rooted state.old.stored state.new.stored i e) }
     ensures outside { IfOk result (λ i. Outside state.new) }
+    ensures apart { Paired state.old.stored → MadeApart state.old.names state.old.stored
+        → IfOk result (λ i. MadeApart state.new.names state.new.stored) }
     ensures too_large { let e = expr_part (spot_at (E.answers env.now) place) (option_copied expr.entry) in
-        IsErrOf result StoreFault.Full → TooLarge state.old.stored e }
+        IsErrOf result StoreFault.Full → TooLarge state.old e }
     ensures stays { result ≢ Err StoreFault.Memory → Stays state.old.stored state.new.stored }
 {
     root_steps(alloc, env, place, state, expr)
@@ -114,9 +117,11 @@ fn lower_whole_path<E: LowerEnv>(
     ensures rooted { let p = whole_path (spot_at (E.answers env.now) place) path.now in
         Paired state.old.stored → Outside state.old → IfOk result (λ r. PathRooted state.old.stored state.new.stored r p) }
     ensures outside { Outside state.old → IfOk result (λ r. Outside state.new) }
+    ensures apart { Paired state.old.stored → MadeApart state.old.names state.old.stored
+        → IfOk result (λ r. MadeApart state.new.names state.new.stored) }
     ensures full { IsErrOf result StoreFault.Full → SomeEnd state.new }
     ensures too_large { let p = whole_path (spot_at (E.answers env.now) place) path.now in
-        IsErrOf result StoreFault.Full → Short (whole_size p) state.old.stored }
+        IsErrOf result StoreFault.Full → Short (whole_size p) state.old }
     ensures stays { Paired state.old.stored → result ≢ Err StoreFault.Memory → Stays state.old.stored state.new.stored }
 {
     lower_path(alloc, env, place, state, path)
@@ -135,6 +140,7 @@ fn add_type(
     ensures unchanged { IsErrOf result StoreFault.Full → state.new.stored ≡ state.old.stored }
     ensures scopes { result ≢ Err StoreFault.Memory → state.new.scopes ≡ state.old.scopes }
     ensures outside { Outside state.old → IfOk result (λ i. Outside state.new) }
+    ensures apart { MadeApart state.old.names state.old.stored → IfOk result (λ i. MadeApart state.new.names state.new.stored) }
 {
     state.alloc_type(ty, Some(source))
 }
@@ -151,6 +157,7 @@ pub struct ExprCollector<'db, E: LowerEnv> {
     failed: bool,
     ghost paired: { failed ≡ false → Paired state.stored },
     ghost outside: { failed ≡ false → Outside state },
+    ghost apart: { failed ≡ false → MadeApart state.names state.stored },
 }
 
 impl<'db, E: LowerEnv> Drop for ExprCollector<'db, E> {
@@ -183,6 +190,7 @@ impl<'db, E: LowerEnv> ExprCollector<'db, E> {
     }
 
     /// A collector whose arenas hold as many entries each as the limit says. It takes no memory.
+    #[tactic(auto, using(crate::proofs::MadeNames::fresh_apart))]
     pub fn with_limit(
         alloc: Global,
         db: &'db E,
@@ -218,16 +226,16 @@ impl<'db, E: LowerEnv> ExprCollector<'db, E> {
     /// answerer and every number of turns that a loop may take; what is stored stands for the tree, and faults, blocks and
     /// ways of the source map come behind those of before. Each expression, type and pattern that it reaches came with it, and
     /// is reached in one way only. `Memory` where a growth was refused, `Full` where an arena has no
-    /// room for the tree, or a path in the tree has more `super`s, or a pattern more parts in front of its two dots, than
-    /// 32 bits count, `Failed` after an error, and then nothing changes. All that was stored is stored still, unless memory
-    /// was refused, and a node leads to where it led, or to what came since.
+    /// room for the tree, or a path in the tree has more `super`s, a pattern more parts in front of its two dots, or more
+    /// names are made up, than 32 bits count, `Failed` after an error, and then nothing changes. All that was stored is
+    /// stored still, unless memory was refused, and a node leads to where it led, or to what came since.
     pub fn lower_const_arg(&mut self, arg: &ast::ConstArg) -> Result<ConstRef, LowerError>
         ensures calls { Calls self.old.failed self.old.state result self.new.state self.new.failed }
         ensures rooted { let e = expr_part (spot_at (E.answers self.old.db.now) self.old.place) arg.now in
             IfOk result (λ c. Rooted self.old.state.stored self.new.state.stored c.expr e) }
         ensures full { IsErrOf result LowerError.Full → SomeEnd self.new.state }
         ensures too_large { let e = expr_part (spot_at (E.answers self.old.db.now) self.old.place) arg.now in
-            IsErrOf result LowerError.Full → TooLarge self.old.state.stored e }
+            IsErrOf result LowerError.Full → TooLarge self.old.state e }
         ensures stays { result ≢ Err LowerError.Memory → Stays self.old.state.stored self.new.state.stored }
         ensures db { self.new.db ≡ self.old.db }
         ensures place { self.new.place ≡ self.old.place }
@@ -254,10 +262,10 @@ impl<'db, E: LowerEnv> ExprCollector<'db, E> {
     /// beside them, and begins where they say. Where no use tree stands around it or its trait, no segment of either is missing,
     /// and the trait has no qualified type, its names are those of the written segments that bear one. `Memory` where a
     /// growth was refused, `Full` where an arena has no room for its types, lifetimes and constants and the patterns in
-    /// them, or it has more `super`s, or a pattern in it more parts in front of its two dots, than 32 bits count, `Failed`
-    /// after an error. All that was stored is stored still, unless memory was refused, and nothing comes behind it but the
-    /// path's types, its lifetimes and its constants, each of which is recorded as a root, also where the path is refused,
-    /// with the patterns and bindings in them.
+    /// them, or it has more `super`s, a pattern in it more parts in front of its two dots, or more names are made up, than
+    /// 32 bits count, `Failed` after an error. All that was stored is stored still, unless memory was refused, and nothing
+    /// comes behind it but the path's types, its lifetimes and its constants, each of which is recorded as a root, also where
+    /// the path is refused, with the patterns and bindings in them.
     pub fn lower_path<I: ImplTraitLower>(
         &mut self,
         path: &ast::Path,
@@ -271,7 +279,7 @@ impl<'db, E: LowerEnv> ExprCollector<'db, E> {
             IfOk result (λ r. PathRooted self.old.state.stored self.new.state.stored r (whole_path at path.now)) }
         ensures full { IsErrOf result LowerError.Full → SomeEnd self.new.state }
         ensures too_large { let at = spot_at (E.answers self.old.db.now) (becoming self.old.place (I.mode impl_trait.old)) in
-            IsErrOf result LowerError.Full → Short (whole_size (whole_path at path.now)) self.old.state.stored }
+            IsErrOf result LowerError.Full → Short (whole_size (whole_path at path.now)) self.old.state }
         ensures stays { result ≢ Err LowerError.Memory → Stays self.old.state.stored self.new.state.stored }
         ensures impl_trait { impl_trait.new ≡ impl_trait.old }
         ensures db { self.new.db ≡ self.old.db }
@@ -324,11 +332,13 @@ impl<'db, E: LowerEnv> ExprCollector<'db, E> {
         store
     }
 
-    /// The store and its source map, in which each number is in range, or `Failed` after an error. It takes no memory.
+    /// The store and its source map, in which each number is in range and no name is made up twice, or `Failed` after an error. It
+    /// takes no memory.
     pub fn into_store(self) -> Result<(ExpressionStore, ExpressionStoreSourceMap), LowerError>
         ensures failed { self.entry.failed ≡ true → result ≡ Err LowerError.Failed }
         ensures works { self.entry.failed ≡ false
             → IsOkAnd result (λ r. (r.0 ≡ store_of self.entry.state.stored) × (r.1 ≡ map_of self.entry.state.stored)) }
+        ensures made_once { IfOk result (λ r. MadeOnce r.0) }
         ensures in_range { IfOk result (λ r. InRange r.0 r.1) }
     {
         let ExprCollector {

@@ -36,15 +36,17 @@ pub only_control : (k : AstExprKind) → IsControl (out-ExprKind k)
     → ((b : AstBlockExpr) → k ≡ kind.BlockExpr b → ⊥)
     → ((l : Option AstLabel) (b : Option AstBlockExpr) → k ≡ kind.LoopExpr l b → ⊥)
     → ((l : Option AstLabel) (c : Option AstExpr) (b : Option AstBlockExpr) → k ≡ kind.WhileExpr l c b → ⊥)
+    → ((e : Option AstExpr) → k ≡ kind.TryExpr e → ⊥)
     → ((l : Option AstLifetime) → k ≡ kind.ContinueExpr l → ⊥)
     → ((l : Option AstLifetime) (e : Option AstExpr) → k ≡ kind.BreakExpr l e → ⊥) → ⊥
-only_control k is no_if no_block no_loop no_while no_continue no_break = by (out-ExprKind k) refl is
+only_control k is no_if no_block no_loop no_while no_try no_continue no_break = by (out-ExprKind k) refl is
   where
     by : (l : ExprKindLayer written) → out-ExprKind k ≡ l → IsControl l → ⊥
     by (ExprKind-F.IfExpr c t e) h is = no_if c t e (made k _ h ∙ kind.rolls-IfExpr c t e)
     by (ExprKind-F.BlockExpr b) h is = no_block b (made k _ h ∙ kind.rolls-BlockExpr b)
     by (ExprKind-F.LoopExpr l b) h is = no_loop l b (made k _ h ∙ kind.rolls-LoopExpr l b)
     by (ExprKind-F.WhileExpr l c b) h is = no_while l c b (made k _ h ∙ kind.rolls-WhileExpr l c b)
+    by (ExprKind-F.TryExpr e) h is = no_try e (made k _ h ∙ kind.rolls-TryExpr e)
     by (ExprKind-F.ContinueExpr l) h is = no_continue l (made k _ h ∙ kind.rolls-ContinueExpr l)
     by (ExprKind-F.BreakExpr l e) h is = no_break l e (made k _ h ∙ kind.rolls-BreakExpr l e)
     by _ h is = is

@@ -4,19 +4,22 @@ ghost use Rattle.std.specs.Prelude.{◌≡◌, ◌-◌, [], false, length, slice
 ghost use Rattle.hir_syntax.specs.declared.ast.BlockExpr.{out-BlockExpr};
 ghost use Rattle.hir_syntax.specs.declared.ast.StmtKind.{out-StmtKind};
 ghost use Rattle.hir_store.specs.Range.{HasExpr, HasLabelOption};
-ghost use Rattle.hir_env.specs.Whole.{answered_block, answered_plain, block_head, expr_part, label_part, stmt_level, stmts_part};
+ghost use Rattle.hir_env.specs.Whole.{answered_block, answered_plain, expr_part, label_part, stmt_level, stmts_part};
 ghost use Rattle.hir_lower_form.specs.Lowering.{Lowers};
 ghost use Rattle.hir_lower_form.specs.Lower as spec;
-ghost use Rattle.hir_lower_form.specs.Nests.{Each, KidsBlock, KidsStmt};
-ghost use Rattle.hir_lower_form.specs.Methods.{HasContents, LowersExpr, LowersStmt, LowersStmts, block_steps_at, contents_at, flat};
+ghost use Rattle.hir_lower_form.specs.Nests.{Each, KidsBlock, KidsOwn, KidsStmt};
+ghost use Rattle.hir_lower_form.specs.Methods.{HasContents, HasRole, LowersExpr, LowersStmt, LowersStmts, block_steps_at, contents_at};
+ghost use Rattle.hir_lower_form.specs.Methods.{flat, own_steps_at};
+ghost use Rattle.hir_lower_form.specs.declared.parts.BlockRole.TheVariants as role;
 
 use crate::kept::push_kept_statement;
 use crate::lets::let_stmt;
+use crate::tries::try_form;
 use hir_lower_form::builder::BodyBuilder;
-use hir_lower_form::parts::{LowerParts, Lowerer};
+use hir_lower_form::parts::{BlockRole, LowerParts, Lowerer};
 use hir_store::fault::StoreFault;
 use hir_store::hir::{Expr, Statement};
-use hir_store::ids::{BlockId, ExprId, LabelId};
+use hir_store::ids::{BlockId, ExprId, LabelId, LangItemId};
 use hir_syntax::{Seq, ast};
 
 /// The expression of a last statement that has no semicolon.
@@ -131,7 +134,7 @@ fn contents<P: LowerParts>(
 
 /// A block that is read here, as one that is unsafe or isn't, inside the label of this number.
 #[tactic(auto, unfolding(hir_lower_form::specs::Forms::block_form))]
-pub fn block_node<P: LowerParts>(
+fn plain_node<P: LowerParts>(
     lowerer: &Lowerer<P>,
     state: &mut BodyBuilder,
     is_unsafe: bool,
@@ -141,7 +144,8 @@ pub fn block_node<P: LowerParts>(
 ) -> Result<ExprId, StoreFault>
     requires parts { KidsBlock (P.can lowerer.now.parts) (P.spot lowerer.now.parts).place (out-BlockExpr node.now) }
     requires label { HasLabelOption state.old.stored label }
-    ensures { Lowers HasExpr (block_steps_at (P.spot lowerer.now.parts) is_unsafe label number node.now) state.old result state.new }
+    ensures { let spot = P.spot lowerer.now.parts in
+        Lowers HasExpr (block_steps_at spot (role.Plain is_unsafe label) number node.now) state.old result state.new }
 {
     state.enter_block(number)?;
     let (mut statements, tail) = contents(lowerer, state, node)?;
@@ -156,6 +160,57 @@ pub fn block_node<P: LowerParts>(
     state.alloc_expr(expr, Some(lowerer.pointer(node.id, node.range)))
 }
 
+/// The block of a `try` that is read here. Its tail goes through the item before the block is stored.
+#[tactic(auto, unfolding(hir_lower_form::specs::Made::try_block_form))]
+fn try_node<P: LowerParts>(
+    lowerer: &Lowerer<P>,
+    state: &mut BodyBuilder,
+    item: Option<LangItemId>,
+    typed: bool,
+    number: Option<BlockId>,
+    node: &ast::BlockExpr,
+) -> Result<ExprId, StoreFault>
+    requires { KidsBlock (P.can lowerer.now.parts) (P.spot lowerer.now.parts).place (out-BlockExpr node.now) }
+    ensures { let spot = P.spot lowerer.now.parts in
+        Lowers HasExpr (block_steps_at spot (role.Try item typed) number node.now) state.old result state.new }
+{
+    let at = lowerer.pointer(node.id, node.range);
+    let label = state.open_try(at, typed)?;
+    state.enter_block(number)?;
+    let (mut statements, tail) = contents(lowerer, state, node)?;
+    state.close();
+    let tail = settle(&mut statements, tail);
+    let tail = state.wrapped(lowerer.alloc, at, item, tail)?;
+    let expr = Expr::Block {
+        is_unsafe: false,
+        label: Some(label),
+        id: number,
+        statements,
+        tail: Some(tail),
+    };
+    state.alloc_expr(expr, Some(at))
+}
+
+/// A block that is read here, of this role.
+pub fn block_node<P: LowerParts>(
+    lowerer: &Lowerer<P>,
+    state: &mut BodyBuilder,
+    role: BlockRole,
+    number: Option<BlockId>,
+    node: &ast::BlockExpr,
+) -> Result<ExprId, StoreFault>
+    requires parts { KidsBlock (P.can lowerer.now.parts) (P.spot lowerer.now.parts).place (out-BlockExpr node.now) }
+    requires role { HasRole state.old.stored role }
+    ensures { Lowers HasExpr (block_steps_at (P.spot lowerer.now.parts) role number node.now) state.old result state.new }
+{
+    match role {
+        BlockRole::Plain { is_unsafe, label } => {
+            plain_node(lowerer, state, is_unsafe, label, number, node)
+        }
+        BlockRole::Try { item, typed } => try_node(lowerer, state, item, typed, number, node),
+    }
+}
+
 /// A block with a label, if it has one, and with no modifier.
 #[tactic(auto, unfolding(hir_lower_form::specs::Forms::labelled))]
 fn labelled_block<P: LowerParts>(
@@ -167,36 +222,42 @@ fn labelled_block<P: LowerParts>(
     requires { (P.can lowerer.now.parts).block node.now }
     ensures { let block = answered_plain (P.spot lowerer.now.parts) node.now in
         let label = label_part (P.spot lowerer.now.parts) label.now in
-        Lowers HasExpr (spec.labelled label (λ id. spec.lower_inside false id block)) state.old result state.new }
+        Lowers HasExpr (spec.labelled label (λ id. spec.lower_inside (role.Plain false id) block)) state.old result state.new }
 {
+    let is_unsafe = false;
     let Some(label) = label else {
-        return lowerer.parts.collect_block_inside(state, false, None, node);
+        let label = None;
+        let role = BlockRole::Plain { is_unsafe, label };
+        return lowerer.parts.collect_block_inside(state, role, node);
     };
-    let label = lowerer.open_label(state, label)?;
-    let id = lowerer
-        .parts
-        .collect_block_inside(state, false, Some(label), node)?;
+    let label = Some(lowerer.open_label(state, label)?);
+    let role = BlockRole::Plain { is_unsafe, label };
+    let id = lowerer.parts.collect_block_inside(state, role, node)?;
     state.close();
     Ok(id)
 }
 
 /// A block with its modifier, beside which no label counts, or else with its label.
-#[tactic(auto, unfolding(hir_lower_form::specs::Forms::labelled))]
 fn headed_block<P: LowerParts>(
     lowerer: &Lowerer<P>,
     state: &mut BodyBuilder,
     node: &ast::BlockExpr,
 ) -> Result<ExprId, StoreFault>
-    requires { (P.can lowerer.now.parts).block node.now }
-    ensures { let block = answered_plain (P.spot lowerer.now.parts) node.now in
-        let head = block_head (P.spot lowerer.now.parts) node.now in
-        Lowers HasExpr (spec.labelled head.1 (λ id. spec.lower_inside head.0 id block)) state.old result state.new }
+    requires block { (P.can lowerer.now.parts).block node.now }
+    requires own { KidsOwn (P.can lowerer.now.parts) (P.spot lowerer.now.parts).place (out-BlockExpr node.now) }
+    ensures { let spot = P.spot lowerer.now.parts in
+        Lowers HasExpr (own_steps_at spot (out-BlockExpr node.now).mod_ node.now) state.old result state.new }
 {
     match node.mod_ {
         None => labelled_block(lowerer, state, &node.label, node),
         Some(ast::BlockModifier::Unsafe) => {
-            lowerer.parts.collect_block_inside(state, true, None, node)
+            let role = BlockRole::Plain {
+                is_unsafe: true,
+                label: None,
+            };
+            lowerer.parts.collect_block_inside(state, role, node)
         }
+        Some(ast::BlockModifier::Try) => try_form(lowerer, state, &node.ty, node),
     }
 }
 
@@ -206,7 +267,8 @@ pub(crate) fn block_form<P: LowerParts>(
     state: &mut BodyBuilder,
     node: &ast::BlockExpr,
 ) -> Result<ExprId, StoreFault>
-    requires { (P.can lowerer.now.parts).block node.now }
+    requires block { (P.can lowerer.now.parts).block node.now }
+    requires own { KidsOwn (P.can lowerer.now.parts) (P.spot lowerer.now.parts).place (out-BlockExpr node.now) }
     ensures { LowersExpr (answered_block (P.spot lowerer.now.parts) node.now) state.old result state.new }
 {
     headed_block(lowerer, state, node)

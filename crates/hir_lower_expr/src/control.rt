@@ -2,6 +2,7 @@
 
 ghost use Rattle.hir_syntax.specs.declared.ast.ElseBranch.{out-ElseBranch};
 ghost use Rattle.hir_env.specs.Answered as tree;
+ghost use Rattle.hir_env.specs.Answering.{label_written};
 ghost use Rattle.hir_env.specs.Whole.{answered_else, block_part, else_level, else_part, expr_part, label_part};
 ghost use Rattle.hir_store.specs.Range.{HasExpr};
 ghost use Rattle.hir_lower_form.specs.Lower.{lower_block_part, lower_part};
@@ -95,9 +96,11 @@ pub(crate) fn loop_form<P: LowerParts>(
     body: &Option<Boxed<ast::BlockExpr>>,
 ) -> Result<ExprId, StoreFault>
     requires { IfPresent (P.can lowerer.now.parts).block body.now }
-    ensures { LowersExpr (tree.loop_expr at
-        (label_part (P.spot lowerer.now.parts) label.now)
-        (block_part (P.spot lowerer.now.parts) body.now)) state.old result state.new }
+    ensures { let spot = P.spot lowerer.now.parts in
+        LowersExpr (tree.loop_expr at
+        (label_part spot label.now)
+        (label_written spot.answers spot.place label.now)
+        (block_part spot body.now)) state.old result state.new }
 {
     let source = LoopSource::Loop;
     match label {
@@ -172,10 +175,12 @@ pub(crate) fn while_form<P: LowerParts>(
 ) -> Result<ExprId, StoreFault>
     requires condition { IfPresent (P.can lowerer.now.parts).expr condition.now }
     requires body { IfPresent (P.can lowerer.now.parts).block body.now }
-    ensures { LowersExpr (tree.while_expr at
-        (label_part (P.spot lowerer.now.parts) label.now)
-        (expr_part (P.spot lowerer.now.parts) condition.now)
-        (block_part (P.spot lowerer.now.parts) body.now)) state.old result state.new }
+    ensures { let spot = P.spot lowerer.now.parts in
+        LowersExpr (tree.while_expr at
+        (label_part spot label.now)
+        (label_written spot.answers spot.place label.now)
+        (expr_part spot condition.now)
+        (block_part spot body.now)) state.old result state.new }
 {
     let source = LoopSource::While;
     match label {

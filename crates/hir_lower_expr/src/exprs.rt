@@ -31,6 +31,7 @@ fn expr_form<P: LowerParts>(
         | ast::ExprKind::BlockExpr(_)
         | ast::ExprKind::LoopExpr { .. }
         | ast::ExprKind::WhileExpr { .. }
+        | ast::ExprKind::TryExpr { .. }
         | ast::ExprKind::ContinueExpr { .. }
         | ast::ExprKind::BreakExpr { .. } => control_kind(lowerer, state, at, &node.kind),
         ast::ExprKind::CallExpr { .. }

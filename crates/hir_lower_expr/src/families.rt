@@ -19,6 +19,7 @@ use crate::lets::let_form;
 use crate::lists::{array_form, tuple_form};
 use crate::matches::match_form;
 use crate::operators::{await_form, field_form, index_form, prefix_form, reference_form};
+use crate::questions::question_form;
 use crate::ranges::range_form;
 use crate::records::record_form;
 use crate::typed::{cast_form, offset_of_form, path_form};
@@ -29,7 +30,7 @@ use hir_store::fault::StoreFault;
 use hir_store::ids::ExprId;
 use hir_syntax::ast;
 
-/// Blocks, branches, loops and jumps.
+/// Blocks, branches, `?`, loops and jumps.
 #[tactic(auto, using(crate::proofs::OfFamily::only_control))]
 pub(crate) fn control_kind<P: LowerParts>(
     lowerer: &Lowerer<P>,
@@ -54,6 +55,7 @@ pub(crate) fn control_kind<P: LowerParts>(
             condition,
             body,
         } => while_form(lowerer, state, at, label, condition, body),
+        ast::ExprKind::TryExpr { expr } => question_form(lowerer, state, at, expr),
         ast::ExprKind::ContinueExpr { lifetime } => continue_form(lowerer, state, at, lifetime),
         ast::ExprKind::BreakExpr { lifetime, expr } => break_form(
             lowerer, state, at, lifetime, expr,

@@ -17,6 +17,8 @@ mod lets;
 mod lists;
 mod matches;
 mod operators;
+mod questions;
 mod ranges;
 mod records;
+mod tries;
 mod typed;

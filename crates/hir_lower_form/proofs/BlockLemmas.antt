@@ -1,8 +1,10 @@
 -- A block where only a block may stand has no label of its own.
-use Rattle.std.proofs.Common.{arith, ◌≡◌, refl, subst, sym, suc, ◌-◌, true, false}
+use Rattle.std.proofs.Common.{arith, ◌≡◌, ◌∙◌, ap, refl, subst, sym, suc, ◌-◌, true, false}
 use Rattle.std.proofs.Common.{List, [], ◌∷◌, ◌++◌, length, length-append, Option, Some, None}
 use Rattle.std.specs.Prelude.{slice_get, MatchOption}
-use Rattle.hir_syntax.specs.declared.ast.BlockExpr.{BlockExpr as AstBlockExpr}
+use Rattle.hir_syntax.specs.declared.ast.BlockExpr.{BlockExpr as AstBlockExpr, out-BlockExpr}
+use Rattle.hir_syntax.specs.declared.ast.BlockModifier.{BlockModifier}
+use Rattle.hir_syntax.specs.declared.ast.BlockModifier.TheVariants as modifier
 use Rattle.hir_store.specs.Stored.{Stored}
 use Rattle.hir_store.specs.Past.{past_statement}
 use Rattle.hir_store.specs.Range.{Has, HasStatements, HasExprOption}
@@ -11,15 +13,21 @@ use Rattle.hir_store.specs.declared.hir.Statement.TheVariants as statement
 use Rattle.hir_store.specs.declared.ids.ExprId.{ExprId}
 use Rattle.hir_env.specs.Spot.{Spot}
 use Rattle.hir_env.specs.Answered as tree
-use Rattle.hir_env.specs.Answered.{Block, Expr}
-use Rattle.hir_env.specs.Whole.{answered_block, answered_plain, block_head, block_level}
+use Rattle.hir_env.specs.Answered.{Block, Expr, OptionType}
+use Rattle.hir_env.specs.Answering.{plain_head, unsafe_head}
+use Rattle.hir_env.specs.Whole.{answered_block, answered_plain, block_head, block_level, block_number, expr_part, in_block, own_level}
+use Rattle.hir_env.specs.Whole.{pointer_at, stmts_part, type_part}
 use Rattle.hir_env.proofs.Levels.{block_is_level, plain_is_level}
 use Rattle.hir_lower_form.specs.Forms.{labelled}
-use Rattle.hir_lower_form.specs.Lower.{lower, lower_block, lower_inside, settled, value_of}
+use Rattle.hir_lower_form.specs.Lower.{lower, lower_block, lower_inside, settled, try_form, value_of}
+use Rattle.hir_lower_form.specs.Methods.{own_steps_at}
+use Rattle.hir_lower_form.specs.declared.parts.BlockRole.TheVariants as role
 
-pub plain_inside : (at : Spot) (b : AstBlockExpr) → lower_block (answered_plain at b) ≡ lower_inside false None (answered_plain at b)
+pub plain_inside : (at : Spot) (b : AstBlockExpr)
+    → lower_block (answered_plain at b) ≡ lower_inside (role.Plain false None) (answered_plain at b)
 unfolding labelled
-plain_inside at b = let P : Block → Type 0 = λ x. lower_block x ≡ lower_inside false None x in subst P (sym (plain_is_level at b)) refl
+plain_inside at b =
+    let P : Block → Type 0 = λ x. lower_block x ≡ lower_inside (role.Plain false None) x in subst P (sym (plain_is_level at b)) refl
 
 -- the tail that a block has in the end
 
@@ -115,10 +123,37 @@ settled_in_range s ss new t u e h k = subst (Settled s) e (settled_range s ss t 
 
 -- a block as an expression
 
-pub own_inside : (at : Spot) (b : AstBlockExpr)
-    → lower (answered_block at b) ≡ labelled (block_head at b).1 (λ id. lower_inside (block_head at b).0 id (answered_plain at b))
-own_inside at b =
-    let head = block_head at b in
-    let P : Expr → Type 0 = λ x. lower x ≡ labelled head.1 (λ id. lower_inside head.0 id (answered_plain at b)) in
-    let Q : Block → Type 0 = λ x. lower (tree.block_expr (block_level at head b)) ≡ labelled head.1 (λ id. lower_inside head.0 id x) in
-    subst P (sym (block_is_level at b)) (subst Q (sym (plain_is_level at b)) refl)
+module _ (at : Spot) (b : AstBlockExpr) where
+  abbrev Labelled : Block → Type 0
+  Labelled x = lower (tree.block_expr (block_level at (block_head at b) b))
+      ≡ labelled (block_head at b).label (λ id. lower_inside (role.Plain false id) x)
+
+  abbrev Unsafe : Block → Type 0
+  Unsafe x = lower (tree.block_expr (block_level at unsafe_head b)) ≡ lower_inside (role.Plain true None) x
+
+  abbrev try_of : OptionType → Expr
+  try_of t =
+      let level = out-BlockExpr b in
+      let within = in_block at level.id in
+      tree.try_expr (pointer_at at level.id level.range) at.answers.lang_items.try_trait_from_output t (block_number at level.id)
+      (stmts_part within level.stmts) (expr_part within level.tail)
+
+  abbrev Tried : OptionType → Block → Type 0
+  Tried t x =
+      let level = out-BlockExpr b in
+      let item = at.answers.lang_items.try_trait_from_output in
+      lower (try_of t) ≡ try_form (pointer_at at level.id level.range) t (λ typed. lower_inside (role.Try item typed) x)
+
+  tried_level : (t : OptionType) → Tried t (block_level at plain_head b)
+  tried_level tree.no_type = refl
+  tried_level (tree.some_type t) = refl
+
+  own_level_inside : (m : Option BlockModifier) → lower (own_level at m b) ≡ own_steps_at at m b
+  unfolding labelled
+  own_level_inside None = subst Labelled (sym (plain_is_level at b)) refl
+  own_level_inside (Some modifier.Unsafe) = subst Unsafe (sym (plain_is_level at b)) refl
+  own_level_inside (Some modifier.Try) =
+      let t = type_part at (out-BlockExpr b).ty in subst (Tried t) (sym (plain_is_level at b)) (tried_level t)
+
+  pub own_inside : lower (answered_block at b) ≡ own_steps_at at (out-BlockExpr b).mod_ b
+  own_inside = ap lower (block_is_level at b) ∙ own_level_inside (out-BlockExpr b).mod_

@@ -6,7 +6,7 @@ use Rattle.hir_store.specs.Range.{HasLabel, HasLabelOption}
 use Rattle.hir_env.specs.Answered.{Jump}
 use Rattle.hir_env.specs.Answers.{Answers}
 use Rattle.hir_env.specs.Answering.{jump}
-use Rattle.hir_scope.specs.Ribs.{Rib, label_rib, macro_rib, barrier_rib}
+use Rattle.hir_scope.specs.Ribs.{Rib, label_rib, try_rib, macro_rib, barrier_rib, Try, innermost_try_rib}
 use Rattle.hir_scope.specs.Ribs.{Target, reachable, unreachable, undeclared, target, search, sought_first}
 use Rattle.hir_scope.proofs.Ribs.{InReach, IfFound, target_in_reach}
 use Rattle.hir_store.specs.Pointers.{Pointer}
@@ -15,11 +15,12 @@ use Rattle.hir_store.specs.declared.ids.HygieneId.{HygieneId}
 use Rattle.hir_lower_scope.specs.declared.labels.NoTarget.{NoTarget}
 use Rattle.hir_lower_scope.specs.Labels.{answer}
 use Rattle.hir_lower_form.specs.Builder.{Builder, RibsExist, past_ribs}
-use Rattle.hir_lower_form.specs.Lowering.{Checked, Lowering, Lowers, jump_target, found_or_fault, no_target}
+use Rattle.hir_lower_form.specs.Lowering.{Checked, HasTry, Lowering, Lowers, jump_target, found_or_fault, no_target}
 
 all_exist : (s : Stored) (rs : List (Rib LabelId)) → past_ribs rs ≤ length s.labels.entries → InReach (HasLabel s) rs
 all_exist s [] h = tt
 all_exist s (label_rib name hygiene label ∷ rs) h = (omega arith, all_exist s rs (omega arith))
+all_exist s (try_rib label typed ∷ rs) h = (omega arith, all_exist s rs (omega arith))
 all_exist s (macro_rib d ∷ rs) h = all_exist s rs h
 all_exist s (barrier_rib ∷ rs) h = tt
 
@@ -40,6 +41,15 @@ found_lowers b env source name hygiene n e exist =
     by j (reachable k) h = (refl, h)
     by j unreachable h = tt
     by j undeclared h = tt
+
+-- the innermost `try` exists
+
+pub try_exists : (s : Stored) (rs : List (Rib LabelId)) → past_ribs rs ≤ length s.labels.entries → HasTry s (innermost_try_rib rs)
+try_exists s [] h = omega arith
+try_exists s (label_rib name hygiene label ∷ rs) h = try_exists s rs (omega arith)
+try_exists s (try_rib label typed ∷ rs) h = omega arith
+try_exists s (macro_rib d ∷ rs) h = try_exists s rs h
+try_exists s (barrier_rib ∷ rs) h = omega arith
 
 -- ---- a jump without a target
 

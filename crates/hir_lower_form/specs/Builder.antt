@@ -3,23 +3,26 @@ use Rattle.std.specs.Prelude.{Bool, false, ℕ, suc, ◌≤◌, max, List, [], �
 use Rattle.hir_store.specs.Stored.{Stored}
 use Rattle.hir_store.specs.Storing.{empty}
 use Rattle.hir_store.specs.declared.ids.LabelId.{LabelId}
-use Rattle.hir_scope.specs.Ribs.{Rib, label_rib, macro_rib, barrier_rib}
+use Rattle.hir_scope.specs.Ribs.{Rib, label_rib, try_rib, macro_rib, barrier_rib}
 
--- what is stored, what is open, innermost first, whether a counter came to its end, and whether a root is being lowered
+-- what is stored, what is open, innermost first, how many names were made up, whether a counter came to its end, and whether a root
+-- is being lowered
 pub record Builder : Type 0 where
   pub stored : Stored
   pub scopes : List (Rib LabelId)
+  pub names : ℕ
   pub counted_out : Bool
   pub in_root : Bool
 
--- nothing is stored, no label is open, no counter is at its end and no root is being lowered
+-- nothing is stored, no label is open, no name is made up, no counter is at its end and no root is being lowered
 abbrev pub fresh : ℕ → Builder
-fresh limit = record { stored = empty limit; scopes = []; counted_out = false; in_root = false }
+fresh limit = record { stored = empty limit; scopes = []; names = 0; counted_out = false; in_root = false }
 
 -- the least number above those of the labels
 abbrev pub past_ribs : List (Rib LabelId) → ℕ
 past_ribs [] = 0
 past_ribs (label_rib name hygiene label ∷ rs) = max (suc label.0) (past_ribs rs)
+past_ribs (try_rib label typed ∷ rs) = max (suc label.0) (past_ribs rs)
 past_ribs (macro_rib d ∷ rs) = past_ribs rs
 past_ribs (barrier_rib ∷ rs) = past_ribs rs
 

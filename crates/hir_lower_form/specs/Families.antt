@@ -3,12 +3,13 @@ use Rattle.hir_syntax.specs.declared.ast.ElseBranch.TheOpen.{ExprKind-F}
 use Rattle.hir_env.specs.Layers.{ExprKindLayer}
 use Rattle.hir_env.specs.Whole.{written}
 
--- blocks, branches, loops and jumps
+-- blocks, branches, `?`, loops and jumps
 abbrev pub IsControl : ExprKindLayer written → Type 0
 IsControl (ExprKind-F.IfExpr c t e) = Unit {0}
 IsControl (ExprKind-F.BlockExpr b) = Unit {0}
 IsControl (ExprKind-F.LoopExpr l b) = Unit {0}
 IsControl (ExprKind-F.WhileExpr l c b) = Unit {0}
+IsControl (ExprKind-F.TryExpr e) = Unit {0}
 IsControl (ExprKind-F.ContinueExpr l) = Unit {0}
 IsControl (ExprKind-F.BreakExpr l e) = Unit {0}
 IsControl _ = ⊥

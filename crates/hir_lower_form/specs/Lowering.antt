@@ -1,8 +1,9 @@
 -- The steps of lowering: each answers a value, or is refused because an arena is full, and leaves what is stored by then.
-use Rattle.std.specs.Prelude.{◌≡◌, ◌≢◌, ◌⊎◌, Bool, true, false, [], ◌∷◌, Option, Some, None, Ok, Err}
+use Rattle.std.specs.Prelude.{◌≡◌, ◌≢◌, ◌⊎◌, ◌^◌, ℕ, suc, nat_lt, if◌then◌else◌}
+use Rattle.std.specs.Prelude.{Bool, true, false, [], ◌∷◌, Option, Some, None, option_map, Ok, Err}
 use Rattle.hir_store.specs.Pointers.{Pointer}
 use Rattle.hir_store.specs.Stored.{Stored}
-use Rattle.hir_store.specs.Range.{Grows}
+use Rattle.hir_store.specs.Range.{Grows, HasLabelOption}
 use Rattle.hir_store.specs.Storing as storing
 use Rattle.hir_store.specs.Storing.{Storing, SomeAtLimit}
 pub use Rattle.hir_store.specs.Storing.{Checked}
@@ -10,6 +11,7 @@ use Rattle.hir_store.specs.declared.fault.StoreFault.TheVariants.{Memory, Full}
 use Rattle.hir_binding.specs.declared.binding.BindingProblems.{BindingProblems}
 use Rattle.hir_store.specs.declared.hir.Expr.{Expr}
 use Rattle.hir_store.specs.declared.name.Name.{Name}
+use Rattle.hir_store.specs.declared.name.Name.TheVariants.{Generated}
 use Rattle.hir_store.specs.declared.pat.Binding.{Binding}
 use Rattle.hir_store.specs.declared.pat.Pat.{Pat}
 use Rattle.hir_store.specs.declared.type_ref.TypeRef.{TypeRef}
@@ -25,7 +27,8 @@ use Rattle.hir_store.specs.declared.diagnostics.ExpressionStoreDiagnostics.{Expr
 use Rattle.hir_store.specs.declared.diagnostics.ExpressionStoreDiagnostics.TheVariants.{AwaitOutsideOfAsync}
 use Rattle.hir_store.specs.declared.diagnostics.ExpressionStoreDiagnostics.TheVariants.{UndeclaredLabel, UnreachableLabel}
 use Rattle.hir_store.specs.declared.diagnostics.AwaitLocation.{AwaitLocation}
-use Rattle.hir_scope.specs.Ribs.{label_rib, barrier_rib, Target, reachable, unreachable, undeclared, target}
+use Rattle.hir_scope.specs.Ribs.{label_rib, try_rib, barrier_rib, Target, reachable, unreachable, undeclared, target}
+use Rattle.hir_scope.specs.Ribs.{Try, innermost_try_rib}
 use Rattle.hir_lower_scope.specs.declared.labels.NoTarget.{NoTarget}
 use Rattle.hir_lower_scope.specs.declared.labels.NoTarget.TheVariants as no
 use Rattle.hir_lower_scope.specs.Labels.{rest}
@@ -56,6 +59,10 @@ stored p = λ b. ((p b.stored).0, record b { stored = (p b.stored).1 })
 
 unfoldable pub alloc_expr : Expr → Option Pointer → Lowering ExprId
 alloc_expr e source = stored (storing.alloc_expr e source)
+
+-- of a node that lowering makes up: the node that it came from doesn't lead to it
+unfoldable pub alloc_made : Expr → Option Pointer → Lowering ExprId
+alloc_made e source = stored (storing.alloc_made e source)
 
 unfoldable pub alloc_pat : Pat → Option Pointer → Lowering PatId
 alloc_pat p source = stored (storing.alloc_pat p source)
@@ -121,6 +128,10 @@ leave_root false id = do
 unfoldable pub count_out : {A : Type 0} → Lowering A
 count_out = λ b. (Err Full, record b { counted_out = true })
 
+-- the number of a name that was not made up before; how many there are is a number itself, which has an end
+unfoldable pub made_number : Lowering ℕ
+made_number = λ b. if nat_lt (suc b.names) (2 ^ 32) then (Ok b.names, record b { names = suc b.names }) else count_out b
+
 abbrev pub open_as : Label → LabelId → Lowering (Unit {0})
 open_as l id = λ b. (Ok tt, record b { scopes = label_rib l.name l.hygiene id ∷ b.scopes })
 
@@ -130,6 +141,26 @@ open_label l = do
   id ← stored (storing.alloc_label (record { name = l.name }) (Some l.pointer))
   open_as l id
   pure id
+
+abbrev pub open_try_as : LabelId → Bool → Lowering (Unit {0})
+open_try_as id typed = λ b. (Ok tt, record b { scopes = try_rib id typed ∷ b.scopes })
+
+-- stores a label of the made name of this number, and opens the `try` as its
+abbrev pub open_try_named : Pointer → Bool → ℕ → Lowering LabelId
+open_try_named at typed n = do
+  id ← stored (storing.alloc_label (record { name = Generated n }) (Some at))
+  open_try_as id typed
+  pure id
+
+-- stores a label of a made name for a `try`, whose type is written or isn't, and opens the `try`
+unfoldable pub open_try : Pointer → Bool → Lowering LabelId
+open_try at typed = do
+  n ← made_number
+  open_try_named at typed n
+
+-- the innermost `try`, for which a residual is
+unfoldable pub try_target : Lowering (Option (Try LabelId))
+try_target = λ b. (Ok (innermost_try_rib b.scopes), b)
 
 -- no jump behind it reaches what is open
 unfoldable pub open_barrier : Lowering (Unit {0})
@@ -168,9 +199,15 @@ jump_target (Some j) = λ b. found_or_fault j (target j b.scopes) b
 abbrev pub SomeEnd : Builder → Type 0
 SomeEnd b = SomeAtLimit b.stored ⊎ (b.counted_out ≡ true)
 
--- an answer that is no number
+-- an answer that is no number of an entry
 abbrev pub HasFlag : Stored → Bool → Type 0
 HasFlag s b = Unit {0}
+
+abbrev pub HasNumber : Stored → ℕ → Type 0
+HasNumber s n = Unit {0}
+
+abbrev pub HasTry : Stored → Option (Try LabelId) → Type 0
+HasTry s t = HasLabelOption s (option_map (λ it. it.place) t)
 
 -- What the steps answer and leave, unless memory was refused. What is answered exists, and no arena is shorter than it
 -- was; where there is no room some end is reached.

@@ -1,9 +1,11 @@
 -- What each kind of method does: the steps of one part, and what it answers.
-use Rattle.std.specs.Prelude.{◌≤◌, length, Bool, List, [], Option, Some, None}
+use Rattle.std.specs.Prelude.{◌≤◌, length, Bool, true, false, List, [], Option, Some, None}
 use Rattle.hir_syntax.specs.declared.ast.BlockExpr.{BlockExpr as AstBlockExpr, out-BlockExpr}
+use Rattle.hir_syntax.specs.declared.ast.BlockModifier.{BlockModifier}
+use Rattle.hir_syntax.specs.declared.ast.BlockModifier.TheVariants as modifier
 use Rattle.hir_syntax.specs.declared.ast.Expr.{Expr as AstExpr}
 use Rattle.hir_store.specs.Stored.{Stored}
-use Rattle.hir_store.specs.Range.{HasExpr, HasExprOption, HasExprs, HasStatements, HasStatementOption}
+use Rattle.hir_store.specs.Range.{HasExpr, HasExprOption, HasExprs, HasLabelOption, HasStatements, HasStatementOption}
 use Rattle.hir_store.specs.Range.{HasFields, HasSpread, past_field, HasPat}
 use Rattle.hir_store.specs.Arenas.{past_option}
 use Rattle.hir_store.specs.declared.hir.RecordLitField.{RecordLitField}
@@ -19,7 +21,6 @@ use Rattle.hir_store.specs.declared.hir.MatchArm.{MatchArm}
 use Rattle.hir_store.specs.declared.hir.Statement.{Statement}
 use Rattle.hir_store.specs.declared.ids.ExprId.{ExprId}
 use Rattle.hir_store.specs.declared.ids.PatId.{PatId}
-use Rattle.hir_store.specs.declared.ids.LabelId.{LabelId}
 use Rattle.hir_store.specs.declared.ids.BlockId.{BlockId}
 use Rattle.hir_syntax.specs.declared.ast.ExprKind.{ExprKind as AstExprKind, out-ExprKind}
 use Rattle.hir_store.specs.Pointers.{Pointer}
@@ -30,12 +31,14 @@ use Rattle.hir_env.specs.declared.place.Place.{Place}
 use Rattle.hir_env.specs.Answered.{Binder, Type_, OptionType, Parts, Path, OptionPath, Segment, OptionArgs, Bounds, Constant}
 use Rattle.hir_env.specs.Answered.{Expr, OptionExpr, Exprs, Block, OptionBlock, Stmts, Stmt}
 use Rattle.hir_env.specs.Answered.{OptionPat, Side, OptionTypePat, Limit, Target}
-use Rattle.hir_env.specs.Whole.{expr_part, in_constant, reader, stmts_part, pointer_at}
+use Rattle.hir_env.specs.Whole.{answered_plain, expr_part, in_constant, label_part, pointer_at, reader, stmts_part, type_part}
 use Rattle.hir_store.specs.declared.path.Path.{Path as HirPath}
 use Rattle.hir_lower_form.specs.Builder.{Builder}
 use Rattle.hir_lower_form.specs.Walks.{past_walk, past_reading}
 use Rattle.hir_lower_form.specs.Types.{past_lists}
 use Rattle.hir_lower_form.specs.declared.args.ArgLists.{ArgLists}
+use Rattle.hir_lower_form.specs.declared.parts.BlockRole.{BlockRole}
+use Rattle.hir_lower_form.specs.declared.parts.BlockRole.TheVariants as role
 use Rattle.hir_lower_form.specs.declared.walk.PathWalk.{PathWalk}
 use Rattle.hir_lower_form.specs.declared.walk.Reading.{Reading}
 use Rattle.hir_lower_form.specs.Lowering.{Lowering, Checked, Lowers, ◌>>=◌, pure}
@@ -68,9 +71,14 @@ MaybeLowersExprOpt e old result new = Lowers HasExprOption (spec.kept_part e) ol
 abbrev pub LowersEach : Exprs → Builder → Checked (List ExprId) → Builder → Type 0
 LowersEach es old result new = Lowers HasExprs (spec.lower_each [] es) old result new
 
--- as a block that is unsafe or isn't, inside the label of this number
-abbrev pub LowersInside : Bool → Option LabelId → Block → Builder → Checked ExprId → Builder → Type 0
-LowersInside is_unsafe label b old result new = Lowers HasExpr (spec.lower_inside is_unsafe label b) old result new
+-- the label that it names exists
+abbrev pub HasRole : Stored → BlockRole → Type 0
+HasRole s (role.Plain is_unsafe label) = HasLabelOption s label
+HasRole s (role.Try item typed) = Unit {0}
+
+-- as a block of this role
+abbrev pub LowersInside : BlockRole → Block → Builder → Checked ExprId → Builder → Type 0
+LowersInside r b old result new = Lowers HasExpr (spec.lower_inside r b) old result new
 
 abbrev pub LowersBlock : Block → Builder → Checked ExprId → Builder → Type 0
 LowersBlock b old result new = Lowers HasExpr (spec.lower_block b) old result new
@@ -82,6 +90,9 @@ LowersBlockOpt b old result new = Lowers HasExpr (spec.lower_block_part b) old r
 -- none where it is absent
 abbrev pub LowersBlockIfPresent : OptionBlock → Builder → Checked (Option ExprId) → Builder → Type 0
 LowersBlockIfPresent b old result new = Lowers HasExprOption (spec.present_block b) old result new
+
+abbrev pub HasArm : Stored → MatchArm → Type 0
+HasArm s a = Has s (past_arm a)
 
 abbrev pub HasArmOption : Stored → Option MatchArm → Type 0
 HasArmOption s a = Has s (past_present past_arm a)
@@ -209,7 +220,21 @@ HasContents s c = HasStatements s c.0 × HasExprOption s c.1
 abbrev pub contents_at : Spot → AstBlockExpr → Lowering StoredContents
 contents_at at b = let node = out-BlockExpr b in spec.lower_stmts [] (stmts_part at node.stmts) (spec.kept_part (expr_part at node.tail))
 
--- the block with these contents
-abbrev pub block_steps_at : Spot → Bool → Option LabelId → Option BlockId → AstBlockExpr → ExprSteps
-block_steps_at at is_unsafe label number b =
-    let node = out-BlockExpr b in spec.block_form (pointer_at at node.id node.range) is_unsafe label number (contents_at at b)
+-- the block with these contents, of this role
+abbrev pub block_steps_at : Spot → BlockRole → Option BlockId → AstBlockExpr → ExprSteps
+block_steps_at at r number b =
+    let node = out-BlockExpr b in spec.as_role r (pointer_at at node.id node.range) number (contents_at at b)
+
+-- a `try` that is written here, with this type
+abbrev pub try_steps_at : Spot → OptionType → AstBlockExpr → ExprSteps
+try_steps_at at t b =
+    let node = out-BlockExpr b in
+    let item = at.answers.lang_items.try_trait_from_output in
+    spec.try_form (pointer_at at node.id node.range) t (λ typed. spec.lower_inside (role.Try item typed) (answered_plain at b))
+
+-- a block as an expression, by its modifier, where only without one its label counts
+abbrev pub own_steps_at : Spot → Option BlockModifier → AstBlockExpr → ExprSteps
+own_steps_at at None b =
+    spec.labelled (label_part at (out-BlockExpr b).label) (λ id. spec.lower_inside (role.Plain false id) (answered_plain at b))
+own_steps_at at (Some modifier.Unsafe) b = spec.lower_inside (role.Plain true None) (answered_plain at b)
+own_steps_at at (Some modifier.Try) b = try_steps_at at (type_part at (out-BlockExpr b).ty) b

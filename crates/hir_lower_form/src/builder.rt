@@ -7,14 +7,15 @@ ghost use Rattle.hir_store.specs.declared.fault.StoreFault.TheVariants.{Full};
 ghost use Rattle.hir_env.specs.Answering.{jump};
 ghost use Rattle.hir_lower_form.specs.Builder.{fresh};
 ghost use Rattle.hir_lower_form.specs.Lowering as spec;
-ghost use Rattle.hir_lower_form.specs.Lowering.{HasFlag, Lowers};
+ghost use Rattle.hir_lower_scope.specs.Found.{try_of};
+ghost use Rattle.hir_lower_form.specs.Lowering.{HasFlag, HasNumber, HasTry, Lowers};
 ghost use Rattle.hir_lower_form.specs.Lower.{missing};
 ghost use Rattle.hir_lower_form.specs.Pats.{missing_pat};
 ghost use Rattle.hir_lower_form.specs.Types.{error_type, unit_type};
 
 use crate::parts::LowerParts;
 use hir_base::node::{AstPtr, InFile};
-use hir_lower_scope::labels::{LabelScopes, NoTarget};
+use hir_lower_scope::labels::{LabelScopes, NoTarget, TryLabel};
 use hir_store::builder::ExpressionStoreBuilder;
 use hir_store::diagnostics::{AwaitLocation, ExpressionStoreDiagnostics};
 use hir_store::fault::StoreFault;
@@ -35,6 +36,8 @@ use std::marker::Model;
 pub struct BodyBuilder {
     store: ExpressionStoreBuilder,
     scopes: LabelScopes,
+    /// How many names were made up.
+    names: u32,
     counted_out: bool,
     in_root: bool,
 }
@@ -44,6 +47,7 @@ impl Drop for BodyBuilder {
         let BodyBuilder {
             store: _,
             scopes: _,
+            names: _,
             counted_out: _,
             in_root: _,
         } = self;
@@ -59,10 +63,21 @@ impl Model for BodyBuilder {
 
     ghost coded = { Prim.hlevel (codes, generic_args.the_row.coded) };
 
-    ghost view = { λ b. record { stored = b.store; scopes = b.scopes; counted_out = b.counted_out; in_root = b.in_root } };
+    ghost view = { λ b. record {
+      stored = b.store;
+      scopes = b.scopes;
+      names = b.names;
+      counted_out = b.counted_out;
+      in_root = b.in_root;
+    } };
 
-    ghost invariant = { λ b.
-        RibsExist (record { stored = b.store; scopes = b.scopes; counted_out = b.counted_out; in_root = b.in_root }) };
+    ghost invariant = { λ b. RibsExist (record {
+      stored = b.store;
+      scopes = b.scopes;
+      names = b.names;
+      counted_out = b.counted_out;
+      in_root = b.in_root;
+    }) };
 }
 
 /// What is wrong with a jump of this name, at this node, that has no target.
@@ -83,6 +98,7 @@ impl BodyBuilder {
         BodyBuilder {
             store: ExpressionStoreBuilder::new(alloc, limit),
             scopes: LabelScopes::new(alloc),
+            names: 0,
             counted_out: false,
             in_root: false,
         }
@@ -99,6 +115,19 @@ impl BodyBuilder {
         ensures { Lowers HasExpr (spec.alloc_expr expr source) self.old result self.new }
     {
         self.store.alloc_expr(expr, source)
+    }
+
+    /// Stores an expression that lowering makes up, with the node that it came from, which doesn't lead to it.
+    #[tactic(auto, unfolding(crate::specs::Lowering::alloc_made))]
+    pub fn alloc_made(
+        &mut self,
+        expr: Expr,
+        source: Option<InFile<AstPtr>>,
+    ) -> Result<ExprId, StoreFault>
+        requires { HasParts self.old.stored expr }
+        ensures { Lowers HasExpr (spec.alloc_made expr source) self.old result self.new }
+    {
+        self.store.alloc_made(expr, source)
     }
 
     /// Stores a pattern, to which its node, where it came from one, leads from now on.
@@ -318,6 +347,21 @@ impl BodyBuilder {
         StoreFault::Full
     }
 
+    /// The number of a name that was not made up before.
+    #[tactic(auto, unfolding(crate::specs::Lowering::made_number, crate::specs::Lowering::count_out))]
+    pub fn made_number(&mut self) -> Result<u32, StoreFault>
+        ensures { Lowers HasNumber spec.made_number self.old result self.new }
+    {
+        let number = self.names;
+        match number.checked_add(1) {
+            Some(next) => {
+                self.names = next;
+                Ok(number)
+            }
+            None => Err(self.count_out()),
+        }
+    }
+
     /// Stores a label and opens it inside all that are open.
     #[tactic(auto, unfolding(crate::specs::Lowering::open_label))]
     pub fn open_label(
@@ -333,6 +377,38 @@ impl BodyBuilder {
         let label = self.store.alloc_label(Label { name }, Some(source))?;
         self.scopes.enter_label(copy, hygiene, label)?;
         Ok(label)
+    }
+
+    /// Stores a label of the made name of this number for a `try`, and opens that inside all that are open.
+    fn open_try_named(
+        &mut self,
+        number: u32,
+        at: InFile<AstPtr>,
+        typed: bool,
+    ) -> Result<LabelId, StoreFault>
+        ensures { Lowers HasLabel (spec.open_try_named at typed number) self.old result self.new }
+    {
+        let name = Name::Generated(number);
+        let label = self.store.alloc_label(Label { name }, Some(at))?;
+        self.scopes.enter_try(label, typed)?;
+        Ok(label)
+    }
+
+    /// Opens a `try`, whose type is written or isn't, with a label of a name that lowering makes up.
+    #[tactic(auto, unfolding(crate::specs::Lowering::open_try))]
+    pub fn open_try(&mut self, at: InFile<AstPtr>, typed: bool) -> Result<LabelId, StoreFault>
+        ensures { Lowers HasLabel (spec.open_try at typed) self.old result self.new }
+    {
+        let number = self.made_number()?;
+        self.open_try_named(number, at, typed)
+    }
+
+    /// The innermost `try`, which exists.
+    #[tactic(auto, using(crate::proofs::Ribs::try_exists), unfolding(crate::specs::Lowering::try_target))]
+    pub fn try_target(&self) -> Option<TryLabel>
+        ensures { Lowers HasTry spec.try_target self.now (Ok (try_of result)) self.now }
+    {
+        self.scopes.find_try()
     }
 
     /// Opens the border of a constant: until it is closed no jump reaches what is open around it.
@@ -404,6 +480,7 @@ impl BodyBuilder {
         let BodyBuilder {
             store,
             scopes: _,
+            names: _,
             counted_out: _,
             in_root: _,
         } = self;

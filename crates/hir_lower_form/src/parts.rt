@@ -2,7 +2,6 @@
 //! itself.
 
 ghost use Rattle.std.specs.Prelude.{◌≡◌};
-ghost use Rattle.hir_store.specs.Range.{HasLabelOption};
 ghost use Rattle.hir_env.specs.Answered as tree;
 ghost use Rattle.hir_env.specs.Spot.{Spot, in_file, ptr, site_of};
 ghost use Rattle.hir_env.specs.Whole.{answered, answered_arg_list, answered_path, answered_plain, answered_type};
@@ -10,8 +9,8 @@ ghost use Rattle.hir_env.specs.Whole.{block_part, expr_part, pointer_at};
 ghost use Rattle.hir_scope.specs.Ribs.{search, sought_first};
 ghost use Rattle.hir_lower_scope.specs.Labels.{answer};
 ghost use Rattle.hir_lower_form.specs.Nests.{Claims, IfPresent, PatsNest, TargetsArePlaces, TargetsNest};
-ghost use Rattle.hir_lower_form.specs.Methods.{LowersBlock, LowersBlockOpt, LowersExpr, LowersExprOpt, LowersIfPresent, LowersInside};
-ghost use Rattle.hir_lower_form.specs.Methods.{MaybeLowersExpr, MaybeLowersExprOpt};
+ghost use Rattle.hir_lower_form.specs.Methods.{HasRole, LowersBlock, LowersBlockOpt, LowersExpr, LowersExprOpt, LowersIfPresent};
+ghost use Rattle.hir_lower_form.specs.Methods.{LowersInside, MaybeLowersExpr, MaybeLowersExprOpt};
 ghost use Rattle.hir_lower_form.specs.Methods.{HasWalk, LowersArgs, LowersConstant, LowersType, ReadsPath, at_place, constant_at};
 
 use crate::builder::BodyBuilder;
@@ -22,12 +21,27 @@ use hir_env::place::Place;
 use hir_env::resolved::{Resolved, Shadow};
 use hir_lower_scope::labels::{LabelScopes, NoTarget};
 use hir_store::fault::StoreFault;
-use hir_store::ids::{CfgId, CrateId, ExprId, HygieneId, LabelId, TypeRefId};
+use hir_store::ids::{CfgId, CrateId, ExprId, HygieneId, LabelId, LangItemId, TypeRefId};
 use hir_store::name::Name;
 use hir_store::path::{GenericArgs, ModPath};
 use hir_store::type_ref::ConstRef;
 use hir_syntax::{Boxed, Seq, ast};
 use std::alloc::Global;
+
+/// What a block is lowered as. It has no label of its own any more: that is open already, but for the one that a `try` gets.
+#[derive(Clone, Copy)]
+pub enum BlockRole {
+    /// A block that is unsafe or isn't, inside the label of this number.
+    Plain {
+        is_unsafe: bool,
+        label: Option<LabelId>,
+    },
+    /// The block of a `try`, whose value goes through the item, and whose type is written or isn't.
+    Try {
+        item: Option<LangItemId>,
+        typed: bool,
+    },
+}
 
 /// What lowers the parts of a form at one place, and answers its questions there.
 pub trait LowerParts {
@@ -85,17 +99,16 @@ pub trait LowerParts {
         requires { (can self.now).expr node.now }
         ensures { MaybeLowersExpr (answered (spot self.now) node.now) state.old result state.new };
 
-    /// The block, as one that is unsafe or isn't, inside the label of this number.
+    /// The block, as one of this role.
     fn collect_block_inside(
         &self,
         state: &mut BodyBuilder,
-        is_unsafe: bool,
-        label: Option<LabelId>,
+        role: BlockRole,
         node: &ast::BlockExpr,
     ) -> Result<ExprId, StoreFault>
         requires part { (can self.now).block node.now }
-        requires label { HasLabelOption state.old.stored label }
-        ensures { LowersInside is_unsafe label (answered_plain (spot self.now) node.now) state.old result state.new };
+        requires role { HasRole state.old.stored role }
+        ensures { LowersInside role (answered_plain (spot self.now) node.now) state.old result state.new };
 
     /// Goes on with the segments of the path, at this place, and then with those of the use tree around it.
     fn read_path(
@@ -254,7 +267,11 @@ impl<P: LowerParts> Lowerer<P> {
         requires { (P.can self.now.parts).block node.now }
         ensures { LowersBlock (answered_plain (P.spot self.now.parts) node.now) state.old result state.new }
     {
-        self.parts.collect_block_inside(state, false, None, node)
+        let role = BlockRole::Plain {
+            is_unsafe: false,
+            label: None,
+        };
+        self.parts.collect_block_inside(state, role, node)
     }
 
     /// Such a block, missing where it is absent.

@@ -1,5 +1,5 @@
 -- A function value that lowers a given part.
-use Rattle.std.specs.Prelude.{◌≡◌, Bool, Option}
+use Rattle.std.specs.Prelude.{◌≡◌, Option}
 use Rattle.std.specs.declared.alloc.Global.{Global}
 use denote.Ref.{Bor, MutBor}
 use Rattle.hir_syntax.specs.declared.ast.Expr.{Expr as AstExpr}
@@ -8,10 +8,9 @@ use Rattle.hir_syntax.specs.declared.ast.Path.{Path as AstPath}
 use Rattle.hir_syntax.specs.declared.pats.Pat.{Pat as AstPat}
 use Rattle.hir_syntax.specs.declared.types.Type_.{Type_ as AstType_}
 use Rattle.hir_store.specs.Stored.{Stored}
-use Rattle.hir_store.specs.Range.{HasExpr, HasExprOption, HasLabelOption}
+use Rattle.hir_store.specs.Range.{HasExpr, HasExprOption}
 use Rattle.hir_store.specs.declared.path.GenericArgs.{GenericArgs}
 use Rattle.hir_store.specs.declared.ids.ExprId.{ExprId}
-use Rattle.hir_store.specs.declared.ids.LabelId.{LabelId}
 use Rattle.hir_store.specs.declared.ids.TypeRefId.{TypeRefId}
 use Rattle.hir_env.specs.declared.place.Place.{Place}
 use Rattle.hir_env.specs.Answers.{Answers}
@@ -23,12 +22,13 @@ use Rattle.hir_env.specs.Whole.{answered, answered_arg_list, answered_path, answ
 use Rattle.hir_lower_form.specs.Builder.{Builder}
 use Rattle.hir_lower_form.specs.Lowering.{Lowering, Checked, Lowers}
 use Rattle.hir_lower_form.specs.Lower.{lower_kept, lower_inside}
-use Rattle.hir_lower_form.specs.Methods.{HasWalk, LowersArgs, LowersType, ReadsPath}
+use Rattle.hir_lower_form.specs.Methods.{HasRole, HasWalk, LowersArgs, LowersType, ReadsPath}
 use Rattle.hir_lower_form.specs.Nests.{Claims, IfPresent}
 use Rattle.hir_lower_pat.specs.Nested.{InPat, InTarget}
+use Rattle.hir_lower_form.specs.declared.parts.BlockRole.{BlockRole}
 use Rattle.hir_lower_form.specs.declared.walk.PathWalk.{PathWalk}
 use Rattle.hir_lower_form.specs.declared.walk.Reading.{Reading}
-use Rattle.hir_lower_handlers.specs.Spots.{spot_at}
+use Rattle.hir_lower_handlers.specs.Spots.{complete, spot_at}
 
 -- what such a function requires and ensures, over an environment
 abbrev pub Pre : Type 0 → Type 1
@@ -38,10 +38,10 @@ abbrev pub Post : Type 0 → Type 0 → Type 1
 Post E A = Global → Bor E → Place → MutBor Builder → Bor AstExpr → Checked A → MutBor Builder → Type 0
 
 abbrev pub BlockPre : Type 0 → Type 1
-BlockPre E = Global → Bor E → Place → MutBor Builder → Bool → Option LabelId → Bor AstBlockExpr → Type 0
+BlockPre E = Global → Bor E → Place → MutBor Builder → BlockRole → Bor AstBlockExpr → Type 0
 
 abbrev pub BlockPost : Type 0 → Type 1
-BlockPost E = Global → Bor E → Place → MutBor Builder → Bool → Option LabelId → Bor AstBlockExpr → Checked ExprId → MutBor Builder → Type 0
+BlockPost E = Global → Bor E → Place → MutBor Builder → BlockRole → Bor AstBlockExpr → Checked ExprId → MutBor Builder → Type 0
 
 abbrev pub PathPre : Type 0 → Type 1
 PathPre E = Global → Bor E → Place → MutBor Builder → PathWalk → Bor AstPath → Type 0
@@ -71,12 +71,11 @@ pub record Handles {E A : Type 0} (Has : Stored → A → Type 0) (node : Loweri
 
 pub record HandlesBlock {E : Type 0} (answers : E → Answers)
     (pre : BlockPre E) (post : BlockPost E) (env : E) (p : Place) (b : AstBlockExpr) : Type 0 where
-  pub callable : (alloc : Global) (v : Bor E) (old : MutBor Builder) (is_unsafe : Bool) (label : Option LabelId) (n : Bor AstBlockExpr)
-      → v.now ≡ env → n.now ≡ b → HasLabelOption old.now.stored label → pre alloc v p old is_unsafe label n
-  pub lowers : (alloc : Global) (v : Bor E) (old new : MutBor Builder) (is_unsafe : Bool) (label : Option LabelId)
-      (n : Bor AstBlockExpr) (r : Checked ExprId)
-      → v.now ≡ env → n.now ≡ b → post alloc v p old is_unsafe label n r new
-      → Lowers HasExpr (lower_inside is_unsafe label (answered_plain (spot_at (answers env) p) b)) old.now r new.now
+  pub callable : (alloc : Global) (v : Bor E) (old : MutBor Builder) (role : BlockRole) (n : Bor AstBlockExpr)
+      → v.now ≡ env → n.now ≡ b → HasRole old.now.stored role → pre alloc v p old role n
+  pub lowers : (alloc : Global) (v : Bor E) (old new : MutBor Builder) (role : BlockRole) (n : Bor AstBlockExpr)
+      (r : Checked ExprId) → v.now ≡ env → n.now ≡ b → post alloc v p old role n r new
+      → Lowers HasExpr (lower_inside role (answered_plain (spot_at (answers env) p) b)) old.now r new.now
 
 pub record HandlesPath {E : Type 0} (answers : E → Answers)
     (pre : PathPre E) (post : PathPost E) (env : E) (p : Place) (x : AstPath) : Type 0 where
@@ -112,11 +111,11 @@ module _ {E : Type 0} (answers : E → Answers) where
 
 module _ {E : Type 0} (answers : E → Answers) where
   abbrev pub HandlesPat : PathPre E → PathPost E → E → Place → AstPat → Type 0
-  HandlesPat pre post env = InPat (answers env) (HandlesPath answers pre post env)
+  HandlesPat pre post env = InPat (complete (answers env)) (HandlesPath answers pre post env)
 
   abbrev pub HandlesTarget : Pre E → Post E (Option ExprId) → PathPre E → PathPost E → E → Place → AstExpr → Type 0
   HandlesTarget pre post path_pre path_post env =
-      InTarget (answers env) (HandlesExpr answers pre post env) (HandlesPath answers path_pre path_post env)
+      InTarget (complete (answers env)) (HandlesExpr answers pre post env) (HandlesPath answers path_pre path_post env)
 
 -- what may be handed in to functions of which this is so, at a place
 module _ {E : Type 0} (answers : E → Answers) (pre : Pre E) (post : Post E (Option ExprId)) (block_pre : BlockPre E)

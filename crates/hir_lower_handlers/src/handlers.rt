@@ -2,7 +2,7 @@
 
 ghost use Rattle.hir_lower_pat.proofs.Nested.{pat_nests, target_is_place, target_nests};
 ghost use Rattle.hir_lower_handlers.specs.Nests.{Handled, HandlesExpr, HandlesPath};
-ghost use Rattle.hir_lower_handlers.specs.Spots.{spot_at};
+ghost use Rattle.hir_lower_handlers.specs.Spots.{complete, spot_at};
 
 use crate::constant::constant_form;
 use hir_base::node::{InFile, NodeId, PredId};
@@ -11,7 +11,7 @@ use hir_env::lang::LangItems;
 use hir_env::place::Place;
 use hir_env::resolved::{Resolved, Shadow};
 use hir_lower_form::builder::BodyBuilder;
-use hir_lower_form::parts::LowerParts;
+use hir_lower_form::parts::{BlockRole, LowerParts};
 use hir_lower_form::walk::{PathWalk, Reading};
 use hir_lower_scope::labels::{LabelScopes, NoTarget};
 use hir_lower_type::places::inside_constant;
@@ -45,8 +45,7 @@ impl<
         &E,
         Place,
         &mut BodyBuilder,
-        bool,
-        Option<LabelId>,
+        BlockRole,
         &ast::BlockExpr,
     ) -> Result<ExprId, StoreFault>,
     Q: Fn(Global, &E, Place, &mut BodyBuilder, PathWalk, &ast::Path) -> Result<Reading, StoreFault>,
@@ -69,15 +68,17 @@ impl<
     ghost can = { λ it. Handled E.answers (F.pre it.expr) (F.post it.expr) (B.pre it.block) (B.post it.block)
         (Q.pre it.path) (Q.post it.path) (T.pre it.type_ref) (T.post it.type_ref) (G.pre it.args) (G.post it.args) it.env.now it.place };
 
-    ghost pat_kids = { λ it. pat_nests (E.answers it.env.now) (HandlesPath E.answers (Q.pre it.path) (Q.post it.path) it.env.now) };
+    ghost pat_kids = { λ it. pat_nests (complete (E.answers it.env.now))
+        (HandlesPath E.answers (Q.pre it.path) (Q.post it.path) it.env.now) };
 
     ghost target_kids = { λ it. target_nests
         (Handled E.answers (F.pre it.expr) (F.post it.expr) (B.pre it.block) (B.post it.block)
         (Q.pre it.path) (Q.post it.path) (T.pre it.type_ref) (T.post it.type_ref) (G.pre it.args) (G.post it.args) it.env.now it.place)
-        (E.answers it.env.now) (HandlesExpr E.answers (F.pre it.expr) (F.post it.expr) it.env.now)
+        (complete (E.answers it.env.now)) (HandlesExpr E.answers (F.pre it.expr) (F.post it.expr) it.env.now)
         (HandlesPath E.answers (Q.pre it.path) (Q.post it.path) it.env.now) };
 
-    ghost target_place = { λ it. target_is_place (E.answers it.env.now) (HandlesExpr E.answers (F.pre it.expr) (F.post it.expr) it.env.now)
+    ghost target_place = { λ it. target_is_place (complete (E.answers it.env.now))
+        (HandlesExpr E.answers (F.pre it.expr) (F.post it.expr) it.env.now)
         (HandlesPath E.answers (Q.pre it.path) (Q.post it.path) it.env.now) it.place };
 
     ghost spot = { λ it. spot_at (E.answers it.env.now) it.place };
@@ -134,13 +135,10 @@ impl<
     fn collect_block_inside(
         &self,
         state: &mut BodyBuilder,
-        is_unsafe: bool,
-        label: Option<LabelId>,
+        role: BlockRole,
         node: &ast::BlockExpr,
     ) -> Result<ExprId, StoreFault> {
-        (self.block)(
-            self.alloc, self.env, self.place, state, is_unsafe, label, node,
-        )
+        (self.block)(self.alloc, self.env, self.place, state, role, node)
     }
 
     fn read_path(

@@ -232,7 +232,7 @@ module _ (env : Answers) (C : Claims) (n : ℕ) (below : Below env C n) where
   name p (Some m) s h = by (bytes_eq m.t (codes "$crate")) h
     where
       by : (b : Bool) → count_segment (if b then tree.dollar_crate_segment (of.crate_root_at env p m.id) else
-          tree.name_segment (name_of.Text m.t) (tree.segment_args (arg_list_part (spot_at env p) s.generics)
+          tree.name_segment (name_of.Text m.t) tt (tree.segment_args (arg_list_part (spot_at env p) s.generics)
           (parens_part (spot_at env p) s.parens s.ret) s.rtn)) < n
           → Unless b (KidsSegmentArgs C p s)
       by true h = tt

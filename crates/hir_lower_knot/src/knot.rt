@@ -1,12 +1,12 @@
 //! The functions that lower a node call each other through the forms: each hands the others to the forms by name.
 
-ghost use Rattle.hir_store.specs.Range.{HasLabelOption};
 ghost use Rattle.hir_env.specs.Answered.{some_arg_list, some_path};
 ghost use Rattle.hir_binding.specs.declared.binding.BindingAnnotation.TheVariants.{Unannotated};
 ghost use Rattle.hir_env.specs.Answered as tree;
+ghost use Rattle.hir_env.specs.Answering.{name_written};
 ghost use Rattle.hir_env.specs.Whole.{answered, answered_arg_list, answered_path, answered_plain, answered_type, pat_part};
-ghost use Rattle.hir_lower_form.specs.Methods.{HasWalk, LowersArgs, LowersExpr, LowersInside, LowersPath, LowersType};
-ghost use Rattle.hir_lower_form.specs.Methods.{LowersTop, MaybeLowersExpr, ReadsPath};
+ghost use Rattle.hir_lower_form.specs.Methods.{HasRole, HasWalk, LowersArgs, LowersExpr, LowersInside, LowersPath};
+ghost use Rattle.hir_lower_form.specs.Methods.{LowersTop, LowersType, MaybeLowersExpr, ReadsPath};
 ghost use Rattle.hir_lower_pat.specs.Methods.{use_with};
 ghost use Rattle.hir_lower_handlers.specs.Spots.{spot_at};
 
@@ -16,7 +16,7 @@ use hir_env::place::Place;
 use hir_lower_expr::blocks::block_node;
 use hir_lower_expr::exprs::expr_node;
 use hir_lower_form::builder::BodyBuilder;
-use hir_lower_form::parts::Lowerer;
+use hir_lower_form::parts::{BlockRole, Lowerer};
 use hir_lower_form::walk::{PathWalk, Reading, path_read};
 use hir_lower_handlers::handlers::Handlers;
 use hir_lower_handlers::numbers::{block_number, inside, number};
@@ -25,7 +25,7 @@ use hir_lower_path::path::path_node;
 use hir_lower_type::args::args_node;
 use hir_lower_type::types::type_node;
 use hir_store::fault::StoreFault;
-use hir_store::ids::{ExprId, LabelId, PatId, TypeRefId};
+use hir_store::ids::{ExprId, PatId, TypeRefId};
 use hir_store::name::Name;
 use hir_store::path::{GenericArgs, Path};
 use hir_syntax::{Boxed, Seq, ast};
@@ -58,19 +58,18 @@ pub fn maybe_collect_expr<E: LowerEnv>(
     expr_node(&lowerer, state, node)
 }
 
-/// The block, as one that is unsafe or isn't, inside the label of this number.
+/// The block, as one of this role.
 #[cycle(lower)]
 pub fn collect_block_inside<E: LowerEnv>(
     alloc: Global,
     env: &E,
     place: Place,
     state: &mut BodyBuilder,
-    is_unsafe: bool,
-    label: Option<LabelId>,
+    role: BlockRole,
     node: &ast::BlockExpr,
 ) -> Result<ExprId, StoreFault>
-    requires { HasLabelOption state.old.stored label }
-    ensures { LowersInside is_unsafe label (answered_plain (spot_at (E.answers env.now) place) node.now) state.old result state.new }
+    requires { HasRole state.old.stored role }
+    ensures { LowersInside role (answered_plain (spot_at (E.answers env.now) place) node.now) state.old result state.new }
 {
     let found = number(env, place, node.id);
     let inner = inside(place, found);
@@ -88,7 +87,7 @@ pub fn collect_block_inside<E: LowerEnv>(
             args: lower_arg_list::<E>,
         },
     };
-    block_node(&lowerer, state, is_unsafe, label, block, node)
+    block_node(&lowerer, state, role, block, node)
 }
 
 /// Goes on with the segments of the path, and then with those of the use tree around it.
@@ -244,7 +243,7 @@ pub fn bare_name<E: LowerEnv>(
     name: &Option<ast::Name>,
 ) -> Result<PatId, StoreFault>
     ensures { let use_ = use_with (spot_at (E.answers env.now) place) name.now Unannotated in
-        LowersTop (tree.some_pat (tree.bind_pat at use_ tree.no_pat)) state.old result state.new }
+        LowersTop (tree.some_pat (tree.bind_pat at use_ (name_written name.now) tree.no_pat)) state.old result state.new }
 {
     let lowerer = Lowerer {
         alloc,

@@ -3,6 +3,9 @@ use Rattle.std.proofs.Common.{◌≡◌, ◌∙◌, ap, refl, subst, sym, Bool, 
 use Rattle.std.proofs.Common.{◌∷◌, ◌++◌, arith, ◌≤◌}
 use Rattle.std.specs.Prelude.{if◌then◌else◌, is_some, option_map}
 use Rattle.hir_base.specs.declared.op.BinaryOp.TheVariants as op
+use Rattle.hir_syntax.specs.declared.ast.BlockExpr.{BlockExpr as AstBlockExpr, out-BlockExpr}
+use Rattle.hir_syntax.specs.declared.ast.BlockModifier.{BlockModifier}
+use Rattle.hir_syntax.specs.declared.ast.BlockModifier.TheVariants as modifier
 use Rattle.hir_syntax.specs.declared.ast.ElseBranch.TheOpen.{ExprKind-F}
 use Rattle.hir_syntax.specs.declared.ast.Expr.{Expr as AstExpr}
 use Rattle.hir_syntax.specs.declared.ast.ExprKind.{ExprKind as AstExprKind, out-ExprKind, roll-ExprKind, roll-out-ExprKind}
@@ -10,22 +13,24 @@ use Rattle.hir_syntax.specs.declared.ast.ExprKind.TheVariants as kind
 use Rattle.hir_syntax.specs.declared.ast.Path.{Path as AstPath}
 use Rattle.hir_syntax.specs.declared.ast.RecordExprFieldList.{RecordExprFieldList as AstFieldList}
 use Rattle.hir_store.specs.Pointers.{Pointer}
+use Rattle.hir_store.specs.declared.ids.BlockId.{BlockId}
 use Rattle.hir_store.specs.declared.ids.CfgId.{CfgId}
 use Rattle.hir_store.specs.declared.ids.ExprId.{ExprId}
 use Rattle.hir_store.specs.declared.ids.HygieneId.{HygieneId}
+use Rattle.hir_store.specs.declared.ids.LangItemId.{LangItemId}
 use Rattle.hir_store.specs.declared.ids.PatId.{PatId}
 use Rattle.hir_store.specs.declared.pat.Pat.TheVariants as pat
 use Rattle.hir_store.specs.declared.path.Path.{Path as HirPath}
 use Rattle.hir_env.specs.Spot.{Spot, site_of}
 use Rattle.hir_env.specs.Answered as tree
-use Rattle.hir_env.specs.Answered.{Expr, Exprs, OptionPath, Path, Target, Targets}
-use Rattle.hir_env.specs.Answering.{asked, expr_at}
+use Rattle.hir_env.specs.Answered.{Block, Expr, Exprs, OptionExpr, OptionPath, OptionType, Path, QuestionItems, Stmts, Target, Targets}
+use Rattle.hir_env.specs.Answering.{asked, expr_at, question_items, question_of}
 use Rattle.hir_env.specs.Count.{count_expr}
 use Rattle.hir_env.specs.Layers.{ExprKindLayer}
 use Rattle.hir_env.specs.PathNames.{mod_path_of}
 use Rattle.hir_env.specs.Targets.{before_dots, behind_dots, call_or, callee_path, called, dots_pointer, elements, is_dots, names_target}
 use Rattle.hir_env.specs.Targets.{each_target, path_or, place_of, pointer_of, target_of, target_or}
-use Rattle.hir_env.specs.Whole.{answered, kept_expr, path_part, pointer_at, reader, written}
+use Rattle.hir_env.specs.Whole.{answered, kept_expr, own_level, path_part, pointer_at, reader, written}
 use Rattle.hir_env.proofs.Levels.{block_is_level, expr_is_level}
 use Rattle.hir_lower_form.specs.Builder.{Builder}
 use Rattle.hir_lower_form.specs.Forms.{paren_form, path_form, path_or_missing}
@@ -63,8 +68,27 @@ through_asked : {A : Type 0} (f : Expr → A) → ((s : Pointer) (by : CfgId) (e
 through_asked f h s (Ok _) e = refl
 through_asked f h s (Err by) e = h s by e
 
+-- what is so of a `?`, be there its items or not
+of_question : {A : Type 0} (f : Expr → A) (a : A) (s : Pointer) (e : OptionExpr)
+    → ((items : QuestionItems) → f (tree.question_expr s items e) ≡ a) → f (tree.itemless_expr s) ≡ a
+    → (o : Option QuestionItems) → f (question_of o s e) ≡ a
+of_question f a s e h k None = k
+of_question f a s e h k (Some items) = h items
+
+-- what is so of a block as an expression, whatever its modifier
+of_own : {A : Type 0} (f : Expr → A) (a : A) → ((b : Block) → f (tree.block_expr b) ≡ a)
+    → ((s : Pointer) (item : Option LangItemId) (t : OptionType) (number : Option BlockId) (ss : Stmts) (e : OptionExpr)
+    → f (tree.try_expr s item t number ss e) ≡ a)
+    → (at : Spot) (m : Option BlockModifier) (b : AstBlockExpr) → f (own_level at m b) ≡ a
+of_own f a h k at None b = h _
+of_own f a h k at (Some modifier.Unsafe) b = h _
+of_own f a h k at (Some modifier.Try) b = k _ _ _ _ _ _
+
 dots_at : (at : Spot) (k : ExprKindLayer written) (s : Pointer) → is_dots (level at k s) ≡ dots_kind k
-dots_at at (ExprKind-F.BlockExpr b) s = ap is_dots (block_is_level at b)
+dots_at at (ExprKind-F.BlockExpr b) s =
+    ap is_dots (block_is_level at b)
+    ∙ of_own is_dots false (λ x. refl) (λ t item y number ss e. refl) at (out-BlockExpr b).mod_ b
+dots_at at (ExprKind-F.TryExpr e) s = of_question is_dots false s _ (λ items. refl) refl (question_items at.answers.lang_items)
 dots_at at (ExprKind-F.RangeExpr o None None) s = refl
 dots_at at (ExprKind-F.RangeExpr o None (Some e)) s = refl
 dots_at at (ExprKind-F.RangeExpr o (Some e) b) s = refl
@@ -115,7 +139,10 @@ dots_are at e =
 
 callee_at : (at : Spot) (k : ExprKindLayer written) (s : Pointer)
     → callee_path (level at k s) ≡ option_map (path_part at) (path_of_callee k)
-callee_at at (ExprKind-F.BlockExpr b) s = ap callee_path (block_is_level at b)
+callee_at at (ExprKind-F.BlockExpr b) s =
+    ap callee_path (block_is_level at b)
+    ∙ of_own callee_path None (λ x. refl) (λ t item y number ss e. refl) at (out-BlockExpr b).mod_ b
+callee_at at (ExprKind-F.TryExpr e) s = of_question callee_path None s _ (λ items. refl) refl (question_items at.answers.lang_items)
 callee_at at (ExprKind-F.RangeExpr o a b) s = refl
 callee_at at (ExprKind-F.IfExpr c t e) s = refl
 callee_at at (ExprKind-F.LoopExpr l b) s = refl
@@ -168,7 +195,11 @@ abbrev IsPlaced : (Path → Bool) → Expr → Type 0
 IsPlaced f e = target_or f tree.absent_target e ≡ tree.absent_target
 
 other_at : (f : Path → Bool) (at : Spot) (k : ExprKindLayer written) (s : Pointer) → IsPlace k → IsPlaced f (level at k s)
-other_at f at (ExprKind-F.BlockExpr b) s h = subst (IsPlaced f) (sym (block_is_level at b)) refl
+other_at f at (ExprKind-F.BlockExpr b) s h =
+    ap (target_or f tree.absent_target) (block_is_level at b)
+    ∙ of_own (target_or f tree.absent_target) tree.absent_target (λ x. refl) (λ t item y number ss e. refl) at (out-BlockExpr b).mod_ b
+other_at f at (ExprKind-F.TryExpr e) s h =
+    of_question (target_or f tree.absent_target) tree.absent_target s _ (λ items. refl) refl (question_items at.answers.lang_items)
 other_at f at (ExprKind-F.RangeExpr o a b) s h = refl
 other_at f at (ExprKind-F.IfExpr c t e) s h = refl
 other_at f at (ExprKind-F.LoopExpr l b) s h = refl
@@ -299,8 +330,11 @@ module _ (f : Path → Bool) where
   put_is place (tree.disabled_expr at by e) = refl
   put_is place (tree.if_expr at c t e) = refl
   put_is place (tree.block_expr b) = refl
-  put_is place (tree.loop_expr at label b) = refl
-  put_is place (tree.while_expr at label c b) = refl
+  put_is place (tree.loop_expr at label _ b) = refl
+  put_is place (tree.while_expr at label _ c b) = refl
+  put_is place (tree.question_expr at items e) = refl
+  put_is place (tree.itemless_expr at) = refl
+  put_is place (tree.try_expr at item t number ss e) = refl
   put_is place (tree.continue_expr at jump) = refl
   put_is place (tree.break_expr at jump e) = refl
   put_is place (tree.literal_expr at l) = refl

@@ -32,10 +32,10 @@ use Rattle.hir_lower_pat.specs.Aims.{array_made, array_of}
 use Rattle.hir_lower_pat.specs.Aims.{Aims, ArrayParts, HasAim, HasArrayParts, aim_of, aimed, array_read, array_rest, array_steps}
 use Rattle.hir_lower_pat.specs.Aims.{dots_tuple}
 use Rattle.hir_lower_pat.specs.Aims.{element_steps, elements_read, found_at}
-use Rattle.hir_lower_pat.specs.Aims.{is_first, landed, landing, name_written, path_of_callee, path_steps, patterned, placed}
+use Rattle.hir_lower_pat.specs.Aims.{is_first, landed, landing, path_of_callee, path_steps, patterned, placed}
 use Rattle.hir_lower_pat.specs.Aims.{record_with, through_parens}
 use Rattle.hir_lower_pat.specs.declared.aims.Aim.{Aim}
-use Rattle.hir_lower_pat.specs.Methods.{HasElements, HasPatField}
+use Rattle.hir_lower_pat.specs.Methods.{HasElements, HasPatField, field_name}
 use Rattle.hir_lower_pat.proofs.AimLemmas.{array_before, array_behind, array_dots, array_is, callee_is, elements_dots, elements_more, lands}
 use Rattle.hir_lower_pat.proofs.AimLemmas.{paren_aims}
 use Rattle.hir_lower_pat.proofs.AimLemmas.{paren_dots, path_aims}
@@ -189,7 +189,7 @@ module _ (f : Path → Bool) where
   partless s (Some m) = refl
 
   with_part : (s : Pointer) (n : Option AstName) (e : Expr)
-      → target_field_of f (field_of s n (tree.some_expr e)) ≡ tree.target_field s (name_written n) (target_of f (tree.some_expr e))
+      → target_field_of f (field_of s n (tree.some_expr e)) ≡ tree.target_field s (field_name n) (target_of f (tree.some_expr e))
   with_part s None e = refl
   with_part s (Some m) e = refl
 
@@ -230,14 +230,14 @@ module _ (spot : Spot) (at : Pointer) where
 
   pub part_lowers : (n : Option AstName) (part : Option AstExpr) (e x : AstExpr) (old : Builder) (r : Checked (Option RecordFieldPat))
       (new : Builder) → part ≡ Some e → x ≡ e
-      → Lowers HasPatField (lower_target_field (tree.target_field at (name_written n) (target_part spot (Some x)))) old r new
+      → Lowers HasPatField (lower_target_field (tree.target_field at (field_name n) (target_part spot (Some x)))) old r new
       → Lowers HasPatField (lower_target_field (target_field_of (found_at spot) (field_of at n (expr_part spot part)))) old r new
   part_lowers n part e x old r new is same h =
       let t : target_field_of (found_at spot) (field_of at n (expr_part spot part))
-      ≡ tree.target_field at (name_written n) (target_part spot (Some x)) =
+      ≡ tree.target_field at (field_name n) (target_part spot (Some x)) =
       ap (λ o. target_field_of (found_at spot) (field_of at n (expr_part spot o))) is
       ∙ (with_part (found_at spot) at n (answered spot e)
-      ∙ ap (λ y. tree.target_field at (name_written n) (target_part spot (Some y))) (sym same)) in
+      ∙ ap (λ y. tree.target_field at (field_name n) (target_part spot (Some y))) (sym same)) in
       subst (λ y. Lowers HasPatField (lower_target_field y) old r new) (sym t) h
 
   -- ---- calls

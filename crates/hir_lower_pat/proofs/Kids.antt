@@ -7,10 +7,12 @@ use Rattle.hir_syntax.specs.declared.ast.Name.{Name as AstName}
 use Rattle.hir_syntax.specs.declared.ast.Path.{Path as AstPath}
 use Rattle.hir_syntax.specs.declared.pats.Pat.{Pat as AstPat}
 use Rattle.hir_syntax.specs.declared.pats.RecordPatField.{RecordPatField as AstPatField, out-RecordPatField}
+use Rattle.hir_store.specs.Names.{IsWritten}
 use Rattle.hir_store.specs.Pointers.{Pointer}
 use Rattle.hir_store.specs.declared.ids.CfgId.{CfgId}
 use Rattle.hir_env.specs.Spot.{Spot, site_of}
 use Rattle.hir_env.specs.Answered.{PatField, Use}
+use Rattle.hir_env.specs.Answering.{name_written}
 use Rattle.hir_env.specs.Count.{count_option_pat, count_pat, count_pat_field, count_pat_fields, count_pats}
 use Rattle.hir_env.specs.PatLayers.{PatKindLayer}
 use Rattle.hir_env.specs.Pats.{asked_pat_field, name_or_bind, pat_at, pat_field_of, use_at}
@@ -56,14 +58,14 @@ module _ (at : Spot) (pattern inside : AstPat → Type 0) (path : AstPath → Ty
   fields (f ∷ fs) c h = (field f c.0 (omega (arith, h)), fields fs c.1 (omega (arith, h)))
 
   -- a name with something behind `@` binds
-  ident : (s : Pointer) (u : Use) (found : Bool) (o : Option AstPat) → IfPresent pattern o
-      → count_pat (name_or_bind (is_plain u (pat_part at o) && found) s u (pat_part at o)) ≤ n → IfPresent inside o
-  ident s u found None c h = tt
-  ident s u found (Some x) c h = below x c (omega (arith, h))
+  ident : (s : Pointer) (u : Use) (w : IsWritten u.name) (found : Bool) (o : Option AstPat) → IfPresent pattern o
+      → count_pat (name_or_bind (is_plain u (pat_part at o) && found) s u w (pat_part at o)) ≤ n → IfPresent inside o
+  ident s u w found None c h = tt
+  ident s u w found (Some x) c h = below x c (omega (arith, h))
 
   pub kids : (s : Pointer) (k : PatKindLayer written) → KidsOfPat pattern path k
       → count_pat (pat_at at.answers (reader at.answers) k at.place s) ≤ n → KidsOfPat inside path k
-  kids s (PatKind-F.IdentPat m is_ref is_mut x) c h = ident s (use_at at.answers at.place m is_ref is_mut) _ x c h
+  kids s (PatKind-F.IdentPat m is_ref is_mut x) c h = ident s (use_at at.answers at.place m is_ref is_mut) (name_written m) _ x c h
   kids s (PatKind-F.TupleStructPat x comma ps) c h = (c.0, each ps c.1 (omega (arith, h)))
   kids s (PatKind-F.TuplePat comma ps) c h = each ps c (omega (arith, h))
   kids s (PatKind-F.RefPat is_mut x) c h = part x c (omega (arith, h))

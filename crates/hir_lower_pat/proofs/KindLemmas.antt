@@ -10,6 +10,7 @@ use Rattle.hir_syntax.specs.declared.pats.PatKind.{PatKind as AstPatKind, out-Pa
 use Rattle.hir_syntax.specs.declared.pats.PatKind.TheVariants as kind
 use Rattle.hir_syntax.specs.declared.pats.PatLiteral.{PatLiteral}
 use Rattle.hir_base.specs.declared.op.RangeOp.{RangeOp}
+use Rattle.hir_store.specs.Names.{IsWritten}
 use Rattle.hir_store.specs.Pointers.{Pointer}
 use Rattle.hir_env.specs.Spot.{Spot}
 use Rattle.hir_env.specs.Answered as tree
@@ -39,12 +40,12 @@ of_either f false p q a h k = k
 
 -- ---- two dots
 
-name_is_no_dots : (b : Bool) (s : Pointer) (u : Use) (q : OptionPat) → is_dots (name_or_bind b s u q) ≡ false
-name_is_no_dots true s u q = refl
-name_is_no_dots false s u q = refl
+name_is_no_dots : (b : Bool) (s : Pointer) (u : Use) (w : IsWritten u.name) (q : OptionPat) → is_dots (name_or_bind b s u w q) ≡ false
+name_is_no_dots true s u w q = refl
+name_is_no_dots false s u w q = refl
 
 dots_at : (at : Spot) (k : PatKindLayer written) (s : Pointer) → is_dots (level at k s) ≡ is_rest k
-dots_at at (PatKind-F.IdentPat n is_ref is_mut x) s = name_is_no_dots _ s _ _
+dots_at at (PatKind-F.IdentPat n is_ref is_mut x) s = name_is_no_dots _ s _ _ _
 dots_at at (PatKind-F.TupleStructPat x comma ps) s = refl
 dots_at at (PatKind-F.TuplePat comma ps) s = refl
 dots_at at (PatKind-F.RefPat is_mut x) s = refl
@@ -70,11 +71,11 @@ dots_are at p = ap is_dots (pat_is_level at p) ∙ dots_at at (out-PatKind p.kin
 -- ---- sides
 
 -- a name is a side by its being plain, whatever it stands for
-pub named_side : (b f : Bool) (s : Pointer) (u : Use) (q : OptionPat) → is_plain u q ≡ b
-    → side_of (tree.some_pat (name_or_bind (b && f) s u q)) ≡ plain_side b s u.name
-named_side true true s u q h = refl
-named_side true false s u q h = ap (λ b. plain_side b s u.name) h
-named_side false f s u q h = ap (λ b. plain_side b s u.name) h
+pub named_side : (b f : Bool) (s : Pointer) (u : Use) (w : IsWritten u.name) (q : OptionPat) → is_plain u q ≡ b
+    → side_of (tree.some_pat (name_or_bind (b && f) s u w q)) ≡ plain_side b s u.name w
+named_side true true s u w q h = refl
+named_side true false s u w q h = ap (λ b. plain_side b s u.name w) h
+named_side false f s u w q h = ap (λ b. plain_side b s u.name w) h
 
 -- ---- patterns that know of no name
 

@@ -12,12 +12,13 @@ use Rattle.hir_syntax.specs.declared.ast.RecordExprFieldList.{RecordExprFieldLis
 use Rattle.hir_syntax.specs.declared.pats.Pat.{Pat as AstPat}
 use Rattle.hir_syntax.specs.declared.pats.PatKind.{out-PatKind}
 use Rattle.hir_syntax.specs.declared.pats.RecordPatField.{RecordPatField as AstPatField, out-RecordPatField}
+use Rattle.hir_store.specs.Names.{IsWritten}
 use Rattle.hir_store.specs.Pointers.{Pointer}
 use Rattle.hir_store.specs.declared.ids.CfgId.{CfgId}
 use Rattle.hir_env.specs.Answers.{Answers}
 use Rattle.hir_env.specs.Answered as tree
 use Rattle.hir_env.specs.Answered.{Field, PatField, Use}
-use Rattle.hir_env.specs.Answering.{asked_field, expr_at, field_of}
+use Rattle.hir_env.specs.Answering.{asked_field, expr_at, field_of, name_written}
 use Rattle.hir_env.specs.Count.{count_expr, count_exprs, count_field, count_fields, count_option_expr, count_option_path, count_path}
 use Rattle.hir_env.specs.Count.{count_option_pat, count_pat, count_pat_field, count_pat_fields, count_pats, count_side, count_spread}
 use Rattle.hir_env.specs.Layers.{ExprKindLayer}
@@ -86,11 +87,11 @@ module _ (env : Answers) (Q : Place → AstPath → Type 0) (p : Place) (n : ℕ
   fields (f ∷ fs) h = (field f (omega (arith, h)), fields fs (omega (arith, h)))
 
   -- a name with something behind `@` binds
-  ident : (s : Pointer) (u : Use) (found : Bool) (o : Option AstPat)
-      → count_pat (name_or_bind (is_plain u (pat_part (read_at env p) o) && found) s u (pat_part (read_at env p) o)) ≤ n
+  ident : (s : Pointer) (u : Use) (w : IsWritten u.name) (found : Bool) (o : Option AstPat)
+      → count_pat (name_or_bind (is_plain u (pat_part (read_at env p) o) && found) s u w (pat_part (read_at env p) o)) ≤ n
       → IfPresent (InPat env Q p) o
-  ident s u found None h = tt
-  ident s u found (Some x) h = whole x (omega (arith, h))
+  ident s u w found None h = tt
+  ident s u w found (Some x) h = whole x (omega (arith, h))
 
   in_side : (s : Pointer) (k : PatKindLayer written)
       → count_side (side_of (tree.some_pat (pat_at env (reader env) k p s))) < n → KidsSide (Q p) k
@@ -122,7 +123,7 @@ module _ (env : Answers) (Q : Place → AstPath → Type 0) (p : Place) (n : ℕ
 
   kids : (s : Pointer) (k : PatKindLayer written) → count_pat (pat_at env (reader env) k p s) ≤ n
       → KidsOfPat (InPat env Q p) (Q p) k
-  kids s (PatKind-F.IdentPat m is_ref is_mut x) h = ident s (use_at env p m is_ref is_mut) _ x h
+  kids s (PatKind-F.IdentPat m is_ref is_mut x) h = ident s (use_at env p m is_ref is_mut) (name_written m) _ x h
   kids s (PatKind-F.TupleStructPat x comma ps) h = (path x (omega (arith, h)), each ps (omega (arith, h)))
   kids s (PatKind-F.TuplePat comma ps) h = each ps (omega (arith, h))
   kids s (PatKind-F.RefPat is_mut x) h = part x (omega (arith, h))
@@ -210,6 +211,7 @@ module _ (C : Claims) (env : Answers) (P : Place → AstExpr → Type 0) (Q : Pl
   in_callee s (ExprKind-F.BlockExpr b) h = tt
   in_callee s (ExprKind-F.LoopExpr l b) h = tt
   in_callee s (ExprKind-F.WhileExpr l c b) h = tt
+  in_callee s (ExprKind-F.TryExpr e) h = tt
   in_callee s (ExprKind-F.CallExpr f es) h = tt
   in_callee s (ExprKind-F.PathExpr x) h = target_path x (omega (arith, h))
   in_callee s (ExprKind-F.ContinueExpr l) h = tt
@@ -255,6 +257,7 @@ module _ (C : Claims) (env : Answers) (P : Place → AstExpr → Type 0) (Q : Pl
   target_kids s (ExprKind-F.BlockExpr b) h = tt
   target_kids s (ExprKind-F.LoopExpr l b) h = tt
   target_kids s (ExprKind-F.WhileExpr l c b) h = tt
+  target_kids s (ExprKind-F.TryExpr e) h = tt
   target_kids s (ExprKind-F.CallExpr f None) h = (callee f (omega (arith, h)), tt)
   target_kids s (ExprKind-F.CallExpr f (Some es)) h = (callee f (omega (arith, h)), targets es (omega (arith, h)))
   target_kids s (ExprKind-F.PathExpr x) h = target_path x (omega (arith, h))

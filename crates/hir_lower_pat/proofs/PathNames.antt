@@ -399,7 +399,7 @@ mutual
   first_goes : (leading : Bool) (s : Segment) → Going (read_piece leading (piece true s)) (λ w. read_segment true s (at_first leading w))
   first_goes leading tree.absent_segment w r e h = λ b. agrees_named leading w r e h missing_name None
   first_goes leading tree.broken_segment w r e h = λ b. agrees_refused leading w r e h names.refusing refl refl
-  first_goes leading (tree.name_segment n a) w r e h =
+  first_goes leading (tree.name_segment n _ a) w r e h =
       gives_after _ (lower_segment_args a) _ (λ x b. agrees_named leading w r e h n x)
   first_goes leading tree.self_type_segment w r e h = λ b. agrees_named leading w r e h walks.self_type_name None
   first_goes leading tree.crate_segment w r e h = λ b. agrees_root leading w r e h kind.Crate
@@ -416,7 +416,7 @@ mutual
   behind_goes : (s : Segment) → Going (read_piece false (piece false s)) (read_segment false s)
   behind_goes tree.absent_segment w r e h = λ b. agrees_named false w r e h missing_name None
   behind_goes tree.broken_segment w r e h = λ b. agrees_refused false w r e h names.refusing refl refl
-  behind_goes (tree.name_segment n a) w r e h =
+  behind_goes (tree.name_segment n _ a) w r e h =
       gives_after _ (lower_segment_args a) _ (λ x b. agrees_named false w r e h n x)
   behind_goes tree.self_type_segment w r e h = λ b. agrees_named false w r e h walks.self_type_name None
   behind_goes tree.crate_segment w r e h = λ b. agrees_refused false w r e h names.refusing refl refl

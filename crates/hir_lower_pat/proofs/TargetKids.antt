@@ -71,6 +71,7 @@ module _ (at : Spot) (C : Claims) (inside : AstExpr → Type 0) (n : ℕ)
   in_callee (ExprKind-F.BlockExpr b) c = tt
   in_callee (ExprKind-F.LoopExpr l b) c = tt
   in_callee (ExprKind-F.WhileExpr l e b) c = tt
+  in_callee (ExprKind-F.TryExpr e) c = tt
   in_callee (ExprKind-F.CallExpr f es) c = tt
   in_callee (ExprKind-F.PathExpr x) c = c
   in_callee (ExprKind-F.ContinueExpr l) c = tt
@@ -113,6 +114,7 @@ module _ (at : Spot) (C : Claims) (inside : AstExpr → Type 0) (n : ℕ)
   kids s (ExprKind-F.BlockExpr b) c h = tt
   kids s (ExprKind-F.LoopExpr l b) c h = tt
   kids s (ExprKind-F.WhileExpr l e b) c h = tt
+  kids s (ExprKind-F.TryExpr e) c h = tt
   kids s (ExprKind-F.CallExpr f None) c h = (callee f c.0, tt)
   kids s (ExprKind-F.CallExpr f (Some es)) c h = (callee f c.0, each es c.1 (omega (arith, h)))
   kids s (ExprKind-F.PathExpr x) c h = c

@@ -15,6 +15,7 @@ use Rattle.hir_store.specs.Pointers.{Pointer}
 use Rattle.hir_env.specs.Spot.{Spot}
 use Rattle.hir_env.specs.Answered as tree
 use Rattle.hir_env.specs.Answered.{OptionPat, Pat, Side, Use}
+use Rattle.hir_env.specs.Answering.{name_written}
 use Rattle.hir_env.specs.PatLayers.{PatKindLayer}
 use Rattle.hir_env.specs.Pats.{is_found, minus_fits, name_or_bind, pat_at, plain_side, side_of, use_at}
 use Rattle.hir_env.specs.TypePats.{end_at, end_limit, is_plain, start_limit, type_pat_of, type_pats_of}
@@ -22,10 +23,12 @@ use Rattle.hir_env.specs.Count.{count_pat, count_pats}
 use Rattle.hir_env.specs.Whole.{answered_pat, pat_level, pat_part, pats_part, pointer_at, reader, written}
 use Rattle.hir_env.proofs.PatLevels.{pat_is_level}
 use Rattle.hir_env.specs.declared.lang.LangItems.{LangItems}
+use Rattle.hir_store.specs.Names.{IsWritten}
 use Rattle.hir_store.specs.Stored.{Stored}
 use Rattle.hir_store.specs.declared.fault.StoreFault.{StoreFault}
 use Rattle.hir_store.specs.declared.fault.StoreFault.TheVariants.{Memory}
 use Rattle.hir_store.specs.declared.ids.PatId.{PatId}
+use Rattle.hir_store.specs.declared.name.Name.{Name}
 use Rattle.hir_lower_form.specs.Builder.{Builder}
 use Rattle.hir_lower_form.specs.Lower.{limit_side, lower_type_pat, lower_type_pats, missing}
 use Rattle.hir_lower_form.specs.Lowering.{Checked, Lowering, Lowers, SomeEnd, go_on}
@@ -38,53 +41,53 @@ level at k s = pat_at at.answers (reader at.answers) k at.place s
 -- ---- ends
 
 -- a side that is written
-abbrev IsWritten : Side → Type 0
-IsWritten tree.no_side = ⊥
-IsWritten s = Unit {0}
+abbrev IsSide : Side → Type 0
+IsSide tree.no_side = ⊥
+IsSide s = Unit {0}
 
-plain_is_written : (b : Bool) (s : Pointer) (u : Use) → IsWritten (plain_side b s u.name)
-plain_is_written true s u = tt
-plain_is_written false s u = tt
+plain_is_side : (b : Bool) (s : Pointer) (n : Name) (w : IsWritten n) → IsSide (plain_side b s n w)
+plain_is_side true s n w = tt
+plain_is_side false s n w = tt
 
-is_written : (q : Pat) → IsWritten (side_of (tree.some_pat q))
-is_written (tree.leaf_pat s l) = tt
-is_written (tree.bind_pat s u q) = plain_is_written (is_plain u q) s u
-is_written (tree.name_pat s u) = tt
-is_written (tree.path_pat s x) = tt
-is_written (tree.tuple_struct_pat s x comma ps) = tt
-is_written (tree.tuple_pat s comma ps) = tt
-is_written (tree.record_pat s x fs dots) = tt
-is_written (tree.or_pat s ps) = tt
-is_written (tree.paren_pat s q) = tt
-is_written (tree.slice_pat s ps q qs) = tt
-is_written (tree.over_pat s form q) = tt
-is_written (tree.literal_pat s None l) = tt
-is_written (tree.literal_pat s (Some from) l) = tt
-is_written (tree.range_pat s o a b) = tt
+is_side : (q : Pat) → IsSide (side_of (tree.some_pat q))
+is_side (tree.leaf_pat s l) = tt
+is_side (tree.bind_pat s u w q) = plain_is_side (is_plain u q) s u.name w
+is_side (tree.name_pat s u _) = tt
+is_side (tree.path_pat s x) = tt
+is_side (tree.tuple_struct_pat s x comma ps) = tt
+is_side (tree.tuple_pat s comma ps) = tt
+is_side (tree.record_pat s x fs dots) = tt
+is_side (tree.or_pat s ps) = tt
+is_side (tree.paren_pat s q) = tt
+is_side (tree.slice_pat s ps q qs) = tt
+is_side (tree.over_pat s form q) = tt
+is_side (tree.literal_pat s None l) = tt
+is_side (tree.literal_pat s (Some from) l) = tt
+is_side (tree.range_pat s o a b) = tt
 
-start_written : (items : LangItems) (s : Side) → IsWritten s → start_limit items s ≡ tree.side_limit s
+start_written : (items : LangItems) (s : Side) → IsSide s → start_limit items s ≡ tree.side_limit s
 start_written items tree.no_side h = absurd h
 start_written items (tree.literal_side s l) h = refl
-start_written items (tree.name_side s n) h = refl
+start_written items (tree.name_side s n _) h = refl
 start_written items (tree.path_side s x) h = refl
 start_written items tree.other_side h = refl
 
-end_written : (items : LangItems) (o : Option RangeOp) (s : Side) → IsWritten s → end_limit items o s ≡ end_at items o s
+end_written : (items : LangItems) (o : Option RangeOp) (s : Side) → IsSide s → end_limit items o s ≡ end_at items o s
 end_written items o tree.no_side h = absurd h
 end_written items o (tree.literal_side s l) h = refl
-end_written items o (tree.name_side s n) h = refl
+end_written items o (tree.name_side s n _) h = refl
 end_written items o (tree.path_side s x) h = refl
 end_written items o tree.other_side h = refl
 
 -- a start that is written is what is written
 pub start_is_side : (items : LangItems) (q : Pat)
     → start_limit items (side_of (tree.some_pat q)) ≡ tree.side_limit (side_of (tree.some_pat q))
-start_is_side items q = start_written items (side_of (tree.some_pat q)) (is_written q)
+start_is_side items q = start_written items (side_of (tree.some_pat q)) (is_side q)
 
 -- and so is an end, or the last before it
 pub end_is_side : (items : LangItems) (o : Option RangeOp) (q : Pat)
     → end_limit items o (side_of (tree.some_pat q)) ≡ end_at items o (side_of (tree.some_pat q))
-end_is_side items o q = end_written items o (side_of (tree.some_pat q)) (is_written q)
+end_is_side items o q = end_written items o (side_of (tree.some_pat q)) (is_side q)
 
 -- ---- sides
 
@@ -98,8 +101,9 @@ no_name : (at : Spot) (s : Pointer) (n : Option AstName) (is_ref is_mut : Bool) 
 no_name at s n is_ref is_mut x h =
     let u = use_at at.answers at.place n is_ref is_mut in
     let q = pat_part at x in
-    ap limit_side (named_side (is_plain u q) (is_found at.answers at.place u.name) s u q refl
-    ∙ ap (λ b. plain_side b s u.name) h)
+    let w = name_written n in
+    ap limit_side (named_side (is_plain u q) (is_found at.answers at.place u.name) s u w q refl
+    ∙ ap (λ b. plain_side b s u.name w) h)
 
 no_plain_name : (at : Spot) (s : Pointer) (n : Option AstName) (is_ref is_mut : Bool) (x : Option AstPat)
     → ((is_ref ≡ false) × (is_mut ≡ false) × (x ≡ None) → ⊥)
@@ -144,14 +148,14 @@ no_limit_left at p no_literal no_ident no_path = by (out-PatKind p.kind) refl
 
 -- ---- patterns that no type has
 
-name_is_other : (items : LangItems) (b : Bool) (s : Pointer) (u : Use) (q : OptionPat)
-    → type_pat_of items (name_or_bind b s u q) ≡ tree.other_type_pat s
-name_is_other items true s u q = refl
-name_is_other items false s u q = refl
+name_is_other : (items : LangItems) (b : Bool) (s : Pointer) (u : Use) (w : IsWritten u.name) (q : OptionPat)
+    → type_pat_of items (name_or_bind b s u w q) ≡ tree.other_type_pat s
+name_is_other items true s u w q = refl
+name_is_other items false s u w q = refl
 
 other_at : (items : LangItems) (at : Spot) (k : PatKindLayer written) (s : Pointer) → IsOther k
     → type_pat_of items (level at k s) ≡ tree.other_type_pat s
-other_at items at (PatKind-F.IdentPat n is_ref is_mut x) s h = name_is_other items _ s _ _
+other_at items at (PatKind-F.IdentPat n is_ref is_mut x) s h = name_is_other items _ s _ _ _
 other_at items at (PatKind-F.TupleStructPat x comma ps) s h = refl
 other_at items at (PatKind-F.TuplePat comma ps) s h = refl
 other_at items at (PatKind-F.RefPat is_mut x) s h = refl

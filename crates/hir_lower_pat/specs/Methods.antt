@@ -97,7 +97,7 @@ IsPlain _ = ⊥
 -- what is made of those; any other is none of them
 abbrev pub lower_plain : Pat → Lowering PatId
 lower_plain (tree.leaf_pat at form) = alloc_pat (stored_pat_leaf form) (Some at)
-lower_plain (tree.name_pat at u) = alloc_pat (name_pat_of u) (Some at)
+lower_plain (tree.name_pat at u _) = alloc_pat (name_pat_of u) (Some at)
 lower_plain (tree.path_pat at p) = path_pat_form at (spec.lower_path p)
 lower_plain (tree.literal_pat at node l) = literal_pat_form at node l
 lower_plain (tree.range_pat at op low high) = range_pat_form at op (spec.lower_side low) (spec.lower_side high)

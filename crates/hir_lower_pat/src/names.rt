@@ -2,15 +2,16 @@
 
 ghost use Rattle.std.specs.Prelude.{◌≡◌, IfOk, Some};
 ghost use Rattle.hir_store.specs.Range.{HasPat};
-ghost use Rattle.hir_env.specs.Answered as tree;
+ghost use Rattle.hir_env.specs.Answering.{name_written};
 ghost use Rattle.hir_env.specs.Pats as of;
 ghost use Rattle.hir_env.specs.TypePats.{is_unannotated};
 ghost use Rattle.hir_env.specs.Whole.{pat_part};
+ghost use Rattle.hir_lower_form.specs.Lower.{present_pat};
 ghost use Rattle.hir_lower_form.specs.Lowering as steps;
 ghost use Rattle.hir_lower_form.specs.Lowering.{Lowers};
 ghost use Rattle.hir_lower_form.specs.Pats as steps_of;
 ghost use Rattle.hir_lower_form.specs.Nests.{IfPresent};
-ghost use Rattle.hir_lower_pat.specs.Bindings.{HasNames};
+ghost use Rattle.hir_lower_pat.specs.Bindings.{HasNames, LowersNamed};
 ghost use Rattle.hir_lower_pat.specs.Methods.{LowersPat, use_with};
 
 use crate::bindings::Bindings;
@@ -118,8 +119,9 @@ fn bind_form<S: PatParts>(
 ) -> Result<PatId, StoreFault>
     requires part { IfPresent (S.can_pat parts.now) part.now }
     requires names { HasNames state.old.stored bindings.old }
-    ensures { let read = tree.bind_pat at (record { name = name; hygiene = hygiene; mode = mode }) (pat_part (S.spot parts.now) part.now) in
-        LowersPat read bindings.old state.old result bindings.new state.new }
+    ensures { let inner = present_pat (pat_part (S.spot parts.now) part.now) in
+        LowersNamed HasPat (steps_of.bind_form at (record { name = name; hygiene = hygiene; mode = mode }) inner)
+        bindings.old state.old result bindings.new state.new }
 {
     let subpat = pat_if_present(parts, state, bindings, part)?;
     let id = bindings.use_name(state, name, hygiene, mode)?;
@@ -142,7 +144,7 @@ pub(crate) fn ident_form<S: PatParts>(
     requires names { HasNames state.old.stored bindings.old }
     ensures { let here = S.spot parts.now in
         let use_ = use_with here name.now mode in
-        LowersPat (of.ident_pat here.answers here.place at use_ (pat_part here part.now))
+        LowersPat (of.ident_pat here.answers here.place at use_ (name_written name.now) (pat_part here part.now))
         bindings.old state.old result bindings.new state.new }
 {
     let hygiene = hygiene_of(parts, name);

@@ -4,7 +4,7 @@ ghost use Rattle.std.specs.Prelude.{◌≡◌, IfOk, None};
 ghost use Rattle.hir_syntax.specs.declared.pats.PatKind.{out-PatKind};
 ghost use Rattle.hir_store.specs.Range.{HasExprOption, HasPat};
 ghost use Rattle.hir_env.specs.Answered as tree;
-ghost use Rattle.hir_env.specs.Answering.{name_or_missing};
+ghost use Rattle.hir_env.specs.Answering.{name_or_missing, name_written};
 ghost use Rattle.hir_env.specs.Pats.{ident_pat, literal_or_broken, minus_fits, side_of};
 ghost use Rattle.hir_env.specs.Whole.{answered_pat, pat_level, pat_part, path_part};
 ghost use Rattle.hir_lower_form.specs.Lower.{lower_side};
@@ -155,7 +155,8 @@ fn plain_side<S: PatParts>(
     part: &Option<Boxed<ast::Pat>>,
 ) -> Result<Option<ExprId>, StoreFault>
     ensures { let here = S.spot parts.now in
-        let read = ident_pat here.answers here.place at (use_with here name.now mode) (pat_part here part.now) in
+        let use_ = use_with here name.now mode in
+        let read = ident_pat here.answers here.place at use_ (name_written name.now) (pat_part here part.now) in
         LowersSide (side_of (tree.some_pat read)) state.old result state.new }
 {
     match part {

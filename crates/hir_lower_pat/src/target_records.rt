@@ -15,8 +15,8 @@ ghost use Rattle.hir_lower_form.specs.Methods.{LowersTarget};
 ghost use Rattle.hir_lower_form.specs.Nests.{IfPresent};
 ghost use Rattle.hir_lower_form.specs.Pats as forms;
 ghost use Rattle.hir_lower_form.specs.Targets as steps;
-ghost use Rattle.hir_lower_pat.specs.Aims.{Aims, HasAim, KidsOfFields, found_at, name_written, patterned, record_with};
-ghost use Rattle.hir_lower_pat.specs.Methods.{HasPatField};
+ghost use Rattle.hir_lower_pat.specs.Aims.{Aims, HasAim, KidsOfFields, found_at, patterned, record_with};
+ghost use Rattle.hir_lower_pat.specs.Methods.{HasPatField, field_name};
 
 use crate::aims::{Aim, TargetParts, place, pointer_of, target};
 use hir_base::node::{AstPtr, InFile};
@@ -39,7 +39,7 @@ fn named_part(
     pat: PatId,
 ) -> Result<Option<RecordFieldPat>, StoreFault>
     requires { HasPat state.old.stored pat }
-    ensures { Lowers HasPatField (forms.named_part at (name_written name.now) pat) state.old result state.new }
+    ensures { Lowers HasPatField (forms.named_part at (field_name name.now) pat) state.old result state.new }
 {
     match name {
         None => Ok(None),
@@ -61,7 +61,7 @@ fn present_field<T: TargetParts>(
     expr: &ast::Expr,
 ) -> Result<Option<RecordFieldPat>, StoreFault>
     requires { T.can_target parts.now expr.now }
-    ensures { let read = tree.target_field at (name_written name.now) (target_part (T.spot parts.now) (Some expr.now)) in
+    ensures { let read = tree.target_field at (field_name name.now) (target_part (T.spot parts.now) (Some expr.now)) in
         Lowers HasPatField (spec.lower_target_field read) state.old result state.new }
 {
     let pat = target(parts, state, expr)?;

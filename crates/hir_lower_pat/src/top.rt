@@ -2,6 +2,7 @@
 
 ghost use Rattle.std.specs.Prelude.{◌≡◌};
 ghost use Rattle.hir_env.specs.Answered as tree;
+ghost use Rattle.hir_env.specs.Answering.{name_written};
 ghost use Rattle.hir_env.specs.Pats.{name_hygiene};
 ghost use Rattle.hir_env.specs.Whole.{answered_pat, pat_part};
 ghost use Rattle.hir_binding.specs.declared.binding.BindingAnnotation.TheVariants.{Unannotated};
@@ -71,7 +72,7 @@ pub fn bare_name<P: LowerParts>(
     name: &Option<ast::Name>,
 ) -> Result<PatId, StoreFault>
     ensures { let use_ = use_with (P.spot lowerer.now.parts) name.now Unannotated in
-        LowersTop (tree.some_pat (tree.bind_pat at use_ tree.no_pat)) state.old result state.new }
+        LowersTop (tree.some_pat (tree.bind_pat at use_ (name_written name.now) tree.no_pat)) state.old result state.new }
 {
     let hygiene = hygiene_of(lowerer, name);
     let name = name_of(name)?;

@@ -2,9 +2,10 @@
 //! borders of closures, coroutines and constants.
 
 ghost use Rattle.std.specs.Prelude.{◌≡◌, [], ◌∷◌, OnOk, OnErr, reverse};
-ghost use Rattle.hir_scope.specs.Ribs.{Rib, label_rib, macro_rib, barrier_rib, Sought, sought_first, is_for, past_macro, search};
+ghost use Rattle.hir_scope.specs.Ribs.{Rib, label_rib, try_rib, macro_rib, barrier_rib, Sought, sought_first, is_for, past_macro};
+ghost use Rattle.hir_scope.specs.Ribs.{search, innermost_try_rib};
 ghost use Rattle.hir_lower_scope.specs.Labels.{answer, rest};
-ghost use Rattle.hir_lower_scope.specs.Found.{rib_of, ribs_of, sought_of};
+ghost use Rattle.hir_lower_scope.specs.Found.{rib_of, ribs_of, sought_of, try_of};
 
 use hir_env::env::LowerEnv;
 use hir_store::ids::{CtxId, HygieneId, LabelId, MacroDefId};
@@ -21,9 +22,17 @@ pub enum NoTarget {
     Undeclared,
 }
 
+/// The label of a `try`, and whether its type is written.
+#[derive(Clone, Copy)]
+pub struct TryLabel {
+    pub label: LabelId,
+    pub typed: bool,
+}
+
 #[derive(Drop)]
 enum LabelRib {
     Label(Name, HygieneId, LabelId),
+    Try(LabelId, bool),
     MacroDef(MacroDefId),
     Barrier,
 }
@@ -72,6 +81,22 @@ impl LabelScopes {
     {
         self.ribs.push(LabelRib::Label(name, hygiene, label))?;
         Ok(())
+    }
+
+    /// Opens a `try` with this label inside all that is open.
+    pub fn enter_try(&mut self, label: LabelId, typed: bool) -> Result<(), AllocError>
+        ensures ok { OnOk result (self.new ≡ try_rib label typed ∷ self.old) }
+        ensures err { OnErr result (self.new ≡ self.old) }
+    {
+        self.ribs.push(LabelRib::Try(label, typed))?;
+        Ok(())
+    }
+
+    /// The innermost `try`, where no border stands before it.
+    pub fn find_try(&self) -> Option<TryLabel>
+        ensures { try_of result ≡ innermost_try_rib self.now }
+    {
+        try_from(self.ribs.as_slice())
     }
 
     /// From here on a macro is defined.
@@ -162,6 +187,7 @@ fn search_from<E: LowerEnv>(
                     };
                 }
             }
+            LabelRib::Try(_, _) => {}
             LabelRib::MacroDef(def) => {
                 wanted = past(env, *def, wanted);
             }
@@ -172,4 +198,24 @@ fn search_from<E: LowerEnv>(
         ribs = outer;
     }
     Err(NoTarget::Undeclared)
+}
+
+/// The innermost `try` of these ribs, of which the last is the innermost.
+fn try_from(mut ribs: &[LabelRib]) -> Option<TryLabel>
+    ensures { try_of result ≡ innermost_try_rib (ribs_of (reverse ribs.entry.now)) }
+{
+    while let [outer @ .., rib] = ribs {
+        match rib {
+            LabelRib::Try(label, typed) => {
+                return Some(TryLabel {
+                    label: *label,
+                    typed: *typed,
+                });
+            }
+            LabelRib::Barrier => return None,
+            LabelRib::Label(_, _, _) | LabelRib::MacroDef(_) => {}
+        }
+        ribs = outer;
+    }
+    None
 }

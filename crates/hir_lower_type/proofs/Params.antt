@@ -8,6 +8,7 @@ use Rattle.hir_syntax.specs.declared.ast.Name.{Name as AstName}
 use Rattle.hir_syntax.specs.declared.pats.PatKind.{PatKind as AstPatKind, out-PatKind, roll-PatKind, roll-out-PatKind}
 use Rattle.hir_syntax.specs.declared.pats.PatKind.TheVariants as kind
 use Rattle.hir_syntax.specs.declared.types.Param.{Param as AstParam, out-Param}
+use Rattle.hir_store.specs.Names.{IsWritten}
 use Rattle.hir_store.specs.Pointers.{Pointer}
 use Rattle.hir_store.specs.Stored.{Stored}
 use Rattle.hir_store.specs.declared.fault.StoreFault.{StoreFault}
@@ -29,7 +30,7 @@ use Rattle.hir_env.proofs.PatLevels.{pat_is_level}
 use Rattle.hir_lower_form.specs.Builder.{Builder}
 use Rattle.hir_lower_form.specs.Lowering.{Checked, Lowering, Lowers, SomeEnd, go_on, pure}
 use Rattle.hir_lower_form.specs.Lower.{lower_parts, push_some, some, type_part}
-use Rattle.hir_lower_type.specs.Params.{lower_param, name_of_kind, name_of_pat, names_written, variadic_last}
+use Rattle.hir_lower_type.specs.Params.{lower_param, name_of_kind, name_of_pat, param_names, variadic_last}
 
 -- no answer decides whether the last is variadic
 pub variadic_is : (env : Answers) (p : Place) (b : Bool) (xs : List AstParam)
@@ -99,9 +100,10 @@ no_name_left k no_ident = by (out-PatKind k) refl
         absurd (no_ident n is_ref is_mut x (sym (roll-out-PatKind k) ∙ (ap roll-PatKind h ∙ kind.rolls-IdentPat n is_ref is_mut x)))
     by _ h = refl
 
-one_name : (b : Bool) (s : Pointer) (u : Use) (q : OptionPat) → name_given (tree.some_pat (name_or_bind b s u q)) ≡ Some u.name
-one_name true s u q = refl
-one_name false s u q = refl
+one_name : (b : Bool) (s : Pointer) (u : Use) (w : IsWritten u.name) (q : OptionPat)
+    → name_given (tree.some_pat (name_or_bind b s u w q)) ≡ Some u.name
+one_name true s u w q = refl
+one_name false s u w q = refl
 
 no_name_of_either : (b : Bool) (p q : Pat) → name_given (tree.some_pat p) ≡ None → name_given (tree.some_pat q) ≡ None
     → name_given (tree.some_pat (if b then p else q)) ≡ None
@@ -110,7 +112,7 @@ no_name_of_either false p q h k = k
 
 kind_name : (at : Spot) (k : PatKindLayer written) (s : Pointer)
     → name_given (tree.some_pat (pat_at at.answers (reader at.answers) k at.place s)) ≡ name_of_kind k
-kind_name at (PatKind-F.IdentPat n is_ref is_mut x) s = one_name _ s _ _
+kind_name at (PatKind-F.IdentPat n is_ref is_mut x) s = one_name _ s _ _ _
 kind_name at (PatKind-F.TupleStructPat x comma ps) s = refl
 kind_name at (PatKind-F.TuplePat comma ps) s = refl
 kind_name at (PatKind-F.RefPat is_mut x) s = refl
@@ -136,7 +138,7 @@ pat_name at (Some p) =
     ap (λ q. name_given (tree.some_pat q)) (pat_is_level at p) ∙ kind_name at (out-PatKind p.kind) (pointer_at at p.id p.range)
 
 -- no answer decides on the names
-pub names_are : (env : Answers) (p : Place) (xs : List AstParam) → names_given (read_param env) xs p ≡ names_written xs
+pub names_are : (env : Answers) (p : Place) (xs : List AstParam) → names_given (read_param env) xs p ≡ param_names xs
 names_are env p [] = refl
 names_are env p (x ∷ xs) =
     let at : Spot = record { answers = env; place = p } in

@@ -39,10 +39,10 @@ abbrev pub name_of_pat : Option AstPat → Option Name
 name_of_pat None = None
 name_of_pat (Some p) = name_of_kind (out-PatKind p.kind)
 
-abbrev pub name_written : AstParam → Option Name
-name_written x = name_of_pat (out-Param x).pat
+abbrev pub param_name : AstParam → Option Name
+param_name x = name_of_pat (out-Param x).pat
 
 -- of those that aren't variadic
-abbrev pub names_written : List AstParam → List (Option Name)
-names_written [] = []
-names_written (x ∷ xs) = if (out-Param x).variadic then names_written xs else name_written x ∷ names_written xs
+abbrev pub param_names : List AstParam → List (Option Name)
+param_names [] = []
+param_names (x ∷ xs) = if (out-Param x).variadic then param_names xs else param_name x ∷ param_names xs

@@ -11,7 +11,7 @@ ghost use Rattle.hir_lower_form.specs.Lower as spec;
 ghost use Rattle.hir_lower_form.specs.Methods.{LowersParts, LowersType};
 ghost use Rattle.hir_lower_form.specs.Nests.{Each, IfPresent, KidsParam, KidsRet};
 ghost use Rattle.hir_lower_type.specs.Abis.{abi_later};
-ghost use Rattle.hir_lower_type.specs.Params.{lower_param, name_written, names_written, params_at, variadic_last};
+ghost use Rattle.hir_lower_type.specs.Params.{lower_param, param_name, param_names, params_at, variadic_last};
 
 use hir_base::node::{AstPtr, InFile};
 use hir_lower_form::builder::BodyBuilder;
@@ -188,7 +188,7 @@ fn answer<P: LowerParts>(
 /// The name that the pattern of a parameter gives it: any that is one name.
 #[tactic(auto, using(crate::proofs::Params::no_name_left))]
 fn param_name(node: &ast::Param) -> Result<Option<Name>, AllocError>
-    ensures { IfOk result (λ name. name ≡ name_written node.now) }
+    ensures { IfOk result (λ name. name ≡ param_name node.now) }
 {
     let Some(pat) = &node.pat else {
         return Ok(None);
@@ -201,7 +201,7 @@ fn param_name(node: &ast::Param) -> Result<Option<Name>, AllocError>
 
 /// The names of the parameters that aren't variadic.
 fn names(alloc: Global, mut left: &[ast::Param]) -> Result<Seq<Option<Name>>, AllocError>
-    ensures { IfOk result (λ names. names ≡ names_written left.entry.now) }
+    ensures { IfOk result (λ names. names ≡ param_names left.entry.now) }
 {
     let mut names = Seq::new(alloc);
     while let [one, rest @ ..] = left {

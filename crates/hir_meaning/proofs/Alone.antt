@@ -5,7 +5,7 @@ use Rattle.hir_env.specs.Answering.{site_of}
 use Rattle.hir_env.specs.Answered as tree
 use Rattle.hir_env.specs.Answered.{Label, Expr, OptionExpr, Exprs, Fields, Spread, Block, OptionBlock, Stmts, Arms, Guard}
 use Rattle.hir_env.specs.Answered.{Target, Targets, TargetFields}
-use Rattle.hir_scope.specs.Scopes.{Scope, loop_scope, barrier, outward, scopes_in_block}
+use Rattle.hir_scope.specs.Scopes.{Scope, loop_scope, try_scope, barrier, outward, scopes_in_block}
 use Rattle.hir_scope.proofs.Alone.{nothing_outside}
 use Rattle.hir_data.specs.Patterns.{written_pat}
 use Rattle.hir_data.specs.Targets.{target_data}
@@ -14,6 +14,7 @@ use Rattle.hir_meaning.specs.Run.{Value, unit, truth, is_true, call, method_call
 use Rattle.hir_meaning.specs.Run.{became, unmatched, ends, pure, ◌>>=◌, ◌>>◌, ask, tests, tests_pattern, binds, assigns, entering}
 use Rattle.hir_meaning.specs.Catching.{turn, loop}
 use Rattle.hir_meaning.specs.Left.{is_kept, is_left, is_last, field_names}
+use Rattle.hir_meaning.specs.Syntax.{run_question, run_try, is_typed, through, as_it_is}
 use Rattle.hir_meaning.specs.Syntax.{SyntaxRun, catching, run_expr, run_part, run_block_part, run_or_unit, run_each}
 use Rattle.hir_meaning.specs.Syntax.{run_while, spread_form, run_record, run_fields, run_spread, run_range, if_read, run_present, run_arms}
 use Rattle.hir_meaning.specs.Syntax.{run_guarded, run_else, run_places, run_each_place, run_field_places}
@@ -37,9 +38,16 @@ module _ (turns : ℕ) (outer : List Scope) where
     expr_alone (tree.if_expr at c t e) inner = λ i.
         part_alone c inner i >>= (λ v. tests is_true v (Some (site_of at))
         >>= (λ holds. if holds then block_part_alone t inner i else or_unit_alone e inner i))
-    expr_alone (tree.loop_expr at label b) inner = λ i. loop outward turns (turn (block_part_alone b (loop_scope label ∷ inner) i))
-    expr_alone (tree.while_expr at label c b) inner = λ i.
+    expr_alone (tree.loop_expr at label _ b) inner = λ i. loop outward turns (turn (block_part_alone b (loop_scope label ∷ inner) i))
+    expr_alone (tree.while_expr at label _ c b) inner = λ i.
         run_while turns (part_alone c (loop_scope label ∷ inner) i) (block_part_alone b (loop_scope label ∷ inner) i) (Some (site_of at))
+    expr_alone (tree.question_expr at items e) inner = λ i.
+        run_question items ((nothing_outside inner outer None).tries i) (part_alone e inner i) (Some (site_of at))
+    expr_alone (tree.itemless_expr at) inner = refl
+    expr_alone (tree.try_expr at item t number ss e) inner =
+        let here = Some (site_of at) in
+        ap (run_try (written_option_type t) number here)
+        (stmts_alone ss (is_left e) (through item here) (run_tail turns e) (tail_alone e) (try_scope (is_typed t) ∷ inner))
     expr_alone (tree.break_expr at jump e) inner = λ i.
         or_unit_alone e inner i >>= (λ v. ends (break ((nothing_outside inner outer jump).breaks i) v))
     expr_alone (tree.continue_expr at jump) inner = λ i. ends (continue ((nothing_outside inner outer jump).continues i))
@@ -162,27 +170,28 @@ module _ (turns : ℕ) (outer : List Scope) where
     spread_alone (tree.spread_of e) inner = λ i. expr_alone e inner i >>= (λ v. pure (v ∷ []))
 
     block_alone : (b : Block) (inner : List Scope) → run_block turns b (inner ++ barrier ∷ outer) ≡ run_block turns b inner
-    block_alone (tree.block at is_unsafe label number ss e) inner = rw (in_block_alone label inner)
+    block_alone (tree.block at is_unsafe label _ number ss e) inner = rw (in_block_alone label inner)
         (ap (λ m. entering is_unsafe number (Some (site_of at)) (catching label m))
-        (stmts_alone ss (is_left e) (run_tail turns e) (tail_alone e) (scopes_in_block label inner)))
+        (stmts_alone ss (is_left e) as_it_is (run_tail turns e) (tail_alone e) (scopes_in_block label inner)))
 
     tail_alone : (e : OptionExpr) (inner : List Scope) → run_tail turns e (inner ++ barrier ∷ outer) ≡ run_tail turns e inner
     tail_alone tree.no_expr inner = refl
     tail_alone (tree.some_expr e) inner = λ i. if is_kept e then expr_alone e inner i else pure unit
 
-    stmts_alone : (ss : Stmts) (has_tail : Bool) (tail : List Scope → SyntaxRun Value)
+    stmts_alone : (ss : Stmts) (has_tail : Bool) (out : SyntaxRun Value → SyntaxRun Value) (tail : List Scope → SyntaxRun Value)
         → ((inner : List Scope) → tail (inner ++ barrier ∷ outer) ≡ tail inner) → (inner : List Scope)
-        → run_stmts turns ss has_tail tail (inner ++ barrier ∷ outer) ≡ run_stmts turns ss has_tail tail inner
-    stmts_alone tree.no_stmts has_tail tail h inner = h inner
-    stmts_alone (tree.more_stmts (tree.disabled_stmt at by s) ss) has_tail tail h inner = stmts_alone ss has_tail tail h inner
-    stmts_alone (tree.more_stmts tree.item_stmt ss) has_tail tail h inner = stmts_alone ss has_tail tail h inner
-    stmts_alone (tree.more_stmts (tree.let_stmt p t e b) ss) has_tail tail h inner = λ i.
+        → run_stmts turns ss has_tail out tail (inner ++ barrier ∷ outer) ≡ run_stmts turns ss has_tail out tail inner
+    stmts_alone tree.no_stmts has_tail out tail h inner = ap out (h inner)
+    stmts_alone (tree.more_stmts (tree.disabled_stmt at by s) ss) has_tail out tail h inner = stmts_alone ss has_tail out tail h inner
+    stmts_alone (tree.more_stmts tree.item_stmt ss) has_tail out tail h inner = stmts_alone ss has_tail out tail h inner
+    stmts_alone (tree.more_stmts (tree.let_stmt p t e b) ss) has_tail out tail h inner = λ i.
         present_alone e inner i >>= (λ vs. binds (written_pat p) (written_option_type t) vs
-        >>= (λ fits. else_alone b fits inner (stmts_alone ss has_tail tail h inner) i))
-    stmts_alone (tree.more_stmts (tree.expr_stmt e semi) ss) has_tail tail h inner = λ i.
+        >>= (λ fits. else_alone b fits inner (stmts_alone ss has_tail out tail h inner) i))
+    stmts_alone (tree.more_stmts (tree.expr_stmt e semi) ss) has_tail out tail h inner = λ i.
         if is_left e
-        then (if is_last semi ss has_tail then part_alone e inner i else (part_alone e inner i >> stmts_alone ss has_tail tail h inner i))
-        else stmts_alone ss has_tail tail h inner i
+        then (if is_last semi ss has_tail then out (part_alone e inner i)
+        else (part_alone e inner i >> stmts_alone ss has_tail out tail h inner i))
+        else stmts_alone ss has_tail out tail h inner i
 
 pub runs_alone : RunsAlone
 runs_alone turns e inner outer = part_alone turns outer e inner

@@ -12,7 +12,7 @@ use Rattle.hir_meaning.specs.Run.{Value, Event, entering, ends, event, ◌>>=◌
 use Rattle.hir_meaning.specs.Catching.{loop, block}
 use Rattle.hir_scope.specs.Scopes.{Scope, scopes_in_block}
 use Rattle.hir_meaning.specs.Left.{is_left, stmt_is_left, none_left}
-use Rattle.hir_meaning.specs.Syntax.{SyntaxRun, run_part, run_present, run_else, run_stmts, run_tail, catching}
+use Rattle.hir_meaning.specs.Syntax.{SyntaxRun, run_part, run_present, run_else, run_stmts, run_tail, catching, as_it_is}
 use Rattle.hir_meaning.specs.Store.{run_store, run_to}
 use Rattle.hir_meaning.specs.Worked.{RunsAsWorked}
 use Rattle.hir_meaning.specs.Rows.{LeavesTheLoop, LeavesTheBlock, HasNoTurn, StraysFromBlock, HasTwoSites, EntersItsNumber}
@@ -105,7 +105,7 @@ module _ (q : Pointer) (by : CfgId) (e : Expr) (semi : Bool) (after : Stmts) whe
       else others
 
   run_more : (turns : ℕ) (has_tail : Bool) (tail : List Scope → SyntaxRun Value) (scopes : List Scope) (before : Stmts)
-      → run_stmts turns (more before) has_tail tail scopes ≡ run_stmts turns (joined before after) has_tail tail scopes
+      → run_stmts turns (more before) has_tail as_it_is tail scopes ≡ run_stmts turns (joined before after) has_tail as_it_is tail scopes
   run_more turns has_tail tail scopes tree.no_stmts = refl
   run_more turns has_tail tail scopes (tree.more_stmts tree.item_stmt ss) = run_more turns has_tail tail scopes ss
   run_more turns has_tail tail scopes (tree.more_stmts (tree.disabled_stmt at c s) ss) = run_more turns has_tail tail scopes ss
@@ -113,10 +113,11 @@ module _ (q : Pointer) (by : CfgId) (e : Expr) (semi : Bool) (after : Stmts) whe
       ap (λ m. run_present turns x scopes >>= (λ vs. binds (written_pat p) (written_option_type t) vs
       >>= (λ fits. run_else turns b fits m scopes))) (run_more turns has_tail tail scopes ss)
   run_more turns has_tail tail scopes (tree.more_stmts (tree.expr_stmt x s) ss) =
-      ap (λ t. before_others turns has_tail scopes x s t (run_stmts turns (more ss) has_tail tail scopes)) (none_more ss)
+      ap (λ t. before_others turns has_tail scopes x s t (run_stmts turns (more ss) has_tail as_it_is tail scopes))
+      (none_more ss)
       ∙ ap (λ m. before_others turns has_tail scopes x s (none_left (joined ss after)) m) (run_more turns has_tail tail scopes ss)
 
 pub disabled_is_nothing : DisabledIsNothing
-disabled_is_nothing turns p q is_unsafe label number before after by e semi tail ss =
+disabled_is_nothing turns p q is_unsafe label w number before after by e semi tail ss =
     ap (λ m. entering is_unsafe number (Some (site_of p)) (catching label m))
     (run_more q by e semi after turns (is_left tail) (run_tail turns tail) (scopes_in_block label ss) before)

@@ -1,5 +1,5 @@
 -- Small bodies, and how they end.
-use Rattle.std.specs.Prelude.{◌≡◌, ℕ, suc, true, List, [], ◌∷◌, Some, None}
+use Rattle.std.specs.Prelude.{◌≡◌, ℕ, suc, true, [], ◌∷◌, Some, None}
 use Rattle.hir_store.specs.declared.hir.Expr.TheVariants as hir
 use Rattle.hir_store.specs.declared.hir.Statement.TheVariants as statement
 use Rattle.hir_env.specs.Answered as tree
@@ -10,7 +10,7 @@ use Rattle.hir_meaning.specs.Syntax.{written_body}
 use Rattle.hir_meaning.specs.Store.{stored_body}
 use Rattle.hir_meaning.specs.Jumps.{Enclosed}
 use Rattle.hir_meaning.specs.Same.{ended, stray_break, left, SameRun}
-use Rattle.hir_meaning.specs.Small.{at, root, one, two, literal_at, label_a, jump_a, in_braces, first, block_of, loop_of, break_of}
+use Rattle.hir_meaning.specs.Small.{at, root, one, two, literal_at, jump_a, in_braces, first, block_of, loop_of, break_of}
 use Rattle.hir_meaning.specs.Small.{StoredExprs, only, from, id, number, stored_one, stored_two, stored_block, stored_loop}
 use Rattle.hir_meaning.specs.Small.{event_of, literal_event, Example, BothDo}
 use Rattle.hir_meaning.specs.Turns.{nested}
@@ -56,7 +56,7 @@ StrayIsNoValue =
 -- `'a: loop { 'a: loop { break 'a 1 }; 2 }`, where both labels have one hygiene
 
 abbrev pub equal_labels : Example
-equal_labels = nested (Some label_a) jump_a (Some (number 1)) (number 1)
+equal_labels = nested (Some root) jump_a (Some (number 1)) (number 1)
 
 -- The inner loop is left.
 abbrev pub InnerLabelHides : Type 0
@@ -66,7 +66,7 @@ InnerLabelHides = BothDo equal_labels 1 [] (literal_event one 6 ∷ literal_even
 
 abbrev pub continue_past : Example
 continue_past = record {
-  written = tree.some_expr (loop_of 0 None (in_braces 2 None (tree.block_expr (block_of 3 (Some label_a)
+  written = tree.some_expr (loop_of 0 None (in_braces 2 None (tree.block_expr (block_of 3 (Some root)
       (first (literal_at 4 one) tree.no_stmts)
       (tree.continue_expr (at 5) None)))));
   nodes = (stored_one, Some 4)

@@ -265,7 +265,7 @@ ElementIsNothing =
 
 abbrev pub unsafe_with : Option BlockId → Example
 unsafe_with number = record {
-  written = tree.some_expr (tree.block_expr (tree.block (at 0) true None number tree.no_stmts (tree.some_expr (literal_at 1 one))));
+  written = tree.some_expr (tree.block_expr (tree.block (at 0) true None tt number tree.no_stmts (tree.some_expr (literal_at 1 one))));
   nodes = (stored_one, Some 1) ∷ (hir.Block true None number [] (Some (id 0)), Some 0) ∷ [];
   root = 1;
 }

@@ -13,7 +13,7 @@ use Rattle.hir_store.specs.declared.path.GenericArgsParentheses.TheVariants as p
 use Rattle.hir_store.specs.declared.type_ref.TypeRef.TheVariants as ty
 use Rattle.hir_env.specs.Answered as tree
 use Rattle.hir_env.specs.Answered.{Type_, OptionType, OptionExpr, OptionPat, OptionPath, OptionArgs, Arg, FnHead, SegmentArgs, Segment}
-use Rattle.hir_env.specs.Answered.{Signed}
+use Rattle.hir_env.specs.Answered.{Signed, QuestionItems}
 use Rattle.hir_meaning.specs.Inner.{Bodies, constant_body, limit_body, bodies_in, inner_bodies, path_bodies, pat_part_bodies, type_bodies}
 use Rattle.hir_meaning.specs.Small.{id, literal_at, name_at, one, two, stored_one, stored_two}
 use Rattle.hir_meaning.specs.Small.{at as node}
@@ -56,7 +56,7 @@ abbrev pub with_array : Pointer → OptionExpr → SegmentArgs
 with_array at e = with_list (just (tree.type_arg (nevers at e)))
 
 abbrev pub a_name : SegmentArgs → Segment
-a_name as' = tree.name_segment (name.Text (codes "A")) as'
+a_name as' = tree.name_segment (name.Text (codes "A")) tt as'
 
 abbrev pub plain : SegmentArgs
 plain = with_list tree.no_arg_list
@@ -121,10 +121,19 @@ record_of at n a e b = tree.some_expr (tree.record_expr at (one_segment (with_li
     (record { has_list = true; has_dots = false })
     (tree.more_fields (tree.named_field at n (cast_to at e b)) tree.no_fields) tree.no_spread)
 
+-- `(e as [!; a])?`, and `try bikeshed [!; a] { e as [!; b] }`
+abbrev pub question_of : Pointer → QuestionItems → OptionExpr → OptionExpr → OptionExpr
+question_of at items e a = tree.some_expr (tree.question_expr at items (cast_to at e a))
+
+abbrev pub typed_try_of : Pointer → OptionExpr → OptionExpr → OptionExpr → OptionExpr
+typed_try_of at a e b = tree.some_expr (tree.try_expr at None (nevers at a) None tree.no_stmts (cast_to at e b))
+
 abbrev pub ExprsInOrder : Type 0
-ExprsInOrder = (at : Pointer) (a b e f : Literal) (n : Name)
+ExprsInOrder = (at : Pointer) (a b e f : Literal) (n : Name) (items : QuestionItems)
     → (bodies_in (method_of at n (body at e) (body at a) (body at f) (body at b)) ≡ constants (body at a ∷ body at b ∷ []))
     × (bodies_in (record_of at n (body at a) (body at e) (body at b)) ≡ constants (body at a ∷ body at b ∷ []))
+    × (bodies_in (question_of at items (body at e) (body at a)) ≡ constants (body at a ∷ []))
+    × (bodies_in (typed_try_of at (body at a) (body at e) (body at b)) ≡ constants (body at a ∷ body at b ∷ []))
 
 -- `A::<{a}>(..)` with a part `A::<{b}>`, and the same behind a path that is refused
 abbrev pub call_of : Pointer → OptionPath → OptionExpr → OptionPat

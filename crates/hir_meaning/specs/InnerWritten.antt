@@ -129,7 +129,7 @@ abbrev mutual
   pub side_bodies : Side → Bodies
   side_bodies tree.no_side = []
   side_bodies (tree.literal_side at l) = []
-  side_bodies (tree.name_side at n) = []
+  side_bodies (tree.name_side at n _) = []
   side_bodies (tree.path_side at p) = path_bodies p
   side_bodies tree.other_side = []
 
@@ -260,7 +260,7 @@ abbrev mutual
   -- beside each of the names that a segment gives
   pub names_bodies : Segment → List Bodies
   names_bodies tree.absent_segment = [] ∷ []
-  names_bodies (tree.name_segment n as') = beside_bodies as' ∷ []
+  names_bodies (tree.name_segment n _ as') = beside_bodies as' ∷ []
   names_bodies tree.self_type_segment = [] ∷ []
   names_bodies (tree.trait_segment t at p) = last_behind (type_bodies t) (held p).names
   names_bodies s = []
@@ -271,8 +271,12 @@ abbrev mutual
   expr_bodies (tree.disabled_expr at by e) = []
   expr_bodies (tree.if_expr at c t e) = bodies_in c ++ (block_part_bodies t ++ bodies_in e)
   expr_bodies (tree.block_expr b) = block_bodies b
-  expr_bodies (tree.loop_expr at label b) = block_part_bodies b
-  expr_bodies (tree.while_expr at label c b) = bodies_in c ++ block_part_bodies b
+  expr_bodies (tree.loop_expr at label _ b) = block_part_bodies b
+  expr_bodies (tree.while_expr at label _ c b) = bodies_in c ++ block_part_bodies b
+  expr_bodies (tree.question_expr at items e) = bodies_in e
+  expr_bodies (tree.itemless_expr at) = []
+  -- the type stands in front of the block
+  expr_bodies (tree.try_expr at item t number ss e) = part_bodies t ++ (stmts_bodies ss ++ bodies_in e)
   expr_bodies (tree.call_expr at f has_list es) = bodies_in f ++ each_bodies es
   expr_bodies (tree.path_expr at p h) = path_bodies p
   expr_bodies (tree.continue_expr at jump) = []
@@ -335,7 +339,7 @@ abbrev mutual
   guard_bodies (tree.guard c) = bodies_in c
 
   pub block_bodies : Block → Bodies
-  block_bodies (tree.block at is_unsafe label number ss e) = stmts_bodies ss ++ bodies_in e
+  block_bodies (tree.block at is_unsafe label _ number ss e) = stmts_bodies ss ++ bodies_in e
 
   pub block_part_bodies : OptionBlock → Bodies
   block_part_bodies tree.no_block = []
@@ -355,8 +359,8 @@ abbrev mutual
 
   pub pat_bodies : Pat → Bodies
   pat_bodies (tree.leaf_pat at form) = []
-  pat_bodies (tree.bind_pat at u sub) = pat_part_bodies sub
-  pat_bodies (tree.name_pat at u) = []
+  pat_bodies (tree.bind_pat at u _ sub) = pat_part_bodies sub
+  pat_bodies (tree.name_pat at u _) = []
   pat_bodies (tree.path_pat at p) = path_bodies p
   pat_bodies (tree.tuple_struct_pat at p comma ps) = if_read (path_of p) (path_bodies p ++ pats_bodies ps)
   pat_bodies (tree.tuple_pat at comma ps) = pats_bodies ps

@@ -22,3 +22,5 @@ pub mod InnerRows
 pub mod Endings
 pub mod Patterned
 pub mod Whiles
+pub mod Questions
+pub mod Tries

@@ -1,6 +1,5 @@
 -- How the ends of ranges in types run: each is a body of its own, a literal, a path or a call.
 use Rattle.std.specs.Prelude.{[], ◌∷◌, Option, Some, None}
-use Rattle.hir_store.specs.declared.ids.LangItemId.{LangItemId}
 use Rattle.hir_env.specs.NodeMap.{Site}
 use Rattle.hir_env.specs.Answering.{site_of}
 use Rattle.hir_env.specs.Answered as tree
@@ -8,13 +7,9 @@ use Rattle.hir_env.specs.Answered.{Side, Limit}
 use Rattle.hir_data.specs.Data.{PathData, bare_path}
 use Rattle.hir_data.specs.Written.{root_hygiene, signed_data, written_path}
 use Rattle.hir_meaning.specs.Inner.{InnerBody, constant_body, limit_body}
-use Rattle.hir_meaning.specs.Run.{Value, item, literal, call, leave, missing, ends, pure, ◌>>=◌, ask, read_path}
+use Rattle.hir_meaning.specs.Run.{Value, literal, call, leave, missing, ends, ◌>>=◌, ask, read_path}
+pub use Rattle.hir_meaning.specs.Syntax.{run_item}
 use Rattle.hir_meaning.specs.Syntax.{SyntaxRun, SyntaxBody, written_body}
-
--- an item that is absent is missing
-abbrev pub run_item : Option LangItemId → SyntaxRun Value
-run_item None = ends (leave missing)
-run_item (Some i) = pure (item i)
 
 abbrev pub run_side_path : Option PathData → Option Site → SyntaxRun Value
 run_side_path None site = ends (leave missing)
@@ -24,7 +19,7 @@ run_side_path (Some p) site = read_path p root_hygiene site
 abbrev pub run_side : Side → SyntaxRun Value
 run_side tree.no_side = ends (leave missing)
 run_side (tree.literal_side at l) = ask (literal (signed_data l)) [] (Some (site_of at))
-run_side (tree.name_side at n) = read_path (bare_path n) root_hygiene (Some (site_of at))
+run_side (tree.name_side at n _) = read_path (bare_path n) root_hygiene (Some (site_of at))
 run_side (tree.path_side at p) = run_side_path (written_path p) (Some (site_of at))
 run_side tree.other_side = ends (leave missing)
 

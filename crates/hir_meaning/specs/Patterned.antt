@@ -70,7 +70,7 @@ abbrev pub name_x : Name
 name_x = name.Text (codes "x")
 
 abbrev pub x_at : ℕ → OptionPat
-x_at n = tree.some_pat (tree.bind_pat (at n) (record { name = name_x; hygiene = root; mode = Unannotated }) tree.no_pat)
+x_at n = tree.some_pat (tree.bind_pat (at n) (record { name = name_x; hygiene = root; mode = Unannotated }) tt tree.no_pat)
 
 abbrev pub stored_x : StoredPat
 stored_x = pat.Bind (binding_number 0) None
@@ -92,7 +92,7 @@ wild_data n = pat_at (Some (at n)) datum.wild_pattern
 -- `(a, .., S) = c`, where S stands for a struct
 
 abbrev pub path_s : Path
-path_s = tree.path false (tree.name_segment (name.Text (codes "S")) none_beside) tree.no_segments tree.no_path
+path_s = tree.path false (tree.name_segment (name.Text (codes "S")) tt none_beside) tree.no_segments tree.no_path
 
 abbrev pub pair_target : Target
 pair_target = tree.tuple_target (at 1) (tree.more_targets (tree.place_target (at 2) (name_at 97 2))
@@ -203,7 +203,7 @@ TriesTheArms = (by : CfgId)
 
 abbrev pub else_leaves : PatternExample
 else_leaves = record {
-  written = tree.some_expr (tree.block_expr (tree.block (at 0) false None None
+  written = tree.some_expr (tree.block_expr (tree.block (at 0) false None tt None
       (tree.more_stmts (tree.let_stmt (x_at 3) tree.no_type (tree.some_expr name_a)
       (tree.some_block (in_braces 4 None (literal_at 5 one)))) tree.no_stmts)
       (tree.some_expr (literal_at 6 two))));
@@ -231,7 +231,7 @@ LeavesByElse =
 
 abbrev pub declared : CfgId → PatternExample
 declared by = record {
-  written = tree.some_expr (tree.block_expr (tree.block (at 0) false None None
+  written = tree.some_expr (tree.block_expr (tree.block (at 0) false None tt None
       (tree.more_stmts (tree.disabled_stmt (at 1) by (tree.let_stmt (x_at 2) tree.no_type (tree.some_expr name_a) tree.no_block))
       (tree.more_stmts (tree.let_stmt (x_at 3) tree.no_type tree.no_expr tree.no_block) tree.no_stmts))
       tree.no_expr));

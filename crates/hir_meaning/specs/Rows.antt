@@ -6,13 +6,13 @@ use Rattle.hir_store.specs.declared.hir.Statement.TheVariants as statement
 use Rattle.hir_store.specs.declared.ids.CfgId.{CfgId}
 use Rattle.hir_store.specs.declared.ids.BlockId.{BlockId}
 use Rattle.hir_env.specs.Answered as tree
-use Rattle.hir_env.specs.Answered.{Label, Expr, OptionExpr, Stmt, Stmts}
+use Rattle.hir_env.specs.Answered.{Label, IsWrittenLabel, Expr, OptionExpr, Stmt, Stmts}
 use Rattle.hir_scope.specs.Scopes.{Scope, barrier}
 use Rattle.hir_meaning.specs.Run.{answered, call, enter, cut}
 use Rattle.hir_meaning.specs.Syntax.{run_syntax, run_block, written_body, run_part}
 use Rattle.hir_meaning.specs.Store.{stored_body}
 use Rattle.hir_meaning.specs.Same.{ended, left, stray_continue, SameRun}
-use Rattle.hir_meaning.specs.Small.{at, root, one, two, literal_at, name_at, label_a, jump_a, in_braces, first, block_of, loop_of, break_of}
+use Rattle.hir_meaning.specs.Small.{at, root, one, two, literal_at, name_at, jump_a, in_braces, first, block_of, loop_of, break_of}
 use Rattle.hir_meaning.specs.Small.{only, from, id, number, stored_one, stored_two, stored_name, stored_block, stored_loop}
 use Rattle.hir_meaning.specs.Small.{event_of, literal_event, read_name, Example, BothDo}
 
@@ -20,7 +20,7 @@ use Rattle.hir_meaning.specs.Small.{event_of, literal_event, read_name, Example,
 
 abbrev pub break_out : Example
 break_out = record {
-  written = tree.some_expr (tree.block_expr (in_braces 0 (Some label_a)
+  written = tree.some_expr (tree.block_expr (in_braces 0 (Some root)
       (loop_of 2 None (in_braces 3 None (break_of 4 (Some jump_a) (literal_at 5 one))))));
   nodes = (stored_one, Some 5)
       ∷ (hir.Break (Some (number 0)) (Some (id 0)), Some 4)
@@ -42,7 +42,7 @@ HasNoTurn = BothDo break_out 0 [] [] (left cut)
 
 abbrev pub break_past : Example
 break_past = record {
-  written = tree.some_expr (tree.block_expr (block_of 0 (Some label_a)
+  written = tree.some_expr (tree.block_expr (block_of 0 (Some root)
       (first (loop_of 2 None (in_braces 3 None (break_of 4 (Some jump_a) (literal_at 5 one)))) tree.no_stmts)
       (literal_at 7 two)));
   nodes = (stored_one, Some 5)
@@ -63,7 +63,7 @@ LeavesTheBlock = BothDo break_past 1 [] (literal_event one 5 ∷ []) (ended (ans
 
 abbrev pub continue_block : Example
 continue_block = record {
-  written = tree.some_expr (tree.block_expr (in_braces 0 (Some label_a) (tree.continue_expr (at 2) (Some jump_a))));
+  written = tree.some_expr (tree.block_expr (in_braces 0 (Some root) (tree.continue_expr (at 2) (Some jump_a))));
   nodes = (hir.Continue (Some (number 0)), Some 2) ∷ (stored_block (Some (number 0)) [] 0, Some 0) ∷ [];
   root = 1;
 }
@@ -101,7 +101,7 @@ HasTwoSites = BothDo two_calls 0 []
 abbrev pub numbered_block : Example
 numbered_block = record {
   written = tree.some_expr (tree.block_expr
-      (tree.block (at 0) false None (Some (record { 0 = 7 })) tree.no_stmts (tree.some_expr (literal_at 1 one))));
+      (tree.block (at 0) false None tt (Some (record { 0 = 7 })) tree.no_stmts (tree.some_expr (literal_at 1 one))));
   nodes = (stored_one, Some 1) ∷ (hir.Block false None (Some (record { 0 = 7 })) [] (Some (id 0)), Some 0) ∷ [];
   root = 1;
 }
@@ -135,10 +135,10 @@ disabled_stmt q by e semi = tree.expr_stmt (tree.some_expr (tree.disabled_expr q
 -- A disabled statement of a block is nothing, wherever it stands.
 abbrev pub DisabledIsNothing : Type 0
 DisabledIsNothing =
-    (turns : ℕ) (p q : Pointer) (is_unsafe : Bool) (label : Option Label) (number : Option BlockId) (before after : Stmts)
-    (by : CfgId) (e : Expr) (semi : Bool) (tail : OptionExpr) (ss : List Scope)
-    → run_block turns (tree.block p is_unsafe label number (joined before (tree.more_stmts (disabled_stmt q by e semi) after)) tail) ss
-    ≡ run_block turns (tree.block p is_unsafe label number (joined before after) tail) ss
+    (turns : ℕ) (p q : Pointer) (is_unsafe : Bool) (label : Option Label) (w : IsWrittenLabel label) (number : Option BlockId)
+    (before after : Stmts) (by : CfgId) (e : Expr) (semi : Bool) (tail : OptionExpr) (ss : List Scope)
+    → run_block turns (tree.block p is_unsafe label w number (joined before (tree.more_stmts (disabled_stmt q by e semi) after)) tail) ss
+    ≡ run_block turns (tree.block p is_unsafe label w number (joined before after) tail) ss
 
 -- A body behind a barrier runs as if nothing were outside.
 abbrev pub RunsAlone : Type 0

@@ -20,7 +20,7 @@ use Rattle.hir_store.specs.declared.ids.HygieneId.{HygieneId}
 use Rattle.hir_env.specs.Answering.{site_of}
 use Rattle.hir_env.specs.Tables.{contexts_of}
 use Rattle.hir_env.specs.Answered as tree
-use Rattle.hir_env.specs.Answered.{OptionPath, SegmentArgs, Label, Jump, Expr, OptionExpr, Block, Stmts}
+use Rattle.hir_env.specs.Answered.{OptionPath, SegmentArgs, Label, IsWrittenLabel, Jump, Expr, OptionExpr, Block, Stmts}
 use Rattle.hir_data.specs.Data.{PathData, path_data, no_type, more_names, no_names, no_args}
 use Rattle.hir_meaning.specs.Data.{literal_data}
 use Rattle.hir_meaning.specs.Run.{Value, Operation, literal, read, Event, event_at, Answerer, Body}
@@ -56,7 +56,7 @@ none_beside = tree.segment_args tree.no_arg_list tree.no_parens false
 
 -- the path of a name of one byte
 abbrev pub path_of : ℕ → OptionPath
-path_of c = tree.some_path (tree.path false (tree.name_segment (name.Text (c ∷ [])) none_beside) tree.no_segments tree.no_path)
+path_of c = tree.some_path (tree.path false (tree.name_segment (name.Text (c ∷ [])) tt none_beside) tree.no_segments tree.no_path)
 
 abbrev pub name_at : ℕ → ℕ → Expr
 name_at c n = tree.path_expr (at n) (path_of c) root
@@ -71,23 +71,31 @@ jump_with h = record { pointer = at 9; name = name.Text (97 ∷ []); hygiene = h
 abbrev pub label_a : Label
 label_a = label_with root
 
+-- that, where there is a hygiene
+abbrev pub label_if : Option HygieneId → Option Label
+label_if h = option_map label_with h
+
+abbrev pub written_if : (h : Option HygieneId) → IsWrittenLabel (label_if h)
+written_if None = tt
+written_if (Some h) = tt
+
 abbrev pub jump_a : Jump
 jump_a = jump_with root
 
--- `{ e }`
-abbrev pub in_braces : ℕ → Option Label → Expr → Block
-in_braces n label e = tree.block (at n) false label None tree.no_stmts (tree.some_expr e)
+-- `{ e }`, with a label `'a` of this hygiene or none
+abbrev pub in_braces : ℕ → Option HygieneId → Expr → Block
+in_braces n h e = tree.block (at n) false (label_if h) (written_if h) None tree.no_stmts (tree.some_expr e)
 
 -- `e;`, before others
 abbrev pub first : Expr → Stmts → Stmts
 first e ss = tree.more_stmts (tree.expr_stmt (tree.some_expr e) true) ss
 
 -- `{ ss e }`
-abbrev pub block_of : ℕ → Option Label → Stmts → Expr → Block
-block_of n label ss e = tree.block (at n) false label None ss (tree.some_expr e)
+abbrev pub block_of : ℕ → Option HygieneId → Stmts → Expr → Block
+block_of n h ss e = tree.block (at n) false (label_if h) (written_if h) None ss (tree.some_expr e)
 
-abbrev pub loop_of : ℕ → Option Label → Block → Expr
-loop_of n label b = tree.loop_expr (at n) label (tree.some_block b)
+abbrev pub loop_of : ℕ → Option HygieneId → Block → Expr
+loop_of n h b = tree.loop_expr (at n) (label_if h) (written_if h) (tree.some_block b)
 
 abbrev pub break_of : ℕ → Option Jump → Expr → Expr
 break_of n jump e = tree.break_expr (at n) jump (tree.some_expr e)

@@ -10,6 +10,13 @@ use Rattle.hir_store.specs.declared.hir.MatchArm.{MatchArm}
 use Rattle.hir_store.specs.declared.hir.Statement.{Statement}
 use Rattle.hir_store.specs.declared.hir.Statement.TheVariants as statement
 use Rattle.hir_store.specs.declared.ids.ExprId.{ExprId}
+use Rattle.hir_store.specs.declared.ids.HygieneId.{HygieneId}
+use Rattle.hir_store.specs.declared.ids.TypeRefId.{TypeRefId}
+use Rattle.hir_store.specs.declared.name.Name.{Name}
+use Rattle.hir_store.specs.declared.name.Name.TheVariants as name
+use Rattle.hir_store.specs.declared.pat.Binding.{Binding}
+use Rattle.hir_store.specs.declared.pat.Pat.{Pat}
+use Rattle.hir_store.specs.declared.pat.Pat.TheVariants as pat
 use Rattle.hir_store.specs.declared.ids.LabelId.{LabelId}
 use Rattle.hir_store.specs.declared.ids.PatId.{PatId}
 use Rattle.hir_env.specs.NodeMap.{Site}
@@ -17,32 +24,98 @@ use Rattle.hir_env.specs.Answering.{site_of}
 use Rattle.hir_store.specs.declared.hir.RecordSpread.{RecordSpread}
 use Rattle.hir_store.specs.declared.hir.RecordSpread.TheVariants as spread
 use Rattle.hir_data.specs.Literals.{literal_read}
-use Rattle.hir_data.specs.Reading.{stored_path, stored_type, stored_option_type, stored_args, stored_pat}
+use Rattle.hir_data.specs.Data.{PathData, PatData, OptionTypeData, no_type, some_type, pattern_site}
+use Rattle.hir_data.specs.MadeNames.{made_name}
+use Rattle.hir_data.specs.Reading.{binding_found, stored_path, stored_type, stored_option_type, stored_args, stored_pat}
 use Rattle.hir_meaning.specs.Places.{places}
-use Rattle.hir_meaning.specs.Run.{Value, unit, truth, is_true, Operation, literal, call, break, continue, leave, missing, Body, Run}
+use Rattle.hir_meaning.specs.Run.{Value, answered, unit, truth, is_true, matches, test, bound, Operation, literal, call, Answer}
+use Rattle.hir_meaning.specs.Run.{Outcome, value, break, continue, leave, missing, Body, Run}
 use Rattle.hir_meaning.specs.Run.{underscore, include_bytes, field, prefix, reference, operator, index, array, method_call}
 use Rattle.hir_meaning.specs.Run.{yielding, awaiting, cast, SpreadForm, no_spread, field_defaults, rest_of, made_record, offset_of}
 use Rattle.hir_meaning.specs.Run.{returned, became, yeeted, unmatched, made_tuple, lazily, read_path, binds, assigns}
 use Rattle.hir_base.specs.declared.op.BinaryOp.TheVariants as ast
-use Rattle.hir_meaning.specs.Run.{ends, pure, ◌>>=◌, ◌>>◌, ask, tests, tests_pattern, entering}
+use Rattle.hir_meaning.specs.Run.{ends, pure, ◌>>=◌, ◌>>◌, event, ask, tests, tests_pattern, entering}
 use Rattle.hir_meaning.specs.Catching.{turn, loop, block}
 
 -- the label that a jump names; None: a plain jump
 abbrev pub JumpLabel : Type 0
 JumpLabel = Option LabelId
 
--- what it keeps besides: so far nothing
+-- what it keeps besides: the values of the names that lowering made up, by their numbers
 abbrev pub RunTable : Type 0
-RunTable = Unit {0}
+RunTable = ℕ → Option Value
 
 abbrev pub new_table : RunTable
-new_table = tt
+new_table = λ n. None
+
+abbrev pub with_name : ℕ → Value → RunTable → RunTable
+with_name n v table = λ k. if nat_eq k n then Some v else table k
 
 abbrev pub StoreRun : Type 0 → Type 0
 StoreRun A = Run RunTable JumpLabel A
 
 abbrev pub StoreBody : Type 0
 StoreBody = Body RunTable JumpLabel
+
+-- names that lowering made up
+
+-- the number of such a name
+abbrev pub number_made : Name → Option ℕ
+number_made (name.Generated n) = Some n
+number_made _ = None
+
+abbrev pub name_bound : Option Binding → Option ℕ
+name_bound None = None
+name_bound (Some b) = number_made b.name
+
+-- the name takes the value
+unfoldable pub takes : ℕ → Value → StoreRun (Unit {0})
+takes n v = λ w. (value tt, record w { table = with_name n v w.table })
+
+-- one without a value is missing
+abbrev pub looked_up : Option Value → Outcome JumpLabel Value
+looked_up None = leave missing
+looked_up (Some v) = value v
+
+unfoldable pub looks_up : ℕ → StoreRun Value
+looks_up n = λ w. (looked_up (w.table n), w)
+
+-- A read of such a name is silent.
+abbrev pub read_or_look : Option ℕ → PathData → HygieneId → Option Site → StoreRun Value
+read_or_look None p h site = read_path p h site
+read_or_look (Some n) p h site = looks_up n
+
+-- the name takes the answer, where it is yes
+abbrev pub takes_if : ℕ → Answer → StoreRun (Unit {0})
+takes_if n a = if a.yes then takes n (answered a.value) else pure tt
+
+-- Whether the value fits the pattern. A name that is the whole pattern takes the value, and nothing happens; one that is the part of
+-- the pattern takes the answer.
+abbrev pub fits_or_takes : Option ℕ → Option ℕ → PatData → Value → StoreRun Bool
+fits_or_takes (Some n) part p v = do
+  takes n v
+  pure true
+fits_or_takes None (Some n) p v = do
+  a ← event (test (matches p)) (v ∷ []) (pattern_site p)
+  takes_if n a
+  pure a.yes
+fits_or_takes None None p v = tests_pattern p v
+
+-- the name takes the value, where there is one
+abbrev pub takes_first : ℕ → List Value → StoreRun (Unit {0})
+takes_first n [] = pure tt
+takes_first n (v ∷ vs) = takes n v
+
+-- A `let` statement of such a name is silent, where no type is written; with one the name takes the answer.
+abbrev pub binds_or_takes : Option ℕ → PatData → OptionTypeData → List Value → StoreRun Bool
+binds_or_takes None p t vs = binds p t vs
+binds_or_takes (Some n) p no_type vs = do
+  takes_first n vs
+  pure true
+binds_or_takes (Some n) p (some_type t) vs = do
+  a ← event (bound p (some_type t)) vs (pattern_site p)
+  takes n (answered a.value)
+  pure a.yes
 
 -- jumps
 
@@ -113,6 +186,28 @@ module _ (turns : ℕ) (part : ExprId → StoreRun Value) where
 -- the store
 
 module _ (store : Store) (source_map : SourceMap) where
+  abbrev pub made_by : Option Pat → Option ℕ
+  made_by (Some (pat.Bind i sub)) = name_bound (binding_found store source_map i)
+  made_by _ = None
+
+  -- the made name that a pattern is
+  abbrev pub whole_made : PatId → Option ℕ
+  whole_made p = made_by (slice_get store.pats p.0)
+
+  -- the one that is the only part of a pattern
+  abbrev pub made_inside : Option Pat → Option ℕ
+  made_inside (Some (pat.TupleStruct p ellipsis (q ∷ []))) = whole_made q
+  made_inside _ = None
+
+  abbrev pub part_made : PatId → Option ℕ
+  part_made p = made_inside (slice_get store.pats p.0)
+
+  abbrev pub fits : PatId → Value → StoreRun Bool
+  fits p v = fits_or_takes (whole_made p) (part_made p) (stored_pat store source_map p) v
+
+  abbrev pub bound_to : PatId → Option TypeRefId → List Value → StoreRun Bool
+  bound_to p t vs = binds_or_takes (whole_made p) (stored_pat store source_map p) (stored_option_type store source_map t) vs
+
   -- one node, with what runs its parts
   module _ (turns : ℕ) (part : ExprId → StoreRun Value) where
     -- what is done with the value of one operand, and with those of two, from left to right
@@ -136,20 +231,21 @@ module _ (store : Store) (source_map : SourceMap) where
       run_statements ss tail
     run_statements (statement.Let p t e b ∷ ss) tail = do
       vs ← run_present turns part e
-      fits ← binds (stored_pat store source_map p) (stored_option_type store source_map t) vs
-      run_else turns part b fits (run_statements ss tail)
+      holds ← bound_to p t vs
+      run_else turns part b holds (run_statements ss tail)
 
     -- the arms are tried in order, the first that fits runs
     abbrev pub run_arms : List MatchArm → Value → Option Site → StoreRun Value
     run_arms [] v site = ends (leave unmatched)
     run_arms (a ∷ arms) v site = do
-      fits ← tests_pattern (stored_pat store source_map a.pat) v
-      if fits then run_guarded turns part a.guard site (part a.expr) (run_arms arms v site) else run_arms arms v site
+      holds ← fits a.pat v
+      if holds then run_guarded turns part a.guard site (part a.expr) (run_arms arms v site) else run_arms arms v site
 
     abbrev pub run_stored : Expr → Option Site → StoreRun Value
     run_stored hir.Missing site = ends (leave missing)
     run_stored (hir.Literal l) site = ask (literal (literal_read l)) [] site
-    run_stored (hir.Path p h) site = read_path (stored_path store source_map p) h site
+    run_stored (hir.Path p h) site =
+        let d = stored_path store source_map p in read_or_look (made_name d) d h site
     run_stored (hir.Call f xs) site = do
       v ← part f
       vs ← run_each turns part xs
@@ -207,8 +303,8 @@ module _ (store : Store) (source_map : SourceMap) where
       ask yielding (v ∷ []) site
     run_stored (hir.Let p e) site = do
       v ← part e
-      fits ← tests_pattern (stored_pat store source_map p) v
-      pure (truth fits)
+      holds ← fits p v
+      pure (truth holds)
     run_stored (hir.Match e arms) site = do
       v ← part e
       run_arms arms v site

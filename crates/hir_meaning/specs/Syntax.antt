@@ -3,7 +3,9 @@
 use Rattle.std.specs.Prelude.{ℕ, Bool, true, false, codes, List, [], ◌∷◌, ◌++◌, Option, Some, None, if◌then◌else◌}
 use Rattle.hir_store.specs.declared.name.Name.{Name}
 use Rattle.hir_store.specs.declared.name.Name.TheVariants as name
+use Rattle.hir_store.specs.declared.ids.BlockId.{BlockId}
 use Rattle.hir_store.specs.declared.ids.HygieneId.{HygieneId}
+use Rattle.hir_store.specs.declared.ids.LangItemId.{LangItemId}
 use Rattle.hir_base.specs.declared.op.LogicOp.{LogicOp}
 use Rattle.hir_base.specs.declared.op.BinaryOp.TheVariants as ast
 use Rattle.hir_env.specs.NodeMap.{Site}
@@ -11,15 +13,19 @@ use Rattle.hir_env.specs.Answering.{site_of}
 use Rattle.hir_env.specs.Answered as tree
 use Rattle.hir_env.specs.Answered.{Leaf, Unary, Binary, Listing, Leaving, RangeForm}
 use Rattle.hir_env.specs.Answered.{Label, Expr, OptionExpr, Exprs, Fields, Spread, Block, OptionBlock, Stmts, Arms, Guard}
-use Rattle.hir_env.specs.Answered.{Target, Targets, TargetFields}
-use Rattle.hir_meaning.specs.Run.{Value, unit, item, truth, is_true, Operation, literal, call, break, continue, leave, missing, Body, Run}
+use Rattle.hir_env.specs.Answered.{Target, Targets, TargetFields, OptionType, QuestionItems}
+use Rattle.hir_meaning.specs.Run.{Value, answered, unit, item, truth, is_true, matches, test, bound, Operation, literal, call, Outcome}
+use Rattle.hir_meaning.specs.Run.{break, continue, leave, missing, Body, Run}
 use Rattle.hir_meaning.specs.Run.{underscore, include_bytes, field, prefix, reference, operator, index, array, method_call}
 use Rattle.hir_meaning.specs.Run.{yielding, awaiting, cast, SpreadForm, no_spread, field_defaults, rest_of, made_record, offset_of}
 use Rattle.hir_meaning.specs.Run.{Leave, returned, became, yeeted, unmatched, made_tuple, lazily, read_path, binds, assigns}
-use Rattle.hir_meaning.specs.Run.{ends, pure, ◌>>=◌, ◌>>◌, ask, tests, tests_pattern, entering}
+use Rattle.hir_meaning.specs.Run.{ends, pure, ◌>>=◌, ◌>>◌, event, ask, tests, tests_pattern, entering}
 use Rattle.hir_meaning.specs.Catching.{turn, loop, block}
-use Rattle.hir_scope.specs.Scopes.{Scope, loop_scope, Count, break_target, continue_target, outward, continue_past_block, scopes_in_block}
-use Rattle.hir_data.specs.Data.{PathData, item_path}
+use Rattle.hir_scope.specs.Ribs.{Try}
+use Rattle.hir_scope.specs.Scopes.{Scope, loop_scope, try_scope, Count, break_target, continue_target, innermost_try, outward}
+use Rattle.hir_scope.specs.Scopes.{continue_past_block, scopes_in_block}
+use Rattle.hir_data.specs.Data.{PathData, item_path, OptionTypeData, no_type, some_type, PatData, pat_at, generated_pattern}
+use Rattle.hir_data.specs.Data.{tuple_struct_pattern, no_patterns, more_patterns}
 use Rattle.hir_data.specs.Literals.{literal_data}
 use Rattle.hir_data.specs.Lookup.{lookup_hygiene}
 use Rattle.hir_data.specs.Patterns.{written_pat}
@@ -123,6 +129,77 @@ run_range (tree.call_range (Some i)) start end of_start of_end site = do
   ask call (item i ∷ (vs ++ ws)) site
 run_range tree.itemless_range start end of_start of_end site = ends (leave missing)
 
+-- an item that is absent is missing
+abbrev pub run_item : Option LangItemId → SyntaxRun Value
+run_item None = ends (leave missing)
+run_item (Some i) = pure (item i)
+
+-- ---- `?` (Rust Reference, the question mark operator; `try` blocks)
+
+-- what nobody wrote: a name that stands for what a test or a `let` is answered
+abbrev pub unnamed_pattern : PatData
+unnamed_pattern = pat_at None generated_pattern
+
+-- the item around it
+abbrev pub item_pattern : LangItemId → PatData
+item_pattern i = pat_at None (tuple_struct_pattern (item_path i) None (more_patterns unnamed_pattern no_patterns))
+
+-- What makes of a residual the value of the `try` that it is for, or of the body where it is for none. A `try` that says its type
+-- takes what a body takes.
+abbrev pub residual_item : QuestionItems → Option (Try ℕ) → Option LangItemId
+residual_item items None = items.from_residual
+residual_item items (Some t) = if t.typed then items.from_residual else items.into_try_type
+
+-- it leaves the `try` with its value, or else the body
+abbrev pub leaves_try : Option (Try ℕ) → Value → Outcome Count Value
+leaves_try None v = leave (returned v)
+leaves_try (Some t) v = break (Some t.place) v
+
+abbrev pub run_residual : QuestionItems → Option (Try ℕ) → Value → Option Site → SyntaxRun Value
+run_residual items t v site = do
+  f ← run_item (residual_item items t)
+  w ← ask call (f ∷ v ∷ []) site
+  ends (leaves_try t w)
+
+-- What the operand branches to is tested for both kinds, at no node. The first gives what the test is answered.
+abbrev pub run_question : QuestionItems → Option (Try ℕ) → SyntaxRun Value → Option Site → SyntaxRun Value
+run_question items t operand site = do
+  v ← operand
+  w ← ask call (item items.branch ∷ v ∷ []) site
+  a ← event (test (matches (item_pattern items.goes_on))) (w ∷ []) None
+  if a.yes then pure (answered a.value) else (do
+    b ← event (test (matches (item_pattern items.breaks))) (w ∷ []) None
+    if b.yes then run_residual items t (answered b.value) site else ends (leave unmatched))
+
+-- ---- `try`
+
+-- its value goes through a call of the item
+abbrev pub through : Option LangItemId → Option Site → SyntaxRun Value → SyntaxRun Value
+through i site m = do
+  f ← run_item i
+  v ← m
+  ask call (f ∷ v ∷ []) site
+
+-- one with a written type gives what the `let` of that type is answered
+abbrev pub run_typed : OptionTypeData → SyntaxRun Value → SyntaxRun Value
+run_typed no_type m = m
+run_typed (some_type t) m = do
+  v ← m
+  a ← event (bound unnamed_pattern (some_type t)) (v ∷ []) None
+  pure (answered a.value)
+
+-- The block, which is entered where it has a number; what a `?` brings it is its value as it is.
+abbrev pub run_try : OptionTypeData → Option BlockId → Option Site → SyntaxRun Value → SyntaxRun Value
+run_try t number site m = run_typed t (entering false number site (block outward continue_past_block m))
+
+abbrev pub is_typed : OptionType → Bool
+is_typed tree.no_type = false
+is_typed (tree.some_type t) = true
+
+-- what gives the value of a block that is no `try`
+abbrev pub as_it_is : SyntaxRun Value → SyntaxRun Value
+as_it_is m = m
+
 -- parts beside a path that is absent or refused don't run
 abbrev pub if_read : {A : Type 0} → Option PathRead → A → A → A
 if_read None there behind = behind
@@ -154,10 +231,16 @@ module _ (turns : ℕ) where
       v ← run_part c ss
       holds ← tests is_true v (Some (site_of at))
       if holds then run_block_part t ss else run_or_unit e ss
-    run_expr (tree.loop_expr at label b) ss = loop outward turns (turn (run_block_part b (loop_scope label ∷ ss)))
+    run_expr (tree.loop_expr at label _ b) ss = loop outward turns (turn (run_block_part b (loop_scope label ∷ ss)))
     -- its condition lies under its label, too
-    run_expr (tree.while_expr at label c b) ss =
+    run_expr (tree.while_expr at label _ c b) ss =
         run_while turns (run_part c (loop_scope label ∷ ss)) (run_block_part b (loop_scope label ∷ ss)) (Some (site_of at))
+    run_expr (tree.question_expr at items e) ss = run_question items (innermost_try ss) (run_part e ss) (Some (site_of at))
+    run_expr (tree.itemless_expr at) ss = ends (leave missing)
+    run_expr (tree.try_expr at i t number stmts tail) ss =
+        let here = Some (site_of at) in
+        run_try (written_option_type t) number here
+        (run_stmts stmts (is_left tail) (through i here) (run_tail tail) (try_scope (is_typed t) ∷ ss))
     run_expr (tree.break_expr at jump e) ss = do
       v ← run_or_unit e ss
       ends (break (break_target ss jump) v)
@@ -304,30 +387,31 @@ module _ (turns : ℕ) where
       pure (v ∷ [])
 
     pub run_block : Block → List Scope → SyntaxRun Value
-    run_block (tree.block at is_unsafe label number stmts tail) ss =
+    run_block (tree.block at is_unsafe label _ number stmts tail) ss =
         entering is_unsafe number (Some (site_of at))
-        (catching label (run_stmts stmts (is_left tail) (run_tail tail) (scopes_in_block label ss)))
+        (catching label (run_stmts stmts (is_left tail) as_it_is (run_tail tail) (scopes_in_block label ss)))
 
     -- the tail that is written, where it is left
     pub run_tail : OptionExpr → List Scope → SyntaxRun Value
     run_tail tree.no_expr ss = pure unit
     run_tail (tree.some_expr e) ss = if is_kept e then run_expr e ss else pure unit
 
-    -- The statements that are left, in order, and then the tail; the last of them may give the block its value.
-    pub run_stmts : Stmts → Bool → (List Scope → SyntaxRun Value) → List Scope → SyntaxRun Value
-    run_stmts tree.no_stmts has_tail tail ss = tail ss
-    run_stmts (tree.more_stmts (tree.disabled_stmt at by s) stmts) has_tail tail ss = run_stmts stmts has_tail tail ss
-    run_stmts (tree.more_stmts tree.item_stmt stmts) has_tail tail ss = run_stmts stmts has_tail tail ss
-    run_stmts (tree.more_stmts (tree.let_stmt p t e b) stmts) has_tail tail ss = do
+    -- The statements that are left, in order, and then the tail; the last of them may give the block its value. What gives it goes
+    -- through `out`.
+    pub run_stmts : Stmts → Bool → (SyntaxRun Value → SyntaxRun Value) → (List Scope → SyntaxRun Value) → List Scope → SyntaxRun Value
+    run_stmts tree.no_stmts has_tail out tail ss = out (tail ss)
+    run_stmts (tree.more_stmts (tree.disabled_stmt at by s) stmts) has_tail out tail ss = run_stmts stmts has_tail out tail ss
+    run_stmts (tree.more_stmts tree.item_stmt stmts) has_tail out tail ss = run_stmts stmts has_tail out tail ss
+    run_stmts (tree.more_stmts (tree.let_stmt p t e b) stmts) has_tail out tail ss = do
       vs ← run_present e ss
       fits ← binds (written_pat p) (written_option_type t) vs
-      run_else b fits (run_stmts stmts has_tail tail ss) ss
-    run_stmts (tree.more_stmts (tree.expr_stmt e semi) stmts) has_tail tail ss =
+      run_else b fits (run_stmts stmts has_tail out tail ss) ss
+    run_stmts (tree.more_stmts (tree.expr_stmt e semi) stmts) has_tail out tail ss =
         if is_left e
-        then (if is_last semi stmts has_tail then run_part e ss else (do
+        then (if is_last semi stmts has_tail then out (run_part e ss) else (do
           run_part e ss
-          run_stmts stmts has_tail tail ss))
-        else run_stmts stmts has_tail tail ss
+          run_stmts stmts has_tail out tail ss))
+        else run_stmts stmts has_tail out tail ss
 
 -- the run of a body that stands by itself, with so many turns
 abbrev pub run_syntax : OptionExpr → ℕ → SyntaxRun Value

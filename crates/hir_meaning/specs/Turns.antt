@@ -5,10 +5,10 @@ use Rattle.hir_store.specs.declared.hir.Statement.TheVariants as statement
 use Rattle.hir_store.specs.declared.ids.LabelId.{LabelId}
 use Rattle.hir_store.specs.declared.ids.HygieneId.{HygieneId}
 use Rattle.hir_env.specs.Answered as tree
-use Rattle.hir_env.specs.Answered.{Label, Jump, Expr}
+use Rattle.hir_env.specs.Answered.{Jump, Expr}
 use Rattle.hir_meaning.specs.Run.{answered, test, is_true, Event, Answer, cut}
 use Rattle.hir_meaning.specs.Same.{ended, left}
-use Rattle.hir_meaning.specs.Small.{at, one, two, literal_at, label_with, jump_with, label_a, jump_a}
+use Rattle.hir_meaning.specs.Small.{at, root, one, two, literal_at, jump_with, jump_a}
 use Rattle.hir_meaning.specs.Small.{in_braces, first, block_of, loop_of, break_of}
 use Rattle.hir_meaning.specs.Small.{StoredExprs, id, number, stored_one, stored_two, stored_block, stored_loop}
 use Rattle.hir_meaning.specs.Small.{event_of, literal_event, Example, BothDo}
@@ -40,7 +40,7 @@ loop_inside = loop_of 3 None (block_of 4 None (first (literal_at 5 one) tree.no_
 
 abbrev pub continue_outer : Example
 continue_outer = record {
-  written = tree.some_expr (loop_of 0 (Some label_a) (block_of 2 None (first loop_inside tree.no_stmts) (literal_at 8 two)));
+  written = tree.some_expr (loop_of 0 (Some root) (block_of 2 None (first loop_inside tree.no_stmts) (literal_at 8 two)));
   nodes = (stored_one, Some 5)
       ∷ (hir.Continue (Some (number 0)), Some 6)
       ∷ (stored_block None (statement.Expr (id 0) true ∷ []) 1, Some 4)
@@ -58,8 +58,8 @@ ContinuesTheOuter = BothDo continue_outer 2 [] (literal_event one 5 ∷ literal_
 
 -- `'a: loop { 'b: loop { break 'c 1 }; 2 }`, where 'b and 'c are 'a, or it with another hygiene
 
-abbrev pub break_nested : Option Label → Jump → Expr
-break_nested inner jump = loop_of 0 (Some label_a) (block_of 2 None
+abbrev pub break_nested : Option HygieneId → Jump → Expr
+break_nested inner jump = loop_of 0 (Some root) (block_of 2 None
     (first (loop_of 3 inner (in_braces 4 None (break_of 5 (Some jump) (literal_at 6 one)))) tree.no_stmts)
     (literal_at 8 two))
 
@@ -74,7 +74,7 @@ stored_nested inner target = (stored_one, Some 6)
     ∷ (stored_loop (Some (number 0)) 5, Some 0)
     ∷ []
 
-abbrev pub nested : Option Label → Jump → Option LabelId → LabelId → Example
+abbrev pub nested : Option HygieneId → Jump → Option LabelId → LabelId → Example
 nested inner jump stored target = record {
   written = tree.some_expr (break_nested inner jump);
   nodes = stored_nested stored target;
@@ -90,7 +90,7 @@ other = record { 0 = 1 }
 
 -- where the inner loop has a label as well
 abbrev pub two_labels : Jump → ℕ → Example
-two_labels jump target = nested (Some (label_with other)) jump (Some (number 1)) (number target)
+two_labels jump target = nested (Some other) jump (Some (number 1)) (number target)
 
 -- So it does where the inner loop's label has the name, but another hygiene; a break with that one leaves the inner loop alone.
 abbrev pub HygienesDiffer : Type 0

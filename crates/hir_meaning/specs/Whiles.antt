@@ -4,13 +4,14 @@ use Rattle.hir_store.specs.declared.hir.Expr.{Expr as Stored}
 use Rattle.hir_store.specs.declared.hir.Expr.TheVariants as hir
 use Rattle.hir_store.specs.declared.hir.LoopSource.TheVariants as source
 use Rattle.hir_store.specs.declared.hir.Statement.TheVariants as statement
+use Rattle.hir_store.specs.declared.ids.HygieneId.{HygieneId}
 use Rattle.hir_store.specs.declared.ids.LabelId.{LabelId}
 use Rattle.hir_store.specs.declared.pat.Pat.TheVariants as pat
 use Rattle.hir_env.specs.Answered as tree
-use Rattle.hir_env.specs.Answered.{Label, Expr, Block}
+use Rattle.hir_env.specs.Answered.{Expr, Block}
 use Rattle.hir_meaning.specs.Run.{unit, answered, Event, test, is_true, matches, cut}
 use Rattle.hir_meaning.specs.Same.{ended, left}
-use Rattle.hir_meaning.specs.Small.{at, root, one, literal_at, name_at, label_a, jump_a, first, block_of, break_of}
+use Rattle.hir_meaning.specs.Small.{at, root, one, literal_at, name_at, label_if, written_if, jump_a, first, block_of, break_of}
 use Rattle.hir_meaning.specs.Small.{StoredExprs, id, number, stored_one, stored_name, stored_block, event_of, literal_event, read_name}
 use Rattle.hir_meaning.specs.Small.{Example, BothDo}
 use Rattle.hir_meaning.specs.Forms.{yes}
@@ -19,14 +20,14 @@ use Rattle.hir_meaning.specs.Patterned.{PatternExample, BothDoTurns, pat_number,
 
 -- `{}`
 abbrev pub empty_at : ℕ → Block
-empty_at n = tree.block (at n) false None None tree.no_stmts tree.no_expr
+empty_at n = tree.block (at n) false None tt None tree.no_stmts tree.no_expr
 
 abbrev pub stored_empty : Stored
 stored_empty = hir.Block false None None [] None
 
--- `while c b` at the node 0
-abbrev pub while_of : Option Label → Expr → Block → Expr
-while_of label c b = tree.while_expr (at 0) label (tree.some_expr c) (tree.some_block b)
+-- `while c b` at the node 0, with a label of this hygiene or none
+abbrev pub while_of : Option HygieneId → Expr → Block → Expr
+while_of h c b = tree.while_expr (at 0) (label_if h) (written_if h) (tree.some_expr c) (tree.some_block b)
 
 -- what comes behind its body and its condition, whose numbers these are: the break, the turn and the loop, beginning at this number
 abbrev pub stored_while : Option LabelId → ℕ → ℕ → ℕ → ℕ → StoredExprs
@@ -105,7 +106,7 @@ JumpsInItsCondition = BothDo continue_in_condition 2 [] [] (left cut)
 
 abbrev pub label_in_condition : PatternExample
 label_in_condition = record {
-  written = tree.some_expr (while_of (Some label_a)
+  written = tree.some_expr (while_of (Some root)
       (tree.match_expr (at 2) (tree.some_expr (name_at 97 3)) (tree.more_arms
       (tree.arm (wild_at 4) (tree.some_expr (tree.break_expr (at 5) (Some jump_a) tree.no_expr)) tree.no_guard) tree.no_arms))
       (empty_at 6));

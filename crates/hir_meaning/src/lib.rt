@@ -15,6 +15,11 @@ ghost use Rattle.hir_meaning.specs.Endings.{ContinuesPastTheBlock, AnswersNoPast
 ghost use Rattle.hir_meaning.specs.Patterned.{AssignsInOrder, TestsThePattern, TriesTheArms, LeavesByElse, BindsNoValue, MakesRanges};
 ghost use Rattle.hir_meaning.specs.Patterned.{CallsForTheLast};
 ghost use Rattle.hir_meaning.specs.Whiles.{WhileHasNoTurn, AsksAgain, ContinuesTheWhile, JumpsInItsCondition, LeavesByItsCondition};
+ghost use Rattle.hir_meaning.specs.Questions.{GoesOn, ReturnsTheResidual, IsOfNeitherKind, LacksItsConversion, ItemlessIsMissing};
+ghost use Rattle.hir_meaning.specs.Questions.{AsksOfTheAnswer, NamesKeepTheirValues};
+ghost use Rattle.hir_meaning.specs.Tries.{LeavesTheTry, LacksItsConversionInside, LacksItsOutput, LeavesTheInnerTry, GoesOnToTheOutput};
+ghost use Rattle.hir_meaning.specs.Tries.{LeavesPastTheLoop, GoesThroughTheOutput, BindsToItsType, ConvertsAsForABody, JumpsPassTheTry};
+ghost use Rattle.hir_meaning.specs.Tries.{BarrierHidesTheTry};
 ghost use Rattle.hir_meaning.specs.InnerRows.{TypesInOrder, PathsInOrder, ExprsInOrder, PatternsInOrder, StoredInOrder};
 
 /// `'a: { loop { break 'a 1 } }` with one turn is the literal and its value.
@@ -234,7 +239,7 @@ pub fn foreign_is_not_enclosed()
 
 /// The bodies inside `[[!; a]; b]` are a and b, inside `[!; a as [!; b]]` the cast and b; inside a refused path, and in
 /// arguments that go again, there are none. Arguments come before bindings, and of a method call those in `<..>` before the
-/// others; of an arm those of its guard before those of its body. So they are stored, too.
+/// others; of an arm those of its guard before those of its body; of a `try` those of its type. So they are stored, too.
 pub fn inner_bodies_in_order()
     ensures types { TypesInOrder }
     ensures paths { PathsInOrder }
@@ -301,4 +306,94 @@ pub fn jumps_in_its_condition()
 /// `'a: while match a { _ => break 'a } {}` reads a, tries `_` and ends with unit, without a test of the condition.
 pub fn leaves_by_its_condition()
     ensures { LeavesByItsCondition }
+{}
+
+/// `a?` reads a, calls the item with it and asks of which kind the answer is: of the first, the answer to that is the value.
+pub fn goes_on()
+    ensures { GoesOn }
+{}
+
+/// Of the second, and outside of a `try`, the body returns what a call makes of the answer to that.
+pub fn returns_the_residual()
+    ensures { ReturnsTheResidual }
+{}
+
+/// Of neither, the body ends as unmatched.
+pub fn is_of_neither_kind()
+    ensures { IsOfNeitherKind }
+{}
+
+/// Without the item of that call the body ends as missing, but only where it would be called.
+pub fn lacks_its_conversion()
+    ensures { LacksItsConversion }
+{}
+
+/// `a?` without one of the items that it can't do without is missing, and a is not read.
+pub fn itemless_is_missing()
+    ensures { ItemlessIsMissing }
+{}
+
+/// `a??` asks of what the inner `?` answers.
+pub fn asks_of_the_answer()
+    ensures { AsksOfTheAnswer }
+{}
+
+/// Of two made names each has its own value, and binding and reading them is silent; one that took none is missing.
+pub fn names_keep_their_values()
+    ensures { NamesKeepTheirValues }
+{}
+
+/// `try { a?; b }`, told no and yes: what a call makes of the residual is the value of the `try`, and b is not read.
+pub fn leaves_the_try()
+    ensures { LeavesTheTry }
+{}
+
+/// Without the item of that call the body ends as missing there.
+pub fn lacks_its_conversion_inside()
+    ensures { LacksItsConversionInside }
+{}
+
+/// Without the item for its value a `try` ends as missing behind its statements and before its tail.
+pub fn lacks_its_output()
+    ensures { LacksItsOutput }
+{}
+
+/// `try { try { a? }; b }`, told no and yes, reads b: the inner `try` alone is left, and its value goes through no item.
+pub fn leaves_the_inner_try()
+    ensures { LeavesTheInnerTry }
+{}
+
+/// `try { loop { a? } }`, told no and yes, leaves the loop and the `try`.
+pub fn leaves_past_the_loop()
+    ensures { LeavesPastTheLoop }
+{}
+
+/// `try { a? }`, told yes: the value goes through the item. What is made of a residual doesn't.
+pub fn goes_on_to_the_output()
+    ensures { GoesOnToTheOutput }
+{}
+
+/// The value of a `try` goes through a call of its item, be it of a tail, of a last statement or unit.
+pub fn goes_through_the_output()
+    ensures { GoesThroughTheOutput }
+{}
+
+/// With a written type the value is bound to it, at no node, and the answer to that is the value.
+pub fn binds_to_its_type()
+    ensures { BindsToItsType }
+{}
+
+/// There what makes a value of a residual is what does so for a body, and that is bound to the type, too.
+pub fn converts_as_for_a_body()
+    ensures { ConvertsAsForABody }
+{}
+
+/// A break or a continue in a `try` is for the loop around it, and a break by name for what bears the name.
+pub fn jumps_pass_the_try()
+    ensures { JumpsPassTheTry }
+{}
+
+/// Behind a barrier `a?` returns, though a `try` is outside.
+pub fn barrier_hides_the_try()
+    ensures { BarrierHidesTheTry }
 {}

@@ -1,9 +1,9 @@
 -- The scopes around what is open.
-use Rattle.std.proofs.Common.{◌≡◌, ◌∙◌, refl, ap, List, [], ◌∷◌, Some, None}
+use Rattle.std.proofs.Common.{◌≡◌, ◌∙◌, refl, ap, Bool, List, [], ◌∷◌, Some, None}
 use Rattle.hir_store.specs.Pointers.{Pointer}
 use Rattle.hir_env.specs.Answered.{Label}
-use Rattle.hir_scope.specs.Ribs.{Rib, label_rib, macro_rib, barrier_rib, map_ribs}
-use Rattle.hir_scope.specs.Scopes.{Scope, loop_scope, block_scope, macro_scope, barrier, one_out, ribs}
+use Rattle.hir_scope.specs.Ribs.{Rib, label_rib, try_rib, macro_rib, barrier_rib, map_ribs}
+use Rattle.hir_scope.specs.Scopes.{Scope, loop_scope, block_scope, try_scope, macro_scope, barrier, one_out, ribs}
 use Rattle.hir_scope.proofs.Ribs.{map_ribs_twice}
 use Rattle.hir_one_result.specs.Diagnostics.{forget, Around}
 use Rattle.hir_one_result.specs.Laws.{ScopesAround}
@@ -25,6 +25,9 @@ loop_is_rib l a = record { around = λ ss rs e. ap (λ y. label_rib l.name l.hyg
 pub block_is_rib : {A : Type 0} (l : Label) (a : A) → IsRib (block_scope l) (label_rib l.name l.hygiene a)
 block_is_rib l a = record { around = λ ss rs e. ap (λ y. label_rib l.name l.hygiene tt ∷ y) (farther ss rs e) }
 
+pub try_is_rib : {A : Type 0} (typed : Bool) (a : A) → IsRib (try_scope typed) (try_rib a typed)
+try_is_rib typed a = record { around = λ ss rs e. ap (λ y. try_rib tt typed ∷ y) (farther ss rs e) }
+
 -- whatever is open, there are scopes for it
 
 somewhere : Pointer
@@ -36,5 +39,7 @@ scopes_around (label_rib name hygiene label ∷ rs) =
     let outer = scopes_around rs in
     let l : Label = record { pointer = somewhere; name = name; hygiene = hygiene } in
     (loop_scope (Some l) ∷ outer.0, (loop_is_rib l label).around outer.0 rs outer.1)
+scopes_around (try_rib label typed ∷ rs) =
+    let outer = scopes_around rs in (try_scope typed ∷ outer.0, (try_is_rib typed label).around outer.0 rs outer.1)
 scopes_around (macro_rib d ∷ rs) = let outer = scopes_around rs in (macro_scope d ∷ outer.0, ap (λ y. macro_rib d ∷ y) outer.1)
 scopes_around (barrier_rib ∷ rs) = let outer = scopes_around rs in (barrier ∷ outer.0, ap (λ y. barrier_rib ∷ y) outer.1)

@@ -59,7 +59,7 @@ self_stands (tree.disabled_self at by) = correct_as (correct_bind (correct_repor
     (λ final ps m m' o g row.
     let moved = moved_then (moved_fault (InactiveCode at by) row.first.stored) (moved_pure row.second.still) in
     record { shown = shown_none moved (row.second.is, refl) })
-self_stands (tree.self_formal at u) = own_binding u
+self_stands (tree.self_formal at u _) = own_binding u
 
 -- ---- the other parameters
 

@@ -1,6 +1,6 @@
 -- What a block is stored with is what its statements and its tail became.
 use Rattle.std.proofs.Common.{◌≡◌, ◌∙◌, refl, sym, ap, subst, Bool, true, false, not, ◌&&◌, ◌||◌, List, [], ◌∷◌, ◌++◌, option_to_list}
-use Rattle.std.proofs.Common.{Option, Some, None}
+use Rattle.std.proofs.Common.{Option, Some, None, is_some}
 use Rattle.hir_store.specs.Stored.{Store, SourceMap}
 use Rattle.hir_store.specs.declared.hir.Statement.{Statement}
 use Rattle.hir_store.specs.declared.hir.Statement.TheVariants as statement
@@ -13,11 +13,11 @@ use Rattle.hir_lower_form.specs.Lower.{settled}
 use Rattle.hir_one_result.specs.Leads.{Way, Ways}
 use Rattle.hir_one_result.specs.Stands.{Open, ThereIf, statement_of, StandsKept, StandsContents}
 
-abbrev IsThere : Bool → Option ExprId → Type 0
+abbrev pub IsThere : Bool → Option ExprId → Type 0
 IsThere true o = (i : ExprId) × (o ≡ Some i)
 IsThere false o = o ≡ None
 
-abbrev IsEmpty : Bool → List Statement → Type 0
+abbrev pub IsEmpty : Bool → List Statement → Type 0
 IsEmpty true is = is ≡ []
 IsEmpty false is = (s : Statement) × (others : List Statement) × (is ≡ s ∷ others)
 
@@ -42,11 +42,11 @@ none_gives (tree.more_stmts (tree.let_stmt p t e b) ss) = none_gives ss
 
 -- where it isn't
 
-abbrev Settled : Bool → List Statement → Type 0
+abbrev pub Settled : Bool → List Statement → Type 0
 Settled gives is = BlockContents gives is None (settled is None)
 
 -- a statement before others
-before : (gives : Bool) (s : Statement) (others : List Statement)
+pub before : (gives : Bool) (s : Statement) (others : List Statement)
     → settled (s ∷ others) None ≡ (s ∷ (settled others None).0, (settled others None).1)
     → BlockContents gives others None (settled others None) → BlockContents gives (s ∷ others) None (settled (s ∷ others) None)
 before false s others e h = e ∙ ap (λ r. (s ∷ r.0, r.1)) h
@@ -64,7 +64,7 @@ last false false gives v others n h = before gives (statement.Expr v false) othe
     Later : List Statement → Type 0
     Later is = settled (statement.Expr v false ∷ is) None ≡ (statement.Expr v false ∷ (settled is None).0, (settled is None).1)
 
-of_expr : (left semi none gives : Bool) (o : Option ExprId) (is others : List Statement) → IsThere left o
+pub of_expr : (left semi none gives : Bool) (o : Option ExprId) (is others : List Statement) → IsThere left o
     → is ≡ option_to_list (statement_of semi o) ++ others
     → IsEmpty none others → Settled gives others → Settled ((left && (not semi && (none && true))) || gives) is
 of_expr true semi none gives o is others t e n h =
@@ -74,13 +74,20 @@ of_expr true semi none gives o is others t e n h =
 of_expr false semi none gives o is others t e n h =
     subst (Settled gives) (sym (e ∙ ap (λ x. option_to_list (statement_of semi x) ++ others) t)) h
 
-empty_expr : (left semi none : Bool) (o : Option ExprId) (is others : List Statement) → IsThere left o
+pub empty_expr : (left semi none : Bool) (o : Option ExprId) (is others : List Statement) → IsThere left o
     → is ≡ option_to_list (statement_of semi o) ++ others
     → IsEmpty none others → IsEmpty (not left && none) is
 empty_expr true semi none o is others t e n =
     (statement.Expr t.0 semi, others, e ∙ ap (λ x. option_to_list (statement_of semi x) ++ others) t.1)
 empty_expr false semi none o is others t e n =
     subst (IsEmpty none) (sym (e ∙ ap (λ x. option_to_list (statement_of semi x) ++ others) t)) n
+
+-- whether anything gives the value
+pub has_value : (left gives : Bool) (is : List Statement) (tail : Option ExprId) → IsThere left tail → Settled gives is
+    → is_some (settled is tail).1 ≡ (left || gives)
+has_value true gives is tail t h = ap (λ o. is_some (settled is o).1) t.1
+has_value false true is tail t h = ap (λ o. is_some (settled is o).1) t ∙ ap is_some h.2
+has_value false false is tail t h = ap (λ o. is_some (settled is o).1) t ∙ ap (λ r. is_some r.1) h
 
 module _ (store : Store) (source_map : SourceMap) where
   kept_there : (rs : Open) (e : OptionExpr) (o : Option ExprId) (ws : List Way) → StandsKept store source_map rs e o ws

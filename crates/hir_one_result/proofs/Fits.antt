@@ -8,10 +8,10 @@ use Rattle.hir_one_result.proofs.Rooms.{Room, Takes}
 use Rattle.hir_one_result.proofs.Tellings.{takes_of}
 use Rattle.hir_one_result.proofs.TreeRooms.{body_takes, part_takes, path_tells, type_part_takes}
 
-fits : {A : Type 0} {n : Size} {p : Lowering A} → Takes n p → (old : Builder) → GrownUnless n old.stored (p old).0 (p old).1.stored
+fits : {A : Type 0} {n : Size} {p : Lowering A} → Takes n p → (old : Builder) → GrownUnless n old (p old).0 (p old).1
 fits {A = A} {n = n} {p = p} h old = by (p old).0 (p old).1 (h.takes old)
   where
-    by : (o : Checked A) (new : Builder) → Room n old o new → GrownUnless n old.stored o new.stored
+    by : (o : Checked A) (new : Builder) → Room n old o new → GrownUnless n old o new
     by (Ok a) new h = record {
       exprs = h.exprs.more;
       labels = h.labels.more;

@@ -1,6 +1,6 @@
 -- Steps by what they bring about in a final store in which the bindings that they make stay as they are by then.
 use Rattle.std.proofs.Common.{arith, ◌≡◌, ◌∙◌, ◌⊎◌, inl, inr, refl, sym, ap, subst, ℕ, zero, suc, ◌≤◌, List, [], ◌∷◌, ◌++◌, length}
-use Rattle.std.proofs.Common.{slice_get, Option, Some, None, is_some, true≢false}
+use Rattle.std.proofs.Common.{slice_get, Bool, Option, Some, None, is_some, true≢false}
 use Rattle.hir_store.specs.Arenas.{Prefix}
 use Rattle.hir_store.specs.Pointers.{Pointer}
 use Rattle.hir_store.specs.Stored.{Stored}
@@ -21,16 +21,19 @@ use Rattle.hir_scope.specs.Ribs.{Rib, Target, reachable, unreachable, undeclared
 use Rattle.hir_lower_form.specs.Lower.{ExprSteps, constant_form}
 use Rattle.hir_lower_form.specs.Lowering.{Lowering, ◌>>=◌, pure, alloc_binding, alloc_expr, alloc_lifetime, alloc_pat, alloc_type, close}
 use Rattle.hir_lower_form.specs.Lowering.{count_out, enter_block, jump_target, open_label, point, point_field, point_pat_field}
-use Rattle.hir_lower_form.specs.Lowering.{report, report_await}
+use Rattle.hir_lower_form.specs.Lowering.{report, report_await, alloc_made, made_number, open_try, try_target}
 use Rattle.hir_lower_form.specs.Ranges.{inner_form}
 use Rattle.hir_steps.proofs.Constants as constants
 use Rattle.hir_steps.proofs.Constants.{Constant, Inner}
 use Rattle.hir_steps.proofs.Frames.{Frame, rib, ribs}
 use Rattle.hir_steps.proofs.Logic.{longer}
+use Rattle.hir_steps.proofs.MadeSteps as made
+use Rattle.hir_steps.proofs.MadeSteps.{AllocatedMade, MadeNumber, OpenedTry, TryTargeted}
 use Rattle.hir_steps.proofs.PatSteps as pats
 use Rattle.hir_steps.proofs.PatSteps.{AllocatedBinding, AllocatedPat, PatWrites, with_field_pat}
 use Rattle.hir_steps.proofs.Steps as steps
-use Rattle.hir_steps.proofs.Steps.{Allocated, AllocatedLifetime, AllocatedType, Both, IsPure, Mark, Opened, Rel, Seq, Targeted}
+use Rattle.hir_steps.proofs.Steps.{Allocated, AllocatedLifetime, AllocatedType, Both, IsPure, Mark, Opened, OpenedBy, Rel, Seq}
+use Rattle.hir_steps.proofs.Steps.{Targeted}
 use Rattle.hir_steps.proofs.Steps.{Writes, Grows}
 use Rattle.hir_steps.proofs.Steps.{pointing, with_await, with_block, with_fault, with_field, with_jump, with_target}
 use Rattle.hir_one_result.specs.Laws.{Settled}
@@ -82,9 +85,9 @@ pub correct_as : {A : Type 0} {p : Lowering A} {R Q : Rel A} → Correct p R
 correct_as h less = steps.correct_as h (λ final ps m m' a g row.
     record { settled = row.settled; rel = λ s. less final ps m m' a g (row.rel s) })
 
-pub correct_bind : {A B : Type 0} {p : Lowering A} {R : Rel A} {f : A → Lowering B} {Q : A → Rel B} → Correct p R
-    → ((a : A) → Correct (f a) (Q a)) → Correct (p >>= f) (Seq R Q)
-correct_bind h k = steps.correct_as (steps.correct_bind h k) (λ final ps m m' b g row. record {
+seq_lasts : {A B : Type 0} {R : Rel A} {Q : A → Rel B} {final : Stored} {ps : List Frame} {m m' : Mark} {b : B}
+    → Seq (Lasts R) (λ a. Lasts (Q a)) final ps m m' b → Lasts (Seq R Q) final ps m m' b
+seq_lasts row = record {
   settled = prefix_trans row.first.settled row.second.settled;
   rel = λ s. record {
     middle = row.middle;
@@ -94,7 +97,11 @@ correct_bind h k = steps.correct_as (steps.correct_bind h k) (λ final ps m m' b
     first = row.first.rel (unchanged_first row.second.settled s);
     second = row.second.rel (unchanged_behind row.first.settled s);
   };
-})
+}
+
+pub correct_bind : {A B : Type 0} {p : Lowering A} {R : Rel A} {f : A → Lowering B} {Q : A → Rel B} → Correct p R
+    → ((a : A) → Correct (f a) (Q a)) → Correct (p >>= f) (Seq R Q)
+correct_bind h k = steps.correct_as (steps.correct_bind h k) (λ final ps m m' b g row. seq_lasts row)
 
 -- with what is so of the steps in each final store
 pub correct_both : {A : Type 0} {p : Lowering A} {R Q : Rel A} → Correct p R → steps.Correct p Q → Correct p (Both R Q)
@@ -176,36 +183,89 @@ pub correct_target : (j : Option Jump) → Correct (jump_target j) (Targeted j)
 correct_target j = keeping (steps.correct_target j)
     (λ final ps m m' n row. settled_as m.stored m'.stored (ap (λ s. s.bindings) row.stored ∙ jump_bindings j (ribs ps) m.stored))
 
+-- with what is so of what runs in it
+opened_as : {made : ℕ} {A B : Type 0} {at : Label → LabelId → Frame} {l : Label} {R R' : LabelId → Rel A} {Q : LabelId → A → Rel B}
+    {final : Stored} {ps : List Frame} {m m' : Mark} {b : B} (row : OpenedBy made at l R Q final ps m m' b)
+    → R' row.number final (at l row.number ∷ ps) row.entered row.left row.one → OpenedBy made at l R' Q final ps m m' b
+opened_as row first = record {
+  number = row.number;
+  entered = row.entered;
+  left = row.left;
+  one = row.one;
+  new = row.new;
+  here = row.here;
+  from = row.from;
+  labels = row.labels;
+  nodes = row.nodes;
+  types = row.types;
+  entries = row.entries;
+  names = row.names;
+  last = row.last;
+  stored = row.stored;
+  before = row.before;
+  after = row.after;
+  first = first;
+  second = row.second;
+}
+
+-- of what is opened, and what stands behind it
+opened_lasts : {made : ℕ} {A B : Type 0} {at : Label → LabelId → Frame} {l : Label} {R : LabelId → Rel A} {Q : LabelId → A → Rel B}
+    {final : Stored} {ps : List Frame} {m m' : Mark} {b : B}
+    → OpenedBy made at l (λ n. Lasts (R n)) (λ n a. Lasts (Q n a)) final ps m m' b → Lasts (OpenedBy made at l R Q) final ps m m' b
+opened_lasts {m = m} row =
+    let entered = settled_as m.stored row.entered.stored (ap (λ s. s.bindings) row.stored) in record {
+      settled = prefix_trans entered (prefix_trans row.first.settled row.second.settled);
+      rel = λ s. record {
+        number = row.number;
+        entered = row.entered;
+        left = row.left;
+        one = row.one;
+        new = row.new;
+        here = row.here;
+        from = row.from;
+        labels = row.labels;
+        nodes = row.nodes;
+        types = row.types;
+        entries = row.entries;
+        names = row.names;
+        last = row.last;
+        stored = row.stored;
+        before = row.before;
+        after = row.after;
+        first = row.first.rel (unchanged_first row.second.settled (unchanged_behind entered s));
+        second = row.second.rel (unchanged_behind (prefix_trans entered row.first.settled) s);
+      };
+    }
+
 pub correct_opened : {A B : Type 0} (at : Label → LabelId → Frame) (l : Label)
     {p : LabelId → Lowering A} {R : LabelId → Rel A} {f : LabelId → A → Lowering B} {Q : LabelId → A → Rel B}
     → ((n : LabelId) (ps : List Frame) → ribs (at l n ∷ ps) ≡ rib l n ∷ ribs ps)
     → ((n : LabelId) → Correct (p n) (R n)) → ((n : LabelId) (a : A) → Correct (f n a) (Q n a))
     → Correct (open_label l >>= (λ n. p n >>= (λ a. close >>= (λ _. f n a)))) (Opened at l R Q)
-correct_opened at l frame hp hf = steps.correct_as (steps.correct_opened at l frame hp hf) (λ final ps m m' b g row. record {
-  settled = prefix_trans (settled_as m.stored row.entered.stored (ap (λ s. s.bindings) row.stored))
-      (prefix_trans row.first.settled row.second.settled);
-  rel = λ s. record {
-    number = row.number;
-    entered = row.entered;
-    left = row.left;
-    one = row.one;
-    new = row.new;
-    here = row.here;
-    from = row.from;
-    labels = row.labels;
-    nodes = row.nodes;
-    types = row.types;
-    entries = row.entries;
-    last = row.last;
-    stored = row.stored;
-    before = row.before;
-    after = row.after;
-    first = row.first.rel (unchanged_first row.second.settled
-        (unchanged_behind (settled_as m.stored row.entered.stored (ap (λ s. s.bindings) row.stored)) s));
-    second = row.second.rel (unchanged_behind
-        (prefix_trans (settled_as m.stored row.entered.stored (ap (λ s. s.bindings) row.stored)) row.first.settled) s);
-  };
-})
+correct_opened at l frame hp hf =
+    steps.correct_as (steps.correct_opened at l frame hp hf) (λ final ps m m' b g row. opened_lasts row)
+
+-- what is made up
+
+pub correct_alloc_made : (e : Expr) (source : Option Pointer) → Correct (alloc_made e source) (AllocatedMade e source)
+correct_alloc_made e source =
+    keeping (made.correct_alloc_made e source) (λ final ps m m' i row. settled_as m.stored m'.stored (ap (λ s. s.bindings) row.stored))
+
+pub correct_made_number : Correct made_number MadeNumber
+correct_made_number =
+    keeping made.correct_made_number (λ final ps m m' n row. settled_as m.stored m'.stored (ap (λ s. s.bindings) row.stored))
+
+pub correct_try_target : Correct try_target TryTargeted
+correct_try_target =
+    keeping made.correct_try_target (λ final ps m m' t row. settled_as m.stored m'.stored (ap (λ x. x.stored.bindings) row.still))
+
+-- two things run in it
+pub correct_opened_try : {A B C : Type 0} (at : Pointer) (typed : Bool) {s : Lowering C} {S : Rel C} {p : Lowering A} {R : Rel A}
+    {f : LabelId → A → Lowering B} {Q : LabelId → A → Rel B} → Correct s S → Correct p R → ((n : LabelId) (a : A) → Correct (f n a) (Q n a))
+    → Correct (open_try at typed >>= (λ n. s >>= (λ u. p >>= (λ a. close >>= (λ _. f n a))))) (OpenedTry at typed (λ n. Seq S (λ u. R)) Q)
+correct_opened_try at typed hs hp hf = steps.correct_as (made.correct_opened_try at typed hs hp hf)
+    (λ final ps m m' b g row. let x = opened_lasts (opened_as row (seq_lasts row.first)) in
+    record { settled = x.settled; rel = λ s. x.rel s })
 
 root_bindings : (i : ExprId) {a b : Stored} → (b ≡ a) ⊎ (b ≡ constants.with_root i a) → b.bindings ≡ a.bindings
 root_bindings i (inl e) = ap (λ s. s.bindings) e
@@ -224,6 +284,7 @@ correct_constant h = steps.correct_as (constants.correct_constant h) (λ final p
         types = row.types;
         lifetimes = row.lifetimes;
         entries = row.entries;
+        names = row.names;
         first = row.first.rel (unchanged_first same s);
         stored = row.stored;
       };

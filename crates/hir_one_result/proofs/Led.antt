@@ -1,6 +1,6 @@
 -- Where the source map leads once one thing more is stored.
 use Rattle.std.proofs.Common.{arith, ◌≡◌, ◌∙◌, refl, sym, ap, subst, ◌<◌, length, Bool, true, false, if◌then◌else◌}
-use Rattle.std.proofs.Common.{List, [], ◌∷◌, ◌++◌, append_assoc, append-nil, Some, None, Contains, ⊎_elim, true≢false, is_some}
+use Rattle.std.proofs.Common.{List, [], ◌∷◌, ◌++◌, append_assoc, append-nil, Option, Some, None, Contains, ⊎_elim, true≢false, is_some}
 use Rattle.std.proofs.lemmas.List.Elements.{Contains-append_left, Contains-append_right, Contains-append_cases, Contains-push}
 use Rattle.std.proofs.lemmas.List.Elements.{Contains-push_cases}
 use Rattle.indexmap.specs.IndexMap.{insert_entry}
@@ -15,6 +15,7 @@ use Rattle.hir_store.specs.declared.ids.PatId.{PatId}
 use Rattle.hir_store.specs.declared.pat.Binding.{Binding}
 use Rattle.hir_store.specs.Storing.{expr_id, label_id, same_expr, same_pat}
 use Rattle.hir_env.specs.Answered.{Label}
+use Rattle.hir_steps.proofs.MadeSteps.{put_made}
 use Rattle.hir_steps.proofs.PatSteps.{with_field_pat, with_new_binding}
 use Rattle.hir_steps.proofs.Steps.{pointing, with_expr, with_field, with_label}
 use Rattle.hir_one_result.specs.Leads.{Way, expr_way, label_way, unled_way, field_way, pat_field_way, binding_way}
@@ -133,6 +134,16 @@ led_point p i a = λ before h. record {
 
 pub led_unled : (e : Expr) (a : Stored) → Led (map_of a) (map_of (with_expr e None a)) (unled_way (expr_id (length a.exprs.entries)) ∷ [])
 led_unled e a = λ before h. record {
+  exprs = beside_exprs (map_of a) before h (unled_way (expr_id (length a.exprs.entries))) (λ q u w. cc);
+  labels = beside_labels (map_of a) before h (unled_way (expr_id (length a.exprs.entries))) (λ q u w. cc);
+  fields = beside_fields (map_of a) before h (unled_way (expr_id (length a.exprs.entries))) (λ q u w. cc);
+  pat_fields = beside_pat_fields (map_of a) before h (unled_way (expr_id (length a.exprs.entries))) (λ q u w. cc);
+}
+
+-- one that its node doesn't lead to
+pub led_made : (e : Expr) (source : Option Pointer) (a : Stored)
+    → Led (map_of a) (map_of (put_made e source a)) (unled_way (expr_id (length a.exprs.entries)) ∷ [])
+led_made e source a = λ before h. record {
   exprs = beside_exprs (map_of a) before h (unled_way (expr_id (length a.exprs.entries))) (λ q u w. cc);
   labels = beside_labels (map_of a) before h (unled_way (expr_id (length a.exprs.entries))) (λ q u w. cc);
   fields = beside_fields (map_of a) before h (unled_way (expr_id (length a.exprs.entries))) (λ q u w. cc);

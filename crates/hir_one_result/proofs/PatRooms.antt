@@ -116,11 +116,21 @@ unfolding missing_pat
 missing_pat_takes = takes_pat _ None
 
 counts : (n : Option ℕ) → Same nothing (dots_behind n)
-counts None = record { exprs = refl; labels = refl; bindings = refl; pats = refl; types = refl; lifetimes = refl; overcounts = λ x. x }
+counts None = record {
+  exprs = refl;
+  labels = refl;
+  bindings = refl;
+  names = refl;
+  pats = refl;
+  types = refl;
+  lifetimes = refl;
+  overcounts = λ x. x;
+}
 counts (Some n) = record {
   exprs = refl;
   labels = refl;
   bindings = refl;
+  names = refl;
   pats = refl;
   types = refl;
   lifetimes = refl;
@@ -327,6 +337,7 @@ module _ (at : Pointer) where
     exprs = refl;
     labels = refl;
     bindings = refl;
+    names = refl;
     pats = refl;
     types = refl;
     lifetimes = refl;
@@ -336,6 +347,7 @@ module _ (at : Pointer) where
     exprs = refl;
     labels = refl;
     bindings = refl;
+    names = refl;
     pats = refl;
     types = refl;
     lifetimes = refl;

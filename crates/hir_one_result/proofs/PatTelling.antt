@@ -51,7 +51,7 @@ module _ {X : Type 0} (L : Listing X) where
   tells_binding b = correct_as (correct_alloc_binding b) (λ final ps m m' i g row.
       record { told = λ ss e. added_none L (ap L.list row.stored ∙ L.unchanged m.stored (with_new_binding b m.stored) refl refl) })
 
-  tells_define : (id : BindingId) (p : PatId) → Correct (define id p) (Tells L (nothing L))
+  pub tells_define : (id : BindingId) (p : PatId) → Correct (define id p) (Tells L (nothing L))
   tells_define id p = correct_as (correct_define id p) (λ final ps m m' u g row.
       record { told = λ ss e. added_none L (ap L.list row.stored ∙ L.unchanged m.stored (defining id p m.stored) refl refl) })
 

@@ -1,6 +1,6 @@
 -- What is done with the parts of types, paths, arguments and bounds stores as much as they become, or there is no room for it.
 use Rattle.std.proofs.Common.{◌≡◌, ◌∙◌, refl, sym, ap, subst, ℕ, ◌+◌, ◌^◌, nat_lt, Bool, true, false, not, ◌&&◌, ◌||◌, if◌then◌else◌}
-use Rattle.std.proofs.Common.{List, [], ◌∷◌, ◌++◌, reverse, Option, Some, None, is_some, is_none, option_map, inr}
+use Rattle.std.proofs.Common.{List, [], ◌∷◌, ◌++◌, reverse, Option, Some, None, is_some, is_none, option_map, inr, inl}
 use Rattle.std.proofs.lemmas.Bool.{ltb-false}
 use Rattle.std.proofs.lemmas.List.{reverse-append}
 use Rattle.hir_store.specs.Pointers.{Pointer}
@@ -167,14 +167,15 @@ unfolding whole
 whole_tells {read = read} k g h more = tells_then h (λ r e. proceed_tells r read k g e more)
 
 -- what counts too far is refused
-pub counts_out : (n : Size) (b : Builder) → n.overcounts → Short n b.stored
-counts_out n b h = inr (inr (inr (inr (inr (inr h)))))
+pub counts_out : (n : Size) (b : Builder) → n.overcounts → Short n b
+counts_out n b h = inr (inr (inr (inr (inr (inr (inl h))))))
 
 super_counts : (n : ℕ) → Same nothing (a_super n)
 super_counts n = record {
   exprs = refl;
   labels = refl;
   bindings = refl;
+  names = refl;
   pats = refl;
   types = refl;
   lifetimes = refl;

@@ -9,9 +9,12 @@ use Rattle.hir_store.specs.declared.hir.Statement.TheVariants as statement
 use Rattle.hir_store.specs.declared.path.Path.{Path}
 use Rattle.hir_store.specs.declared.path.Path.TheVariants.{BarePath, Normal, LangItem}
 use Rattle.hir_store.specs.declared.ids.ExprId.{ExprId}
+use Rattle.hir_store.specs.declared.ids.LabelId.{LabelId}
 use Rattle.hir_syntax.specs.declared.ast.Literal.{Literal as AstLiteral}
 use Rattle.hir_store.specs.Pointers.{Pointer}
 use Rattle.hir_store.specs.declared.hir.Literal.{Literal}
+use Rattle.hir_env.specs.Answered.{QuestionItems}
+use Rattle.hir_scope.specs.Ribs.{Try}
 use Rattle.hir_data.specs.Data.{PathData, path_data, item_path, names_in}
 use Rattle.hir_store.specs.declared.path.GenericArgs.{GenericArgs}
 use Rattle.hir_data.specs.Data.{no_args}
@@ -22,10 +25,12 @@ use Rattle.hir_meaning.specs.Data.{LiteralData, literal_data}
 use Rattle.hir_meaning.specs.Contents.{BlockContents}
 use Rattle.hir_store.specs.declared.ids.CfgId.{CfgId}
 use Rattle.hir_meaning.specs.Small.{at, root, stored_one}
-use Rattle.hir_one_result.specs.Leads.{Way, expr_way}
+use Rattle.hir_one_result.specs.Forms.{leaves_with}
+use Rattle.hir_one_result.specs.Leads.{Way, Ways, expr_way}
 use Rattle.hir_one_result.specs.Stands.{Absent, statement_of, StandsLiteral, StandsEach, StandsContents}
 use Rattle.hir_one_result.specs.Worked.{Jumps, other, literal_first, Statements, EntersInOrder, Leaves, letter, block_id}
-use Rattle.hir_one_result.specs.Worked.{elements, PlainForms}
+use Rattle.hir_one_result.specs.StandsMade.{StandsQuestion}
+use Rattle.hir_one_result.specs.Worked.{elements, PlainForms, Tries}
 
 -- the bare path of this data
 abbrev bare_path : PathData → Path
@@ -195,4 +200,24 @@ plain_forms = record {
       let parts = h.2 in
       let is = ap (λ l. l ++ parts.right) parts.first.2.1 ∙ ap (λ r. expr_way (at 1) h.0 ∷ r) parts.second in
       (h.0, h.1.stored, parts.is ∙ is);
+}
+
+-- `?` and `try`
+
+-- what stands for a `?` has what leaves in its second arm
+module _ (store : Store) (source_map : SourceMap) (items : QuestionItems) where
+  leaves_stored : (t : Option (Try LabelId)) (S : ExprId → Ways) (i : ExprId) (ws : List Way)
+      → StandsQuestion store source_map (at 0) items t S i ws
+      → (out : ExprId) × (value : ExprId) × (slice_get store.exprs out.0 ≡ Some (leaves_with t value))
+  leaves_stored t S i ws h =
+      let arm = h.5.second.second.second.first in
+      (arm.3, arm.6.second.1, arm.6.second.2.second.second.0.stored)
+
+pub tries : Tries
+tries = record {
+  innermost = λ label inner outer items store source_map i ws h.
+      leaves_stored store source_map items (Some (record { place = inner; typed = true })) _ i ws h;
+  returns = λ outer items store source_map i ws h. leaves_stored store source_map items None _ i ws h;
+  passed = refl;
+  enters = refl;
 }

@@ -1,5 +1,5 @@
 -- Steps whose answers stand for what is written, and the forms that are made of them.
-use Rattle.std.proofs.Common.{◌≡◌, ◌∙◌, refl, sym, ap, subst, List, [], ◌∷◌, ◌++◌, slice_get, Option, Some, None}
+use Rattle.std.proofs.Common.{◌≡◌, ◌∙◌, refl, sym, ap, subst, ℕ, List, [], ◌∷◌, ◌++◌, slice_get, Option, Some, None}
 use Rattle.std.proofs.Common.{option_map, option_to_list, Bool, true, false, append-nil}
 use Rattle.hir_syntax.specs.declared.ast.Literal.{Literal as AstLiteral}
 use Rattle.hir_store.specs.Pointers.{Pointer}
@@ -43,7 +43,9 @@ use Rattle.hir_lower_form.specs.Ranges as ranges
 use Rattle.hir_lower_form.specs.Ranges.{range_form, item_expr, end_operand}
 use Rattle.hir_lower_form.specs.Types.{TypeSteps}
 use Rattle.hir_steps.proofs.Frames.{Frame, loop_at, block_at, ribs}
-use Rattle.hir_steps.proofs.Steps.{Mark, Rel, Allocated, Opened, with_fault, with_target, with_jump, with_block, with_await}
+use Rattle.hir_steps.proofs.MadeSteps.{AllocatedMade}
+use Rattle.hir_steps.proofs.Steps.{Mark, Rel, Put, Allocated, AllocatedBy, OpenedBy, with_fault, with_target, with_jump, with_block}
+use Rattle.hir_steps.proofs.Steps.{with_await}
 use Rattle.hir_one_result.specs.Forms.{leaf_form, unary_form, binary_form, leaving_form, item_form, range_fields}
 use Rattle.hir_one_result.specs.Leads.{Way, Ways, OneWay, OneUnled, OneLabelWay, OneFieldWay, ◌&◌}
 use Rattle.hir_one_result.specs.Stands.{ReadsAs, StandsOverThree, StandsRecord, Open, Absent, There, ExprAt, LabelAt, StandsMissing}
@@ -54,8 +56,8 @@ use Rattle.hir_one_result.proofs.Lasting.{Correct, correct_alloc, correct_as, co
 use Rattle.hir_one_result.proofs.Lasting.{correct_opened, correct_point, correct_point_field, correct_pure, correct_report_await}
 use Rattle.hir_one_result.proofs.Lasting.{correct_target}
 use Rattle.hir_one_result.proofs.Leading.{Shown, shown_as, shown_none, shown_both, shown_swap, shown_after, shown_before, shown_to}
-use Rattle.hir_one_result.proofs.Leading.{shown_expr, shown_unled, shown_label, shown_point, shown_field, Moved, moved_same, moved_to}
-use Rattle.hir_one_result.proofs.Leading.{moved_still, moved_report}
+use Rattle.hir_one_result.proofs.Leading.{shown_expr, shown_made, shown_unled, shown_label, shown_point, shown_field, Moved, moved_same}
+use Rattle.hir_one_result.proofs.Leading.{moved_to, moved_still, moved_report}
 
 abbrev pub Of : Type 0 → Type 1
 Of A = Stored → Open → A → Ways
@@ -93,7 +95,7 @@ jump_leads : {A : Type 0} (j : Option Jump) (rs : List (Rib A)) (s : Stored) →
 jump_leads None rs s = moved_same refl
 jump_leads (Some j) rs s = target_leads j (target j rs) s
 
-block_leads : (n : Option BlockId) (s : Stored) → Moved s (with_block n s) []
+pub block_leads : (n : Option BlockId) (s : Stored) → Moved s (with_block n s) []
 block_leads None s = moved_same refl
 block_leads (Some n) s = moved_still s (with_block (Some n) s) refl refl refl refl refl refl
 
@@ -102,7 +104,7 @@ await_leads at None s = moved_same refl
 await_leads at (Some location) s = moved_report _ s
 
 module _ {e : HirExpr} {final : Stored} {ps : List Frame} {m m' : Mark} {i : ExprId} where
-  pub expr_at : {at : Option Pointer} → Allocated e at final ps m m' i → Placed final i e at
+  pub expr_at : {put : Put} {at : Option Pointer} → AllocatedBy put e at final ps m m' i → Placed final i e at
   expr_at row =
       record {
         stored = ap (λ n. slice_get final.exprs.entries n) row.number ∙ row.here;
@@ -115,16 +117,20 @@ module _ {e : HirExpr} {final : Stored} {ps : List Frame} {m m' : Mark} {i : Exp
   pub unled : Allocated e None final ps m m' i → Shown (OneUnled i) m.stored m'.stored
   unled row = shown_unled e i (row.number ∙ row.last) row.stored
 
-module _ {A B : Type 0} {at : Label → LabelId → Frame} {l : Label} {R : LabelId → Rel A} {Q : LabelId → A → Rel B}
+  -- one that its node doesn't lead to
+  pub hidden : {at : Option Pointer} → AllocatedMade e at final ps m m' i → Shown (OneUnled i) m.stored m'.stored
+  hidden {at = at} row = shown_made e at i (row.number ∙ row.last) row.stored
+
+module _ {made : ℕ} {A B : Type 0} {at : Label → LabelId → Frame} {l : Label} {R : LabelId → Rel A} {Q : LabelId → A → Rel B}
     {final : Stored} {ps : List Frame} {m m' : Mark} {b : B} where
-  pub label_at : (row : Opened at l R Q final ps m m' b) → LabelAt (store_of final) (map_of final) row.number l
+  pub label_at : (row : OpenedBy made at l R Q final ps m m' b) → LabelAt (store_of final) (map_of final) row.number l
   label_at row =
       record {
         stored = ap (λ n. slice_get final.labels.entries n) row.new ∙ row.here;
         source = ap (λ n. slice_get final.labels.sources n) row.new ∙ row.from;
       }
 
-  pub own_label : (row : Opened at l R Q final ps m m' b) → Shown (OneLabelWay l.pointer row.number) m.stored row.entered.stored
+  pub own_label : (row : OpenedBy made at l R Q final ps m m' b) → Shown (OneLabelWay l.pointer row.number) m.stored row.entered.stored
   own_label row = shown_label l row.number (row.new ∙ row.last) row.stored
 
 -- leaves

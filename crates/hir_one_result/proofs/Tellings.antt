@@ -8,8 +8,8 @@ use Rattle.hir_one_result.proofs.Rooms.{Took, Room, Takes, Same, took_none, took
 use Rattle.hir_one_result.proofs.Rooms.{none_after}
 
 abbrev pub Told : {A : Type 0} → Size → (A → Type 0) → Builder → Checked A → Builder → Type 0
-Told n P b (Ok a) c = Took n b.stored c.stored × P a
-Told n P b (Err e) c = Short n b.stored
+Told n P b (Ok a) c = Took n b c × P a
+Told n P b (Err e) c = Short n b
 
 pub record Tells {A : Type 0} (n : Size) (P : A → Type 0) (p : Lowering A) : Type 0 where
   pub tells : (b : Builder) → Told n P b (p b).0 (p b).1
@@ -19,23 +19,23 @@ pub tells_then : {A B : Type 0} {n k : Size} {P : A → Type 0} {Q : B → Type 
 tells_then {A = A} {B = B} {n = n} {k = k} {P = P} {Q = Q} {p = p} {f = f} h more =
     record { tells = λ b. first b (p b).0 (p b).1 (h.tells b) }
   where
-    second : (b b' : Builder) → Took n b.stored b'.stored → (o : Checked B) (c : Builder) → Told k Q b' o c → Told (n ∪ k) Q b o c
-    second b b' x (Ok e) c y = (took_then b.stored b'.stored c.stored x y.0, y.1)
-    second b b' x (Err e) c y = short_then k b.stored b'.stored x y
+    second : (b b' : Builder) → Took n b b' → (o : Checked B) (c : Builder) → Told k Q b' o c → Told (n ∪ k) Q b o c
+    second b b' x (Ok e) c y = (took_then b b' c x y.0, y.1)
+    second b b' x (Err e) c y = short_then k b b' x y
 
     first : (b : Builder) (o : Checked A) (c : Builder) → Told n P b o c → Told (n ∪ k) Q b (go_on o c f).0 (go_on o c f).1
     first b (Ok a) c x = second b c x.0 (f a c).0 (f a c).1 ((more a x.1).tells c)
-    first b (Err e) c x = short_first n k b.stored x
+    first b (Err e) c x = short_first n k b x
 
 pub tells_as : {A : Type 0} {n k : Size} {P : A → Type 0} {p : Lowering A} → Same n k → Tells n P p → Tells k P p
 tells_as {A = A} {n = n} {k = k} {P = P} {p = p} same h = record { tells = λ b. by b (p b).0 (p b).1 (h.tells b) }
   where
     by : (b : Builder) (o : Checked A) (c : Builder) → Told n P b o c → Told k P b o c
     by b (Ok a) c x = (took_as same x.0, x.1)
-    by b (Err e) c x = short_as b.stored same x
+    by b (Err e) c x = short_as b same x
 
 pub tells_pure : {A : Type 0} (P : A → Type 0) (a : A) → P a → Tells nothing P (pure a)
-tells_pure P a h = record { tells = λ b. (took_none b.stored, h) }
+tells_pure P a h = record { tells = λ b. (took_none b, h) }
 
 pub tells_end : {A B : Type 0} {n : Size} {P : A → Type 0} {Q : B → Type 0} {p : Lowering A} {f : A → Lowering B} → Tells n P p
     → ((a : A) → P a → Tells nothing Q (f a)) → Tells n Q (p >>= f)

@@ -44,6 +44,7 @@ use Rattle.hir_one_result.proofs.Telling.{Listing, Tells, tells_bind, tells_as, 
 use Rattle.hir_one_result.proofs.Telling.{missing_tells, if_tells, loop_tells, turn_tells, call_tells, continue_tells, break_tells}
 use Rattle.hir_one_result.proofs.Telling.{paren_tells}
 use Rattle.hir_one_result.proofs.Telling.{operand_tells, operands_tells, value_tells, list_tells, method_call_tells, await_tells}
+use Rattle.hir_one_result.proofs.MadeTelling.{question_tells, try_block_tells, typed_try_tells}
 use Rattle.hir_one_result.proofs.Telling.{cast_tells, record_tells, offset_of_tells, field_tells, contents_tells, path_tells}
 use Rattle.hir_one_result.proofs.Telling.{block_form_tells, labelled_tells, tells_alloc, tells_aside, constant_tells, inner_tells}
 use Rattle.hir_lower_form.specs.Walks.{start, super_read}
@@ -151,7 +152,7 @@ mutual
       → Enters (blocks_of_segment first s (seen w)) (read_segment first s w)
   segment_enters first tree.absent_segment w = tells_pure entered _
   segment_enters first tree.broken_segment w = tells_pure entered _
-  segment_enters first (tree.name_segment n as') w = tells_end entered (beside_enters as') (λ a. tells_pure entered _)
+  segment_enters first (tree.name_segment n _ as') w = tells_end entered (beside_enters as') (λ a. tells_pure entered _)
   segment_enters first tree.self_type_segment w = tells_pure entered _
   segment_enters false tree.crate_segment w = tells_pure entered _
   segment_enters true tree.crate_segment w = tells_pure entered _
@@ -250,7 +251,7 @@ mutual
   limit_side_enters : (s : Side) → Enters (blocks_of_side s) (limit_side s)
   limit_side_enters tree.no_side = missing_tells entered
   limit_side_enters (tree.literal_side at l) = literal_limit_tells entered at l
-  limit_side_enters (tree.name_side at n) = name_limit_tells entered at n
+  limit_side_enters (tree.name_side at n _) = name_limit_tells entered at n
   limit_side_enters (tree.path_side at p) = path_limit_tells entered at (whole_enters p)
   limit_side_enters tree.other_side = missing_tells entered
 
@@ -258,8 +259,16 @@ mutual
   node_blocks (tree.disabled_expr at by e) = tells_end entered (tells_report entered _) (λ u. missing_tells entered)
   node_blocks (tree.if_expr at c t e) = if_tells entered at (part_blocks c) (block_part_blocks t) (present_blocks e)
   node_blocks (tree.block_expr b) = block_blocks b
-  node_blocks (tree.loop_expr at label b) = loop_tells entered at _ label (block_part_blocks b)
-  node_blocks (tree.while_expr at label c b) = loop_tells entered at _ label (turn_tells entered at (part_blocks c) (block_part_blocks b))
+  node_blocks (tree.loop_expr at label _ b) = loop_tells entered at _ label (block_part_blocks b)
+  node_blocks (tree.while_expr at label _ c b) = loop_tells entered at _ label (turn_tells entered at (part_blocks c) (block_part_blocks b))
+  node_blocks (tree.question_expr at items e) = question_tells entered at items (part_blocks e)
+  node_blocks (tree.itemless_expr at) = missing_tells entered
+  node_blocks (tree.try_expr at item tree.no_type number ss e) =
+      tells_as entered (try_block_tells entered at item false number (contents_blocks [] ss (kept_part_blocks e)))
+      (λ around. append-nil (option_to_list number ++ (blocks_of_stmts ss ++ blocks_of_part e)))
+  node_blocks (tree.try_expr at item (tree.some_type t) number ss e) =
+      typed_try_tells entered at (try_block_tells entered at item true number (contents_blocks [] ss (kept_part_blocks e)))
+      (one_type_enters None t)
   node_blocks (tree.call_expr at f has_list es) = call_tells entered at (part_blocks f) (each_blocks [] es)
   node_blocks (tree.path_expr at p h) = path_tells entered at h (whole_enters p)
   node_blocks (tree.continue_expr at jump) = continue_tells entered at jump
@@ -331,7 +340,7 @@ mutual
   spread_blocks (tree.spread_of e) = tells_end entered (node_blocks e) (λ i. tells_pure entered _)
 
   block_blocks : (b : Block) → Enters (blocks_of_block b) (lower_block b)
-  block_blocks (tree.block at is_unsafe label number ss e) =
+  block_blocks (tree.block at is_unsafe label _ number ss e) =
       labelled_tells entered label (λ n. block_form_tells entered at is_unsafe n number (contents_blocks [] ss (kept_part_blocks e)))
 
   block_part_blocks : (b : OptionBlock) → Enters (blocks_of_block_part b) (lower_block_part b)
@@ -358,8 +367,8 @@ mutual
 
   pat_enters : (p : Pat) (t : Table) → Enters (blocks_of_pat p) (lower_pat p t)
   pat_enters (tree.leaf_pat at form) = alone_tells entered (tells_pat entered _ _)
-  pat_enters (tree.bind_pat at u sub) = bind_tells entered at u (subpat_enters sub)
-  pat_enters (tree.name_pat at u) = alone_tells entered (tells_pat entered _ _)
+  pat_enters (tree.bind_pat at u _ sub) = bind_tells entered at u (subpat_enters sub)
+  pat_enters (tree.name_pat at u _) = alone_tells entered (tells_pat entered _ _)
   pat_enters (tree.path_pat at p) = alone_tells entered (path_pat_tells entered at (whole_enters p))
   pat_enters (tree.tuple_struct_pat at p comma ps) = tuple_struct_tells entered at comma p (whole_enters p) (elements_enters no_elements ps)
   pat_enters (tree.tuple_pat at comma ps) = tuple_pat_tells entered at comma (elements_enters no_elements ps)
@@ -408,7 +417,7 @@ mutual
   side_enters : (s : Side) → Enters (blocks_of_side s) (lower_side s)
   side_enters tree.no_side = tells_pure entered None
   side_enters (tree.literal_side at l) = literal_side_tells entered at l
-  side_enters (tree.name_side at n) = name_side_tells entered at n
+  side_enters (tree.name_side at n _) = name_side_tells entered at n
   side_enters (tree.path_side at p) = path_side_tells entered at (whole_enters p)
   side_enters tree.other_side = tells_pure entered None
 
@@ -461,7 +470,7 @@ tells_some_pat h = tells_end entered h (λ i. tells_pure entered (Some i))
 self_enters : (s : SelfFormal) → Enters [] (lower_self s)
 self_enters tree.no_self = tells_pure entered None
 self_enters (tree.disabled_self at by) = tells_end entered (tells_report entered _) (λ u. tells_pure entered None)
-self_enters (tree.self_formal at u) = tells_end entered (tells_binding entered _) (λ b. tells_pure entered (Some b))
+self_enters (tree.self_formal at u _) = tells_end entered (tells_binding entered _) (λ b. tells_pure entered (Some b))
 
 each_formal_enters : (skipped : Bool) (done : List PatId) (fs : List Formal)
     → Enters (blocks_of_tops (formals_read skipped fs)) (each_formal skipped done fs)

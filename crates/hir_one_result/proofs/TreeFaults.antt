@@ -8,7 +8,7 @@ use Rattle.hir_store.specs.declared.hir.Statement.{Statement}
 use Rattle.hir_store.specs.declared.ids.ExprId.{ExprId}
 use Rattle.hir_store.specs.declared.diagnostics.ExpressionStoreDiagnostics.{ExpressionStoreDiagnostics}
 use Rattle.hir_store.proofs.Extending.{extends_refl}
-use Rattle.hir_scope.specs.Scopes.{Scope, loop_scope}
+use Rattle.hir_scope.specs.Scopes.{Scope, loop_scope, try_scope}
 use Rattle.hir_env.specs.Answered as tree
 use Rattle.hir_store.specs.declared.hir.RecordLitField.{RecordLitField}
 use Rattle.hir_lower_form.specs.Lower.{lower_fields, lower_field, lower_spread, ExprSteps, kept, lower, lower_part, present, kept_part}
@@ -44,6 +44,7 @@ use Rattle.hir_one_result.proofs.Telling.{Listing, Tells, tells_bind, tells_as, 
 use Rattle.hir_one_result.proofs.Telling.{missing_tells, if_tells, loop_tells, turn_tells, call_tells, continue_tells, break_tells}
 use Rattle.hir_one_result.proofs.Telling.{paren_tells}
 use Rattle.hir_one_result.proofs.Telling.{operand_tells, operands_tells, value_tells, list_tells, method_call_tells, await_tells}
+use Rattle.hir_one_result.proofs.MadeTelling.{question_tells, try_block_tells, typed_try_tells}
 use Rattle.hir_one_result.proofs.Telling.{cast_tells, record_tells, offset_of_tells, field_tells, contents_tells, path_tells}
 use Rattle.hir_one_result.proofs.Telling.{block_form_tells, labelled_tells, tells_alloc, tells_aside, constant_tells, inner_tells}
 use Rattle.hir_lower_form.specs.Walks.{start, super_read}
@@ -155,7 +156,7 @@ mutual
       → Reports (λ ss. segment_faults ss first s (seen w)) (read_segment first s w)
   segment_reports first tree.absent_segment w = tells_pure reported _
   segment_reports first tree.broken_segment w = tells_pure reported _
-  segment_reports first (tree.name_segment n as') w = tells_end reported (beside_reports as') (λ a. tells_pure reported _)
+  segment_reports first (tree.name_segment n _ as') w = tells_end reported (beside_reports as') (λ a. tells_pure reported _)
   segment_reports first tree.self_type_segment w = tells_pure reported _
   segment_reports false tree.crate_segment w = tells_pure reported _
   segment_reports true tree.crate_segment w = tells_pure reported _
@@ -256,7 +257,7 @@ mutual
   limit_side_reports : (s : Side) → Reports (λ ss. side_faults ss s) (limit_side s)
   limit_side_reports tree.no_side = missing_tells reported
   limit_side_reports (tree.literal_side at l) = literal_limit_tells reported at l
-  limit_side_reports (tree.name_side at n) = name_limit_tells reported at n
+  limit_side_reports (tree.name_side at n _) = name_limit_tells reported at n
   limit_side_reports (tree.path_side at p) = path_limit_tells reported at (whole_reports p)
   limit_side_reports tree.other_side = missing_tells reported
 
@@ -265,10 +266,19 @@ mutual
   node_faults (tree.if_expr at c t e) = tells_as reported (if_tells reported at (part_faults c) (block_part_faults t) (present_faults e))
       (λ ss. turned (part_diagnostics ss c) (block_part_diagnostics ss t) (part_diagnostics ss e))
   node_faults (tree.block_expr b) = block_faults b
-  node_faults (tree.loop_expr at label b) = loop_tells reported at _ label (block_part_faults b)
-  node_faults (tree.while_expr at label c b) =
+  node_faults (tree.loop_expr at label _ b) = loop_tells reported at _ label (block_part_faults b)
+  node_faults (tree.while_expr at label _ c b) =
       tells_as reported (loop_tells reported at _ label (turn_tells reported at (part_faults c) (block_part_faults b)))
       (λ ss. IsPermutation-append_comm (part_diagnostics (loop_scope label ∷ ss) c) (block_part_diagnostics (loop_scope label ∷ ss) b))
+  node_faults (tree.question_expr at items e) = question_tells reported at items (part_faults e)
+  node_faults (tree.itemless_expr at) = missing_tells reported
+  node_faults (tree.try_expr at item tree.no_type number ss e) =
+      tells_as reported (try_block_tells reported at item false number (contents_faults [] ss (kept_part_faults e)))
+      (λ around. let xs = contents_diagnostics (try_scope false ∷ around) ss (λ inner. part_diagnostics inner e) in
+      subst (λ ys. IsPermutation ys xs) (sym (append-nil xs)) (IsPermutation-refl xs))
+  node_faults (tree.try_expr at item (tree.some_type t) number ss e) =
+      typed_try_tells reported at (try_block_tells reported at item true number (contents_faults [] ss (kept_part_faults e)))
+      (one_type_reports None t)
   node_faults (tree.call_expr at f has_list es) = call_tells reported at (part_faults f) (each_faults [] es)
   node_faults (tree.path_expr at p h) = path_tells reported at h (whole_reports p)
   node_faults (tree.continue_expr at jump) = continue_tells reported at jump
@@ -339,7 +349,7 @@ mutual
   spread_reports (tree.spread_of e) = tells_end reported (node_faults e) (λ i. tells_pure reported _)
 
   block_faults : (b : Block) → Reports (λ ss. block_diagnostics ss b) (lower_block b)
-  block_faults (tree.block at is_unsafe label number ss e) =
+  block_faults (tree.block at is_unsafe label _ number ss e) =
       labelled_tells reported label (λ n. block_form_tells reported at is_unsafe n number (contents_faults [] ss (kept_part_faults e)))
 
   block_part_faults : (b : OptionBlock) → Reports (λ ss. block_part_diagnostics ss b) (lower_block_part b)
@@ -364,8 +374,8 @@ mutual
 
   pat_reports : (p : Pat) (t : Table) → Reports (λ ss. pat_faults ss p) (lower_pat p t)
   pat_reports (tree.leaf_pat at form) = alone_tells reported (tells_pat reported _ _)
-  pat_reports (tree.bind_pat at u sub) = bind_tells reported at u (subpat_reports sub)
-  pat_reports (tree.name_pat at u) = alone_tells reported (tells_pat reported _ _)
+  pat_reports (tree.bind_pat at u _ sub) = bind_tells reported at u (subpat_reports sub)
+  pat_reports (tree.name_pat at u _) = alone_tells reported (tells_pat reported _ _)
   pat_reports (tree.path_pat at p) = alone_tells reported (path_pat_tells reported at (whole_reports p))
   pat_reports (tree.tuple_struct_pat at p comma ps) =
       tuple_struct_tells reported at comma p (whole_reports p) (elements_reports no_elements ps)
@@ -416,7 +426,7 @@ mutual
   side_reports : (s : Side) → Reports (λ ss. side_faults ss s) (lower_side s)
   side_reports tree.no_side = tells_pure reported None
   side_reports (tree.literal_side at l) = literal_side_tells reported at l
-  side_reports (tree.name_side at n) = name_side_tells reported at n
+  side_reports (tree.name_side at n _) = name_side_tells reported at n
   side_reports (tree.path_side at p) = path_side_tells reported at (whole_reports p)
   side_reports tree.other_side = tells_pure reported None
 
@@ -469,7 +479,7 @@ tells_some_pat h = tells_end reported h (λ i. tells_pure reported (Some i))
 self_reports : (s : SelfFormal) → Reports (λ ss. self_faults s) (lower_self s)
 self_reports tree.no_self = tells_pure reported None
 self_reports (tree.disabled_self at by) = tells_end reported (tells_report reported _) (λ u. tells_pure reported None)
-self_reports (tree.self_formal at u) = tells_end reported (tells_binding reported _) (λ b. tells_pure reported (Some b))
+self_reports (tree.self_formal at u _) = tells_end reported (tells_binding reported _) (λ b. tells_pure reported (Some b))
 
 formal_reports : (skipped : Bool) (f : Formal) → Reports (λ ss. formal_faults skipped ss f) (lower_formal skipped f)
 formal_reports skipped (tree.disabled_formal at by) = tells_end reported (tells_report reported _) (λ u. tells_pure reported None)

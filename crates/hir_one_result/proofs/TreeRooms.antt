@@ -74,6 +74,8 @@ use Rattle.hir_one_result.proofs.ExprRooms.{missing_takes, some_takes, if_takes,
 use Rattle.hir_one_result.proofs.ExprRooms.{break_takes}
 use Rattle.hir_one_result.proofs.ExprRooms.{paren_takes, path_takes, operand_takes, operands_take, value_takes, list_takes}
 use Rattle.hir_one_result.proofs.ExprRooms.{method_call_takes, cast_takes, offset_of_takes, record_takes, field_takes, await_takes}
+use Rattle.hir_one_result.proofs.Giving.{tells_given, stmts_value}
+use Rattle.hir_one_result.proofs.MadeRooms.{question_takes, try_block_takes, typed_try_takes}
 use Rattle.hir_one_result.proofs.ExprRooms.{block_form_takes, contents_take, labelled_takes, kept_takes}
 
 -- the first segment, with the `::` in front of it
@@ -141,7 +143,7 @@ mutual
       → Tells (segment_size first s (seen w)) (Gives (segment_read first s (seen w))) (read_segment first s w)
   segment_tells first tree.absent_segment w = tells_pure _ _ (seen_named walks.missing_name None w)
   segment_tells first tree.broken_segment w = tells_pure _ _ refl
-  segment_tells first (tree.name_segment n as') w =
+  segment_tells first (tree.name_segment n _ as') w =
       tells_end (tells_any (segment_args_take as')) (λ a u. tells_pure _ _ (seen_named n a w))
   segment_tells first tree.self_type_segment w = tells_pure _ _ (seen_named walks.self_type_name None w)
   segment_tells false tree.crate_segment w = tells_pure _ _ refl
@@ -250,7 +252,7 @@ mutual
   limit_side_takes : (s : Side) → Takes (limit_side_size s) (limit_side s)
   limit_side_takes tree.no_side = missing_takes
   limit_side_takes (tree.literal_side at l) = literal_limit_takes at l
-  limit_side_takes (tree.name_side at n) = name_limit_takes at n
+  limit_side_takes (tree.name_side at n _) = name_limit_takes at n
   limit_side_takes (tree.path_side at p) = path_limit_takes at (takes_of (path_tells p))
   limit_side_takes tree.other_side = missing_takes
 
@@ -258,8 +260,15 @@ mutual
   node_takes (tree.disabled_expr at by e) = takes_begin (takes_report _) (λ u. missing_takes)
   node_takes (tree.if_expr at c t e) = if_takes at (part_takes c) (block_part_takes t) (present_takes e)
   node_takes (tree.block_expr b) = block_takes b
-  node_takes (tree.loop_expr at label b) = loop_takes at _ label (block_part_takes b)
-  node_takes (tree.while_expr at label c b) = loop_takes at _ label (turn_takes at (part_takes c) (block_part_takes b))
+  node_takes (tree.loop_expr at label _ b) = loop_takes at _ label (block_part_takes b)
+  node_takes (tree.while_expr at label _ c b) = loop_takes at _ label (turn_takes at (part_takes c) (block_part_takes b))
+  node_takes (tree.question_expr at items e) = question_takes at items (part_takes e)
+  node_takes (tree.itemless_expr at) = missing_takes
+  node_takes (tree.try_expr at item tree.no_type number ss e) =
+      try_block_takes at item false number _ (tells_given (stmts_take [] ss e (kept_part_takes e)) (stmts_value ss e))
+  node_takes (tree.try_expr at item (tree.some_type t) number ss e) =
+      typed_try_takes at (try_block_takes at item true number _ (tells_given (stmts_take [] ss e (kept_part_takes e)) (stmts_value ss e)))
+      (type_takes None t)
   node_takes (tree.call_expr at f has_list es) = call_takes at (part_takes f) (each_takes [] es)
   node_takes (tree.path_expr at p h) = path_takes at h (takes_of (path_tells p))
   node_takes (tree.continue_expr at jump) = continue_takes at jump
@@ -329,7 +338,7 @@ mutual
   spread_takes (tree.spread_of e) = takes_end (node_takes e) (λ i. takes_pure _)
 
   block_takes : (b : Block) → Takes (block_size b) (lower_block b)
-  block_takes (tree.block at is_unsafe label number ss e) =
+  block_takes (tree.block at is_unsafe label _ number ss e) =
       labelled_takes label (λ n. takes_as (moved_out (stmts_size ss) (size_kept e) an_expr)
       (block_form_takes at is_unsafe n number (stmts_take [] ss e (kept_part_takes e))))
 
@@ -356,8 +365,8 @@ mutual
 
   pat_takes : (p : Pat) (us : FirstUses) → PatTakes (pat_size p us) us (names_after p us) (lower_pat p)
   pat_takes (tree.leaf_pat at form) us = alone_takes at us (takes_pat _ _)
-  pat_takes (tree.bind_pat at u sub) us = bind_takes at u (subpat_takes sub us)
-  pat_takes (tree.name_pat at u) us = alone_takes at us (takes_pat _ _)
+  pat_takes (tree.bind_pat at u _ sub) us = bind_takes at u (subpat_takes sub us)
+  pat_takes (tree.name_pat at u _) us = alone_takes at us (takes_pat _ _)
   pat_takes (tree.path_pat at p) us = alone_takes at us (path_pat_takes at (takes_of (path_tells p)))
   pat_takes (tree.tuple_struct_pat at p comma ps) us = tuple_struct_takes at comma (path_tells p) (whole_parts (elements_are ps us))
   pat_takes (tree.tuple_pat at comma ps) us = tuple_pat_takes at comma (whole_parts (elements_are ps us))
@@ -413,7 +422,7 @@ mutual
   side_takes : (s : Side) → Takes (side_size s) (lower_side s)
   side_takes tree.no_side = takes_pure None
   side_takes (tree.literal_side at l) = literal_side_takes at l
-  side_takes (tree.name_side at n) = name_side_takes at n
+  side_takes (tree.name_side at n _) = name_side_takes at n
   side_takes (tree.path_side at p) = path_side_takes at (path_tells p)
   side_takes tree.other_side = takes_pure None
 
@@ -459,7 +468,7 @@ own_tells leading first rest w = own_segments leading first rest w (each_tells r
 self_takes : (s : SelfFormal) → Takes (self_size s) (lower_self s)
 self_takes tree.no_self = takes_pure None
 self_takes (tree.disabled_self at by) = takes_end (takes_report _) (λ u. takes_pure None)
-self_takes (tree.self_formal at u) = takes_end (takes_binding _) (λ b. takes_pure (Some b))
+self_takes (tree.self_formal at u _) = takes_end (takes_binding _) (λ b. takes_pure (Some b))
 
 each_formal_takes : (skipped : Bool) (done : List PatId) (fs : List Formal)
     → Takes (tops_size (formals_read skipped fs)) (each_formal skipped done fs)

@@ -73,6 +73,7 @@ use Rattle.hir_one_result.proofs.Standing.{cast_stands, record_stands, offset_of
 use Rattle.hir_one_result.proofs.Standing.{moved_pure, moved_fault, missing_stands, path_stands, literal_stands, present_none}
 use Rattle.hir_one_result.proofs.Standing.{present_some, if_stands, loop_stands, call_stands, continue_stands, break_stands, unary_is}
 use Rattle.hir_one_result.proofs.Whiles.{while_stands}
+use Rattle.hir_one_result.proofs.MadeStanding.{question_stands, try_stands, typed_try_stands}
 use Rattle.hir_one_result.proofs.Standing.{binary_is, leaving_is, leaf_stands, operand_stands, operands_stand, value_stands, list_stands}
 use Rattle.hir_one_result.proofs.Standing.{method_call_stands, await_stands, paren_stands, labelled_stands, Leaves}
 use Rattle.hir_one_result.proofs.Standing.{type_shown, option_type_shown, args_shown, let_stands, match_stands, assign_stands, range_stands}
@@ -126,7 +127,7 @@ mutual
       → Stays (λ final rs. SegmentWays (store_of final) (map_of final) rs first s (seen w)) (read_segment first s w)
   segment_left first tree.absent_segment w = ways_pure _
   segment_left first tree.broken_segment w = ways_pure _
-  segment_left first (tree.name_segment n as') w = ways_end (beside_left as') (λ a. ways_pure _)
+  segment_left first (tree.name_segment n _ as') w = ways_end (beside_left as') (λ a. ways_pure _)
   segment_left first tree.self_type_segment w = ways_pure _
   segment_left false tree.crate_segment w = ways_pure _
   segment_left true tree.crate_segment w = ways_pure _
@@ -211,8 +212,15 @@ mutual
       record { shown = shown_after (moved_fault (InactiveCode at by) row.first.stored) row.second.shown })
   node_stands (tree.if_expr at c t e) = if_stands at (part_stands c) (block_part_stands t) (present_stands e)
   node_stands (tree.block_expr b) = block_stands b
-  node_stands (tree.loop_expr at label b) = loop_stands at label (block_part_stands b)
-  node_stands (tree.while_expr at label c b) = while_stands at label (part_stands c) (block_part_stands b)
+  node_stands (tree.loop_expr at label _ b) = loop_stands at label (block_part_stands b)
+  node_stands (tree.while_expr at label _ c b) = while_stands at label (part_stands c) (block_part_stands b)
+  node_stands (tree.question_expr at items e) = question_stands at items (part_stands e)
+  node_stands (tree.itemless_expr at) = missing_stands
+  node_stands (tree.try_expr at item tree.no_type number ss e) =
+      try_stands at item false number ss e (contents_stands [] ss e (kept_part_stands e))
+  node_stands (tree.try_expr at item (tree.some_type t) number ss e) =
+      typed_try_stands at (try_stands at item true number ss e (contents_stands [] ss e (kept_part_stands e)))
+      (type_shown (tree.some_type t) (one_type_left None t))
   node_stands (tree.call_expr at f has_list es) = call_stands at (part_stands f) (all_stand_for es (each_stands [] es))
   node_stands (tree.path_expr at p h) = path_stands at p h (whole_left p)
   node_stands (tree.continue_expr at jump) = continue_stands at jump
@@ -338,7 +346,7 @@ mutual
       record { shown = shown_as (shown_before row.first.shown (moved_pure row.second.still)) (λ ws y. (row.one, row.second.is, y)) })
 
   block_stands : (b : Block) → Correct (lower_block b) (Shows (λ final rs i. StandsBlock (store_of final) (map_of final) rs b i))
-  block_stands (tree.block at is_unsafe label number ss e) =
+  block_stands (tree.block at is_unsafe label _ number ss e) =
       labelled_stands label (λ n. inside_stands at is_unsafe n number ss e (contents_stands [] ss e (kept_part_stands e)))
 
   block_part_stands : (b : OptionBlock)
@@ -427,8 +435,8 @@ mutual
       → PatFine (λ ks us final rs i. StandsPat (store_of final) (map_of final) ks rs p us i) (uses_after p)
       (λ us n x. after over_recent n (uses_of p us) x) (lower_pat p)
   pat_stands (tree.leaf_pat at form) = leaf_pat_stands form at
-  pat_stands (tree.bind_pat at u sub) = bind_stands at u (subpattern_stands sub)
-  pat_stands (tree.name_pat at u) = plain_stands (forms.name_pat_of u) at tt
+  pat_stands (tree.bind_pat at u _ sub) = bind_stands at u (subpattern_stands sub)
+  pat_stands (tree.name_pat at u _) = plain_stands (forms.name_pat_of u) at tt
   pat_stands (tree.path_pat at p) = path_pat_stands at (whole_left p)
   pat_stands (tree.tuple_struct_pat at p comma ps) =
       tuple_struct_stands at comma p (each_uses ps)
@@ -491,7 +499,7 @@ mutual
   side_stands : (s : Side) → Correct (lower_side s) (Shows (λ final rs o. StandsSide (store_of final) (map_of final) rs s o))
   side_stands tree.no_side = present_none
   side_stands (tree.literal_side at l) = literal_side_stands at l
-  side_stands (tree.name_side at n) = name_side_stands at n
+  side_stands (tree.name_side at n _) = name_side_stands at n
   side_stands (tree.path_side at p) = path_side_stands at p (whole_left p)
   side_stands tree.other_side = present_none
 
@@ -522,7 +530,7 @@ mutual
       → Correct (limit_side s) (Shows (λ final rs i. StandsLimitSide (store_of final) (map_of final) rs s i))
   limit_side_stands tree.no_side = missing_stands
   limit_side_stands (tree.literal_side at l) = literal_limit_stands at l
-  limit_side_stands (tree.name_side at n) = name_limit_stands at n
+  limit_side_stands (tree.name_side at n _) = name_limit_stands at n
   limit_side_stands (tree.path_side at p) = path_limit_stands at p (whole_left p)
   limit_side_stands tree.other_side = missing_stands
 

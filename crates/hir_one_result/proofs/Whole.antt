@@ -51,7 +51,7 @@ one_results limit owed skipped f e given id new is =
     let standing = (lasts.rel same).shown in
     let moved = standing.moved in
     let fits : Grown (body_size skipped f e) old.stored new.stored =
-    subst (λ r. GrownUnless (body_size skipped f e) old.stored r.0 r.1.stored) is (bodies_fit skipped f e old) in
+    subst (λ r. GrownUnless (body_size skipped f e) old r.0 r.1) is (bodies_fit skipped f e old) in
     let reported = after_lowering (body_reports skipped f e) old (given, id) new none is new.stored (extends_refl new.stored) in
     let faults = reported.told [] refl in
     let blocks = (after_lowering (body_enters skipped f e) old (given, id) new none is new.stored (extends_refl new.stored)).told [] refl in

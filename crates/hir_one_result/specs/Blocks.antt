@@ -57,7 +57,7 @@ abbrev mutual
   blocks_of_parts (tree.more_parts t ts) = blocks_of_type_part t ++ blocks_of_parts ts
 
   pub blocks_of_segment : Bool → Segment → Seen → List BlockId
-  blocks_of_segment first (tree.name_segment n as') x = blocks_of_beside as'
+  blocks_of_segment first (tree.name_segment n _ as') x = blocks_of_beside as'
   blocks_of_segment first tree.super_segment x = []
   blocks_of_segment true (tree.type_segment t) x = blocks_of_type t
   blocks_of_segment true (tree.trait_segment t at p) x = blocks_of_type t ++ blocks_of_whole p
@@ -152,8 +152,13 @@ abbrev mutual
   -- the branches are read before the condition
   blocks_of (tree.if_expr at c t e) = blocks_of_block_part t ++ (blocks_of_part e ++ blocks_of_part c)
   blocks_of (tree.block_expr b) = blocks_of_block b
-  blocks_of (tree.loop_expr at label b) = blocks_of_block_part b
-  blocks_of (tree.while_expr at label c b) = blocks_of_block_part b ++ blocks_of_part c
+  blocks_of (tree.loop_expr at label _ b) = blocks_of_block_part b
+  blocks_of (tree.while_expr at label _ c b) = blocks_of_block_part b ++ blocks_of_part c
+  blocks_of (tree.question_expr at items e) = blocks_of_part e
+  blocks_of (tree.itemless_expr at) = []
+  -- its own number, then those in it, and its type last
+  blocks_of (tree.try_expr at item t number ss e) =
+      (option_to_list number ++ (blocks_of_stmts ss ++ blocks_of_part e)) ++ blocks_of_present_type t
   blocks_of (tree.call_expr at f has_list es) = blocks_of_part f ++ blocks_of_each es
   blocks_of (tree.path_expr at p h) = blocks_of_whole p
   blocks_of (tree.continue_expr at jump) = []
@@ -218,7 +223,7 @@ abbrev mutual
 
   -- its own number, then those in its statements and its tail
   pub blocks_of_block : Block → List BlockId
-  blocks_of_block (tree.block at is_unsafe label number ss e) = option_to_list number ++ (blocks_of_stmts ss ++ blocks_of_part e)
+  blocks_of_block (tree.block at is_unsafe label _ number ss e) = option_to_list number ++ (blocks_of_stmts ss ++ blocks_of_part e)
 
   pub blocks_of_block_part : OptionBlock → List BlockId
   blocks_of_block_part tree.no_block = []
@@ -239,8 +244,8 @@ abbrev mutual
 
   pub blocks_of_pat : Pat → List BlockId
   blocks_of_pat (tree.leaf_pat at form) = []
-  blocks_of_pat (tree.bind_pat at u sub) = blocks_of_top sub
-  blocks_of_pat (tree.name_pat at u) = []
+  blocks_of_pat (tree.bind_pat at u _ sub) = blocks_of_top sub
+  blocks_of_pat (tree.name_pat at u _) = []
   blocks_of_pat (tree.path_pat at p) = blocks_of_whole p
   blocks_of_pat (tree.tuple_struct_pat at p comma ps) = blocks_of_whole p ++ where_some (written_path p) (blocks_of_pats ps)
   blocks_of_pat (tree.tuple_pat at comma ps) = blocks_of_pats ps

@@ -16,10 +16,11 @@ use Rattle.hir_env.specs.Answered.{Block, OptionBlock, Stmts, Stmt, Arms, Arm, G
 use Rattle.hir_env.specs.Answered.{TypePat, OptionTypePat, TypePats, Limit, Target, Targets, TargetFields, TargetField, SelfFormal, Formal}
 use Rattle.hir_env.specs.Answered.{Formals}
 use Rattle.hir_data.specs.Written.{written_path}
+use Rattle.hir_meaning.specs.Syntax.{is_typed}
 use Rattle.hir_one_result.specs.Blocks.{where_some, where_goes_on, unless}
 use Rattle.hir_one_result.specs.PathRoom.{Seen, nothing_seen, at_first, segments_read, own_read, yields}
 use Rattle.hir_scope.specs.Ribs.{Rib, Target as JumpTarget, reachable, unreachable, undeclared, target, map_ribs}
-use Rattle.hir_scope.specs.Scopes.{Scope, loop_scope, barrier, ribs, scopes_in_block}
+use Rattle.hir_scope.specs.Scopes.{Scope, loop_scope, try_scope, barrier, ribs, scopes_in_block}
 
 abbrev pub Faults : Type 0
 Faults = List ExpressionStoreDiagnostics
@@ -75,7 +76,7 @@ abbrev mutual
   parts_faults ss (tree.more_parts t ts) = type_part_faults ss t ++ parts_faults ss ts
 
   pub segment_faults : List Scope → Bool → Segment → Seen → Faults
-  segment_faults ss first (tree.name_segment n as') x = beside_faults ss as'
+  segment_faults ss first (tree.name_segment n _ as') x = beside_faults ss as'
   segment_faults ss first tree.super_segment x = []
   segment_faults ss true (tree.type_segment t) x = type_faults ss t
   segment_faults ss true (tree.trait_segment t at p) x = type_faults ss t ++ whole_faults ss p
@@ -171,9 +172,14 @@ abbrev mutual
   diagnostics ss (tree.disabled_expr at by e) = InactiveCode at by ∷ []
   diagnostics ss (tree.if_expr at c t e) = part_diagnostics ss c ++ (block_part_diagnostics ss t ++ part_diagnostics ss e)
   diagnostics ss (tree.block_expr b) = block_diagnostics ss b
-  diagnostics ss (tree.loop_expr at label b) = block_part_diagnostics (loop_scope label ∷ ss) b
-  diagnostics ss (tree.while_expr at label c b) =
+  diagnostics ss (tree.loop_expr at label _ b) = block_part_diagnostics (loop_scope label ∷ ss) b
+  diagnostics ss (tree.while_expr at label _ c b) =
       part_diagnostics (loop_scope label ∷ ss) c ++ block_part_diagnostics (loop_scope label ∷ ss) b
+  diagnostics ss (tree.question_expr at items e) = part_diagnostics ss e
+  diagnostics ss (tree.itemless_expr at) = []
+  -- its type is no part of what is tried
+  diagnostics ss (tree.try_expr at item t number stmts tail) =
+      contents_diagnostics (try_scope (is_typed t) ∷ ss) stmts (λ inner. part_diagnostics inner tail) ++ present_type_faults ss t
   diagnostics ss (tree.call_expr at f has_list es) = part_diagnostics ss f ++ each_diagnostics ss es
   diagnostics ss (tree.path_expr at p h) = whole_faults ss p
   diagnostics ss (tree.continue_expr at jump) = jump_faults ss jump
@@ -237,7 +243,7 @@ abbrev mutual
   spread_diagnostics ss (tree.spread_of e) = diagnostics ss e
 
   pub block_diagnostics : List Scope → Block → Faults
-  block_diagnostics ss (tree.block at is_unsafe label number stmts tail) =
+  block_diagnostics ss (tree.block at is_unsafe label _ number stmts tail) =
       contents_diagnostics (scopes_in_block label ss) stmts (λ inner. part_diagnostics inner tail)
 
   pub block_part_diagnostics : List Scope → OptionBlock → Faults
@@ -260,8 +266,8 @@ abbrev mutual
 
   pub pat_faults : List Scope → Pat → Faults
   pat_faults ss (tree.leaf_pat at form) = []
-  pat_faults ss (tree.bind_pat at u sub) = top_faults ss sub
-  pat_faults ss (tree.name_pat at u) = []
+  pat_faults ss (tree.bind_pat at u _ sub) = top_faults ss sub
+  pat_faults ss (tree.name_pat at u _) = []
   pat_faults ss (tree.path_pat at p) = whole_faults ss p
   pat_faults ss (tree.tuple_struct_pat at p comma ps) = whole_faults ss p ++ where_some (written_path p) (pats_faults ss ps)
   pat_faults ss (tree.tuple_pat at comma ps) = pats_faults ss ps
@@ -322,7 +328,7 @@ abbrev mutual
 abbrev pub self_faults : SelfFormal → Faults
 self_faults tree.no_self = []
 self_faults (tree.disabled_self at by) = InactiveCode at by ∷ []
-self_faults (tree.self_formal at u) = []
+self_faults (tree.self_formal at u _) = []
 
 -- of a skipped body none is read
 abbrev pub formal_faults : Bool → List Scope → Formal → Faults

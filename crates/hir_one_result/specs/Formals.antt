@@ -29,7 +29,7 @@ lower_self tree.no_self = pure None
 lower_self (tree.disabled_self at by) = do
   report (InactiveCode at by)
   pure None
-lower_self (tree.self_formal at u) = some (alloc_binding (new_binding u))
+lower_self (tree.self_formal at u _) = some (alloc_binding (new_binding u))
 
 -- none where a condition disables it; whether the body is skipped, and so nothing of the parameter is read
 abbrev pub lower_formal : Bool → Formal → Lowering (Option PatId)

@@ -1,23 +1,27 @@
 -- The stored form of each member of a family, over what its parts became.
-use Rattle.std.specs.Prelude.{codes, List, [], ◌∷◌, ◌++◌, Option, Some, None}
+use Rattle.std.specs.Prelude.{codes, ℕ, if◌then◌else◌, List, [], ◌∷◌, ◌++◌, Option, Some, None}
 use Rattle.hir_base.specs.declared.op.LogicOp.{LogicOp}
 use Rattle.hir_base.specs.declared.op.BinaryOp.TheVariants as operator
+use Rattle.hir_binding.specs.declared.binding.BindingAnnotation.TheVariants.{Unannotated}
 use Rattle.hir_store.specs.declared.hir.Expr.{Expr as HirExpr}
 use Rattle.hir_store.specs.declared.hir.Expr.TheVariants as hir
 use Rattle.hir_store.specs.declared.hir.RecordLitField.{RecordLitField}
 use Rattle.hir_store.specs.declared.ids.ExprId.{ExprId}
 use Rattle.hir_store.specs.declared.ids.HygieneId.{HygieneId}
+use Rattle.hir_store.specs.declared.ids.LabelId.{LabelId}
 use Rattle.hir_store.specs.declared.ids.LangItemId.{LangItemId}
 use Rattle.hir_store.specs.declared.ids.PatId.{PatId}
 use Rattle.hir_store.specs.declared.name.Name.{Name}
 use Rattle.hir_store.specs.declared.name.Name.TheVariants as name
+use Rattle.hir_store.specs.declared.pat.Binding.{Binding}
 use Rattle.hir_store.specs.declared.pat.Pat.{Pat as HirPat}
 use Rattle.hir_store.specs.declared.pat.Pat.TheVariants as pat
 use Rattle.hir_store.specs.declared.path.Path.{Path}
 use Rattle.hir_store.specs.declared.path.Path.TheVariants.{BarePath, LangItem}
 use Rattle.hir_store.specs.declared.path.PathKind.TheVariants as kind
 use Rattle.hir_env.specs.Answered as tree
-use Rattle.hir_env.specs.Answered.{Leaf, Unary, Binary, Leaving, PatUnary}
+use Rattle.hir_env.specs.Answered.{Leaf, Unary, Binary, Leaving, PatUnary, QuestionItems}
+use Rattle.hir_scope.specs.Ribs.{Try}
 
 -- for what is left out stands a missing expression
 abbrev pub leaf_form : Leaf → HirExpr
@@ -67,3 +71,21 @@ end_field n (Some e) = record { name = n; expr = e } ∷ []
 -- the ends of a range, as fields and as arguments
 abbrev pub range_fields : Name → Option ExprId → Option ExprId → List RecordLitField
 range_fields last low high = end_field (name.Text (codes "start")) low ++ end_field last high
+
+-- the name of this number, which lowering makes up, where it is looked up and where it is bound
+
+abbrev pub generated_path : ℕ → HirExpr
+generated_path n = hir.Path (path_of_name (name.Generated n)) no_macro
+
+abbrev pub generated_binding : ℕ → Binding
+generated_binding n = record { name = name.Generated n; mode = Unannotated; hygiene = no_macro; problems = None }
+
+-- the item that makes of a residual what leaves: for a `try` without a written type there is one of its own
+abbrev pub residual_item : {A : Type 0} → QuestionItems → Option (Try A) → Option LangItemId
+residual_item items None = items.from_residual
+residual_item items (Some t) = if t.typed then items.from_residual else items.into_try_type
+
+-- it leaves for the innermost `try`, or returns where there is none
+abbrev pub leaves_with : Option (Try LabelId) → ExprId → HirExpr
+leaves_with None e = hir.Return (Some e)
+leaves_with (Some t) e = hir.Break (Some t.place) (Some e)

@@ -94,30 +94,30 @@ pub record Grown (n : Size) (old new : Stored) : Type 0 where
   pub lifetime_sources : new.lifetimes.sources ≡ old.lifetimes.sources ++ n.lifetimes
 
 -- where lowering is refused there is no room for them
-abbrev pub GrownUnless : {A : Type 0} → Size → Stored → Checked A → Stored → Type 0
-GrownUnless n old (Ok a) new = Grown n old new
+abbrev pub GrownUnless : {A : Type 0} → Size → Builder → Checked A → Builder → Type 0
+GrownUnless n old (Ok a) new = Grown n old.stored new.stored
 GrownUnless n old (Err fault) new = Short n old
 
 abbrev pub Fits : OptionExpr → Stored → Stored → Type 0
 Fits e old new = Grown (size_part e) old new
 
-abbrev pub FitsUnless : OptionExpr → Stored → Checked ExprId → Stored → Type 0
+abbrev pub FitsUnless : OptionExpr → Builder → Checked ExprId → Builder → Type 0
 FitsUnless e old result new = GrownUnless (size_part e) old result new
 
 abbrev pub AllFit : Type 0
-AllFit = (e : OptionExpr) (old : Builder) → FitsUnless e old.stored (lower_part e old).0 (lower_part e old).1.stored
+AllFit = (e : OptionExpr) (old : Builder) → FitsUnless e old (lower_part e old).0 (lower_part e old).1
 
 -- so it is of types and paths by themselves
 
 abbrev pub TypesFit : Type 0
 TypesFit = (binder : Option Binder) (t : OptionType) (old : Builder)
-    → GrownUnless (type_part_size t) old.stored (type_part binder t old).0 (type_part binder t old).1.stored
+    → GrownUnless (type_part_size t) old (type_part binder t old).0 (type_part binder t old).1
 
 abbrev pub PathsFit : Type 0
-PathsFit = (p : OptionPath) (old : Builder) → GrownUnless (whole_size p) old.stored (lower_path p old).0 (lower_path p old).1.stored
+PathsFit = (p : OptionPath) (old : Builder) → GrownUnless (whole_size p) old (lower_path p old).0 (lower_path p old).1
 
 -- and of bodies behind their parameters
 
 abbrev pub BodiesFit : Type 0
 BodiesFit = (skipped : Bool) (f : Formals) (e : OptionExpr) (old : Builder)
-    → GrownUnless (body_size skipped f e) old.stored (lower_body skipped f e old).0 (lower_body skipped f e old).1.stored
+    → GrownUnless (body_size skipped f e) old (lower_body skipped f e old).0 (lower_body skipped f e old).1

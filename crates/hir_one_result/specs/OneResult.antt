@@ -25,7 +25,7 @@ use Rattle.hir_one_result.specs.Stands.{Open, Absent, StandsBefore, StandsPart, 
 abbrev pub StandsSelf : Store → SelfFormal → Option BindingId → Ways
 StandsSelf store tree.no_self o = Absent o
 StandsSelf store (tree.disabled_self at by) o = Absent o
-StandsSelf store (tree.self_formal at u) o = λ ws.
+StandsSelf store (tree.self_formal at u _) o = λ ws.
     (b : BindingId) × (o ≡ Some b) × (slice_get store.bindings b.0 ≡ Some (new_binding u)) × OneBindingWay b ws
 
 abbrev pub StandsTops : Store → SourceMap → Open → Tops → List PatId → Ways
@@ -41,11 +41,12 @@ StandsGiven store source_map rs skipped f given =
 -- stored, each with its source, as many expressions and bindings as the tree becomes, and patterns, types and lifetimes from
 -- just those of its nodes that become one. The root stands for the tree, and each expression is what a written one became, or a
 -- missing one for an absent or disabled part, or in front of a tuple with a leading comma, or what is called for a range, or
--- the turn of a `while` or the break in it; each label is what a written one became, and there are as many; each binding is
--- that of a name of a top pattern, or of `self`, and has the patterns that make it. The source map leads from each written
--- expression and label to what it became, and from nowhere else; the nodes of patterns, types and lifetimes lead to them, and
--- no other nodes do. Behind the faults that the body owes as a whole come those of what is read of the tree, in some order. The
--- blocks with numbers are those of the tree, in the order of entering.
+-- the turn of a `while` or the break in it, or is made up for a `?` or a `try`; each label is what a written one or a `try`
+-- became, and there are as many; each binding is that of a name of a top pattern, or of `self`, or of a name that is made up,
+-- and has the patterns that make it. The source map leads from each written expression and label to what it became, and from
+-- nowhere else; the nodes of patterns, types and lifetimes lead to them, and no other nodes do. Behind the faults that the body
+-- owes as a whole come those of what is read of the tree, in some order. The blocks with numbers are those of the tree, in the
+-- order of entering.
 pub record OneResult (store : Store) (source_map : SourceMap) (owed : Faults) (skipped : Bool) (f : Formals) (given : Given)
     (e : OptionExpr) : Type 0 where
   pub root : ExprId

@@ -23,8 +23,8 @@ abbrev mutual
 
   pub names_after : Pat → FirstUses → FirstUses
   names_after (tree.leaf_pat at form) us = us
-  names_after (tree.bind_pat at u sub) us = with_use (names_after_part sub us) u
-  names_after (tree.name_pat at u) us = us
+  names_after (tree.bind_pat at u _ sub) us = with_use (names_after_part sub us) u
+  names_after (tree.name_pat at u _) us = us
   names_after (tree.path_pat at p) us = us
   names_after (tree.tuple_struct_pat at p comma ps) us = where_read p us (names_after_each ps us)
   names_after (tree.tuple_pat at comma ps) us = names_after_each ps us

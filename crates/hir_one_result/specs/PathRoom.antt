@@ -55,7 +55,7 @@ abbrev mutual
   pub segment_read : Bool → Segment → Seen → Read
   segment_read first tree.absent_segment x = named x
   segment_read first tree.broken_segment x = refused
-  segment_read first (tree.name_segment n as') x = named x
+  segment_read first (tree.name_segment n _ as') x = named x
   segment_read first tree.self_type_segment x = named x
   segment_read false tree.crate_segment x = refused
   segment_read true tree.crate_segment x = ended (anew x)

@@ -2,8 +2,7 @@
 -- parentheses become none besides what is in them, and a range may become a call of one more. An absent or disabled part is one
 -- missing expression, or none where the form knows none, and so is what stands in front of a tuple with a leading comma. Nothing
 -- in a disabled node becomes anything. Patterns likewise; each name of a top pattern becomes one binding, at its first use.
-use Rattle.std.specs.Prelude.{◌+◌, ◌<◌, ◌⊎◌, [], ◌∷◌, Option, Some, None, Bool, true, false, is_some, not, length}
-use Rattle.hir_store.specs.Stored.{Stored}
+use Rattle.std.specs.Prelude.{◌+◌, ◌<◌, ◌≤◌, ◌^◌, ◌⊎◌, ◌||◌, [], ◌∷◌, Option, Some, None, Bool, true, false, is_some, not, length}
 use Rattle.hir_env.specs.Answered as tree
 use Rattle.hir_env.specs.Answered.{Type_, OptionType, Parts, Path, OptionPath, Segments, Segment, SegmentArgs, OptionParens, OptionRet}
 use Rattle.hir_env.specs.Answered.{OptionArgs, Args, Arg, Bounds, Bound, Constant, Listing, Label, Expr, OptionExpr, Exprs, Fields, Field}
@@ -14,19 +13,24 @@ use Rattle.hir_data.specs.Patterns.{is_dots, ellipsis_of}
 use Rattle.hir_data.specs.Targets.{target_dots}
 use Rattle.hir_data.specs.Tops.{Tops}
 use Rattle.hir_data.specs.Uses.{FirstUses}
+use Rattle.hir_lower_form.specs.Builder.{Builder}
 use Rattle.hir_meaning.specs.InnerWritten.{constant_body, limit_body}
-use Rattle.hir_meaning.specs.Left.{is_kept}
+use Rattle.hir_meaning.specs.Left.{is_kept, is_left, gives_value}
 use Rattle.hir_one_result.specs.Formals.{formals_read}
 use Rattle.hir_one_result.specs.PatRoom.{names_after, names_after_part, names_after_each, names_after_field, name_size, front_pat_size}
 use Rattle.hir_one_result.specs.PatRoom.{or_size, name_side_size, rest_size, range_size}
 use Rattle.hir_one_result.specs.Size.{Size, nothing, an_expr, a_label, a_binding, a_pat, a_type, a_lifetime, a_super, a_body, dots_behind}
-use Rattle.hir_one_result.specs.Size.{◌∪◌, if_so, or_missing}
+use Rattle.hir_one_result.specs.Size.{a_made_name, a_made_bind, a_flow_arm, an_item_call, ◌∪◌, if_so, or_missing}
 use Rattle.hir_one_result.specs.PathRoom.{Seen, nothing_seen, at_first, segments_read, own_read, whole_read, before, yields, lifetime_size}
 use Rattle.hir_one_result.specs.PathRoom.{uses_size}
 
 abbrev pub label_size : Option Label → Size
 label_size None = nothing
 label_size (Some l) = a_label
+
+-- A `try` whose statements and tail give no value has `()` in its place.
+abbrev pub unit_size : Stmts → OptionExpr → Size
+unit_size ss tail = if_so (not (is_left tail || gives_value ss false)) an_expr
 
 -- in front of a tuple with a leading comma stands a missing element
 abbrev pub front_size : Listing → Size
@@ -68,7 +72,7 @@ abbrev mutual
   parts_size (tree.more_parts t ts) = type_part_size t ∪ parts_size ts
 
   pub segment_size : Bool → Segment → Seen → Size
-  segment_size first (tree.name_segment n as') x = beside_size as'
+  segment_size first (tree.name_segment n _ as') x = beside_size as'
   segment_size first tree.super_segment x = a_super x.supers
   segment_size true (tree.type_segment t) x = type_size t
   -- the trait is stored as a type too, where its path isn't refused
@@ -171,9 +175,20 @@ abbrev mutual
   -- the branches are lowered before the condition
   size (tree.if_expr at c t e) = block_part_size t ∪ size_present e ∪ size_part c ∪ an_expr
   size (tree.block_expr b) = block_size b
-  size (tree.loop_expr at label b) = label_size label ∪ block_part_size b ∪ an_expr
+  size (tree.loop_expr at label _ b) = label_size label ∪ block_part_size b ∪ an_expr
   -- the body before the condition, then a break and the turn, and the loop last
-  size (tree.while_expr at label c b) = label_size label ∪ (block_part_size b ∪ size_part c ∪ an_expr ∪ an_expr) ∪ an_expr
+  size (tree.while_expr at label _ c b) = label_size label ∪ (block_part_size b ∪ size_part c ∪ an_expr ∪ an_expr) ∪ an_expr
+  -- a call, an arm that names what it holds, one that makes of it what leaves, and the match
+  size (tree.question_expr at items e) =
+      size_part e ∪ an_item_call ∪ a_flow_arm an_expr ∪ a_flow_arm (an_expr ∪ an_item_call ∪ an_expr) ∪ an_expr
+  size (tree.itemless_expr at) = an_expr
+  -- the item, the value and its call behind what is in the block
+  size (tree.try_expr at item tree.no_type number ss e) =
+      (a_made_name ∪ a_label) ∪ (stmts_size ss ∪ size_kept e) ∪ (an_expr ∪ unit_size ss e ∪ an_expr) ∪ an_expr
+  -- and then a `let` of that type in a block
+  size (tree.try_expr at item (tree.some_type t) number ss e) =
+      ((a_made_name ∪ a_label) ∪ (stmts_size ss ∪ size_kept e) ∪ (an_expr ∪ unit_size ss e ∪ an_expr) ∪ an_expr)
+      ∪ a_made_name ∪ type_size t ∪ a_made_bind ∪ an_expr ∪ an_expr
   size (tree.call_expr at f has_list es) = size_part f ∪ size_each es ∪ an_expr
   size (tree.path_expr at p h) = whole_size p ∪ an_expr
   size (tree.continue_expr at jump) = an_expr
@@ -247,7 +262,7 @@ abbrev mutual
   spread_size (tree.spread_of e) = size e
 
   pub block_size : Block → Size
-  block_size (tree.block at is_unsafe label number ss e) = label_size label ∪ stmts_size ss ∪ size_kept e ∪ an_expr
+  block_size (tree.block at is_unsafe label _ number ss e) = label_size label ∪ stmts_size ss ∪ size_kept e ∪ an_expr
 
   pub block_part_size : OptionBlock → Size
   block_part_size tree.no_block = an_expr
@@ -272,8 +287,8 @@ abbrev mutual
   pub pat_size : Pat → FirstUses → Size
   pat_size (tree.leaf_pat at form) us = a_pat (Some at)
   -- what stands behind `@` before the name
-  pat_size (tree.bind_pat at u sub) us = subpat_size sub us ∪ name_size (names_after_part sub us) u ∪ a_pat (Some at)
-  pat_size (tree.name_pat at u) us = a_pat (Some at)
+  pat_size (tree.bind_pat at u _ sub) us = subpat_size sub us ∪ name_size (names_after_part sub us) u ∪ a_pat (Some at)
+  pat_size (tree.name_pat at u _) us = a_pat (Some at)
   pat_size (tree.path_pat at p) us = whole_size p ∪ a_pat (Some at)
   pat_size (tree.tuple_struct_pat at p comma ps) us =
       whole_size p
@@ -325,7 +340,7 @@ abbrev mutual
   pub side_size : Side → Size
   side_size tree.no_side = nothing
   side_size (tree.literal_side at l) = an_expr
-  side_size (tree.name_side at n) = name_side_size n
+  side_size (tree.name_side at n _) = name_side_size n
   side_size (tree.path_side at p) = whole_size p ∪ if_so (is_some (whole_read p)) an_expr
   side_size tree.other_side = nothing
 
@@ -372,7 +387,7 @@ tops_size (p ∷ ps) = top_size p ∪ tops_size ps
 abbrev pub self_size : SelfFormal → Size
 self_size tree.no_self = nothing
 self_size (tree.disabled_self at by) = nothing
-self_size (tree.self_formal at u) = a_binding
+self_size (tree.self_formal at u _) = a_binding
 
 abbrev pub formals_size : Bool → Formals → Size
 formals_size skipped f = self_size f.receiver ∪ tops_size (formals_read skipped f.formals)
@@ -380,20 +395,23 @@ formals_size skipped f = self_size f.receiver ∪ tops_size (formals_read skippe
 abbrev pub body_size : Bool → Formals → OptionExpr → Size
 body_size skipped f e = formals_size skipped f ∪ size_part e
 
--- There is no room for so much behind what is stored: some arena would hold more than it may, or something counts too far.
-abbrev pub Short : Size → Stored → Type 0
-Short n s =
+-- There is no room for so much behind what a builder has: some arena would hold more than it may, or something counts too far, be it
+-- the names that are made up.
+abbrev pub Short : Size → Builder → Type 0
+Short n b =
+    let s = b.stored in
     (s.exprs.limit < length s.exprs.entries + n.exprs)
     ⊎ ((s.labels.limit < length s.labels.entries + n.labels)
     ⊎ ((s.pats.limit < length s.pats.entries + length n.pats)
     ⊎ ((s.bindings.limit < length s.bindings.entries + n.bindings)
     ⊎ ((s.types.limit < length s.types.entries + length n.types)
-    ⊎ ((s.lifetimes.limit < length s.lifetimes.entries + length n.lifetimes) ⊎ n.overcounts)))))
+    ⊎ ((s.lifetimes.limit < length s.lifetimes.entries + length n.lifetimes)
+    ⊎ (n.overcounts ⊎ (2 ^ 32 ≤ b.names + n.names)))))))
 
--- behind what is stored there is no room for the tree
-abbrev pub TooLarge : Stored → OptionExpr → Type 0
-TooLarge s e = Short (size_part e) s
+-- behind what there is there is no room for the tree
+abbrev pub TooLarge : Builder → OptionExpr → Type 0
+TooLarge b e = Short (size_part e) b
 
 -- nor for a body with its parameters, which may be skipped
-abbrev pub BodyTooLarge : Stored → Bool → Formals → OptionExpr → Type 0
-BodyTooLarge s skipped f e = Short (body_size skipped f e) s
+abbrev pub BodyTooLarge : Builder → Bool → Formals → OptionExpr → Type 0
+BodyTooLarge b skipped f e = Short (body_size skipped f e) b

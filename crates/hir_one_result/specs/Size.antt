@@ -8,6 +8,8 @@ pub record Size : Type 1 where
   pub labels : ℕ
   -- names that are bound
   pub bindings : ℕ
+  -- names that lowering makes up
+  pub names : ℕ
   -- of each pattern, each type and each lifetime where it comes from, in the order in which they are stored
   pub pats : List (Option Pointer)
   pub types : List (Option Pointer)
@@ -18,7 +20,17 @@ pub record Size : Type 1 where
   pub overcounts : Type 0
 
 abbrev pub nothing : Size
-nothing = record { exprs = 0; labels = 0; bindings = 0; pats = []; types = []; lifetimes = []; inner = []; overcounts = ⊥ }
+nothing = record {
+  exprs = 0;
+  labels = 0;
+  bindings = 0;
+  names = 0;
+  pats = [];
+  types = [];
+  lifetimes = [];
+  inner = [];
+  overcounts = ⊥;
+}
 
 abbrev pub an_expr : Size
 an_expr = record nothing { exprs = 1 }
@@ -28,6 +40,9 @@ a_label = record nothing { labels = 1 }
 
 abbrev pub a_binding : Size
 a_binding = record nothing { bindings = 1 }
+
+abbrev pub a_made_name : Size
+a_made_name = record nothing { names = 1 }
 
 abbrev pub a_pat : Option Pointer → Size
 a_pat source = record nothing { pats = source ∷ [] }
@@ -58,12 +73,25 @@ a ∪ b = record {
   exprs = a.exprs + b.exprs;
   labels = a.labels + b.labels;
   bindings = a.bindings + b.bindings;
+  names = a.names + b.names;
   pats = a.pats ++ b.pats;
   types = a.types ++ b.types;
   lifetimes = a.lifetimes ++ b.lifetimes;
   inner = a.inner ++ b.inner;
   overcounts = a.overcounts ⊎ b.overcounts;
 }
+
+-- a name that is made up and bound, by a pattern that came from no node
+abbrev pub a_made_bind : Size
+a_made_bind = a_binding ∪ a_pat None
+
+-- an arm for an item, with what is done with what the item holds
+abbrev pub a_flow_arm : Size → Size
+a_flow_arm body = a_made_name ∪ a_made_bind ∪ a_pat None ∪ body
+
+-- a call of an item, both made up
+abbrev pub an_item_call : Size
+an_item_call = an_expr ∪ an_expr
 
 abbrev pub if_so : Bool → Size → Size
 if_so true a = a

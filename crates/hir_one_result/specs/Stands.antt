@@ -1,9 +1,10 @@
 -- What stands in a store for a written tree: for each kept expression one stored expression of its form, which came from
 -- its own node and whose parts stand for its parts. An absent or disabled part is a missing expression that came from no
--- node, or none where the form knows none. With it stand the ways of the tree: from the node of each written expression
--- and label to what it became, and to each missing one from no node. What its constants became stands for them, also where
--- nothing names it. A top pattern reads back as it is written, and so does one in a field without a name, which is part of nothing; the
--- names of a top pattern have one binding each, and what is in it stands for what is written there.
+-- node, or none where the form knows none. What is made up for a form came from the form's node. With it stand the ways of the
+-- tree: from the node of each written expression and label to what it became, and to each missing one and each made up from no
+-- node. What its constants became stands for them, also where nothing names it. A top pattern reads back as it is written, and so
+-- does one in a field without a name, which is part of nothing; the names of a top pattern have one binding each, and what is in it
+-- stands for what is written there.
 use Rattle.std.specs.Prelude.{◌≡◌, ℕ, Bool, true, false, List, [], ◌∷◌, ◌++◌, map, Option, Some, None, option_to_list}
 use Rattle.std.specs.Prelude.{slice_get, unwrap_or}
 use Rattle.hir_base.specs.declared.op.RangeOp.{RangeOp}
@@ -36,7 +37,7 @@ use Rattle.hir_store.specs.declared.ids.LangItemId.{LangItemId}
 use Rattle.hir_store.specs.declared.ids.HygieneId.{HygieneId}
 use Rattle.hir_store.specs.declared.ids.PatId.{PatId}
 use Rattle.hir_store.specs.declared.ids.TypeRefId.{TypeRefId}
-use Rattle.hir_scope.specs.Ribs.{barrier_rib, jump_number}
+use Rattle.hir_scope.specs.Ribs.{try_rib, barrier_rib, jump_number, innermost_try_rib}
 use Rattle.hir_env.specs.Answered as tree
 use Rattle.hir_env.specs.Answered.{Type_, OptionType, Parts, Path as WrittenPath, OptionPath, Segments, Segment, SegmentArgs, OptionParens}
 use Rattle.hir_env.specs.Answered.{OptionRet, OptionArgs, Args, Arg, Bounds, Bound, Constant, Listing, Label, Expr, OptionExpr, Exprs}
@@ -58,40 +59,33 @@ use Rattle.hir_one_result.specs.Forms.{leaf_form, unary_form, binary_form, lazy_
 use Rattle.hir_one_result.specs.Forms.{pat_unary_form, range_fields}
 use Rattle.hir_one_result.specs.PathRoom.{Seen, nothing_seen, at_first, segments_read, own_read, yields}
 use Rattle.hir_one_result.specs.Leads.{Ways, No, OneWay, OneUnled, OneLabelWay, OneFieldWay, OnePatFieldWay, ◌&◌}
-pub use Rattle.hir_one_result.specs.StandsParts.{Open, opened, Absent, There, ThereIf, ReadsAs, statement_of, SomeExpr, WhereOn, Unless}
+pub use Rattle.hir_one_result.specs.StandsParts.{ExprAt, LabelAt, Open, opened, Absent, There, ThereIf, ReadsAs, statement_of, SomeExpr}
+pub use Rattle.hir_one_result.specs.StandsParts.{WhereOn, Unless}
+use Rattle.hir_one_result.specs.StandsMade.{StandsQuestion, StandsTry, StandsTypedTry}
 pub use Rattle.hir_one_result.specs.StandsParts.{StandsBefore, WherePath, BehindFront, Names, NewName, StandsName}
 
 -- in a store
 
 module _ (store : Store) (source_map : SourceMap) where
-  -- the expression of this number, and the node that it came from
-  pub record ExprAt (i : ExprId) (e : HirExpr) (from : Option Pointer) : Type 0 where
-    pub stored : slice_get store.exprs i.0 ≡ Some e
-    pub source : slice_get source_map.expr_sources i.0 ≡ Some from
-
-  -- the label of this number has the name of the written one and came from it
-  pub record LabelAt (n : LabelId) (l : Label) : Type 0 where
-    pub stored : slice_get store.labels n.0 ≡ Some (record { name = l.name })
-    pub source : slice_get source_map.label_sources n.0 ≡ Some (Some l.pointer)
-
   abbrev pub StandsMissing : ExprId → Ways
-  StandsMissing i = λ ws. ExprAt i hir.Missing None × OneUnled i ws
+  StandsMissing i = λ ws. ExprAt store source_map i hir.Missing None × OneUnled i ws
 
   -- a form that names no part
   abbrev pub StandsAlone : HirExpr → Pointer → ExprId → Ways
-  StandsAlone e at i = λ ws. ExprAt i e (Some at) × OneWay at i ws
+  StandsAlone e at i = λ ws. ExprAt store source_map i e (Some at) × OneWay at i ws
 
   -- a node over one part, and over two, of the form that is made of their numbers
   abbrev pub StandsOver : {A : Type 0} → (A → HirExpr) → Pointer → (A → Ways) → ExprId → Ways
-  StandsOver {A = A} form at S i = λ ws. (part : A) × ExprAt i (form part) (Some at) × (S part & OneWay at i) ws
+  StandsOver {A = A} form at S i = λ ws. (part : A) × ExprAt store source_map i (form part) (Some at) × (S part & OneWay at i) ws
 
   abbrev pub StandsOverTwo : {A B : Type 0} → (A → B → HirExpr) → Pointer → (A → Ways) → (B → Ways) → ExprId → Ways
   StandsOverTwo {A = A} {B = B} form at S T i = λ ws.
-      (one : A) × (other : B) × ExprAt i (form one other) (Some at) × (S one & T other & OneWay at i) ws
+      (one : A) × (other : B) × ExprAt store source_map i (form one other) (Some at) × (S one & T other & OneWay at i) ws
 
   abbrev pub StandsOverThree : {A B C : Type 0} → (A → B → C → HirExpr) → Pointer → (A → Ways) → (B → Ways) → (C → Ways) → ExprId → Ways
   StandsOverThree {A = A} {B = B} {C = C} form at S T U i = λ ws.
-      (one : A) × (other : B) × (third : C) × ExprAt i (form one other third) (Some at) × (S one & T other & U third & OneWay at i) ws
+      (one : A) × (other : B) × (third : C) × ExprAt store source_map i (form one other third) (Some at)
+      × (S one & T other & U third & OneWay at i) ws
 
   -- of what is stored for a record: its fields, and what the others come from
   abbrev pub StoredRecord : Type 0
@@ -121,19 +115,21 @@ module _ (store : Store) (source_map : SourceMap) where
   -- inside the label, where there is one
   abbrev pub InLabel : Open → Option Label → (Open → Option LabelId → Ways) → Ways
   InLabel rs None S = S rs None
-  InLabel rs (Some l) S = λ ws. (n : LabelId) × LabelAt n l × (OneLabelWay l.pointer n & S (opened l n rs) (Some n)) ws
+  InLabel rs (Some l) S = λ ws. (n : LabelId) × LabelAt store source_map n l × (OneLabelWay l.pointer n & S (opened l n rs) (Some n)) ws
 
   -- The turn of a `while` is its body where the condition holds, else a break. It, the break and the loop came from the node of the
   -- `while`, which leads to the loop alone.
   abbrev pub StandsWhile : Pointer → Option LabelId → (ExprId → Ways) → (ExprId → Ways) → ExprId → Ways
   StandsWhile at n C B i = λ ws.
-      (condition : ExprId) × (body : ExprId) × (out : ExprId) × (turn : ExprId) × ExprAt i (hir.Loop turn n source.While) (Some at)
-      × ExprAt turn (hir.If condition body (Some out)) (Some at) × ExprAt out (hir.Break None None) (Some at)
+      (condition : ExprId) × (body : ExprId) × (out : ExprId) × (turn : ExprId)
+      × ExprAt store source_map i (hir.Loop turn n source.While) (Some at)
+      × ExprAt store source_map turn (hir.If condition body (Some out)) (Some at)
+      × ExprAt store source_map out (hir.Break None None) (Some at)
       × (C condition & B body & OneUnled out & OneUnled turn & OneWay at i) ws
 
   -- an item of the language comes from no node
   abbrev pub StandsItem : Option LangItemId → ExprId → Ways
-  StandsItem item i = λ ws. ExprAt i (item_form item) None × OneUnled i ws
+  StandsItem item i = λ ws. ExprAt store source_map i (item_form item) None × OneUnled i ws
 
   -- a range is a record of an item, or a call of one
   abbrev pub StandsRange : Pointer → RangeForm → (Option ExprId → Ways) → (Option ExprId → Ways) → ExprId → Ways
@@ -229,7 +225,7 @@ module _ (store : Store) (source_map : SourceMap) where
     PartsWays rs (tree.more_parts t ts) = TypePartWays rs t & PartsWays rs ts
 
     pub SegmentWays : Open → Bool → Segment → Seen → Ways
-    SegmentWays rs first (tree.name_segment n as') x = BesideWays rs as'
+    SegmentWays rs first (tree.name_segment n _ as') x = BesideWays rs as'
     SegmentWays rs first tree.super_segment x = No
     SegmentWays rs true (tree.type_segment t) x = TypeWays rs t
     SegmentWays rs true (tree.trait_segment t at p) x = TypeWays rs t & WholeWays rs p
@@ -315,14 +311,14 @@ module _ (store : Store) (source_map : SourceMap) where
     StandsLimit rs (tree.item_limit item) i = StandsItem item i
     StandsLimit rs (tree.side_limit s) i = StandsLimitSide rs s i
     StandsLimit rs (tree.before_limit item s) i = λ ws.
-        (side : ExprId) × (callee : ExprId) × ExprAt i (hir.Call callee (side ∷ [])) None
+        (side : ExprId) × (callee : ExprId) × ExprAt store source_map i (hir.Call callee (side ∷ [])) None
         × (StandsLimitSide rs s side & StandsItem item callee & OneUnled i) ws
 
     -- what is no side is missing
     pub StandsLimitSide : Open → Side → ExprId → Ways
     StandsLimitSide rs tree.no_side i = StandsMissing i
     StandsLimitSide rs (tree.literal_side at l) i = StandsSigned at l i
-    StandsLimitSide rs (tree.name_side at n) i = StandsOneName at n i
+    StandsLimitSide rs (tree.name_side at n _) i = StandsOneName at n i
     StandsLimitSide rs (tree.path_side at p) i =
         WholeWays rs p & WherePath (written_path p) (λ d. StandsSidePath at d i) (StandsAlone hir.Missing at i)
     StandsLimitSide rs tree.other_side i = StandsMissing i
@@ -333,22 +329,32 @@ module _ (store : Store) (source_map : SourceMap) where
     Stands rs (tree.disabled_expr at by e) i = StandsMissing i
     Stands rs (tree.if_expr at c t e) i = λ ws.
         (condition : ExprId) × (then_branch : ExprId) × (else_branch : Option ExprId)
-        × ExprAt i (hir.If condition then_branch else_branch) (Some at)
+        × ExprAt store source_map i (hir.If condition then_branch else_branch) (Some at)
         × (StandsPart rs c condition & StandsBlockPart rs t then_branch & StandsPresent rs e else_branch & OneWay at i) ws
     Stands rs (tree.block_expr b) i = StandsBlock rs b i
-    Stands rs (tree.loop_expr at label b) i =
-        InLabel rs label (λ inner n ws. (body : ExprId) × ExprAt i (hir.Loop body n source.Loop) (Some at)
+    Stands rs (tree.loop_expr at label _ b) i =
+        InLabel rs label (λ inner n ws. (body : ExprId) × ExprAt store source_map i (hir.Loop body n source.Loop) (Some at)
         × (StandsBlockPart inner b body & OneWay at i) ws)
     -- its condition lies under its label, too
-    Stands rs (tree.while_expr at label c b) i =
+    Stands rs (tree.while_expr at label _ c b) i =
         InLabel rs label (λ inner n. StandsWhile at n (λ x. StandsPart inner c x) (λ x. StandsBlockPart inner b x) i)
+    Stands rs (tree.question_expr at items e) i =
+        StandsQuestion store source_map at items (innermost_try_rib rs) (λ x. StandsPart rs e x) i
+    Stands rs (tree.itemless_expr at) i = StandsMissing i
+    Stands rs (tree.try_expr at item tree.no_type number ss e) i = StandsTry store source_map at item number (gives_value ss (is_left e))
+        (λ label is o. StandsContents (try_rib label false ∷ rs) ss (λ around o. StandsKept around e o) is o) i
+    Stands rs (tree.try_expr at item (tree.some_type t) number ss e) i = StandsTypedTry store source_map at
+        (λ x. StandsTry store source_map at item number (gives_value ss (is_left e))
+        (λ label is o. StandsContents (try_rib label true ∷ rs) ss (λ around o. StandsKept around e o) is o) x)
+        (λ y. TypeWays rs t & ReadsAs (stored_type store source_map) (written_type (tree.some_type t)) y) i
     Stands rs (tree.call_expr at f has_list es) i = λ ws.
-        (callee : ExprId) × (arguments : List ExprId) × ExprAt i (hir.Call callee arguments) (Some at)
+        (callee : ExprId) × (arguments : List ExprId) × ExprAt store source_map i (hir.Call callee arguments) (Some at)
         × (StandsPart rs f callee & StandsEach rs es arguments & OneWay at i) ws
     Stands rs (tree.path_expr at p h) i = WholeWays rs p & StandsPath at (written_path p) h i
     Stands rs (tree.continue_expr at jump) i = StandsAlone (hir.Continue (jump_number rs jump)) at i
     Stands rs (tree.break_expr at jump e) i = λ ws.
-        (value : Option ExprId) × ExprAt i (hir.Break (jump_number rs jump) value) (Some at) × (StandsPresent rs e value & OneWay at i) ws
+        (value : Option ExprId) × ExprAt store source_map i (hir.Break (jump_number rs jump) value) (Some at)
+        × (StandsPresent rs e value & OneWay at i) ws
     -- the parentheses became what is in them
     Stands rs (tree.paren_expr at e) i = StandsPart rs e i & OneWay at i
     Stands rs (tree.literal_expr at l) i = StandsLiteral at l i
@@ -430,10 +436,10 @@ module _ (store : Store) (source_map : SourceMap) where
 
     -- it has what its statements and its tail became, of which the last statement may be its tail
     pub StandsBlock : Open → Block → ExprId → Ways
-    StandsBlock rs (tree.block at is_unsafe label number ss e) i =
+    StandsBlock rs (tree.block at is_unsafe label _ number ss e) i =
         InLabel rs label (λ inner n ws. (kept : List Statement) × (last : Option ExprId) × (contents : List Statement × Option ExprId)
         × BlockContents (gives_value ss (is_left e)) kept last contents
-        × ExprAt i (hir.Block is_unsafe n number contents.0 contents.1) (Some at)
+        × ExprAt store source_map i (hir.Block is_unsafe n number contents.0 contents.1) (Some at)
         × (StandsContents inner ss (λ around o. StandsKept around e o) kept last & OneWay at i) ws)
 
     pub StandsBlockPart : Open → OptionBlock → ExprId → Ways
@@ -465,10 +471,10 @@ module _ (store : Store) (source_map : SourceMap) where
     -- one of which these names have a use
     pub StandsPat : Names → Open → Pat → FirstUses → PatId → Ways
     StandsPat ks rs (tree.leaf_pat at form) us i = No
-    StandsPat ks rs (tree.bind_pat at u sub) us i = λ ws.
+    StandsPat ks rs (tree.bind_pat at u _ sub) us i = λ ws.
         (b : BindingId) × (o : Option PatId) × PatIs i (pat.Bind b o)
         × (StandsSubpat ks rs sub us o & StandsName ks (uses_after_part sub us) u b) ws
-    StandsPat ks rs (tree.name_pat at u) us i = No
+    StandsPat ks rs (tree.name_pat at u _) us i = No
     StandsPat ks rs (tree.path_pat at p) us i = WholeWays rs p
     StandsPat ks rs (tree.tuple_struct_pat at p comma ps) us i =
         WholeWays rs p
@@ -526,7 +532,7 @@ module _ (store : Store) (source_map : SourceMap) where
     pub StandsSide : Open → Side → Option ExprId → Ways
     StandsSide rs tree.no_side o = Absent o
     StandsSide rs (tree.literal_side at l) o = There (λ i. StandsSigned at l i) o
-    StandsSide rs (tree.name_side at n) o = StandsNameSide at n o
+    StandsSide rs (tree.name_side at n _) o = StandsNameSide at n o
     StandsSide rs (tree.path_side at p) o =
         WholeWays rs p & WherePath (written_path p) (λ d. There (λ i. StandsSidePath at d i) o) (Absent o)
     StandsSide rs tree.other_side o = Absent o

@@ -1,5 +1,9 @@
--- What stands for parts that may be absent, that are read as far as something is, or that have names.
+-- Where something stands in a store; and what stands for parts that may be absent, that are read as far as something is, or that have
+-- names.
 use Rattle.std.specs.Prelude.{◌≡◌, Bool, true, false, List, ◌∷◌, Option, Some, None, option_map, slice_get}
+use Rattle.hir_store.specs.Pointers.{Pointer}
+use Rattle.hir_store.specs.Stored.{Store, SourceMap}
+use Rattle.hir_store.specs.declared.hir.Expr.{Expr as HirExpr}
 use Rattle.hir_store.specs.declared.hir.Statement.{Statement}
 use Rattle.hir_store.specs.declared.hir.Statement.TheVariants as statement
 use Rattle.hir_store.specs.declared.ids.BindingId.{BindingId}
@@ -20,6 +24,17 @@ Open = List (Rib LabelId)
 
 abbrev pub opened : Label → LabelId → Open → Open
 opened l n rs = label_rib l.name l.hygiene n ∷ rs
+
+module _ (store : Store) (source_map : SourceMap) where
+  -- the expression of this number, and the node that it came from
+  pub record ExprAt (i : ExprId) (e : HirExpr) (from : Option Pointer) : Type 0 where
+    pub stored : slice_get store.exprs i.0 ≡ Some e
+    pub source : slice_get source_map.expr_sources i.0 ≡ Some from
+
+  -- the label of this number has the name of the written one and came from it
+  pub record LabelAt (n : LabelId) (l : Label) : Type 0 where
+    pub stored : slice_get store.labels n.0 ≡ Some (record { name = l.name })
+    pub source : slice_get source_map.label_sources n.0 ≡ Some (Some l.pointer)
 
 -- parts that may be absent in the store too
 

@@ -21,9 +21,10 @@ use Rattle.hir_store.specs.declared.ids.LabelId.{LabelId}
 use Rattle.hir_store.specs.declared.ids.PatId.{PatId}
 use Rattle.hir_store.specs.declared.pat.Binding.{Binding}
 use Rattle.hir_store.specs.declared.pat.Pat.TheVariants as pat
+use Rattle.hir_scope.specs.Ribs.{try_rib, barrier_rib}
 use Rattle.hir_scope.specs.Scopes.{loop_scope, barrier}
 use Rattle.hir_env.specs.Answered as tree
-use Rattle.hir_env.specs.Answered.{Segment, Expr, OptionExpr, Exprs, Block, Stmts, Use, Pat, OptionPat}
+use Rattle.hir_env.specs.Answered.{QuestionItems, Segment, Expr, OptionExpr, Exprs, Block, Stmts, Use, Pat, OptionPat}
 use Rattle.hir_data.specs.BindingRule.{made_for}
 use Rattle.hir_data.specs.Worked.{whole}
 use Rattle.hir_meaning.specs.Small.{at, root, one, two, literal_at, label_with, label_a, jump_a, first, in_braces, loop_of}
@@ -53,11 +54,11 @@ break_a = tree.break_expr (at 4) (Some jump_a) tree.no_expr
 
 -- `'a: loop { 'a: loop { break 'a } }`, where the inner label is a macro's
 abbrev pub two_loops : Expr
-two_loops = loop_of 0 (Some label_a) (in_braces 2 None (loop_of 3 (Some (label_with other)) (in_braces 5 None break_a)))
+two_loops = loop_of 0 (Some root) (in_braces 2 None (loop_of 3 (Some other) (in_braces 5 None break_a)))
 
 -- the inner loop alone
 abbrev pub one_label : Expr
-one_label = loop_of 3 (Some (label_with other)) (in_braces 5 None break_a)
+one_label = loop_of 3 (Some other) (in_braces 5 None break_a)
 
 pub record Jumps : Type 0 where
   pub no_fault : diagnostics [] two_loops ≡ []
@@ -73,14 +74,14 @@ pub record Jumps : Type 0 where
 abbrev pub disabled_block : CfgId → Expr
 disabled_block by =
     let number : BlockId = record { 0 = 7 } in
-    tree.disabled_expr (at 2) by (tree.block_expr (tree.block (at 2) false None (Some number) tree.no_stmts (tree.some_expr break_a)))
+    tree.disabled_expr (at 2) by (tree.block_expr (tree.block (at 2) false None tt (Some number) tree.no_stmts (tree.some_expr break_a)))
 
 -- a literal, with or without a semicolon, and then what is disabled
 abbrev pub literal_first : CfgId → Bool → Stmts
 literal_first by semi = tree.more_stmts (tree.expr_stmt (tree.some_expr (literal_at 1 one)) semi) (first (disabled_block by) tree.no_stmts)
 
 abbrev pub block_with : CfgId → Bool → OptionExpr → Expr
-block_with by semi tail = tree.block_expr (tree.block (at 0) false None None (literal_first by semi) tail)
+block_with by semi tail = tree.block_expr (tree.block (at 0) false None tt None (literal_first by semi) tail)
 
 pub record Statements : Type 0 where
   pub becomes_tail : (by : CfgId) → StoredOver (block_with by false tree.no_expr) (λ last. hir.Block false None None [] (Some last))
@@ -95,7 +96,7 @@ pub record Statements : Type 0 where
 
 -- a block with this number, with this in it
 abbrev pub block_numbered : ℕ → Stmts → OptionExpr → Block
-block_numbered n ss tail = tree.block (at n) false None (Some (record { 0 = n })) ss tail
+block_numbered n ss tail = tree.block (at n) false None tt (Some (record { 0 = n })) ss tail
 
 abbrev pub empty_block : ℕ → Block
 empty_block n = block_numbered n tree.no_stmts tree.no_expr
@@ -121,7 +122,7 @@ abbrev pub letter : ℕ → Name
 letter c = name.Text (c ∷ [])
 
 abbrev pub named : ℕ → Segment
-named c = tree.name_segment (letter c) none_beside
+named c = tree.name_segment (letter c) tt none_beside
 
 pub record Leaves : Type 0 where
   pub one_name : StoredAs [] (tree.path_expr (at 0) (whole (named 97) []) other)
@@ -177,7 +178,7 @@ await_break location = tree.await_expr (at 0) location (tree.some_expr break_a)
 
 -- `unsafe {}` with a number
 abbrev pub unsafe_empty : Expr
-unsafe_empty = tree.block_expr (tree.block (at 0) true None (Some (block_id 7)) tree.no_stmts tree.no_expr)
+unsafe_empty = tree.block_expr (tree.block (at 0) true None tt (Some (block_id 7)) tree.no_stmts tree.no_expr)
 
 -- the block and another one
 abbrev pub two_blocks : Expr
@@ -204,7 +205,7 @@ abbrev pub use_x : Use
 use_x = record { name = letter 120; hygiene = root; mode = Unannotated }
 
 abbrev pub x_at : ℕ → Pat
-x_at n = tree.bind_pat (at n) use_x tree.no_pat
+x_at n = tree.bind_pat (at n) use_x tt tree.no_pat
 
 -- `(x, .., x)`
 abbrev pub twice : OptionPat
@@ -244,3 +245,35 @@ pub record Patterned : Type 0 where
       → BindsTwice store q ws
   pub assigns : (store : Store) (source_map : SourceMap) (i : ExprId) (ws : List Way) → Stands store source_map [] assign_one i ws
       → Assigns store i ws
+
+-- `?` and `try`
+
+-- `1?`
+abbrev pub question : QuestionItems → Expr
+question items = tree.question_expr (at 0) items (literal_part 1)
+
+-- what leaves with the residual, whatever items the language has for that
+abbrev pub LeavesAs : Open → (ExprId → HirExpr) → Type 0
+LeavesAs rs x =
+    (items : QuestionItems) (store : Store) (source_map : SourceMap) (i : ExprId) (ws : List Way)
+    → Stands store source_map rs (question items) i ws
+    → (out : ExprId) × (value : ExprId) × (slice_get store.exprs out.0 ≡ Some (x value))
+
+-- `'a: loop { try { break 'a } }`
+abbrev pub break_in_try : Expr
+break_in_try = loop_of 0 (Some root)
+    (in_braces 2 None (tree.try_expr (at 3) None tree.no_type None tree.no_stmts (tree.some_expr break_a)))
+
+-- `try { {} }`
+abbrev pub try_numbered : Expr
+try_numbered = tree.try_expr (at 0) None tree.no_type (Some (block_id 7)) tree.no_stmts (just 3)
+
+pub record Tries : Type 0 where
+  -- of two the inner one is meant, past a label
+  pub innermost : (label inner outer : LabelId)
+      → LeavesAs (opened label_a label (try_rib inner true ∷ try_rib outer false ∷ [])) (λ v. hir.Break (Some inner) (Some v))
+  -- behind a border none is
+  pub returns : (outer : LabelId) → LeavesAs (barrier_rib ∷ try_rib outer false ∷ []) (λ v. hir.Return (Some v))
+  -- a jump by name passes it by
+  pub passed : diagnostics [] break_in_try ≡ []
+  pub enters : blocks_of try_numbered ≡ block_id 7 ∷ block_id 3 ∷ []

@@ -374,7 +374,7 @@ mutual
   piece_is : (first : Bool) (s : Segment) → piece first s ≡ piece_of (what first s)
   piece_is first tree.absent_segment = refl
   piece_is first tree.broken_segment = refl
-  piece_is first (tree.name_segment n a) = refl
+  piece_is first (tree.name_segment n _ a) = refl
   piece_is first tree.self_type_segment = refl
   piece_is first tree.super_segment = refl
   piece_is false tree.crate_segment = refl

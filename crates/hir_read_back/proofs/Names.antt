@@ -1,9 +1,12 @@
 -- The names of a top pattern: those of which the tree knows the first uses, and those of which lowering knows the bindings.
-use Rattle.std.proofs.Common.{◌≡◌, refl, sym, ap, subst, Bool, true, false, List, [], ◌∷◌, ◌++◌, Option, Some, None}
-use Rattle.std.specs.Prelude.{cond, if◌then◌else◌, length}
+use Rattle.std.proofs.Common.{◌≡◌, refl, sym, ap, subst, Bool, true, false, true≢false, List, [], ◌∷◌, ◌++◌, Option, Some, None}
+use Rattle.std.specs.Prelude.{◌&&◌, cond, if◌then◌else◌, length, nat_eq}
 use Rattle.std.specs.Map.{lookup}
+use Rattle.hir_store.specs.Names.{IsWritten, same_name}
 use Rattle.hir_store.specs.Stored.{Stored, store_of, map_of}
 use Rattle.hir_store.specs.declared.ids.BindingId.{BindingId}
+use Rattle.hir_store.specs.declared.name.Name.{Name}
+use Rattle.hir_store.specs.declared.name.Name.TheVariants as name
 use Rattle.hir_store.specs.declared.pat.Binding.{Binding}
 use Rattle.hir_env.specs.Answered.{Use}
 use Rattle.hir_lower_form.specs.Pats.{Key, same_key, key_of, Table, no_names, binding_of, number_of, with_name, with_use as notes_use}
@@ -97,3 +100,22 @@ correct_use_name u t = correct_as (used_by u t (binding_of (key_of u) t))
       uses = λ us named. row.uses us (with_use us u) (first_use us u) named (known final u us t.bindings named.each);
       first = λ us named. row.first us (with_use us u) (first_use us u) (known final u us t.bindings named.each);
     })
+
+-- the first use of a written name has one
+
+as_written : (n k : Name) → same_name n k ≡ true → IsWritten n → IsWritten k
+as_written n (name.Text t) e w = tt
+as_written n name.Missing e w = tt
+as_written (name.Text t) (name.Generated k) e w = absurd (true≢false (sym e))
+as_written name.Missing (name.Generated k) e w = absurd (true≢false (sym e))
+as_written (name.Generated n) (name.Generated k) e w = absurd w
+
+pub first_written : (us : FirstUses) (u : Use) → IsWritten u.name → IsWritten (first_use us u).name
+first_written [] u w = w
+first_written (f ∷ us) u w = by (same_name u.name f.name) refl (nat_eq u.hygiene.0 f.hygiene.0) (first_written us u w)
+  where
+    by : (t : Bool) → same_name u.name f.name ≡ t → (b : Bool) → IsWritten (first_use us u).name
+        → IsWritten (if t && b then f else first_use us u).name
+    by true e true h = as_written u.name f.name e w
+    by true e false h = h
+    by false e b h = h

@@ -35,7 +35,7 @@ use Rattle.hir_read_back.proofs.Tree.{path_reads}
 side_reads : (s : Side) → Correct (lower.lower_side s) (Reads maybe_side (written.side_data s))
 side_reads tree.no_side = parts.no_side_reads
 side_reads (tree.literal_side at l) = parts.literal_side_reads at l
-side_reads (tree.name_side at n) = parts.name_side_reads at n
+side_reads (tree.name_side at n _) = parts.name_side_reads at n
 side_reads (tree.path_side at p) = parts.path_side_reads (path_of p) at (path_reads p)
 side_reads tree.other_side = parts.no_side_reads
 
@@ -85,8 +85,8 @@ disabled_field_reads at by f t = correct_as (correct_bind (correct_report _) (λ
 mutual
   pub pat_reads : (p : Pat) → PatFine a_pat (lower.lower_pat p) (written.pattern_data p) (written.uses_after p)
   pat_reads (tree.leaf_pat at form) = kinds.leaf_reads at form
-  pat_reads (tree.bind_pat at u sub) = kinds.bind_reads at u (subpattern_reads sub)
-  pat_reads (tree.name_pat at u) = kinds.plain_reads at (forms.name_pat_of u) (λ final r. refl)
+  pat_reads (tree.bind_pat at u w sub) = kinds.bind_reads at u w (subpattern_reads sub)
+  pat_reads (tree.name_pat at u _) = kinds.plain_reads at (forms.name_pat_of u) (λ final r. refl)
   pat_reads (tree.path_pat at p) = kinds.path_reads (path_of p) at (path_reads p)
   pat_reads (tree.tuple_struct_pat at p comma ps) =
       parts.tuple_struct_reads (path_of p) at comma (path_reads p) (elements_read ps no_elements)

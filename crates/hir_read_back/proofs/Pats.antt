@@ -2,10 +2,13 @@
 use Rattle.std.proofs.Common.{◌≡◌, ◌∙◌, refl, sym, ap, ℕ, zero, suc, ◌≤◌, List, [], ◌∷◌}
 use Rattle.std.proofs.Common.{◌++◌, append-nil, append_assoc, arith}
 use Rattle.std.specs.Prelude.{Option, Some, None}
+use Rattle.hir_store.specs.Names.{IsWritten}
 use Rattle.hir_store.specs.Pointers.{Pointer}
 use Rattle.hir_store.specs.Stored.{Stored, store_of, map_of}
 use Rattle.hir_store.specs.declared.ids.ExprId.{ExprId}
 use Rattle.hir_store.specs.declared.ids.PatId.{PatId}
+use Rattle.hir_store.specs.declared.name.Name.{Name}
+use Rattle.hir_store.specs.declared.name.Name.TheVariants as name
 use Rattle.hir_store.specs.declared.pat.Pat.{Pat as HirPat}
 use Rattle.hir_store.specs.declared.pat.Pat.TheVariants as pat
 use Rattle.hir_store.specs.declared.pat.RecordFieldPat.{RecordFieldPat}
@@ -29,7 +32,7 @@ use Rattle.hir_data.specs.Rule.{PathRead, data_of}
 use Rattle.hir_data.specs.Uses.{FirstUses, first_use, with_use}
 use Rattle.hir_read_back.proofs.Going.{PathIs}
 use Rattle.hir_read_back.proofs.Layers.{Layer, Reads, within, a_path}
-use Rattle.hir_read_back.proofs.Names.{Named, correct_use_name}
+use Rattle.hir_read_back.proofs.Names.{Named, correct_use_name, first_written}
 use Rattle.hir_read_back.proofs.Walk.{Answers, matches_read}
 
 -- ---- what is read at a pattern
@@ -137,13 +140,24 @@ some_pat_reads h t = correct_as (correct_bind (h t) (λ r. correct_pure (Some r.
 
 -- ---- names
 
+-- a name that is written
+name_bound : (final : Stored) (r : Readers) (u : Use) → IsWritten u.name → (sub : OptionPatData)
+    → reading.bind_layer (store_of final) (map_of final) r (Some (forms.new_binding u)) sub ≡ written.bind_as u sub
+name_bound final r u w sub = by u.name w
+  where
+    by : (n : Name) → IsWritten n
+        → reading.name_layer (store_of final) (map_of final) r n u.hygiene u.mode sub ≡ datum.bind_pattern n u.hygiene u.mode sub
+    by (name.Text t) w = refl
+    by name.Missing w = refl
+    by (name.Generated k) w = absurd w
+
 -- what stands behind `@` comes first, and the name is bound as by its first use
 pub bind_reads : {x : FirstUses → OptionPatData} {f : FirstUses → FirstUses} {p : Table → Lowering (Option PatId × Table)} (at : Pointer)
-    (u : Use) → PatFine maybe_pat p x f
+    (u : Use) → IsWritten u.name → PatFine maybe_pat p x f
     → PatFine a_pat (forms.bind_form at u p) (λ us. pat_at (Some at) (written.bind_as (first_use (f us) u) (x us)))
     (λ us. with_use (f us) u)
 unfolding forms.bind_form
-bind_reads {x = x} {f = f} at u h t =
+bind_reads {x = x} {f = f} at u w h t =
     correct_as (correct_bind (h t) (λ s. correct_bind (correct_use_name u s.1)
     (λ b. correct_bind (correct_alloc_pat (pat.Bind b.0 s.0) (Some at)) (λ i. correct_bind (correct_define b.0 i)
     (λ v. correct_pure (i, b.1))))))
@@ -151,8 +165,9 @@ bind_reads {x = x} {f = f} at u h t =
     rw (v.second.is, v.second.still) (record {
       uses = λ us named. s.first.uses (f us) (row.first.uses us named);
       reads = λ us named d le. pat_stored k.first
-          (λ n ge. λ j. reading.bind_layer (store_of final) (map_of final) (within final n)
+          (λ n ge. (λ j. reading.bind_layer (store_of final) (map_of final) (within final n)
           (s.first.first (f us) (row.first.uses us named) j) (row.first.reads us named n (omega (ge, s.before.entries, arith)) j))
+          ∙ name_bound final (within final n) (first_use (f us) u) (first_written (f us) u w) (x us))
           d (omega (le, k.after.entries, arith));
     }))
 

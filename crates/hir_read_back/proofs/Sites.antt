@@ -9,27 +9,32 @@ use Rattle.hir_store.specs.declared.ids.BlockId.{BlockId}
 use Rattle.hir_store.specs.declared.ids.ExprId.{ExprId}
 use Rattle.hir_store.specs.declared.ids.HygieneId.{HygieneId}
 use Rattle.hir_store.specs.declared.ids.LabelId.{LabelId}
+use Rattle.hir_store.specs.declared.ids.LangItemId.{LangItemId}
 use Rattle.hir_store.specs.declared.ids.PatId.{PatId}
+use Rattle.hir_store.specs.declared.ids.TypeRefId.{TypeRefId}
 use Rattle.hir_store.specs.declared.name.Name.{Name}
 use Rattle.hir_store.specs.declared.path.GenericArgs.{GenericArgs}
 use Rattle.hir_store.specs.declared.path.Path.{Path as HirPath}
 use Rattle.hir_store.specs.declared.diagnostics.AwaitLocation.{AwaitLocation}
 use Rattle.hir_env.specs.Answered as tree
-use Rattle.hir_env.specs.Answered.{Jump, Label, Listing, RangeForm}
+use Rattle.hir_env.specs.Answered.{Jump, Label, Listing, QuestionItems, RangeForm}
 use Rattle.hir_env.specs.NodeMap.{Site}
 use Rattle.hir_env.specs.Spot.{site_of}
-use Rattle.hir_lower_form.specs.Lowering.{Lowering, ◌>>=◌, alloc_expr}
+use Rattle.hir_lower_form.specs.Lowering.{Lowering, ◌>>=◌, alloc_expr, alloc_made}
+use Rattle.hir_lower_form.specs.Made.{question_form, try_block_form, typed_try_form}
 use Rattle.hir_lower_form.specs.Types.{TypeSteps}
 use Rattle.hir_lower_form.specs.Forms.{ExprSteps, StoredContents, StoredFields, missing, if_form, loop_form, call_form, continue_form}
 use Rattle.hir_lower_form.specs.Forms.{break_form, paren_form, path_form, operand_form, operands_form, value_form, list_form}
 use Rattle.hir_lower_form.specs.Forms.{method_call_form, await_form, cast_form, offset_of_form, record_of, record_form, block_form}
-use Rattle.hir_lower_form.specs.Forms.{labelled, constant_form, let_form, match_form, assign_form}
+use Rattle.hir_lower_form.specs.Forms.{labelled, constant_form, let_form, match_form, assign_form, settled}
 use Rattle.hir_lower_form.specs.Ranges.{made_range, range_form}
 use Rattle.hir_steps.proofs.Frames.{Frame, loop_at, block_at}
 use Rattle.hir_steps.proofs.Steps.{Mark, Rel, Correct, correct_bind, correct_as, correct_pure, correct_alloc, correct_point}
 use Rattle.hir_steps.proofs.Steps.{correct_enter_block, correct_opened, correct_report_await, correct_target}
 use Rattle.hir_steps.proofs.Constants.{correct_constant}
+use Rattle.hir_steps.proofs.ApartForms.{flow_arm_apart, item_call_apart, made_path_apart, residual_apart, wrapped_apart}
 use Rattle.hir_steps.proofs.Keeping.{Any}
+use Rattle.hir_steps.proofs.MadeSteps.{correct_alloc_made, correct_made_bind, correct_made_number, correct_opened_try}
 use Rattle.hir_data.specs.Rule.{PathRead}
 use Rattle.hir_data.specs.Written as written
 use Rattle.hir_read_back.proofs.Layers.{Reads, a_constant, a_source}
@@ -58,6 +63,10 @@ module _ (at : Pointer) where
 
   stored_from : (e : HirExpr) → From here (alloc_expr e (Some at))
   stored_from e = alloc_from e (Some at)
+
+  made_from : (e : HirExpr) → From here (alloc_made e (Some at))
+  made_from e = correct_as (correct_alloc_made e (Some at))
+      (λ final ps m m' i g row. record { is = λ d le. rw (row.number, row.from) refl })
 
   pub if_from : {c t : ExprSteps} {e : Lowering (Option ExprId)} → Correct c Any → Correct t Any → Correct e Any
       → From here (if_form at c t e)
@@ -169,14 +178,34 @@ module _ (at : Pointer) where
   unfolding assign_form
   assign_from ht hv = ends_from ht (λ t. ends_from hv (λ v. stored_from _))
 
-  made_from : (form : RangeForm) (s e : Option ExprId) → From here (made_range at form s e)
-  made_from (tree.record_range i last) s e = stored_from _
-  made_from (tree.call_range i) s e = ends_from (alloc_from _ None) (λ f. stored_from _)
-  made_from tree.itemless_range s e = stored_from _
+  range_made_from : (form : RangeForm) (s e : Option ExprId) → From here (made_range at form s e)
+  range_made_from (tree.record_range i last) s e = stored_from _
+  range_made_from (tree.call_range i) s e = ends_from (alloc_from _ None) (λ f. stored_from _)
+  range_made_from tree.itemless_range s e = stored_from _
 
   pub range_from : (form : RangeForm) {s e : Lowering (Option ExprId)} → Correct s Any → Correct e Any → From here (range_form at form s e)
   unfolding range_form
-  range_from form hs he = ends_from hs (λ s. ends_from he (λ e. made_from form s e))
+  range_from form hs he = ends_from hs (λ s. ends_from he (λ e. range_made_from form s e))
+
+  -- `?` and `try`
+
+  pub question_from : (items : QuestionItems) {e : ExprSteps} → Correct e Any → From here (question_form at items e)
+  unfolding question_form
+  question_from items h = ends_from h (λ e. ends_from (item_call_apart at (Some items.branch) e)
+      (λ b. ends_from (flow_arm_apart items.goes_on (made_path_apart at))
+      (λ a. ends_from (flow_arm_apart items.breaks (residual_apart at items)) (λ c. stored_from _))))
+
+  pub try_from : (item : Option LangItemId) (typed : Bool) (number : Option BlockId) {c : Lowering StoredContents} → Correct c Any
+      → From here (try_block_form at item typed number c)
+  unfolding try_block_form
+  try_from item typed number h = correct_as (correct_opened_try at typed (correct_enter_block number) h
+      (λ n r. ends_from (wrapped_apart at item (settled r.0 r.1).1) (λ v. stored_from _)))
+      (λ final ps m m' i g row. record { is = row.second.is })
+
+  pub typed_try_from : {b : ExprSteps} {t : Lowering TypeRefId} → Correct b Any → Correct t Any → From here (typed_try_form at b t)
+  unfolding typed_try_form
+  typed_try_from hb ht = ends_from hb (λ b. ends_from correct_made_number (λ n. ends_from ht (λ t. ends_from (correct_made_bind n)
+      (λ p. ends_from (made_path_apart at n) (λ e. made_from _)))))
 
 pub labelled_from : {x : Option Site} (label : Option Label) {f : Option LabelId → ExprSteps} → ((n : Option LabelId) → From x (f n))
     → From x (labelled label f)

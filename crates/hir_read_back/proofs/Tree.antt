@@ -23,8 +23,9 @@ use Rattle.hir_lower_form.specs.Paths.{whole}
 use Rattle.hir_lower_form.specs.Types.{no_lists}
 use Rattle.hir_lower_form.specs.Lower as lower
 use Rattle.hir_steps.proofs.Steps.{Correct, correct_report}
-use Rattle.hir_steps.proofs.Keeping.{part_any, present_any, each_any, block_part_any, stmts_any, kept_part_any, contents_any, fields_any}
-use Rattle.hir_steps.proofs.Keeping.{turn_any, spread_any, type_any, lower_path_any, args_any, top_any, arms_any, target_any}
+use Rattle.hir_steps.proofs.Keeping.{part_any, present_any, each_any, block_part_any, contents_part_any, contents_any, fields_any}
+use Rattle.hir_steps.proofs.Keeping.{any, turn_any, spread_any, one_type_any, type_any, lower_path_any, args_any, top_any, arms_any}
+use Rattle.hir_steps.proofs.Keeping.{target_any}
 use Rattle.hir_data.specs.Data as datum
 use Rattle.hir_data.specs.Data.{TypesData, no_args}
 use Rattle.hir_data.specs.Rule.{broken, named}
@@ -143,7 +144,7 @@ mutual
       → Correct (lower.read_segment true s (at_first l w)) (Goes (Open w) (λ is. item l (written.what true s) ∷ is))
   first_goes l tree.absent_segment w = bare_goes l missing_name w
   first_goes l tree.broken_segment w = broken_goes l w
-  first_goes l (tree.name_segment n a) w = named_goes l n w (segment_args_reads a)
+  first_goes l (tree.name_segment n _ a) w = named_goes l n w (segment_args_reads a)
   first_goes l tree.self_type_segment w = bare_goes l self_type_name w
   first_goes l tree.crate_segment w = goes_at_once _ (λ final n is h. says_root final n l is kind.Crate w h)
   first_goes l (tree.dollar_crate_segment c) w = goes_at_once _ (λ final n is h. says_dollar final n l is c w h)
@@ -156,7 +157,7 @@ mutual
       → Correct (lower.read_segment false s w) (Goes (Open w) (λ is. item false (written.what false s) ∷ is))
   behind_goes tree.absent_segment w = bare_goes false missing_name w
   behind_goes tree.broken_segment w = broken_goes false w
-  behind_goes (tree.name_segment n a) w = named_goes false n w (segment_args_reads a)
+  behind_goes (tree.name_segment n _ a) w = named_goes false n w (segment_args_reads a)
   behind_goes tree.self_type_segment w = bare_goes false self_type_name w
   behind_goes tree.crate_segment w = broken_goes false w
   behind_goes (tree.dollar_crate_segment c) w = broken_goes false w
@@ -211,7 +212,7 @@ mutual
   limit_side_is : (s : Side) → Correct (lower.limit_side s) (SideIs (written.limit_side s))
   limit_side_is tree.no_side = pats.missing_side_is
   limit_side_is (tree.literal_side at l) = pats.literal_limit_is at l
-  limit_side_is (tree.name_side at n) = pats.name_limit_is at n
+  limit_side_is (tree.name_side at n _) = pats.name_limit_is at n
   limit_side_is (tree.path_side at p) = pats.path_limit_is (written.path_of p) at (path_reads p)
   limit_side_is tree.other_side = pats.missing_side_is
 
@@ -225,8 +226,8 @@ mutual
   part_from (tree.some_expr e) = expr_from e
 
   block_from : (b : Block) → From (written.block_site b) (lower.lower_block b)
-  block_from (tree.block at is_unsafe label number ss e) = sites.labelled_from label
-      (λ n. sites.block_form_from at is_unsafe n number (stmts_any [] ss (kept_part_any e)))
+  block_from (tree.block at is_unsafe label _ number ss e) = sites.labelled_from label
+      (λ n. sites.block_form_from at is_unsafe n number (contents_part_any ss e))
 
   expr_from : (e : Expr) → From (written.expr_site e) (lower.lower e)
   expr_from (tree.disabled_expr at by e) = ends_from (correct_report _) (λ u. missing_from)
@@ -235,8 +236,13 @@ mutual
   expr_from (tree.record_expr at p head fs s) =
       sites.record_from at (written.path_of p) (path_reads p) (contents_any (fields_any [] fs) (spread_any s))
   expr_from (tree.if_expr at c t e) = sites.if_from at (part_any c) (block_part_any t) (present_any e)
-  expr_from (tree.loop_expr at label b) = sites.loop_from at _ label (block_part_any b)
-  expr_from (tree.while_expr at label c b) = sites.loop_from at _ label (turn_any at (part_any c) (block_part_any b))
+  expr_from (tree.loop_expr at label _ b) = sites.loop_from at _ label (block_part_any b)
+  expr_from (tree.while_expr at label _ c b) = sites.loop_from at _ label (turn_any at (part_any c) (block_part_any b))
+  expr_from (tree.question_expr at items e) = sites.question_from at items (part_any e)
+  expr_from (tree.itemless_expr at) = missing_from
+  expr_from (tree.try_expr at item tree.no_type number ss e) = sites.try_from at item false number (contents_part_any ss e)
+  expr_from (tree.try_expr at item (tree.some_type t) number ss e) =
+      sites.typed_try_from at (any (sites.try_from at item true number (contents_part_any ss e))) (one_type_any None t)
   expr_from (tree.call_expr at f has_list es) = sites.call_from at (part_any f) (each_any [] es)
   expr_from (tree.path_expr at p h) = sites.path_from at h (lower_path_any p)
   expr_from (tree.continue_expr at jump) = sites.continue_from at jump

@@ -1,6 +1,6 @@
 -- The statements and the tail of a block, as lowering settles them and as the block is run.
 use Rattle.std.proofs.Common.{◌≡◌, ℕ, ◌≤◌, Bool, true, false, not, ◌&&◌, if◌then◌else◌, List, [], ◌∷◌, Option, Some, None, refl, sym}
-use Rattle.std.proofs.Common.{true≢false}
+use Rattle.std.proofs.Common.{arith, true≢false}
 use Rattle.hir_store.specs.Stored.{Stored, store_of, map_of}
 use Rattle.hir_store.specs.declared.hir.Statement.{Statement}
 use Rattle.hir_store.specs.declared.hir.Statement.TheVariants as statement
@@ -15,15 +15,16 @@ use Rattle.hir_data.specs.Written.{written_option_type}
 use Rattle.hir_lower_form.specs.Lower.{settled}
 use Rattle.hir_meaning.specs.Run.{Value, unit, leave, unmatched, pure, ◌>>=◌, ◌>>◌, binds}
 use Rattle.hir_scope.specs.Scopes.{Scope}
-use Rattle.hir_meaning.specs.Syntax.{SyntaxRun, run_expr, run_part, run_present, run_else, run_block, run_stmts, run_tail}
+use Rattle.hir_meaning.specs.Syntax.{SyntaxRun, as_it_is, run_expr, run_part, run_present, run_else, run_block, run_stmts, run_tail}
 use Rattle.hir_meaning.specs.Left.{is_kept, is_left, none_left}
-use Rattle.hir_meaning.specs.Store.{StoreRun, run_statements, run_present as stored_present, run_else as stored_else}
+use Rattle.hir_meaning.specs.Store.{StoreRun, bound_to, run_or_unit, run_statements, run_present as stored_present, run_else as stored_else}
 use Rattle.hir_scope.specs.Each.{IfPresent}
 use Rattle.hir_meaning.specs.Jumps.{EachStatement, EnclosedTo}
 use Rattle.hir_steps.proofs.Frames.{Frame, scopes, Falls}
 use Rattle.hir_same_meaning.proofs.Views.{numbers}
-use Rattle.hir_same_meaning.proofs.Relation.{SameWhere, same_ends, same_pure, same_bind, same_binds}
-use Rattle.hir_same_meaning.proofs.Senses.{Walk, run_in, one, present, contents, Goes, Wider, goes_within}
+use Rattle.hir_same_meaning.proofs.Relation.{SameWhere, same_ends, same_pure, same_bind}
+use Rattle.hir_same_meaning.proofs.Senses.{Walk, run_in, one, optional, present, contents, Goes, Wider, goes_within}
+use Rattle.hir_same_meaning.proofs.Unmade.{binds_same, written_is_unmade}
 
 -- the walk of a part
 abbrev pub part_walk : OptionExpr → Walk Value
@@ -165,8 +166,8 @@ abbrev stored_run : Stored → ℕ → ℕ → List Statement × Option ExprId �
 stored_run final turns d r = run_statements (store_of final) (map_of final) turns (run_in final d turns) r.0 r.1
 
 -- an expression statement that is left or not, and others behind it
-abbrev before : Bool → Bool → SyntaxRun Value → SyntaxRun Value → SyntaxRun Value
-before left last y others = if left then (if last then y else (y >> others)) else others
+abbrev before : Bool → Bool → (SyntaxRun Value → SyntaxRun Value) → SyntaxRun Value → SyntaxRun Value → SyntaxRun Value
+before left last out y others = if left then (if last then out y else (y >> others)) else others
 
 module _ (labels nodes : ℕ) (final : Stored) (turns d : ℕ) (deep : nodes ≤ d) where
   same_else : (ps : List Frame) → Falls labels ps → (b : OptionBlock) (o : Option ExprId) → ElseIs labels nodes final ps b o → (fits : Bool)
@@ -184,83 +185,99 @@ module _ (labels nodes : ℕ) (final : Stored) (turns d : ℕ) (deep : nodes ≤
       → LetIs labels nodes final ps p t e b s → {m : StoreRun Value} {n : SyntaxRun Value} → SameWhere ps m n
       → SameWhere ps
       (stored_present turns (run_in final d turns) s.initializer >>= (λ vs.
-      binds (stored_pat (store_of final) (map_of final) s.pattern) (stored_option_type (store_of final) (map_of final) s.type_ref) vs
+      bound_to (store_of final) (map_of final) s.pattern s.type_ref vs
       >>= (λ fits. stored_else turns (run_in final d turns) s.else_branch fits m)))
       (run_present turns e (scopes ps) >>= (λ vs. binds (written_pat p) (written_option_type t) vs
       >>= (λ fits. run_else turns b fits n (scopes ps))))
-  same_let ps f p t e b s h k = rw (h.pattern, h.type_ref) (same_bind (h.initializer.same turns d deep f)
-      (λ vs. same_bind (same_binds (written_pat p) (written_option_type t) vs)
-      (λ fits. same_else ps f b s.else_branch h.else_branch fits k)))
+  same_let ps f p t e b s h k = same_bind (h.initializer.same turns d deep f)
+      (λ vs. same_bind
+      (binds_same final s.pattern s.type_ref (written_pat p) (written_option_type t) h.pattern h.type_ref (written_is_unmade p) vs)
+      (λ fits. same_else ps f b s.else_branch h.else_branch fits k))
 
-module _ (labels nodes : ℕ) (final : Stored) (turns d : ℕ) (deep : nodes ≤ d) (x : Walk Value) where
+-- no tail gives unit
+no_value : {labels nodes : ℕ} {final : Stored} {ps : List Frame} → Goes labels nodes optional (λ turns qs. pure unit) final ps None
+no_value = record { same = λ turns d le f. same_pure unit; jumps = λ d le. tt }
+
+-- what a stored tail does, where the value of this one goes through `out`
+abbrev Ends : ℕ → ℕ → Stored → ℕ → ℕ → (SyntaxRun Value → SyntaxRun Value) → List Frame → Option ExprId → Option ExprId → Type 0
+Ends labels nodes final turns d out ps tail o = (y : Walk Value) → Goes labels nodes optional y final ps tail
+    → SameWhere ps (run_or_unit turns (run_in final d turns) o) (out (y turns (scopes ps)))
+
+module _ (labels nodes : ℕ) (final : Stored) (turns d : ℕ) (deep : nodes ≤ d) (x : Walk Value) (out : SyntaxRun Value → SyntaxRun Value)
+    (o : Option ExprId) where
   -- with a tail, the statements as they are
   with_tail : (ps : List Frame) → Falls labels ps → (ss : Stmts) (new : List Statement) (i : ExprId)
-      → ContentsAre labels nodes final true x ps ss new (Some i)
-      → SameWhere ps (stored_run final turns d (new, Some i)) (run_stmts turns ss true (x turns) (scopes ps))
-  with_tail ps f tree.no_stmts [] i h = h.1.same turns d deep f
-  with_tail ps f tree.no_stmts (s ∷ new) i h = absurd h.0
-  with_tail ps f (tree.more_stmts (tree.disabled_stmt at by s) ss) new i h = with_tail ps f ss new i h
-  with_tail ps f (tree.more_stmts tree.item_stmt ss) [] i h = absurd h
-  with_tail ps f (tree.more_stmts tree.item_stmt ss) (statement.Item ∷ new) i h = with_tail ps f ss new i h
-  with_tail ps f (tree.more_stmts tree.item_stmt ss) (statement.Expr j semi ∷ new) i h = absurd h
-  with_tail ps f (tree.more_stmts tree.item_stmt ss) (statement.Let p t e b ∷ new) i h = absurd h
-  with_tail ps f (tree.more_stmts (tree.let_stmt p t e b) ss) [] i h = absurd h
-  with_tail ps f (tree.more_stmts (tree.let_stmt p t e b) ss) (statement.Item ∷ new) i h = absurd h
-  with_tail ps f (tree.more_stmts (tree.let_stmt p t e b) ss) (statement.Expr j semi ∷ new) i h = absurd h
-  with_tail ps f (tree.more_stmts (tree.let_stmt p t e b) ss) (statement.Let q k j l ∷ new) i h =
-      same_let labels nodes final turns d deep ps f p t e b _ h.0 (with_tail ps f ss new i h.1)
-  with_tail ps f (tree.more_stmts (tree.expr_stmt e semi) ss) new i h =
-      go (is_left e) (part_walk e) new (λ more h'. with_tail ps f ss more i h') h
+      → Ends labels nodes final turns d out ps (Some i) o → ContentsAre labels nodes final true x ps ss new (Some i)
+      → SameWhere ps (stored_run final turns d (new, o)) (run_stmts turns ss true out (x turns) (scopes ps))
+  with_tail ps f tree.no_stmts [] i k h = k x (record { same = h.1.same; jumps = h.1.jumps })
+  with_tail ps f tree.no_stmts (s ∷ new) i k h = absurd h.0
+  with_tail ps f (tree.more_stmts (tree.disabled_stmt at by s) ss) new i k h = with_tail ps f ss new i k h
+  with_tail ps f (tree.more_stmts tree.item_stmt ss) [] i k h = absurd h
+  with_tail ps f (tree.more_stmts tree.item_stmt ss) (statement.Item ∷ new) i k h = with_tail ps f ss new i k h
+  with_tail ps f (tree.more_stmts tree.item_stmt ss) (statement.Expr j semi ∷ new) i k h = absurd h
+  with_tail ps f (tree.more_stmts tree.item_stmt ss) (statement.Let p t e b ∷ new) i k h = absurd h
+  with_tail ps f (tree.more_stmts (tree.let_stmt p t e b) ss) [] i k h = absurd h
+  with_tail ps f (tree.more_stmts (tree.let_stmt p t e b) ss) (statement.Item ∷ new) i k h = absurd h
+  with_tail ps f (tree.more_stmts (tree.let_stmt p t e b) ss) (statement.Expr j semi ∷ new) i k h = absurd h
+  with_tail ps f (tree.more_stmts (tree.let_stmt p t e b) ss) (statement.Let q t' j l ∷ new) i k h =
+      same_let labels nodes final turns d deep ps f p t e b _ h.0 (with_tail ps f ss new i k h.1)
+  with_tail ps f (tree.more_stmts (tree.expr_stmt e semi) ss) new i k h =
+      go (is_left e) (part_walk e) new (λ more h'. with_tail ps f ss more i k h') h
     where
       go : (t : Bool) (y : Walk Value) (new : List Statement)
           → ((more : List Statement) → ContentsAre labels nodes final true x ps ss more (Some i)
-          → SameWhere ps (stored_run final turns d (more, Some i)) (run_stmts turns ss true (x turns) (scopes ps)))
+          → SameWhere ps (stored_run final turns d (more, o)) (run_stmts turns ss true out (x turns) (scopes ps)))
           → Stored1 labels nodes final ps t y semi (λ more. ContentsAre labels nodes final true x ps ss more (Some i)) new
-          → SameWhere ps (stored_run final turns d (new, Some i))
-          (before t (not semi && (none_left ss && false)) (y turns (scopes ps)) (run_stmts turns ss true (x turns) (scopes ps)))
+          → SameWhere ps (stored_run final turns d (new, o))
+          (before t (not semi && (none_left ss && false)) out (y turns (scopes ps)) (run_stmts turns ss true out (x turns) (scopes ps)))
       go false y new more h = more new h
       go true y [] more h = absurd h
       go true y (statement.Item ∷ new) more h = absurd h
-      go true y (statement.Let q k j l ∷ new) more h = absurd h
+      go true y (statement.Let q t' j l ∷ new) more h = absurd h
       go true y (statement.Expr j semi' ∷ new) more h =
           rw (and_false (not semi) (none_left ss)) (same_bind (h.1.same turns d deep f) (λ v. more new h.2))
 
   -- without one, the last statement may become it
   without_tail : (ps : List Frame) → Falls labels ps → (ss : Stmts) (new : List Statement)
-      → ContentsAre labels nodes final false x ps ss new None
-      → SameWhere ps (stored_run final turns d (settled new None)) (run_stmts turns ss false (λ qs. pure unit) (scopes ps))
-  without_tail ps f tree.no_stmts [] h = same_pure unit
-  without_tail ps f tree.no_stmts (s ∷ new) h = absurd h.0
-  without_tail ps f (tree.more_stmts (tree.disabled_stmt at by s) ss) new h = without_tail ps f ss new h
-  without_tail ps f (tree.more_stmts tree.item_stmt ss) [] h = absurd h
-  without_tail ps f (tree.more_stmts tree.item_stmt ss) (statement.Item ∷ new) h = without_tail ps f ss new h
-  without_tail ps f (tree.more_stmts tree.item_stmt ss) (statement.Expr j semi ∷ new) h = absurd h
-  without_tail ps f (tree.more_stmts tree.item_stmt ss) (statement.Let p t e b ∷ new) h = absurd h
-  without_tail ps f (tree.more_stmts (tree.let_stmt p t e b) ss) [] h = absurd h
-  without_tail ps f (tree.more_stmts (tree.let_stmt p t e b) ss) (statement.Item ∷ new) h = absurd h
-  without_tail ps f (tree.more_stmts (tree.let_stmt p t e b) ss) (statement.Expr j semi ∷ new) h = absurd h
-  without_tail ps f (tree.more_stmts (tree.let_stmt p t e b) ss) (statement.Let q k j l ∷ new) h =
-      same_let labels nodes final turns d deep ps f p t e b _ h.0 (without_tail ps f ss new h.1)
-  without_tail ps f (tree.more_stmts (tree.expr_stmt e semi) ss) new h =
-      go (is_left e) (part_walk e) semi new (without_tail ps f ss) (λ more. none_left_is labels nodes final false x ps ss more None) h
+      → Ends labels nodes final turns d out ps (settled new None).1 o → ContentsAre labels nodes final false x ps ss new None
+      → SameWhere ps (stored_run final turns d ((settled new None).0, o)) (run_stmts turns ss false out (λ qs. pure unit) (scopes ps))
+  without_tail ps f tree.no_stmts [] k h = k (λ turns qs. pure unit) no_value
+  without_tail ps f tree.no_stmts (s ∷ new) k h = absurd h.0
+  without_tail ps f (tree.more_stmts (tree.disabled_stmt at by s) ss) new k h = without_tail ps f ss new k h
+  without_tail ps f (tree.more_stmts tree.item_stmt ss) [] k h = absurd h
+  without_tail ps f (tree.more_stmts tree.item_stmt ss) (statement.Item ∷ new) k h = without_tail ps f ss new k h
+  without_tail ps f (tree.more_stmts tree.item_stmt ss) (statement.Expr j semi ∷ new) k h = absurd h
+  without_tail ps f (tree.more_stmts tree.item_stmt ss) (statement.Let p t e b ∷ new) k h = absurd h
+  without_tail ps f (tree.more_stmts (tree.let_stmt p t e b) ss) [] k h = absurd h
+  without_tail ps f (tree.more_stmts (tree.let_stmt p t e b) ss) (statement.Item ∷ new) k h = absurd h
+  without_tail ps f (tree.more_stmts (tree.let_stmt p t e b) ss) (statement.Expr j semi ∷ new) k h = absurd h
+  without_tail ps f (tree.more_stmts (tree.let_stmt p t e b) ss) (statement.Let q t' j l ∷ new) k h =
+      same_let labels nodes final turns d deep ps f p t e b _ h.0 (without_tail ps f ss new k h.1)
+  without_tail ps f (tree.more_stmts (tree.expr_stmt e semi) ss) new k h =
+      go (is_left e) (part_walk e) semi new (without_tail ps f ss) (λ more. none_left_is labels nodes final false x ps ss more None) k h
     where
       go : (t : Bool) (y : Walk Value) (semi : Bool) (new : List Statement)
-          → ((more : List Statement) → ContentsAre labels nodes final false x ps ss more None
-          → SameWhere ps (stored_run final turns d (settled more None)) (run_stmts turns ss false (λ qs. pure unit) (scopes ps)))
+          → ((more : List Statement) → Ends labels nodes final turns d out ps (settled more None).1 o
+          → ContentsAre labels nodes final false x ps ss more None
+          → SameWhere ps (stored_run final turns d ((settled more None).0, o))
+          (run_stmts turns ss false out (λ qs. pure unit) (scopes ps)))
           → ((more : List Statement) → ContentsAre labels nodes final false x ps ss more None → none_left ss ≡ empty more)
+          → Ends labels nodes final turns d out ps (settled new None).1 o
           → Stored1 labels nodes final ps t y semi (λ more. ContentsAre labels nodes final false x ps ss more None) new
-          → SameWhere ps (stored_run final turns d (settled new None))
-          (before t (not semi && (none_left ss && true)) (y turns (scopes ps)) (run_stmts turns ss false (λ qs. pure unit) (scopes ps)))
-      go false y semi new more left h = more new h
-      go true y semi [] more left h = absurd h
-      go true y semi (statement.Item ∷ new) more left h = absurd h
-      go true y semi (statement.Let q k j l ∷ new) more left h = absurd h
-      go true y true (statement.Expr j true ∷ new) more left h = same_bind (h.1.same turns d deep f) (λ v. more new h.2)
-      go true y true (statement.Expr j false ∷ new) more left h = absurd (true≢false (sym h.0))
-      go true y false (statement.Expr j true ∷ new) more left h = absurd (true≢false h.0)
-      go true y false (statement.Expr j false ∷ []) more left h = rw (left [] h.2) (h.1.same turns d deep f)
-      go true y false (statement.Expr j false ∷ (s ∷ new)) more left h =
-          rw (left (s ∷ new) h.2) (same_bind (h.1.same turns d deep f) (λ v. more (s ∷ new) h.2))
+          → SameWhere ps (stored_run final turns d ((settled new None).0, o))
+          (before t (not semi && (none_left ss && true)) out (y turns (scopes ps))
+          (run_stmts turns ss false out (λ qs. pure unit) (scopes ps)))
+      go false y semi new more left k h = more new k h
+      go true y semi [] more left k h = absurd h
+      go true y semi (statement.Item ∷ new) more left k h = absurd h
+      go true y semi (statement.Let q t' j l ∷ new) more left k h = absurd h
+      go true y true (statement.Expr j true ∷ new) more left k h = same_bind (h.1.same turns d deep f) (λ v. more new k h.2)
+      go true y true (statement.Expr j false ∷ new) more left k h = absurd (true≢false (sym h.0))
+      go true y false (statement.Expr j true ∷ new) more left k h = absurd (true≢false h.0)
+      go true y false (statement.Expr j false ∷ []) more left k h =
+          rw (left [] h.2) (k y (record { same = h.1.same; jumps = h.1.jumps }))
+      go true y false (statement.Expr j false ∷ (s ∷ new)) more left k h =
+          rw (left (s ∷ new) h.2) (same_bind (h.1.same turns d deep f) (λ v. more (s ∷ new) k h.2))
 
 -- jumps
 
@@ -386,22 +403,43 @@ tail_is : (e : OptionExpr) (turns : ℕ) → run_tail turns e ≡ tail_of (is_le
 tail_is tree.no_expr turns = refl
 tail_is (tree.some_expr e) turns = kept_tail (is_kept e) (run_expr turns e)
 
+-- What closes a block instead of its settled tail: its value goes through `out`, and it jumps as that tail does.
+pub record Closing (labels nodes nodes' : ℕ) (out : SyntaxRun Value → SyntaxRun Value) (final : Stored) (ps : List Frame)
+    (tail o : Option ExprId) : Type 0 where
+  pub same : (turns d : ℕ) → nodes' ≤ d → Falls labels ps → Ends labels nodes final turns d out ps tail o
+  pub jumps : ((d : ℕ) → nodes ≤ d → IfPresent (EnclosedTo (store_of final) d (numbers ps)) tail)
+      → (d : ℕ) → nodes' ≤ d → IfPresent (EnclosedTo (store_of final) d (numbers ps)) o
+
 -- the contents of a block, where `e` is its written tail
+pub contents_close : {labels nodes nodes' : ℕ} {final : Stored} {ps : List Frame} (out : SyntaxRun Value → SyntaxRun Value) (ss : Stmts)
+    (e : OptionExpr) (new : List Statement) (o c : Option ExprId) → nodes ≤ nodes'
+    → Closing labels nodes nodes' out final ps (settled new o).1 c
+    → ContentsAre labels nodes final (is_left e) (part_walk e) ps ss new o
+    → Goes labels nodes' (contents final) (λ turns qs. run_stmts turns ss (is_left e) out (run_tail turns e) qs) final ps
+    ((settled new o).0, c)
+contents_close {labels = labels} {nodes = nodes} {nodes' = nodes'} {final = final} {ps = ps} out ss e new o c le closing h = record {
+  same = λ turns d ge f. rw (tail_is e turns)
+      (runs (is_left e) (part_walk e) o h turns d (omega (arith, le, ge)) f (closing.same turns d ge f));
+  jumps = λ d ge. ((all d (omega (arith, le, ge))).0, closing.jumps (λ d ge. (all d ge).1) d ge);
+}
+  where
+    all : (d : ℕ) → nodes ≤ d → AllEnclosed (EnclosedTo (store_of final) d (numbers ps)) (settled new o).0 (settled new o).1
+    all d ge = settled_jumps (EnclosedTo (store_of final) d (numbers ps)) new o
+        (all_jumps labels nodes final d ge (is_left e) (part_walk e) ps ss new o h)
+
+    runs : (t : Bool) (x : Walk Value) (o : Option ExprId) → ContentsAre labels nodes final t x ps ss new o → (turns d : ℕ) → nodes ≤ d
+        → Falls labels ps → Ends labels nodes final turns d out ps (settled new o).1 c
+        → SameWhere ps (stored_run final turns d ((settled new o).0, c)) (run_stmts turns ss t out (tail_of t (x turns)) (scopes ps))
+    runs true x None h turns d le f k = absurd (no_tail labels nodes final x ps ss new h)
+    runs true x (Some i) h turns d le f k = with_tail labels nodes final turns d le x out c ps f ss new i k h
+    runs false x None h turns d le f k = without_tail labels nodes final turns d le x out c ps f ss new k h
+    runs false x (Some i) h turns d le f k = absurd (a_tail labels nodes final x i ps ss new h)
+
+-- as they are
 pub contents_go : {labels nodes : ℕ} {final : Stored} {ps : List Frame} (ss : Stmts) (e : OptionExpr)
     (new : List Statement) (o : Option ExprId)
     → ContentsAre labels nodes final (is_left e) (part_walk e) ps ss new o
-    → Goes labels nodes (contents final) (λ turns qs. run_stmts turns ss (is_left e) (run_tail turns e) qs) final ps (settled new o)
-contents_go {labels = labels} {nodes = nodes} {final = final} {ps = ps} ss e new o h = record {
-  same = λ turns d le f. rw (tail_is e turns) (runs (is_left e) (part_walk e) o h turns d le f);
-  jumps = λ d le.
-      settled_jumps (EnclosedTo (store_of final) d (numbers ps)) new o
-      (all_jumps labels nodes final d le (is_left e) (part_walk e) ps ss new o h);
-}
-  where
-    runs : (t : Bool) (x : Walk Value) (o : Option ExprId) → ContentsAre labels nodes final t x ps ss new o → (turns d : ℕ) → nodes ≤ d
-        → Falls labels ps
-        → SameWhere ps (stored_run final turns d (settled new o)) (run_stmts turns ss t (tail_of t (x turns)) (scopes ps))
-    runs true x None h turns d le f = absurd (no_tail labels nodes final x ps ss new h)
-    runs true x (Some i) h turns d le f = with_tail labels nodes final turns d le x ps f ss new i h
-    runs false x None h turns d le f = without_tail labels nodes final turns d le x ps f ss new h
-    runs false x (Some i) h turns d le f = absurd (a_tail labels nodes final x i ps ss new h)
+    → Goes labels nodes (contents final) (λ turns qs. run_stmts turns ss (is_left e) as_it_is (run_tail turns e) qs) final ps
+    (settled new o)
+contents_go ss e new o h = contents_close as_it_is ss e new o (settled new o).1 (omega arith)
+    (record { same = λ turns d le f y goes. goes.same turns d le f; jumps = λ k. k }) h

@@ -5,9 +5,9 @@ use Rattle.hir_store.specs.declared.ids.ExprId.{ExprId}
 use Rattle.hir_steps.proofs.Frames.{Frame, scopes, Falls}
 use Rattle.hir_meaning.specs.Run.{Value, Outcome, value, break, continue, leave}
 use Rattle.hir_meaning.specs.Syntax.{SyntaxBody}
-use Rattle.hir_meaning.specs.Store.{JumpLabel, run_store, stored_body}
+use Rattle.hir_meaning.specs.Store.{JumpLabel, new_table, run_store, stored_body}
 use Rattle.hir_meaning.specs.Jumps.{Enclosed}
-use Rattle.hir_meaning.specs.Same.{SameRun, SameBody, ending, begin}
+use Rattle.hir_meaning.specs.Same.{SameRun, SameBody, ending, begin_with}
 use Rattle.hir_same_meaning.specs.Headline.{body_to}
 use Rattle.hir_same_meaning.proofs.Views.{numbers, view}
 use Rattle.hir_same_meaning.proofs.Senses.{Walk, run_in, one, Goes}
@@ -25,9 +25,9 @@ walked x ps = record { table = tt; run = λ turns. x turns (scopes ps) }
 pub runs_at : {labels nodes : ℕ} {x : Walk Value} {final : Stored} {i : ExprId} (ps : List Frame) (d : ℕ)
     → Goes labels nodes one x final ps i → nodes ≤ d → Falls labels ps → SameRun (body_to final d i) (walked x ps)
 runs_at {final = final} {i = i} ps d h le f = record {
-  events = λ turns answers. let a = (h.same turns d le f).same (begin answers) in ap (λ w. w.events) a.world;
-  endings = λ turns answers. let a = (h.same turns d le f).same (begin answers) in
-      ending_view ps (run_in final d turns i (begin answers)).0 ∙ ap ending a.outcome;
+  events = λ turns answers. let a = (h.same turns d le f).same (begin_with new_table answers) in ap (λ w. w.events) a.world;
+  endings = λ turns answers. let w = begin_with new_table answers in let a = (h.same turns d le f).same w in
+      ending_view ps (run_in final d turns i w).0 ∙ ap ending a.outcome;
 }
 
 -- inside frames that have no label, as a body and the inside of a barrier have none around them

@@ -26,6 +26,8 @@ use Rattle.hir_lower_form.specs.Lower.{continue_form, break_form}
 use Rattle.hir_lower_form.specs.Lower.{paren_form, stored_literal, path_or_missing, path_form, lower_path, settled}
 use Rattle.hir_lower_form.specs.Lower.{settled_block, block_form, labelled, kept}
 use Rattle.hir_data.specs.Data.{PathData}
+use Rattle.hir_data.specs.MadeNames.{made_name}
+use Rattle.hir_data.proofs.MadeNames.{PathUnmade, path_unmade}
 use Rattle.hir_data.specs.Reading.{stored_path}
 use Rattle.hir_data.specs.Written.{written_path}
 use Rattle.hir_read_back.proofs.Now.{path_now}
@@ -33,16 +35,17 @@ use Rattle.hir_read_back.proofs.Lookup.{looked_up}
 use Rattle.hir_data.specs.Lookup.{lookup_hygiene}
 use Rattle.hir_meaning.specs.Data.{literal_data}
 use Rattle.hir_meaning.specs.Run.{Value, unit, is_true, literal, call, break, continue, leave, missing as is_missing}
-use Rattle.hir_meaning.specs.Run.{ends, pure as gives, ◌>>=◌ as ◌then◌, ask, tests, entering}
+use Rattle.hir_meaning.specs.Run.{ends, pure as gives, ◌>>=◌ as ◌then◌, ask, tests, entering, read_path}
 use Rattle.hir_meaning.specs.Catching.{turn, loop}
 use Rattle.hir_scope.specs.Scopes.{Scope, loop_scope, break_target, continue_target, outward, scopes_in_block}
 use Rattle.hir_meaning.specs.Left.{is_kept, is_left}
-use Rattle.hir_meaning.specs.Syntax.{SyntaxRun, run_path, run_stmts, run_tail, catching, while_turn, run_while}
-use Rattle.hir_steps.proofs.Frames.{Frame, plain_loop, loop_at, block_at, scopes, Falls}
+use Rattle.hir_meaning.specs.Store.{read_or_look}
+use Rattle.hir_meaning.specs.Syntax.{SyntaxRun, as_it_is, run_path, run_stmts, run_tail, catching, while_turn, run_while}
+use Rattle.hir_steps.proofs.Frames.{Frame, plain_loop, loop_at, block_at, try_at, scopes, Falls}
 use Rattle.hir_steps.proofs.Steps.{Mark, Grows, Rel, Holds, Correct, Allocated, correct_bind, correct_as, correct_pure}
 use Rattle.hir_steps.proofs.Steps.{correct_report, correct_point, correct_enter_block, correct_alloc, correct_opened, correct_target}
 use Rattle.hir_same_meaning.proofs.Targets.{break_meets, continue_meets, among}
-use Rattle.hir_same_meaning.proofs.Relation.{TurnsAlike, same_read_path}
+use Rattle.hir_same_meaning.proofs.Relation.{SameWhere, TurnsAlike, same_read_path}
 use Rattle.hir_same_meaning.proofs.Turns.{alike_same, branched, while_alike}
 use Rattle.hir_same_meaning.proofs.Senses.{Walk, one, optional, many, contents, Goes, Runs, Wider, goes_within, goes_at}
 use Rattle.hir_same_meaning.proofs.Nodes
@@ -63,8 +66,12 @@ some_fine h = correct_as (correct_bind h (λ i. correct_pure (Some i)))
     (λ final ps m m' i g row. rw (row.second.is, row.second.still) (Nodes.goes_some row.first))
 
 -- a new label is above those around it
-falls_new : (b c : ℕ) (l : Label) (n : LabelId) (ps : List Frame) → n.0 ≡ b → c ≡ suc b → Falls b ps → Falls c (loop_at l n ∷ ps)
+pub falls_new : (b c : ℕ) (l : Label) (n : LabelId) (ps : List Frame) → n.0 ≡ b → c ≡ suc b → Falls b ps → Falls c (loop_at l n ∷ ps)
 falls_new b c l n ps e e' f = (omega arith, rw e f)
+
+pub falls_try : (b c : ℕ) (n : LabelId) (typed : Bool) (ps : List Frame) → n.0 ≡ b → c ≡ suc b → Falls b ps
+    → Falls c (try_at n typed ∷ ps)
+falls_try b c n typed ps e e' f = (omega arith, rw e f)
 
 -- inside a loop without a label, of which lowering knows nothing
 
@@ -175,20 +182,26 @@ module _ (at : Pointer) where
 abbrev path_in : Stored → Path → PathData
 path_in final p = stored_path (store_of final) (map_of final) p
 
+-- a path that is no made name
+pub looks_unmade : {ps : List Frame} (o : Option ℕ) → o ≡ None → (d : PathData) (h : HygieneId) (site : Option Site)
+    → SameWhere ps (read_or_look o d h site) (read_path d h site)
+looks_unmade o e d h site = rw e (same_read_path d h site)
+
 -- what is stored for a path is read as this
 goes_path : {labels : ℕ} {m m' : Mark} {final : Stored} {ps qs : List Frame} {i : ExprId} (at : Pointer) (h : HygieneId)
-    (r : Option Path) (d : Option PathData) → option_map (path_in final) r ≡ d
+    (r : Option Path) (d : Option PathData) → option_map (path_in final) r ≡ d → PathUnmade d
     → Allocated (path_or_missing h r) (Some at) final qs m m' i
     → Goes labels m'.nodes one (λ turns ss. run_path d h (Some (site_of at))) final ps i
-goes_path {labels = labels} {m = m} {m' = m'} {final = final} {ps = ps} {qs = qs} {i = i} at h r d is a =
-    subst (λ k. Goes labels m'.nodes one (λ turns ss. run_path k h (Some (site_of at))) final ps i) is (by r a)
+goes_path {labels = labels} {m = m} {m' = m'} {final = final} {ps = ps} {qs = qs} {i = i} at h r d is u a =
+    subst (λ k. Goes labels m'.nodes one (λ turns ss. run_path k h (Some (site_of at))) final ps i) is
+    (by r (subst PathUnmade (sym is) u) a)
   where
-    by : (r : Option Path) → Allocated (path_or_missing h r) (Some at) final qs m m' i
+    by : (r : Option Path) → PathUnmade (option_map (path_in final) r) → Allocated (path_or_missing h r) (Some at) final qs m m' i
         → Goes labels m'.nodes one (λ turns ss. run_path (option_map (path_in final) r) h (Some (site_of at))) final ps i
-    by None a = Nodes.goes_missing a
-    by (Some p) a = goes_at a
+    by None u a = Nodes.goes_missing a
+    by (Some p) u a = goes_at a
         (λ turns d le f. rw (looked_up (store_of final) (map_of final) p h)
-        (same_read_path (path_in final p) (lookup_hygiene (path_in final p) h) (Some (site_of at))))
+        (looks_unmade (made_name (path_in final p)) u (path_in final p) (lookup_hygiene (path_in final p) h) (Some (site_of at))))
         (λ d le. tt)
 
 pub path_fine : (at : Pointer) (p : OptionPath) (h : HygieneId)
@@ -196,7 +209,7 @@ pub path_fine : (at : Pointer) (p : OptionPath) (h : HygieneId)
 unfolding path_form
 path_fine at p h = correct_as
     (correct_bind (path_now p) (λ r. correct_alloc (path_or_missing h r) (Some at)))
-    (λ final ps m m' i g row. goes_path at h row.one (written_path p) row.first.is row.second)
+    (λ final ps m m' i g row. goes_path at h row.one (written_path p) row.first.is (path_unmade p) row.second)
 
 -- what is kept
 
@@ -343,7 +356,7 @@ pub record BlockIs (at : Pointer) (is_unsafe : Bool) (label : Option LabelId) (n
   pub here : Allocated (hir.Block is_unsafe label number held.0 held.1) (Some at) final ps middle m' i
 
 abbrev block_walk : Stmts → OptionExpr → Walk Value
-block_walk ss e turns qs = run_stmts turns ss (is_left e) (run_tail turns e) qs
+block_walk ss e turns qs = run_stmts turns ss (is_left e) as_it_is (run_tail turns e) qs
 
 abbrev pub BlockRel : Stmts → OptionExpr → Rel StoredContents
 BlockRel ss e = Filled [] (ContentsRel (is_left e) (part_walk e) ss)

@@ -1,5 +1,5 @@
 -- What each form of an expression becomes holds what its parts hold.
-use Rattle.std.proofs.Common.{◌≡◌, ◌∙◌, refl, sym, ap, Bool, true, false, List, [], ◌∷◌, ◌++◌, append-nil, append_assoc}
+use Rattle.std.proofs.Common.{◌≡◌, ◌∙◌, refl, sym, subst, ℕ, ◌+◌, ◌≤◌, Bool, true, false, List, [], ◌∷◌, ◌++◌, append-nil, append_assoc}
 use Rattle.std.proofs.Common.{Option, Some, None, option_map, arith}
 use Rattle.hir_store.specs.Pointers.{Pointer}
 use Rattle.hir_store.specs.Stored.{Stored}
@@ -38,7 +38,7 @@ use Rattle.hir_steps.proofs.Frames.{Frame, loop_at, block_at}
 use Rattle.hir_steps.proofs.Steps.{Mark, Rel, Correct, correct_bind, correct_as, correct_both, correct_pure, correct_alloc}
 use Rattle.hir_steps.proofs.Steps.{correct_report, correct_report_await, correct_point, correct_point_field, correct_enter_block}
 use Rattle.hir_steps.proofs.Steps.{correct_opened, correct_target}
-use Rattle.hir_same_meaning.proofs.Holding.{inners_in, same_append, same_ids, same_bodies, Ids, an_expr, a_type, each, maybe, Holds}
+use Rattle.hir_same_meaning.proofs.Holding.{SameIn, inners_in, same_append, same_ids, same_bodies, Ids, an_expr, a_type, each, maybe, Holds}
 use Rattle.hir_same_meaning.proofs.Holding.{holds_none, holds_one, holds_two, holds_behind, expr_held, expr0, expr1, expr2}
 use Rattle.hir_same_meaning.proofs.HeldTypes.{a_path, some_args}
 
@@ -324,13 +324,25 @@ contents_held hp hq = holds_two (λ fs s. (fs, s)) (λ r fs s. refl) hp hq
 abbrev pub a_statement : Ids Statement
 a_statement r s = of_statement r s
 
+-- a statement in front of others, which hold the bodies behind its own
+pub record HoldsFirst (final : Stored) (n : ℕ) (s : Statement) (Rest : Bodies → Type 0) (bs : Bodies) : Type 0 where
+  pub own : Bodies
+  pub others : Bodies
+  pub are : bs ≡ own ++ others
+  pub held : (d : ℕ) → n ≤ d → SameIn final (of_statement (inners_in final d) s) own
+  pub rest : Rest others
+
+-- However deep one looks, past so many entries, statements and the tail behind them hold these bodies, one after another.
+abbrev pub InTurn : Stored → ℕ → List Statement → Option ExprId → Bodies → Type 0
+InTurn final n [] o bs = (d : ℕ) → n ≤ d → SameIn final (of_present (inners_in final d).expr o) bs
+InTurn final n (s ∷ ss) o bs = HoldsFirst final n s (λ cs. InTurn final n ss o cs) bs
+
 -- the statements are pushed on those that stand, and the tail is behind them
 pub record Filled (done : List Statement) (es fs : Bodies) (final : Stored) (ps : List Frame) (m m' : Mark) (r : StoredContents)
     : Type 0 where
   pub new : List Statement
   pub is : r.0 ≡ done ++ new
-  pub statements : Holds (each a_statement) es final ps m m' new
-  pub tail : Holds (maybe an_expr) fs final ps m m' r.1
+  pub held : InTurn final (m'.nodes + m'.entries) new r.1 (es ++ fs)
 
 pub filled_end : {fs : Bodies} {q : Lowering (Option ExprId)} (done : List Statement) → Correct q (Holds (maybe an_expr) fs)
     → Correct (q >>= (λ t. pure (done, t))) (Filled done [] fs)
@@ -338,24 +350,39 @@ filled_end done h = correct_as (correct_bind h (λ t. correct_pure (done, t)))
     (λ final ps m m' r g row. rw (row.second.is, row.second.still) (record {
       new = [];
       is = sym (append-nil done);
-      statements = record { same = λ d le. tt };
-      tail = record { same = row.first.same };
+      held = row.first.same;
     }))
+
+-- nothing holds no body
+pub none_held_by : (final : Stored) (bs : Bodies) → SameIn final [] bs → bs ≡ []
+none_held_by final [] h = refl
+none_held_by final (b ∷ bs) h = absurd h
 
 pub filled_more : {es fs gs : Bodies} {p : Lowering (Option Statement)} {q : List Statement → Lowering StoredContents}
     → Correct p (Holds (maybe a_statement) es) → ((done : List Statement) → Correct (q done) (Filled done fs gs))
     → (done : List Statement) → Correct (p >>= (λ o. q (push_some done o))) (Filled done (es ++ fs) gs)
-filled_more {es = es} {fs = fs} h k done = correct_as (correct_bind h (λ o. k (push_some done o)))
-    (λ final ps m m' r g row. let s = row.second in record {
+unfolding newly
+filled_more {es = es} {fs = fs} {gs = gs} h k done = correct_as (correct_bind h (λ o. k (push_some done o)))
+    (λ final ps m m' r g row. let s = row.second in
+    let one : (d : ℕ) → m'.nodes + m'.entries ≤ d → SameIn final (of_present (of_statement (inners_in final d)) row.one) es =
+    λ d le. row.first.same d (omega (le, row.after.nodes, row.after.entries, arith)) in record {
       new = newly row.one s.new;
       is = s.is ∙ newly_pushed done row.one s.new;
-      statements = record {
-        same = λ d le. let r = inners_in final d in same_ids final (es ++ fs) (newly_holds (of_statement r) row.one s.new)
-            (same_append final (of_present (of_statement r) row.one) (all_of (of_statement r) s.new) es fs
-            (row.first.same d (omega (le, row.after.nodes, row.after.entries, arith))) (s.statements.same d le));
-      };
-      tail = record { same = s.tail.same };
+      held = first final (m'.nodes + m'.entries) row.one s.new r.1 one s.held;
     })
+  where
+    first : (final : Stored) (n : ℕ) (o : Option Statement) (new : List Statement) (tail : Option ExprId)
+        → ((d : ℕ) → n ≤ d → SameIn final (of_present (of_statement (inners_in final d)) o) es) → InTurn final n new tail (fs ++ gs)
+        → InTurn final n (newly o new) tail ((es ++ fs) ++ gs)
+    first final n None new tail one others = subst (λ bs. InTurn final n new tail ((bs ++ fs) ++ gs))
+        (sym (none_held_by final es (one n (omega arith)))) others
+    first final n (Some x) new tail one others = record {
+      own = es;
+      others = fs ++ gs;
+      are = append_assoc es fs gs;
+      held = one;
+      rest = others;
+    }
 
 statement_is : (semi : Bool) (r : Inners) (o : Option ExprId)
     → of_present (of_statement r) (option_map (λ i. statement.Expr i semi) o) ≡ of_present r.expr o
@@ -368,28 +395,49 @@ statement_held semi h = holds_one (option_map (λ i. statement.Expr i semi)) (st
 
 -- a last expression without a semicolon becomes the tail
 
-abbrev of_contents : Ids StoredContents
+abbrev pub of_contents : Ids StoredContents
 of_contents r c = all_of (of_statement r) c.0 ++ of_present r.expr c.1
 
-one_before : (is js ks ms ns : List ExprId) → js ++ ks ≡ ms ++ ns → (is ++ js) ++ ks ≡ (is ++ ms) ++ ns
-one_before is js ks ms ns e = append_assoc is js ks ∙ (ap (λ xs. is ++ xs) e ∙ sym (append_assoc is ms ns))
+-- all together
+pub turn_all : (final : Stored) (n : ℕ) (ss : List Statement) (o : Option ExprId) (bs : Bodies) → InTurn final n ss o bs
+    → (d : ℕ) → n ≤ d → SameIn final (of_contents (inners_in final d) (ss, o)) bs
+turn_all final n [] o bs h d le = h d le
+turn_all final n (s ∷ ss) o bs h d le = let r = inners_in final d in
+    same_bodies final (of_contents r (s ∷ ss, o)) (sym h.are)
+    (same_ids final (h.own ++ h.others) (append_assoc (of_statement r s) (all_of (of_statement r) ss) (of_present r.expr o))
+    (same_append final (of_statement r s) (of_contents r (ss, o)) h.own h.others (h.held d le)
+    (turn_all final n ss o h.others h.rest d le)))
 
-settled_is : (r : Inners) (ss : List Statement) (o : Option ExprId) → of_contents r (settled ss o) ≡ of_contents r (ss, o)
-settled_is r ss (Some i) = refl
-settled_is r [] None = refl
-settled_is r (statement.Item ∷ ss) None = settled_is r ss None
-settled_is r (statement.Let p t e b ∷ ss) None =
-    let u = settled ss None in
-    one_before (of_statement r (statement.Let p t e b)) (all_of (of_statement r) u.0) (of_present r.expr u.1)
-    (all_of (of_statement r) ss) [] (settled_is r ss None)
-settled_is r (statement.Expr i true ∷ ss) None =
-    let t = settled ss None in
-    one_before (r.expr i) (all_of (of_statement r) t.0) (of_present r.expr t.1) (all_of (of_statement r) ss) [] (settled_is r ss None)
-settled_is r (statement.Expr i false ∷ []) None = sym (append-nil (r.expr i ++ []) ∙ append-nil (r.expr i))
-settled_is r (statement.Expr i false ∷ (s ∷ ss)) None =
-    let t = settled (s ∷ ss) None in
-    one_before (r.expr i) (all_of (of_statement r) t.0) (of_present r.expr t.1) (all_of (of_statement r) (s ∷ ss)) []
-    (settled_is r (s ∷ ss) None)
+-- a last expression that becomes the tail holds what it held
+pub settled_turn : (final : Stored) (n : ℕ) (ss : List Statement) (o : Option ExprId) (bs : Bodies) → InTurn final n ss o bs
+    → InTurn final n (settled ss o).0 (settled ss o).1 bs
+settled_turn final n ss (Some i) bs h = h
+settled_turn final n [] None bs h = h
+settled_turn final n (statement.Item ∷ ss) None bs h =
+    record { own = h.own; others = h.others; are = h.are; held = h.held; rest = settled_turn final n ss None h.others h.rest }
+settled_turn final n (statement.Let p t e b ∷ ss) None bs h =
+    record { own = h.own; others = h.others; are = h.are; held = h.held; rest = settled_turn final n ss None h.others h.rest }
+settled_turn final n (statement.Expr i true ∷ ss) None bs h =
+    record { own = h.own; others = h.others; are = h.are; held = h.held; rest = settled_turn final n ss None h.others h.rest }
+settled_turn final n (statement.Expr i false ∷ []) None bs h = λ d le. let r = inners_in final d in
+    same_bodies final (r.expr i) (sym h.are) (same_ids final (h.own ++ h.others) (sym (append-nil (r.expr i)))
+    (same_append final (r.expr i) [] h.own h.others (h.held d le) (h.rest d le)))
+settled_turn final n (statement.Expr i false ∷ (s ∷ ss)) None bs h =
+    record { own = h.own; others = h.others; are = h.are; held = h.held; rest = settled_turn final n (s ∷ ss) None h.others h.rest }
+
+-- another tail that holds what the one holds
+pub turn_ended : (final : Stored) (n n' : ℕ) → n ≤ n' → (o c : Option ExprId)
+    → ((bs : Bodies) → ((d : ℕ) → n ≤ d → SameIn final (of_present (inners_in final d).expr o) bs)
+    → (d : ℕ) → n' ≤ d → SameIn final (of_present (inners_in final d).expr c) bs)
+    → (ss : List Statement) (bs : Bodies) → InTurn final n ss o bs → InTurn final n' ss c bs
+turn_ended final n n' le o c ends [] bs h = ends bs h
+turn_ended final n n' le o c ends (s ∷ ss) bs h = record {
+  own = h.own;
+  others = h.others;
+  are = h.are;
+  held = λ d ge. h.held d (omega (arith, le, ge));
+  rest = turn_ended final n n' le o c ends ss h.others h.rest;
+}
 
 pub block_form_held : {es fs : Bodies} (at : Pointer) (is_unsafe : Bool) (label : Option LabelId) (number : Option BlockId)
     {p : Lowering StoredContents} → Correct p (Filled [] es fs)
@@ -397,10 +445,10 @@ pub block_form_held : {es fs : Bodies} (at : Pointer) (is_unsafe : Bool) (label 
 unfolding block_form
 block_form_held {es = es} {fs = fs} at is_unsafe label number h = holds_behind (correct_enter_block number) (λ u. correct_as
     (correct_bind h (λ r. correct_alloc (settled_block is_unsafe label number (settled r.0 r.1)) (Some at)))
-    (λ final ps m m' i g row. let s = row.first in expr_held row.second row.after (λ d le. let r = inners_in final d in
-    same_ids final (es ++ fs) (settled_is r row.one.0 row.one.1
-    ∙ ap (λ ss. all_of (of_statement r) ss ++ of_present r.expr row.one.1) s.is)
-    (same_append final (all_of (of_statement r) s.new) (of_present r.expr row.one.1) es fs (s.statements.same d le) (s.tail.same d le)))))
+    (λ final ps m m' i g row. let s = row.first in let o = row.one.1 in let n = row.middle.nodes + row.middle.entries in
+    expr_held row.second row.after (λ d le.
+    subst (λ ks. SameIn final (of_contents (inners_in final d) (settled ks o)) (es ++ fs)) (sym s.is)
+    (turn_all final n (settled s.new o).0 (settled s.new o).1 (es ++ fs) (settled_turn final n s.new o (es ++ fs) s.held) d le))))
 
 pub labelled_held : {es : Bodies} (label : Option Label) {f : Option LabelId → ExprSteps}
     → ((n : Option LabelId) → Correct (f n) (Holds an_expr es)) → Correct (labelled label f) (Holds an_expr es)

@@ -1,5 +1,6 @@
 -- The ends of ranges in types, each a body of its own: it runs as it is written, and holds what its path holds.
-use Rattle.std.proofs.Common.{◌≡◌, refl, subst, ℕ, List, [], ◌∷◌, ◌++◌, append-nil, Option, Some, None, option_map, arith}
+use Rattle.std.proofs.Common.{◌≡◌, refl, sym, subst, ℕ, List, [], ◌∷◌, ◌++◌, append-nil, Option, Some, None, option_map, arith}
+use Rattle.hir_store.specs.Names.{IsWritten}
 use Rattle.hir_store.specs.Pointers.{Pointer}
 use Rattle.hir_store.specs.Stored.{Stored, store_of, map_of}
 use Rattle.hir_store.specs.declared.hir.Expr.TheVariants as hir
@@ -7,6 +8,7 @@ use Rattle.hir_store.specs.declared.ids.ExprId.{ExprId}
 use Rattle.hir_store.specs.declared.ids.LangItemId.{LangItemId}
 use Rattle.hir_store.specs.declared.ids.PatId.{PatId}
 use Rattle.hir_store.specs.declared.name.Name.{Name}
+use Rattle.hir_store.specs.declared.name.Name.TheVariants as name
 use Rattle.hir_store.specs.declared.pat.Pat.{Pat as HirPat}
 use Rattle.hir_store.specs.declared.pat.Pat.TheVariants as pat
 use Rattle.hir_store.specs.declared.path.Path.{Path as HirPath}
@@ -15,6 +17,8 @@ use Rattle.hir_env.specs.Answering.{site_of}
 use Rattle.hir_env.specs.Answered as tree
 use Rattle.hir_env.specs.Answered.{OptionPath, Side, Limit, Signed}
 use Rattle.hir_data.specs.Data.{PathData, bare_path}
+use Rattle.hir_data.specs.MadeNames.{made_name}
+use Rattle.hir_data.proofs.MadeNames.{PathUnmade, path_unmade}
 use Rattle.hir_data.specs.Reading.{stored_path}
 use Rattle.hir_data.specs.Written.{root_hygiene, signed_data, written_path}
 use Rattle.hir_lower_form.specs.Forms.{ExprSteps}
@@ -31,14 +35,15 @@ use Rattle.hir_steps.proofs.Frames.{Frame, barrier_at}
 use Rattle.hir_steps.proofs.PatSteps.{correct_alloc_pat}
 use Rattle.hir_steps.proofs.Steps.{Mark, Correct, Allocated, correct_bind, correct_as, correct_both, correct_in_store, correct_alloc}
 use Rattle.hir_same_meaning.proofs.Body.{body_is}
-use Rattle.hir_same_meaning.proofs.Forms.{missing_fine}
+use Rattle.hir_same_meaning.proofs.Forms.{looks_unmade, missing_fine}
 use Rattle.hir_same_meaning.proofs.HeldForms.{missing_held}
 use Rattle.hir_same_meaning.proofs.HeldTypes.{a_path}
 use Rattle.hir_same_meaning.proofs.Holding.{inners_in, same_append, same_ids, Ids, an_expr, a_type_pat, Holds, expr_held, expr0, expr1}
 use Rattle.hir_same_meaning.proofs.Holding.{type_pat_held}
 use Rattle.hir_same_meaning.proofs.Nodes
-use Rattle.hir_same_meaning.proofs.Ranges.{stored_row, stored_pure, goes_item}
-use Rattle.hir_same_meaning.proofs.Relation.{same_bind, same_ask, same_read_path}
+use Rattle.hir_same_meaning.proofs.Ranges.{goes_item}
+use Rattle.hir_same_meaning.proofs.Rows.{stored_row, stored_pure}
+use Rattle.hir_same_meaning.proofs.Relation.{same_bind, same_ask}
 use Rattle.hir_same_meaning.proofs.Senses.{Walk, one, Goes, Runs, goes_within, goes_at}
 use Rattle.hir_same_meaning.proofs.Strict.{event0_fine}
 
@@ -53,6 +58,11 @@ item_fine : (item : Option LangItemId) → Correct (forms.item_form item) (Runs 
 unfolding forms.item_form
 item_fine item = correct_as (correct_alloc (forms.item_expr item) None) (λ final ps m m' i g a. item_runs item a)
 
+bare_unmade : (n : Name) → IsWritten n → made_name (bare_path n) ≡ None
+bare_unmade (name.Text t) w = refl
+bare_unmade name.Missing w = refl
+bare_unmade (name.Generated k) w = absurd w
+
 name_is : (final : Stored) (n : Name) → stored_path (store_of final) (map_of final) (name_path n) ≡ bare_path n
 unfolding stored_path
 name_is final n = refl
@@ -63,38 +73,42 @@ module _ (at : Pointer) where
   unfolding forms.literal_limit_form
   literal_fine l = event0_fine at (record { runs = λ w. refl; jumps = λ s P ls. tt })
 
-  name_fine : (n : Name)
+  name_fine : (n : Name) → IsWritten n
       → Correct (forms.name_limit_form at n) (Runs one (λ turns ss. read_path (bare_path n) root_hygiene (Some (site_of at))))
   unfolding forms.name_limit_form
-  name_fine n = correct_as (correct_alloc (hir.Path (name_path n) root_hygiene) (Some at)) (λ final ps m m' i g a. goes_at a
-      (λ turns d le f. rw (name_is final n) (same_read_path (bare_path n) root_hygiene (Some (site_of at)))) (λ d le. tt))
+  name_fine n w = correct_as (correct_alloc (hir.Path (name_path n) root_hygiene) (Some at)) (λ final ps m m' i g a. goes_at a
+      (λ turns d le f. rw (name_is final n)
+      (looks_unmade (made_name (bare_path n)) (bare_unmade n w) (bare_path n) root_hygiene (Some (site_of at)))) (λ d le. tt))
 
   -- what is stored for a path is read as this
   goes_side_path : {labels : ℕ} {m m' : Mark} {final : Stored} {ps qs : List Frame} {i : ExprId} (r : Option HirPath)
-      (d : Option PathData) → option_map (stored_path (store_of final) (map_of final)) r ≡ d
+      (d : Option PathData) → option_map (stored_path (store_of final) (map_of final)) r ≡ d → PathUnmade d
       → Allocated (forms.path_limit_of r) (Some at) final qs m m' i
       → Goes labels m'.nodes one (λ turns ss. run_side_path d (Some (site_of at))) final ps i
-  goes_side_path {labels = labels} {m = m} {m' = m'} {final = final} {ps = ps} {qs = qs} {i = i} r d is a =
-      subst (λ k. Goes labels m'.nodes one (λ turns ss. run_side_path k (Some (site_of at))) final ps i) is (by r a)
+  goes_side_path {labels = labels} {m = m} {m' = m'} {final = final} {ps = ps} {qs = qs} {i = i} r d is u a =
+      subst (λ k. Goes labels m'.nodes one (λ turns ss. run_side_path k (Some (site_of at))) final ps i) is
+      (by r (subst PathUnmade (sym is) u) a)
     where
-      by : (r : Option HirPath) → Allocated (forms.path_limit_of r) (Some at) final qs m m' i
+      by : (r : Option HirPath) → PathUnmade (option_map (stored_path (store_of final) (map_of final)) r)
+          → Allocated (forms.path_limit_of r) (Some at) final qs m m' i
           → Goes labels m'.nodes one
           (λ turns ss. run_side_path (option_map (stored_path (store_of final) (map_of final)) r) (Some (site_of at))) final ps i
-      by None a = Nodes.goes_missing a
-      by (Some p) a = goes_at a
-          (λ turns d le f. same_read_path (stored_path (store_of final) (map_of final) p) root_hygiene (Some (site_of at)))
+      by None u a = Nodes.goes_missing a
+      by (Some p) u a = goes_at a
+          (λ turns d le f. let d = stored_path (store_of final) (map_of final) p in
+          looks_unmade (made_name d) u d root_hygiene (Some (site_of at)))
           (λ d le. tt)
 
   path_fine : (p : OptionPath)
       → Correct (forms.path_limit_form at (lower_path p)) (Runs one (λ turns ss. run_side_path (written_path p) (Some (site_of at))))
   unfolding forms.path_limit_form
   path_fine p = correct_as (correct_bind (path_now p) (λ r. correct_alloc (forms.path_limit_of r) (Some at)))
-      (λ final ps m m' i g row. goes_side_path row.one (written_path p) row.first.is row.second)
+      (λ final ps m m' i g row. goes_side_path row.one (written_path p) row.first.is (path_unmade p) row.second)
 
 side_fine : (s : Side) → Correct (limit_side s) (Runs one (λ turns ss. run_side s))
 side_fine tree.no_side = missing_fine
 side_fine (tree.literal_side at l) = literal_fine at l
-side_fine (tree.name_side at n) = name_fine at n
+side_fine (tree.name_side at n w) = name_fine at n w
 side_fine (tree.path_side at p) = path_fine at p
 side_fine tree.other_side = missing_fine
 
@@ -157,7 +171,7 @@ PathOf s = Unit {0}
 side_held : (s : Side) → PathOf s → Correct (limit_side s) (Holds an_expr (side_bodies s))
 side_held tree.no_side h = missing_held
 side_held (tree.literal_side at l) h = literal_held at l
-side_held (tree.name_side at n) h = name_held at n
+side_held (tree.name_side at n _) h = name_held at n
 side_held (tree.path_side at p) h = path_side_held at h
 side_held tree.other_side h = missing_held
 

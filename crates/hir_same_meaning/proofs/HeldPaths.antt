@@ -165,7 +165,7 @@ behind_part s = record {
 
 -- what is in a segment holds its bodies
 abbrev pub SegmentHolds : Segment → Type 0
-SegmentHolds (tree.name_segment n as') = Correct (lower.lower_segment_args as') (Holds some_args (beside_bodies as'))
+SegmentHolds (tree.name_segment n _ as') = Correct (lower.lower_segment_args as') (Holds some_args (beside_bodies as'))
 SegmentHolds (tree.type_segment t) = Correct (lower.lower_type None t) (Holds a_type (type_bodies t))
 SegmentHolds (tree.trait_segment t at p) =
     Correct (lower.lower_type None t) (Holds a_type (type_bodies t)) × Correct (lower.lower_path p) (PathHolds (held p))
@@ -175,7 +175,7 @@ first_takes : (l : Bool) (s : Segment) (w : PathWalk) → SegmentHolds s
     → Correct (lower.read_segment true s (at_first l w)) (Takes w (first_part l s))
 first_takes l tree.absent_segment w h = bare_takes _ l missing_name w
 first_takes l tree.broken_segment w h = broken_takes
-first_takes l (tree.name_segment n a) w h = named_takes _ l n w h
+first_takes l (tree.name_segment n _ a) w h = named_takes _ l n w h
 first_takes l tree.self_type_segment w h = bare_takes _ l self_type_name w
 first_takes l tree.crate_segment w h = takes_at_once _ (λ final n ps e k.
     root_kept final n _ kind.Crate ps (at_first l w) e (at_first_kept final n l ps w k))
@@ -190,7 +190,7 @@ first_takes l (tree.trait_segment t at p) w h = trait_takes (written.path_of p) 
 behind_takes : (s : Segment) (w : PathWalk) → SegmentHolds s → Correct (lower.read_segment false s w) (Takes w (behind_part s))
 behind_takes tree.absent_segment w h = bare_takes _ false missing_name w
 behind_takes tree.broken_segment w h = broken_takes
-behind_takes (tree.name_segment n a) w h = named_takes _ false n w h
+behind_takes (tree.name_segment n _ a) w h = named_takes _ false n w h
 behind_takes tree.self_type_segment w h = bare_takes _ false self_type_name w
 behind_takes tree.crate_segment w h = broken_takes
 behind_takes (tree.dollar_crate_segment c) w h = broken_takes

@@ -1,5 +1,5 @@
 -- Each constant inside what is lowered runs as its own written body: one induction over types, paths, arguments and expressions.
-use Rattle.std.proofs.Common.{◌≡◌, refl, sym, true, true≢false, List, [], ◌∷◌, ◌++◌, Option, Some, None, arith}
+use Rattle.std.proofs.Common.{◌≡◌, refl, sym, false, true, true≢false, List, [], ◌∷◌, ◌++◌, Option, Some, None, arith}
 use Rattle.hir_store.specs.declared.diagnostics.ExpressionStoreDiagnostics.TheVariants.{InactiveCode}
 use Rattle.hir_store.specs.declared.hir.MatchArm.{MatchArm}
 use Rattle.hir_store.specs.declared.hir.RecordLitField.{RecordLitField}
@@ -30,7 +30,7 @@ use Rattle.hir_lower_form.specs.Lower as lower
 use Rattle.hir_lower_form.specs.Pats.{Table, no_names, next_alternative, Elements, no_elements, is_dots}
 use Rattle.hir_lower_form.specs.Targets.{add_target, add_target_dots}
 use Rattle.hir_meaning.specs.Inner as inner
-use Rattle.hir_meaning.specs.Inner.{Bodies, bodies_in, constant_body, of_arm, of_pat_field}
+use Rattle.hir_meaning.specs.Inner.{Bodies, bodies_in, constant_body, of_pat_field}
 use Rattle.hir_read_back.proofs.Layers.{Pushed, pushed_all}
 use Rattle.hir_read_back.proofs.Tree.{path_reads, list_reads}
 use Rattle.hir_steps.proofs.Constants.{correct_constant}
@@ -50,6 +50,8 @@ use Rattle.hir_same_meaning.proofs.HeldTypes.{a_constant, a_path, some_args, a_b
 use Rattle.hir_same_meaning.proofs.HeldPaths as paths
 use Rattle.hir_same_meaning.proofs.HeldForms as forms
 use Rattle.hir_same_meaning.proofs.HeldForms.{a_field, a_spread, a_statement, Filled}
+use Rattle.hir_same_meaning.proofs.HeldTries as tries
+use Rattle.hir_same_meaning.proofs.HeldTries.{an_arm}
 
 -- a constant runs as written: nothing that is open around its barrier is in its frames
 constant_held : (e : OptionExpr) → Correct (lower.lower_part e) (Holds an_expr (bodies_in e))
@@ -62,16 +64,13 @@ constant_held e h = correct_as (correct_constant (correct_both (correct_in_store
       );
     })
 
-abbrev an_arm : Ids MatchArm
-an_arm r a = of_arm r a
-
 abbrev a_field_pat : Ids RecordFieldPat
 a_field_pat r f = of_pat_field r f
 
 dots_hold_nothing : (p : Pat) → is_dots p ≡ true → inner.pat_bodies p ≡ []
 dots_hold_nothing (tree.leaf_pat at form) e = refl
-dots_hold_nothing (tree.bind_pat at u sub) e = absurd (true≢false (sym e))
-dots_hold_nothing (tree.name_pat at u) e = refl
+dots_hold_nothing (tree.bind_pat at u _ sub) e = absurd (true≢false (sym e))
+dots_hold_nothing (tree.name_pat at u _) e = refl
 dots_hold_nothing (tree.path_pat at p) e = absurd (true≢false (sym e))
 dots_hold_nothing (tree.tuple_struct_pat at p comma ps) e = absurd (true≢false (sym e))
 dots_hold_nothing (tree.tuple_pat at comma ps) e = absurd (true≢false (sym e))
@@ -170,7 +169,7 @@ mutual
   segment_holds : (s : Segment) → paths.SegmentHolds s
   segment_holds tree.absent_segment = tt
   segment_holds tree.broken_segment = tt
-  segment_holds (tree.name_segment n as') = segment_args_hold as'
+  segment_holds (tree.name_segment n _ as') = segment_args_hold as'
   segment_holds tree.self_type_segment = tt
   segment_holds tree.crate_segment = tt
   segment_holds (tree.dollar_crate_segment root) = tt
@@ -201,8 +200,14 @@ mutual
   expr_holds (tree.disabled_expr at by e) = holds_behind (correct_report (InactiveCode at by)) (λ u. forms.missing_held)
   expr_holds (tree.if_expr at c t e) = forms.if_held at (body_holds c) (block_part_holds t) (present_holds e)
   expr_holds (tree.block_expr b) = block_holds b
-  expr_holds (tree.loop_expr at label b) = forms.loop_held at _ label (block_part_holds b)
-  expr_holds (tree.while_expr at label c b) = forms.loop_held at _ label (forms.turn_held at (body_holds c) (block_part_holds b))
+  expr_holds (tree.loop_expr at label _ b) = forms.loop_held at _ label (block_part_holds b)
+  expr_holds (tree.while_expr at label _ c b) = forms.loop_held at _ label (forms.turn_held at (body_holds c) (block_part_holds b))
+  expr_holds (tree.question_expr at items e) = tries.question_held at items (body_holds e)
+  expr_holds (tree.itemless_expr at) = forms.missing_held
+  expr_holds (tree.try_expr at i tree.no_type number ss e) =
+      tries.try_held at i false number (stmts_hold (kept_part_holds e) ss [])
+  expr_holds (tree.try_expr at i (tree.some_type t) number ss e) =
+      tries.typed_try_held at (tries.try_held at i true number (stmts_hold (kept_part_holds e) ss [])) (type_holds None t)
   expr_holds (tree.call_expr at f has_list es) = forms.call_held at (body_holds f) (pushed_all (each_holds es []))
   expr_holds (tree.path_expr at p h) = forms.path_held at h (paths.path_held p (outer_holds p))
   expr_holds (tree.continue_expr at jump) = forms.continue_held at jump
@@ -264,7 +269,7 @@ mutual
   spread_holds (tree.spread_of e) = holds_one spread.Expr (λ r i. refl) (expr_holds e)
 
   block_holds : (b : Block) → Correct (lower.lower_block b) (Holds an_expr (inner.block_bodies b))
-  block_holds (tree.block at is_unsafe label number ss e) =
+  block_holds (tree.block at is_unsafe label _ number ss e) =
       forms.labelled_held label (λ n. forms.block_form_held at is_unsafe n number (stmts_hold (kept_part_holds e) ss []))
 
   block_part_holds : (b : OptionBlock) → Correct (lower.lower_block_part b) (Holds an_expr (inner.block_part_bodies b))
@@ -308,8 +313,8 @@ mutual
 
   pat_holds : (p : Pat) → PatHeld a_pat (lower.lower_pat p) (inner.pat_bodies p)
   pat_holds (tree.leaf_pat at form) = pats.leaf_held at form
-  pat_holds (tree.bind_pat at u p) = pats.bind_held at u (subpattern_holds p)
-  pat_holds (tree.name_pat at u) = pats.name_held at u
+  pat_holds (tree.bind_pat at u _ p) = pats.bind_held at u (subpattern_holds p)
+  pat_holds (tree.name_pat at u _) = pats.name_held at u
   pat_holds (tree.path_pat at p) = pats.path_held at (paths.path_held p (outer_holds p))
   pat_holds (tree.tuple_struct_pat at p comma ps) = pats.tuple_struct_held at (path_of p) (path_reads p)
       (paths.path_held p (outer_holds p)) comma (elements_hold ps no_elements)
@@ -368,7 +373,7 @@ mutual
   side_holds : (s : Side) → Correct (lower.lower_side s) (Holds (maybe an_expr) (inner.side_bodies s))
   side_holds tree.no_side = holds_none None (λ r. refl)
   side_holds (tree.literal_side at l) = pats.literal_side_held at l
-  side_holds (tree.name_side at n) = pats.name_side_held at n
+  side_holds (tree.name_side at n _) = pats.name_side_held at n
   side_holds (tree.path_side at p) = pats.path_side_held at (paths.path_held p (outer_holds p))
   side_holds tree.other_side = holds_none None (λ r. refl)
 
@@ -397,7 +402,7 @@ mutual
   path_of_side : (s : Side) → limits.PathOf s
   path_of_side tree.no_side = tt
   path_of_side (tree.literal_side at l) = tt
-  path_of_side (tree.name_side at n) = tt
+  path_of_side (tree.name_side at n _) = tt
   path_of_side (tree.path_side at p) = paths.path_held p (outer_holds p)
   path_of_side tree.other_side = tt
 

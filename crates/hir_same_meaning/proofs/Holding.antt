@@ -15,7 +15,7 @@ use Rattle.hir_meaning.specs.Same.{SameBodies}
 use Rattle.hir_read_back.proofs.Layers.{Pushed}
 use Rattle.hir_steps.proofs.Frames.{Frame}
 use Rattle.hir_steps.proofs.PatSteps.{AllocatedPat, correct_alloc_pat}
-use Rattle.hir_steps.proofs.Steps.{Mark, Grows, Rel, Correct, Allocated, AllocatedType, correct_bind, correct_as, correct_pure}
+use Rattle.hir_steps.proofs.Steps.{Mark, Grows, Put, Rel, Correct, AllocatedBy, AllocatedType, correct_bind, correct_as, correct_pure}
 use Rattle.hir_steps.proofs.Steps.{correct_alloc, correct_alloc_type}
 
 -- these stored expressions, each as a body by itself, are the written ones
@@ -136,7 +136,7 @@ type1 {es = es} source con e h = correct_as (correct_bind h (λ a. correct_alloc
 -- ---- expressions
 
 pub expr_held : {e : HirExpr} {source : Option Pointer} {es : Bodies} {final : Stored} {ps qs : List Frame} {m n m' : Mark} {i : ExprId}
-    → Allocated e source final qs m m' i → Grows m m'
+    {put : Put} → AllocatedBy put e source final qs m m' i → Grows m m'
     → ((d : ℕ) → m.nodes + m.entries ≤ d → SameIn final (of_expr (inners_in final d) e) es) → Holds an_expr es final ps n m' i
 unfolding inners
 expr_held {es = es} {final = final} {m' = m'} {i = i} at g h = record { same = λ d le. at_depth d le }

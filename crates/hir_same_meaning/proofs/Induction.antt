@@ -1,5 +1,5 @@
 -- Each tree becomes what runs as it is written.
-use Rattle.std.proofs.Common.{Bool, List, [], ◌∷◌, ◌++◌, Option, Some, None, refl}
+use Rattle.std.proofs.Common.{Bool, true, false, List, [], ◌∷◌, ◌++◌, Option, Some, None, refl}
 use Rattle.hir_store.specs.declared.hir.Statement.{Statement}
 use Rattle.hir_store.specs.declared.hir.Statement.TheVariants as statement
 use Rattle.hir_store.specs.declared.hir.RecordLitField.{RecordLitField}
@@ -33,6 +33,8 @@ use Rattle.hir_same_meaning.proofs.Families
 use Rattle.hir_same_meaning.proofs.Typed
 use Rattle.hir_same_meaning.proofs.Patterned
 use Rattle.hir_same_meaning.proofs.Ranges
+use Rattle.hir_same_meaning.proofs.Questions
+use Rattle.hir_same_meaning.proofs.Tries
 use Rattle.hir_same_meaning.proofs.TargetPlaces
 use Rattle.hir_same_meaning.proofs.TargetPlaces.{PlacesAre}
 
@@ -44,8 +46,14 @@ mutual
   expr_fine (tree.paren_expr at e) = Forms.paren_fine at (part_fine e)
   expr_fine (tree.call_expr at f has_list es) = Forms.call_fine at (part_fine f) (Forms.pushed_all (each_fine es []))
   expr_fine (tree.if_expr at c t e) = Forms.if_fine at (part_fine c) (block_part_fine t) (present_fine e)
-  expr_fine (tree.loop_expr at label b) = Forms.loop_fine at _ label (block_part_fine b)
-  expr_fine (tree.while_expr at label c b) = Forms.while_fine at _ label (part_fine c) (block_part_fine b)
+  expr_fine (tree.loop_expr at label _ b) = Forms.loop_fine at _ label (block_part_fine b)
+  expr_fine (tree.while_expr at label _ c b) = Forms.while_fine at _ label (part_fine c) (block_part_fine b)
+  expr_fine (tree.question_expr at items e) = Questions.question_fine at items (part_fine e)
+  expr_fine (tree.itemless_expr at) = Forms.missing_fine
+  expr_fine (tree.try_expr at i tree.no_type number ss e) =
+      Tries.try_fine at i false number ss e (stmts_fine (is_left e) (part_walk e) (kept_part_fine e) ss [])
+  expr_fine (tree.try_expr at i (tree.some_type t) number ss e) = Tries.typed_try_fine at t
+      (Tries.try_fine at i true number ss e (stmts_fine (is_left e) (part_walk e) (kept_part_fine e) ss []))
   expr_fine (tree.break_expr at jump e) = Forms.break_fine at jump (present_fine e)
   expr_fine (tree.continue_expr at jump) = Forms.continue_fine at jump
   expr_fine (tree.block_expr b) = block_is_fine b
@@ -181,7 +189,7 @@ mutual
       (λ final ps m m' o g row. rw (row.second.is, row.second.still) (record { form_is = refl; rel = Nodes.goes_other row.first }))
 
   pub block_is_fine : (b : Block) → Correct (lower_block b) (Runs one (λ turns. run_block turns b))
-  block_is_fine (tree.block at is_unsafe label number ss e) =
+  block_is_fine (tree.block at is_unsafe label _ number ss e) =
       Forms.block_fine at is_unsafe label number ss e
       (stmts_fine (is_left e) (part_walk e) (kept_part_fine e) ss [])
 

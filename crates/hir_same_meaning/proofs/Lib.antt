@@ -1,9 +1,11 @@
 pub mod Views
 pub mod Targets
 pub mod Relation
+pub mod Rows
 pub mod Turns
 pub mod Senses
 pub mod Nodes
+pub mod Unmade
 pub mod Blocks
 pub mod Strict
 pub mod Forms
@@ -12,10 +14,14 @@ pub mod Typed
 pub mod Patterned
 pub mod TargetPlaces
 pub mod Ranges
+pub mod Knowing
+pub mod Questions
+pub mod Tries
 pub mod Induction
 pub mod Spread
 pub mod Owning
 pub mod OwningPats
+pub mod OwningTries
 pub mod Owned
 pub mod Body
 pub mod Tree
@@ -25,6 +31,7 @@ pub mod HeldTypes
 pub mod HeldWalk
 pub mod HeldPaths
 pub mod HeldForms
+pub mod HeldTries
 pub mod HeldPats
 pub mod HeldLimits
 pub mod HeldPatterned

@@ -1,5 +1,5 @@
 -- Each number is reached in one way, and the numbers of a part are those that its lowering gave out.
-use Rattle.std.proofs.Common.{List, [], ◌∷◌, ◌++◌, Option, Some, None, refl}
+use Rattle.std.proofs.Common.{true, false, List, [], ◌∷◌, ◌++◌, Option, Some, None, refl}
 use Rattle.hir_store.specs.declared.hir.Expr.TheVariants as hir
 use Rattle.hir_store.specs.declared.hir.MatchArm.{MatchArm}
 use Rattle.hir_store.specs.declared.hir.Statement.{Statement}
@@ -29,7 +29,9 @@ use Rattle.hir_same_meaning.proofs.Owning.{operands_owns, value_owns, list_owns,
 use Rattle.hir_same_meaning.proofs.Owning.{field_owns, await_owns, nameless_owns, if_owns, call_owns, loop_owns, turn_owns}
 use Rattle.hir_same_meaning.proofs.Owning.{break_owns}
 use Rattle.hir_same_meaning.proofs.Owning.{continue_owns, paren_owns, path_owns, kept_owns, disabled_owns, each_more, fields_more}
-use Rattle.hir_same_meaning.proofs.Owning.{fields_own_all, Filled, filled_end, filled_silent, filled_expr, block_owns, each_owns_all}
+use Rattle.hir_same_meaning.proofs.Owning.{fields_own_all, Filled, filled_end, filled_held, filled_none, filled_silent, filled_expr}
+use Rattle.hir_same_meaning.proofs.Owning.{block_owns, each_owns_all}
+use Rattle.hir_same_meaning.proofs.OwningTries.{question_owns, try_owns, typed_try_owns}
 use Rattle.hir_same_meaning.proofs.Spread.{spread_none}
 
 arms_own_all : {p : Lowering (List MatchArm)} → Correct p (Pushed [] (OwnsAs of_arms)) → Correct p (OwnsAs of_arms)
@@ -43,8 +45,13 @@ mutual
   expr_owns (tree.paren_expr at e) = paren_owns at (part_owns e)
   expr_owns (tree.call_expr at f has_list es) = call_owns at (part_owns f) (each_owns_all (each_owns es []))
   expr_owns (tree.if_expr at c t e) = if_owns at (part_owns c) (block_part_owns t) (present_owns e)
-  expr_owns (tree.loop_expr at label b) = loop_owns at _ label (block_part_owns b)
-  expr_owns (tree.while_expr at label c b) = loop_owns at _ label (turn_owns at (part_owns c) (block_part_owns b))
+  expr_owns (tree.loop_expr at label _ b) = loop_owns at _ label (block_part_owns b)
+  expr_owns (tree.while_expr at label _ c b) = loop_owns at _ label (turn_owns at (part_owns c) (block_part_owns b))
+  expr_owns (tree.question_expr at items e) = question_owns at items (part_owns e)
+  expr_owns (tree.itemless_expr at) = missing_owns
+  expr_owns (tree.try_expr at i tree.no_type number ss e) = try_owns at i false number (stmts_owns (kept_part_owns e) ss [])
+  expr_owns (tree.try_expr at i (tree.some_type t) number ss e) =
+      typed_try_owns at t (try_owns at i true number (stmts_owns (kept_part_owns e) ss []))
   expr_owns (tree.break_expr at jump e) = break_owns at jump (present_owns e)
   expr_owns (tree.continue_expr at jump) = continue_owns at jump
   expr_owns (tree.block_expr b) = block_is_owns b
@@ -161,7 +168,7 @@ mutual
       (λ final ps m m' o g row. rw (row.second.is, row.second.still) (record { spread = row.first.spread }))
 
   block_is_owns : (b : Block) → Correct (lower_block b) Owns
-  block_is_owns (tree.block at is_unsafe label number ss e) = block_owns at is_unsafe label number (stmts_owns (kept_part_owns e) ss [])
+  block_is_owns (tree.block at is_unsafe label _ number ss e) = block_owns at is_unsafe label number (stmts_owns (kept_part_owns e) ss [])
 
   stmts_owns : {q : Lowering (Option ExprId)} → Correct q OwnsSome → (ss : Stmts) (done : List Statement)
       → Correct (lower_stmts done ss q) (Filled done)
@@ -175,10 +182,10 @@ mutual
       (correct_bind (correct_bind (correct_report (InactiveCode at by)) (λ u. correct_pure None))
       (λ o. stmts_owns hq ss (push_some done o)))
       (λ final ps m m' r g row. let others = row.second in
-      Pats.filled_none done row.before row.after (rw row.first.second.is at others))
+      filled_none done row.before row.after (rw row.first.second.is at others))
   stmts_owns hq (tree.more_stmts (tree.let_stmt p t e b) ss) done = correct_as
       (correct_bind (Pats.let_stmt_owns p t (present_owns e) (else_owns b)) (λ o. stmts_owns hq ss (push_some done o)))
       (λ final ps m m' r g row. let s = row.first in let others = row.second in
-      Pats.filled_held done s.held row.before row.after s.rel (rw s.is at others))
+      filled_held done s.held row.before row.after s.rel (rw s.is at others))
   stmts_owns hq (tree.more_stmts tree.item_stmt ss) done = correct_as (stmts_owns hq ss (done ++ statement.Item ∷ []))
-      (λ final ps m m' r g p. filled_silent {qs = ps} statement.Item done (λ f. refl) p)
+      (λ final ps m m' r g p. filled_silent {qs = ps} statement.Item done (λ f. refl) g p)

@@ -35,7 +35,7 @@ use Rattle.hir_lower_form.specs.Lower.{stored_leaf, stored_unary, stored_binary,
 use Rattle.hir_lower_form.specs.Lower.{operand_form, operands_form, value_form, list_form, method_call_form, await_form}
 use Rattle.hir_same_meaning.specs.Reached.{of_some, of_each, of_fields, of_others, of_statement, of_statements, below, reached_to, Spread}
 use Rattle.hir_steps.proofs.Frames.{Frame, loop_at, block_at}
-use Rattle.hir_steps.proofs.Steps.{Mark, Grows, Rel, Correct, Allocated, correct_bind, correct_as, correct_pure}
+use Rattle.hir_steps.proofs.Steps.{Mark, Grows, Put, Rel, Correct, AllocatedBy, correct_bind, correct_as, correct_pure}
 use Rattle.hir_steps.proofs.Steps.{correct_report, correct_report_await, correct_point, correct_enter_block, correct_alloc}
 use Rattle.hir_steps.proofs.Steps.{correct_opened, correct_target, correct_point_field}
 use Rattle.hir_steps.proofs.Keeping.{type_any, args_any, lower_path_any}
@@ -62,7 +62,7 @@ pub owns_none : {A : Type 0} {numbers : (ExprId → List ℕ) → A → List ℕ
 owns_none {m = m} {m' = m'} a e = record { spread = λ d le. rw (e _) (spread_none m.nodes m'.nodes) }
 
 pub owns_at : {e : HirExpr} {from : Option Pointer} {final : Stored} {ps qs : List Frame} (m : Mark) {m1 m' : Mark} {i : ExprId}
-    → Allocated e from final qs m1 m' i → m.nodes ≤ m1.nodes
+    {put : Put} → AllocatedBy put e from final qs m1 m' i → m.nodes ≤ m1.nodes
     → ((d : ℕ) → m1.nodes ≤ d → Spread m.nodes m1.nodes (below (reached_to (store_of final) d) (store_of final) e)) → Owns final ps m m' i
 unfolding reached_to
 owns_at {final = final} m {m1 = m1} {m' = m'} {i = i} at le h = record { spread = go }
@@ -339,45 +339,125 @@ fields_more {m = m} {m' = m'} done (Some x) g g' h p = record {
 pub fields_own_all : {p : Lowering (List RecordLitField)} → Correct p (Pushed [] (OwnsAs of_fields)) → Correct p (OwnsAs of_fields)
 fields_own_all h = correct_as h (λ final ps m m' r g row. rw row.is row.rel)
 
+-- a statement in front of others, which have the numbers from k on
+pub record OwnsFirst (final : Stored) (nodes lo hi : ℕ) (s : Statement) (Rest : ℕ → Type 0) : Type 0 where
+  pub k : ℕ
+  pub low : lo ≤ k
+  pub high : k ≤ hi
+  pub own : (d : ℕ) → nodes ≤ d → Spread lo k (of_statement (reached_to (store_of final) d) s)
+  pub rest : Rest k
+
+-- However deep one looks past these nodes, statements and the tail behind them have the numbers in this range, one after another.
+abbrev pub InOrder : Stored → ℕ → ℕ → ℕ → List Statement → Option ExprId → Type 0
+InOrder final nodes lo hi [] o = (d : ℕ) → nodes ≤ d → Spread lo hi (of_some (reached_to (store_of final) d) o)
+InOrder final nodes lo hi (s ∷ ss) o = OwnsFirst final nodes lo hi s (λ k. InOrder final nodes k hi ss o)
+
+order_from : (final : Stored) (nodes lo hi : ℕ) (o : Option ExprId) (lo' : ℕ) → lo' ≤ lo → (ss : List Statement)
+    → InOrder final nodes lo hi ss o → InOrder final nodes lo' hi ss o
+order_from final nodes lo hi o lo' le [] h = λ d ge. spread_wider lo' hi le (omega arith) (h d ge)
+order_from final nodes lo hi o lo' le (s ∷ ss) h = record {
+  k = h.k;
+  low = let low = h.low in omega (arith, le, low);
+  high = h.high;
+  own = λ d ge. spread_wider lo' h.k le (omega arith) (h.own d ge);
+  rest = h.rest;
+}
+
+-- all together
+pub order_all : (final : Stored) (nodes : ℕ) (o : Option ExprId) (lo hi : ℕ) (ss : List Statement) → InOrder final nodes lo hi ss o
+    → (d : ℕ) → nodes ≤ d → Spread lo hi (of_contents (reached_to (store_of final) d) (ss, o))
+order_all final nodes o lo hi [] h d ge = h d ge
+order_all final nodes o lo hi (s ∷ ss) h d ge =
+    let f = reached_to (store_of final) d in
+    let low = h.low in
+    let high = h.high in
+    rw (append_assoc (of_statement f s) (of_statements f ss) (of_some f o))
+    (spread_append lo hi (inl (omega arith)) (omega arith, low, high, omega arith) (h.own d ge)
+    (order_all final nodes o h.k hi ss h.rest d ge))
+
+-- a last expression that becomes the tail keeps its numbers
+pub settled_order : (final : Stored) (nodes hi lo : ℕ) (ss : List Statement) (o : Option ExprId) → InOrder final nodes lo hi ss o
+    → InOrder final nodes lo hi (settled ss o).0 (settled ss o).1
+settled_order final nodes hi lo ss (Some i) h = h
+settled_order final nodes hi lo [] None h = h
+settled_order final nodes hi lo (statement.Item ∷ ss) None h =
+    record { k = h.k; low = h.low; high = h.high; own = h.own; rest = settled_order final nodes hi h.k ss None h.rest }
+settled_order final nodes hi lo (statement.Let p t e b ∷ ss) None h =
+    record { k = h.k; low = h.low; high = h.high; own = h.own; rest = settled_order final nodes hi h.k ss None h.rest }
+settled_order final nodes hi lo (statement.Expr i true ∷ ss) None h =
+    record { k = h.k; low = h.low; high = h.high; own = h.own; rest = settled_order final nodes hi h.k ss None h.rest }
+settled_order final nodes hi lo (statement.Expr i false ∷ []) None h =
+    λ d ge. let high = h.high in spread_wider lo hi (omega arith) high (h.own d ge)
+settled_order final nodes hi lo (statement.Expr i false ∷ (s ∷ ss)) None h =
+    record { k = h.k; low = h.low; high = h.high; own = h.own; rest = settled_order final nodes hi h.k (s ∷ ss) None h.rest }
+
+-- another tail
+pub order_ended : (final : Stored) (nodes nodes' hi hi' : ℕ) (o c : Option ExprId) → nodes ≤ nodes' → hi ≤ hi'
+    → ((k : ℕ) → k ≤ hi → ((d : ℕ) → nodes ≤ d → Spread k hi (of_some (reached_to (store_of final) d) o))
+    → (d : ℕ) → nodes' ≤ d → Spread k hi' (of_some (reached_to (store_of final) d) c))
+    → (lo : ℕ) → lo ≤ hi → (ss : List Statement) → InOrder final nodes lo hi ss o → InOrder final nodes' lo hi' ss c
+order_ended final nodes nodes' hi hi' o c le le' ends lo under [] h = ends lo under h
+order_ended final nodes nodes' hi hi' o c le le' ends lo under (s ∷ ss) h = record {
+  k = h.k;
+  low = h.low;
+  high = let high = h.high in omega (arith, high, le');
+  own = λ d ge. h.own d (omega (arith, le, ge));
+  rest = order_ended final nodes nodes' hi hi' o c le le' ends h.k h.high ss h.rest;
+}
+
 -- the statements are pushed on those that stand
 pub record Filled (done : List Statement) (final : Stored) (ps : List Frame) (m m' : Mark) (r : StoredContents) : Type 0 where
   pub new : List Statement
   pub is : r.0 ≡ done ++ new
-  pub rel : OwnsAs of_contents final ps m m' (new, r.1)
+  pub rel : InOrder final m'.nodes m.nodes m'.nodes new r.1
 
 pub filled_end : {final : Stored} {ps : List Frame} {m m' : Mark} {r : StoredContents} (done : List Statement) (o : Option ExprId)
     → r ≡ (done, o)
     → OwnsSome final ps m m' o → Filled done final ps m m' r
-filled_end done o e h = rw e (record { new = []; is = sym (append-nil done); rel = record { spread = h.spread } })
+filled_end done o e h = rw e (record { new = []; is = sym (append-nil done); rel = h.spread })
 
 pub filled_silent : {final : Stored} {ps qs : List Frame} {m m' : Mark} {r : StoredContents} (s : Statement) (done : List Statement)
-    → ((f : ExprId → List ℕ) → of_statement f s ≡ [])
+    → ((f : ExprId → List ℕ) → of_statement f s ≡ []) → Grows m m'
     → Filled (done ++ s ∷ []) final qs m m' r → Filled done final ps m m' r
-filled_silent {final = final} s done n p = record {
+filled_silent {final = final} {m = m} s done n g p = record {
   new = s ∷ p.new;
   is = pushed_one done s p.new p.is;
-  rel = record { spread = λ d le. rw (n (reached_to (store_of final) d)) (p.rel.spread d le) };
+  rel = record {
+    k = m.nodes;
+    low = omega arith;
+    high = g.nodes;
+    own = λ d le. rw (n (reached_to (store_of final) d)) (spread_none m.nodes m.nodes);
+    rest = p.rel;
+  };
 }
+
+pub filled_held : {final : Stored} {ps : List Frame} {m m1 m' : Mark} {r : StoredContents} (done : List Statement) (s : Statement)
+    → Grows m m1 → Grows m1 m' → OwnsAs of_statement final ps m m1 s → Filled (done ++ s ∷ []) final ps m1 m' r
+    → Filled done final ps m m' r
+filled_held {m1 = m1} done s g g' h p = record {
+  new = s ∷ p.new;
+  is = pushed_one done s p.new p.is;
+  rel = record {
+    k = m1.nodes;
+    low = g.nodes;
+    high = g'.nodes;
+    own = λ d le. h.spread d (omega (arith, le, g'.nodes));
+    rest = p.rel;
+  };
+}
+
+pub filled_none : {final : Stored} {ps : List Frame} {m m1 m' : Mark} {r : StoredContents} (done : List Statement) → Grows m m1
+    → Grows m1 m' → Filled done final ps m1 m' r → Filled done final ps m m' r
+filled_none {final = final} {m = m} {m1 = m1} {m' = m'} {r = r} done g g' p =
+    record { new = p.new; is = p.is; rel = order_from final m'.nodes m1.nodes m'.nodes r.1 m.nodes g.nodes p.new p.rel }
 
 pub filled_expr : {final : Stored} {ps : List Frame} {m m1 m' : Mark} {r : StoredContents} (semi : Bool) (done : List Statement)
     (o : Option ExprId)
     → Grows m m1 → Grows m1 m'
     → OwnsSome final ps m m1 o → Filled (push_some done (option_map (λ i. statement.Expr i semi) o)) final ps m1 m' r
     → Filled done final ps m m' r
-filled_expr {m = m} {m' = m'} semi done None g g' h p = record {
-  new = p.new;
-  is = p.is;
-  rel = record { spread = λ d le. spread_wider m.nodes m'.nodes (omega arith) (omega arith) (p.rel.spread d le) };
-}
-filled_expr {final = final} {m = m} {m1 = m1} {m' = m'} {r = r} semi done (Some i) g g' h p = record {
-  new = statement.Expr i semi ∷ p.new;
-  is = pushed_one done (statement.Expr i semi) p.new p.is;
-  rel = record {
-    spread = λ d le. let f = reached_to (store_of final) d in
-        rw (append_assoc (f i) (of_statements f p.new) (of_some f r.1))
-        (spread_append m.nodes m'.nodes (inl (omega arith)) (omega arith) (h.spread d (omega arith)) (p.rel.spread d le));
-  };
-}
+filled_expr semi done None g g' h p = filled_none done g g' p
+filled_expr semi done (Some i) g g' h p = filled_held done (statement.Expr i semi) g g' (record { spread = h.spread }) p
 
 -- blocks
 
@@ -409,8 +489,11 @@ block_form_owns at is_unsafe label number hp = correct_as
     (correct_bind (correct_enter_block number)
     (λ u. correct_bind hp (λ r. correct_alloc (settled_block is_unsafe label number (settled r.0 r.1)) (Some at))))
     (λ final ps m m' i g row. let r = row.second in
-    owns_at m r.second (omega arith) (λ d le. rw (settled_below (reached_to (store_of final) d) r.one.0 r.one.1, r.first.is)
-    (spread_wider m.nodes r.middle.nodes (omega arith) (omega arith) (r.first.rel.spread d (omega arith)))))
+    owns_at m r.second (omega arith) (λ d le. spread_wider m.nodes r.middle.nodes row.before.nodes (omega arith)
+    (subst (λ ks. Spread row.middle.nodes r.middle.nodes (of_contents (reached_to (store_of final) d) (settled ks r.one.1)))
+    (sym r.first.is) (order_all final r.middle.nodes (settled r.first.new r.one.1).1 row.middle.nodes r.middle.nodes
+    (settled r.first.new r.one.1).0 (settled_order final r.middle.nodes r.middle.nodes row.middle.nodes r.first.new r.one.1 r.first.rel)
+    d le))))
 
 pub block_owns : (at : Pointer) (is_unsafe : Bool) (label : Option Label) (number : Option BlockId) {p : Lowering StoredContents}
     → Correct p (Filled []) → Correct (labelled label (λ n. block_form at is_unsafe n number p)) Owns

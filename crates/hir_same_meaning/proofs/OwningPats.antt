@@ -35,9 +35,9 @@ use Rattle.hir_steps.proofs.Keeping.{top_any, present_type_any}
 use Rattle.hir_steps.proofs.PatSteps.{AllocatedPat, correct_alloc_pat, correct_point_pat_field}
 use Rattle.hir_steps.proofs.Steps.{Mark, Grows, Rel, Correct, correct_bind, correct_as, correct_in_store, correct_pure, correct_alloc}
 use Rattle.hir_steps.proofs.Steps.{correct_report}
-use Rattle.hir_same_meaning.specs.Reached.{of_some, of_each, of_fields, of_statement, of_arms, of_statements, below, reached_to, Spread}
+use Rattle.hir_same_meaning.specs.Reached.{of_some, of_each, of_fields, of_statement, of_arms, below, reached_to, Spread}
 use Rattle.hir_same_meaning.proofs.Forms.{Pushed, pushed_one}
-use Rattle.hir_same_meaning.proofs.Owning.{OwnsAs, Owns, OwnsSome, owns_at, owns2, leaf_owns, Filled}
+use Rattle.hir_same_meaning.proofs.Owning.{OwnsAs, Owns, OwnsSome, owns_at, owns2, leaf_owns}
 use Rattle.hir_same_meaning.proofs.Spread.{spread_none, spread_wider, spread_append}
 use Rattle.hir_same_meaning.proofs.TargetPlaces.{parts_of, spread_any}
 
@@ -461,24 +461,3 @@ let_stmt_owns p t hq hr = correct_as (correct_bind (top_any p) (λ i. correct_bi
             (u.first.spread d (omega (le, v.before.nodes, arith))) (v.first.spread d le);
       });
     })
-
-pub filled_held : {final : Stored} {ps : List Frame} {m m1 m' : Mark} {r : List Statement × Option ExprId} (done : List Statement)
-    (s : Statement) → Grows m m1 → Grows m1 m' → OwnsAs of_statement final ps m m1 s → Filled (done ++ s ∷ []) final ps m1 m' r
-    → Filled done final ps m m' r
-filled_held {final = final} {m = m} {m' = m'} {r = r} done s g g' h p = record {
-  new = s ∷ p.new;
-  is = pushed_one done s p.new p.is;
-  rel = record {
-    spread = λ d le. let f = reached_to (store_of final) d in
-        rw (append_assoc (of_statement f s) (of_statements f p.new) (of_some f r.1))
-        (spread_append m.nodes m'.nodes (inl (omega arith)) (omega arith) (h.spread d (omega arith)) (p.rel.spread d le));
-  };
-}
-
-pub filled_none : {final : Stored} {ps : List Frame} {m m1 m' : Mark} {r : List Statement × Option ExprId} (done : List Statement)
-    → Grows m m1 → Grows m1 m' → Filled done final ps m1 m' r → Filled done final ps m m' r
-filled_none {m = m} {m' = m'} done g g' p = record {
-  new = p.new;
-  is = p.is;
-  rel = record { spread = λ d le. spread_wider m.nodes m'.nodes (omega arith) (omega arith) (p.rel.spread d le) };
-}

@@ -22,6 +22,7 @@ use Rattle.hir_steps.proofs.Steps.{Mark, Grows, Rel, Correct, Allocated, correct
 use Rattle.hir_data.specs.Data.{PatData}
 use Rattle.hir_data.specs.Patterns.{written_pat}
 use Rattle.hir_data.specs.Reading.{stored_pat}
+use Rattle.hir_data.proofs.MadeNames.{Unmade}
 use Rattle.hir_read_back.proofs.Now.{option_type_now}
 use Rattle.hir_read_back.proofs.PatTree.{top_now}
 use Rattle.hir_meaning.specs.Run.{Value, truth, is_true, leave, unmatched, ends, pure, ◌>>=◌, tests, tests_pattern}
@@ -31,9 +32,10 @@ use Rattle.hir_meaning.specs.Syntax.{SyntaxRun, run_present}
 use Rattle.hir_scope.specs.Each.{IfPresent}
 use Rattle.hir_scope.specs.Scopes.{Scope}
 use Rattle.hir_same_meaning.proofs.Views.{numbers}
-use Rattle.hir_same_meaning.proofs.Relation.{SameWhere, same_ends, same_pure, same_bind, same_tests, same_if, same_tests_pattern}
+use Rattle.hir_same_meaning.proofs.Relation.{SameWhere, same_ends, same_pure, same_bind, same_tests, same_if}
 use Rattle.hir_same_meaning.proofs.Senses.{Walk, run_in, one, present, Goes, Runs, goes_within, goes_at}
 use Rattle.hir_same_meaning.proofs.Blocks.{StoredLet, let_of, LetIs, ElseIs}
+use Rattle.hir_same_meaning.proofs.Unmade.{fits_same, written_is_unmade}
 use Rattle.hir_same_meaning.proofs.Forms.{Pushed, pushed_one}
 
 abbrev pub pat_in : Stored → PatId → PatData
@@ -45,20 +47,18 @@ abbrev pub condition : PatData → Walk Value → Walk Value
 condition d x turns ss = x turns ss >>= (λ v. tests_pattern d v >>= (λ fits. pure (truth fits)))
 
 goes_let : {labels : ℕ} {m m' : Mark} {at : Pointer} {final : Stored} {ps qs : List Frame} {i e : ExprId} {x : Walk Value} (p : PatId)
-    (d : PatData) → pat_in final p ≡ d → Goes labels m.nodes one x final ps e → Allocated (hir.Let p e) (Some at) final qs m m' i
-    → Goes labels m'.nodes one (condition d x) final ps i
-goes_let {labels = labels} {m' = m'} {final = final} {ps = ps} {i = i} {x = x} p d is h a =
-    subst (λ k. Goes labels m'.nodes one (condition k x) final ps i) is (goes_at a
-    (λ turns n le f. same_bind (h.same turns n le f)
-    (λ v. same_bind (same_tests_pattern (pat_in final p) v) (λ fits. same_pure (truth fits))))
-    (λ n le. h.jumps n le))
+    (d : PatData) → pat_in final p ≡ d → Unmade d → Goes labels m.nodes one x final ps e
+    → Allocated (hir.Let p e) (Some at) final qs m m' i → Goes labels m'.nodes one (condition d x) final ps i
+goes_let {final = final} p d is u h a = goes_at a
+    (λ turns n le f. same_bind (h.same turns n le f) (λ v. same_bind (fits_same final p d is u v) (λ holds. same_pure (truth holds))))
+    (λ n le. h.jumps n le)
 
 pub let_fine : (at : Pointer) (p : OptionPat) {q : ExprSteps} {x : Walk Value} → Correct q (Runs one x)
     → Correct (let_form at (lower_top p) q) (Runs one (condition (written_pat p) x))
 unfolding let_form
 let_fine at p h = correct_as (correct_bind (top_now p) (λ i. correct_bind h (λ e. correct_alloc (hir.Let i e) (Some at))))
     (λ final ps m m' k g row. let r = row.second in
-    goes_let row.one (written_pat p) row.first.is (goes_within (omega arith) r.first) r.second)
+    goes_let row.one (written_pat p) row.first.is (written_is_unmade p) (goes_within (omega arith) r.first) r.second)
 
 -- ---- `match`
 
@@ -105,6 +105,7 @@ pub record ArmIs (d : PatData) (g : Option (Walk Value)) (x : Walk Value) (final
   pub arm : MatchArm
   pub is : o ≡ Some arm
   pub pattern : pat_in final arm.pat ≡ d
+  pub unmade : Unmade d
   pub guard : GuardIs m.labels m'.nodes final ps g arm.guard
   pub body : Goes m.labels m'.nodes one x final ps arm.expr
 
@@ -118,6 +119,7 @@ arm_fine p {g = g} hq hr = correct_as (correct_bind (top_now p) (λ i. correct_b
       arm = record { pat = row.one; guard = v.one; expr = s.one };
       is = v.second.is;
       pattern = row.first.is;
+      unmade = written_is_unmade p;
       guard = rw v.second.still (guard_within final ps g v.one (omega arith) (omega arith) v.first);
       body = rw v.second.still (goes_within (omega arith) s.first);
     })
@@ -151,15 +153,14 @@ module _ (labels nodes : ℕ) (final : Stored) (ps : List Frame) where
 
 module _ {labels nodes : ℕ} {final : Stored} {ps : List Frame} where
   arms_go : {x : Walk Value} {y : ArmsWalk} {arms : List MatchArm} (d : PatData) (g : Option (Walk Value)) (a : MatchArm)
-      → pat_in final a.pat ≡ d → GuardIs labels nodes final ps g a.guard → Goes labels nodes one x final ps a.expr
+      → pat_in final a.pat ≡ d → Unmade d → GuardIs labels nodes final ps g a.guard → Goes labels nodes one x final ps a.expr
       → ArmsGo labels nodes y final ps arms → ArmsGo labels nodes (arm_walk d g x y) final ps (a ∷ arms)
-  arms_go {x = x} {y = y} {arms = arms} d g a is h k l =
-      subst (λ z. ArmsGo labels nodes (arm_walk z g x y) final ps (a ∷ arms)) is (record {
-        same = λ turns n le f v site. same_bind (same_tests_pattern (pat_in final a.pat) v) (λ fits. same_if fits
-            (same_guarded labels nodes final ps turns n le f g a.guard site h (k.same turns n le f) (l.same turns n le f v site))
-            (l.same turns n le f v site));
-        jumps = λ n le. (guard_jumps labels nodes final ps n le g a.guard h, k.jumps n le, l.jumps n le);
-      })
+  arms_go {x = x} {y = y} {arms = arms} d g a is u h k l = record {
+    same = λ turns n le f v site. same_bind (fits_same final a.pat d is u v) (λ holds. same_if holds
+        (same_guarded labels nodes final ps turns n le f g a.guard site h (k.same turns n le f) (l.same turns n le f v site))
+        (l.same turns n le f v site));
+    jumps = λ n le. (guard_jumps labels nodes final ps n le g a.guard h, k.jumps n le, l.jumps n le);
+  }
 
 arms_within : {labels nodes labels' nodes' : ℕ} {y : ArmsWalk} {final : Stored} {ps : List Frame} {arms : List MatchArm}
     → labels' ≤ labels → nodes ≤ nodes' → ArmsGo labels nodes y final ps arms → ArmsGo labels' nodes' y final ps arms
@@ -187,8 +188,8 @@ arms_more {final = final} {ps = ps} {m = m} {m1 = m1} {m' = m'} {d = d} {g = g} 
     let q = subst (λ z. Pushed (push_some done z) (ArmsAre y) final ps m1 m' r) h.is p in record {
       new = h.arm ∷ q.new;
       is = pushed_one done h.arm q.new q.is;
-      rel = arms_go d g h.arm h.pattern (guard_to m.labels final ps g h.arm.guard (omega arith) h.guard) (goes_within (omega arith) h.body)
-          (arms_within (omega arith) (omega arith) q.rel);
+      rel = arms_go d g h.arm h.pattern h.unmade (guard_to m.labels final ps g h.arm.guard (omega arith) h.guard)
+          (goes_within (omega arith) h.body) (arms_within (omega arith) (omega arith) q.rel);
     }
   where
     guard_to : {nodes nodes' : ℕ} (labels : ℕ) (final : Stored) (ps : List Frame) (g : Option (Walk Value)) (o : Option ExprId)

@@ -16,61 +16,19 @@ use Rattle.hir_lower_form.specs.Ranges.{range_fields, end_operand, item_expr, ma
 use Rattle.hir_data.specs.Data.{item_path}
 use Rattle.hir_data.specs.Reading.{stored_path}
 use Rattle.hir_meaning.specs.Jumps.{EnclosedTo}
-use Rattle.hir_meaning.specs.Run.{Value, item, call, made_record, no_spread, leave, missing, Outcome, value, break, continue, World}
-use Rattle.hir_meaning.specs.Run.{after, pure, ends, ◌>>=◌, ask}
-use Rattle.hir_meaning.specs.Store.{StoreRun, JumpLabel}
+use Rattle.hir_meaning.specs.Run.{Value, item, call, made_record, no_spread, leave, missing}
+use Rattle.hir_meaning.specs.Run.{pure, ends, ◌>>=◌, ask}
+use Rattle.hir_meaning.specs.Store.{StoreRun}
 use Rattle.hir_meaning.specs.Store.{run_each as stored_each}
 use Rattle.hir_meaning.specs.Syntax.{SyntaxRun, run_expr, run_present, range_names, run_range}
 use Rattle.hir_scope.specs.Each.{Each}
-use Rattle.hir_scope.specs.Scopes.{Count}
 use Rattle.hir_steps.proofs.Frames.{Frame, scopes, Falls}
-use Rattle.hir_steps.proofs.Steps.{Mark, Rel, Correct, Allocated, correct_bind, correct_as, correct_alloc}
+use Rattle.hir_steps.proofs.Steps.{AllocatedBy, Mark, Put, Rel, Correct, Allocated, correct_bind, correct_as, correct_alloc}
 use Rattle.hir_same_meaning.proofs.Nodes
-use Rattle.hir_same_meaning.proofs.Relation.{Agrees, SameWhere, same_pure, same_bind, same_ask, same_stop}
+use Rattle.hir_same_meaning.proofs.Relation.{SameWhere, same_pure, same_bind, same_ask, same_stop}
+use Rattle.hir_same_meaning.proofs.Rows.{stored_pure, stored_row, written_pure, written_row, written_value}
 use Rattle.hir_same_meaning.proofs.Senses.{Walk, run_in, one, Goes, Runs, Wider, goes_within, goes_at}
 use Rattle.hir_same_meaning.proofs.Views.{numbers}
-
--- ---- steps in a row, however they are grouped
-
-module _ {A B C : Type 0} {ps : List Frame} where
-  pub stored_row : (m : StoreRun A) (f : A → StoreRun B) (g : B → StoreRun C) {n : SyntaxRun C}
-      → SameWhere ps (m >>= (λ a. f a >>= g)) n → SameWhere ps ((m >>= f) >>= g) n
-  unfolding ◌>>=◌
-  stored_row m f g {n = n} h = record { same = λ w. by (m w).0 (m w).1 (n w) (h.same w) }
-    where
-      by : (o : Outcome JumpLabel A) (w : World (Unit {0})) (r : Outcome Count C × World (Unit {0}))
-          → Agrees ps (after o w (λ a. f a >>= g)).0 (after o w (λ a. f a >>= g)).1 r.0 r.1
-          → Agrees ps (after (after o w f).0 (after o w f).1 g).0 (after (after o w f).0 (after o w f).1 g).1 r.0 r.1
-      by (value a) w r h = h
-      by (break j v) w r h = h
-      by (continue j) w r h = h
-      by (leave x) w r h = h
-
-  written_row : {m : StoreRun C} (n : SyntaxRun A) (f : A → SyntaxRun B) (g : B → SyntaxRun C)
-      → SameWhere ps m (n >>= (λ a. f a >>= g)) → SameWhere ps m ((n >>= f) >>= g)
-  unfolding ◌>>=◌
-  written_row {m = m} n f g h = record { same = λ w. by (n w).0 (n w).1 (m w) (h.same w) }
-    where
-      by : (o : Outcome Count A) (w : World (Unit {0})) (r : Outcome JumpLabel C × World (Unit {0}))
-          → Agrees ps r.0 r.1 (after o w (λ a. f a >>= g)).0 (after o w (λ a. f a >>= g)).1
-          → Agrees ps r.0 r.1 (after (after o w f).0 (after o w f).1 g).0 (after (after o w f).0 (after o w f).1 g).1
-      by (value a) w r h = h
-      by (break j v) w r h = h
-      by (continue j) w r h = h
-      by (leave x) w r h = h
-
-module _ {A B : Type 0} {ps : List Frame} where
-  pub stored_pure : {a : A} (f : A → StoreRun B) {n : SyntaxRun B} → SameWhere ps (f a) n → SameWhere ps (pure a >>= f) n
-  unfolding ends ◌>>=◌
-  stored_pure f h = record { same = λ w. h.same w }
-
-  written_pure : {a : A} {m : StoreRun B} (g : A → SyntaxRun B) → SameWhere ps m (g a) → SameWhere ps m (pure a >>= g)
-  unfolding ends ◌>>=◌
-  written_pure g h = record { same = λ w. h.same w }
-
-  written_value : {m : StoreRun B} (a : A) (g : A → SyntaxRun B) → SameWhere ps m (pure a >>= g) → SameWhere ps m (g a)
-  unfolding ends ◌>>=◌
-  written_value a g h = record { same = λ w. h.same w }
 
 -- ---- ends
 
@@ -150,12 +108,12 @@ fields_are last (Some s) (Some e) = refl
 
 -- ---- what it is made as
 
-item_is : (final : Stored) (i : LangItemId) → stored_path (store_of final) (map_of final) (LangItem i) ≡ item_path i
+pub item_is : (final : Stored) (i : LangItemId) → stored_path (store_of final) (map_of final) (LangItem i) ≡ item_path i
 unfolding stored_path
 item_is final i = refl
 
-pub goes_item : {labels : ℕ} {m m' : Mark} {final : Stored} {ps qs : List Frame} {i : ExprId} (item' : LangItemId)
-    → Allocated (item_expr (Some item')) None final qs m m' i
+pub goes_item : {labels : ℕ} {m m' : Mark} {final : Stored} {ps qs : List Frame} {i : ExprId} {put : Put} {source : Option Pointer}
+    (item' : LangItemId) → AllocatedBy put (item_expr (Some item')) source final qs m m' i
     → Goes labels m'.nodes one (λ turns ss. pure (item item')) final ps i
 goes_item {final = final} item' a = goes_at a (λ turns d le f. rw (item_is final item') (same_pure (item item'))) (λ d le. tt)
 

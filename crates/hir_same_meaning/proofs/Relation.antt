@@ -5,6 +5,7 @@ use Rattle.hir_base.specs.declared.op.LogicOp.{LogicOp}
 use Rattle.hir_base.specs.declared.op.LogicOp.TheVariants as logic
 use Rattle.hir_store.specs.declared.ids.BlockId.{BlockId}
 use Rattle.hir_store.specs.declared.ids.HygieneId.{HygieneId}
+use Rattle.hir_store.specs.declared.ids.LabelId.{LabelId}
 use Rattle.hir_env.specs.NodeMap.{Site}
 use Rattle.hir_data.specs.Data.{PathData, path_data, item_path, OptionTypeData, PatData, pattern_site}
 use Rattle.hir_meaning.specs.Run.{Value, answered, unit, truth, Operation, enter, tuple, Test, test, Outcome, value, break, continue}
@@ -13,20 +14,25 @@ use Rattle.hir_meaning.specs.Run.{item, read, matches, bound, assigned, tests_pa
 use Rattle.hir_meaning.specs.Catching.{Step, again, done, Outward, turn, turn_end, goes_on, loop, block, block_end}
 use Rattle.hir_scope.specs.Scopes.{Count, outward, continue_past_block}
 use Rattle.hir_meaning.specs.Syntax.{SyntaxRun}
-use Rattle.hir_meaning.specs.Store.{JumpLabel, StoreRun, past_loop, past_block}
-use Rattle.hir_steps.proofs.Frames.{Frame, block_at}
-use Rattle.hir_same_meaning.proofs.Views.{Numbered, number, view, view_step, turn_ends, block_ends, plain_block_ends, loop_frame}
+use Rattle.hir_meaning.specs.Store.{JumpLabel, RunTable, StoreRun, past_loop, past_block}
+use Rattle.hir_steps.proofs.Frames.{Frame, block_at, try_at}
+use Rattle.hir_same_meaning.proofs.Views.{Numbered, number, view, view_step, turn_ends, block_ends, plain_block_ends}
+use Rattle.hir_same_meaning.proofs.Views.{loop_frame, try_ends}
 
-pub record Agrees {A : Type 0} (ps : List Frame) (o : Outcome JumpLabel A) (w : World (Unit {0}))
+-- without the values of names that lowering made up
+abbrev pub bare : World RunTable → World (Unit {0})
+bare w = record { answers = w.answers; events = w.events; table = tt }
+
+pub record Agrees {A : Type 0} (ps : List Frame) (o : Outcome JumpLabel A) (w : World RunTable)
     (o' : Outcome Count A) (w' : World (Unit {0})) : Type 0 where
   pub outcome : view ps o ≡ o'
-  pub world : w ≡ w'
+  pub world : bare w ≡ w'
 
--- from each world the same, with jumps by number read as jumps by scope
+-- from each world the same, whatever made names stand for there, with jumps by number read as jumps by scope
 pub record SameWhere {A : Type 0} (ps : List Frame) (m : StoreRun A) (n : SyntaxRun A) : Type 0 where
-  pub same : (w : World (Unit {0})) → Agrees ps (m w).0 (m w).1 (n w).0 (n w).1
+  pub same : (w : World RunTable) → Agrees ps (m w).0 (m w).1 (n (bare w)).0 (n (bare w)).1
 
-agrees_as : {A S : Type 0} {ps : List Frame} {o : Outcome JumpLabel A} {w : World (Unit {0})}
+pub agrees_as : {A S : Type 0} {ps : List Frame} {o : Outcome JumpLabel A} {w : World RunTable}
     (k : S → World (Unit {0}) → Outcome Count A × World (Unit {0}))
     {s s' : S} {v v' : World (Unit {0})}
     → s ≡ s' → v ≡ v' → Agrees ps o w (k s v).0 (k s v).1 → Agrees ps o w (k s' v').0 (k s' v').1
@@ -56,8 +62,8 @@ module _ {ps : List Frame} where
   same_event o vs site = record { same = λ w. record { outcome = refl; world = refl } }
 
   after_same : {A B : Type 0} {f : A → StoreRun B} {g : A → SyntaxRun B} → ((a : A) → SameWhere ps (f a) (g a))
-      → (o : Outcome JumpLabel A) (w : World (Unit {0}))
-      → Agrees ps (after o w f).0 (after o w f).1 (after (view ps o) w g).0 (after (view ps o) w g).1
+      → (o : Outcome JumpLabel A) (w : World RunTable)
+      → Agrees ps (after o w f).0 (after o w f).1 (after (view ps o) (bare w) g).0 (after (view ps o) (bare w) g).1
   after_same h (value a) w = (h a).same w
   after_same h (break j v) w = record { outcome = refl; world = refl }
   after_same h (continue j) w = record { outcome = refl; world = refl }
@@ -114,8 +120,8 @@ module _ {ps : List Frame} where
   same_lazily logic.Or true h = same_pure (truth true)
   same_lazily logic.Or false h = h
 
-  stopped : {A B : Type 0} (f : A → StoreRun B) (x : Leave) (o : Outcome JumpLabel A) (w w' : World (Unit {0})) → view ps o ≡ leave x
-      → w ≡ w' → Agrees ps (after o w f).0 (after o w f).1 (leave x) w'
+  stopped : {A B : Type 0} (f : A → StoreRun B) (x : Leave) (o : Outcome JumpLabel A) (w : World RunTable) (w' : World (Unit {0}))
+      → view ps o ≡ leave x → bare w ≡ w' → Agrees ps (after o w f).0 (after o w f).1 (leave x) w'
   stopped f x (value a) w w' e e' = absurd (subst is_leave (sym e) tt)
   stopped f x (break j v) w w' e e' = absurd (subst is_leave (sym e) tt)
   stopped f x (continue j) w w' e e' = absurd (subst is_leave (sym e) tt)
@@ -125,18 +131,19 @@ module _ {ps : List Frame} where
   pub same_stop : {A B : Type 0} (f : A → StoreRun B) (x : Leave) {m : StoreRun A} → SameWhere ps m (ends (leave x))
       → SameWhere ps (m >>= f) (ends (leave x))
   unfolding ends ◌>>=◌
-  same_stop f x {m = m} h = record { same = λ w. let a = h.same w in stopped f x (m w).0 (m w).1 w a.outcome a.world }
+  same_stop f x {m = m} h = record { same = λ w. let a = h.same w in stopped f x (m w).0 (m w).1 (bare w) a.outcome a.world }
 
 -- loops and blocks
 
-pub record TurnsAgree (ps : List Frame) (s : Step JumpLabel) (w : World (Unit {0})) (s' : Step Count) (w' : World (Unit {0})) : Type 0 where
+pub record TurnsAgree (ps : List Frame) (s : Step JumpLabel) (w : World RunTable) (s' : Step Count) (w' : World (Unit {0})) : Type 0 where
   pub step : view_step ps s ≡ s'
-  pub world : w ≡ w'
+  pub world : bare w ≡ w'
 
 -- the turns of a loop that catches what it is to catch
 pub record SameTurns (ps : List Frame) (leaves : Outward JumpLabel) (m : StoreRun (Option Value))
     (n : SyntaxRun (Option Value)) : Type 0 where
-  pub same : (w : World (Unit {0})) → TurnsAgree ps (turn_end leaves (m w).0) (m w).1 (turn_end outward (n w).0) (n w).1
+  pub same : (w : World RunTable)
+      → TurnsAgree ps (turn_end leaves (m w).0) (m w).1 (turn_end outward (n (bare w)).0) (n (bare w)).1
 
 -- To a loop a turn that runs the one is the other.
 pub record TurnsAlike (m : SyntaxRun Value) (n : SyntaxRun (Option Value)) : Type 0 where
@@ -156,11 +163,11 @@ module _ {ps : List Frame} where
   pub same_turns_as : {leaves : Outward JumpLabel} {m : StoreRun (Option Value)} {n : SyntaxRun Value} {n' : SyntaxRun (Option Value)}
       → TurnsAlike n n' → SameTurns ps leaves m (turn n) → SameTurns ps leaves m n'
   same_turns_as alike h = record {
-    same = λ w. let a = h.same w in record { step = a.step ∙ alike.steps w; world = a.world ∙ alike.worlds w };
+    same = λ w. let a = h.same w in record { step = a.step ∙ alike.steps (bare w); world = a.world ∙ alike.worlds (bare w) };
   }
 
-  goes_same : {f : StoreRun Value} {g : SyntaxRun Value} → SameWhere ps f g → (s : Step JumpLabel) (w : World (Unit {0}))
-      → Agrees ps (goes_on f s w).0 (goes_on f s w).1 (goes_on g (view_step ps s) w).0 (goes_on g (view_step ps s) w).1
+  goes_same : {f : StoreRun Value} {g : SyntaxRun Value} → SameWhere ps f g → (s : Step JumpLabel) (w : World RunTable)
+      → let r = goes_on g (view_step ps s) (bare w) in Agrees ps (goes_on f s w).0 (goes_on f s w).1 r.0 r.1
   goes_same h again w = h.same w
   goes_same h (done o) w = record { outcome = refl; world = refl }
 
@@ -180,6 +187,16 @@ module _ {ps : List Frame} where
   same_block n {m = m} h = record {
     same = λ w. let a = h.same w in record {
       outcome = block_ends n ps (m w).0 ∙ ap (block_end outward continue_past_block) a.outcome;
+      world = a.world;
+    };
+  }
+
+  pub same_try : (n : LabelId) (typed : Bool) {m : StoreRun Value} {m' : SyntaxRun Value} → SameWhere (try_at n typed ∷ ps) m m'
+      → SameWhere ps (block (past_block (Some n)) (λ j. j) m) (block outward continue_past_block m')
+  unfolding block
+  same_try n typed {m = m} h = record {
+    same = λ w. let a = h.same w in record {
+      outcome = try_ends n typed ps (m w).0 ∙ ap (block_end outward continue_past_block) a.outcome;
       world = a.world;
     };
   }

@@ -6,6 +6,7 @@ use Rattle.hir_store.specs.declared.hir.Expr.{Expr}
 use Rattle.hir_store.specs.declared.hir.Statement.{Statement}
 use Rattle.hir_store.specs.declared.hir.RecordSpread.{RecordSpread}
 use Rattle.hir_store.specs.declared.ids.ExprId.{ExprId}
+use Rattle.hir_store.specs.declared.ids.LabelId.{LabelId}
 use Rattle.hir_env.specs.NodeMap.{Site}
 use Rattle.hir_env.specs.Answering.{site_of}
 use Rattle.hir_meaning.specs.Run.{Value}
@@ -15,7 +16,7 @@ use Rattle.hir_meaning.specs.Store.{StoreRun, run_or_unit, run_each, run_others,
 use Rattle.hir_scope.specs.Each.{Each, IfPresent}
 use Rattle.hir_meaning.specs.Jumps.{EachStatement, OthersEnclosed, StoredEnclosed, EnclosedTo}
 use Rattle.hir_steps.proofs.Frames.{Frame, scopes, Falls, falls_more}
-use Rattle.hir_steps.proofs.Steps.{Mark, Rel, Allocated}
+use Rattle.hir_steps.proofs.Steps.{Mark, Rel, AllocatedBy, Put}
 use Rattle.hir_same_meaning.proofs.Views.{numbers}
 use Rattle.hir_same_meaning.proofs.Relation.{SameWhere}
 
@@ -78,9 +79,18 @@ goes_within {labels = labels} {labels' = labels'} {ps = ps} wide h = record {
   jumps = λ d le. h.jumps d (omega arith);
 }
 
+-- where its parts' jumps are for what encloses them
+pub enclosed_at : {m m' : Mark} {e : Expr} {source : Option Pointer} {final : Stored} {qs : List Frame} {i : ExprId} {put : Put}
+    → AllocatedBy put e source final qs m m' i → (ls : List LabelId)
+    → ((d : ℕ) → m.nodes ≤ d → StoredEnclosed (store_of final) (EnclosedTo (store_of final) d) ls e)
+    → (d : ℕ) → m'.nodes ≤ d → EnclosedTo (store_of final) d ls i
+unfolding EnclosedTo
+enclosed_at at ls jumps zero le = tt
+enclosed_at at ls jumps (suc d) le = rw (at.number, at.here) (jumps d (omega (arith, at.next)))
+
 -- an expression that was stored under the number from
 pub goes_at : {labels : ℕ} {m m' : Mark} {e : Expr} {source : Option Pointer} {x : Walk Value} {final : Stored} {ps qs : List Frame}
-    {i : ExprId} → Allocated e source final qs m m' i
+    {i : ExprId} {put : Put} → AllocatedBy put e source final qs m m' i
     → ((turns d : ℕ) → m.nodes ≤ d → Falls labels ps
     → SameWhere ps (node_in final d turns e (option_map site_of source)) (x turns (scopes ps)))
     → ((d : ℕ) → m.nodes ≤ d → StoredEnclosed (store_of final) (EnclosedTo (store_of final) d) (numbers ps) e)

@@ -1,12 +1,15 @@
 -- The number that lowering gives a jump stands for the target that the jump has as it is written.
-use Rattle.std.proofs.Common.{◌≡◌, inl, inr, ℕ, ◌<◌, ◌≤◌, false, true, nat_eq, List, [], ◌∷◌, Option, Some, None, refl, sym, ap, ◌∙◌, arith}
+use Rattle.std.proofs.Common.{◌≡◌, inl, inr, ℕ, ◌<◌, ◌≤◌, Bool, false, true, nat_eq, List, [], ◌∷◌, Option, Some, None, refl, sym, ap}
+use Rattle.std.proofs.Common.{◌∙◌, arith}
 use Rattle.std.proofs.lemmas.Bool.Decides.{nat_tests}
 use Rattle.hir_store.specs.declared.ids.LabelId.{LabelId}
 use Rattle.hir_store.specs.declared.ids.MacroDefId.{MacroDefId}
 use Rattle.hir_env.specs.Answered.{Label, Jump}
-use Rattle.hir_scope.specs.Ribs.{Rib, label_rib, macro_rib, barrier_rib, Target, reachable, unreachable, undeclared, target}
+use Rattle.hir_scope.specs.Ribs.{Rib, label_rib, try_rib, macro_rib, barrier_rib, Target, reachable, unreachable, undeclared, target}
+use Rattle.hir_scope.specs.Ribs.{Try, innermost_try_rib}
 use Rattle.hir_scope.specs.Ribs.{number_found, jump_number, map_ribs, map_target}
 use Rattle.hir_scope.specs.Scopes.{further, Bearer, a_loop, a_block, one_out, ribs as scope_ribs, innermost_loop}
+use Rattle.hir_scope.specs.Scopes.{further_try, innermost_try}
 use Rattle.hir_scope.specs.Scopes.{break_found, continue_found, break_target, continue_target}
 use Rattle.hir_scope.proofs.Ribs.{target_map, InReach, IfFound, target_in_reach, in_reach_map, map_ribs_twice}
 use Rattle.hir_scope.proofs.Within.{within, target_within}
@@ -22,7 +25,7 @@ plain_target [] = (refl, refl)
 plain_target (plain_loop ∷ ps) = (refl, refl)
 plain_target (loop_at l n ∷ ps) = (refl, refl)
 plain_target (block_at l n ∷ ps) = (ap further (plain_target ps).0, ap further (plain_target ps).1)
-plain_target (try_at n ∷ ps) = (ap further (plain_target ps).0, ap further (plain_target ps).1)
+plain_target (try_at n typed ∷ ps) = (ap further (plain_target ps).0, ap further (plain_target ps).1)
 plain_target (macro_at d ∷ ps) = plain_target ps
 plain_target (barrier_at ∷ ps) = (refl, refl)
 
@@ -44,7 +47,7 @@ none_left (block_at l n ∷ ps) b k f le =
     let lt : n.0 < b = f.0 in
     let le' : n.0 ≤ k.0 = omega arith in
     ap further (none_left ps n.0 k f.1 le')
-none_left (try_at n ∷ ps) b k f le =
+none_left (try_at n typed ∷ ps) b k f le =
     let lt : n.0 < b = f.0 in
     let le' : n.0 ≤ k.0 = omega arith in
     ap further (none_left ps n.0 k f.1 le')
@@ -70,7 +73,7 @@ reach [] = []
 reach (plain_loop ∷ ps) = map_ribs outer (reach ps)
 reach (loop_at l n ∷ ps) = label_rib l.name l.hygiene (n, a_loop 0) ∷ map_ribs outer (reach ps)
 reach (block_at l n ∷ ps) = label_rib l.name l.hygiene (n, a_block 0) ∷ map_ribs outer (reach ps)
-reach (try_at n ∷ ps) = map_ribs outer (reach ps)
+reach (try_at n typed ∷ ps) = try_rib (n, a_block 0) typed ∷ map_ribs outer (reach ps)
 reach (macro_at d ∷ ps) = macro_rib d ∷ reach ps
 reach (barrier_at ∷ ps) = []
 
@@ -84,7 +87,7 @@ ribs_reach [] = refl
 ribs_reach (plain_loop ∷ ps) = same_numbers (ribs ps) (reach ps) (ribs_reach ps)
 ribs_reach (loop_at l n ∷ ps) = ap (λ x. rib l n ∷ x) (same_numbers (ribs ps) (reach ps) (ribs_reach ps))
 ribs_reach (block_at l n ∷ ps) = ap (λ x. rib l n ∷ x) (same_numbers (ribs ps) (reach ps) (ribs_reach ps))
-ribs_reach (try_at n ∷ ps) = same_numbers (ribs ps) (reach ps) (ribs_reach ps)
+ribs_reach (try_at n typed ∷ ps) = ap (λ x. try_rib n typed ∷ x) (same_numbers (ribs ps) (reach ps) (ribs_reach ps))
 ribs_reach (macro_at d ∷ ps) = ap (λ x. macro_rib d ∷ x) (ribs_reach ps)
 ribs_reach (barrier_at ∷ ps) = refl
 
@@ -100,7 +103,8 @@ scopes_reach (loop_at l n ∷ ps) =
     ap (λ x. label_rib l.name l.hygiene (a_loop 0) ∷ x) (farther (scope_ribs (scopes ps)) (reach ps) (scopes_reach ps))
 scopes_reach (block_at l n ∷ ps) =
     ap (λ x. label_rib l.name l.hygiene (a_block 0) ∷ x) (farther (scope_ribs (scopes ps)) (reach ps) (scopes_reach ps))
-scopes_reach (try_at n ∷ ps) = farther (scope_ribs (scopes ps)) (reach ps) (scopes_reach ps)
+scopes_reach (try_at n typed ∷ ps) =
+    ap (λ x. try_rib (a_block 0) typed ∷ x) (farther (scope_ribs (scopes ps)) (reach ps) (scopes_reach ps))
 scopes_reach (macro_at d ∷ ps) = ap (λ x. macro_rib d ∷ x) (scopes_reach ps)
 scopes_reach (barrier_at ∷ ps) = refl
 
@@ -140,10 +144,11 @@ out_of_block_at b l m ps lt (n, a_loop k) h =
 out_of_block_at b l m ps lt (n, a_block k) h =
     let n_lt : n.0 < m.0 = h.0 in let ne = differs m n h.0 in (omega arith, rw ne (ap further h.1), ap further h.2)
 
-out_of_try_at : (b : ℕ) (m : LabelId) (ps : List Frame) → m.0 < b → (x : Reached) → Right m.0 ps x → Right b (try_at m ∷ ps) (outer x)
-out_of_try_at b m ps lt (n, a_loop k) h =
+out_of_try_at : (b : ℕ) (m : LabelId) (typed : Bool) (ps : List Frame) → m.0 < b → (x : Reached) → Right m.0 ps x
+    → Right b (try_at m typed ∷ ps) (outer x)
+out_of_try_at b m typed ps lt (n, a_loop k) h =
     let n_lt : n.0 < m.0 = h.0 in let ne = differs m n h.0 in (omega arith, rw ne (ap further h.1), ap further h.2)
-out_of_try_at b m ps lt (n, a_block k) h =
+out_of_try_at b m typed ps lt (n, a_block k) h =
     let n_lt : n.0 < m.0 = h.0 in let ne = differs m n h.0 in (omega arith, rw ne (ap further h.1), ap further h.2)
 
 past_macro_at : (b : ℕ) (d : MacroDefId) (ps : List Frame) (x : Reached) → Right b ps x → Right b (macro_at d ∷ ps) x
@@ -156,6 +161,7 @@ itself x = x
 map_itself : (rs : List (Rib Reached)) → map_ribs itself rs ≡ rs
 map_itself [] = refl
 map_itself (label_rib n h a ∷ rs) = ap (λ x. label_rib n h a ∷ x) (map_itself rs)
+map_itself (try_rib a typed ∷ rs) = ap (λ x. try_rib a typed ∷ x) (map_itself rs)
 map_itself (macro_rib d ∷ rs) = ap (λ x. macro_rib d ∷ x) (map_itself rs)
 map_itself (barrier_rib ∷ rs) = ap (λ x. barrier_rib ∷ x) (map_itself rs)
 
@@ -171,8 +177,10 @@ all_right (block_at l n ∷ ps) b f = let e = is_same n in let le : n.0 ≤ n.0 
   (f.0, rw e refl, ap further (none_left ps n.0 n f.1 le)),
   in_reach_map outer (Right n.0 ps) (Right b (block_at l n ∷ ps)) (reach ps) (out_of_block_at b l n ps f.0) (all_right ps n.0 f.1),
 )
-all_right (try_at n ∷ ps) b f =
-    in_reach_map outer (Right n.0 ps) (Right b (try_at n ∷ ps)) (reach ps) (out_of_try_at b n ps f.0) (all_right ps n.0 f.1)
+all_right (try_at n typed ∷ ps) b f = let e = is_same n in let le : n.0 ≤ n.0 = omega arith in (
+  (f.0, rw e refl, ap further (none_left ps n.0 n f.1 le)),
+  in_reach_map outer (Right n.0 ps) (Right b (try_at n typed ∷ ps)) (reach ps) (out_of_try_at b n typed ps f.0) (all_right ps n.0 f.1),
+)
 all_right (macro_at d ∷ ps) b f =
     rw (← map_itself (reach ps))
     (in_reach_map itself (Right b ps) (Right b (macro_at d ∷ ps)) (reach ps) (past_macro_at b d ps) (all_right ps b f))
@@ -225,8 +233,10 @@ all_among (block_at l n ∷ ps) = (
   inl refl,
   in_reach_map outer (NumberAmong (numbers ps)) (NumberAmong (n ∷ numbers ps)) (reach ps) (further_out n (numbers ps)) (all_among ps),
 )
-all_among (try_at n ∷ ps) =
-    in_reach_map outer (NumberAmong (numbers ps)) (NumberAmong (n ∷ numbers ps)) (reach ps) (further_out n (numbers ps)) (all_among ps)
+all_among (try_at n typed ∷ ps) = (
+  inl refl,
+  in_reach_map outer (NumberAmong (numbers ps)) (NumberAmong (n ∷ numbers ps)) (reach ps) (further_out n (numbers ps)) (all_among ps),
+)
 all_among (macro_at d ∷ ps) = all_among ps
 all_among (barrier_at ∷ ps) = tt
 
@@ -241,3 +251,71 @@ among ps None = tt
 among ps (Some j) =
     rw (joined ps j).number (found_among (numbers ps) (target j (reach ps))
     (target_in_reach (NumberAmong (numbers ps)) j (reach ps) (all_among ps)))
+
+-- the innermost `try`
+
+-- What lowering knows of one, and what the syntax does: it has a number below b, for which a break leaves as many scopes.
+abbrev pub OneTry : ℕ → List Frame → Option (Try LabelId) → Option (Try ℕ) → Type 0
+OneTry b ps None None = Unit {0}
+OneTry b ps None (Some u) = ⊥
+OneTry b ps (Some t) None = ⊥
+OneTry b ps (Some t) (Some u) = (t.typed ≡ u.typed) × (t.place.0 < b) × (count_break ps (Some t.place) ≡ Some u.place)
+
+out_of_plain : (b : ℕ) (ps : List Frame) (t : Option (Try LabelId)) (u : Option (Try ℕ)) → OneTry b ps t u
+    → OneTry b (plain_loop ∷ ps) t (further_try u)
+out_of_plain b ps None None h = tt
+out_of_plain b ps None (Some u) h = absurd h
+out_of_plain b ps (Some t) None h = absurd h
+out_of_plain b ps (Some t) (Some u) h = (h.0, h.1, ap further h.2)
+
+out_of_loop_label : (b : ℕ) (l : Label) (n : LabelId) (ps : List Frame) → n.0 < b → (t : Option (Try LabelId)) (u : Option (Try ℕ))
+    → OneTry n.0 ps t u → OneTry b (loop_at l n ∷ ps) t (further_try u)
+out_of_loop_label b l n ps lt None None h = tt
+out_of_loop_label b l n ps lt None (Some u) h = absurd h
+out_of_loop_label b l n ps lt (Some t) None h = absurd h
+out_of_loop_label b l n ps lt (Some t) (Some u) h =
+    let below : t.place.0 < n.0 = h.1 in (h.0, omega arith, rw (differs n t.place h.1) (ap further h.2))
+
+out_of_block_label : (b : ℕ) (l : Label) (n : LabelId) (ps : List Frame) → n.0 < b → (t : Option (Try LabelId)) (u : Option (Try ℕ))
+    → OneTry n.0 ps t u → OneTry b (block_at l n ∷ ps) t (further_try u)
+out_of_block_label b l n ps lt None None h = tt
+out_of_block_label b l n ps lt None (Some u) h = absurd h
+out_of_block_label b l n ps lt (Some t) None h = absurd h
+out_of_block_label b l n ps lt (Some t) (Some u) h =
+    let below : t.place.0 < n.0 = h.1 in (h.0, omega arith, rw (differs n t.place h.1) (ap further h.2))
+
+past_macro_def : (b : ℕ) (d : MacroDefId) (ps : List Frame) (t : Option (Try LabelId)) (u : Option (Try ℕ)) → OneTry b ps t u
+    → OneTry b (macro_at d ∷ ps) t u
+past_macro_def b d ps None None h = tt
+past_macro_def b d ps None (Some u) h = absurd h
+past_macro_def b d ps (Some t) None h = absurd h
+past_macro_def b d ps (Some t) (Some u) h = h
+
+pub try_meets : (b : ℕ) (ps : List Frame) → Falls b ps → OneTry b ps (innermost_try_rib (ribs ps)) (innermost_try (scopes ps))
+try_meets b [] f = tt
+try_meets b (plain_loop ∷ ps) f = out_of_plain b ps (innermost_try_rib (ribs ps)) (innermost_try (scopes ps)) (try_meets b ps f)
+try_meets b (loop_at l n ∷ ps) f =
+    out_of_loop_label b l n ps f.0 (innermost_try_rib (ribs ps)) (innermost_try (scopes ps)) (try_meets n.0 ps f.1)
+try_meets b (block_at l n ∷ ps) f =
+    out_of_block_label b l n ps f.0 (innermost_try_rib (ribs ps)) (innermost_try (scopes ps)) (try_meets n.0 ps f.1)
+try_meets b (try_at n typed ∷ ps) f = (refl, f.0, rw (is_same n) refl)
+try_meets b (macro_at d ∷ ps) f = past_macro_def b d ps (innermost_try_rib (ribs ps)) (innermost_try (scopes ps)) (try_meets b ps f)
+try_meets b (barrier_at ∷ ps) f = tt
+
+-- the label of a `try` is one around it
+abbrev pub TryAmong : List LabelId → Option (Try LabelId) → Type 0
+TryAmong ls None = Unit {0}
+TryAmong ls (Some t) = Among ls t.place
+
+one_more_around : (n : LabelId) (ls : List LabelId) (t : Option (Try LabelId)) → TryAmong ls t → TryAmong (n ∷ ls) t
+one_more_around n ls None h = tt
+one_more_around n ls (Some t) h = inr h
+
+pub try_among : (ps : List Frame) → TryAmong (numbers ps) (innermost_try_rib (ribs ps))
+try_among [] = tt
+try_among (plain_loop ∷ ps) = try_among ps
+try_among (loop_at l n ∷ ps) = one_more_around n (numbers ps) (innermost_try_rib (ribs ps)) (try_among ps)
+try_among (block_at l n ∷ ps) = one_more_around n (numbers ps) (innermost_try_rib (ribs ps)) (try_among ps)
+try_among (try_at n typed ∷ ps) = inl refl
+try_among (macro_at d ∷ ps) = try_among ps
+try_among (barrier_at ∷ ps) = tt

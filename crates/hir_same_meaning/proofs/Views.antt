@@ -19,8 +19,8 @@ count_break (loop_at l n ∷ ps) None = Some 0
 count_break (loop_at l n ∷ ps) (Some k) = if nat_eq n.0 k.0 then Some 0 else further (count_break ps (Some k))
 count_break (block_at l n ∷ ps) None = further (count_break ps None)
 count_break (block_at l n ∷ ps) (Some k) = if nat_eq n.0 k.0 then Some 0 else further (count_break ps (Some k))
-count_break (try_at n ∷ ps) None = further (count_break ps None)
-count_break (try_at n ∷ ps) (Some k) = if nat_eq n.0 k.0 then Some 0 else further (count_break ps (Some k))
+count_break (try_at n typed ∷ ps) None = further (count_break ps None)
+count_break (try_at n typed ∷ ps) (Some k) = if nat_eq n.0 k.0 then Some 0 else further (count_break ps (Some k))
 count_break (macro_at d ∷ ps) j = count_break ps j
 count_break (barrier_at ∷ ps) j = None
 
@@ -31,7 +31,7 @@ count_continue (plain_loop ∷ ps) (Some k) = further (count_continue ps (Some k
 count_continue (loop_at l n ∷ ps) None = Some 0
 count_continue (loop_at l n ∷ ps) (Some k) = if nat_eq n.0 k.0 then Some 0 else further (count_continue ps (Some k))
 count_continue (block_at l n ∷ ps) j = further (count_continue ps j)
-count_continue (try_at n ∷ ps) j = further (count_continue ps j)
+count_continue (try_at n typed ∷ ps) j = further (count_continue ps j)
 count_continue (macro_at d ∷ ps) j = count_continue ps j
 count_continue (barrier_at ∷ ps) j = None
 
@@ -148,6 +148,25 @@ block_ends n ps (break j v) =
 block_ends n ps (continue j) = ap continue (sym (past_further (count_continue ps j)))
 block_ends n ps (leave x) = refl
 
+-- a `try` is a block, whatever it is called
+try_break : (n : LabelId) (typed : Bool) (ps : List Frame) (j : JumpLabel)
+    → outward (count_break (try_at n typed ∷ ps) j) ≡ map_jump (count_break ps) (past_block (Some n) j)
+try_break n typed ps None = out_further (count_break ps None)
+try_break n typed ps (Some k) = split (nat_eq n.0 k.0)
+  where
+    split : (b : Bool)
+        → outward (if b then Some 0 else further (count_break ps (Some k))) ≡ map_jump (count_break ps) (if b then None else Some (Some k))
+    split true = refl
+    split false = out_further (count_break ps (Some k))
+
+pub try_ends : (n : LabelId) (typed : Bool) (ps : List Frame) (o : Outcome JumpLabel Value)
+    → view ps (block_end (past_block (Some n)) (λ j. j) o) ≡ block_end outward continue_past_block (view (try_at n typed ∷ ps) o)
+try_ends n typed ps (value v) = refl
+try_ends n typed ps (break j v) =
+    view_block_broken ps v (past_block (Some n) j) ∙ ap (λ i. broken v i value (λ o. o)) (sym (try_break n typed ps j))
+try_ends n typed ps (continue j) = ap continue (sym (past_further (count_continue ps j)))
+try_ends n typed ps (leave x) = refl
+
 -- A block without a label catches nothing.
 pub plain_block_ends : (o : Outcome JumpLabel Value) → block_end (past_block None) (λ j. j) o ≡ o
 plain_block_ends (value v) = refl
@@ -164,7 +183,7 @@ numbers [] = []
 numbers (plain_loop ∷ ps) = numbers ps
 numbers (loop_at l n ∷ ps) = n ∷ numbers ps
 numbers (block_at l n ∷ ps) = n ∷ numbers ps
-numbers (try_at n ∷ ps) = n ∷ numbers ps
+numbers (try_at n typed ∷ ps) = n ∷ numbers ps
 numbers (macro_at d ∷ ps) = numbers ps
 numbers (barrier_at ∷ ps) = []
 

@@ -121,6 +121,7 @@ pub record Constant (R : Rel ExprId) (final : Stored) (ps : List Frame) (m m' : 
   pub types : m'.types ≡ left.types
   pub lifetimes : m'.lifetimes ≡ left.lifetimes
   pub entries : m'.entries ≡ left.entries
+  pub names : m'.names ≡ left.names
   pub first : R final (barrier_at ∷ ps) m left c.expr
   pub stored : (m'.stored ≡ left.stored) ⊎ (m'.stored ≡ with_root c.expr left.stored)
 
@@ -136,6 +137,7 @@ correct_constant {R = R} h = correct_as (correct_behind (λ i. record { expr = i
       types = ap (λ k. k.4) n.counts_are;
       lifetimes = ap (λ k. k.5) n.counts_are;
       entries = ap (λ k. k.6) n.counts_are;
+      names = ap (λ k. k.7) n.counts_are;
       first = n.first;
       stored = n.stored;
     }))

@@ -3,8 +3,14 @@ pub mod Logic
 pub mod TypeSteps
 pub mod PatSteps
 pub mod Steps
+pub mod MadeSteps
 pub mod Constants
 pub mod Aside
+pub mod Apart
+pub mod ApartTypes
+pub mod ApartPats
+pub mod ApartForms
+pub mod ApartTree
 pub mod TypeAny
 pub mod PatAny
 pub mod Keeping

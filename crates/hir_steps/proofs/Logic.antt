@@ -13,7 +13,8 @@ use Rattle.hir_lower_form.specs.Lowering.{Checked, go_on, Lowering, ◌>>=◌, p
 use Rattle.hir_steps.specs.Keeps.{Paired, Mapped, KeepsAll}
 use Rattle.hir_steps.proofs.Frames.{Frame, ribs}
 
--- how far it has come: how many there are of each kind, how many types and patterns together, and all that is stored
+-- how far it has come: how many there are of each kind, how many types and patterns together, how many names are
+-- made up, and all that is stored
 pub record Mark : Type 0 where
   pub nodes : ℕ
   pub labels : ℕ
@@ -22,6 +23,7 @@ pub record Mark : Type 0 where
   pub types : ℕ
   pub lifetimes : ℕ
   pub entries : ℕ
+  pub names : ℕ
   pub stored : Stored
 
 abbrev pub mark : Builder → Mark
@@ -33,6 +35,7 @@ mark b = record {
   types = length b.stored.types.entries;
   lifetimes = length b.stored.lifetimes.entries;
   entries = length b.stored.types.entries + length b.stored.pats.entries;
+  names = b.names;
   stored = b.stored;
 }
 
@@ -44,6 +47,7 @@ pub record Grows (m m' : Mark) : Type 0 where
   pub types : m.types ≤ m'.types
   pub lifetimes : m.lifetimes ≤ m'.lifetimes
   pub entries : m.entries ≤ m'.entries
+  pub names : m.names ≤ m'.names
 
 -- of a final store, the frames around, the marks before and after, and what was answered
 abbrev pub Rel : Type 0 → Type 1
@@ -80,6 +84,7 @@ grows_trans g h = record {
   types = omega arith;
   lifetimes = omega arith;
   entries = omega arith;
+  names = omega arith;
 }
 
 pub grows_refl : (m : Mark) → Grows m m
@@ -91,14 +96,15 @@ grows_refl m = record {
   types = omega arith;
   lifetimes = omega arith;
   entries = omega arith;
+  names = omega arith;
 }
 
 -- what is counted
 abbrev pub Counts : Type 0
-Counts = ℕ × ℕ × ℕ × ℕ × ℕ × ℕ × ℕ
+Counts = ℕ × ℕ × ℕ × ℕ × ℕ × ℕ × ℕ × ℕ
 
 abbrev pub counts : Mark → Counts
-counts m = (m.nodes, m.labels, m.pats, m.bindings, m.types, m.lifetimes, m.entries)
+counts m = (m.nodes, m.labels, m.pats, m.bindings, m.types, m.lifetimes, m.entries, m.names)
 
 -- nothing that is counted is stored
 pub grows_still : (m m' : Mark) → counts m' ≡ counts m → Grows m m'
@@ -109,7 +115,8 @@ grows_still m m' e =
     let bindings = ap (λ c. c.3) e in
     let types = ap (λ c. c.4) e in
     let lifetimes = ap (λ c. c.5) e in
-    let entries = ap (λ c. c.6) e in record {
+    let entries = ap (λ c. c.6) e in
+    let names = ap (λ c. c.7) e in record {
       nodes = omega (arith, nodes);
       labels = omega (arith, labels);
       pats = omega (arith, pats);
@@ -117,6 +124,7 @@ grows_still m m' e =
       types = omega (arith, types);
       lifetimes = omega (arith, lifetimes);
       entries = omega (arith, entries);
+      names = omega (arith, names);
     }
 
 pub kept_still : (b : Builder) → KeepsAll b b

@@ -42,6 +42,7 @@ pub record AllocatedPat (p : Pat) (source : Option Pointer) (final : Stored) (ps
   pub types : m'.types ≡ m.types
   pub lifetimes : m'.lifetimes ≡ m.lifetimes
   pub last : m.pats ≡ length m.stored.pats.entries
+  pub names : m'.names ≡ m.names
   pub stored : m'.stored ≡ with_pat p source m.stored
 
 abbrev made_pat : Bool → Pat → Option Pointer → Sourced Pat PatId → Checked PatId × Sourced Pat PatId
@@ -98,6 +99,7 @@ correct_alloc_pat p source =
             types = omega arith;
             lifetimes = omega arith;
             entries = omega arith;
+            names = omega arith;
           };
           in_final = λ d pre. record {
             number = refl;
@@ -111,6 +113,7 @@ correct_alloc_pat p source =
             types = refl;
             lifetimes = refl;
             last = refl;
+            names = refl;
             stored = refl;
           };
         }
@@ -132,6 +135,7 @@ pub record AllocatedBinding (x : Binding) (final : Stored) (ps : List Frame) (m 
   pub types : m'.types ≡ m.types
   pub lifetimes : m'.lifetimes ≡ m.lifetimes
   pub last : m.bindings ≡ length m.stored.bindings.entries
+  pub names : m'.names ≡ m.names
   pub stored : m'.stored ≡ with_new_binding x m.stored
 
 map_more : {A B : Type 0} (g : A → B) (xs : List A) (x : A) → map g (xs ++ x ∷ []) ≡ map g xs ++ g x ∷ []
@@ -196,6 +200,7 @@ correct_alloc_binding x =
             types = omega arith;
             lifetimes = omega arith;
             entries = omega arith;
+            names = omega arith;
           };
           in_final = λ d pre. record {
             number = refl;
@@ -209,6 +214,7 @@ correct_alloc_binding x =
             types = refl;
             lifetimes = refl;
             last = refl;
+            names = refl;
             stored = refl;
           };
         }
@@ -270,7 +276,7 @@ problem_counts : (b : Builder) (id : BindingId) (problem : Option BindingProblem
 problem_counts b id problem =
     let m = mark b in
     let as_long = length_at id.0 (problem_set problem) b.stored.bindings.entries in
-    ap (λ n. (m.nodes, m.labels, m.pats, n, m.types, m.lifetimes, m.entries)) as_long
+    ap (λ n. (m.nodes, m.labels, m.pats, n, m.types, m.lifetimes, m.entries, m.names)) as_long
 
 pub correct_set_problem : (id : BindingId) (problem : Option BindingProblems)
     → Correct (set_problem id problem) (PatWrites (with_problem_of id problem))

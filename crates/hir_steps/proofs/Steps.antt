@@ -48,6 +48,7 @@ pub record Writes {A : Type 0} (a : A) (f : Stored → Stored) (final : Stored) 
   pub is : b ≡ a
   pub nodes : m'.nodes ≡ m.nodes
   pub labels : m'.labels ≡ m.labels
+  pub names : m'.names ≡ m.names
   pub stored : m'.stored ≡ f m.stored
 
 abbrev pub with_fault : ExpressionStoreDiagnostics → Stored → Stored
@@ -81,7 +82,7 @@ correct_report fault = record {
       stays = extends_report b.stored fault;
     };
     grows = grows_still _ _ refl;
-    in_final = λ d pre. record { is = refl; nodes = refl; labels = refl; stored = refl };
+    in_final = λ d pre. record { is = refl; nodes = refl; labels = refl; names = refl; stored = refl };
   };
 }
 
@@ -91,6 +92,7 @@ writes_nothing = correct_as (correct_pure tt)
       is = row.is;
       nodes = ap (λ x. x.nodes) row.still;
       labels = ap (λ x. x.labels) row.still;
+      names = ap (λ x. x.names) row.still;
       stored = ap (λ x. x.stored) row.still;
     })
 
@@ -113,7 +115,7 @@ correct_point node id = record {
       stays = extends_point b.stored node id;
     };
     grows = grows_still _ _ refl;
-    in_final = λ d pre. record { is = refl; nodes = refl; labels = refl; stored = refl };
+    in_final = λ d pre. record { is = refl; nodes = refl; labels = refl; names = refl; stored = refl };
   };
 }
 
@@ -130,7 +132,7 @@ correct_point_field id node = record {
       stays = extends_field b.stored id node;
     };
     grows = grows_still _ _ refl;
-    in_final = λ d pre. record { is = refl; nodes = refl; labels = refl; stored = refl };
+    in_final = λ d pre. record { is = refl; nodes = refl; labels = refl; names = refl; stored = refl };
   };
 }
 
@@ -148,23 +150,32 @@ correct_enter_block (Some n) = record {
       stays = extends_block b.stored n;
     };
     grows = grows_still _ _ refl;
-    in_final = λ d pre. record { is = refl; nodes = refl; labels = refl; stored = refl };
+    in_final = λ d pre. record { is = refl; nodes = refl; labels = refl; names = refl; stored = refl };
   };
 }
 
 -- an expression
 
-abbrev pub with_expr : Expr → Option Pointer → Stored → Stored
+-- what an expression makes of what is stored
+abbrev pub Put : Type 0
+Put = Expr → Option Pointer → Stored → Stored
+
+abbrev pub with_expr : Put
 with_expr e source s = record s { exprs = with_entry expr_id s.exprs e source }
 
-pub record Allocated (e : Expr) (source : Option Pointer) (final : Stored) (ps : List Frame) (m m' : Mark) (i : ExprId) : Type 0 where
+pub record AllocatedBy (put : Put) (e : Expr) (source : Option Pointer) (final : Stored) (ps : List Frame) (m m' : Mark) (i : ExprId)
+    : Type 0 where
   pub number : i.0 ≡ m.nodes
   pub here : slice_get final.exprs.entries m.nodes ≡ Some e
   pub from : slice_get final.exprs.sources m.nodes ≡ Some source
   pub next : m'.nodes ≡ suc m.nodes
   pub labels : m'.labels ≡ m.labels
   pub last : m.nodes ≡ length m.stored.exprs.entries
-  pub stored : m'.stored ≡ with_expr e source m.stored
+  pub names : m'.names ≡ m.names
+  pub stored : m'.stored ≡ put e source m.stored
+
+abbrev pub Allocated : Expr → Option Pointer → Rel ExprId
+Allocated = AllocatedBy with_expr
 
 -- an entry more, where the limit allows one
 abbrev made_expr : Bool → Expr → Option Pointer → Sourced Expr ExprId → Checked ExprId × Sourced Expr ExprId
@@ -216,6 +227,7 @@ correct_alloc e source = record { holds = λ final ps b r. go final ps b (nat_lt
             types = omega arith;
             lifetimes = omega arith;
             entries = omega arith;
+            names = omega arith;
           };
           in_final = λ d pre. record {
             number = refl;
@@ -224,6 +236,7 @@ correct_alloc e source = record { holds = λ final ps b r. go final ps b (nat_lt
             next = omega arith;
             labels = refl;
             last = refl;
+            names = refl;
             stored = refl;
           };
         }
@@ -234,8 +247,8 @@ correct_alloc e source = record { holds = λ final ps b r. go final ps b (nat_lt
 abbrev pub with_label : Label → Stored → Stored
 with_label l s = record s { labels = with_entry label_id s.labels (record { name = l.name }) (Some l.pointer) }
 
--- Around the label, in the frame that it makes, and after it is closed.
-pub record Opened {A B : Type 0} (at : Label → LabelId → Frame) (l : Label) (R : LabelId → Rel A) (Q : LabelId → A → Rel B)
+-- Around the label, for which so many names are made up, in the frame that it makes, and after it is closed.
+pub record OpenedBy (made : ℕ) {A B : Type 0} (at : Label → LabelId → Frame) (l : Label) (R : LabelId → Rel A) (Q : LabelId → A → Rel B)
     (final : Stored) (ps : List Frame) (m m' : Mark) (b : B) : Type 0 where
   pub number : LabelId
   pub entered : Mark
@@ -248,6 +261,7 @@ pub record Opened {A B : Type 0} (at : Label → LabelId → Frame) (l : Label) 
   pub nodes : entered.nodes ≡ m.nodes
   pub types : entered.types ≡ m.types
   pub entries : entered.entries ≡ m.entries
+  pub names : entered.names ≡ m.names + made
   pub last : m.labels ≡ length m.stored.labels.entries
   pub stored : entered.stored ≡ with_label l m.stored
   pub before : Grows entered left
@@ -255,96 +269,95 @@ pub record Opened {A B : Type 0} (at : Label → LabelId → Frame) (l : Label) 
   pub first : R number final (at l number ∷ ps) entered left one
   pub second : Q number one final ps left m' b
 
--- what opening a label does
-record Opening (l : Label) (b : Builder) (n : LabelId) (b' : Builder) : Type 0 where
-  scopes : b'.scopes ≡ rib l n ∷ b.scopes
-  in_root : b'.in_root ≡ b.in_root
-  roots : b'.stored.roots ≡ b.stored.roots
-  paired : Paired b.stored → Paired b'.stored
-  mapped : Paired b.stored → Mapped b.stored → Mapped b'.stored
-  stays : Extends b.stored b'.stored
-  number : n.0 ≡ length b.stored.labels.entries
-  labels : length b'.stored.labels.entries ≡ suc (length b.stored.labels.entries)
-  nodes : length b'.stored.exprs.entries ≡ length b.stored.exprs.entries
-  pats : length b'.stored.pats.entries ≡ length b.stored.pats.entries
-  bindings : length b'.stored.bindings.entries ≡ length b.stored.bindings.entries
-  types : length b'.stored.types.entries ≡ length b.stored.types.entries
-  lifetimes : length b'.stored.lifetimes.entries ≡ length b.stored.lifetimes.entries
-  stored : b'.stored ≡ with_label l b.stored
-  here : (final : Stored) → Extends b'.stored final
+abbrev pub Opened : {A B : Type 0} → (Label → LabelId → Frame) → Label → (LabelId → Rel A) → (LabelId → A → Rel B) → Rel B
+Opened = OpenedBy 0
+
+-- what opening a label as this rib does
+pub record Opening (made : ℕ) (r : LabelId → Rib LabelId) (l : Label) (b : Builder) (n : LabelId) (b' : Builder) : Type 0 where
+  pub scopes : b'.scopes ≡ r n ∷ b.scopes
+  pub in_root : b'.in_root ≡ b.in_root
+  pub roots : b'.stored.roots ≡ b.stored.roots
+  pub paired : Paired b.stored → Paired b'.stored
+  pub mapped : Paired b.stored → Mapped b.stored → Mapped b'.stored
+  pub stays : Extends b.stored b'.stored
+  pub number : n.0 ≡ length b.stored.labels.entries
+  pub labels : length b'.stored.labels.entries ≡ suc (length b.stored.labels.entries)
+  pub names : b'.names ≡ b.names + made
+  pub stored : b'.stored ≡ with_label l b.stored
+  pub here : (final : Stored) → Extends b'.stored final
       → slice_get final.labels.entries (length b.stored.labels.entries) ≡ Some (record { name = l.name })
-  from : Paired b.stored → (final : Stored) → Extends b'.stored final
+  pub from : Paired b.stored → (final : Stored) → Extends b'.stored final
       → slice_get final.labels.sources (length b.stored.labels.entries) ≡ Some (Some l.pointer)
 
-abbrev Opens : Label → Builder → Checked LabelId → Builder → Type 0
-Opens l b (Ok n) b' = Opening l b n b'
-Opens l b (Err e) b' = Extends b.stored b'.stored
+abbrev pub Opens : ℕ → (LabelId → Rib LabelId) → Label → Builder → Checked LabelId → Builder → Type 0
+Opens made r l b (Ok n) b' = Opening made r l b n b'
+Opens made r l b (Err e) b' = Extends b.stored b'.stored
 
 abbrev made_label : Bool → HirLabel → Option Pointer → Sourced HirLabel LabelId → Checked LabelId × Sourced HirLabel LabelId
 made_label t l source a = if t then (Ok (label_id (length a.entries)), with_entry label_id a l source) else (Err Full, a)
 
 -- the label is stored, and then opened
-abbrev opening : Label → Bool → Builder → Checked LabelId × Builder
-opening l t b =
-    let r = made_label t (record { name = l.name }) (Some l.pointer) b.stored.labels in
-    go_on r.0 (record b { stored = record b.stored { labels = r.1 } }) (λ n b'. (Ok n, record b' { scopes = rib l n ∷ b'.scopes }))
+abbrev pub opening : (LabelId → Rib LabelId) → Label → Bool → Builder → Checked LabelId × Builder
+opening r l t b =
+    let made = made_label t (record { name = l.name }) (Some l.pointer) b.stored.labels in
+    go_on made.0 (record b { stored = record b.stored { labels = made.1 } }) (λ n b'. (Ok n, record b' { scopes = r n ∷ b'.scopes }))
 
-opens : (l : Label) (b : Builder) → Opens l b (open_label l b).0 (open_label l b).1
-unfolding open_label storing.alloc_label
-opens l b = go (nat_lt (length b.stored.labels.entries) b.stored.labels.limit)
-  where
-    go : (t : Bool) → Opens l b (opening l t b).0 (opening l t b).1
-    go true =
-        let s = b.stored in
-        let x : HirLabel = record { name = l.name } in
-        let xs = s.labels.entries in
-        let ss = s.labels.sources in
-        let grown = length-append xs (x ∷ []) in record {
-          scopes = refl;
-          in_root = refl;
-          roots = refl;
-          paired = λ d. record {
-            exprs = d.exprs;
-            labels = one_more xs x ss (Some l.pointer) d.labels;
-            pats = d.pats;
-            types = d.types;
-            lifetimes = d.lifetimes;
-          };
-          mapped = λ d w. record { pats = w.pats; types = w.types; lifetimes = w.lifetimes };
-          stays = record {
-            exprs = continues_refl s.exprs;
-            labels = continues_entry label_id s.labels x (Some l.pointer);
-            pats = continues_refl s.pats;
-            bindings = bindings_refl s.bindings;
-            types = continues_refl s.types;
-            lifetimes = continues_refl s.lifetimes;
-            roots = prefix_refl s.roots;
-            field_map_back = prefix_refl s.field_map_back;
-            pat_field_map_back = prefix_refl s.pat_field_map_back;
-            block_scopes = prefix_refl s.block_scopes;
-            diagnostics = prefix_refl s.diagnostics;
-          };
-          number = refl;
-          labels = omega arith;
-          nodes = refl;
-          pats = refl;
-          bindings = refl;
-          types = refl;
-          lifetimes = refl;
-          stored = refl;
-          here = λ final e. in_prefix xs x (length xs) refl e.labels.entries;
-          from = λ d final e. in_prefix ss (Some l.pointer) (length xs) (sym d.labels) e.labels.sources;
-        }
-    go false = extends_refl b.stored
+pub opens_as : (r : LabelId → Rib LabelId) (l : Label) (t : Bool) (b : Builder)
+    → Opens 0 r l b (opening r l t b).0 (opening r l t b).1
+opens_as r l true b =
+    let s = b.stored in
+    let x : HirLabel = record { name = l.name } in
+    let xs = s.labels.entries in
+    let ss = s.labels.sources in
+    let grown = length-append xs (x ∷ []) in record {
+      scopes = refl;
+      in_root = refl;
+      roots = refl;
+      paired = λ d. record {
+        exprs = d.exprs;
+        labels = one_more xs x ss (Some l.pointer) d.labels;
+        pats = d.pats;
+        types = d.types;
+        lifetimes = d.lifetimes;
+      };
+      mapped = λ d w. record { pats = w.pats; types = w.types; lifetimes = w.lifetimes };
+      stays = record {
+        exprs = continues_refl s.exprs;
+        labels = continues_entry label_id s.labels x (Some l.pointer);
+        pats = continues_refl s.pats;
+        bindings = bindings_refl s.bindings;
+        types = continues_refl s.types;
+        lifetimes = continues_refl s.lifetimes;
+        roots = prefix_refl s.roots;
+        field_map_back = prefix_refl s.field_map_back;
+        pat_field_map_back = prefix_refl s.pat_field_map_back;
+        block_scopes = prefix_refl s.block_scopes;
+        diagnostics = prefix_refl s.diagnostics;
+      };
+      number = refl;
+      labels = omega arith;
+      names = omega arith;
+      stored = refl;
+      here = λ final e. in_prefix xs x (length xs) refl e.labels.entries;
+      from = λ d final e. in_prefix ss (Some l.pointer) (length xs) (sym d.labels) e.labels.sources;
+    }
+opens_as r l false b = extends_refl b.stored
 
-pub correct_opened : {A B : Type 0} (at : Label → LabelId → Frame) (l : Label)
+-- where the label depends on how many names were made up before
+abbrev pub EnteredBy : ℕ → {A B : Type 0} → (Label → LabelId → Frame) → (ℕ → Label) → (LabelId → Rel A) → (LabelId → A → Rel B) → Rel B
+EnteredBy made at l R Q = λ final ps m m' b. OpenedBy made at (l m.names) R Q final ps m m' b
+
+-- A step opens a label of this number of names, in a frame that has its rib; in it runs one thing, and behind it another.
+pub correct_entered : {A B : Type 0} (made : ℕ) (opener : Lowering LabelId) (at : Label → LabelId → Frame) (r : LabelId → Rib LabelId)
+    (l : ℕ → Label)
     {p : LabelId → Lowering A} {R : LabelId → Rel A} {f : LabelId → A → Lowering B} {Q : LabelId → A → Rel B}
-    → ((n : LabelId) (ps : List Frame) → ribs (at l n ∷ ps) ≡ rib l n ∷ ribs ps)
+    → ((b : Builder) → Opens made r (l b.names) b (opener b).0 (opener b).1)
+    → ((k : ℕ) (n : LabelId) (ps : List Frame) → ribs (at (l k) n ∷ ps) ≡ r n ∷ ribs ps)
     → ((n : LabelId) → Correct (p n) (R n)) → ((n : LabelId) (a : A) → Correct (f n a) (Q n a))
-    → Correct (open_label l >>= (λ n. p n >>= (λ a. close >>= (λ _. f n a)))) (Opened at l R Q)
+    → Correct (opener >>= (λ n. p n >>= (λ a. close >>= (λ _. f n a)))) (EnteredBy made at l R Q)
 unfolding close
-correct_opened {A = A} {B = B} at l {p = p} {R = R} {f = f} {Q = Q} frame hp hf =
-    record { holds = λ final ps b r. first final ps b r (open_label l b).0 (open_label l b).1 (opens l b) }
+correct_entered {A = A} {B = B} made opener at r l {p = p} {R = R} {f = f} {Q = Q} opens frame hp hf =
+    record { holds = λ final ps b e. first final ps b e (opener b).0 (opener b).1 (opens b) }
   where
     closed : Builder → Builder
     closed b = record b { scopes = rest b.scopes }
@@ -352,74 +365,90 @@ correct_opened {A = A} {B = B} at l {p = p} {R = R} {f = f} {Q = Q} frame hp hf 
     inside : LabelId → Lowering B
     inside n = p n >>= (λ a t. f n a (closed t))
 
-    third : (final : Stored) (ps : List Frame) (b b1 b2 : Builder) (n : LabelId) (a : A) → Opening l b n b1
-        → Answers (R n) final (at l n ∷ ps) b1 b2 a
-        → (o : Checked B) (c : Builder) → Holds (Q n a) final ps (closed b2) o c → Holds (Opened at l R Q) final ps b o c
-    third final ps b b1 b2 n a h x (Ok e) c y = record {
-      kept = record {
-        scopes = y.kept.scopes ∙ ap rest (x.kept.scopes ∙ h.scopes);
-        in_root = y.kept.in_root ∙ (x.kept.in_root ∙ h.in_root);
-        roots = λ t. let u = h.in_root ∙ t in y.kept.roots (x.kept.in_root ∙ u) ∙ (x.kept.roots u ∙ h.roots);
-        paired = λ d. y.kept.paired (x.kept.paired (h.paired d));
-        mapped = λ d w. y.kept.mapped (x.kept.paired (h.paired d)) (x.kept.mapped (h.paired d) (h.mapped d w));
-        stays = extends_trans h.stays (extends_trans x.kept.stays y.kept.stays);
-      };
-      grows =
-          let g = x.grows in
-          let g' = y.grows in
-          let e' = h.labels in
-          let e'' = h.nodes in
-          let p = h.pats in
-          let k = h.bindings in
-          let t = h.types in
-          let f = h.lifetimes in record {
-            nodes = omega arith;
-            labels = omega arith;
-            pats = omega arith;
-            bindings = omega arith;
-            types = omega arith;
-            lifetimes = omega arith;
-            entries = omega arith;
+    third : (final : Stored) (ps : List Frame) (b b1 b2 : Builder) (n : LabelId) (a : A) → Opening made r (l b.names) b n b1
+        → Answers (R n) final (at (l b.names) n ∷ ps) b1 b2 a
+        → (o : Checked B) (c : Builder) → Holds (Q n a) final ps (closed b2) o c → Holds (EnteredBy made at l R Q) final ps b o c
+    third final ps b b1 b2 n a h x (Ok e) c y =
+        let nodes : length b1.stored.exprs.entries ≡ length b.stored.exprs.entries = ap (λ s. length s.exprs.entries) h.stored in
+        let pats : length b1.stored.pats.entries ≡ length b.stored.pats.entries = ap (λ s. length s.pats.entries) h.stored in
+        let bindings : length b1.stored.bindings.entries ≡ length b.stored.bindings.entries =
+        ap (λ s. length s.bindings.entries) h.stored in
+        let types : length b1.stored.types.entries ≡ length b.stored.types.entries = ap (λ s. length s.types.entries) h.stored in
+        let lifetimes : length b1.stored.lifetimes.entries ≡ length b.stored.lifetimes.entries =
+        ap (λ s. length s.lifetimes.entries) h.stored in record {
+          kept = record {
+            scopes = y.kept.scopes ∙ ap rest (x.kept.scopes ∙ h.scopes);
+            in_root = y.kept.in_root ∙ (x.kept.in_root ∙ h.in_root);
+            roots = λ t. let u = h.in_root ∙ t in y.kept.roots (x.kept.in_root ∙ u) ∙ (x.kept.roots u ∙ h.roots);
+            paired = λ d. y.kept.paired (x.kept.paired (h.paired d));
+            mapped = λ d w. y.kept.mapped (x.kept.paired (h.paired d)) (x.kept.mapped (h.paired d) (h.mapped d w));
+            stays = extends_trans h.stays (extends_trans x.kept.stays y.kept.stays);
           };
-      in_final = λ d pre.
-          let past : Extends b2.stored final = extends_trans y.kept.stays pre in
-          let open' : Extends b1.stored final = extends_trans x.kept.stays past in
-          record {
-            number = n;
-            entered = mark b1;
-            left = mark b2;
-            one = a;
-            new = h.number;
-            here = h.here final open';
-            from = h.from d final open';
-            labels = h.labels;
-            nodes = h.nodes;
-            types = h.types;
-            entries = let t = h.types in let p = h.pats in omega (arith, t, p);
-            last = refl;
-            stored = h.stored;
-            before = x.grows;
-            after = y.grows;
-            first = x.in_final (h.paired d) past;
-            second = y.in_final (x.kept.paired (h.paired d)) pre;
-          };
-    }
+          grows =
+              let g = x.grows in
+              let g' = y.grows in
+              let e' = h.labels in
+              let k = h.names in record {
+                nodes = omega arith;
+                labels = omega arith;
+                pats = omega arith;
+                bindings = omega arith;
+                types = omega arith;
+                lifetimes = omega arith;
+                entries = omega arith;
+                names = omega arith;
+              };
+          in_final = λ d pre.
+              let past : Extends b2.stored final = extends_trans y.kept.stays pre in
+              let opener' : Extends b1.stored final = extends_trans x.kept.stays past in record {
+                number = n;
+                entered = mark b1;
+                left = mark b2;
+                one = a;
+                new = h.number;
+                here = h.here final opener';
+                from = h.from d final opener';
+                labels = h.labels;
+                nodes = nodes;
+                types = types;
+                entries = omega (arith, types, pats);
+                names = h.names;
+                last = refl;
+                stored = h.stored;
+                before = x.grows;
+                after = y.grows;
+                first = x.in_final (h.paired d) past;
+                second = y.in_final (x.kept.paired (h.paired d)) pre;
+              };
+        }
     third final ps b b1 b2 n a h x (Err e) c y = extends_trans h.stays (extends_trans x.kept.stays y)
 
-    second : (final : Stored) (ps : List Frame) (b b1 : Builder) (n : LabelId) → b.scopes ≡ ribs ps → Opening l b n b1
-        → (o : Checked A) (c : Builder) → Holds (R n) final (at l n ∷ ps) b1 o c
-        → Holds (Opened at l R Q) final ps b (go_on o c (λ a t. f n a (closed t))).0 (go_on o c (λ a t. f n a (closed t))).1
-    second final ps b b1 n r h (Ok a) c x =
-        let out : (closed c).scopes ≡ ribs ps = ap rest (x.kept.scopes ∙ h.scopes) ∙ r in
+    second : (final : Stored) (ps : List Frame) (b b1 : Builder) (n : LabelId) → b.scopes ≡ ribs ps → Opening made r (l b.names) b n b1
+        → (o : Checked A) (c : Builder) → Holds (R n) final (at (l b.names) n ∷ ps) b1 o c
+        → let r = go_on o c (λ a t. f n a (closed t)) in Holds (EnteredBy made at l R Q) final ps b r.0 r.1
+    second final ps b b1 n e h (Ok a) c x =
+        let out : (closed c).scopes ≡ ribs ps = ap rest (x.kept.scopes ∙ h.scopes) ∙ e in
         third final ps b b1 c n a h x (f n a (closed c)).0 (f n a (closed c)).1 ((hf n a).holds final ps (closed c) out)
-    second final ps b b1 n r h (Err e) c x = extends_trans h.stays x
+    second final ps b b1 n e h (Err u) c x = extends_trans h.stays x
 
-    first : (final : Stored) (ps : List Frame) (b : Builder) → b.scopes ≡ ribs ps → (o : Checked LabelId) (c : Builder) → Opens l b o c
-        → Holds (Opened at l R Q) final ps b (go_on o c inside).0 (go_on o c inside).1
-    first final ps b r (Ok n) c h =
-        let in' : c.scopes ≡ ribs (at l n ∷ ps) = h.scopes ∙ (ap (λ rs. rib l n ∷ rs) r ∙ sym (frame n ps)) in
-        second final ps b c n r h (p n c).0 (p n c).1 ((hp n).holds final (at l n ∷ ps) c in')
-    first final ps b r (Err e) c h = h
+    first : (final : Stored) (ps : List Frame) (b : Builder) → b.scopes ≡ ribs ps → (o : Checked LabelId) (c : Builder)
+        → Opens made r (l b.names) b o c
+        → Holds (EnteredBy made at l R Q) final ps b (go_on o c inside).0 (go_on o c inside).1
+    first final ps b e (Ok n) c h =
+        let in' : c.scopes ≡ ribs (at (l b.names) n ∷ ps) = h.scopes ∙ (ap (λ rs. r n ∷ rs) e ∙ sym (frame b.names n ps)) in
+        second final ps b c n e h (p n c).0 (p n c).1 ((hp n).holds final (at (l b.names) n ∷ ps) c in')
+    first final ps b e (Err u) c h = h
+
+opens : (l : Label) (b : Builder) → Opens 0 (rib l) l b (open_label l b).0 (open_label l b).1
+unfolding open_label storing.alloc_label
+opens l b = opens_as (rib l) l (nat_lt (length b.stored.labels.entries) b.stored.labels.limit) b
+
+pub correct_opened : {A B : Type 0} (at : Label → LabelId → Frame) (l : Label)
+    {p : LabelId → Lowering A} {R : LabelId → Rel A} {f : LabelId → A → Lowering B} {Q : LabelId → A → Rel B}
+    → ((n : LabelId) (ps : List Frame) → ribs (at l n ∷ ps) ≡ rib l n ∷ ribs ps)
+    → ((n : LabelId) → Correct (p n) (R n)) → ((n : LabelId) (a : A) → Correct (f n a) (Q n a))
+    → Correct (open_label l >>= (λ n. p n >>= (λ a. close >>= (λ _. f n a)))) (Opened at l R Q)
+correct_opened at l frame hp hf = correct_entered 0 (open_label l) at (rib l) (λ k. l) (opens l) (λ k n ps. frame n ps) hp hf
 
 -- jumps
 
@@ -437,6 +466,7 @@ pub record Targeted (j : Option Jump) (final : Stored) (ps : List Frame) (m m' :
   pub is : n ≡ jump_number (ribs ps) j
   pub nodes : m'.nodes ≡ m.nodes
   pub labels : m'.labels ≡ m.labels
+  pub names : m'.names ≡ m.names
   pub stored : m'.stored ≡ with_jump j (ribs ps) m.stored
 
 pub correct_target : (j : Option Jump) → Correct (jump_target j) (Targeted j)
@@ -445,7 +475,7 @@ correct_target None = record {
   holds = λ final ps b r. record {
     kept = kept_still b;
     grows = grows_refl (mark b);
-    in_final = λ d pre. record { is = refl; nodes = refl; labels = refl; stored = refl };
+    in_final = λ d pre. record { is = refl; nodes = refl; labels = refl; names = refl; stored = refl };
   };
 }
 correct_target (Some j) = record { holds = λ final ps b r. go final ps b (target j b.scopes) (ap (λ rs. target j rs) r) }
@@ -455,7 +485,13 @@ correct_target (Some j) = record { holds = λ final ps b r. go final ps b (targe
     go final ps b (reachable n) e = record {
       kept = kept_still b;
       grows = grows_refl (mark b);
-      in_final = λ d pre. record { is = ap number_found e; nodes = refl; labels = refl; stored = ap (λ t. with_target j t b.stored) e };
+      in_final = λ d pre. record {
+        is = ap number_found e;
+        nodes = refl;
+        labels = refl;
+        names = refl;
+        stored = ap (λ t. with_target j t b.stored) e;
+      };
     }
     go final ps b unreachable e = record {
       kept = record {
@@ -467,7 +503,13 @@ correct_target (Some j) = record { holds = λ final ps b r. go final ps b (targe
         stays = extends_report b.stored (UnreachableLabel j.pointer j.name);
       };
       grows = grows_still _ _ refl;
-      in_final = λ d pre. record { is = ap number_found e; nodes = refl; labels = refl; stored = ap (λ t. with_target j t b.stored) e };
+      in_final = λ d pre. record {
+        is = ap number_found e;
+        nodes = refl;
+        labels = refl;
+        names = refl;
+        stored = ap (λ t. with_target j t b.stored) e;
+      };
     }
     go final ps b undeclared e = record {
       kept = record {
@@ -479,5 +521,11 @@ correct_target (Some j) = record { holds = λ final ps b r. go final ps b (targe
         stays = extends_report b.stored (UndeclaredLabel j.pointer j.name);
       };
       grows = grows_still _ _ refl;
-      in_final = λ d pre. record { is = ap number_found e; nodes = refl; labels = refl; stored = ap (λ t. with_target j t b.stored) e };
+      in_final = λ d pre. record {
+        is = ap number_found e;
+        nodes = refl;
+        labels = refl;
+        names = refl;
+        stored = ap (λ t. with_target j t b.stored) e;
+      };
     }

@@ -38,6 +38,7 @@ pub record AllocatedType (t : TypeRef) (source : Option Pointer) (final : Stored
   pub bindings : m'.bindings ≡ m.bindings
   pub lifetimes : m'.lifetimes ≡ m.lifetimes
   pub last : m.types ≡ length m.stored.types.entries
+  pub names : m'.names ≡ m.names
   pub stored : m'.stored ≡ with_type t source m.stored
 
 abbrev made_type : Bool → TypeRef → Option Pointer → Sourced TypeRef TypeRefId → Checked TypeRefId × Sourced TypeRef TypeRefId
@@ -94,6 +95,7 @@ correct_alloc_type t source =
             types = omega arith;
             lifetimes = omega arith;
             entries = omega arith;
+            names = omega arith;
           };
           in_final = λ d pre. record {
             number = refl;
@@ -107,6 +109,7 @@ correct_alloc_type t source =
             bindings = refl;
             lifetimes = refl;
             last = refl;
+            names = refl;
             stored = refl;
           };
         }
@@ -130,6 +133,7 @@ pub record AllocatedLifetime (l : LifetimeRef) (source : Option Pointer) (final 
   pub bindings : m'.bindings ≡ m.bindings
   pub types : m'.types ≡ m.types
   pub last : m.lifetimes ≡ length m.stored.lifetimes.entries
+  pub names : m'.names ≡ m.names
   pub stored : m'.stored ≡ with_lifetime l source m.stored
 
 abbrev made_lifetime : Bool → LifetimeRef → Option Pointer → Sourced LifetimeRef LifetimeRefId
@@ -187,6 +191,7 @@ correct_alloc_lifetime l source =
             types = omega arith;
             lifetimes = omega arith;
             entries = omega arith;
+            names = omega arith;
           };
           in_final = λ d pre. record {
             number = refl;
@@ -200,6 +205,7 @@ correct_alloc_lifetime l source =
             bindings = refl;
             types = refl;
             last = refl;
+            names = refl;
             stored = refl;
           };
         }

@@ -1,8 +1,13 @@
 -- What lowering leaves as it was.
-use Rattle.std.specs.Prelude.{◌≡◌, true, length, Option, Ok, Err}
+use Rattle.std.specs.Prelude.{◌≡◌, ◌≤◌, ◌+◌, ℕ, true, nat_eq, if◌then◌else◌, List, [], ◌∷◌, length, Option, Ok, Err}
 use Rattle.hir_store.specs.Arenas.{MapsBack}
 use Rattle.hir_store.specs.Stored.{Stored}
 use Rattle.hir_store.specs.Storing.{Checked, Extends}
+use Rattle.hir_store.specs.declared.hir.Label.{Label}
+use Rattle.hir_store.specs.declared.ids.ExprId.{ExprId}
+use Rattle.hir_store.specs.declared.name.Name.{Name}
+use Rattle.hir_store.specs.declared.name.Name.TheVariants as name
+use Rattle.hir_store.specs.declared.pat.Binding.{Binding}
 use Rattle.hir_env.specs.Answered.{Binder, OptionType, OptionPath, OptionExpr}
 use Rattle.hir_lower_form.specs.Builder.{Builder}
 use Rattle.hir_lower_form.specs.Lower.{type_part, lower_path, lower_part}
@@ -45,3 +50,32 @@ TypesKeep = (binder : Option Binder) (t : OptionType) (b : Builder) → Keeps b 
 
 abbrev pub PathsKeep : Type 0
 PathsKeep = (p : OptionPath) (b : Builder) → Keeps b (lower_path p b).0 (lower_path p b).1
+
+-- names that are made up
+
+-- how often the name is the made one of this number
+abbrev pub times_named : ℕ → Name → ℕ
+times_named k (name.Generated n) = if nat_eq n k then 1 else 0
+times_named k _ = 0
+
+abbrev pub times_bound : ℕ → List Binding → ℕ
+times_bound k [] = 0
+times_bound k (b ∷ bs) = times_named k b.name + times_bound k bs
+
+abbrev pub times_labelled : ℕ → List Label → ℕ
+times_labelled k [] = 0
+times_labelled k (l ∷ ls) = times_named k l.name + times_labelled k ls
+
+-- how often it stands in bindings and labels
+abbrev pub times_made : ℕ → Stored → ℕ
+times_made k s = times_bound k s.bindings.entries + times_labelled k s.labels.entries
+
+-- Where so many names are made up, each of them is the name of one binding or label at most, and no other made name is of any.
+pub record MadeApart (names : ℕ) (s : Stored) : Type 0 where
+  pub once : (k : ℕ) → times_made k s ≤ 1
+  pub later : (k : ℕ) → names ≤ k → times_made k s ≡ 0
+
+-- so it stays
+abbrev pub KeepsApart : Type 0
+KeepsApart = (e : OptionExpr) (b b' : Builder) (i : ExprId) → Paired b.stored → lower_part e b ≡ (Ok i, b')
+    → MadeApart b.names b.stored → MadeApart b'.names b'.stored

@@ -2,7 +2,7 @@
 //! on, and its first laws.
 #![tactic(auto)]
 
-ghost use Rattle.hir_steps.specs.Keeps.{Keeping, PathsKeep, TypesKeep};
+ghost use Rattle.hir_steps.specs.Keeps.{Keeping, KeepsApart, PathsKeep, TypesKeep};
 
 /// Lowering stores behind what is stored, where it is refused too; where it answers, what was open is open again.
 pub fn keeps()
@@ -13,4 +13,9 @@ pub fn keeps()
 pub fn keeps_alone()
     ensures types { TypesKeep }
     ensures paths { PathsKeep }
+{}
+
+/// No two names that lowering makes up are the same, and none is made up twice.
+pub fn made_apart()
+    ensures { KeepsApart }
 {}

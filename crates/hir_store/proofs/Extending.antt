@@ -1,7 +1,7 @@
 -- What is stored stays.
 use Rattle.std.proofs.Common.{[], ◌∷◌, ◌++◌, Option}
 use Rattle.std.specs.Prelude.{Ok, Err}
-use Rattle.hir_store.specs.Arenas.{Sourced, Allocs, with_way}
+use Rattle.hir_store.specs.Arenas.{Sourced, Adding, Adds, Allocs, with_way}
 use Rattle.hir_store.specs.Stored.{Stored}
 use Rattle.hir_store.specs.FirstMap.{with_first_by}
 use Rattle.hir_store.specs.Storing.{Checked, Extends, same_expr, same_pat, expr_id, label_id, pat_id, type_id, lifetime_id}
@@ -57,9 +57,9 @@ extends_trans g h = record {
   diagnostics = prefix_trans g.diagnostics h.diagnostics;
 }
 
-pub extends_expr : (s : Stored) (e : Expr) (source : Option Pointer) (r : Checked ExprId) (a : Sourced Expr ExprId)
-    → Allocs expr_id e source s.exprs r a → Extends s (record s { exprs = a })
-extends_expr s e source (Ok id) a h = record {
+pub extends_expr : (s : Stored) (step : Adding Expr ExprId) (e : Expr) (r : Checked ExprId) (a : Sourced Expr ExprId)
+    → Adds step expr_id e s.exprs r a → Extends s (record s { exprs = a })
+extends_expr s step e (Ok id) a h = record {
   exprs = h.1;
   labels = continues_refl s.labels;
   pats = continues_refl s.pats;
@@ -72,7 +72,7 @@ extends_expr s e source (Ok id) a h = record {
   block_scopes = prefix_refl s.block_scopes;
   diagnostics = prefix_refl s.diagnostics;
 }
-extends_expr s e source (Err f) a h = rw h.0 (extends_refl s)
+extends_expr s step e (Err f) a h = rw h.0 (extends_refl s)
 
 pub extends_label : (s : Stored) (x : Label) (source : Option Pointer) (r : Checked LabelId) (a : Sourced Label LabelId)
     → Allocs label_id x source s.labels r a → Extends s (record s { labels = a })

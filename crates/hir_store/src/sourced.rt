@@ -2,7 +2,7 @@
 
 ghost use Rattle.std.specs.Prelude.{◌≡◌, ◌<◌, ◌≤◌, ◌↔◌, IfOk, OnOk, OnErr, IsErrOf, length, slice_get};
 ghost use Rattle.std.specs.Option.{option_copied};
-ghost use Rattle.hir_store.specs.Arenas.{Allocs, Kept, none_yet, pointed, with_way};
+ghost use Rattle.hir_store.specs.Arenas.{Allocs, AllocsMade, Kept, none_yet, pointed, with_way};
 
 use crate::arena::{Arena, Entry};
 use crate::fault::StoreFault;
@@ -103,6 +103,25 @@ impl<T: Entry> SourcedArena<T> {
         self.entries.push_reserved(entry);
         self.sources.push_reserved(source);
         Ok(id)
+    }
+
+    /// Stores an entry that was made up for a node, which doesn't lead to it. It refuses as `alloc` does.
+    pub fn alloc_made(
+        &mut self,
+        entry: T,
+        source: Option<InFile<AstPtr>>,
+    ) -> Result<T::Id, StoreFault>
+        ensures { AllocsMade T.number entry source self.old result self.new }
+    {
+        let at = self.len();
+        if at >= self.limit {
+            return Err(StoreFault::Full);
+        }
+        self.entries.reserve(1)?;
+        self.sources.reserve(1)?;
+        self.entries.push_reserved(entry);
+        self.sources.push_reserved(source);
+        Ok(T::number(at))
     }
 
     /// Lets a further node lead to an entry. Where memory is refused nothing changes.

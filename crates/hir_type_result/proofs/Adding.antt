@@ -8,6 +8,7 @@ use Rattle.hir_same_meaning.specs.Reached.{Between}
 use Rattle.hir_store.specs.Pointers.{Pointer}
 use Rattle.hir_store.specs.Stored.{Stored}
 use Rattle.hir_store.specs.declared.hir.Expr.{Expr as HirExpr}
+use Rattle.hir_store.specs.declared.ids.ExprId.{ExprId}
 use Rattle.hir_store.specs.declared.ids.PatId.{PatId}
 use Rattle.hir_store.specs.declared.ids.TypeRefId.{TypeRefId}
 use Rattle.hir_store.specs.declared.pat.Pat.{Pat as HirPat}
@@ -15,10 +16,11 @@ use Rattle.hir_store.specs.declared.type_ref.TypeRef.{TypeRef}
 use Rattle.hir_store.specs.declared.type_ref.TypeRef.TheVariants as ty
 use Rattle.hir_store.specs.declared.type_ref.LifetimeRef.{LifetimeRef}
 use Rattle.hir_lower_form.specs.Builder.{Builder}
-use Rattle.hir_lower_form.specs.Lowering.{Checked, Lowering, ◌>>=◌, pure, alloc_expr, alloc_pat, alloc_type, alloc_lifetime}
+use Rattle.hir_lower_form.specs.Lowering.{Checked, Lowering, ◌>>=◌, pure, alloc_expr, alloc_made, alloc_pat, alloc_type, alloc_lifetime}
 use Rattle.hir_steps.proofs.Frames.{Frame}
+use Rattle.hir_steps.proofs.MadeSteps.{correct_alloc_made}
 use Rattle.hir_steps.proofs.PatSteps.{correct_alloc_pat}
-use Rattle.hir_steps.proofs.Steps.{Mark, Grows, Rel, Holds, Correct, correct_bind, correct_as, correct_pure, correct_alloc}
+use Rattle.hir_steps.proofs.Steps.{Mark, Grows, Rel, Seq, Holds, Correct, correct_bind, correct_as, correct_pure, correct_alloc}
 use Rattle.hir_steps.proofs.Steps.{correct_alloc_type, correct_alloc_lifetime}
 use Rattle.hir_type_result.specs.Reached.{below, types_reached}
 use Rattle.hir_type_result.specs.Named.{Look, of_types_alone, of_pats_alone, of_bindings_alone, of_expr, of_exprs, of_pat, of_pats}
@@ -170,10 +172,11 @@ pub adds_pure : {A : Type 0} {was : Numbers} {now : A → Numbers} (a : A)
     → ((l : Look) → now a l ⊑ was l) → Correct (pure a) (Adds was now)
 adds_pure a h = adds_done a h (λ P x. x)
 
-pub adds_then : {A B : Type 0} {bs : List ℕ} {was : Numbers} {cs : A → List ℕ} {one : A → Numbers} {ds : B → List ℕ} {now : B → Numbers}
-    {p : Lowering A} {q : A → Lowering B} → Correct p (Steps bs was cs one) → ((a : A) → Correct (q a) (Steps (cs a) (one a) ds now))
-    → Correct (p >>= q) (Steps bs was ds now)
-adds_then h k = correct_as (correct_bind h k) (λ final ps m m' b g row. record {
+-- one after another
+pub adds_seq : {A B : Type 0} {bs : List ℕ} {was : Numbers} {cs : A → List ℕ} {one : A → Numbers} {ds : B → List ℕ} {now : B → Numbers}
+    {final : Stored} {ps : List Frame} {m m' : Mark} {b : B}
+    → Seq (Steps bs was cs one) (λ a. Steps (cs a) (one a) ds now) final ps m m' b → Steps bs was ds now final ps m m' b
+adds_seq {final = final} {m = m} {m' = m'} row = record {
   bound = λ lo le t w.
       let x = row.first.bound lo le t w in
       let y = row.second.bound lo (omega (arith, le, row.before.bindings)) x.known x.named in record {
@@ -189,7 +192,12 @@ adds_then h k = correct_as (correct_bind h k) (λ final ps m m' b g row. record 
         deep = x.deep;
         counted = λ n. let a = x.counted n in let b = y.counted n in omega arith;
       };
-})
+}
+
+pub adds_then : {A B : Type 0} {bs : List ℕ} {was : Numbers} {cs : A → List ℕ} {one : A → Numbers} {ds : B → List ℕ} {now : B → Numbers}
+    {p : Lowering A} {q : A → Lowering B} → Correct p (Steps bs was cs one) → ((a : A) → Correct (q a) (Steps (cs a) (one a) ds now))
+    → Correct (p >>= q) (Steps bs was ds now)
+adds_then h k = correct_as (correct_bind h k) (λ final ps m m' b g row. adds_seq row)
 
 -- beside what was named
 pub adds_beside : {A : Type 0} {bs : List ℕ} {cs : A → List ℕ} {now : A → Numbers} {p : Lowering A} (more : Numbers)
@@ -376,24 +384,37 @@ adds_lifetime l source = correct_as (correct_alloc_lifetime l source)
     (λ final ps m m' i g row. adds_still g (ap (λ x. x.pats.entries) row.stored) (λ s d k. ap (λ x. named s final d x k) row.stored)
     (λ l k. omega arith))
 
--- an expression names what was named
-pub adds_expr : {was : Numbers} (e : HirExpr) (at : Option Pointer) → ((l : Look) → of_expr l e ⊑ was l)
-    → Correct (alloc_expr e at) (Adds was (λ i. none))
-adds_expr e at h = correct_as (correct_alloc e at) (λ final ps m m' i g row. record {
-  bound = λ lo le t w. record { known = tt; named = tt; made = none_made lo final m m' (ap (λ x. x.pats.entries) row.stored) };
+-- an expression names what was named, whether or not its node leads to it
+expr_adds : {was : Numbers} (e : HirExpr) {final : Stored} {ps : List Frame} {m m' : Mark} {i : ExprId} → Grows m m'
+    → m'.stored.pats.entries ≡ m.stored.pats.entries
+    → ((s : Sort) (d k : ℕ) → named s final d m'.stored k ≡ times k (of_exprs (look s final d) (m.stored.exprs.entries ++ e ∷ []))
+    + (times k (of_pats (look s final d) (chosen s m.stored.pats.entries)) + times k (of_types (look s final d) m.stored.types.entries)))
+    → ((l : Look) → of_expr l e ⊑ was l) → Adds was (λ i. none) final ps m m' i
+expr_adds e {final = final} {m = m} {m' = m'} g none new h = record {
+  bound = λ lo le t w. record { known = tt; named = tt; made = none_made lo final m m' none };
   grown = λ s d k.
-      let n = ap (λ x. named s final d x k) row.stored in
+      let n = new s d k in
       let p = each_push (of_expr (look s final d)) m.stored.exprs.entries e k in omega arith;
   earlier = λ s d all le le'. record {
     depth = all;
     deep = omega (arith, le', grows s g);
     counted = λ k.
         let x = h (look s final all) k in
-        let n = ap (λ x. named s final all x k) row.stored in
+        let n = new s all k in
         let p = each_push (of_expr (look s final all)) m.stored.exprs.entries e k in
         let l = less_grows k (known s m) (known s m') (grows s g) in omega arith;
   };
-})
+}
+
+pub adds_expr : {was : Numbers} (e : HirExpr) (at : Option Pointer) → ((l : Look) → of_expr l e ⊑ was l)
+    → Correct (alloc_expr e at) (Adds was (λ i. none))
+adds_expr e at h = correct_as (correct_alloc e at) (λ final ps m m' i g row.
+    expr_adds e g (ap (λ x. x.pats.entries) row.stored) (λ s d k. ap (λ x. named s final d x k) row.stored) h)
+
+pub adds_made : {was : Numbers} (e : HirExpr) (at : Option Pointer) → ((l : Look) → of_expr l e ⊑ was l)
+    → Correct (alloc_made e at) (Adds was (λ i. none))
+adds_made e at h = correct_as (correct_alloc_made e at) (λ final ps m m' i g row.
+    expr_adds e g (ap (λ x. x.pats.entries) row.stored) (λ s d k. ap (λ x. named s final d x k) row.stored) h)
 
 -- a pattern names itself and what it holds; types are named by it
 pub adds_pat : {was : Numbers} (p : HirPat) (source : Option Pointer) → ((l : Look) → of_pat l p ⊑ was l)

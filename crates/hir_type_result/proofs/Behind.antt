@@ -9,7 +9,6 @@ use Rattle.hir_lower_form.specs.Builder.{Builder}
 use Rattle.hir_lower_form.specs.Lowering.{Lowering}
 use Rattle.hir_steps.specs.Keeps.{Paired}
 use Rattle.hir_steps.proofs.Frames.{frames, ribs, ribs_frames}
-use Rattle.hir_steps.proofs.Steps.{Correct}
 use Rattle.hir_store.proofs.Extending.{extends_refl}
 use Rattle.hir_same_meaning.proofs.HeldTree.{part_holds, path_holds}
 use Rattle.hir_one_result.specs.Diagnostics.{Around, Faults}

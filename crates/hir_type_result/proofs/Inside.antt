@@ -1,5 +1,5 @@
 -- Of a lowered tree, a type or a path, each expression is reached in one way, by itself or by a constant inside.
-use Rattle.std.proofs.Common.{◌≡◌, refl, arith, ℕ, ◌+◌, ◌≤◌, Bool, true, false, length, List, [], ◌∷◌, ◌++◌, Option, Some, None, Ok}
+use Rattle.std.proofs.Common.{◌≡◌, refl, arith, ℕ, ◌≤◌, Bool, true, false, length, List, [], ◌∷◌, ◌++◌, Option, Some, None, Ok}
 use Rattle.hir_store.specs.Stored.{Stored, store_of}
 use Rattle.hir_store.specs.Storing.{Extends}
 use Rattle.hir_store.specs.Pointers.{Pointer}
@@ -62,6 +62,7 @@ use Rattle.hir_type_result.proofs.InsideTypes.{args_form_adds, binding_adds, non
 use Rattle.hir_type_result.proofs.InsidePats as pats
 use Rattle.hir_type_result.proofs.InsideTargets as aims
 use Rattle.hir_type_result.proofs.InsideForms as forms
+use Rattle.hir_type_result.proofs.InsideMade as made
 use Rattle.hir_type_result.proofs.InsideForms.{maybe, each, a_field, a_spread, a_statement, contents, some_more, missing_adds, some_adds}
 use Rattle.hir_type_result.proofs.InsideForms.{kept_adds}
 
@@ -104,7 +105,7 @@ mutual
   segment_adds : (first : Bool) (s : Segment) (w : PathWalk) → Correct (read_segment first s w) (Adds (walk w) reading)
   segment_adds first tree.absent_segment w = bare_adds _ w
   segment_adds first tree.broken_segment w = adds_pure _ (λ v. omega arith)
-  segment_adds first (tree.name_segment n as') w = adds_then (adds_beside (walk w) (segment_args_add as'))
+  segment_adds first (tree.name_segment n _ as') w = adds_then (adds_beside (walk w) (segment_args_add as'))
       (λ a. adds_pure _ (λ v. weights.named_less v.weight v.held n a w))
   segment_adds first tree.self_type_segment w = bare_adds _ w
   segment_adds false tree.crate_segment w = adds_pure _ (λ v. omega arith)
@@ -211,7 +212,7 @@ mutual
   limit_side_adds : (s : Side) → Correct (limit_side s) (Adds free an_expr)
   limit_side_adds tree.no_side = missing_adds
   limit_side_adds (tree.literal_side at s) = pats.literal_limit_adds at s
-  limit_side_adds (tree.name_side at n) = pats.name_limit_adds at n
+  limit_side_adds (tree.name_side at n _) = pats.name_limit_adds at n
   limit_side_adds (tree.path_side at p) = pats.path_limit_adds at (path_adds p)
   limit_side_adds tree.other_side = missing_adds
 
@@ -221,8 +222,14 @@ mutual
   node_adds (tree.disabled_expr at by e) = adds_then (adds_any (correct_report _)) (λ u. missing_adds)
   node_adds (tree.if_expr at c t e) = forms.if_adds at (body_adds c) (block_part_adds t) (present_expr_adds e)
   node_adds (tree.block_expr b) = block_adds b
-  node_adds (tree.loop_expr at label b) = forms.loop_adds at _ label (block_part_adds b)
-  node_adds (tree.while_expr at label c b) = forms.loop_adds at _ label (forms.turn_adds at (body_adds c) (block_part_adds b))
+  node_adds (tree.loop_expr at label _ b) = forms.loop_adds at _ label (block_part_adds b)
+  node_adds (tree.while_expr at label _ c b) = forms.loop_adds at _ label (forms.turn_adds at (body_adds c) (block_part_adds b))
+  node_adds (tree.question_expr at items e) = made.question_adds at items (body_adds e)
+  node_adds (tree.itemless_expr at) = missing_adds
+  node_adds (tree.try_expr at item tree.no_type number ss e) =
+      made.try_block_adds at item false number (stmts_apart [] ss (kept_part_adds e))
+  node_adds (tree.try_expr at item (tree.some_type t) number ss e) =
+      made.typed_try_adds at (made.try_block_adds at item true number (stmts_apart [] ss (kept_part_adds e))) (type_adds None t)
   node_adds (tree.call_expr at f has_list es) = forms.call_adds at (body_adds f) (each_expr_adds [] es)
   node_adds (tree.path_expr at p h) = forms.path_adds at h (path_adds p)
   node_adds (tree.continue_expr at jump) = forms.continue_adds at jump
@@ -281,7 +288,7 @@ mutual
   spread_adds (tree.spread_of e) = adds_then (node_adds e) (λ i. adds_pure _ (λ v. omega arith))
 
   block_adds : (b : Block) → Correct (lower_block b) (Adds free an_expr)
-  block_adds (tree.block at is_unsafe label number ss e) =
+  block_adds (tree.block at is_unsafe label _ number ss e) =
       forms.labelled_adds label (λ n. forms.block_form_adds at is_unsafe n number (stmts_add [] ss (kept_part_adds e)))
 
   block_part_adds : (b : OptionBlock) → Correct (lower_block_part b) (Adds free an_expr)
@@ -292,6 +299,11 @@ mutual
       → Correct (lower_stmts done ss tail) (Adds (each a_statement done) contents)
   stmts_add done tree.no_stmts h = adds_then (adds_beside (each a_statement done) h) (λ t. adds_pure _ (λ v. omega arith))
   stmts_add done (tree.more_stmts s ss) h = some_more {cost = a_statement} (stmt_adds s) (λ xs. stmts_add xs ss h) done
+
+  stmts_apart : (done : List Statement) (ss : Stmts) {tail : Lowering (Option ExprId)} → Correct tail (Adds free (maybe an_expr))
+      → Correct (lower_stmts done ss tail) (made.Contains done)
+  stmts_apart done tree.no_stmts h = made.contains_tail done h
+  stmts_apart done (tree.more_stmts s ss) h = made.contains_more done (stmt_adds s) (λ xs. stmts_apart xs ss h)
 
   stmt_adds : (s : Stmt) → Correct (lower_stmt s) (Adds free (maybe a_statement))
   stmt_adds (tree.expr_stmt e semi) = forms.statement_adds semi (kept_part_adds e)
@@ -324,8 +336,8 @@ mutual
 
   pat_adds : (p : Pat) → pats.Each free a_pat (lower_pat p)
   pat_adds (tree.leaf_pat at form) t = pats.alone_adds (pats.leaf_pat_adds at form) t
-  pat_adds (tree.bind_pat at u p) t = pats.bind_adds at u (subpat_adds p) t
-  pat_adds (tree.name_pat at u) t = pats.alone_adds (adds_pat _ (Some at) (λ v. omega arith)) t
+  pat_adds (tree.bind_pat at u _ p) t = pats.bind_adds at u (subpat_adds p) t
+  pat_adds (tree.name_pat at u _) t = pats.alone_adds (adds_pat _ (Some at) (λ v. omega arith)) t
   pat_adds (tree.path_pat at p) t = pats.alone_adds (pats.path_pat_adds at (path_adds p)) t
   pat_adds (tree.tuple_struct_pat at p comma ps) t = pats.tuple_struct_adds at comma (elements_add no_elements ps) (path_adds p) t
   pat_adds (tree.tuple_pat at comma ps) t = pats.tuple_pat_adds at comma (elements_add no_elements ps) t
@@ -379,7 +391,7 @@ mutual
   side_adds : (s : Side) → Correct (lower_side s) (Adds free (maybe an_expr))
   side_adds tree.no_side = adds_pure None (λ v. omega arith)
   side_adds (tree.literal_side at s) = pats.literal_side_adds at s
-  side_adds (tree.name_side at n) = pats.name_side_adds at n
+  side_adds (tree.name_side at n _) = pats.name_side_adds at n
   side_adds (tree.path_side at p) = pats.path_side_adds at (path_adds p)
   side_adds tree.other_side = adds_pure None (λ v. omega arith)
 

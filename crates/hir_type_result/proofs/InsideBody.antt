@@ -1,7 +1,6 @@
 -- Of a body behind its parameters each expression is reached in one way, by itself or by a constant inside it or inside them.
-use Rattle.std.proofs.Common.{◌≡◌, refl, arith, ℕ, ◌+◌, ◌≤◌, Bool, true, false, length, List, [], ◌∷◌, ◌++◌, Option, Some, None}
-use Rattle.hir_store.specs.Stored.{Stored, store_of}
-use Rattle.hir_store.specs.declared.ids.ExprId.{ExprId}
+use Rattle.std.proofs.Common.{◌≡◌, refl, arith, Bool, true, false, length, List, [], ◌∷◌, ◌++◌, Some, None}
+use Rattle.hir_store.specs.Stored.{store_of}
 use Rattle.hir_store.specs.declared.ids.PatId.{PatId}
 use Rattle.hir_env.specs.Answered as tree
 use Rattle.hir_env.specs.Answered.{Formal, Formals, OptionExpr, SelfFormal}
@@ -23,7 +22,7 @@ use Rattle.hir_type_result.proofs.Inside.{body_adds, inside_once, top_adds}
 self_adds : (s : SelfFormal) → Correct (lower_self s) (Adds free (λ o. free))
 self_adds tree.no_self = adds_pure None (λ v. omega arith)
 self_adds (tree.disabled_self at by) = adds_then (adds_any (correct_report _)) (λ u. adds_pure None (λ v. omega arith))
-self_adds (tree.self_formal at u) = adds_then (adds_any (correct_alloc_binding _)) (λ i. adds_pure (Some i) (λ v. omega arith))
+self_adds (tree.self_formal at u _) = adds_then (adds_any (correct_alloc_binding _)) (λ i. adds_pure (Some i) (λ v. omega arith))
 
 present_adds : {p : Lowering PatId} → Correct p (Adds free a_pat) → Correct (some p) (Adds free (maybe a_pat))
 present_adds h = adds_then h (λ i. adds_pure (Some i) (λ v. omega arith))

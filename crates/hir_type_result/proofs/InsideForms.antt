@@ -191,7 +191,7 @@ record_less p r v =
     let e = fields_are r.0 v in omega arith
 
 -- a last expression without a semicolon becomes the tail
-settled_less : (ss : List Statement) (o : Option ExprId) (v : View) → contents (settled ss o) v ≤ contents (ss, o) v
+pub settled_less : (ss : List Statement) (o : Option ExprId) (v : View) → contents (settled ss o) v ≤ contents (ss, o) v
 settled_less ss (Some i) v = omega arith
 settled_less [] None v = omega arith
 settled_less (statement.Item ∷ ss) None v = let r = settled_less ss None v in omega arith
@@ -200,7 +200,7 @@ settled_less (statement.Expr i true ∷ ss) None v = let r = settled_less ss Non
 settled_less (statement.Expr i false ∷ []) None v = omega arith
 settled_less (statement.Expr i false ∷ (s ∷ ss)) None v = let r = settled_less (s ∷ ss) None v in omega arith
 
-block_less : (is_unsafe : Bool) (label : Option LabelId) (number : Option BlockId) (ss : List Statement) (o : Option ExprId) (v : View)
+pub block_less : (is_unsafe : Bool) (label : Option LabelId) (number : Option BlockId) (ss : List Statement) (o : Option ExprId) (v : View)
     → in_expr (hir.Block is_unsafe label number ss o) v ≤ contents (ss, o) v
 block_less is_unsafe label number ss o v =
     let x = both v (of_statements v.reach ss) (of_some v.reach o) (all_of (inner.of_statement v.held) ss) (of_present v.held.expr o) in

@@ -1,5 +1,5 @@
 -- What patterns, targets and what they stand in become reaches and holds what the parts do.
-use Rattle.std.proofs.Common.{◌≡◌, refl, ℕ, ◌+◌, ◌≤◌, Bool, true, false, List, [], ◌∷◌, ◌++◌, length, Option, Some, None, arith}
+use Rattle.std.proofs.Common.{◌≡◌, refl, ℕ, ◌+◌, ◌≤◌, Bool, true, false, List, [], ◌∷◌, ◌++◌, Option, Some, None, arith}
 use Rattle.hir_base.specs.declared.op.RangeOp.{RangeOp}
 use Rattle.hir_base.specs.declared.op.RangeOp.TheVariants as op
 use Rattle.hir_store.specs.Pointers.{Pointer}
@@ -21,7 +21,7 @@ use Rattle.hir_store.specs.declared.path.Path.TheVariants.{LangItem}
 use Rattle.hir_env.specs.Answered as tree
 use Rattle.hir_env.specs.Answered.{PatLeaf, PatUnary, RangeForm, Signed, Use}
 use Rattle.hir_lower_form.specs.Forms.{ExprSteps, push_some, let_form, match_form, arm_form, let_stmt_form}
-use Rattle.hir_lower_form.specs.Lowering.{Lowering, ◌>>=◌, pure, alloc_expr, alloc_pat}
+use Rattle.hir_lower_form.specs.Lowering.{Lowering, alloc_expr, alloc_pat}
 use Rattle.hir_lower_form.specs.Pats as forms
 use Rattle.hir_lower_form.specs.Pats.{Table, Elements, PatSteps, missing_pat}
 use Rattle.hir_lower_form.specs.Ranges as ranges
@@ -29,7 +29,7 @@ use Rattle.hir_meaning.specs.Inner as inner
 use Rattle.hir_meaning.specs.Inner.{all_of, of_limit, of_path, of_pat_field, of_present}
 use Rattle.hir_steps.proofs.PatAny.{dots_any, name_any}
 use Rattle.hir_steps.proofs.PatSteps.{correct_define, correct_point_pat_field}
-use Rattle.hir_steps.proofs.Steps.{Correct, correct_alloc}
+use Rattle.hir_steps.proofs.Steps.{Correct}
 use Rattle.hir_same_meaning.specs.Reached.{of_arms, of_some}
 use Rattle.hir_type_result.proofs.Counted.{times, times_append}
 use Rattle.hir_type_result.proofs.Weights as weights
@@ -372,7 +372,7 @@ let_adds at hp he = adds_then hp (λ p. adds_then (adds_beside (a_pat p) he) (λ
 abbrev pub an_arm : MatchArm → Cost
 an_arm a v = times v.number (v.reach a.expr ++ of_some v.reach a.guard) + sum v.weight (inner.of_arm v.held a)
 
-arms_are : (as' : List MatchArm) (v : View)
+pub arms_are : (as' : List MatchArm) (v : View)
     → times v.number (of_arms v.reach as') + sum v.weight (all_of (inner.of_arm v.held) as') ≡ each an_arm as' v
 arms_are [] v = refl
 arms_are (a ∷ as') v =
@@ -387,7 +387,7 @@ match_adds at he h = adds_then he (λ e. adds_then (adds_beside (an_expr e) h) (
     let x = both v (v.reach e) (of_arms v.reach as') (v.held.expr e) (all_of (inner.of_arm v.held) as') in
     let y = arms_are as' v in omega arith)))
 
-arm_less : (p : PatId) (g : Option ExprId) (e : ExprId) (v : View)
+pub arm_less : (p : PatId) (g : Option ExprId) (e : ExprId) (v : View)
     → an_arm (record { pat = p; guard = g; expr = e }) v ≤ (a_pat p v + an_expr e v) + maybe an_expr g v
 arm_less p g e v =
     let x = times_append v.number (v.reach e) (of_some v.reach g) in
@@ -401,7 +401,7 @@ unfolding arm_form
 arm_adds hp he hg = adds_then hp (λ p. adds_then (adds_beside (a_pat p) he)
     (λ e. adds_then (adds_beside (beside (a_pat p) (an_expr e)) hg) (λ g. adds_pure _ (arm_less p g e))))
 
-let_less : (p : PatId) (t : Option TypeRefId) (i b : Option ExprId) (v : View)
+pub let_less : (p : PatId) (t : Option TypeRefId) (i b : Option ExprId) (v : View)
     → a_statement (statement.Let p t i b) v ≤ ((a_pat p v + maybe_type t v) + maybe an_expr i v) + maybe an_expr b v
 let_less p t i b v =
     let x = times_append v.number (of_some v.reach i) (of_some v.reach b) in

@@ -11,14 +11,14 @@ use Rattle.hir_store.specs.declared.pat.Pat.TheVariants as pat
 use Rattle.hir_store.specs.declared.pat.RecordFieldPat.{RecordFieldPat}
 use Rattle.hir_store.specs.declared.path.Path.{Path as HirPath}
 use Rattle.hir_lower_form.specs.Forms.{ExprSteps, push_some, assign_form}
-use Rattle.hir_lower_form.specs.Lowering.{Lowering, ◌>>=◌, pure}
+use Rattle.hir_lower_form.specs.Lowering.{Lowering}
 use Rattle.hir_lower_form.specs.Pats.{Elements, elements_form, missing_pat, named_part, with_first_missing}
 use Rattle.hir_lower_form.specs.Targets as targets
 use Rattle.hir_meaning.specs.Inner.{all_of, of_pat_field, of_path, of_present}
 use Rattle.hir_meaning.specs.Places.{places, places_in_each, places_in_fields, places_in_present, places_to}
 use Rattle.hir_steps.proofs.PatAny.{dots_any}
 use Rattle.hir_steps.proofs.PatSteps.{correct_point_pat_field}
-use Rattle.hir_steps.proofs.Steps.{Correct, correct_pure, correct_report}
+use Rattle.hir_steps.proofs.Steps.{Correct, correct_report}
 use Rattle.hir_steps.proofs.TypeAny.{Any, any, pure_any}
 use Rattle.hir_same_meaning.specs.Reached.{of_each}
 use Rattle.hir_type_result.proofs.Counted.{times, times_append}

@@ -5,6 +5,7 @@ pub mod Naming
 pub mod Owned
 pub mod OwnedPats
 pub mod NamingForms
+pub mod NamingMade
 pub mod TreeNamed
 pub mod Named
 pub mod Ranges
@@ -22,5 +23,6 @@ pub mod InsideForms
 pub mod Fronts
 pub mod InsidePats
 pub mod InsideTargets
+pub mod InsideMade
 pub mod Inside
 pub mod InsideBody

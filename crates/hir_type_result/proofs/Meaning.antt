@@ -1,5 +1,5 @@
 -- What a body inside means, whatever is around it.
-use Rattle.std.proofs.Common.{◌≡◌, refl, subst, ℕ, ◌≤◌, ◌+◌, List, ◌∷◌, length, Ok, arith}
+use Rattle.std.proofs.Common.{◌≡◌, refl, subst, ℕ, ◌+◌, List, ◌∷◌, length, Ok, arith}
 use Rattle.hir_store.specs.Stored.{Stored, store_of, map_of}
 use Rattle.hir_store.specs.Storing.{Extends}
 use Rattle.hir_store.specs.declared.ids.ExprId.{ExprId}
@@ -16,7 +16,7 @@ use Rattle.hir_steps.proofs.Frames.{Frame, barrier_at, ribs}
 use Rattle.hir_steps.proofs.Steps.{Mark, mark, Rel, InStore, Correct, correct_both, correct_in_store}
 use Rattle.hir_steps.proofs.Steps.{Holds as HoldsOf}
 use Rattle.hir_same_meaning.proofs.Body.{body_is}
-use Rattle.hir_same_meaning.proofs.HeldLimits.{PathOf, PathsOf, a_limit, limit_held}
+use Rattle.hir_same_meaning.proofs.HeldLimits.{PathOf, PathsOf, limit_held}
 use Rattle.hir_same_meaning.proofs.HeldTree.{body_holds, path_holds}
 use Rattle.hir_same_meaning.proofs.Holding.{SameIn, inners_in, Ids, Holds}
 use Rattle.hir_same_meaning.proofs.Induction.{part_fine}
@@ -60,7 +60,7 @@ constant_means e ps b c x scopes paired is later stays =
 path_of_side : (s : Side) → PathOf s
 path_of_side tree.no_side = tt
 path_of_side (tree.literal_side at l) = tt
-path_of_side (tree.name_side at n) = tt
+path_of_side (tree.name_side at n _) = tt
 path_of_side (tree.path_side at p) = path_holds p
 path_of_side tree.other_side = tt
 

@@ -1,26 +1,24 @@
 -- Each type and each pattern that is stored is named in one way.
 use Rattle.std.proofs.Common.{◌∙◌, sym, suc, ◌<◌, slice_get, append_assoc, append-nil, length-append}
-use Rattle.std.proofs.Common.{◌≡◌, ◌≤◌, ap, arith, refl, ℕ, ◌+◌, Bool, true, false, length, List, [], ◌∷◌, ◌++◌, Option, Some, None, Ok}
+use Rattle.std.proofs.Common.{◌≡◌, ◌≤◌, ap, arith, refl, ℕ, ◌+◌, Bool, true, false, length, List, [], ◌∷◌, ◌++◌, Some, None, Ok}
 use Rattle.hir_store.specs.Stored.{Stored}
 use Rattle.hir_store.specs.Storing.{Extends}
 use Rattle.hir_store.specs.declared.hir.Expr.{Expr as HirExpr}
-use Rattle.hir_store.specs.declared.ids.BindingId.{BindingId}
 use Rattle.hir_store.specs.declared.ids.PatId.{PatId}
 use Rattle.hir_store.specs.declared.ids.TypeRefId.{TypeRefId}
 use Rattle.hir_store.specs.declared.pat.Pat.{Pat}
 use Rattle.hir_store.specs.declared.type_ref.TypeRef.{TypeRef}
-use Rattle.hir_store.specs.declared.type_ref.TypeRef.TheVariants as ty
 use Rattle.hir_env.specs.Answered as tree
 use Rattle.hir_env.specs.Answered.{Formal, Formals, OptionExpr, SelfFormal}
 use Rattle.hir_lower_form.specs.Builder.{Builder}
-use Rattle.hir_lower_form.specs.Forms.{push_some, some}
+use Rattle.hir_lower_form.specs.Forms.{some}
 use Rattle.hir_lower_form.specs.Lowering.{Lowering}
 use Rattle.hir_steps.specs.Keeps.{Paired}
 use Rattle.hir_steps.proofs.Steps.{Correct, correct_in_store}
 use Rattle.hir_one_result.specs.Formals.{Given, each_formal, lower_body, lower_formal, lower_formals, lower_self}
 use Rattle.hir_one_result.proofs.AfterLowering.{after_lowering}
 use Rattle.hir_scope.specs.Each.{Each}
-use Rattle.hir_same_meaning.specs.Reached.{Between, Spread}
+use Rattle.hir_same_meaning.specs.Reached.{Between}
 use Rattle.hir_store.proofs.Extending.{extends_refl}
 use Rattle.hir_type_result.specs.Reached.{of_each, of_path, of_present, types_reached}
 use Rattle.hir_type_result.specs.Named.{Look, of_types_alone, of_pats_alone, of_bindings_alone, of_expr, of_exprs, of_pat, of_pats}
@@ -30,7 +28,7 @@ use Rattle.hir_type_result.specs.Pats.{PathPatsReachedOnce, BodyPatsReachedOnce,
 use Rattle.hir_type_result.specs.Pats.{PathBindingsCame, BodyBindingsCame}
 use Rattle.hir_type_result.proofs.Counted.{times, less, times_append, counted_spread}
 use Rattle.hir_type_result.proofs.Numbers.{each_append}
-use Rattle.hir_type_result.proofs.Adding.{Numbers, none, Adds, Quiet, the_types, the_pats, adds_pure, adds_then, adds_beside, adds_quiet}
+use Rattle.hir_type_result.proofs.Adding.{Numbers, none, Adds, Quiet, the_types, the_pats, adds_pure, adds_then, adds_quiet}
 use Rattle.hir_type_result.proofs.Adding.{both, no_pats_named}
 use Rattle.hir_type_result.proofs.Ranges.{found_between}
 use Rattle.hir_type_result.proofs.Naming.{quiet_pure, quiet_then, quiet_report, quiet_binding, quiet_some}
@@ -130,7 +128,7 @@ path_pats_once p b b' r paired is final stays = pats_once (λ r. []) (path_adds 
 self_quiet : (s : SelfFormal) → Correct (lower_self s) Quiet
 self_quiet tree.no_self = quiet_pure None
 self_quiet (tree.disabled_self at by) = quiet_then (quiet_report _) (λ u. quiet_pure None)
-self_quiet (tree.self_formal at u) = quiet_some (quiet_binding _)
+self_quiet (tree.self_formal at u _) = quiet_some (quiet_binding _)
 
 present_adds : {p : Lowering PatId} → Correct p (Adds none (λ i l. l.pats i)) → Correct (some p) (Adds none maybe_pat)
 present_adds h = adds_then h (λ i. adds_pure (Some i) (λ l k. omega arith))

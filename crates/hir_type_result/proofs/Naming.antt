@@ -20,21 +20,24 @@ use Rattle.hir_store.specs.declared.type_ref.ConstRef.{ConstRef}
 use Rattle.hir_env.specs.Answered.{Label, Jump, Use}
 use Rattle.hir_scope.specs.Ribs.{Rib, Target, reachable, unreachable, undeclared, target}
 use Rattle.hir_lower_form.specs.Lowering.{Lowering, ◌>>=◌, pure, alloc_binding, alloc_expr, define, point, point_field, point_pat_field}
-use Rattle.hir_lower_form.specs.Lowering.{report, report_await, enter_block, open_label, close, jump_target}
+use Rattle.hir_lower_form.specs.Lowering.{report, report_await, enter_block, open_label, close, jump_target, alloc_made, made_number}
+use Rattle.hir_lower_form.specs.Lowering.{open_try, try_target}
 use Rattle.hir_lower_form.specs.Lower.{ExprSteps, constant_form, some}
 use Rattle.hir_lower_form.specs.Pats.{Key, Notes, Table, binding_of, key_of, new_binding, number_of, same_key, settle}
 use Rattle.hir_lower_form.specs.Pats.{settle_from, use_name, use_of_known, with_use}
 use Rattle.hir_lower_form.specs.Ranges.{inner_form}
 use Rattle.hir_steps.proofs.Constants.{correct_constant, correct_inner, with_root}
 use Rattle.hir_steps.proofs.Frames.{Frame, rib, ribs}
+use Rattle.hir_steps.proofs.MadeSteps.{correct_made_number, correct_opened_try, correct_try_target}
 use Rattle.hir_steps.proofs.PatSteps.{PatWrites, correct_alloc_binding, correct_define, correct_point_pat_field, correct_set_problem}
-use Rattle.hir_steps.proofs.Steps.{Mark, Grows, Correct, correct_as, correct_pure, correct_point, correct_point_field, correct_report}
-use Rattle.hir_steps.proofs.Steps.{correct_report_await, correct_enter_block, correct_opened, correct_target}
+use Rattle.hir_steps.proofs.Steps.{Mark, Grows, Rel, Correct, correct_as, correct_pure, correct_point, correct_point_field, correct_report}
+use Rattle.hir_steps.proofs.Steps.{correct_report_await, correct_enter_block, correct_opened, correct_target, OpenedBy}
 use Rattle.hir_steps.proofs.Steps.{with_await, with_block, with_jump, with_label, with_target}
 use Rattle.hir_type_result.specs.Named.{Look, of_expr}
 use Rattle.hir_type_result.proofs.Counted.{times, less, ◌⊑◌, less_grows}
-use Rattle.hir_type_result.proofs.Adding.{Sort, the_types, the_pats, known, grows, named, Quiet, Linked, linked, adds_pure, adds_then}
-use Rattle.hir_type_result.proofs.Adding.{adds_still, adds_expr, adds_done, Numbers, none, Steps, look, made_then, none_made, wider}
+use Rattle.hir_type_result.proofs.Adding.{Sort, the_types, the_pats, known, grows, named, Quiet, linked, adds_pure, adds_then}
+use Rattle.hir_type_result.proofs.Adding.{Adds, adds_still, adds_expr, adds_made, adds_done, Numbers, none, Steps, look, made_then}
+use Rattle.hir_type_result.proofs.Adding.{none_made, wider, adds_seq}
 
 pub quiet_pure : {A : Type 0} (a : A) → Correct (pure a) Quiet
 quiet_pure a = adds_pure a (λ f k. omega arith)
@@ -212,6 +215,26 @@ new_name u bs = correct_as (correct_alloc_binding (new_binding u)) (λ final ps 
           };
     })
 
+-- a binding that is made up
+pub new_made_binding : (x : Binding) → Correct (alloc_binding x) (Adds none (λ b l. l.bindings b))
+new_made_binding x = correct_as (correct_alloc_binding x) (λ final ps m m' b g row.
+    let still : Quiet final ps m m' b = adds_still g (ap (λ x. x.pats.entries) row.stored)
+    (λ s d k. ap (λ x. named s final d x k) row.stored) (λ l k. omega arith) in record {
+      bound = λ lo le x w.
+          let y = still.bound lo le tt tt in record {
+            known = tt;
+            named = ((omega (arith, le, row.number), omega (arith, row.number, row.next)), tt);
+            made = y.made;
+          };
+      grown = still.grown;
+      earlier = λ s d all le le'.
+          let x = still.earlier s d all le le' in record {
+            depth = x.depth;
+            deep = x.deep;
+            counted = λ k. let z = no_bindings s final d k b in let e = x.counted k in omega arith;
+          };
+    })
+
 name_of : (u : Use) (t : Table) (b : Option BindingId) → binding_of (key_of u) t ≡ b
     → Correct (use_of_known u t b) (Steps (ids t) none (λ r. ids r.1) a_binding)
 name_of u t (Some b) e = known_name u t b e
@@ -238,40 +261,81 @@ with_label_known : (s : Sort) (l : Label) (m entered : Mark) → entered.stored 
 with_label_known the_types l m entered stored types was is = types
 with_label_known the_pats l m entered stored types was is = is ∙ (ap (λ x. length x.pats.entries) stored ∙ sym was)
 
+-- of what is opened, and what stands behind it
+opened_quiet : {made : ℕ} {A B : Type 0} {at : Label → LabelId → Frame} {l : Label} {R : LabelId → Rel A} {one : A → Numbers}
+    {final : Stored} {ps : List Frame} {m m' : Mark} {b : B} → Grows m m' → m.pats ≡ length m.stored.pats.entries
+    → m.bindings ≡ length m.stored.bindings.entries → (row : OpenedBy made at l R (λ n a. Adds (one a) (λ b. none)) final ps m m' b)
+    → row.entered.pats ≡ length row.entered.stored.pats.entries → row.entered.bindings ≡ length row.entered.stored.bindings.entries
+    → Adds none one final (at l row.number ∷ ps) row.entered row.left row.one → Quiet final ps m m' b
+opened_quiet {l = l} {final = final} {m = m} {m' = m'} g pats bindings row pats' bindings' first = record {
+  bound = λ lo le t w.
+      let q : row.entered.bindings ≡ m.bindings =
+      bindings' ∙ (ap (λ x. length x.bindings.entries) row.stored ∙ sym bindings) in
+      let none = ap (λ x. length x.pats.entries) row.stored in
+      let x = first.bound lo (omega (arith, le, q)) tt tt in
+      let y = row.second.bound lo (omega (arith, le, q, row.before.bindings)) x.known x.named in record {
+        known = y.known;
+        named = y.named;
+        made = made_then lo final m row.left m' row.after.bindings
+            (λ n p from to is. x.made n p (omega (arith, from, none)) to is) y.made;
+      };
+  grown = λ s d k.
+      let n = ap (λ x. named s final d x k) row.stored in
+      let x = first.grown s d k in
+      let y = row.second.grown s d k in omega arith;
+  earlier = λ s d all le le'.
+      let y = row.second.earlier s d all le le' in
+      let x = first.earlier s y.depth all y.deep (omega (arith, le', grows s row.after)) in
+      let t = with_label_known s l m row.entered row.stored row.types pats pats' in record {
+        depth = d;
+        deep = omega (arith, le, grows s g);
+        counted = λ k.
+            let n = ap (λ x. named s final all x k) row.stored in
+            let t = ap (less k) t in
+            let a = x.counted k in
+            let c = y.counted k in omega arith;
+      };
+}
+
 pub quiet_opened : {A B : Type 0} (at : Label → LabelId → Frame) (l : Label) {p : LabelId → Lowering A} {f : LabelId → A → Lowering B}
     → ((n : LabelId) (ps : List Frame) → ribs (at l n ∷ ps) ≡ rib l n ∷ ribs ps)
     → ((n : LabelId) → Correct (p n) Quiet) → ((n : LabelId) (a : A) → Correct (f n a) Quiet)
     → Correct (open_label l >>= (λ n. p n >>= (λ a. close >>= (λ _. f n a)))) Quiet
 quiet_opened at l frame hp hf = correct_as (linked (correct_opened at l frame (λ n. linked (hp n)) hf)) (λ final ps m m' b g linked.
-    let row = linked.rel in record {
-      bound = λ lo le t w.
-          let q : row.entered.bindings ≡ m.bindings =
-          row.first.bindings ∙ (ap (λ x. length x.bindings.entries) row.stored ∙ sym linked.bindings) in
-          let none = ap (λ x. length x.pats.entries) row.stored in
-          let x = row.first.rel.bound lo (omega (arith, le, q)) tt tt in
-          let y = row.second.bound lo (omega (arith, le, q, row.before.bindings)) x.known x.named in record {
-            known = y.known;
-            named = y.named;
-            made = made_then lo final m row.left m' row.after.bindings
-                (λ n p from to is. x.made n p (omega (arith, from, none)) to is) y.made;
-          };
-      grown = λ s d k.
-          let n = ap (λ x. named s final d x k) row.stored in
-          let x = row.first.rel.grown s d k in
-          let y = row.second.grown s d k in omega arith;
-      earlier = λ s d all le le'.
-          let y = row.second.earlier s d all le le' in
-          let x = row.first.rel.earlier s y.depth all y.deep (omega (arith, le', grows s row.after)) in
-          let t = with_label_known s l m row.entered row.stored row.types linked.pats row.first.pats in record {
-            depth = d;
-            deep = omega (arith, le, grows s g);
-            counted = λ k.
-                let n = ap (λ x. named s final all x k) row.stored in
-                let t = ap (less k) t in
-                let a = x.counted k in
-                let c = y.counted k in omega arith;
-          };
-    })
+    let row = linked.rel in
+    opened_quiet {one = λ a. none} g linked.pats linked.bindings row row.first.pats row.first.bindings row.first.rel)
+
+-- what is made up
+
+pub quiet_made : (e : HirExpr) (at : Option Pointer) → ((l : Look) → of_expr l e ⊑ []) → Correct (alloc_made e at) Quiet
+quiet_made e at h = adds_made e at h
+
+pub quiet_number : Correct made_number Quiet
+quiet_number = correct_as correct_made_number (λ final ps m m' n g row. adds_still g (ap (λ x. x.pats.entries) row.stored)
+    (λ s d k. ap (λ x. named s final d x k) row.stored) (λ l k. omega arith))
+
+pub quiet_try_target : Correct try_target Quiet
+quiet_try_target = correct_as correct_try_target
+    (λ final ps m m' t g row. adds_still g (ap (λ x. x.stored.pats.entries) row.still)
+    (λ s d k. ap (λ x. named s final d x.stored k) row.still) (λ l k. omega arith))
+
+-- what is in a `try` may name things, which are named behind it
+pub opened_try_names : {A B C : Type 0} (at : Pointer) (typed : Bool) {one : A → Numbers} {s : Lowering C} {p : Lowering A}
+    {f : LabelId → A → Lowering B} → Correct s Quiet → Correct p (Adds none one)
+    → ((n : LabelId) (a : A) → Correct (f n a) (Adds (one a) (λ b. none)))
+    → Correct (open_try at typed >>= (λ n. s >>= (λ u. p >>= (λ a. close >>= (λ _. f n a))))) Quiet
+opened_try_names at typed {one = one} hs hp hf = correct_as (linked (correct_opened_try at typed (linked hs) hp hf))
+    (λ final ps m m' b g linked.
+    let row = linked.rel in
+    let both = row.first in
+    opened_quiet {one = one} g linked.pats linked.bindings row both.first.pats both.first.bindings (adds_seq (record {
+      middle = both.middle;
+      one = both.one;
+      before = both.before;
+      after = both.after;
+      first = both.first.rel;
+      second = both.second;
+    })))
 
 -- ---- a body inside stores no expression but its own
 

@@ -65,7 +65,7 @@ abbrev NamesNothing : HirExpr → Type 0
 NamesNothing e = (l : Look) → of_expr l e ⊑ []
 
 -- a last expression without a semicolon becomes the tail
-settled_less : (ss : List Statement) (o : Option ExprId) (l : Look) → statements (settled ss o).0 l ⊑ statements ss l
+pub settled_less : (ss : List Statement) (o : Option ExprId) (l : Look) → statements (settled ss o).0 l ⊑ statements ss l
 settled_less ss (Some i) l k = omega arith
 settled_less [] None l k = omega arith
 settled_less (statement.Item ∷ ss) None l k = settled_less ss None l k

@@ -1,13 +1,11 @@
 -- Steps by the bodies inside that they record as roots, where no root is being lowered.
-use Rattle.std.proofs.Common.{◌≡◌, ◌∙◌, refl, sym, ap, subst, arith, ℕ, ◌+◌, ◌≤◌, length, Bool, true, false, true≢false, List, [], ◌∷◌}
+use Rattle.std.proofs.Common.{◌≡◌, ◌∙◌, refl, sym, ap, subst, arith, ℕ, ◌≤◌, length, Bool, true, false, true≢false, List, [], ◌∷◌}
 use Rattle.std.proofs.Common.{◌++◌, append_assoc, append-nil, Option, Ok, Err}
-use Rattle.std.specs.Prelude.{slice_range}
 use Rattle.hir_store.specs.Arenas.{Prefix}
 use Rattle.hir_store.specs.Pointers.{Pointer}
 use Rattle.hir_store.specs.Stored.{Store, SourceMap, Stored, store_of, map_of}
 use Rattle.hir_store.specs.Storing as storing
 use Rattle.hir_store.specs.Storing.{Extends, root_at}
-use Rattle.hir_store.specs.declared.hir.Expr.{Expr as HirExpr}
 use Rattle.hir_store.specs.declared.ids.ExprId.{ExprId}
 use Rattle.hir_store.specs.declared.pat.Pat.{Pat}
 use Rattle.hir_store.specs.declared.roots.ExprRoot.{ExprRoot}
@@ -36,7 +34,6 @@ use Rattle.hir_steps.proofs.TypeAny.{Any, any}
 use Rattle.hir_one_result.specs.Laws.{Settled}
 use Rattle.hir_one_result.specs.Size.{Size}
 use Rattle.hir_one_result.specs.Stands.{Open}
-use Rattle.hir_one_result.proofs.AfterLowering.{after_lowering}
 use Rattle.hir_one_result.proofs.Tellings.{Told, Tells}
 use Rattle.hir_scope.specs.Each.{Each}
 use Rattle.hir_same_meaning.specs.Reached.{Between, Spread, of_each, reached_to}

@@ -35,7 +35,7 @@ use Rattle.hir_steps.proofs.Steps.{Correct, correct_count_out}
 use Rattle.hir_type_result.specs.Reached.{of_present, of_each, of_bound, of_args, of_binding, below}
 use Rattle.hir_type_result.specs.Named.{Look}
 use Rattle.hir_type_result.specs.Pats.{of_type}
-use Rattle.hir_type_result.proofs.Counted.{times, ◌⊑◌, times_append, either}
+use Rattle.hir_type_result.proofs.Counted.{times, times_append, either}
 use Rattle.hir_type_result.proofs.Numbers as numbers
 use Rattle.hir_type_result.proofs.Numbers.{of_arg_lists, of_walk, of_reading, of_read}
 use Rattle.hir_type_result.proofs.Adding.{Numbers, none, Adds, adds_pure, adds_then, adds_beside, adds_from, adds_type, adds_unnamed}

@@ -1,5 +1,5 @@
 -- What is answered for patterns, targets and what they stand in names what the parts name, and patterns that were stored, each once.
-use Rattle.std.proofs.Common.{ℕ, ◌+◌, ◌≤◌, Bool, true, false, List, [], ◌∷◌, ◌++◌, Option, Some, None, arith}
+use Rattle.std.proofs.Common.{ℕ, Bool, true, false, List, [], ◌∷◌, ◌++◌, Option, Some, None, arith}
 use Rattle.hir_base.specs.declared.op.RangeOp.{RangeOp}
 use Rattle.hir_store.specs.Pointers.{Pointer}
 use Rattle.hir_store.specs.declared.hir.Expr.TheVariants as hir
@@ -20,7 +20,7 @@ use Rattle.hir_store.specs.declared.path.Path.{Path as HirPath}
 use Rattle.hir_env.specs.Answered as tree
 use Rattle.hir_env.specs.Answered.{PatLeaf, PatUnary, RangeForm, Signed, Use}
 use Rattle.hir_lower_form.specs.Forms.{ExprSteps, push_some, let_form, match_form, arm_form, assign_form, let_stmt_form}
-use Rattle.hir_lower_form.specs.Lowering.{Lowering, ◌>>=◌, pure, alloc_pat}
+use Rattle.hir_lower_form.specs.Lowering.{Lowering, alloc_pat}
 use Rattle.hir_lower_form.specs.Pats as forms
 use Rattle.hir_lower_form.specs.Pats.{Table, Elements, PatSteps, missing_pat}
 use Rattle.hir_lower_form.specs.Ranges as ranges
@@ -28,7 +28,7 @@ use Rattle.hir_lower_form.specs.Targets as targets
 use Rattle.hir_steps.proofs.Steps.{Correct, correct_count_out}
 use Rattle.hir_type_result.specs.Reached.{of_each, of_present}
 use Rattle.hir_type_result.specs.Named.{Look, of_arm, of_expr, of_pat, of_pat_field, of_statement}
-use Rattle.hir_type_result.proofs.Counted.{times, ◌⊑◌, times_append}
+use Rattle.hir_type_result.proofs.Counted.{◌⊑◌, times_append}
 use Rattle.hir_type_result.proofs.Numbers.{each_push}
 use Rattle.hir_type_result.proofs.Adding.{Numbers, none, Adds, Quiet, adds_pure, adds_then, adds_beside, adds_quiet, adds_from}
 use Rattle.hir_type_result.proofs.Adding.{adds_expr, adds_pat, adds_done, framed, Steps}

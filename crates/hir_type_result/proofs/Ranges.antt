@@ -1,5 +1,5 @@
 -- What stands between others.
-use Rattle.std.proofs.Common.{◌≡◌, ◌∙◌, sym, ap, subst, arith, ℕ, zero, suc, ◌+◌, List, [], ◌∷◌, ◌++◌, length, slice_get, Option, Some}
+use Rattle.std.proofs.Common.{◌≡◌, ◌∙◌, sym, ap, subst, arith, ℕ, zero, suc, ◌+◌, List, [], ◌∷◌, ◌++◌, length, slice_get, Some}
 use Rattle.std.proofs.Common.{append_assoc, length-append, is_some, true≢false}
 use Rattle.std.specs.Prelude.{◌-◌, take, drop, slice_range}
 use Rattle.std.proofs.Math.Seq.{take-append_seam, drop-append_seam}

@@ -42,7 +42,7 @@ missing_any = any (correct_alloc _ None)
 side_any : (s : Side) → steps.Correct (limit_side s) Any
 side_any tree.no_side = missing_any
 side_any (tree.literal_side at l) = literal_limit_any at l
-side_any (tree.name_side at n) = name_limit_any at n
+side_any (tree.name_side at n _) = name_limit_any at n
 side_any (tree.path_side at p) = path_limit_any at (lower_path_any p)
 side_any tree.other_side = missing_any
 
@@ -56,7 +56,7 @@ contents_any (limit_body (tree.before_limit item s)) = before_any item (side_any
 side_shows : (s : Side) → Correct (limit_side s) (Shows (λ final rs i. StandsLimitSide (store_of final) (map_of final) rs s i))
 side_shows tree.no_side = missing_stands
 side_shows (tree.literal_side at l) = literal_limit_stands at l
-side_shows (tree.name_side at n) = name_limit_stands at n
+side_shows (tree.name_side at n _) = name_limit_stands at n
 side_shows (tree.path_side at p) = path_limit_stands at p (whole_left p)
 side_shows tree.other_side = missing_stands
 

@@ -26,7 +26,7 @@ use Rattle.hir_lower_form.specs.Walks.{start, at_first, path_read}
 use Rattle.hir_lower_form.specs.Types.{no_lists}
 use Rattle.hir_lower_form.specs.Pats.{Elements, no_elements, no_names, is_dots, next_alternative}
 use Rattle.hir_lower_form.specs.Targets.{add_target, add_target_dots}
-use Rattle.hir_lower_form.specs.Lower.{StoredContents, push_some}
+use Rattle.hir_lower_form.specs.Lower.{push_some}
 use Rattle.hir_lower_form.specs.Lower.{lower, lower_part, present, kept_part, lower_each, lower_fields, lower_field, lower_spread}
 use Rattle.hir_lower_form.specs.Lower.{lower_block, lower_block_part, lower_stmts, lower_stmt, lower_path, args_part, type_part}
 use Rattle.hir_lower_form.specs.Lower.{lower_type, present_type, type_or_unit, lower_parts, read_segment, read_each, read_path}
@@ -39,10 +39,10 @@ use Rattle.hir_lower_form.specs.Lower.{lower_target_field}
 use Rattle.hir_steps.proofs.Steps.{Correct}
 use Rattle.hir_type_result.specs.Reached.{of_bound, of_each, of_present}
 use Rattle.hir_type_result.specs.Named.{Look, of_arm, of_pat_field, of_statement}
-use Rattle.hir_type_result.proofs.Counted.{times, times_append}
+use Rattle.hir_type_result.proofs.Counted.{times_append}
 use Rattle.hir_type_result.proofs.Numbers as numbers
 use Rattle.hir_type_result.proofs.Adding.{Numbers, none, Adds, Quiet, adds_pure, adds_then, adds_beside, adds_quiet, adds_from}
-use Rattle.hir_type_result.proofs.Adding.{adds_type, adds_expr, adds_pat, adds_done, framed, tabled}
+use Rattle.hir_type_result.proofs.Adding.{adds_type, adds_pat, adds_done, framed, tabled}
 use Rattle.hir_type_result.proofs.Owned.{a_type, maybe_type, types, a_bound, bounds, arguments, lists, maybe_path, walk, reading, a_pat}
 use Rattle.hir_type_result.proofs.Owned.{uses_add, leaf_below, error_adds, unit_adds, over_adds, array_adds, tuple_adds, path_type_adds}
 use Rattle.hir_type_result.proofs.Owned.{ref_adds, fn_adds, impl_adds, dyn_adds, path_bound_adds, proceed_adds, whole_adds, super_adds}
@@ -53,6 +53,7 @@ use Rattle.hir_type_result.proofs.Naming.{quiet_pure, quiet_then, quiet_some, qu
 use Rattle.hir_type_result.proofs.Naming.{quiet_settle}
 use Rattle.hir_type_result.proofs.NamingForms.{missing_quiet, leaf_quiet, unary_quiet, binary_quiet, leaving_quiet, if_quiet, loop_quiet}
 use Rattle.hir_type_result.proofs.NamingForms.{turn_quiet}
+use Rattle.hir_type_result.proofs.NamingMade.{question_quiet, try_block_quiet, typed_try_quiet}
 use Rattle.hir_type_result.proofs.NamingForms.{call_quiet, continue_quiet, break_quiet, paren_quiet, operand_quiet, operands_quiet}
 use Rattle.hir_type_result.proofs.NamingForms.{value_quiet, list_quiet, await_quiet, field_quiet, block_form_quiet, path_quiet, cast_quiet}
 use Rattle.hir_type_result.proofs.NamingForms.{offset_of_quiet, method_call_quiet, record_quiet, contents_quiet, labelled_quiet}
@@ -117,7 +118,7 @@ mutual
   segment_adds : (first : Bool) (s : Segment) (w : PathWalk) → Correct (read_segment first s w) (Adds (walk w) reading)
   segment_adds first tree.absent_segment w = bare_adds _ w
   segment_adds first tree.broken_segment w = adds_pure _ (λ f k. omega arith)
-  segment_adds first (tree.name_segment n as') w = adds_then (adds_beside (walk w) (segment_args_add as'))
+  segment_adds first (tree.name_segment n _ as') w = adds_then (adds_beside (walk w) (segment_args_add as'))
       (λ a. adds_pure _ (λ o. numbers.named_less o.types n a w))
   segment_adds first tree.self_type_segment w = bare_adds _ w
   segment_adds false tree.crate_segment w = adds_pure _ (λ f k. omega arith)
@@ -220,7 +221,7 @@ mutual
   limit_side_quiet : (s : Side) → Correct (limit_side s) Quiet
   limit_side_quiet tree.no_side = missing_quiet
   limit_side_quiet (tree.literal_side at s) = pats.literal_limit_quiet at s
-  limit_side_quiet (tree.name_side at n) = pats.name_limit_quiet at n
+  limit_side_quiet (tree.name_side at n _) = pats.name_limit_quiet at n
   limit_side_quiet (tree.path_side at p) = pats.path_limit_quiet at (path_adds p)
   limit_side_quiet tree.other_side = missing_quiet
 
@@ -230,8 +231,14 @@ mutual
   node_quiet (tree.disabled_expr at by e) = quiet_then (quiet_report _) (λ u. missing_quiet)
   node_quiet (tree.if_expr at c t e) = if_quiet at (part_quiet c) (block_part_quiet t) (present_quiet e)
   node_quiet (tree.block_expr b) = block_quiet b
-  node_quiet (tree.loop_expr at label b) = loop_quiet at _ label (block_part_quiet b)
-  node_quiet (tree.while_expr at label c b) = loop_quiet at _ label (turn_quiet at (part_quiet c) (block_part_quiet b))
+  node_quiet (tree.loop_expr at label _ b) = loop_quiet at _ label (block_part_quiet b)
+  node_quiet (tree.while_expr at label _ c b) = loop_quiet at _ label (turn_quiet at (part_quiet c) (block_part_quiet b))
+  node_quiet (tree.question_expr at items e) = question_quiet at items (part_quiet e)
+  node_quiet (tree.itemless_expr at) = missing_quiet
+  node_quiet (tree.try_expr at item tree.no_type number ss e) =
+      try_block_quiet at item false number (stmts_add [] ss (kept_part_quiet e))
+  node_quiet (tree.try_expr at item (tree.some_type t) number ss e) =
+      typed_try_quiet at (try_block_quiet at item true number (stmts_add [] ss (kept_part_quiet e))) (type_adds None t)
   node_quiet (tree.call_expr at f has_list es) = call_quiet at (part_quiet f) (each_quiet [] es)
   node_quiet (tree.path_expr at p h) = path_quiet at h (path_adds p)
   node_quiet (tree.continue_expr at jump) = continue_quiet at jump
@@ -289,7 +296,7 @@ mutual
   spread_quiet (tree.spread_of e) = quiet_then (node_quiet e) (λ i. quiet_pure _)
 
   block_quiet : (b : Block) → Correct (lower_block b) Quiet
-  block_quiet (tree.block at is_unsafe label number ss e) =
+  block_quiet (tree.block at is_unsafe label _ number ss e) =
       labelled_quiet label (λ n. block_form_quiet at is_unsafe n number (stmts_add [] ss (kept_part_quiet e)))
 
   block_part_quiet : (b : OptionBlock) → Correct (lower_block_part b) Quiet
@@ -332,8 +339,8 @@ mutual
 
   pat_adds : (p : Pat) → pats.Each none a_pat (lower_pat p)
   pat_adds (tree.leaf_pat at form) t = pats.alone_adds (pats.leaf_pat_adds at form) t
-  pat_adds (tree.bind_pat at u p) t = pats.bind_adds at u (subpat_adds p) t
-  pat_adds (tree.name_pat at u) t = pats.alone_adds (adds_pat _ (Some at) (λ l k. omega arith)) t
+  pat_adds (tree.bind_pat at u _ p) t = pats.bind_adds at u (subpat_adds p) t
+  pat_adds (tree.name_pat at u _) t = pats.alone_adds (adds_pat _ (Some at) (λ l k. omega arith)) t
   pat_adds (tree.path_pat at p) t = pats.alone_adds (pats.path_pat_adds at (path_adds p)) t
   pat_adds (tree.tuple_struct_pat at p comma ps) t = pats.tuple_struct_adds at comma (elements_add no_elements ps) (path_adds p) t
   pat_adds (tree.tuple_pat at comma ps) t = pats.tuple_pat_adds at comma (elements_add no_elements ps) t
@@ -387,7 +394,7 @@ mutual
   side_quiet : (s : Side) → Correct (lower_side s) Quiet
   side_quiet tree.no_side = quiet_pure None
   side_quiet (tree.literal_side at s) = pats.literal_side_quiet at s
-  side_quiet (tree.name_side at n) = pats.name_side_quiet at n
+  side_quiet (tree.name_side at n _) = pats.name_side_quiet at n
   side_quiet (tree.path_side at p) = pats.path_side_quiet at (path_adds p)
   side_quiet tree.other_side = quiet_pure None
 

@@ -89,7 +89,7 @@ mutual
   segment_notes : (first : Bool) (s : Segment) (w : PathWalk) → NotesOf (segment_size first s (seen w)) (read_segment first s w)
   segment_notes first tree.absent_segment w = notes_pure _
   segment_notes first tree.broken_segment w = notes_pure _
-  segment_notes first (tree.name_segment n as') w = notes_end (segment_args_note as') (λ a. notes_pure _)
+  segment_notes first (tree.name_segment n _ as') w = notes_end (segment_args_note as') (λ a. notes_pure _)
   segment_notes first tree.self_type_segment w = notes_pure _
   segment_notes false tree.crate_segment w = notes_pure _
   segment_notes true tree.crate_segment w = notes_pure _

@@ -11,16 +11,17 @@ use Rattle.hir_store.specs.declared.pat.Pat.{Pat}
 use Rattle.hir_store.specs.declared.type_ref.ConstRef.{ConstRef}
 use Rattle.hir_store.specs.declared.type_ref.TypeRef.{TypeRef}
 use Rattle.hir_env.specs.Answered.{Label}
-use Rattle.hir_lower_form.specs.Lowering.{Lowering, ◌>>=◌, pure, alloc_expr, alloc_pat, alloc_type, open_label, close}
+use Rattle.hir_lower_form.specs.Lowering.{Lowering, ◌>>=◌, pure, alloc_expr, alloc_made, alloc_pat, alloc_type, open_label, close}
 use Rattle.hir_lower_form.specs.Lower.{ExprSteps, constant_form}
 use Rattle.hir_lower_form.specs.Ranges.{inner_form}
 use Rattle.hir_meaning.specs.Inner.{Inners, of_type, of_expr, of_constant, of_limit, of_type_pat}
 use Rattle.hir_meaning.specs.Places.{places_in, places_to}
 use Rattle.hir_steps.proofs.Constants.{correct_constant, correct_inner}
 use Rattle.hir_steps.proofs.Frames.{Frame, rib, ribs}
+use Rattle.hir_steps.proofs.MadeSteps.{correct_alloc_made}
 use Rattle.hir_steps.proofs.PatSteps.{correct_alloc_pat}
 use Rattle.hir_steps.proofs.Steps.{Mark, Grows, Rel, Correct, correct_bind, correct_as, correct_in_store, correct_pure, correct_alloc}
-use Rattle.hir_steps.proofs.Steps.{correct_alloc_type, correct_opened, with_label}
+use Rattle.hir_steps.proofs.Steps.{correct_alloc_type, correct_opened, with_label, Put, AllocatedBy}
 use Rattle.hir_same_meaning.specs.Reached.{below, of_each, reached_to}
 use Rattle.hir_type_result.specs.Unrun.{unrun_of_pat, unruns}
 use Rattle.hir_type_result.proofs.Counted.{times, less, one_past, less_grows}
@@ -117,7 +118,7 @@ pub record Adds {A : Type 0} (was : Cost) (now : A → Cost) (final : Stored) (p
       → Earlier was final m m' all number (now a (view final all number reach hold place))
 
 -- no further into it than into what is answered
-still_deep : {was : Cost} {final : Stored} {m m' : Mark} {all number now : ℕ} (reach hold place : ℕ) → Grows m m'
+pub still_deep : {was : Cost} {final : Stored} {m m' : Mark} {all number now : ℕ} (reach hold place : ℕ) → Grows m m'
     → Deep m' all reach hold place → now + less number m.nodes ≤ was (view final all number reach hold place) + less number m'.nodes
     → Earlier was final m m' all number now
 still_deep reach hold place g d counted = record {
@@ -296,14 +297,14 @@ pub adds_target : {was : Cost} (p : Pat) (source : Option Pointer) → ((v : Vie
 unfolding unruns places_to
 adds_target p source h = adds_pat_as a_target (in_target p) p source (λ final all number reach hold place i here. rw here refl) h
 
--- an expression reaches itself and what it names, with all places looked for
-pub adds_expr_at : {was : Cost} (e : HirExpr) (source : Option Pointer)
+-- an expression reaches itself and what it names, with all places looked for, whether or not its node leads to it
+adds_expr_by : {was : Cost} {put : Put} {p : ExprSteps} (e : HirExpr) {source : Option Pointer} → Correct p (AllocatedBy put e source)
     → ((final : Stored) (all number reach hold : ℕ)
     → in_expr e (view final all number reach hold (length final.pats.entries))
     ≤ was (view final all number reach hold (length final.pats.entries)))
-    → Correct (alloc_expr e source) (Adds was an_expr)
+    → Correct p (Adds was an_expr)
 unfolding unruns reached_to
-adds_expr_at {was = was} e source h = correct_as (correct_in_store (correct_alloc e source)) (λ final ps m m' i g row. record {
+adds_expr_by {was = was} e stored h = correct_as (correct_in_store stored) (λ final ps m m' i g row. record {
   earlier = λ all number reach hold place d.
       let r = row.rel in at_depth final m m' i all number reach hold place g row.pats d r.number r.here r.next;
 })
@@ -326,6 +327,18 @@ adds_expr_at {was = was} e source h = correct_as (correct_in_store (correct_allo
           let p = one_past number m.nodes in rw (at, here, next) (omega (arith, x, p));
     }
 
+pub adds_expr_at : {was : Cost} (e : HirExpr) (source : Option Pointer)
+    → ((final : Stored) (all number reach hold : ℕ)
+    → in_expr e (view final all number reach hold (length final.pats.entries))
+    ≤ was (view final all number reach hold (length final.pats.entries)))
+    → Correct (alloc_expr e source) (Adds was an_expr)
+adds_expr_at e source h = adds_expr_by e (correct_alloc e source) h
+
+pub adds_made : {was : Cost} (e : HirExpr) (source : Option Pointer) → ((v : View) → in_expr e v ≤ was v)
+    → Correct (alloc_made e source) (Adds was an_expr)
+adds_made e source h = adds_expr_by e (correct_alloc_made e source)
+    (λ final all number reach hold. h (view final all number reach hold (length final.pats.entries)))
+
 pub adds_expr : {was : Cost} (e : HirExpr) (source : Option Pointer) → ((v : View) → in_expr e v ≤ was v)
     → Correct (alloc_expr e source) (Adds was an_expr)
 adds_expr e source h =
@@ -333,7 +346,7 @@ adds_expr e source h =
 
 -- ---- a label around steps
 
-entered_pats : (l : Label) (m entered : Mark) → entered.stored ≡ with_label l m.stored → m.pats ≡ length m.stored.pats.entries
+pub entered_pats : (l : Label) (m entered : Mark) → entered.stored ≡ with_label l m.stored → m.pats ≡ length m.stored.pats.entries
     → entered.pats ≡ length entered.stored.pats.entries → entered.pats ≡ m.pats
 entered_pats l m entered stored was is = is ∙ (ap (λ x. length x.pats.entries) stored ∙ sym was)
 

@@ -1,5 +1,5 @@
 -- What is stored where one type was lowered is one result of its tree.
-use Rattle.std.proofs.Common.{◌≡◌, arith, refl, sym, ap, subst, ℕ, ◌≤◌, length, [], None, IsPermutation, is_some, true≢false}
+use Rattle.std.proofs.Common.{arith, refl, sym, ap, subst, ℕ, [], None, IsPermutation, is_some, true≢false}
 use Rattle.hir_store.specs.Stored.{store_of, map_of}
 use Rattle.hir_store.proofs.Arenas.{prefix_refl}
 use Rattle.hir_store.proofs.Maps.{maps_back_none}
@@ -17,7 +17,7 @@ use Rattle.hir_one_result.proofs.TreeBlocks.{type_enters}
 use Rattle.hir_one_result.proofs.TreeFaults.{type_reports}
 use Rattle.hir_one_result.proofs.TreeStands.{type_left}
 use Rattle.hir_one_result.proofs.Whole.{lead_back}
-use Rattle.hir_type_result.specs.Roots.{RootsAre, RootsOf, lengths_of, no_lengths, recorded}
+use Rattle.hir_type_result.specs.Roots.{RootsAre, RootsOf, lengths_of, no_lengths}
 use Rattle.hir_type_result.specs.TypeResult.{TypeResults, RefusedTypes}
 use Rattle.hir_type_result.proofs.Behind.{blocks_behind, faults_behind, type_roots, ways_behind}
 use Rattle.hir_type_result.proofs.Inside.{type_inside}
@@ -48,7 +48,7 @@ type_results limit t i new is =
     let paired = kept.paired none in
     let mapped = kept.mapped none (nothing_mapped limit) in
     let fits : Grown (type_part_size t) old.stored new.stored =
-    subst (λ r. GrownUnless (type_part_size t) old.stored r.0 r.1.stored) is (types_fit None t old) in
+    subst (λ r. GrownUnless (type_part_size t) old r.0 r.1) is (types_fit None t old) in
     let stays = extends_refl new.stored in
     let settled : Settled new.stored new.stored = prefix_refl new.stored.bindings.entries in
     let left = ways_behind old new i none is (type_left None t) new.stored stays settled in
@@ -92,4 +92,4 @@ type_results limit t i new is =
 
 pub refused_types : RefusedTypes
 refused_types limit t fault new is =
-    let old = fresh limit in subst (λ r. GrownUnless (type_part_size t) old.stored r.0 r.1.stored) is (types_fit None t old)
+    let old = fresh limit in subst (λ r. GrownUnless (type_part_size t) old r.0 r.1) is (types_fit None t old)

@@ -1,10 +1,9 @@
 -- Which expressions a lowered body, type or path reaches through what it holds and doesn't run too, and that it reaches each in one
 -- way only.
-use Rattle.std.specs.Prelude.{◌≡◌, ℕ, ◌≤◌, length, Bool, List, ◌∷◌, ◌++◌, Option, Ok}
+use Rattle.std.specs.Prelude.{◌≡◌, ℕ, ◌≤◌, length, Bool, ◌∷◌, ◌++◌, Option, Ok}
 use Rattle.hir_store.specs.Storing.{Extends}
-use Rattle.hir_store.specs.Stored.{Store, Stored, store_of}
+use Rattle.hir_store.specs.Stored.{Stored, store_of}
 use Rattle.hir_store.specs.declared.ids.ExprId.{ExprId}
-use Rattle.hir_store.specs.declared.ids.PatId.{PatId}
 use Rattle.hir_store.specs.declared.ids.TypeRefId.{TypeRefId}
 use Rattle.hir_store.specs.declared.path.Path.{Path}
 use Rattle.hir_env.specs.Answered.{Binder, Formals, OptionExpr, OptionPath, OptionType}

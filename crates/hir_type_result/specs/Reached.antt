@@ -1,7 +1,5 @@
 -- Which types a stored type reaches, and that it reaches each in one way only.
-use Rattle.std.specs.Prelude.{◌≡◌, ℕ, zero, suc, ◌≤◌, length, List, [], ◌∷◌, ◌++◌, Option, Some, None, slice_get, Ok}
-use Rattle.hir_store.specs.Storing.{Extends}
-use Rattle.hir_store.specs.Stored.{Stored}
+use Rattle.std.specs.Prelude.{ℕ, zero, suc, List, [], ◌∷◌, ◌++◌, Option, Some, None, slice_get}
 use Rattle.hir_store.specs.declared.ids.TypeRefId.{TypeRefId}
 use Rattle.hir_store.specs.declared.path.Path.{Path}
 use Rattle.hir_store.specs.declared.path.Path.TheVariants.{BarePath, Normal, LangItem}
@@ -15,11 +13,6 @@ use Rattle.hir_store.specs.declared.type_ref.TypeBound.{TypeBound}
 use Rattle.hir_store.specs.declared.type_ref.TypeBound.TheVariants as bound
 use Rattle.hir_store.specs.declared.type_ref.TypeRef.{TypeRef}
 use Rattle.hir_store.specs.declared.type_ref.TypeRef.TheVariants as ty
-use Rattle.hir_env.specs.Answered.{Binder, OptionType}
-use Rattle.hir_lower_form.specs.Builder.{Builder}
-use Rattle.hir_lower_form.specs.Lower.{type_part}
-use Rattle.hir_steps.specs.Keeps.{Paired}
-use Rattle.hir_same_meaning.specs.Reached.{Spread}
 
 abbrev pub of_present : {A : Type 0} → (A → List ℕ) → Option A → List ℕ
 of_present f None = []

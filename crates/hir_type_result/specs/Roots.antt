@@ -1,5 +1,5 @@
 -- The bodies inside types and paths that stand alone are roots, in the order in which they are done.
-use Rattle.std.specs.Prelude.{◌≡◌, ℕ, ◌≤◌, length, Bool, true, false, List, [], ◌∷◌, ◌++◌, Option, None, Ok, slice_range}
+use Rattle.std.specs.Prelude.{◌≡◌, ℕ, ◌≤◌, length, Bool, true, false, List, [], ◌∷◌, ◌++◌, Option, Ok, slice_range}
 use Rattle.hir_store.specs.Storing.{Extends}
 use Rattle.hir_store.specs.Stored.{Store, SourceMap, Stored, store_of, map_of}
 use Rattle.hir_store.specs.declared.hir.Expr.{Expr as HirExpr}

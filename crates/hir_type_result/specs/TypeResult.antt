@@ -73,7 +73,7 @@ TypeResults = (limit : ℕ) (t : OptionType) (i : TypeRefId) (new : Builder)
 
 -- more of some sort than an arena may hold, or what counts too far
 abbrev pub TypeTooLarge : ℕ → OptionType → Type 0
-TypeTooLarge limit t = Short (type_part_size t) (fresh limit).stored
+TypeTooLarge limit t = Short (type_part_size t) (fresh limit)
 
 -- only such a type is refused
 abbrev pub RefusedTypes : Type 0

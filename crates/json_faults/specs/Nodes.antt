@@ -64,10 +64,16 @@ abbrev label_sort : Option Data → Sort
 label_sort None = sort.Part group.Label
 label_sort (Some d) = sort.Excluded
 
+-- of all modifiers `try` alone has a type behind it
+abbrev pub type_sort : Bool → Sort
+type_sort true = sort.Part group.Type_
+type_sort false = sort.Excluded
+
 -- what a field holds, in the light of the others
 abbrev pub sort_at : Data → Sort → Sort
 sort_at d sort.LiteralText = literal_sort (says (codes "lit") (codes "int") d) (says (codes "lit") (codes "bool") d)
 sort_at d sort.PlainLabel = label_sort (get (codes "mod") d)
+sort_at d sort.TryType = type_sort (says (codes "mod") (codes "try") d)
 sort_at d s = s
 
 -- a field of the sort must be there

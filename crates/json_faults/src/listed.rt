@@ -68,6 +68,27 @@ fn label_sort(node: &Value) -> Sort
     }
 }
 
+/// What the type of a block with that modifier is.
+fn type_sort(word: &str) -> Sort
+    ensures { result ≡ spec.type_sort (bytes_eq word.now (codes "try")) }
+{
+    if word == "try" {
+        Sort::Part(Group::Type_)
+    } else {
+        Sort::Excluded
+    }
+}
+
+/// What the type of a block is, in the light of its modifier.
+fn try_type_sort(node: &Value) -> Sort
+    ensures { result ≡ spec.sort_at (view node.now) Sort.TryType }
+{
+    match node.get("mod") {
+        Some(Value::String(word)) => type_sort(word.as_str()),
+        _ => Sort::Excluded,
+    }
+}
+
 /// What a field holds, in the light of the others.
 fn sort_at(node: &Value, sort: Sort) -> Sort
     ensures { result ≡ spec.sort_at (view node.now) sort }
@@ -75,6 +96,7 @@ fn sort_at(node: &Value, sort: Sort) -> Sort
     match sort {
         Sort::LiteralText => literal_sort(node),
         Sort::PlainLabel => label_sort(node),
+        Sort::TryType => try_type_sort(node),
         _ => sort,
     }
 }

@@ -26,6 +26,11 @@ expr_row kind.WhileExpr = record {
       ∷ (codes "body" ∶ sort.Part group.Block)
       ∷ [];
 }
+expr_row kind.TryExpr = record {
+  word = codes "TryExpr";
+  groups = group.Expr ∷ [];
+  fields = (codes "expr" ∶ sort.Part group.Expr) ∷ [];
+}
 expr_row kind.CallExpr = record {
   word = codes "CallExpr";
   groups = group.Expr ∷ [];

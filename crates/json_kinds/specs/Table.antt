@@ -35,7 +35,7 @@ row kind.BlockExpr = record {
   fields = (codes "mod" ∶ sort.WordIfThere words.Modifiers)
       ∷ (codes "label" ∶ sort.PlainLabel)
       ∷ (codes "move" ∶ sort.NotYet)
-      ∷ (codes "ty" ∶ sort.NotYet)
+      ∷ (codes "ty" ∶ sort.TryType)
       ∷ (codes "stmts" ∶ sort.List group.Stmt)
       ∷ (codes "tail" ∶ sort.Part group.Expr)
       ∷ [];
@@ -62,8 +62,8 @@ row (kind.Part k) = part_row k
 
 -- the kinds that serve as expressions: those of the core
 abbrev pub exprs : List Kind
-exprs = kind.IfExpr ∷ kind.BlockExpr ∷ kind.Expr expr.LoopExpr ∷ kind.Expr expr.WhileExpr ∷ kind.Expr expr.CallExpr
-    ∷ kind.Expr expr.PathExpr ∷ kind.Expr expr.ContinueExpr ∷ kind.Expr expr.BreakExpr ∷ kind.Expr expr.ParenExpr ∷ kind.Literal ∷ []
+exprs = kind.IfExpr ∷ kind.BlockExpr ∷ kind.Expr expr.LoopExpr ∷ kind.Expr expr.WhileExpr ∷ kind.Expr expr.TryExpr
+    ∷ kind.Expr expr.CallExpr ∷ kind.Expr expr.PathExpr ∷ kind.Expr expr.ContinueExpr ∷ kind.Expr expr.BreakExpr ∷ kind.Expr expr.ParenExpr ∷ kind.Literal ∷ []
 
 -- those that are made of operands
 abbrev pub operations : List Kind

@@ -22,6 +22,8 @@ pub enum Sort {
     ListWithNulls(Group),
     /// A label, which no modifier may stand beside.
     PlainLabel,
+    /// A type, which stands behind `try` alone.
+    TryType,
     /// No value: another field excludes this one.
     Excluded,
     /// A text that fits the kind of the literal, and has to be there.

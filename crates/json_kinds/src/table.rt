@@ -13,7 +13,7 @@ ghost use Rattle.json_kinds.specs.Types.{type_row};
 use crate::field::Field;
 use crate::field::Sort::{
     Flag, List, ListWithNulls, LiteralText, NotYet, Number, Part, PlainLabel, Text, TextIfThere,
-    Word, WordIfThere,
+    TryType, Word, WordIfThere,
 };
 use crate::group::Group;
 use crate::group::Group::{
@@ -30,6 +30,7 @@ macro_rules! exprs {
             LetExpr [Expr] { "pat": Part(Pat), "expr": Part(Expr) }
             LoopExpr [Expr] { "label": Part(Label), "body": Part(Block) }
             WhileExpr [Expr] { "label": Part(Label), "condition": Part(Expr), "body": Part(Block) }
+            TryExpr [Expr] { "expr": Part(Expr) }
             CallExpr [Expr] { "expr": Part(Expr), "args": List(Expr) }
             MethodCallExpr [Expr] {
                 "receiver": Part(Expr), "name": Part(Name), "generics": Part(GenericArgs), "args": List(Expr)
@@ -298,7 +299,7 @@ impl Kind {
             Kind::IfExpr =>
                 listed!("condition": Part(Expr), "then": Part(Block), "else": Part(Else)),
             Kind::BlockExpr => listed!(
-                "mod": WordIfThere(Words::Modifiers), "label": PlainLabel, "move": NotYet, "ty": NotYet,
+                "mod": WordIfThere(Words::Modifiers), "label": PlainLabel, "move": NotYet, "ty": TryType,
                 "stmts": List(Stmt), "tail": Part(Expr)
             ),
             Kind::Literal =>

@@ -39,6 +39,7 @@ unfoldable pub flow : Here → ExprNode → Option AnyPart
 flow h kind.LoopExpr = Some (whole_expr h (expr.LoopExpr (part_in h as_label (codes "label")) (part_in h as_block (codes "body"))))
 flow h kind.WhileExpr = Some (whole_expr h
     (expr.WhileExpr (part_in h as_label (codes "label")) (part_in h as_expr (codes "condition")) (part_in h as_block (codes "body"))))
+flow h kind.TryExpr = Some (whole_expr h (expr.TryExpr (part_in h as_expr (codes "expr"))))
 flow h kind.ContinueExpr = Some (whole_expr h (expr.ContinueExpr (part_in h as_lifetime (codes "lifetime"))))
 flow h kind.BreakExpr = Some (whole_expr h (expr.BreakExpr (part_in h as_lifetime (codes "lifetime")) (part_in h as_expr (codes "expr"))))
 flow h _ = None

@@ -1,5 +1,5 @@
 -- Blocks, statements, labels, names and functions.
-use Rattle.std.specs.Prelude.{codes, List, ℕ, Option, Some, None, bytes_eq, option_map, option_and_then, if◌then◌else◌}
+use Rattle.std.specs.Prelude.{codes, List, [], ◌∷◌, ℕ, Option, Some, None, option_map, option_and_then}
 use Rattle.serde_json.specs.Find.{get}
 use Rattle.hir_syntax.specs.declared.ast.StmtKind.{StmtKind}
 use Rattle.hir_syntax.specs.declared.ast.StmtKind.TheVariants as stmt
@@ -7,6 +7,7 @@ use Rattle.hir_syntax.specs.declared.ast.BlockExpr.{roll-BlockExpr}
 use Rattle.hir_syntax.specs.declared.ast.BlockModifier.{BlockModifier}
 use Rattle.hir_syntax.specs.declared.ast.BlockModifier.TheVariants as modifiers
 use Rattle.hir_syntax.specs.declared.ast.Fn.{Fn}
+use Rattle.json_kinds.specs.ByWord.{with_word}
 use Rattle.json_kinds.specs.declared.kind.StmtNode.{StmtNode}
 use Rattle.json_kinds.specs.declared.kind.StmtNode.TheVariants as stmt_kind
 use Rattle.json_kinds.specs.declared.kind.PartNode.{PartNode}
@@ -32,16 +33,21 @@ statement h stmt_kind.Item = stmt.Item
 abbrev pub of_stmt : Here → StmtNode → Option AnyPart
 of_stmt h k = Some (part.Code (code_part.Stmt (record { id = h.id; range = h.range; kind = statement h k })))
 
--- the modifier whose word it is, the only one that is read yet
-abbrev pub modifier : List ℕ → Option BlockModifier
-modifier word = if bytes_eq word (codes "unsafe") then Some modifiers.Unsafe else None
+abbrev modifier_word : BlockModifier → List ℕ
+modifier_word modifiers.Unsafe = codes "unsafe"
+modifier_word modifiers.Try = codes "try"
+
+-- the modifier that a word is, of those that are read yet
+abbrev pub modifier_of : List ℕ → Option BlockModifier
+modifier_of word = with_word modifier_word (modifiers.Unsafe ∷ modifiers.Try ∷ []) word
 
 unfoldable pub of_block : Here → Option AnyPart
 of_block h = Some (part.Expr (expr_part.Block (roll-BlockExpr (record {
   id = h.id;
   range = h.range;
-  mod_ = option_and_then modifier (text_in (codes "mod") h.value);
+  mod_ = option_and_then modifier_of (text_in (codes "mod") h.value);
   label = part_in h as_label (codes "label");
+  ty = part_in h as_type (codes "ty");
   stmts = list_in h as_stmt (codes "stmts");
   tail = part_in h as_expr (codes "tail");
 }))))

@@ -100,6 +100,10 @@ pub fn flow<F: Fields>(node: &F, refused: &mut bool, kind: ExprNode) -> Option<A
                 },
             )
         }
+        ExprNode::TryExpr => {
+            let expr = node.field::<InBox<Exprs>>(refused, "expr");
+            whole_expr(node, refused, ExprKind::TryExpr { expr })
+        }
         ExprNode::ContinueExpr => {
             let lifetime = node.field::<One<Lifetimes>>(refused, "lifetime");
             whole_expr(node, refused, ExprKind::ContinueExpr { lifetime })

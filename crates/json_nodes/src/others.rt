@@ -57,13 +57,20 @@ pub fn of_stmt<F: Fields>(node: &F, refused: &mut bool, kind: StmtNode) -> Optio
     })))
 }
 
-fn modifier(node: &Value) -> Option<BlockModifier>
-    ensures { result ≡ option_and_then spec.modifier (text_in (codes "mod") (view node.now)) }
+fn modifier_with(word: &str) -> Option<BlockModifier>
+    ensures { result ≡ spec.modifier_of word.now }
 {
-    match text(node, "mod") {
-        Some("unsafe") => Some(BlockModifier::Unsafe),
+    match word {
+        "unsafe" => Some(BlockModifier::Unsafe),
+        "try" => Some(BlockModifier::Try),
         _ => None,
     }
+}
+
+fn modifier(node: &Value) -> Option<BlockModifier>
+    ensures { result ≡ option_and_then spec.modifier_of (text_in (codes "mod") (view node.now)) }
+{
+    modifier_with(text(node, "mod")?)
 }
 
 /// A block.
@@ -73,6 +80,7 @@ pub fn of_block<F: Fields>(node: &F, refused: &mut bool) -> Option<AnyPart>
     ensures { Kept refused.old refused.new (result ≡ spec.of_block (F.here node.now)) }
 {
     let label = node.field::<One<Labels>>(refused, "label");
+    let ty = node.field::<InBox<Types>>(refused, "ty");
     let stmts = node.field::<All<Stmts>>(refused, "stmts");
     let tail = node.field::<InBox<Exprs>>(refused, "tail");
     let block = BlockExpr {
@@ -80,6 +88,7 @@ pub fn of_block<F: Fields>(node: &F, refused: &mut bool) -> Option<AnyPart>
         range: node.range(),
         mod_: modifier(node.value()),
         label,
+        ty,
         stmts,
         tail,
     };

@@ -30,6 +30,16 @@ const TURNED: &str = r#"{"nodes": [
     {"k": "IdentPat", "name": "x"}
 ]}"#;
 
+/// A function with the body `{ a? }`.
+const QUESTION: &str = r#"{"nodes": [
+    {"k": "Fn", "body": 1},
+    {"k": "BlockExpr", "tail": 2},
+    {"k": "TryExpr", "expr": 3},
+    {"k": "PathExpr", "path": 4},
+    {"k": "Path", "segs": [5]},
+    {"k": "PathSegment", "seg": "name", "name": "a"}
+]}"#;
+
 /// The first three.
 type Definitions = [Option<PatId>; 3];
 
@@ -88,4 +98,15 @@ fn a_name_used_twice_is_one_binding_of_two_patterns(rt: HostRuntime) {
         bindings: 2,
     };
     assert_eq!(rt; defined_in_text(rt.alloc(), TURNED), Ok(Some(turned)));
+}
+
+#[test]
+fn each_name_of_a_question_is_a_binding_of_one_pattern(rt: HostRuntime) {
+    let question = Defined {
+        first: Some([Some(PatId(0)), None, None]),
+        second: Some([Some(PatId(2)), None, None]),
+        pats: 4,
+        bindings: 2,
+    };
+    assert_eq!(rt; defined_in_text(rt.alloc(), QUESTION), Ok(Some(question)));
 }

@@ -24,6 +24,8 @@ mod paths;
 #[cfg(test)]
 mod patterns;
 #[cfg(test)]
+mod rewritten;
+#[cfg(test)]
 mod streams;
 #[cfg(test)]
 mod targets;

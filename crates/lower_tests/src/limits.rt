@@ -176,6 +176,39 @@ fn a_call_of_one_takes_three_expressions(rt: HostRuntime) {
     assert_eq!(rt; call_in_two_and_three(rt.alloc()), Ok((in_two, in_three)));
 }
 
+/// The constant `1?`.
+fn question_of_one(alloc: Global) -> Result<ConstArg, AllocError> {
+    let operand = Boxed::new(alloc, one(alloc, 2)?)?;
+    let question = ExprKind::TryExpr {
+        expr: Some(operand),
+    };
+    constant(alloc, expr(1, question))
+}
+
+/// The question in a collector for eight expressions, and in one for nine.
+fn question_in_eight_and_nine(alloc: Global) -> Result<(Answers, Stored), AllocError> {
+    let question = question_of_one(alloc)?;
+    let in_eight = lowered_twice(alloc, &question, 8);
+    let in_nine = lowered_once(alloc, &question, 9);
+    drop(question);
+    Ok((in_eight, in_nine))
+}
+
+#[test]
+fn a_question_of_one_takes_nine_expressions(rt: HostRuntime) {
+    let in_eight = Answers {
+        first: Some(LowerError::Full),
+        exprs: 8,
+        again: Some(LowerError::Failed),
+        stored: Err(LowerError::Failed),
+    };
+    let in_nine = Ok(Some(ExprId(9)));
+    assert_eq!(rt;
+        question_in_eight_and_nine(rt.alloc()),
+        Ok((in_eight, in_nine))
+    );
+}
+
 fn literal_in_none(alloc: Global) -> Result<Answers, AllocError> {
     let literal = constant(alloc, one(alloc, 1)?)?;
     let answers = lowered_twice(alloc, &literal, 0);

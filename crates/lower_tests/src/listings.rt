@@ -1,5 +1,5 @@
-//! Listings that no document leads to yet, as generated names, nodes of other files, and faults behind a border or
-//! outside of a body; and a minus in front of an integer.
+//! Listings that no document leads to yet, as paths of several generated names, nodes of other files, and faults behind a
+//! border or outside of a body; and a minus in front of an integer.
 
 use hir_base::node::{AstPtr, HirFileId, InFile, NodeId, TextRange};
 use hir_base::{Boxed, Seq, Text};

@@ -1,4 +1,5 @@
 use Rattle.hir_lower.proofs.Bodies.{has_body_if, one_result_if, body_too_large}
+use Rattle.hir_lower.proofs.MadeNames.{made_once_if}
 use Rattle.hir_lower.proofs.Params.{params_if}
 use Rattle.hir_lower.proofs.body.lower_body.Goals as goal
 
@@ -19,3 +20,7 @@ returns-clause-params g c =
 
 pub returns-clause-too_large : goal.returns-clause-too_large
 returns-clause-too_large g c = λ is. body_too_large _ _ _ _ _ 4294967295 (c.body_steps.ensures.full is)
+
+pub returns-clause-made_once : goal.returns-clause-made_once
+returns-clause-made_once g c =
+    made_once_if _ _ _ _ _ 4294967295 (λ r. r.0.store) (λ r. r.1.store) c.body_steps.result c.body_steps.ensures.stores

@@ -1,4 +1,4 @@
-use Rattle.hir_lower.proofs.TypeMeanings.{adds_if, ends_of_type_if, no_room_if, outside_type_if, scopes_if, unchanged_if}
+use Rattle.hir_lower.proofs.TypeMeanings.{adds_if, apart_type_if, ends_of_type_if, no_room_if, outside_type_if, scopes_if, unchanged_if}
 use Rattle.hir_lower.proofs.collector.add_type.Goals as goal
 
 pub returns-clause-adds : goal.returns-clause-adds
@@ -18,3 +18,6 @@ returns-clause-scopes c = λ n. scopes_if _ _ _ _ c.alloc_type.result c.alloc_ty
 
 pub returns-clause-outside : goal.returns-clause-outside
 returns-clause-outside c = λ out. outside_type_if _ _ _ _ c.alloc_type.result c.alloc_type.ensures out
+
+pub returns-clause-apart : goal.returns-clause-apart
+returns-clause-apart c = λ m. apart_type_if _ _ _ _ c.alloc_type.result c.alloc_type.ensures m

@@ -1,4 +1,4 @@
-use Rattle.hir_lower.proofs.Meanings.{outside_if, rooted_if, stays_unless, too_large_if}
+use Rattle.hir_lower.proofs.Meanings.{apart_if, outside_if, rooted_if, stays_unless, too_large_if}
 use Rattle.hir_lower.proofs.collector.lower_root.Goals as goal
 
 pub returns-clause-rooted : goal.returns-clause-rooted
@@ -12,3 +12,6 @@ returns-clause-stays g c = λ n. stays_unless _ _ _ c.root_steps.result c.root_s
 
 pub returns-clause-too_large : goal.returns-clause-too_large
 returns-clause-too_large g c = λ is. too_large_if _ _ _ c.root_steps.result c.root_steps.ensures is
+
+pub returns-clause-apart : goal.returns-clause-apart
+returns-clause-apart g c = λ d m. apart_if _ _ _ c.root_steps.result c.root_steps.ensures d m

@@ -1,4 +1,5 @@
-use Rattle.hir_lower.proofs.PathMeanings.{data_if, ends_if, names_if, outside_path_if, path_stays_if, path_too_large_if, rooted_path_if}
+use Rattle.hir_lower.proofs.PathMeanings.{data_if, ends_if, names_if, outside_path_if, path_apart_if, path_stays_if}
+use Rattle.hir_lower.proofs.PathMeanings.{path_too_large_if, rooted_path_if}
 use Rattle.hir_lower.proofs.collector.lower_whole_path.Goals as goal
 
 pub returns-clause-data : goal.returns-clause-data
@@ -21,3 +22,6 @@ returns-clause-too_large g c = λ is. path_too_large_if _ _ _ _ c.lower_path.res
 
 pub returns-clause-stays : goal.returns-clause-stays
 returns-clause-stays g c = λ d n. path_stays_if _ _ _ _ c.lower_path.result c.lower_path.ensures n
+
+pub returns-clause-apart : goal.returns-clause-apart
+returns-clause-apart g c = λ d m. path_apart_if _ _ _ _ c.lower_path.result c.lower_path.ensures d m

@@ -1,3 +1,6 @@
+use Rattle.std.specs.Prelude.{option_copied}
+use Rattle.hir_lower.specs.Roots.{type_spot}
+use Rattle.hir_lower.proofs.MadeNames.{type_once_if}
 use Rattle.hir_lower.proofs.TypeMeanings.{type_result_if, type_too_large}
 use Rattle.hir_lower.proofs.type_ref.lower_type_ref.Goals as goal
 
@@ -7,3 +10,9 @@ returns-clause-type_result g c =
 
 pub returns-clause-too_large : goal.returns-clause-too_large
 returns-clause-too_large g c = λ is. type_too_large _ _ 4294967295 (c.type_steps.ensures.full is)
+
+pub returns-clause-made_once : goal.returns-clause-made_once
+returns-clause-made_once g c =
+    let at = type_spot (g.E.LowerEnv.answers c.args.db.now) c.args.type_ref.file_id c.args.inside in
+    type_once_if at (option_copied c.args.type_ref.value) 4294967295 (λ r. r.0) (λ r. r.1) (λ r. r.2) c.type_steps.result
+    c.type_steps.ensures.stores

@@ -16,6 +16,17 @@ while_form-requires g c =
     let parts = rw (opened (kind.rolls-WhileExpr _ _ _ ∙ sym c.in-WhileExpr.is)) at c.requires.parts in
     record { condition = parts.0; body = parts.1 }
 
+pub block_form-requires-clause-block : goal.block_form-requires-clause-block
+block_form-requires-clause-block g c =
+    let parts = rw (opened (kind.rolls-BlockExpr _ ∙ sym c.in-BlockExpr.is)) at c.requires.parts in rw c.get.ensures parts.0
+
+pub block_form-requires-clause-own : goal.block_form-requires-clause-own
+block_form-requires-clause-own g c =
+    let parts = rw (opened (kind.rolls-BlockExpr _ ∙ sym c.in-BlockExpr.is)) at c.requires.parts in rw c.get.ensures parts.1
+
+pub question_form-requires : goal.question_form-requires
+question_form-requires g c = rw (opened (kind.rolls-TryExpr _ ∙ sym c.in-TryExpr.is)) at c.requires.parts
+
 pub break_form-requires : goal.break_form-requires
 break_form-requires g c = rw (opened (kind.rolls-BreakExpr _ _ ∙ sym c.in-BreakExpr.is)) at c.requires.parts
 
@@ -27,6 +38,9 @@ returns-in-LoopExpr g c = rw (opened (kind.rolls-LoopExpr _ _ ∙ sym c.in-LoopE
 
 pub returns-in-WhileExpr : goal.returns-in-WhileExpr
 returns-in-WhileExpr g c = rw (opened (kind.rolls-WhileExpr _ _ _ ∙ sym c.in-WhileExpr.is)) c.while_form.ensures
+
+pub returns-in-TryExpr : goal.returns-in-TryExpr
+returns-in-TryExpr g c = rw (opened (kind.rolls-TryExpr _ ∙ sym c.in-TryExpr.is)) c.question_form.ensures
 
 pub returns-in-ContinueExpr : goal.returns-in-ContinueExpr
 returns-in-ContinueExpr g c = rw (opened (kind.rolls-ContinueExpr _ ∙ sym c.in-ContinueExpr.is)) c.continue_form.ensures

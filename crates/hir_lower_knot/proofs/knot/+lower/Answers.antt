@@ -3,7 +3,7 @@ use Rattle.hir_syntax.specs.declared.ast.ExprKind.{out-ExprKind}
 use Rattle.hir_syntax.specs.declared.ast.BlockExpr.{out-BlockExpr}
 use Rattle.hir_syntax.specs.declared.ast.Path.{out-Path}
 use Rattle.hir_syntax.specs.declared.types.TypeKind.{out-TypeKind}
-use Rattle.hir_env.specs.Answering.{ptr, numbered}
+use Rattle.hir_env.specs.Answering.{inside, ptr, numbered}
 use Rattle.hir_env.specs.declared.place.Place.{Place}
 use Rattle.hir_env.specs.Count.{count_block, count_path, count_stmts, count_option_expr, count_type}
 use Rattle.hir_env.specs.Paths.{inside_constant}
@@ -12,9 +12,9 @@ use Rattle.hir_env.proofs.Levels.{expr_is_level, plain_is_level}
 use Rattle.hir_env.proofs.PathLevels.{path_is_level, type_is_level}
 use Rattle.hir_lower_handlers.specs.Nests.{HandlesArgs, HandlesBlock, HandlesConstant, HandlesExpr, HandlesPat, HandlesPath, HandlesType}
 use Rattle.hir_lower_handlers.specs.Nests.{HandlesTarget}
-use Rattle.hir_lower_handlers.specs.Spots.{spot_at}
+use Rattle.hir_lower_handlers.specs.Spots.{complete, spot_at}
 use Rattle.hir_lower_pat.proofs.AimLemmas.{kept_below}
-use Rattle.hir_lower_knot.proofs.Kids.{kids_expr, kids_block, in_inside}
+use Rattle.hir_lower_knot.proofs.Kids.{kids_expr, kids_block, in_inside, same_number}
 use Rattle.hir_lower_knot.proofs.TypeKids.{args_read, kids_args, kids_path, kids_type}
 use Rattle.hir_lower_knot.proofs.knot.+lower.Goals as goal
 
@@ -26,7 +26,7 @@ pub maybe_collect_expr-expr_node-requires : goal.maybe_collect_expr-expr_node-re
 maybe_collect_expr-expr_node-requires g t c =
     let d = c.decreases in
     let env = g.E.LowerEnv.answers c.args.env.now in
-    let at = spot_at env c.args.place in
+    let at = spot_at (complete env) c.args.place in
     let size = kept_below at c.args.node.now in
     kids_expr env (HandlesExpr g.E.LowerEnv.answers _ _ c.args.env.now) (HandlesBlock g.E.LowerEnv.answers _ _ c.args.env.now)
     (HandlesPath g.E.LowerEnv.answers _ _ c.args.env.now) (HandlesType g.E.LowerEnv.answers _ _ c.args.env.now)
@@ -36,8 +36,8 @@ maybe_collect_expr-expr_node-requires g t c =
       lowers = λ alloc v old new b r same is q. rw (← is) (rw (← same) q.2);
     })
     (λ p b h. record {
-      callable = λ alloc v old is_unsafe label n same is has. (rw same (rw is h), ((λ a m. m), has));
-      lowers = λ alloc v old new is_unsafe label n r same is q. rw (← is) (rw (← same) q.3);
+      callable = λ alloc v old role n same is has. (rw same (rw is h), ((λ a m. m), has));
+      lowers = λ alloc v old new role n r same is q. rw (← is) (rw (← same) q.3);
     })
     (λ p x h. record {
       callable = λ alloc v old walk b same is has. (rw same (rw is h), ((λ a m. m), has));
@@ -67,10 +67,12 @@ collect_block_inside-block_node-requires-clause-parts g t c =
     let env = g.E.LowerEnv.answers c.args.env.now in
     let inner = rw c.number-found.ensures at c.inside-inner.ensures in
     let node = out-BlockExpr c.args.node.now in
-    let tail : Place → ℕ = λ q. count_option_expr (expr_part (spot_at env q) node.tail) in
-    let level : Place → ℕ = λ q. suc (count_stmts (stmts_part (spot_at env q) node.stmts) + tail q) in
-    let size : count_block (answered_plain (spot_at env c.args.place) c.args.node.now) ≡ level c.inside-inner.result =
-    ap count_block (plain_is_level (spot_at env c.args.place) c.args.node.now) ∙ ap level (sym inner) in
+    let tail : Place → ℕ = λ q. count_option_expr (expr_part (spot_at (complete env) q) node.tail) in
+    let level : Place → ℕ = λ q. suc (count_stmts (stmts_part (spot_at (complete env) q) node.stmts) + tail q) in
+    let same : numbered (complete env) c.args.place node.id ≡ numbered env c.args.place node.id = same_number env c.args.place node.id in
+    let size : count_block (answered_plain (spot_at (complete env) c.args.place) c.args.node.now) ≡ level c.inside-inner.result =
+    ap count_block (plain_is_level (spot_at (complete env) c.args.place) c.args.node.now)
+    ∙ ap level (ap (λ x. inside x c.args.place) same ∙ sym inner) in
     kids_block env (HandlesExpr g.E.LowerEnv.answers _ _ c.args.env.now) (HandlesBlock g.E.LowerEnv.answers _ _ c.args.env.now)
     (HandlesPath g.E.LowerEnv.answers _ _ c.args.env.now) (HandlesType g.E.LowerEnv.answers _ _ c.args.env.now)
     (HandlesArgs g.E.LowerEnv.answers _ _ c.args.env.now) (HandlesConstant g.E.LowerEnv.answers _ _ c.args.env.now) t
@@ -79,8 +81,8 @@ collect_block_inside-block_node-requires-clause-parts g t c =
       lowers = λ alloc v old new b r same is q. rw (← is) (rw (← same) q.2);
     })
     (λ p b h. record {
-      callable = λ alloc v old is_unsafe label n same is has. (rw same (rw is h), ((λ a m. m), has));
-      lowers = λ alloc v old new is_unsafe label n r same is q. rw (← is) (rw (← same) q.3);
+      callable = λ alloc v old role n same is has. (rw same (rw is h), ((λ a m. m), has));
+      lowers = λ alloc v old new role n r same is q. rw (← is) (rw (← same) q.3);
     })
     (λ p x h. record {
       callable = λ alloc v old walk b same is has. (rw same (rw is h), ((λ a m. m), has));
@@ -103,7 +105,7 @@ read_path_segments-returns g t c =
 pub read_path_segments-path_node-requires-clause-parts : goal.read_path_segments-path_node-requires-clause-parts
 read_path_segments-path_node-requires-clause-parts g t c =
     let d = c.decreases in
-    let env = g.E.LowerEnv.answers c.args.env.now in
+    let env = complete (g.E.LowerEnv.answers c.args.env.now) in
     let size = ap count_path (path_is_level (spot_at env c.args.place) c.args.node.now) in
     kids_path env (record {
       expr = λ e. Unit {0};
@@ -141,7 +143,7 @@ lower_type_node-returns g t c =
 pub lower_type_node-type_node-requires : goal.lower_type_node-type_node-requires
 lower_type_node-type_node-requires g t c =
     let d = c.decreases in
-    let env = g.E.LowerEnv.answers c.args.env.now in
+    let env = complete (g.E.LowerEnv.answers c.args.env.now) in
     let at = spot_at env c.args.place in
     let size = ap count_type (type_is_level at c.args.node.now) in
     kids_type env (record {
@@ -182,7 +184,7 @@ lower_arg_list-returns g t c = c.args_node.ensures
 pub lower_arg_list-args_node-requires : goal.lower_arg_list-args_node-requires
 lower_arg_list-args_node-requires g t c =
     let d = c.decreases in
-    let env = g.E.LowerEnv.answers c.args.env.now in
+    let env = complete (g.E.LowerEnv.answers c.args.env.now) in
     kids_args env (record {
       expr = HandlesExpr g.E.LowerEnv.answers _ _ c.args.env.now c.args.place;
       block = HandlesBlock g.E.LowerEnv.answers _ _ c.args.env.now c.args.place;

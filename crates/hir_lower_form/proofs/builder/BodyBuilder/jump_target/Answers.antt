@@ -8,6 +8,7 @@ returns-in-Ok g c =
     let b : Builder = record {
       stored = c.self.inside.store;
       scopes = c.self.inside.scopes;
+      names = c.self.inside.names;
       counted_out = c.self.inside.counted_out;
       in_root = c.self.inside.in_root;
     } in
@@ -21,6 +22,7 @@ returns-in-Err g c =
     let b : Builder = record {
       stored = c.self.inside.store;
       scopes = c.self.inside.scopes;
+      names = c.self.inside.names;
       counted_out = c.self.inside.counted_out;
       in_root = c.self.inside.in_root;
     } in

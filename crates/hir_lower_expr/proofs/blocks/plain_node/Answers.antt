@@ -1,7 +1,7 @@
 use Rattle.std.proofs.Common.{arith, rules}
 use Rattle.hir_lower_form.proofs.BlockLemmas.{settled_in_range}
 use Rattle.hir_lower_form.specs.Lower.{block_form}
-use Rattle.hir_lower_expr.proofs.blocks.block_node.Goals as goal
+use Rattle.hir_lower_expr.proofs.blocks.plain_node.Goals as goal
 
 pub alloc_expr-requires : goal.alloc_expr-requires
 alloc_expr-requires g c =

@@ -1,0 +1,61 @@
+//! `try` blocks. With a written type the block is the value of a `let` with that type, in a block around it.
+
+ghost use Rattle.hir_store.specs.Range.{HasExpr};
+ghost use Rattle.hir_env.specs.Answered as tree;
+ghost use Rattle.hir_env.specs.Whole.{answered_type, type_part};
+ghost use Rattle.hir_lower_form.specs.Lowering.{Lowers};
+ghost use Rattle.hir_lower_form.specs.Methods.{try_steps_at};
+ghost use Rattle.hir_lower_form.specs.Nests.{IfPresent};
+
+use hir_lower_form::builder::BodyBuilder;
+use hir_lower_form::parts::{BlockRole, LowerParts, Lowerer};
+use hir_store::fault::StoreFault;
+use hir_store::ids::ExprId;
+use hir_syntax::{Boxed, ast};
+
+/// The name is made up before the type is lowered, which stands outside of the block.
+#[tactic(auto, unfolding(hir_lower_form::specs::Made::typed_try_form))]
+fn typed_try<P: LowerParts>(
+    lowerer: &Lowerer<P>,
+    state: &mut BodyBuilder,
+    ty: &ast::Type_,
+    node: &ast::BlockExpr,
+) -> Result<ExprId, StoreFault>
+    requires block { (P.can lowerer.now.parts).block node.now }
+    requires ty { (P.can lowerer.now.parts).type_ (P.spot lowerer.now.parts).place ty.now }
+    ensures { let spot = P.spot lowerer.now.parts in
+        Lowers HasExpr (try_steps_at spot (tree.some_type (answered_type spot ty.now)) node.now) state.old result state.new }
+{
+    let item = lowerer.parts.lang_items().try_trait_from_output;
+    let role = BlockRole::Try { item, typed: true };
+    let block = lowerer.parts.collect_block_inside(state, role, node)?;
+    let number = state.made_number()?;
+    let place = lowerer.parts.place();
+    let type_ref = lowerer.parts.lower_type(state, place, &None, ty)?;
+    let pat = state.made_bind(number)?;
+    let at = lowerer.pointer(node.id, node.range);
+    let tail = state.made_path(lowerer.alloc, at, number)?;
+    state.bound_block(lowerer.alloc, at, pat, type_ref, block, tail)
+}
+
+/// A `try` block, whose type may be absent.
+pub(crate) fn try_form<P: LowerParts>(
+    lowerer: &Lowerer<P>,
+    state: &mut BodyBuilder,
+    ty: &Option<Boxed<ast::Type_>>,
+    node: &ast::BlockExpr,
+) -> Result<ExprId, StoreFault>
+    requires block { (P.can lowerer.now.parts).block node.now }
+    requires ty { IfPresent ((P.can lowerer.now.parts).type_ (P.spot lowerer.now.parts).place) ty.now }
+    ensures { let spot = P.spot lowerer.now.parts in
+        Lowers HasExpr (try_steps_at spot (type_part spot ty.now) node.now) state.old result state.new }
+{
+    match ty {
+        None => {
+            let item = lowerer.parts.lang_items().try_trait_from_output;
+            let role = BlockRole::Try { item, typed: false };
+            lowerer.parts.collect_block_inside(state, role, node)
+        }
+        Some(ty) => typed_try(lowerer, state, ty.get(), node),
+    }
+}

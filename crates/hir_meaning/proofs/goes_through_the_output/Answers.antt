@@ -1,0 +1,5 @@
+use Rattle.hir_meaning.proofs.Tries.{goes_through_the_output as proved}
+use Rattle.hir_meaning.proofs.goes_through_the_output.Goals as goal
+
+pub returns : goal.returns
+returns c = proved

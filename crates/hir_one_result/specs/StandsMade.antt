@@ -1,0 +1,96 @@
+-- What stands for `?` and `try`. All that lowering makes up for one came from its node, patterns from none. The node leads to the outermost
+-- alone, but that of a `try` with a written type to the block in front of which its `let` stands.
+use Rattle.std.specs.Prelude.{◌≡◌, ℕ, Bool, false, List, [], ◌∷◌, Option, Some, None, slice_get}
+use Rattle.hir_store.specs.Pointers.{Pointer}
+use Rattle.hir_store.specs.Stored.{Store, SourceMap}
+use Rattle.hir_store.specs.declared.hir.Expr.{Expr as HirExpr}
+use Rattle.hir_store.specs.declared.hir.Expr.TheVariants as hir
+use Rattle.hir_store.specs.declared.hir.MatchArm.{MatchArm}
+use Rattle.hir_store.specs.declared.hir.Statement.{Statement}
+use Rattle.hir_store.specs.declared.hir.Statement.TheVariants as statement
+use Rattle.hir_store.specs.declared.name.Name.TheVariants as name
+use Rattle.hir_store.specs.declared.pat.Pat.{Pat as HirPat}
+use Rattle.hir_store.specs.declared.pat.Pat.TheVariants as pat
+use Rattle.hir_store.specs.declared.path.Path.TheVariants.{LangItem}
+use Rattle.hir_store.specs.declared.ids.BindingId.{BindingId}
+use Rattle.hir_store.specs.declared.ids.BlockId.{BlockId}
+use Rattle.hir_store.specs.declared.ids.ExprId.{ExprId}
+use Rattle.hir_store.specs.declared.ids.LabelId.{LabelId}
+use Rattle.hir_store.specs.declared.ids.LangItemId.{LangItemId}
+use Rattle.hir_store.specs.declared.ids.PatId.{PatId}
+use Rattle.hir_store.specs.declared.ids.TypeRefId.{TypeRefId}
+use Rattle.hir_scope.specs.Ribs.{Try}
+use Rattle.hir_env.specs.Answered.{QuestionItems}
+use Rattle.hir_meaning.specs.Contents.{BlockContents}
+use Rattle.hir_one_result.specs.Forms.{item_form, generated_path, generated_binding, residual_item, leaves_with}
+use Rattle.hir_one_result.specs.Leads.{Ways, No, OneWay, OneUnled, OneLabelWay, OneBindingWay, ◌&◌}
+use Rattle.hir_one_result.specs.StandsParts.{ExprAt}
+
+module _ (store : Store) (source_map : SourceMap) where
+  -- a pattern that came from no node
+  pub record PatMade (i : PatId) (p : HirPat) : Type 0 where
+    pub stored : slice_get store.pats i.0 ≡ Some p
+    pub source : slice_get source_map.pat_sources i.0 ≡ Some None
+
+  -- a label that came from the node, with a name that was made up for it
+  pub record LabelMade (n : LabelId) (number : ℕ) (at : Pointer) : Type 0 where
+    pub stored : slice_get store.labels n.0 ≡ Some (record { name = name.Generated number })
+    pub source : slice_get source_map.label_sources n.0 ≡ Some (Some at)
+
+  abbrev pub StandsMade : HirExpr → Pointer → ExprId → Ways
+  StandsMade e at i = λ ws. ExprAt store source_map i e (Some at) × OneUnled i ws
+
+  -- it binds the name of this number, of which nothing is wrong
+  abbrev pub StandsMadeBind : ℕ → PatId → Ways
+  StandsMadeBind n p = λ ws. (b : BindingId) × PatMade p (pat.Bind b None)
+      × (slice_get store.bindings b.0 ≡ Some (generated_binding n)) × OneBindingWay b ws
+
+  -- a call of the item
+  abbrev pub StandsItemCall : Pointer → Option LangItemId → ExprId → ExprId → Ways
+  StandsItemCall at item argument i = λ ws. (callee : ExprId)
+      × (StandsMade (item_form item) at callee & StandsMade (hir.Call callee (argument ∷ [])) at i) ws
+
+  -- ---- `?`
+
+  -- an arm for the item, in which what the item holds has the name of a number
+  abbrev pub StandsFlowArm : LangItemId → (ℕ → ExprId → Ways) → MatchArm → Ways
+  StandsFlowArm item S a = λ ws. (n : ℕ) × (p : PatId) × (q : PatId) × (e : ExprId) × (a ≡ record { pat = q; guard = None; expr = e })
+      × PatMade q (pat.TupleStruct (LangItem item) None (p ∷ [])) × (StandsMadeBind n p & S n e) ws
+
+  -- the residual of that name, what is made of it, and what leaves with that
+  abbrev pub StandsResidual : Pointer → QuestionItems → Option (Try LabelId) → ℕ → ExprId → Ways
+  StandsResidual at items t n i = λ ws. (r : ExprId) × (e : ExprId)
+      × (StandsMade (generated_path n) at r & StandsItemCall at (residual_item items t) r e & StandsMade (leaves_with t e) at i) ws
+
+  abbrev pub StandsQuestion : Pointer → QuestionItems → Option (Try LabelId) → (ExprId → Ways) → ExprId → Ways
+  StandsQuestion at items t S i = λ ws. (e : ExprId) × (b : ExprId) × (goes_on : MatchArm) × (breaks : MatchArm)
+      × ExprAt store source_map i (hir.Match b (goes_on ∷ breaks ∷ [])) (Some at)
+      × (S e & StandsItemCall at (Some items.branch) e b & StandsFlowArm items.goes_on (λ n x. StandsMade (generated_path n) at x) goes_on
+      & StandsFlowArm items.breaks (λ n x. StandsResidual at items t n x) breaks & OneWay at i) ws
+
+  -- ---- `try`
+
+  -- the tail, or `()` where there is none
+  abbrev pub StandsValue : Pointer → Option ExprId → ExprId → Ways
+  StandsValue at (Some e) v = λ ws. (v ≡ e) × No ws
+  StandsValue at None v = StandsMade (hir.Tuple []) at v
+
+  -- a call of the item with the value, which is stored between the item and the call
+  abbrev pub StandsWrapped : Pointer → Option LangItemId → Option ExprId → ExprId → Ways
+  StandsWrapped at item tail i = λ ws. (callee : ExprId) × (v : ExprId)
+      × (StandsMade (item_form item) at callee & StandsValue at tail v & StandsMade (hir.Call callee (v ∷ [])) at i) ws
+
+  -- a block with a label of its own, whose value goes through the item
+  abbrev pub StandsTry : Pointer → Option LangItemId → Option BlockId → Bool → (LabelId → List Statement → Option ExprId → Ways)
+      → ExprId → Ways
+  StandsTry at item number gives C i = λ ws. (label : LabelId) × (n : ℕ) × LabelMade label n at
+      × (kept : List Statement) × (last : Option ExprId) × (contents : List Statement × Option ExprId)
+      × BlockContents gives kept last contents × (value : ExprId)
+      × ExprAt store source_map i (hir.Block false (Some label) number contents.0 (Some value)) (Some at)
+      × (OneLabelWay at label & C label kept last & StandsWrapped at item contents.1 value & OneWay at i) ws
+
+  -- `{ let g: T = block; g }`, where the block is the `try` without its type
+  abbrev pub StandsTypedTry : Pointer → (ExprId → Ways) → (TypeRefId → Ways) → ExprId → Ways
+  StandsTypedTry at B T i = λ ws. (b : ExprId) × (t : TypeRefId) × (n : ℕ) × (p : PatId) × (e : ExprId)
+      × (B b & T t & StandsMadeBind n p & StandsMade (generated_path n) at e
+      & StandsMade (hir.Block false None None (statement.Let p (Some t) (Some b) None ∷ []) (Some e)) at i) ws

@@ -1,0 +1,72 @@
+-- What is made up reads back as made.
+use Rattle.std.proofs.Common.{◌≡◌, refl, ℕ, ◌+◌, ◌≤◌, slice_get, length, List, Some, None, arith}
+use Rattle.hir_store.specs.Stored.{Stored, store_of, map_of}
+use Rattle.hir_store.specs.declared.ids.BindingId.{BindingId}
+use Rattle.hir_store.specs.declared.ids.LangItemId.{LangItemId}
+use Rattle.hir_store.specs.declared.ids.PatId.{PatId}
+use Rattle.hir_store.specs.declared.pat.Pat.TheVariants as pat
+use Rattle.hir_lower_form.specs.Lowering.{alloc_pat}
+use Rattle.hir_lower_form.specs.Made.{item_pat, made_bind_form, made_binding, made_path}
+use Rattle.hir_steps.proofs.Frames.{Frame}
+use Rattle.hir_steps.proofs.PatSteps.{correct_alloc_binding, correct_alloc_pat, correct_define}
+use Rattle.hir_steps.proofs.Steps.{Mark, Correct, correct_as, correct_bind, correct_pure}
+use Rattle.hir_data.specs.Data as datum
+use Rattle.hir_data.specs.Data.{PatData, pat_at, item_path}
+use Rattle.hir_data.specs.MadeNames.{made_name}
+use Rattle.hir_data.specs.Reading.{stored_pat, stored_path}
+use Rattle.hir_read_back.proofs.Layers.{within}
+use Rattle.hir_read_back.proofs.Names.{found_in}
+use Rattle.hir_read_back.proofs.Pats.{a_pat, pat_stored}
+
+-- what nobody wrote: a name
+abbrev pub made_pattern : PatData
+made_pattern = pat_at None datum.generated_pattern
+
+-- The pattern binds the name of this number, and nothing else.
+pub record BindsMade (n : ℕ) (final : Stored) (p : PatId) : Type 0 where
+  pub binding : BindingId
+  pub here : slice_get final.pats.entries p.0 ≡ Some (pat.Bind binding None)
+  pub found : found_in final binding ≡ Some (made_binding n)
+
+pub record MadeRead (n : ℕ) (final : Stored) (ps : List Frame) (m m' : Mark) (p : PatId) : Type 0 where
+  pub binds : BindsMade n final p
+  pub reads : (d : ℕ) → m'.entries ≤ d → a_pat final (within final d) p ≡ made_pattern
+
+pub made_reads : (n : ℕ) → Correct (made_bind_form n) (MadeRead n)
+unfolding made_bind_form
+made_reads n = correct_as (correct_bind (correct_alloc_binding (made_binding n))
+    (λ i. correct_bind (correct_alloc_pat (pat.Bind i None) None) (λ p. correct_bind (correct_define i p) (λ u. correct_pure p))))
+    (λ final ps m m' q g row.
+    let bound = row.first in let s = row.second in let stored = s.first in let v = s.second in
+    let found : found_in final row.one ≡ Some (made_binding n) = rw bound.number bound.here in
+    rw (v.second.is, v.second.still) (record {
+      binds = record { binding = row.one; here = rw stored.number stored.here; found = found };
+      reads = λ d le. pat_stored stored (λ c ge. rw found refl) d (omega (le, v.after.entries, v.before.entries, s.after.entries, arith));
+    }))
+
+-- the pattern of an item, around one that binds a made name
+pub record ItemRead (item : LangItemId) (part : PatId) (final : Stored) (ps : List Frame) (m m' : Mark) (q : PatId) : Type 0 where
+  pub here : slice_get final.pats.entries q.0 ≡ Some (item_pat item part)
+  pub reads : (x : PatData) → ((d : ℕ) → m.entries ≤ d → a_pat final (within final d) part ≡ x) → (d : ℕ) → m'.entries ≤ d
+      → a_pat final (within final d) q
+      ≡ pat_at None (datum.tuple_struct_pattern (item_path item) None (datum.more_patterns x datum.no_patterns))
+
+pub item_reads : (item : LangItemId) (part : PatId) → Correct (alloc_pat (item_pat item part) None) (ItemRead item part)
+item_reads item part = correct_as (correct_alloc_pat (item_pat item part) None)
+    (λ final ps m m' q g row. record {
+      here = rw row.number row.here;
+      reads = λ x h. pat_stored row (λ d le. λ j.
+          datum.tuple_struct_pattern (item_path item) None (datum.more_patterns (h d le j) datum.no_patterns));
+    })
+
+-- a made name as a path
+pub made_path_read : (final : Stored) (n : ℕ) → made_name (stored_path (store_of final) (map_of final) (made_path n)) ≡ Some n
+unfolding stored_path
+made_path_read final n = refl
+
+-- read in full
+pub pat_in_full : (final : Stored) (p : PatId) (x : PatData)
+    → a_pat final (within final (length final.types.entries + length final.pats.entries)) p ≡ x
+    → stored_pat (store_of final) (map_of final) p ≡ x
+unfolding stored_pat
+pat_in_full final p x h = h

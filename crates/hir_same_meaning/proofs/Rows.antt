@@ -1,0 +1,61 @@
+-- Steps in a row, however they are grouped.
+use Rattle.std.proofs.Common.{List}
+use Rattle.hir_meaning.specs.Run.{Outcome, value, break, continue, leave, World, ends, pure, after, ◌>>=◌}
+use Rattle.hir_meaning.specs.Store.{JumpLabel, RunTable, StoreRun}
+use Rattle.hir_meaning.specs.Syntax.{SyntaxRun}
+use Rattle.hir_scope.specs.Scopes.{Count}
+use Rattle.hir_steps.proofs.Frames.{Frame}
+use Rattle.hir_same_meaning.proofs.Relation.{Agrees, SameWhere, bare}
+
+module _ {A B C : Type 0} {ps : List Frame} where
+  pub stored_row : (m : StoreRun A) (f : A → StoreRun B) (g : B → StoreRun C) {n : SyntaxRun C}
+      → SameWhere ps (m >>= (λ a. f a >>= g)) n → SameWhere ps ((m >>= f) >>= g) n
+  unfolding ◌>>=◌
+  stored_row m f g {n = n} h = record { same = λ w. by (m w).0 (m w).1 (n (bare w)) (h.same w) }
+    where
+      by : (o : Outcome JumpLabel A) (w : World RunTable) (r : Outcome Count C × World (Unit {0}))
+          → Agrees ps (after o w (λ a. f a >>= g)).0 (after o w (λ a. f a >>= g)).1 r.0 r.1
+          → Agrees ps (after (after o w f).0 (after o w f).1 g).0 (after (after o w f).0 (after o w f).1 g).1 r.0 r.1
+      by (value a) w r h = h
+      by (break j v) w r h = h
+      by (continue j) w r h = h
+      by (leave x) w r h = h
+
+  pub written_row : {m : StoreRun C} (n : SyntaxRun A) (f : A → SyntaxRun B) (g : B → SyntaxRun C)
+      → SameWhere ps m (n >>= (λ a. f a >>= g)) → SameWhere ps m ((n >>= f) >>= g)
+  unfolding ◌>>=◌
+  written_row {m = m} n f g h = record { same = λ w. by (n (bare w)).0 (n (bare w)).1 (m w) (h.same w) }
+    where
+      by : (o : Outcome Count A) (w : World (Unit {0})) (r : Outcome JumpLabel C × World RunTable)
+          → Agrees ps r.0 r.1 (after o w (λ a. f a >>= g)).0 (after o w (λ a. f a >>= g)).1
+          → Agrees ps r.0 r.1 (after (after o w f).0 (after o w f).1 g).0 (after (after o w f).0 (after o w f).1 g).1
+      by (value a) w r h = h
+      by (break j v) w r h = h
+      by (continue j) w r h = h
+      by (leave x) w r h = h
+
+  pub written_apart : {m : StoreRun C} (n : SyntaxRun A) (f : A → SyntaxRun B) (g : B → SyntaxRun C)
+      → SameWhere ps m ((n >>= f) >>= g) → SameWhere ps m (n >>= (λ a. f a >>= g))
+  unfolding ◌>>=◌
+  written_apart {m = m} n f g h = record { same = λ w. by (n (bare w)).0 (n (bare w)).1 (m w) (h.same w) }
+    where
+      by : (o : Outcome Count A) (w : World (Unit {0})) (r : Outcome JumpLabel C × World RunTable)
+          → Agrees ps r.0 r.1 (after (after o w f).0 (after o w f).1 g).0 (after (after o w f).0 (after o w f).1 g).1
+          → Agrees ps r.0 r.1 (after o w (λ a. f a >>= g)).0 (after o w (λ a. f a >>= g)).1
+      by (value a) w r h = h
+      by (break j v) w r h = h
+      by (continue j) w r h = h
+      by (leave x) w r h = h
+
+module _ {A B : Type 0} {ps : List Frame} where
+  pub stored_pure : {a : A} (f : A → StoreRun B) {n : SyntaxRun B} → SameWhere ps (f a) n → SameWhere ps (pure a >>= f) n
+  unfolding ends ◌>>=◌
+  stored_pure f h = record { same = λ w. h.same w }
+
+  pub written_pure : {a : A} {m : StoreRun B} (g : A → SyntaxRun B) → SameWhere ps m (g a) → SameWhere ps m (pure a >>= g)
+  unfolding ends ◌>>=◌
+  written_pure g h = record { same = λ w. h.same w }
+
+  pub written_value : {m : StoreRun B} (a : A) (g : A → SyntaxRun B) → SameWhere ps m (pure a >>= g) → SameWhere ps m (g a)
+  unfolding ends ◌>>=◌
+  written_value a g h = record { same = λ w. h.same w }

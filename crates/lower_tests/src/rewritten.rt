@@ -1,0 +1,139 @@
+//! What the nodes of `?` and `try` lead to, and how much is stored for them.
+
+use crate::lowered::lowered_text;
+use crate::ways::node;
+use hir_lower::{Body, BodySourceMap};
+use hir_store::hir::Expr;
+use lower_json::fault::ReadError;
+use std::alloc::Global;
+
+/// `fn f() { a? }`
+const QUESTION: &str = r#"{"nodes": [
+    {"k": "Fn", "body": 1},
+    {"k": "BlockExpr", "tail": 2},
+    {"k": "TryExpr", "expr": 3},
+    {"k": "PathExpr", "path": 4},
+    {"k": "Path", "segs": [5]},
+    {"k": "PathSegment", "seg": "name", "name": "a"}
+]}"#;
+
+/// The same where the language has no item that tells what goes on.
+const WITHOUT_ITEM: &str = r#"{"nodes": [
+    {"k": "Fn", "body": 1},
+    {"k": "BlockExpr", "tail": 2},
+    {"k": "TryExpr", "expr": 3},
+    {"k": "PathExpr", "path": 4},
+    {"k": "Path", "segs": [5]},
+    {"k": "PathSegment", "seg": "name", "name": "a"}
+], "env": {"lang": {"ControlFlowContinue": null}}}"#;
+
+/// `fn f() { try { a } }`
+const TRY: &str = r#"{"nodes": [
+    {"k": "Fn", "body": 1},
+    {"k": "BlockExpr", "tail": 2},
+    {"k": "BlockExpr", "mod": "try", "tail": 3},
+    {"k": "PathExpr", "path": 4},
+    {"k": "Path", "segs": [5]},
+    {"k": "PathSegment", "seg": "name", "name": "a"}
+]}"#;
+
+/// `fn f() { try bikeshed T {} }`
+const TYPED: &str = r#"{"nodes": [
+    {"k": "Fn", "body": 1},
+    {"k": "BlockExpr", "tail": 2},
+    {"k": "BlockExpr", "mod": "try", "ty": 3},
+    {"k": "PathType", "path": 4},
+    {"k": "Path", "segs": [5]},
+    {"k": "PathSegment", "seg": "name", "name": "T"}
+]}"#;
+
+/// What a node leads to.
+#[derive(Clone, Copy, Debug, PartialEq)]
+enum Led {
+    Nowhere,
+    Match,
+    LabelledBlock,
+    Other,
+}
+
+fn led_to(body: &Body, source_map: &BodySourceMap) -> Led {
+    let Some(id) = source_map.store.node_expr(node(2)) else {
+        return Led::Nowhere;
+    };
+    match body.store.expr(id) {
+        Some(Expr::Match { .. }) => Led::Match,
+        Some(Expr::Block { label: Some(_), .. }) => Led::LabelledBlock,
+        _ => Led::Other,
+    }
+}
+
+/// What node 2 leads to, and how many expressions, patterns, bindings, labels and types are stored.
+#[derive(Clone, Copy, Debug, PartialEq)]
+struct Rewritten {
+    led: Led,
+    lengths: [u32; 5],
+}
+
+fn what_became(body: &Body, source_map: &BodySourceMap) -> Rewritten {
+    Rewritten {
+        led: led_to(body, source_map),
+        lengths: [
+            body.store.exprs_len(),
+            body.store.pats_len(),
+            body.store.bindings_len(),
+            body.store.labels_len(),
+            body.store.types_len(),
+        ],
+    }
+}
+
+fn rewritten_in_text(alloc: Global, text: &str) -> Result<Option<Rewritten>, ReadError> {
+    match lowered_text(alloc, text)? {
+        Some((body, source_map)) => {
+            let became = what_became(&body, &source_map);
+            drop(body);
+            drop(source_map);
+            Ok(Some(became))
+        }
+        None => Ok(None),
+    }
+}
+
+#[test]
+fn a_question_leads_to_its_match(rt: HostRuntime) {
+    let question = Rewritten {
+        led: Led::Match,
+        lengths: [10, 4, 2, 0, 0],
+    };
+    assert_eq!(rt; rewritten_in_text(rt.alloc(), QUESTION), Ok(Some(question)));
+}
+
+#[test]
+fn a_question_without_its_items_leads_nowhere(rt: HostRuntime) {
+    let missing = Rewritten {
+        led: Led::Nowhere,
+        lengths: [2, 0, 0, 0, 0],
+    };
+    assert_eq!(rt;
+        rewritten_in_text(rt.alloc(), WITHOUT_ITEM),
+        Ok(Some(missing))
+    );
+}
+
+#[test]
+fn a_try_leads_to_its_labelled_block(rt: HostRuntime) {
+    let plain = Rewritten {
+        led: Led::LabelledBlock,
+        lengths: [5, 0, 0, 1, 0],
+    };
+    assert_eq!(rt; rewritten_in_text(rt.alloc(), TRY), Ok(Some(plain)));
+}
+
+#[test]
+fn a_typed_try_leads_to_the_labelled_block_inside(rt: HostRuntime) {
+    let typed = Rewritten {
+        led: Led::LabelledBlock,
+        lengths: [7, 1, 1, 1, 1],
+    };
+    assert_eq!(rt; rewritten_in_text(rt.alloc(), TYPED), Ok(Some(typed)));
+}
