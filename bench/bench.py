@@ -215,6 +215,36 @@ def turns(size):
     return nodes
 
 
+def fors(size):
+    """One block of very many `for`s, 100,000 of them at 500,000 nodes."""
+    nodes, block = body()
+    while len(nodes.all) + 5 <= size:
+        nodes.statement(block)
+        here = nodes.add("ForExpr")
+        nodes.all[here]["pat"] = nodes.add("IdentPat", name="x")
+        nodes.all[here]["iterable"] = nodes.add("UnderscoreExpr")
+        nodes.all[here]["body"] = nodes.add("BlockExpr", stmts=[])
+    return nodes
+
+
+def visits(size):
+    """Many chains of labelled `for`s, each the body of the one around it, left from inside all of them to the outermost label."""
+    nodes, block = body()
+    loops = CHAIN // 2
+    while len(nodes.all) + 5 * loops + 2 <= size:
+        nodes.statement(block)
+        for level in range(loops):
+            here = nodes.add("ForExpr")
+            nodes.all[here]["label"] = nodes.add("Label", lifetime="'l%d" % level)
+            nodes.all[here]["pat"] = nodes.add("IdentPat", name="x")
+            nodes.all[here]["iterable"] = nodes.add("UnderscoreExpr")
+            inner = nodes.add("BlockExpr")
+            nodes.all[here]["body"] = inner
+            nodes.all[inner]["tail"] = inner + 1
+        nodes.add("BreakExpr", lifetime="'l0")
+    return nodes
+
+
 def questions(size):
     """Many chains of `try` blocks, each with the next one and its `?` as its tail."""
     nodes, block = body()
@@ -235,6 +265,8 @@ SHAPES = {
     "deep": deep,
     "labels": labels,
     "turns": turns,
+    "fors": fors,
+    "visits": visits,
     "questions": questions,
     "segments": segments,
     "arguments": arguments,

@@ -22,6 +22,7 @@ abbrev mutual
   expr_tops (tree.block_expr b) = block_tops b
   expr_tops (tree.loop_expr at label _ b) = block_part_tops b
   expr_tops (tree.while_expr at label _ c b) = block_part_tops b ++ tops_of c
+  expr_tops (tree.for_expr at items label _ p h b) = tops_of h ++ (p ∷ tops_of b)
   expr_tops (tree.question_expr at items e) = tops_of e
   expr_tops (tree.itemless_expr at) = []
   expr_tops (tree.try_expr at item t number ss e) = stmts_tops ss ++ tops_of e

@@ -321,6 +321,7 @@ abbrev mutual
   expr_site (tree.if_expr at c t e) = Some (site_of at)
   expr_site (tree.loop_expr at label _ b) = Some (site_of at)
   expr_site (tree.while_expr at label _ c b) = Some (site_of at)
+  expr_site (tree.for_expr at _ label _ p h b) = Some (site_of at)
   expr_site (tree.question_expr at _ e) = Some (site_of at)
   -- what is missing comes from none
   expr_site (tree.itemless_expr at) = None

@@ -31,7 +31,7 @@ use Rattle.hir_env.specs.Answered.{Expr, OptionExpr, Field, OptionBlock, Arm}
 use Rattle.hir_env.specs.Targets.{resolves}
 use Rattle.hir_env.specs.Whole.{answered, answered_plain, answered_block, answered_else, answered_constant, answered_field}
 use Rattle.hir_env.specs.Whole.{answered_record, block_head, stmts_part, in_block, block_number, pointer_at, asked_expr}
-use Rattle.hir_env.specs.Whole.{own_level, try_level, type_part}
+use Rattle.hir_env.specs.Whole.{answered_body, body_level, own_level, try_level, type_part}
 use Rattle.hir_env.specs.Whole.{block_level, stmt_level, else_level, constant_level, field_level, record_level, guard_level}
 use Rattle.hir_env.specs.Whole.{let_else_level, arm_level, answered_guard, answered_let_else, answered_arm}
 use Rattle.hir_env.proofs.Mapped.{optional, listed, mapped_else, mapped_kind, mapped_stmt_kind, mapped_block}
@@ -50,6 +50,11 @@ plain_is : {A : Type 0} (h : A → BlockReading) (x : Option A) (p : Place)
     → of.plain_or_none (λ y. y) (optional h x) p ≡ of.plain_or_none h x p
 plain_is h None p = refl
 plain_is h (Some x) p = refl
+
+asked_is : {A : Type 0} (h : A → BlockReading) (x : Option A) (p : Place)
+    → of.asked_or_none (λ y. y) (optional h x) p ≡ of.asked_or_none h x p
+asked_is h None p = refl
+asked_is h (Some x) p = refl
 
 exprs_is : {A : Type 0} (h : A → Place → Expr) (xs : List A) (p : Place) → of.exprs_of (λ y. y) (listed h xs) p ≡ of.exprs_of h xs p
 exprs_is h [] p = refl
@@ -105,6 +110,9 @@ module _ (env : Answers) where
   expr_at_is (ExprKind-F.WhileExpr l c b) p s = λ j.
       tree.while_expr s (option_map (of.label_of env p) l) (of.label_written env p l) (expr_is rd.expr c p j)
       (plain_is rd.block_expr b p j)
+  expr_at_is (ExprKind-F.ForExpr l x e b) p s = λ j.
+      of.for_of (of.for_items env.lang_items) s (option_map (of.label_of env p) l) (of.label_written env p l) (pat_is rd.pat x p j)
+      (expr_is rd.expr e p j) (asked_is rd.block_expr b p j)
   expr_at_is (ExprKind-F.TryExpr e) p s = λ j. of.question_of (of.question_items env.lang_items) s (expr_is rd.expr e p j)
   expr_at_is (ExprKind-F.CallExpr f None) p s = λ j. tree.call_expr s (expr_is rd.expr f p j) false tree.no_exprs
   expr_at_is (ExprKind-F.CallExpr f (Some es)) p s = λ j. tree.call_expr s (expr_is rd.expr f p j) true (exprs_is rd.expr es p j)
@@ -222,6 +230,13 @@ module _ (env : Answers) where
       ≡ of.own_block env rd (out-BlockExpr b).mod_ (out-BlockExpr b) p
   read_own_is b p = (λ j. (opened_block env b j).own p) ∙ own_block_is (out-BlockExpr b).mod_ (out-BlockExpr b) p
 
+  read_asked_is : (b : AstBlockExpr) (p : Place) → (read_block env b).asked p
+      ≡ (let level = out-BlockExpr b in let s = of.in_file p (of.ptr level.id level.range) in
+      of.asked s (env.cfg (of.site_of s)) (of.own_block env rd level.mod_ level p))
+  read_asked_is b p = (λ j. (opened_block env b j).asked p)
+      ∙ (λ j. let level = out-BlockExpr b in let s = of.in_file p (of.ptr level.id level.range) in
+      of.asked s (env.cfg (of.site_of s)) (own_block_is level.mod_ level p j))
+
   read_stmt_kind_is : (k : AstStmtKind) (n : AstPtr) (p : Place) → read_stmt_kind env k n p ≡ of.stmt_kind env rd (out-StmtKind k) n p
   read_stmt_kind_is k n p = opened_stmt_kind env k n p ∙ stmt_kind_is (out-StmtKind k) n p
 
@@ -276,6 +291,11 @@ plain_is_level at b = read_plain_is at.answers b at.place ∙ block_at_level at 
 
 pub block_is_level : (at : Spot) (b : AstBlockExpr) → answered_block at b ≡ own_level at (out-BlockExpr b).mod_ b
 block_is_level at b = read_own_is at.answers b at.place ∙ own_block_level at (out-BlockExpr b).mod_ b
+
+pub body_is_level : (at : Spot) (b : AstBlockExpr) → answered_body at b ≡ body_level at b
+body_is_level at b = read_asked_is at.answers b at.place
+    ∙ (λ j. let level = out-BlockExpr b in let s = pointer_at at level.id level.range in
+    of.asked s (at.answers.cfg (of.site_of s)) (own_block_level at level.mod_ b j))
 
 pub else_is_level : (at : Spot) (e : AstElseBranch) → answered_else at e ≡ else_level at e
 else_is_level at e = read_else_is at.answers e at.place

@@ -1,5 +1,5 @@
 -- The node of an answered expression is its own.
-use Rattle.std.proofs.Common.{◌≡◌, ◌∙◌, refl, ap, Option, Some, None, Result, Ok, Err}
+use Rattle.std.proofs.Common.{◌≡◌, ◌∙◌, refl, ap, Option, Some, None, Result, Ok, Err, option_map}
 use Rattle.hir_base.specs.declared.op.BinaryOp.TheVariants as op
 use Rattle.hir_syntax.specs.declared.ast.BlockModifier.{BlockModifier}
 use Rattle.hir_syntax.specs.declared.ast.BlockModifier.TheVariants as modifier
@@ -11,8 +11,10 @@ use Rattle.hir_store.specs.Pointers.{Pointer}
 use Rattle.hir_store.specs.declared.ids.CfgId.{CfgId}
 use Rattle.hir_env.specs.Spot.{Spot, site_of}
 use Rattle.hir_env.specs.Layers.{ExprKindLayer}
-use Rattle.hir_env.specs.Answering.{asked, expr_at, expr_or_none, question_items, question_of}
-use Rattle.hir_env.specs.Answered.{Expr, OptionExpr, QuestionItems}
+use Rattle.hir_env.specs.Answering.{asked, expr_at, expr_or_none, for_items, for_of, label_of, label_written, asked_or_none}
+use Rattle.hir_env.specs.Answering.{question_items, question_of}
+use Rattle.hir_env.specs.Answered.{Expr, ForItems, IsWrittenLabel, Label, OptionExpr, OptionPat, QuestionItems}
+use Rattle.hir_env.specs.Paths.{pat_or_none}
 use Rattle.hir_env.specs.Targets.{pointer_of}
 use Rattle.hir_env.specs.Whole.{read_expr, own_level, written, reader, answered, kept_expr, kind_pointer, own_pointer, pointer_at}
 use Rattle.hir_env.proofs.Levels.{expr_is_level, block_is_level}
@@ -32,12 +34,21 @@ question_pointer : (items : Option QuestionItems) (s : Pointer) (e : OptionExpr)
 question_pointer None s e = refl
 question_pointer (Some items) s e = refl
 
+for_pointer : (items : Option ForItems) (s : Pointer) (label : Option Label) (w : IsWrittenLabel label) (p : OptionPat) (h b : OptionExpr)
+    → pointer_of (for_of items s label w p h b) ≡ s
+for_pointer None s label w p h b = refl
+for_pointer (Some items) s label w p h b = refl
+
 kept_pointer : (at : Spot) (k : ExprKindLayer written) (s : Pointer)
     → pointer_of (expr_at at.answers (reader at.answers) k at.place s) ≡ kind_pointer at.place k s
 kept_pointer at (ExprKind-F.BlockExpr b) s = ap pointer_of (block_is_level at b) ∙ own_block_pointer at (out-BlockExpr b).mod_ b
 kept_pointer at (ExprKind-F.IfExpr c t e) s = refl
 kept_pointer at (ExprKind-F.LoopExpr l b) s = refl
 kept_pointer at (ExprKind-F.WhileExpr l c b) s = refl
+kept_pointer at (ExprKind-F.ForExpr l x h b) s = for_pointer (for_items at.answers.lang_items) s
+    (option_map (label_of at.answers at.place) l) (label_written at.answers at.place l)
+    (pat_or_none (reader at.answers).pat x at.place) (expr_or_none (reader at.answers).expr h at.place)
+    (asked_or_none (reader at.answers).block_expr b at.place)
 kept_pointer at (ExprKind-F.TryExpr e) s =
     question_pointer (question_items at.answers.lang_items) s (expr_or_none (read_expr at.answers) e at.place)
 kept_pointer at (ExprKind-F.CallExpr f es) s = refl

@@ -136,6 +136,14 @@ pub record QuestionItems : Type 0 where
   pub into_try_type : Option LangItemId
   pub from_residual : Option LangItemId
 
+-- The items that a `for` takes: what makes an iterator of its head, what that is asked with for the next one, and the two kinds of what
+-- it answers.
+pub record ForItems : Type 0 where
+  pub into_iter : LangItemId
+  pub next : LangItemId
+  pub gives : LangItemId
+  pub is_done : LangItemId
+
 -- families of patterns, by their parts
 
 -- a broken one is missing: a block of a constant, and a literal that isn't there
@@ -260,9 +268,11 @@ mutual
     block_expr : Block → Expr
     loop_expr : Pointer → (label : Option Label) → IsWrittenLabel label → OptionBlock → Expr
     while_expr : Pointer → (label : Option Label) → IsWrittenLabel label → OptionExpr → OptionBlock → Expr
+    -- `for`: its label, its pattern, its head, and its body, which is read as an expression
+    for_expr : Pointer → ForItems → (label : Option Label) → IsWrittenLabel label → OptionPat → OptionExpr → OptionExpr → Expr
     -- `e?`
     question_expr : Pointer → QuestionItems → OptionExpr → Expr
-    -- a `?` for which the language lacks an item: it is missing, and nothing in it is read
+    -- a `for` or a `?` for which the language lacks an item: it is missing, and nothing in it is read
     itemless_expr : Pointer → Expr
     -- A `try` block: the item through which its value goes, its type, where one is written, its number, its statements and its
     -- written tail.

@@ -39,7 +39,8 @@ use Rattle.hir_env.specs.Layers.{StmtKindLayer, BlockExprLayer, ExprLayer, Recor
 use Rattle.hir_env.specs.Layers.{RecordExprFieldListLayer, StmtLayer, MatchArmLayer}
 use Rattle.hir_env.specs.Answered as tree
 use Rattle.hir_env.specs.Answered.{Label, Jump, Path, Expr, OptionExpr, Exprs, RecordHead, Fields, Field, Spread, Block, OptionBlock}
-use Rattle.hir_env.specs.Answered.{Stmts, Stmt, Constant, Arms, Arm, Guard, IsWrittenLabel, QuestionItems}
+use Rattle.hir_env.specs.Answered.{Stmts, Stmt, Constant, Arms, Arm, Guard, IsWrittenLabel, OptionPat}
+use Rattle.hir_env.specs.Answered.{ForItems, QuestionItems}
 
 -- names and labels
 
@@ -120,6 +121,21 @@ abbrev pub question_of : Option QuestionItems → Pointer → OptionExpr → Exp
 question_of None s e = tree.itemless_expr s
 question_of (Some items) s e = tree.question_expr s items e
 
+-- `for`
+
+abbrev pub for_items_if : Option LangItemId → Option LangItemId → Option LangItemId → Option LangItemId → Option ForItems
+for_items_if (Some into_iter) (Some next) (Some gives) (Some is_done) =
+    Some (record { into_iter = into_iter; next = next; gives = gives; is_done = is_done })
+for_items_if _ _ _ _ = None
+
+-- where all four are there
+abbrev pub for_items : LangItems → Option ForItems
+for_items items = for_items_if items.into_iter_into_iter items.iterator_next items.option_some items.option_none
+
+abbrev pub for_of : Option ForItems → Pointer → (label : Option Label) → IsWrittenLabel label → OptionPat → OptionExpr → OptionExpr → Expr
+for_of None s label w p h b = tree.itemless_expr s
+for_of (Some items) s label w p h b = tree.for_expr s items label w p h b
+
 -- blocks
 
 -- whether a block is unsafe, and its label
@@ -154,6 +170,11 @@ inside (Some n) p = record p { module_id = n.1 }
 abbrev pub plain_or_none : {A : Type 0} → (A → BlockReading) → Option A → Place → OptionBlock
 plain_or_none read None p = tree.no_block
 plain_or_none read (Some b) p = tree.some_block ((read b).plain p)
+
+-- a block that is read as an expression, with the condition that disables it
+abbrev pub asked_or_none : {A : Type 0} → (A → BlockReading) → Option A → Place → OptionExpr
+asked_or_none read None p = tree.no_expr
+asked_or_none read (Some b) p = tree.some_expr ((read b).asked p)
 
 abbrev pub exprs_of : {A : Type 0} → (A → Place → Expr) → List A → Place → Exprs
 exprs_of read [] p = tree.no_exprs
@@ -251,6 +272,9 @@ module _ (env : Answers) {S : Sorts} (part : Reader S) where
   expr_at (ExprKind-F.WhileExpr l c b) p s =
       tree.while_expr s (option_map (label_of env p) l) (label_written env p l) (expr_or_none part.expr c p)
       (plain_or_none part.block_expr b p)
+  expr_at (ExprKind-F.ForExpr l x h b) p s =
+      for_of (for_items env.lang_items) s (option_map (label_of env p) l) (label_written env p l) (pat_or_none part.pat x p)
+      (expr_or_none part.expr h p) (asked_or_none part.block_expr b p)
   expr_at (ExprKind-F.TryExpr e) p s = question_of (question_items env.lang_items) s (expr_or_none part.expr e p)
   expr_at (ExprKind-F.CallExpr f es) p s = tree.call_expr s (expr_or_none part.expr f p) (is_some es) (exprs_or_none part.expr es p)
   expr_at (ExprKind-F.PathExpr x) p s = tree.path_expr s (path_or_none part.path x p) (env.hygiene (site_of s))
@@ -337,7 +361,11 @@ module _ (env : Answers) {S : Sorts} (part : Reader S) where
   own_block (Some modifier.Try) b p = try_at b p
 
   abbrev pub block_step : BlockExprLayer S → BlockReading
-  block_step b = record { plain = λ p. block_at b plain_head p; own = λ p. own_block b.mod_ b p }
+  block_step b = record {
+    plain = λ p. block_at b plain_head p;
+    own = λ p. own_block b.mod_ b p;
+    asked = λ p. let s = in_file p (ptr b.id b.range) in asked s (env.cfg (site_of s)) (own_block b.mod_ b p);
+  }
 
   abbrev pub let_else_step : Option S.BlockExpr → Place → OptionBlock
   let_else_step x p = plain_or_none part.block_expr x p

@@ -99,6 +99,7 @@ abbrev mutual
   count_expr (tree.block_expr b) = suc (count_block b)
   count_expr (tree.loop_expr at label _ b) = suc (count_option_block b)
   count_expr (tree.while_expr at label _ c b) = suc (count_option_expr c + count_option_block b)
+  count_expr (tree.for_expr at items label _ p h b) = suc (count_option_pat p + (count_option_expr h + count_option_expr b))
   count_expr (tree.question_expr at items e) = suc (count_option_expr e)
   count_expr (tree.itemless_expr at) = 1
   count_expr (tree.try_expr at item t number ss e) = suc (count_option_type t + (suc (count_stmts ss + count_option_expr e)))

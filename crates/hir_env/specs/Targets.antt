@@ -24,6 +24,7 @@ pointer_of (tree.if_expr at c t e) = at
 pointer_of (tree.block_expr b) = block_pointer b
 pointer_of (tree.loop_expr at label _ b) = at
 pointer_of (tree.while_expr at label _ c b) = at
+pointer_of (tree.for_expr at items label _ p h b) = at
 pointer_of (tree.question_expr at items e) = at
 pointer_of (tree.itemless_expr at) = at
 pointer_of (tree.try_expr at item t number ss e) = at
@@ -51,6 +52,11 @@ pointer_of (tree.let_expr at p e) = at
 pointer_of (tree.match_expr at e arms) = at
 pointer_of (tree.range_expr at form a b) = at
 pointer_of (tree.assign_expr at e t v) = at
+
+-- the node of the head of a `for`, which is the form's where the head is absent
+abbrev pub head_pointer : Pointer → OptionExpr → Pointer
+head_pointer at tree.no_expr = at
+head_pointer at (tree.some_expr e) = pointer_of e
 
 -- ---- paths
 

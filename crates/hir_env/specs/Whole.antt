@@ -36,7 +36,7 @@ use Rattle.hir_store.specs.declared.name.Name.{Name}
 use Rattle.hir_env.specs.declared.place.Place.{Place}
 use Rattle.hir_env.specs.Layers.{RecordReading, ExprKindLayer}
 use Rattle.hir_env.specs.Answering.{in_file, ptr, site_of, label_of, label_written, jump_of, expr_or_none, plain_or_none, exprs_of}
-use Rattle.hir_env.specs.Answering.{BlockHead, labelled_head, unsafe_head}
+use Rattle.hir_env.specs.Answering.{BlockHead, labelled_head, unsafe_head, asked_or_none}
 use Rattle.hir_env.specs.Answering.{exprs_or_none, numbered, inside, asked, else_branch, expr_at, constant_step, stmt_at}
 use Rattle.hir_env.specs.Answering.{field_step, record_step, fields_of, spread_or_none, record_or_empty, arms_of, arms_or_none}
 use Rattle.hir_env.specs.Answering.{guard_or_none, let_else_or_none, guard_step, let_else_step, arm_step}
@@ -71,6 +71,10 @@ answered_plain at b = (read_block at.answers b).plain at.place
 
 abbrev pub answered_block : Spot → AstBlockExpr → Expr
 answered_block at b = (read_block at.answers b).own at.place
+
+-- as an expression that a condition may disable
+abbrev pub answered_body : Spot → AstBlockExpr → Expr
+answered_body at b = (read_block at.answers b).asked at.place
 
 abbrev pub answered_else : Spot → AstElseBranch → Expr
 answered_else at e = read_else_branch at.answers e at.place
@@ -144,6 +148,10 @@ else_part at e = expr_or_none (read_else_branch at.answers) e at.place
 
 abbrev pub block_part : Spot → Option AstBlockExpr → OptionBlock
 block_part at b = plain_or_none (read_block at.answers) b at.place
+
+-- the body of a `for`
+abbrev pub body_part : Spot → Option AstBlockExpr → OptionExpr
+body_part at b = asked_or_none (read_block at.answers) b at.place
 
 abbrev pub exprs_part : Spot → List AstExpr → Exprs
 exprs_part at es = exprs_of (read_expr at.answers) es at.place
@@ -311,6 +319,13 @@ abbrev pub own_level : Spot → Option BlockModifier → AstBlockExpr → Expr
 own_level at None b = tree.block_expr (block_level at (block_head at b) b)
 own_level at (Some modifier.Unsafe) b = tree.block_expr (block_level at unsafe_head b)
 own_level at (Some modifier.Try) b = try_level at b
+
+-- such a block, with the condition that disables it
+abbrev pub body_level : Spot → AstBlockExpr → Expr
+body_level at b =
+    let level = out-BlockExpr b in
+    let s = pointer_at at level.id level.range in
+    asked s (at.answers.cfg (site_of s)) (own_level at level.mod_ b)
 
 abbrev pub else_level : Spot → AstElseBranch → Expr
 else_level at e = else_branch at.answers (reader at.answers) (out-ElseBranch e) at.place

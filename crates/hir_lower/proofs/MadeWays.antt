@@ -1,28 +1,31 @@
 -- The forms that lowering makes up nodes for are made of such steps.
 use Rattle.std.proofs.Common.{ℕ, Bool, Option, Some, None}
+use Rattle.hir_binding.specs.declared.binding.BindingAnnotation.{BindingAnnotation}
 use Rattle.hir_store.specs.Pointers.{Pointer}
 use Rattle.hir_store.specs.declared.ids.BlockId.{BlockId}
 use Rattle.hir_store.specs.declared.ids.ExprId.{ExprId}
 use Rattle.hir_store.specs.declared.ids.LangItemId.{LangItemId}
-use Rattle.hir_env.specs.Answered.{QuestionItems}
+use Rattle.hir_store.specs.declared.ids.PatId.{PatId}
+use Rattle.hir_env.specs.Answered.{ForItems, Label, QuestionItems}
 use Rattle.hir_lower_form.specs.Forms.{ExprSteps, StoredContents}
 use Rattle.hir_lower_form.specs.Lowering.{Lowering}
 use Rattle.hir_lower_form.specs.Made.{flow_arm_form, item_call_form, made_bind_form, made_path_form, question_form, residual_form}
-use Rattle.hir_lower_form.specs.Made.{try_block_form, typed_try_form, value_or_unit, wrapped_form}
+use Rattle.hir_lower_form.specs.Made.{try_block_form, typed_try_form, value_or_unit, wrapped_form, made_reference_form, next_form}
+use Rattle.hir_lower_form.specs.Made.{done_arm_form, gives_arm_form, for_turn_form, made_loop_form, for_form}
 use Rattle.hir_lower_form.specs.Types.{TypeSteps}
 use Rattle.hir_lower.proofs.Ways.{Leading, any, since, then', makes, anyway, leading_pure, leading_alloc, leading_alloc_binding}
 use Rattle.hir_lower.proofs.Ways.{leading_alloc_pat, leading_block, leading_close, leading_define, leading_made, leading_number}
-use Rattle.hir_lower.proofs.Ways.{leading_open_try, leading_try_target}
+use Rattle.hir_lower.proofs.Ways.{leading_open, leading_open_try, leading_try_target}
 
-bind_leads : (n : ℕ) → Leading any (made_bind_form n)
+bind_leads : (mode : BindingAnnotation) (n : ℕ) → Leading any (made_bind_form mode n)
 unfolding made_bind_form
-bind_leads n =
+bind_leads mode n =
     then' (leading_alloc_binding _) (λ i. then' (leading_alloc_pat _ None) (λ p. then' (leading_define i p) (λ u. leading_pure p)))
 
 flow_arm_leads : (item : LangItemId) {body : ℕ → ExprSteps} → ((n : ℕ) → Leading since (body n)) → Leading any (flow_arm_form item body)
 unfolding flow_arm_form
 flow_arm_leads item h =
-    then' leading_number (λ n. then' (bind_leads n) (λ p. then' (leading_alloc_pat _ None) (λ q. then' (h n) (λ e. leading_pure _))))
+    then' leading_number (λ n. then' (bind_leads _ n) (λ p. then' (leading_alloc_pat _ None) (λ q. then' (h n) (λ e. leading_pure _))))
 
 module _ (at : Pointer) where
   path_leads : (n : ℕ) → Leading since (made_path_form at n)
@@ -65,5 +68,37 @@ module _ (at : Pointer) where
       → Leading since (typed_try_form at block type_ref)
   unfolding typed_try_form
   typed_try_leads hb ht =
-      makes hb (λ b. makes leading_number (λ n. makes ht (λ t. makes (bind_leads n) (λ p. makes (path_leads n) (λ e.
+      makes hb (λ b. makes leading_number (λ n. makes ht (λ t. makes (bind_leads _ n) (λ p. makes (path_leads n) (λ e.
       leading_made _ (Some at))))))
+
+  next_leads : (item : LangItemId) (n : ℕ) → Leading since (next_form at item n)
+  unfolding next_form made_reference_form
+  next_leads item n = makes (makes (path_leads n) (λ e. leading_made _ (Some at))) (λ r. item_call_leads (Some item) r)
+
+  done_leads : (item : LangItemId) → Leading any (done_arm_form at item)
+  unfolding done_arm_form
+  done_leads item = then' (leading_alloc_pat _ None) (λ p. then' (leading_made _ (Some at)) (λ e. leading_pure _))
+
+  gives_leads : (item : LangItemId) (p : PatId) {body : ExprSteps} → Leading since body → Leading any (gives_arm_form item p body)
+  unfolding gives_arm_form
+  gives_leads item p h = then' (leading_alloc_pat _ None) (λ q. then' h (λ e. leading_pure _))
+
+  for_turn_leads : (items : ForItems) (n : ℕ) (p : PatId) {body : ExprSteps} → Leading since body
+      → Leading since (for_turn_form at items n p body)
+  unfolding for_turn_form
+  for_turn_leads items n p h =
+      makes (next_leads items.next n) (λ c. makes (done_leads items.is_done) (λ a. makes (gives_leads items.gives p h) (λ b.
+      makes (leading_made _ (Some at)) (λ e. leading_made _ (Some at)))))
+
+  made_loop_leads : (label : Option Label) {body : ExprSteps} → Leading since body → Leading since (made_loop_form at label body)
+  unfolding made_loop_form
+  made_loop_leads None h = makes h (λ b. leading_made _ (Some at))
+  made_loop_leads (Some l) h = makes (leading_open l) (λ id. makes h (λ b. makes leading_close (λ u. leading_made _ (Some at))))
+
+pub for_leads : (at head_at : Pointer) (items : ForItems) (label : Option Label) {head : ExprSteps} {pattern : Lowering PatId}
+    {body : ExprSteps} → Leading since head → Leading any pattern → Leading since body
+    → Leading since (for_form at head_at items label head pattern body)
+unfolding for_form
+for_leads at head_at items label hh hp hb =
+    makes hh (λ h. makes (item_call_leads head_at (Some items.into_iter) h) (λ i. makes hp (λ p. makes leading_number (λ n.
+    makes (bind_leads _ n) (λ q. makes (made_loop_leads at label (for_turn_leads at items n p hb)) (λ l. leading_alloc _ (Some at)))))))

@@ -25,6 +25,7 @@ use Rattle.hir_env.specs.Answered.{OptionRet, OptionArgs, Args, Arg, Bounds, Bou
 use Rattle.hir_env.specs.Answered.{Listing, Label, Jump, Expr, OptionExpr, Exprs, Fields, Field, Spread, Block, OptionBlock, Stmts, Stmt}
 use Rattle.hir_env.specs.Answered.{Arms, Arm, Guard, Pat, OptionPat, Pats, PatFields, PatField, Side, OptionTypePat, TypePat, TypePats}
 use Rattle.hir_env.specs.Answered.{Limit, Target, Targets, TargetFields, TargetField}
+use Rattle.hir_env.specs.Targets.{head_pointer}
 use Rattle.hir_lower_form.specs.declared.args.ArgLists.{ArgLists}
 use Rattle.hir_lower_form.specs.declared.walk.PathWalk.{PathWalk}
 use Rattle.hir_lower_form.specs.Lowering.{Lowering, ◌>>=◌}
@@ -60,7 +61,7 @@ use Rattle.hir_lower.proofs.PatWays.{path_side_leads, path_target_leads, place_t
 use Rattle.hir_lower.proofs.PatWays.{record_target_leads, slice_pat_leads, target_field_leads, tuple_pat_leads}
 use Rattle.hir_lower.proofs.PatWays.{tuple_struct_leads, tuple_target_leads, type_alternatives_leads, names, unnamed, beside}
 use Rattle.hir_lower.proofs.PatWays.{then_names, top_form_leads}
-use Rattle.hir_lower.proofs.MadeWays.{question_leads, try_block_leads, typed_try_leads}
+use Rattle.hir_lower.proofs.MadeWays.{for_leads, question_leads, try_block_leads, typed_try_leads}
 
 missing_leads : Leading since missing
 unfolding missing
@@ -295,6 +296,8 @@ mutual
   node_leads (tree.block_expr b) = block_leads b
   node_leads (tree.loop_expr at label _ b) = loop_leads at _ label (block_part_leads b)
   node_leads (tree.while_expr at label _ c b) = loop_leads at _ label (turn_leads at (part_leads c) (block_part_leads b))
+  node_leads (tree.for_expr at items label _ p h b) =
+      for_leads at (head_pointer at h) items label (part_leads h) (top_leads p) (part_leads b)
   node_leads (tree.question_expr at items e) = question_leads at items (part_leads e)
   node_leads (tree.itemless_expr at) = missing_leads
   node_leads (tree.try_expr at item t number ss e) =

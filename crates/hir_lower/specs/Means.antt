@@ -61,11 +61,11 @@ use Rattle.hir_type_result.specs.Reached.{of_each as of_all}
 
 -- What is so of a root in a later store. Its expression does what the tree does; it stands for the tree, and each expression
 -- that came with it is what a written one became, or a missing one for an absent or disabled part or in front of a tuple with a
--- leading comma, or what is called for a range, or a further node of a `while`, a `?` or a `try`; where the source map led by then it
--- leads still, or by the ways of the tree; each label and each binding more is what a written one became, or of a made name, and there
--- are as many; each number that it reaches, or that one does
--- which it holds and doesn't run, is reached once, and is one that lowering it gave out, and so is each type that the expressions and
--- patterns reach that came with it, and each pattern that the expressions and types do.
+-- leading comma, or what is called for a range, or a further node of a `while`, a `for`, a `?` or a `try`; where the source map led by
+-- then it leads still, or by the ways of the tree; each label and each binding more is what a written one became, or of a made name, and
+-- there are as many; each number that it reaches, or that one does which it holds and doesn't run, is reached once, and is one that
+-- lowering it gave out, and so is each type that the expressions and patterns reach that came with it, and each pattern that the
+-- expressions and types do.
 pub record Lives (old new later : Stored) (i : ExprId) (e : OptionExpr) : Type 0 where
   pub same : SameMeaning (store_of later) (map_of later) i e
   pub ways : List Way

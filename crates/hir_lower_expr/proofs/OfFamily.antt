@@ -53,12 +53,14 @@ only_control k is no_if no_block no_loop no_while no_try no_continue no_break = 
 
 pub only_matching : (k : AstExprKind) → IsMatching (out-ExprKind k)
     → ((p : Option AstPat) (e : Option AstExpr) → k ≡ kind.LetExpr p e → ⊥)
-    → ((e : Option AstExpr) (as' : Option (List AstMatchArm)) → k ≡ kind.MatchExpr e as' → ⊥) → ⊥
-only_matching k is no_let no_match = by (out-ExprKind k) refl is
+    → ((e : Option AstExpr) (as' : Option (List AstMatchArm)) → k ≡ kind.MatchExpr e as' → ⊥)
+    → ((l : Option AstLabel) (p : Option AstPat) (e : Option AstExpr) (b : Option AstBlockExpr) → k ≡ kind.ForExpr l p e b → ⊥) → ⊥
+only_matching k is no_let no_match no_for = by (out-ExprKind k) refl is
   where
     by : (l : ExprKindLayer written) → out-ExprKind k ≡ l → IsMatching l → ⊥
     by (ExprKind-F.LetExpr p e) h is = no_let p e (made k _ h ∙ kind.rolls-LetExpr p e)
     by (ExprKind-F.MatchExpr e as') h is = no_match e as' (made k _ h ∙ kind.rolls-MatchExpr e as')
+    by (ExprKind-F.ForExpr l p e b) h is = no_for l p e b (made k _ h ∙ kind.rolls-ForExpr l p e b)
     by _ h is = is
 
 pub only_listing : (k : AstExprKind) → IsListing (out-ExprKind k)

@@ -149,14 +149,14 @@ fn turn_form<P: LowerParts>(
         (lower_block_part (block_part (P.spot lowerer.now.parts) body.now))) state.old result state.new }
 {
     let body = lowerer.collect_block_opt(state, body)?;
-    let condition = lowerer.collect_expr_opt(state, condition)?;
+    let tested = lowerer.collect_expr_opt(state, condition)?;
     let out = Expr::Break {
         label: None,
         expr: None,
     };
     let out = state.alloc_expr(out, Some(at))?;
     let turn = Expr::If {
-        condition,
+        condition: tested,
         then_branch: body,
         else_branch: Some(out),
     };

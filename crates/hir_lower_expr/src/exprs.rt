@@ -54,9 +54,9 @@ fn expr_form<P: LowerParts>(
         | ast::ExprKind::CastExpr { .. }
         | ast::ExprKind::RecordExpr { .. }
         | ast::ExprKind::OffsetOfExpr { .. } => typed_kind(lowerer, state, at, &node.kind),
-        ast::ExprKind::LetExpr { .. } | ast::ExprKind::MatchExpr { .. } => {
-            matching_kind(lowerer, state, at, &node.kind)
-        }
+        ast::ExprKind::LetExpr { .. }
+        | ast::ExprKind::MatchExpr { .. }
+        | ast::ExprKind::ForExpr { .. } => matching_kind(lowerer, state, at, &node.kind),
         ast::ExprKind::Literal(_)
         | ast::ExprKind::CfgPredExpr { .. }
         | ast::ExprKind::UnderscoreExpr

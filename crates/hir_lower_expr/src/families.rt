@@ -10,6 +10,7 @@ use crate::assignments::bin_form;
 use crate::blocks::block_form;
 use crate::calls::{call_form, method_call_form, paren_form};
 use crate::control::{if_form, loop_form, while_form};
+use crate::fors::for_form;
 use crate::jumps::{break_form, continue_form};
 use crate::leaves::{
     include_bytes_form, left_out_form, literal_form, predicate_form, underscore_form,
@@ -30,7 +31,7 @@ use hir_store::fault::StoreFault;
 use hir_store::ids::ExprId;
 use hir_syntax::ast;
 
-/// Blocks, branches, `?`, loops and jumps.
+/// Blocks, branches, `?`, loops but `for`, and jumps.
 #[tactic(auto, using(crate::proofs::OfFamily::only_control))]
 pub(crate) fn control_kind<P: LowerParts>(
     lowerer: &Lowerer<P>,
@@ -64,7 +65,7 @@ pub(crate) fn control_kind<P: LowerParts>(
     }
 }
 
-/// What has patterns.
+/// What has patterns of its own.
 #[tactic(auto, using(crate::proofs::OfFamily::only_matching))]
 pub(crate) fn matching_kind<P: LowerParts>(
     lowerer: &Lowerer<P>,
@@ -79,6 +80,12 @@ pub(crate) fn matching_kind<P: LowerParts>(
     match kind {
         ast::ExprKind::LetExpr { pat, expr } => let_form(lowerer, state, at, pat, expr),
         ast::ExprKind::MatchExpr { expr, arms } => match_form(lowerer, state, at, expr, arms),
+        ast::ExprKind::ForExpr {
+            label,
+            pat,
+            iterable,
+            body,
+        } => for_form(lowerer, state, at, label, pat, iterable, body),
         _ => unreachable!(),
     }
 }

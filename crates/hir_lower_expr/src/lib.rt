@@ -8,6 +8,7 @@ mod calls;
 mod control;
 pub mod exprs;
 mod families;
+mod fors;
 mod here;
 mod jumps;
 mod kept;

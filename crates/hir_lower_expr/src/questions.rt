@@ -1,8 +1,7 @@
 //! `?`: a match on what the branch of the operand is, of which one arm goes on with a value and the other leaves with a residual.
 
 ghost use Rattle.std.specs.Prelude.{◌≡◌, [], ◌∷◌, IfOk, Some, option_map};
-ghost use Rattle.hir_store.specs.Range.{HasArms, HasExpr};
-ghost use Rattle.hir_store.specs.Past.{join, past_arm, past_arms};
+ghost use Rattle.hir_store.specs.Range.{HasExpr};
 ghost use Rattle.hir_env.specs.Answered as tree;
 ghost use Rattle.hir_env.specs.Answering as of;
 ghost use Rattle.hir_env.specs.Whole.{expr_part};
@@ -21,7 +20,7 @@ use hir_lower_form::builder::BodyBuilder;
 use hir_lower_form::parts::{LowerParts, Lowerer};
 use hir_lower_scope::labels::TryLabel;
 use hir_store::fault::StoreFault;
-use hir_store::hir::{Expr, MatchArm};
+use hir_store::hir::{BindingAnnotation, Expr, MatchArm};
 use hir_store::ids::{ExprId, LangItemId};
 use hir_store::lists::push_arm;
 use hir_syntax::{Boxed, Seq, ast};
@@ -113,7 +112,7 @@ fn value_arm(
     ensures { Lowers HasArm (spec.flow_arm_form item (spec.made_path_form at)) state.old result state.new }
 {
     let number = state.made_number()?;
-    let part = state.made_bind(number)?;
+    let part = state.made_bind(BindingAnnotation::Unannotated, number)?;
     let pat = state.item_pat(alloc, item, part)?;
     let expr = state.made_path(alloc, at, number)?;
     let guard = None;
@@ -132,7 +131,7 @@ fn residual_arm(
         Lowers HasArm (spec.flow_arm_form taken.breaks (spec.residual_form at taken)) state.old result state.new }
 {
     let number = state.made_number()?;
-    let part = state.made_bind(number)?;
+    let part = state.made_bind(BindingAnnotation::Unannotated, number)?;
     let pat = state.item_pat(alloc, items.breaks, part)?;
     let expr = residual(alloc, state, at, items, number)?;
     let guard = None;
@@ -140,7 +139,11 @@ fn residual_arm(
 }
 
 /// The arms, in this order.
-fn two_arms(alloc: Global, first: MatchArm, second: MatchArm) -> Result<Seq<MatchArm>, AllocError>
+pub(crate) fn two_arms(
+    alloc: Global,
+    first: MatchArm,
+    second: MatchArm,
+) -> Result<Seq<MatchArm>, AllocError>
     ensures value { IfOk result (λ arms. arms ≡ first ∷ second ∷ []) }
 {
     let mut arms = Seq::new(alloc);

@@ -10,6 +10,7 @@ ghost use Rattle.hir_lower_form.specs.Nests.{IfPresent};
 use hir_lower_form::builder::BodyBuilder;
 use hir_lower_form::parts::{BlockRole, LowerParts, Lowerer};
 use hir_store::fault::StoreFault;
+use hir_store::hir::BindingAnnotation;
 use hir_store::ids::ExprId;
 use hir_syntax::{Boxed, ast};
 
@@ -32,7 +33,7 @@ fn typed_try<P: LowerParts>(
     let number = state.made_number()?;
     let place = lowerer.parts.place();
     let type_ref = lowerer.parts.lower_type(state, place, &None, ty)?;
-    let pat = state.made_bind(number)?;
+    let pat = state.made_bind(BindingAnnotation::Unannotated, number)?;
     let at = lowerer.pointer(node.id, node.range);
     let tail = state.made_path(lowerer.alloc, at, number)?;
     state.bound_block(lowerer.alloc, at, pat, type_ref, block, tail)

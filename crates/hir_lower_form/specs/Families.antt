@@ -3,7 +3,7 @@ use Rattle.hir_syntax.specs.declared.ast.ElseBranch.TheOpen.{ExprKind-F}
 use Rattle.hir_env.specs.Layers.{ExprKindLayer}
 use Rattle.hir_env.specs.Whole.{written}
 
--- blocks, branches, `?`, loops and jumps
+-- blocks, branches, `?`, loops but `for`, and jumps
 abbrev pub IsControl : ExprKindLayer written → Type 0
 IsControl (ExprKind-F.IfExpr c t e) = Unit {0}
 IsControl (ExprKind-F.BlockExpr b) = Unit {0}
@@ -30,10 +30,11 @@ IsAccess (ExprKind-F.IndexExpr a b) = Unit {0}
 IsAccess (ExprKind-F.RefExpr r m e) = Unit {0}
 IsAccess _ = ⊥
 
--- with patterns
+-- with patterns of their own
 abbrev pub IsMatching : ExprKindLayer written → Type 0
 IsMatching (ExprKind-F.LetExpr p e) = Unit {0}
 IsMatching (ExprKind-F.MatchExpr e arms) = Unit {0}
+IsMatching (ExprKind-F.ForExpr l p h b) = Unit {0}
 IsMatching _ = ⊥
 
 -- what works on the values of operands

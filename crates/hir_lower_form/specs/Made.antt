@@ -1,11 +1,15 @@
--- The forms that lowering makes up nodes for: `?` and `try` (rust-analyzer, `collect_try_operator` and `desugar_try_block`; Rust Reference,
--- the question mark operator).
+-- The forms that lowering makes up nodes for: `for`, `?` and `try` (rust-analyzer, `collect_for_loop`, `collect_try_operator` and
+-- `desugar_try_block`; Rust Reference, iterator loops and the question mark operator).
 use Rattle.std.specs.Prelude.{ℕ, Bool, true, false, if◌then◌else◌, List, [], ◌∷◌, Option, Some, None}
-use Rattle.hir_binding.specs.declared.binding.BindingAnnotation.TheVariants.{Unannotated}
+use Rattle.hir_binding.specs.declared.binding.BindingAnnotation.{BindingAnnotation}
+use Rattle.hir_binding.specs.declared.binding.BindingAnnotation.TheVariants.{Mutable, Unannotated}
 use Rattle.hir_store.specs.Pointers.{Pointer}
 use Rattle.hir_store.specs.declared.hir.Expr.{Expr as HirExpr}
 use Rattle.hir_store.specs.declared.hir.Expr.TheVariants as hir
+use Rattle.hir_store.specs.declared.hir.LoopSource.TheVariants.{ForLoop}
 use Rattle.hir_store.specs.declared.hir.MatchArm.{MatchArm}
+use Rattle.hir_store.specs.declared.hir.Mutability.TheVariants.{Mut}
+use Rattle.hir_store.specs.declared.hir.Rawness.TheVariants.{Ref}
 use Rattle.hir_store.specs.declared.hir.Statement.{Statement}
 use Rattle.hir_store.specs.declared.hir.Statement.TheVariants as statement
 use Rattle.hir_store.specs.declared.name.Name.TheVariants.{Generated}
@@ -21,10 +25,10 @@ use Rattle.hir_store.specs.declared.ids.LabelId.{LabelId}
 use Rattle.hir_store.specs.declared.ids.LangItemId.{LangItemId}
 use Rattle.hir_store.specs.declared.ids.PatId.{PatId}
 use Rattle.hir_store.specs.declared.ids.TypeRefId.{TypeRefId}
-use Rattle.hir_env.specs.Answered.{QuestionItems}
+use Rattle.hir_env.specs.Answered.{ForItems, Label, QuestionItems}
 use Rattle.hir_scope.specs.Ribs.{Try}
 use Rattle.hir_lower_form.specs.Lowering.{Lowering, ◌>>=◌, ◌>>◌, pure, alloc_expr, alloc_made, alloc_pat, alloc_binding, define}
-use Rattle.hir_lower_form.specs.Lowering.{made_number, open_try, try_target, close, enter_block}
+use Rattle.hir_lower_form.specs.Lowering.{made_number, open_label, open_try, try_target, close, enter_block}
 use Rattle.hir_lower_form.specs.Forms.{ExprSteps, StoredContents, root_hygiene, settled, settled_block}
 
 -- names that are made up
@@ -36,13 +40,13 @@ made_path n = BarePath (record { kind = kind.Plain; segments = Generated n ∷ [
 unfoldable pub made_path_form : Pointer → ℕ → ExprSteps
 made_path_form at n = alloc_made (hir.Path (made_path n) root_hygiene) (Some at)
 
-abbrev pub made_binding : ℕ → Binding
-made_binding n = record { name = Generated n; mode = Unannotated; hygiene = root_hygiene; problems = None }
+abbrev pub made_binding : BindingAnnotation → ℕ → Binding
+made_binding mode n = record { name = Generated n; mode = mode; hygiene = root_hygiene; problems = None }
 
 -- the name of this number, as a pattern that binds it
-unfoldable pub made_bind_form : ℕ → Lowering PatId
-made_bind_form n = do
-  i ← alloc_binding (made_binding n)
+unfoldable pub made_bind_form : BindingAnnotation → ℕ → Lowering PatId
+made_bind_form mode n = do
+  i ← alloc_binding (made_binding mode n)
   p ← alloc_pat (pat.Bind i None) None
   define i p
   pure p
@@ -83,7 +87,7 @@ leaving_node (Some t) e = hir.Break (Some t.place) (Some e)
 unfoldable pub flow_arm_form : LangItemId → (ℕ → ExprSteps) → Lowering MatchArm
 flow_arm_form item body = do
   n ← made_number
-  p ← made_bind_form n
+  p ← made_bind_form Unannotated n
   q ← alloc_pat (item_pat item p) None
   e ← body n
   pure (record { pat = q; guard = None; expr = e })
@@ -143,6 +147,74 @@ typed_try_form at block type_ref = do
   b ← block
   n ← made_number
   t ← type_ref
-  p ← made_bind_form n
+  p ← made_bind_form Unannotated n
   e ← made_path_form at n
   alloc_made (bound_block p t b e) (Some at)
+
+-- ---- `for`
+
+-- an arm without a guard
+abbrev pub arm_for : PatId → ExprId → MatchArm
+arm_for p e = record { pat = p; guard = None; expr = e }
+
+-- `&mut` of the name of this number
+unfoldable pub made_reference_form : Pointer → ℕ → ExprSteps
+made_reference_form at n = do
+  e ← made_path_form at n
+  alloc_made (hir.Ref Ref Mut e) (Some at)
+
+-- a call of the item with such a reference
+unfoldable pub next_form : Pointer → LangItemId → ℕ → ExprSteps
+next_form at item n = do
+  r ← made_reference_form at n
+  item_call_form at (Some item) r
+
+-- the arm for the item that holds nothing, which ends the loop
+unfoldable pub done_arm_form : Pointer → LangItemId → Lowering MatchArm
+done_arm_form at item = do
+  p ← alloc_pat (pat.Path (LangItem item) root_hygiene) None
+  e ← alloc_made (hir.Break None None) (Some at)
+  pure (arm_for p e)
+
+-- the arm for the item that holds what this pattern fits, with the body
+unfoldable pub gives_arm_form : LangItemId → PatId → ExprSteps → Lowering MatchArm
+gives_arm_form item p body = do
+  q ← alloc_pat (item_pat item p) None
+  e ← body
+  pure (arm_for q e)
+
+-- a block whose value this is, and which has nothing else in it
+abbrev pub only_tail : ExprId → HirExpr
+only_tail e = hir.Block false None None [] (Some e)
+
+-- `{ match next(&mut g) { None => break, Some(p) => body } }`
+unfoldable pub for_turn_form : Pointer → ForItems → ℕ → PatId → ExprSteps → ExprSteps
+for_turn_form at items n p body = do
+  c ← next_form at items.next n
+  a ← done_arm_form at items.is_done
+  b ← gives_arm_form items.gives p body
+  e ← alloc_made (hir.Match c (a ∷ b ∷ [])) (Some at)
+  alloc_made (only_tail e) (Some at)
+
+-- a loop to which its node doesn't lead
+unfoldable pub made_loop_form : Pointer → Option Label → ExprSteps → ExprSteps
+made_loop_form at None body = do
+  b ← body
+  alloc_made (hir.Loop b None ForLoop) (Some at)
+made_loop_form at (Some l) body = do
+  id ← open_label l
+  b ← body
+  close
+  alloc_made (hir.Loop b (Some id) ForLoop) (Some at)
+
+-- `match into_iter(head) { mut g => label: loop { .. } }`, where what makes an iterator of the head comes from the head's node. Head and
+-- pattern lie outside of the label.
+unfoldable pub for_form : Pointer → Pointer → ForItems → Option Label → ExprSteps → Lowering PatId → ExprSteps → ExprSteps
+for_form at head_at items label head pattern body = do
+  h ← head
+  i ← item_call_form head_at (Some items.into_iter) h
+  p ← pattern
+  n ← made_number
+  q ← made_bind_form Mutable n
+  l ← made_loop_form at label (for_turn_form at items n p body)
+  alloc_expr (hir.Match i (arm_for q l ∷ [])) (Some at)

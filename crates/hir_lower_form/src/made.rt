@@ -10,7 +10,7 @@ ghost use Rattle.hir_lower_form.specs.Made as spec;
 use crate::builder::BodyBuilder;
 use hir_base::node::{AstPtr, InFile};
 use hir_store::fault::StoreFault;
-use hir_store::hir::{Binding, BindingAnnotation, Expr, Pat, Statement};
+use hir_store::hir::{Binding, BindingAnnotation, Expr, Mutability, Pat, Rawness, Statement};
 use hir_store::ids::{ExprId, HygieneId, LangItemId, PatId, TypeRefId};
 use hir_store::lists::{push_id, push_pat, push_statement};
 use hir_store::name::Name;
@@ -99,12 +99,12 @@ impl BodyBuilder {
 
     /// Stores a pattern that binds the made name of this number.
     #[tactic(auto, unfolding(crate::specs::Made::made_bind_form))]
-    pub fn made_bind(&mut self, number: u32) -> Result<PatId, StoreFault>
-        ensures { Lowers HasPat (spec.made_bind_form number) self.old result self.new }
+    pub fn made_bind(&mut self, mode: BindingAnnotation, number: u32) -> Result<PatId, StoreFault>
+        ensures { Lowers HasPat (spec.made_bind_form mode number) self.old result self.new }
     {
         let binding = Binding {
             name: Name::Generated(number),
-            mode: BindingAnnotation::Unannotated,
+            mode,
             hygiene: HygieneId::ROOT,
             problems: None,
         };
@@ -146,6 +146,29 @@ impl BodyBuilder {
         ensures { Lowers HasExpr (step.alloc_made (spec.item_or_missing item) (Some at)) self.old result self.new }
     {
         self.alloc_made(item_or_missing(item), Some(at))
+    }
+
+    /// Stores a mutable reference to what the made name of this number stands for.
+    #[tactic(auto, unfolding(crate::specs::Made::made_reference_form))]
+    pub fn made_reference(
+        &mut self,
+        alloc: Global,
+        at: InFile<AstPtr>,
+        number: u32,
+    ) -> Result<ExprId, StoreFault>
+        ensures { Lowers HasExpr (spec.made_reference_form at number) self.old result self.new }
+    {
+        let expr = self.made_path(alloc, at, number)?;
+        let rawness = Rawness::Ref;
+        let mutability = Mutability::Mut;
+        self.alloc_made(
+            Expr::Ref {
+                rawness,
+                mutability,
+                expr,
+            },
+            Some(at),
+        )
     }
 
     /// Stores a call with one argument.

@@ -23,8 +23,9 @@ use Rattle.hir_store.specs.declared.pat.Pat.TheVariants as pat
 use Rattle.hir_store.specs.declared.path.Path.{Path as HirPath}
 use Rattle.hir_env.specs.Spot.{Spot, site_of}
 use Rattle.hir_env.specs.Answered as tree
-use Rattle.hir_env.specs.Answered.{Block, Expr, Exprs, OptionExpr, OptionPath, OptionType, Path, QuestionItems, Stmts, Target, Targets}
-use Rattle.hir_env.specs.Answering.{asked, expr_at, question_items, question_of}
+use Rattle.hir_env.specs.Answered.{Block, Expr, Exprs, ForItems, IsWrittenLabel, Label, OptionExpr, OptionPat, OptionPath, OptionType}
+use Rattle.hir_env.specs.Answered.{Path, QuestionItems, Stmts, Target, Targets}
+use Rattle.hir_env.specs.Answering.{asked, expr_at, for_items, for_of, question_items, question_of}
 use Rattle.hir_env.specs.Count.{count_expr}
 use Rattle.hir_env.specs.Layers.{ExprKindLayer}
 use Rattle.hir_env.specs.PathNames.{mod_path_of}
@@ -75,6 +76,16 @@ of_question : {A : Type 0} (f : Expr → A) (a : A) (s : Pointer) (e : OptionExp
 of_question f a s e h k None = k
 of_question f a s e h k (Some items) = h items
 
+-- what is so of a `for`, be there its items or not
+of_for : {A : Type 0} (f : Expr → A) (a : A)
+    → ((s : Pointer) (items : ForItems) (label : Option Label) (w : IsWrittenLabel label) (p : OptionPat) (h b : OptionExpr)
+    → f (tree.for_expr s items label w p h b) ≡ a)
+    → ((s : Pointer) → f (tree.itemless_expr s) ≡ a)
+    → (o : Option ForItems) (s : Pointer) (label : Option Label) (w : IsWrittenLabel label) (p : OptionPat) (h b : OptionExpr)
+    → f (for_of o s label w p h b) ≡ a
+of_for f a k j None s label w p h b = j s
+of_for f a k j (Some items) s label w p h b = k s items label w p h b
+
 -- what is so of a block as an expression, whatever its modifier
 of_own : {A : Type 0} (f : Expr → A) (a : A) → ((b : Block) → f (tree.block_expr b) ≡ a)
     → ((s : Pointer) (item : Option LangItemId) (t : OptionType) (number : Option BlockId) (ss : Stmts) (e : OptionExpr)
@@ -95,6 +106,8 @@ dots_at at (ExprKind-F.RangeExpr o (Some e) b) s = refl
 dots_at at (ExprKind-F.IfExpr c t e) s = refl
 dots_at at (ExprKind-F.LoopExpr l b) s = refl
 dots_at at (ExprKind-F.WhileExpr l c b) s = refl
+dots_at at (ExprKind-F.ForExpr l q e b) s =
+    of_for is_dots false (λ t items x w p h y. refl) (λ t. refl) (for_items at.answers.lang_items) s _ _ _ _ _
 dots_at at (ExprKind-F.CallExpr f es) s = refl
 dots_at at (ExprKind-F.PathExpr x) s = refl
 dots_at at (ExprKind-F.ContinueExpr l) s = refl
@@ -147,6 +160,8 @@ callee_at at (ExprKind-F.RangeExpr o a b) s = refl
 callee_at at (ExprKind-F.IfExpr c t e) s = refl
 callee_at at (ExprKind-F.LoopExpr l b) s = refl
 callee_at at (ExprKind-F.WhileExpr l c b) s = refl
+callee_at at (ExprKind-F.ForExpr l q e b) s =
+    of_for callee_path None (λ t items x w p h y. refl) (λ t. refl) (for_items at.answers.lang_items) s _ _ _ _ _
 callee_at at (ExprKind-F.CallExpr f es) s = refl
 callee_at at (ExprKind-F.PathExpr x) s = refl
 callee_at at (ExprKind-F.ContinueExpr l) s = refl
@@ -204,6 +219,9 @@ other_at f at (ExprKind-F.RangeExpr o a b) s h = refl
 other_at f at (ExprKind-F.IfExpr c t e) s h = refl
 other_at f at (ExprKind-F.LoopExpr l b) s h = refl
 other_at f at (ExprKind-F.WhileExpr l c b) s h = refl
+other_at f at (ExprKind-F.ForExpr l q e b) s h =
+    of_for (target_or f tree.absent_target) tree.absent_target (λ t items x w p j y. refl) (λ t. refl)
+    (for_items at.answers.lang_items) s _ _ _ _ _
 other_at f at (ExprKind-F.ContinueExpr l) s h = refl
 other_at f at (ExprKind-F.BreakExpr l e) s h = refl
 other_at f at (ExprKind-F.Literal l) s h = refl
@@ -332,6 +350,7 @@ module _ (f : Path → Bool) where
   put_is place (tree.block_expr b) = refl
   put_is place (tree.loop_expr at label _ b) = refl
   put_is place (tree.while_expr at label _ c b) = refl
+  put_is place (tree.for_expr at items label _ p h b) = refl
   put_is place (tree.question_expr at items e) = refl
   put_is place (tree.itemless_expr at) = refl
   put_is place (tree.try_expr at item t number ss e) = refl

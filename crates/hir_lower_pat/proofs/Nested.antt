@@ -211,6 +211,7 @@ module _ (C : Claims) (env : Answers) (P : Place → AstExpr → Type 0) (Q : Pl
   in_callee s (ExprKind-F.BlockExpr b) h = tt
   in_callee s (ExprKind-F.LoopExpr l b) h = tt
   in_callee s (ExprKind-F.WhileExpr l c b) h = tt
+  in_callee s (ExprKind-F.ForExpr l q e b) h = tt
   in_callee s (ExprKind-F.TryExpr e) h = tt
   in_callee s (ExprKind-F.CallExpr f es) h = tt
   in_callee s (ExprKind-F.PathExpr x) h = target_path x (omega (arith, h))
@@ -257,6 +258,7 @@ module _ (C : Claims) (env : Answers) (P : Place → AstExpr → Type 0) (Q : Pl
   target_kids s (ExprKind-F.BlockExpr b) h = tt
   target_kids s (ExprKind-F.LoopExpr l b) h = tt
   target_kids s (ExprKind-F.WhileExpr l c b) h = tt
+  target_kids s (ExprKind-F.ForExpr l q e b) h = tt
   target_kids s (ExprKind-F.TryExpr e) h = tt
   target_kids s (ExprKind-F.CallExpr f None) h = (callee f (omega (arith, h)), tt)
   target_kids s (ExprKind-F.CallExpr f (Some es)) h = (callee f (omega (arith, h)), targets es (omega (arith, h)))

@@ -71,6 +71,7 @@ module _ (at : Spot) (C : Claims) (inside : AstExpr → Type 0) (n : ℕ)
   in_callee (ExprKind-F.BlockExpr b) c = tt
   in_callee (ExprKind-F.LoopExpr l b) c = tt
   in_callee (ExprKind-F.WhileExpr l e b) c = tt
+  in_callee (ExprKind-F.ForExpr l q e b) c = tt
   in_callee (ExprKind-F.TryExpr e) c = tt
   in_callee (ExprKind-F.CallExpr f es) c = tt
   in_callee (ExprKind-F.PathExpr x) c = c
@@ -114,6 +115,7 @@ module _ (at : Spot) (C : Claims) (inside : AstExpr → Type 0) (n : ℕ)
   kids s (ExprKind-F.BlockExpr b) c h = tt
   kids s (ExprKind-F.LoopExpr l b) c h = tt
   kids s (ExprKind-F.WhileExpr l e b) c h = tt
+  kids s (ExprKind-F.ForExpr l q e b) c h = tt
   kids s (ExprKind-F.TryExpr e) c h = tt
   kids s (ExprKind-F.CallExpr f None) c h = (callee f c.0, tt)
   kids s (ExprKind-F.CallExpr f (Some es)) c h = (callee f c.0, each es c.1 (omega (arith, h)))

@@ -5,6 +5,7 @@ use Rattle.hir_env.specs.Answering.{site_of}
 use Rattle.hir_env.specs.Answered as tree
 use Rattle.hir_env.specs.Answered.{Label, Expr, OptionExpr, Exprs, Fields, Spread, Block, OptionBlock, Stmts, Arms, Guard}
 use Rattle.hir_env.specs.Answered.{Target, Targets, TargetFields}
+use Rattle.hir_env.specs.Targets.{head_pointer}
 use Rattle.hir_scope.specs.Scopes.{Scope, loop_scope, try_scope, barrier, outward, scopes_in_block}
 use Rattle.hir_scope.proofs.Alone.{nothing_outside}
 use Rattle.hir_data.specs.Patterns.{written_pat}
@@ -14,7 +15,7 @@ use Rattle.hir_meaning.specs.Run.{Value, unit, truth, is_true, call, method_call
 use Rattle.hir_meaning.specs.Run.{became, unmatched, ends, pure, ◌>>=◌, ◌>>◌, ask, tests, tests_pattern, binds, assigns, entering}
 use Rattle.hir_meaning.specs.Catching.{turn, loop}
 use Rattle.hir_meaning.specs.Left.{is_kept, is_left, is_last, field_names}
-use Rattle.hir_meaning.specs.Syntax.{run_question, run_try, is_typed, through, as_it_is}
+use Rattle.hir_meaning.specs.Syntax.{run_for, run_question, run_try, is_typed, through, as_it_is}
 use Rattle.hir_meaning.specs.Syntax.{SyntaxRun, catching, run_expr, run_part, run_block_part, run_or_unit, run_each}
 use Rattle.hir_meaning.specs.Syntax.{run_while, spread_form, run_record, run_fields, run_spread, run_range, if_read, run_present, run_arms}
 use Rattle.hir_meaning.specs.Syntax.{run_guarded, run_else, run_places, run_each_place, run_field_places}
@@ -41,6 +42,9 @@ module _ (turns : ℕ) (outer : List Scope) where
     expr_alone (tree.loop_expr at label _ b) inner = λ i. loop outward turns (turn (block_part_alone b (loop_scope label ∷ inner) i))
     expr_alone (tree.while_expr at label _ c b) inner = λ i.
         run_while turns (part_alone c (loop_scope label ∷ inner) i) (block_part_alone b (loop_scope label ∷ inner) i) (Some (site_of at))
+    expr_alone (tree.for_expr at items label _ p h b) inner = λ i.
+        run_for turns items (written_pat p) (part_alone h inner i) (Some (site_of (head_pointer at h)))
+        (part_alone b (loop_scope label ∷ inner) i) (Some (site_of at))
     expr_alone (tree.question_expr at items e) inner = λ i.
         run_question items ((nothing_outside inner outer None).tries i) (part_alone e inner i) (Some (site_of at))
     expr_alone (tree.itemless_expr at) inner = refl

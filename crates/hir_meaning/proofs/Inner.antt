@@ -22,7 +22,7 @@ pub exprs_in_order : ExprsInOrder
 exprs_in_order at a b e f n items = (refl, refl, refl, refl)
 
 pub patterns_in_order : PatternsInOrder
-patterns_in_order at a b c d l i = (refl, refl, refl, refl, refl)
+patterns_in_order at a b c d l i = (refl, refl, refl, refl, refl, refl)
 
 -- in the list of one constant, by one step
 one_constant : (r : Inners) (i : ExprId)

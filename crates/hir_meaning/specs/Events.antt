@@ -12,12 +12,14 @@ use Rattle.hir_env.specs.NodeMap.{Site}
 use Rattle.hir_data.specs.Data.{TypeData, OptionTypeData, PathData, PatData, OptionArgsData}
 use Rattle.hir_data.specs.Literals.{LiteralData}
 
--- a value: what an event was answered, `()`, `true` or `false`, or what the language itself names
+-- a value: what an event was answered, `()`, `true` or `false`, what the language itself names, or a mutable reference to one that
+-- nobody wrote a name for
 pub data Value : Type 0 where
   answered : ℕ → Value
   unit : Value
   truth : Bool → Value
   item : LangItemId → Value
+  mutable_to : Value → Value
 
 -- what is asked of a value (Rust Reference, `if` expressions and patterns)
 pub data Test : Type 0 where

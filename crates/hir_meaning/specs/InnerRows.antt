@@ -155,8 +155,13 @@ abbrev pub assigned_of : Pointer → Literal → OptionExpr → OptionExpr → O
 assigned_of at l a b = tree.some_expr (tree.assign_expr at tree.no_expr
     (tree.place_target at (tree.cast_expr at (body at l) (nevers at a))) (cast_to at (body at l) b))
 
--- An arm has those of its pattern, of its guard and of its body, and what is assigned to comes first. In a type both ends of a range
--- are bodies. A range that isn't made has none.
+-- `for p in h { b }`, of items that are all this one
+abbrev pub for_over : Pointer → LangItemId → OptionPat → OptionExpr → OptionExpr → OptionExpr
+for_over at i p h b =
+    tree.some_expr (tree.for_expr at (record { into_iter = i; next = i; gives = i; is_done = i }) None tt p h b)
+
+-- An arm has those of its pattern, of its guard and of its body, a `for` those of its head, of its pattern and of its body, and what is
+-- assigned to comes first. In a type both ends of a range are bodies. A range that isn't made has none.
 abbrev pub PatternsInOrder : Type 0
 PatternsInOrder = (at : Pointer) (a b c d l : Literal) (i : LangItemId)
     → (bodies_in (match_of at (body at l) (call_of at (one_segment (with_list (just (constant (body at a))))) (body at b))
@@ -167,6 +172,9 @@ PatternsInOrder = (at : Pointer) (a b c d l : Literal) (i : LangItemId)
     ∷ limit_body (tree.before_limit None (tree.literal_side at (record { minus = true; literal = l }))) ∷ [])
     × (bodies_in (assigned_of at l (body at a) (body at b)) ≡ constants (body at a ∷ body at b ∷ []))
     × (bodies_in (tree.some_expr (tree.range_expr at tree.itemless_range (cast_to at (body at l) (body at a)) tree.no_expr)) ≡ [])
+    × (bodies_in (for_over at i (call_of at (one_segment (with_list (just (constant (body at b))))) (body at c))
+    (cast_to at (body at l) (body at a)) (cast_to at (body at l) (body at d)))
+    ≡ constants (body at a ∷ body at b ∷ body at c ∷ body at d ∷ []))
 
 -- as they are written and as they are stored
 pub record BothList (x : TypedExample) (es : List OptionExpr) (is : List ExprId) : Type 0 where

@@ -273,6 +273,7 @@ abbrev mutual
   expr_bodies (tree.block_expr b) = block_bodies b
   expr_bodies (tree.loop_expr at label _ b) = block_part_bodies b
   expr_bodies (tree.while_expr at label _ c b) = bodies_in c ++ block_part_bodies b
+  expr_bodies (tree.for_expr at items label _ p h b) = bodies_in h ++ (pat_part_bodies p ++ bodies_in b)
   expr_bodies (tree.question_expr at items e) = bodies_in e
   expr_bodies (tree.itemless_expr at) = []
   -- the type stands in front of the block

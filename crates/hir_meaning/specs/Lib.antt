@@ -24,3 +24,4 @@ pub mod Patterned
 pub mod Whiles
 pub mod Questions
 pub mod Tries
+pub mod Fors

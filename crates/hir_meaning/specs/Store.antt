@@ -7,6 +7,10 @@ use Rattle.hir_store.specs.Stored.{Store, SourceMap}
 use Rattle.hir_store.specs.declared.hir.Expr.{Expr}
 use Rattle.hir_store.specs.declared.hir.Expr.TheVariants as hir
 use Rattle.hir_store.specs.declared.hir.MatchArm.{MatchArm}
+use Rattle.hir_store.specs.declared.hir.Mutability.{Mutability}
+use Rattle.hir_store.specs.declared.hir.Mutability.TheVariants as mutability
+use Rattle.hir_store.specs.declared.hir.Rawness.{Rawness}
+use Rattle.hir_store.specs.declared.hir.Rawness.TheVariants as rawness
 use Rattle.hir_store.specs.declared.hir.Statement.{Statement}
 use Rattle.hir_store.specs.declared.hir.Statement.TheVariants as statement
 use Rattle.hir_store.specs.declared.ids.ExprId.{ExprId}
@@ -28,7 +32,7 @@ use Rattle.hir_data.specs.Data.{PathData, PatData, OptionTypeData, no_type, some
 use Rattle.hir_data.specs.MadeNames.{made_name}
 use Rattle.hir_data.specs.Reading.{binding_found, stored_path, stored_type, stored_option_type, stored_args, stored_pat}
 use Rattle.hir_meaning.specs.Places.{places}
-use Rattle.hir_meaning.specs.Run.{Value, answered, unit, truth, is_true, matches, test, bound, Operation, literal, call, Answer}
+use Rattle.hir_meaning.specs.Run.{Value, answered, unit, truth, mutable_to, is_true, matches, test, bound, Operation, literal, call, Answer}
 use Rattle.hir_meaning.specs.Run.{Outcome, value, break, continue, leave, missing, Body, Run}
 use Rattle.hir_meaning.specs.Run.{underscore, include_bytes, field, prefix, reference, operator, index, array, method_call}
 use Rattle.hir_meaning.specs.Run.{yielding, awaiting, cast, SpreadForm, no_spread, field_defaults, rest_of, made_record, offset_of}
@@ -84,6 +88,15 @@ looks_up n = λ w. (looked_up (w.table n), w)
 abbrev pub read_or_look : Option ℕ → PathData → HygieneId → Option Site → StoreRun Value
 read_or_look None p h site = read_path p h site
 read_or_look (Some n) p h site = looks_up n
+
+-- A mutable reference to what such a name stands for is silent.
+abbrev pub refers_or_asks : Option ℕ → Rawness → Mutability → StoreRun Value → Option Site → StoreRun Value
+refers_or_asks (Some n) rawness.Ref mutability.Mut m site = do
+  v ← m
+  pure (mutable_to v)
+refers_or_asks made kind mutable m site = do
+  v ← m
+  ask (reference kind mutable) (v ∷ []) site
 
 -- the name takes the answer, where it is yes
 abbrev pub takes_if : ℕ → Answer → StoreRun (Unit {0})
@@ -202,6 +215,14 @@ module _ (store : Store) (source_map : SourceMap) where
   abbrev pub part_made : PatId → Option ℕ
   part_made p = made_inside (slice_get store.pats p.0)
 
+  -- the made name that an expression is
+  abbrev pub made_as : Option Expr → Option ℕ
+  made_as (Some (hir.Path p h)) = made_name (stored_path store source_map p)
+  made_as _ = None
+
+  abbrev pub made_expr : ExprId → Option ℕ
+  made_expr i = made_as (slice_get store.exprs i.0)
+
   abbrev pub fits : PatId → Value → StoreRun Bool
   fits p v = fits_or_takes (whole_made p) (part_made p) (stored_pat store source_map p) v
 
@@ -265,7 +286,7 @@ module _ (store : Store) (source_map : SourceMap) where
     run_stored hir.IncludeBytes site = ask include_bytes [] site
     run_stored (hir.Field e name) site = operand e (field name) site
     run_stored (hir.UnaryOp op e) site = operand e (prefix op) site
-    run_stored (hir.Ref rawness mutability e) site = operand e (reference rawness mutability) site
+    run_stored (hir.Ref kind mutable e) site = refers_or_asks (made_expr e) kind mutable (part e) site
     run_stored (hir.Await e) site = operand e awaiting site
     run_stored (hir.BinaryOp (Some (ast.LogicOp op)) a b) site = do
       v ← part a

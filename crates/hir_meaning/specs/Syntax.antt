@@ -13,9 +13,10 @@ use Rattle.hir_env.specs.Answering.{site_of}
 use Rattle.hir_env.specs.Answered as tree
 use Rattle.hir_env.specs.Answered.{Leaf, Unary, Binary, Listing, Leaving, RangeForm}
 use Rattle.hir_env.specs.Answered.{Label, Expr, OptionExpr, Exprs, Fields, Spread, Block, OptionBlock, Stmts, Arms, Guard}
-use Rattle.hir_env.specs.Answered.{Target, Targets, TargetFields, OptionType, QuestionItems}
-use Rattle.hir_meaning.specs.Run.{Value, answered, unit, item, truth, is_true, matches, test, bound, Operation, literal, call, Outcome}
-use Rattle.hir_meaning.specs.Run.{break, continue, leave, missing, Body, Run}
+use Rattle.hir_env.specs.Answered.{ForItems, Target, Targets, TargetFields, OptionType, QuestionItems}
+use Rattle.hir_env.specs.Targets.{head_pointer}
+use Rattle.hir_meaning.specs.Run.{Value, answered, unit, item, mutable_to, truth, is_true, matches, test, bound, Operation, literal, call}
+use Rattle.hir_meaning.specs.Run.{Outcome, break, continue, leave, missing, Body, Run}
 use Rattle.hir_meaning.specs.Run.{underscore, include_bytes, field, prefix, reference, operator, index, array, method_call}
 use Rattle.hir_meaning.specs.Run.{yielding, awaiting, cast, SpreadForm, no_spread, field_defaults, rest_of, made_record, offset_of}
 use Rattle.hir_meaning.specs.Run.{Leave, returned, became, yeeted, unmatched, made_tuple, lazily, read_path, binds, assigns}
@@ -25,13 +26,13 @@ use Rattle.hir_scope.specs.Ribs.{Try}
 use Rattle.hir_scope.specs.Scopes.{Scope, loop_scope, try_scope, Count, break_target, continue_target, innermost_try, outward}
 use Rattle.hir_scope.specs.Scopes.{continue_past_block, scopes_in_block}
 use Rattle.hir_data.specs.Data.{PathData, item_path, OptionTypeData, no_type, some_type, PatData, pat_at, generated_pattern}
-use Rattle.hir_data.specs.Data.{tuple_struct_pattern, no_patterns, more_patterns}
+use Rattle.hir_data.specs.Data.{path_pattern, tuple_struct_pattern, no_patterns, more_patterns}
 use Rattle.hir_data.specs.Literals.{literal_data}
 use Rattle.hir_data.specs.Lookup.{lookup_hygiene}
 use Rattle.hir_data.specs.Patterns.{written_pat}
 use Rattle.hir_data.specs.Rule.{PathRead}
 use Rattle.hir_data.specs.Targets.{target_data}
-use Rattle.hir_data.specs.Written.{path_of, written_path, written_type, written_option_type, written_args}
+use Rattle.hir_data.specs.Written.{path_of, root_hygiene, written_path, written_type, written_option_type, written_args}
 use Rattle.hir_meaning.specs.Left.{is_kept, is_left, is_last, field_names}
 
 -- it keeps nothing besides
@@ -215,6 +216,31 @@ while_turn condition body site = do
 abbrev pub run_while : ℕ → SyntaxRun Value → SyntaxRun Value → Option Site → SyntaxRun Value
 run_while turns condition body site = loop outward turns (while_turn condition body site)
 
+-- ---- `for` (Rust Reference, iterator loops)
+
+-- the item that holds nothing, and the one that holds what fits the pattern
+abbrev pub done_pattern : LangItemId → PatData
+done_pattern i = pat_at None (path_pattern (item_path i) root_hygiene)
+
+abbrev pub gives_pattern : LangItemId → PatData → PatData
+gives_pattern i p = pat_at None (tuple_struct_pattern (item_path i) None (more_patterns p no_patterns))
+
+-- A turn of `for` asks the iterator for the next one, by a mutable reference to it. What that answers is tested for both kinds, at no
+-- node: where there is no next one the turn ends the loop with unit, and where there is one that fits the pattern the body runs.
+abbrev pub for_turn : ForItems → PatData → Value → SyntaxRun Value → Option Site → SyntaxRun (Option Value)
+for_turn items p iterator body site = do
+  v ← ask call (item items.next ∷ mutable_to iterator ∷ []) site
+  is_done ← tests (matches (done_pattern items.is_done)) v None
+  if is_done then pure (Some unit) else (do
+    fits ← tests (matches (gives_pattern items.gives p)) v None
+    if fits then turn body else ends (leave unmatched))
+
+-- What makes an iterator of the head is called once, at the head's node.
+abbrev pub run_for : ℕ → ForItems → PatData → SyntaxRun Value → Option Site → SyntaxRun Value → Option Site → SyntaxRun Value
+run_for turns items p head head_site body site = do
+  iterator ← through (Some items.into_iter) head_site head
+  loop outward turns (for_turn items p iterator body site)
+
 -- with so many turns at each entry of a loop
 module _ (turns : ℕ) where
   abbrev mutual
@@ -235,6 +261,10 @@ module _ (turns : ℕ) where
     -- its condition lies under its label, too
     run_expr (tree.while_expr at label _ c b) ss =
         run_while turns (run_part c (loop_scope label ∷ ss)) (run_block_part b (loop_scope label ∷ ss)) (Some (site_of at))
+    -- its head lies outside of its label, and so does its pattern
+    run_expr (tree.for_expr at items label _ p h b) ss =
+        run_for turns items (written_pat p) (run_part h ss) (Some (site_of (head_pointer at h))) (run_part b (loop_scope label ∷ ss))
+        (Some (site_of at))
     run_expr (tree.question_expr at items e) ss = run_question items (innermost_try ss) (run_part e ss) (Some (site_of at))
     run_expr (tree.itemless_expr at) ss = ends (leave missing)
     run_expr (tree.try_expr at i t number stmts tail) ss =

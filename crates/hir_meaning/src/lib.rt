@@ -20,6 +20,8 @@ ghost use Rattle.hir_meaning.specs.Questions.{AsksOfTheAnswer, NamesKeepTheirVal
 ghost use Rattle.hir_meaning.specs.Tries.{LeavesTheTry, LacksItsConversionInside, LacksItsOutput, LeavesTheInnerTry, GoesOnToTheOutput};
 ghost use Rattle.hir_meaning.specs.Tries.{LeavesPastTheLoop, GoesThroughTheOutput, BindsToItsType, ConvertsAsForABody, JumpsPassTheTry};
 ghost use Rattle.hir_meaning.specs.Tries.{BarrierHidesTheTry};
+ghost use Rattle.hir_meaning.specs.Fors.{AsksForTheNext, HasItsTurns, IsNeitherNoneNorGiven, KeepsItsIterator, LeavesByItsBody};
+ghost use Rattle.hir_meaning.specs.Fors.{ContinuesTheFor, LeavesByItsHead, HeadAsWritten, ForItemlessIsMissing, RefersSilently};
 ghost use Rattle.hir_meaning.specs.InnerRows.{TypesInOrder, PathsInOrder, ExprsInOrder, PatternsInOrder, StoredInOrder};
 
 /// `'a: { loop { break 'a 1 } }` with one turn is the literal and its value.
@@ -239,7 +241,8 @@ pub fn foreign_is_not_enclosed()
 
 /// The bodies inside `[[!; a]; b]` are a and b, inside `[!; a as [!; b]]` the cast and b; inside a refused path, and in
 /// arguments that go again, there are none. Arguments come before bindings, and of a method call those in `<..>` before the
-/// others; of an arm those of its guard before those of its body; of a `try` those of its type. So they are stored, too.
+/// others; of an arm those of its guard before those of its body; of a `try` those of its type; of a `for` those of its head, its
+/// pattern and its body. So they are stored, too.
 pub fn inner_bodies_in_order()
     ensures types { TypesInOrder }
     ensures paths { PathsInOrder }
@@ -396,4 +399,55 @@ pub fn jumps_pass_the_try()
 /// Behind a barrier `a?` returns, though a `try` is outside.
 pub fn barrier_hides_the_try()
     ensures { BarrierHidesTheTry }
+{}
+
+/// `for x in a {}` reads a and makes an iterator of it; turn after turn that is asked, until there is none: then unit.
+pub fn asks_for_the_next()
+    ensures { AsksForTheNext }
+{}
+
+/// With one turn it is cut before the iterator is asked again, and with none before it is asked.
+pub fn has_its_turns()
+    ensures { HasItsTurns }
+{}
+
+/// What the iterator answers and is neither none nor fits the pattern ends the body as unmatched.
+pub fn is_neither_none_nor_given()
+    ensures { IsNeitherNoneNorGiven }
+{}
+
+/// `for x in a { for _ in b {} }` asks the iterator of a again, behind the inner loop, which asks that of b.
+pub fn keeps_its_iterator()
+    ensures { KeepsItsIterator }
+{}
+
+/// `'a: for _ in a { loop { break 'a 1 } }`, given one, has the literal's value.
+pub fn leaves_by_its_body()
+    ensures { LeavesByItsBody }
+{}
+
+/// `for _ in a { continue; 1 }` asks again, and the literal never is.
+pub fn continues_the_for()
+    ensures { ContinuesTheFor }
+{}
+
+/// A break in the head of a `for` is for the loop around that: one by no name, by a name that both bear, or by that of the loop alone.
+pub fn leaves_by_its_head()
+    ensures { LeavesByItsHead }
+{}
+
+/// What makes an iterator of the head of a `for` comes from the head's own node, also where that is in parentheses or disabled, and
+/// without a head from the form's.
+pub fn head_as_written()
+    ensures { HeadAsWritten }
+{}
+
+/// A `for` without one of its four items is missing, and nothing happens.
+pub fn for_itemless_is_missing()
+    ensures { ForItemlessIsMissing }
+{}
+
+/// A mutable reference to what a made name stands for is silent; any other reference to it is not, nor is any that is written.
+pub fn refers_silently()
+    ensures { RefersSilently }
 {}

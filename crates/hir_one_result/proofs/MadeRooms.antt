@@ -1,7 +1,9 @@
--- What is made up for `?` and `try` stores as much as it becomes, or there is no room for it.
+-- What is made up for `for`, `?` and `try` stores as much as it becomes, or there is no room for it.
 use Rattle.std.proofs.Common.{arith, ◌≡◌, refl, sym, subst, ℕ, suc, ◌≤◌, ◌^◌, Bool, true, false, not, if◌then◌else◌, nat_lt, length}
 use Rattle.std.proofs.Common.{Option, Some, None, is_some, Ok, Err, inl, inr, add-one}
 use Rattle.std.proofs.lemmas.Bool.{ltb-false}
+use Rattle.hir_binding.specs.declared.binding.BindingAnnotation.{BindingAnnotation}
+use Rattle.hir_binding.specs.declared.binding.BindingAnnotation.TheVariants.{Mutable}
 use Rattle.hir_store.specs.Pointers.{Pointer}
 use Rattle.hir_store.specs.Arenas.{Sourced, with_made}
 use Rattle.hir_store.specs.Storing as storing
@@ -12,19 +14,23 @@ use Rattle.hir_store.specs.declared.ids.BlockId.{BlockId}
 use Rattle.hir_store.specs.declared.ids.ExprId.{ExprId}
 use Rattle.hir_store.specs.declared.ids.LabelId.{LabelId}
 use Rattle.hir_store.specs.declared.ids.LangItemId.{LangItemId}
+use Rattle.hir_store.specs.declared.ids.PatId.{PatId}
 use Rattle.hir_store.specs.declared.ids.TypeRefId.{TypeRefId}
 use Rattle.hir_store.specs.declared.name.Name.TheVariants.{Generated}
-use Rattle.hir_env.specs.Answered.{QuestionItems}
+use Rattle.hir_env.specs.Answered.{ForItems, Label, QuestionItems}
 use Rattle.hir_lower_form.specs.Builder.{Builder}
 use Rattle.hir_lower_form.specs.Forms.{ExprSteps, StoredContents, settled}
 use Rattle.hir_lower_form.specs.Lowering.{Checked, go_on, Lowering, ◌>>=◌, pure, alloc_made, made_number, count_out, try_target, open_try}
 use Rattle.hir_lower_form.specs.Lowering.{open_try_as, open_try_named}
 use Rattle.hir_lower_form.specs.Made.{made_path_form, made_bind_form, item_call_form, flow_arm_form, residual_form, question_form}
-use Rattle.hir_lower_form.specs.Made.{value_or_unit, wrapped_form, try_block_form, typed_try_form}
-use Rattle.hir_one_result.specs.Size.{Size, nothing, an_expr, a_label, a_made_name, a_made_bind, a_flow_arm, an_item_call, ◌∪◌, if_so}
+use Rattle.hir_lower_form.specs.Made.{value_or_unit, wrapped_form, try_block_form, typed_try_form, made_reference_form, next_form}
+use Rattle.hir_lower_form.specs.Made.{done_arm_form, gives_arm_form, for_turn_form, made_loop_form, for_form}
+use Rattle.hir_one_result.specs.Room.{label_size}
+use Rattle.hir_one_result.specs.Size.{Size, nothing, an_expr, a_label, a_pat, a_made_name, a_made_bind, a_flow_arm, a_for_turn}
+use Rattle.hir_one_result.specs.Size.{an_item_call, ◌∪◌, if_so}
 use Rattle.hir_one_result.proofs.Rooms.{Room, Takes, takes_then, takes_end, takes_begin, takes_pure, takes_alloc, takes_pat}
 use Rattle.hir_one_result.proofs.Rooms.{takes_binding, takes_define, takes_block, takes_close, took_none, grew_none, grew_one, still}
-use Rattle.hir_one_result.proofs.Rooms.{no_sources, unnamed, made_label}
+use Rattle.hir_one_result.proofs.Rooms.{no_sources, unnamed, made_label, nothing_first, takes_as, takes_open}
 use Rattle.hir_one_result.proofs.Tellings.{Tells, tells_any, tells_then, takes_of}
 
 -- steps
@@ -115,9 +121,9 @@ pub takes_try : (at : Pointer) (typed : Bool) → Takes (a_made_name ∪ a_label
 unfolding open_try
 takes_try at typed = takes_then takes_number (λ k. takes_named at typed k)
 
-pub made_bind_takes : (n : ℕ) → Takes a_made_bind (made_bind_form n)
+pub made_bind_takes : (mode : BindingAnnotation) (n : ℕ) → Takes a_made_bind (made_bind_form mode n)
 unfolding made_bind_form
-made_bind_takes n = takes_then (takes_binding _)
+made_bind_takes mode n = takes_then (takes_binding _)
     (λ b. takes_end (takes_pat _ None) (λ p. takes_end (takes_define b p) (λ u. takes_pure p)))
 
 module _ (at : Pointer) where
@@ -134,7 +140,7 @@ module _ (at : Pointer) where
   flow_arm_takes : (item : LangItemId) {n : Size} {body : ℕ → ExprSteps} → ((k : ℕ) → Takes n (body k))
       → Takes (a_flow_arm n) (flow_arm_form item body)
   unfolding flow_arm_form
-  flow_arm_takes item h = takes_then takes_number (λ k. takes_then (made_bind_takes k)
+  flow_arm_takes item h = takes_then takes_number (λ k. takes_then (made_bind_takes _ k)
       (λ p. takes_then (takes_pat _ None) (λ q. takes_end (h k) (λ e. takes_pure _))))
 
   residual_takes : (items : QuestionItems) (n : ℕ) → Takes (an_expr ∪ (an_item_call ∪ an_expr)) (residual_form at items n)
@@ -178,4 +184,46 @@ module _ (at : Pointer) where
       → Takes (n ∪ (a_made_name ∪ (k ∪ (a_made_bind ∪ (an_expr ∪ an_expr))))) (typed_try_form at b t)
   unfolding typed_try_form
   typed_try_takes hb ht = takes_then hb (λ b. takes_then takes_number (λ n. takes_then ht (λ t.
-      takes_then (made_bind_takes n) (λ p. takes_then (made_path_takes n) (λ e. takes_made _ (Some at))))))
+      takes_then (made_bind_takes _ n) (λ p. takes_then (made_path_takes n) (λ e. takes_made _ (Some at))))))
+
+  -- `for`
+
+  made_reference_takes : (n : ℕ) → Takes (an_expr ∪ an_expr) (made_reference_form at n)
+  unfolding made_reference_form
+  made_reference_takes n = takes_then (made_path_takes n) (λ e. takes_made _ (Some at))
+
+  next_takes : (item : LangItemId) (n : ℕ) → Takes ((an_expr ∪ an_expr) ∪ an_item_call) (next_form at item n)
+  unfolding next_form
+  next_takes item n = takes_then (made_reference_takes n) (λ r. item_call_takes (Some item) r)
+
+  done_takes : (item : LangItemId) → Takes (a_pat None ∪ an_expr) (done_arm_form at item)
+  unfolding done_arm_form
+  done_takes item = takes_then (takes_pat _ None) (λ p. takes_end (takes_made _ (Some at)) (λ e. takes_pure _))
+
+  gives_takes : (item : LangItemId) (p : PatId) {n : Size} {body : ExprSteps} → Takes n body
+      → Takes (a_pat None ∪ n) (gives_arm_form item p body)
+  unfolding gives_arm_form
+  gives_takes item p h = takes_then (takes_pat _ None) (λ q. takes_end h (λ e. takes_pure _))
+
+  for_turn_takes : (items : ForItems) (k : ℕ) (p : PatId) {n : Size} {body : ExprSteps} → Takes n body
+      → Takes (a_for_turn n) (for_turn_form at items k p body)
+  unfolding for_turn_form
+  for_turn_takes items k p h = takes_then (next_takes items.next k) (λ c. takes_then (done_takes items.is_done)
+      (λ a. takes_then (gives_takes items.gives p h) (λ b. takes_then (takes_made _ (Some at)) (λ e. takes_made _ (Some at)))))
+
+  made_loop_takes : (label : Option Label) {n : Size} {body : ExprSteps} → Takes n body
+      → Takes (label_size label ∪ (n ∪ an_expr)) (made_loop_form at label body)
+  unfolding made_loop_form
+  made_loop_takes None h = takes_as (nothing_first _) (takes_then h (λ b. takes_made _ (Some at)))
+  made_loop_takes (Some l) h =
+      takes_then (takes_open l) (λ id. takes_then h (λ b. takes_begin takes_close (λ u. takes_made _ (Some at))))
+
+-- what makes an iterator of the head comes from another node
+pub for_takes : (at head_at : Pointer) (items : ForItems) (label : Option Label) {n k m : Size} {head : ExprSteps}
+    {pattern : Lowering PatId} {body : ExprSteps} → Takes n head → Takes k pattern → Takes m body
+    → Takes (n ∪ (an_item_call ∪ (k ∪ (a_made_name ∪ (a_made_bind ∪ ((label_size label ∪ (a_for_turn m ∪ an_expr)) ∪ an_expr))))))
+    (for_form at head_at items label head pattern body)
+unfolding for_form
+for_takes at head_at items label hh hp hb = takes_then hh (λ h. takes_then (item_call_takes head_at (Some items.into_iter) h)
+    (λ i. takes_then hp (λ p. takes_then takes_number (λ n. takes_then (made_bind_takes Mutable n)
+    (λ q. takes_then (made_loop_takes at label (for_turn_takes at items n p hb)) (λ l. takes_alloc _ (Some at)))))))

@@ -1,6 +1,7 @@
 -- What `?` and `try` become stands for them: what is made up, beside what their parts became.
 use Rattle.std.proofs.Common.{arith, ◌∙◌, refl, sym, ap, subst, ℕ, Bool, false, length, length-append, List, [], ◌∷◌, ◌++◌}
 use Rattle.std.proofs.Common.{slice_get, Option, Some, None}
+use Rattle.hir_binding.specs.declared.binding.BindingAnnotation.{BindingAnnotation}
 use Rattle.hir_store.specs.Arenas.{Prefix}
 use Rattle.hir_store.specs.Pointers.{Pointer}
 use Rattle.hir_store.specs.Stored.{Stored, store_of, map_of}
@@ -45,7 +46,7 @@ use Rattle.hir_one_result.proofs.TreeParts.{behind_none, contents}
 
 -- ---- what is made up
 
-made_stands : (e : HirExpr) (at : Pointer)
+pub made_stands : (e : HirExpr) (at : Pointer)
     → Correct (alloc_made e (Some at)) (Shows (λ final rs i. StandsMade (store_of final) (map_of final) e at i))
 made_stands e at = correct_as (correct_alloc_made e (Some at)) (λ final ps m m' i g row.
     record { shown = shown_as (hidden row) (λ ws x. (expr_at row, x)) })
@@ -55,12 +56,12 @@ made_item_stands : (item : Option LangItemId) (at : Pointer) → Correct (alloc_
 made_item_stands None at = made_stands _ at
 made_item_stands (Some item) at = made_stands _ at
 
-made_path_stands : (at : Pointer) (n : ℕ)
+pub made_path_stands : (at : Pointer) (n : ℕ)
     → Correct (made_path_form at n) (Shows (λ final rs i. StandsMade (store_of final) (map_of final) (generated_path n) at i))
 unfolding made_path_form
 made_path_stands at n = made_stands _ at
 
-item_call_stands : (at : Pointer) (item : Option LangItemId) (argument : ExprId)
+pub item_call_stands : (at : Pointer) (item : Option LangItemId) (argument : ExprId)
     → Correct (item_call_form at item argument)
     (Shows (λ final rs i. StandsItemCall (store_of final) (map_of final) at item argument i))
 unfolding item_call_form
@@ -69,7 +70,7 @@ item_call_stands at item argument = correct_as
     (λ final ps m m' i g row. record { shown = shown_as (shown_both row.first.shown row.second.shown) (λ ws y. (row.one, y)) })
 
 module _ {p : HirPat} {final : Stored} {ps : List Frame} {m m' : Mark} {i : PatId} where
-  made_pat_at : AllocatedPat p None final ps m m' i → PatMade (store_of final) (map_of final) i p
+  pub made_pat_at : AllocatedPat p None final ps m m' i → PatMade (store_of final) (map_of final) i p
   made_pat_at row =
       record {
         stored = ap (λ n. slice_get final.pats.entries n) row.number ∙ row.here;
@@ -77,11 +78,11 @@ module _ {p : HirPat} {final : Stored} {ps : List Frame} {m m' : Mark} {i : PatI
       }
 
 -- a binding of a name that is made up stays as it is
-made_bind_stands : (n : ℕ)
-    → Correct (made_bind_form n) (Shows (λ final rs p. StandsMadeBind (store_of final) (map_of final) n p))
+pub made_bind_stands : (mode : BindingAnnotation) (n : ℕ)
+    → Correct (made_bind_form mode n) (Shows (λ final rs p. StandsMadeBind (store_of final) (map_of final) mode n p))
 unfolding made_bind_form
-made_bind_stands n = steps.correct_as
-    (steps.correct_bind (pats.correct_alloc_binding (made_binding n)) (λ b.
+made_bind_stands mode n = steps.correct_as
+    (steps.correct_bind (pats.correct_alloc_binding (made_binding mode n)) (λ b.
     steps.correct_bind (pats.correct_alloc_pat (pat.Bind b None) None)
     (λ q. steps.correct_bind (pats.correct_define b q) (λ u. steps.correct_pure q))))
     (λ final ps m m' p g row.
@@ -91,7 +92,7 @@ made_bind_stands n = steps.correct_as
     let q = row.second.one in
     let three = row.second.second in
     let before = m.stored.bindings.entries in
-    let x = made_binding n in
+    let x = made_binding mode n in
     let number = row.first.number ∙ row.first.last in
     let is = ap (λ k. k.stored) three.second.still
     ∙ (three.first.stored ∙ ap (defining b q) two.stored) in
@@ -117,8 +118,8 @@ flow_arm_stands : (item : LangItemId) {body : ℕ → ExprSteps} {S : ℕ → Of
     (Shows (λ final rs a. StandsFlowArm (store_of final) (map_of final) item (λ n x. S n final rs x) a))
 unfolding flow_arm_form
 flow_arm_stands item h = correct_as
-    (correct_bind correct_made_number (λ n. correct_bind (made_bind_stands n) (λ p. correct_bind (correct_alloc_pat (item_pat item p) None)
-    (λ q. correct_bind (h n) (λ e. correct_pure _)))))
+    (correct_bind correct_made_number (λ n. correct_bind (made_bind_stands _ n)
+    (λ p. correct_bind (correct_alloc_pat (item_pat item p) None) (λ q. correct_bind (h n) (λ e. correct_pure _)))))
     (λ final ps m m' a g row.
     let r = row.second in
     let s = r.second in
@@ -239,7 +240,7 @@ pub typed_try_stands : (at : Pointer) {b : ExprSteps} {t : Lowering TypeRefId} {
     (Shows (λ final rs i. StandsTypedTry (store_of final) (map_of final) at (λ x. B final rs x) (λ y. T final rs y) i))
 unfolding typed_try_form
 typed_try_stands at hb ht = correct_as
-    (correct_bind hb (λ b. correct_bind correct_made_number (λ n. correct_bind ht (λ t. correct_bind (made_bind_stands n)
+    (correct_bind hb (λ b. correct_bind correct_made_number (λ n. correct_bind ht (λ t. correct_bind (made_bind_stands _ n)
     (λ p. correct_bind (made_path_stands at n) (λ e. made_stands (bound_block p t b e) at))))))
     (λ final ps m m' i g row.
     let q = row.second in

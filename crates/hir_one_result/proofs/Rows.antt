@@ -13,7 +13,7 @@ use Rattle.hir_store.specs.declared.ids.LabelId.{LabelId}
 use Rattle.hir_syntax.specs.declared.ast.Literal.{Literal as AstLiteral}
 use Rattle.hir_store.specs.Pointers.{Pointer}
 use Rattle.hir_store.specs.declared.hir.Literal.{Literal}
-use Rattle.hir_env.specs.Answered.{QuestionItems}
+use Rattle.hir_env.specs.Answered.{ForItems, QuestionItems}
 use Rattle.hir_scope.specs.Ribs.{Try}
 use Rattle.hir_data.specs.Data.{PathData, path_data, item_path, names_in}
 use Rattle.hir_store.specs.declared.path.GenericArgs.{GenericArgs}
@@ -27,10 +27,10 @@ use Rattle.hir_store.specs.declared.ids.CfgId.{CfgId}
 use Rattle.hir_meaning.specs.Small.{at, root, stored_one}
 use Rattle.hir_one_result.specs.Forms.{leaves_with}
 use Rattle.hir_one_result.specs.Leads.{Way, Ways, expr_way}
-use Rattle.hir_one_result.specs.Stands.{Absent, statement_of, StandsLiteral, StandsEach, StandsContents}
+use Rattle.hir_one_result.specs.Stands.{Absent, Stands, statement_of, StandsLiteral, StandsEach, StandsContents}
 use Rattle.hir_one_result.specs.Worked.{Jumps, other, literal_first, Statements, EntersInOrder, Leaves, letter, block_id}
 use Rattle.hir_one_result.specs.StandsMade.{StandsQuestion}
-use Rattle.hir_one_result.specs.Worked.{elements, PlainForms, Tries}
+use Rattle.hir_one_result.specs.Worked.{elements, PlainForms, LeavesWith, Tries, Iterates, Fors, for_one}
 
 -- the bare path of this data
 abbrev bare_path : PathData → Path
@@ -208,10 +208,17 @@ plain_forms = record {
 module _ (store : Store) (source_map : SourceMap) (items : QuestionItems) where
   leaves_stored : (t : Option (Try LabelId)) (S : ExprId → Ways) (i : ExprId) (ws : List Way)
       → StandsQuestion store source_map (at 0) items t S i ws
-      → (out : ExprId) × (value : ExprId) × (slice_get store.exprs out.0 ≡ Some (leaves_with t value))
+      → LeavesWith store i (leaves_with t)
   leaves_stored t S i ws h =
-      let arm = h.5.second.second.second.first in
-      (arm.3, arm.6.second.1, arm.6.second.2.second.second.0.stored)
+      let arm = h.5.second.second.second.first in record {
+        choice = h.1;
+        goes_on = h.2;
+        breaks = arm.2;
+        out = arm.3;
+        value = arm.6.second.1;
+        whole = h.4.stored ∙ ap (λ a. Some (hir.Match h.1 (h.2 ∷ a ∷ []))) arm.4;
+        leaves = arm.6.second.2.second.second.0.stored;
+      }
 
 pub tries : Tries
 tries = record {
@@ -220,4 +227,54 @@ tries = record {
   returns = λ outer items store source_map i ws h. leaves_stored store source_map items None _ i ws h;
   passed = refl;
   enters = refl;
+}
+
+-- `for`
+
+iterates : (items : ForItems) (store : Store) (source_map : SourceMap) (i : ExprId) (ws : List Way)
+    → Stands store source_map [] (for_one items) i ws → Iterates store source_map i
+iterates items store source_map i ws h =
+    let call = h.7.second.first in
+    let bind = h.7.second.second.second.first in
+    let repeats = h.7.second.second.second.second.first in
+    let inside = repeats.2.second in
+    let turn = inside.1.first in
+    let asking = turn.4.first in
+    let built = turn.4.second.second.second in record {
+      callee = call.0;
+      head = h.0;
+      iterator = h.1;
+      named = h.4;
+      binding = bind.0;
+      number = h.3;
+      repeats = h.5;
+      turn = inside.0;
+      label = repeats.0;
+      choice = turn.3;
+      done = turn.1;
+      given = turn.2;
+      next = turn.0;
+      next_callee = asking.2.second.0;
+      reference = asking.1;
+      made = asking.0;
+      whole = h.6.stored;
+      calls = call.1.second.0.stored;
+      from_head = call.1.second.0.source;
+      is_one = literal_stored store source_map (at 1) _ h.0 h.7.left h.7.first;
+      binds = bind.1.stored;
+      is_mutable = bind.2;
+      loops = inside.1.second.0.stored;
+      turns = built.second.0.stored;
+      chooses = built.first.0.stored;
+      asks = asking.2.second.1.second.0.stored;
+      refers = asking.2.first.second.0.stored;
+      to_it = asking.2.first.first.0.stored;
+    }
+
+pub fors : Fors
+fors = record {
+  iterates = iterates;
+  no_fault = λ items. refl;
+  undeclared = λ items. refl;
+  head_first = λ items. refl;
 }

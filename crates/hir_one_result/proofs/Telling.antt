@@ -200,7 +200,7 @@ module _ {X : Type 0} (L : Listing X) where
   pub last_none : {xs : List X} {a b : Stored} → Added (xs ++ []) a b → Added xs a b
   last_none {xs = xs} {a = a} {b = b} g = subst (λ ys. Added ys a b) (append-nil xs) g
 
-  opened_tells : {A B : Type 0} {D : List Scope → List X} (at : Label → LabelId → Frame) (l : Label) (c : Scope)
+  pub opened_tells : {A B : Type 0} {D : List Scope → List X} (at : Label → LabelId → Frame) (l : Label) (c : Scope)
       {p : LabelId → Lowering A} {f : LabelId → A → Lowering B}
       → ((n : LabelId) (ps : List Frame) → ribs (at l n ∷ ps) ≡ label_rib l.name l.hygiene n ∷ ribs ps)
       → ((n : LabelId) → IsRib c (label_rib l.name l.hygiene n))

@@ -20,6 +20,7 @@ use Rattle.hir_env.specs.Answered.{Expr, OptionExpr, Exprs, Fields, Spread, Bloc
 use Rattle.hir_env.specs.Answered.{OptionPath, Segments, Segment, SegmentArgs, OptionParens, OptionRet, OptionArgs, Args, Arg, Bounds}
 use Rattle.hir_env.specs.Answered.{Bound, Constant, Binder, Arms, Guard, Pat, OptionPat, Pats, PatFields, Side, TypePat, OptionTypePat}
 use Rattle.hir_env.specs.Answered.{TypePats, Limit, Target, Targets, TargetFields}
+use Rattle.hir_env.specs.Targets.{head_pointer}
 use Rattle.hir_data.specs.Patterns.{uses_after, uses_after_part, uses_after_each, uses_after_fields, uses_of, part_uses, each_uses}
 use Rattle.hir_data.specs.Patterns.{field_uses}
 use Rattle.hir_read_back.proofs.PatParts.{dots_or_part}
@@ -73,6 +74,7 @@ use Rattle.hir_one_result.proofs.Standing.{cast_stands, record_stands, offset_of
 use Rattle.hir_one_result.proofs.Standing.{moved_pure, moved_fault, missing_stands, path_stands, literal_stands, present_none}
 use Rattle.hir_one_result.proofs.Standing.{present_some, if_stands, loop_stands, call_stands, continue_stands, break_stands, unary_is}
 use Rattle.hir_one_result.proofs.Whiles.{while_stands}
+use Rattle.hir_one_result.proofs.Fors.{for_stands}
 use Rattle.hir_one_result.proofs.MadeStanding.{question_stands, try_stands, typed_try_stands}
 use Rattle.hir_one_result.proofs.Standing.{binary_is, leaving_is, leaf_stands, operand_stands, operands_stand, value_stands, list_stands}
 use Rattle.hir_one_result.proofs.Standing.{method_call_stands, await_stands, paren_stands, labelled_stands, Leaves}
@@ -214,6 +216,8 @@ mutual
   node_stands (tree.block_expr b) = block_stands b
   node_stands (tree.loop_expr at label _ b) = loop_stands at label (block_part_stands b)
   node_stands (tree.while_expr at label _ c b) = while_stands at label (part_stands c) (block_part_stands b)
+  node_stands (tree.for_expr at items label _ p h b) =
+      for_stands at (head_pointer at h) items label (part_stands h) (top_stands p) (part_stands b)
   node_stands (tree.question_expr at items e) = question_stands at items (part_stands e)
   node_stands (tree.itemless_expr at) = missing_stands
   node_stands (tree.try_expr at item tree.no_type number ss e) =

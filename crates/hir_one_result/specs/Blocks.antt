@@ -154,6 +154,7 @@ abbrev mutual
   blocks_of (tree.block_expr b) = blocks_of_block b
   blocks_of (tree.loop_expr at label _ b) = blocks_of_block_part b
   blocks_of (tree.while_expr at label _ c b) = blocks_of_block_part b ++ blocks_of_part c
+  blocks_of (tree.for_expr at items label _ p h b) = blocks_of_part h ++ (blocks_of_top p ++ blocks_of_part b)
   blocks_of (tree.question_expr at items e) = blocks_of_part e
   blocks_of (tree.itemless_expr at) = []
   -- its own number, then those in it, and its type last

@@ -175,6 +175,9 @@ abbrev mutual
   diagnostics ss (tree.loop_expr at label _ b) = block_part_diagnostics (loop_scope label ∷ ss) b
   diagnostics ss (tree.while_expr at label _ c b) =
       part_diagnostics (loop_scope label ∷ ss) c ++ block_part_diagnostics (loop_scope label ∷ ss) b
+  -- its head and its pattern lie outside of its label
+  diagnostics ss (tree.for_expr at items label _ p h b) =
+      part_diagnostics ss h ++ (top_faults ss p ++ part_diagnostics (loop_scope label ∷ ss) b)
   diagnostics ss (tree.question_expr at items e) = part_diagnostics ss e
   diagnostics ss (tree.itemless_expr at) = []
   -- its type is no part of what is tried

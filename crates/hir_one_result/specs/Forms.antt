@@ -2,7 +2,7 @@
 use Rattle.std.specs.Prelude.{codes, ℕ, if◌then◌else◌, List, [], ◌∷◌, ◌++◌, Option, Some, None}
 use Rattle.hir_base.specs.declared.op.LogicOp.{LogicOp}
 use Rattle.hir_base.specs.declared.op.BinaryOp.TheVariants as operator
-use Rattle.hir_binding.specs.declared.binding.BindingAnnotation.TheVariants.{Unannotated}
+use Rattle.hir_binding.specs.declared.binding.BindingAnnotation.{BindingAnnotation}
 use Rattle.hir_store.specs.declared.hir.Expr.{Expr as HirExpr}
 use Rattle.hir_store.specs.declared.hir.Expr.TheVariants as hir
 use Rattle.hir_store.specs.declared.hir.RecordLitField.{RecordLitField}
@@ -77,8 +77,8 @@ range_fields last low high = end_field (name.Text (codes "start")) low ++ end_fi
 abbrev pub generated_path : ℕ → HirExpr
 generated_path n = hir.Path (path_of_name (name.Generated n)) no_macro
 
-abbrev pub generated_binding : ℕ → Binding
-generated_binding n = record { name = name.Generated n; mode = Unannotated; hygiene = no_macro; problems = None }
+abbrev pub generated_binding : BindingAnnotation → ℕ → Binding
+generated_binding mode n = record { name = name.Generated n; mode = mode; hygiene = no_macro; problems = None }
 
 -- the item that makes of a residual what leaves: for a `try` without a written type there is one of its own
 abbrev pub residual_item : {A : Type 0} → QuestionItems → Option (Try A) → Option LangItemId

@@ -41,8 +41,8 @@ StandsGiven store source_map rs skipped f given =
 -- stored, each with its source, as many expressions and bindings as the tree becomes, and patterns, types and lifetimes from
 -- just those of its nodes that become one. The root stands for the tree, and each expression is what a written one became, or a
 -- missing one for an absent or disabled part, or in front of a tuple with a leading comma, or what is called for a range, or
--- the turn of a `while` or the break in it, or is made up for a `?` or a `try`; each label is what a written one or a `try`
--- became, and there are as many; each binding is that of a name of a top pattern, or of `self`, or of a name that is made up,
+-- the turn of a `while` or the break in it, or is made up for a `for`, a `?` or a `try`; each label is what a written one or a
+-- `try` became, and there are as many; each binding is that of a name of a top pattern, or of `self`, or of a name that is made up,
 -- and has the patterns that make it. The source map leads from each written expression and label to what it became, and from
 -- nowhere else; the nodes of patterns, types and lifetimes lead to them, and no other nodes do. Behind the faults that the body
 -- owes as a whole come those of what is read of the tree, in some order. The blocks with numbers are those of the tree, in the

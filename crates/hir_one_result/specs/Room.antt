@@ -20,7 +20,7 @@ use Rattle.hir_one_result.specs.Formals.{formals_read}
 use Rattle.hir_one_result.specs.PatRoom.{names_after, names_after_part, names_after_each, names_after_field, name_size, front_pat_size}
 use Rattle.hir_one_result.specs.PatRoom.{or_size, name_side_size, rest_size, range_size}
 use Rattle.hir_one_result.specs.Size.{Size, nothing, an_expr, a_label, a_binding, a_pat, a_type, a_lifetime, a_super, a_body, dots_behind}
-use Rattle.hir_one_result.specs.Size.{a_made_name, a_made_bind, a_flow_arm, an_item_call, ◌∪◌, if_so, or_missing}
+use Rattle.hir_one_result.specs.Size.{a_made_name, a_made_bind, a_flow_arm, a_for_turn, an_item_call, ◌∪◌, if_so, or_missing}
 use Rattle.hir_one_result.specs.PathRoom.{Seen, nothing_seen, at_first, segments_read, own_read, whole_read, before, yields, lifetime_size}
 use Rattle.hir_one_result.specs.PathRoom.{uses_size}
 
@@ -178,6 +178,10 @@ abbrev mutual
   size (tree.loop_expr at label _ b) = label_size label ∪ block_part_size b ∪ an_expr
   -- the body before the condition, then a break and the turn, and the loop last
   size (tree.while_expr at label _ c b) = label_size label ∪ (block_part_size b ∪ size_part c ∪ an_expr ∪ an_expr) ∪ an_expr
+  -- a call on the head, the pattern, and a name that the call's value has; then the loop in its label, and the match around it
+  size (tree.for_expr at items label _ p h b) =
+      size_part h ∪ an_item_call ∪ top_size p ∪ a_made_name ∪ a_made_bind
+      ∪ (label_size label ∪ a_for_turn (size_part b) ∪ an_expr) ∪ an_expr
   -- a call, an arm that names what it holds, one that makes of it what leaves, and the match
   size (tree.question_expr at items e) =
       size_part e ∪ an_item_call ∪ a_flow_arm an_expr ∪ a_flow_arm (an_expr ∪ an_item_call ∪ an_expr) ∪ an_expr

@@ -93,6 +93,11 @@ a_flow_arm body = a_made_name ∪ a_made_bind ∪ a_pat None ∪ body
 abbrev pub an_item_call : Size
 an_item_call = an_expr ∪ an_expr
 
+-- the turn of a `for`: a call on a reference to a name, an arm that ends the loop, an arm around a pattern, with this in it, and the
+-- match in a block
+abbrev pub a_for_turn : Size → Size
+a_for_turn body = ((an_expr ∪ an_expr) ∪ an_item_call) ∪ (a_pat None ∪ an_expr) ∪ (a_pat None ∪ body) ∪ an_expr ∪ an_expr
+
 abbrev pub if_so : Bool → Size → Size
 if_so true a = a
 if_so false a = nothing

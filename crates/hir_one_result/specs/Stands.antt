@@ -1,10 +1,10 @@
--- What stands in a store for a written tree: for each kept expression one stored expression of its form, which came from
--- its own node and whose parts stand for its parts. An absent or disabled part is a missing expression that came from no
--- node, or none where the form knows none. What is made up for a form came from the form's node. With it stand the ways of the
--- tree: from the node of each written expression and label to what it became, and to each missing one and each made up from no
--- node. What its constants became stands for them, also where nothing names it. A top pattern reads back as it is written, and so
--- does one in a field without a name, which is part of nothing; the names of a top pattern have one binding each, and what is in it
--- stands for what is written there.
+-- What stands in a store for a written tree: for each kept expression one stored expression of its form, which came from its own node
+-- and whose parts stand for its parts. An absent or disabled part is a missing expression that came from no node, or none where the
+-- form knows none. What is made up for a form came from the form's node, but what makes the iterator of a `for` from that of its head,
+-- and a pattern from none. With it stand the ways of the tree: from the node of each written expression and label to what it became,
+-- and to each missing one and each made up from no node. What its constants became stands for them, also where nothing names it. A top
+-- pattern reads back as it is written, and so does one in a field without a name, which is part of nothing; the names of a top pattern
+-- have one binding each, and what is in it stands for what is written there.
 use Rattle.std.specs.Prelude.{◌≡◌, ℕ, Bool, true, false, List, [], ◌∷◌, ◌++◌, map, Option, Some, None, option_to_list}
 use Rattle.std.specs.Prelude.{slice_get, unwrap_or}
 use Rattle.hir_base.specs.declared.op.RangeOp.{RangeOp}
@@ -43,6 +43,7 @@ use Rattle.hir_env.specs.Answered.{Type_, OptionType, Parts, Path as WrittenPath
 use Rattle.hir_env.specs.Answered.{OptionRet, OptionArgs, Args, Arg, Bounds, Bound, Constant, Listing, Label, Expr, OptionExpr, Exprs}
 use Rattle.hir_env.specs.Answered.{Fields, Spread, Block, OptionBlock, Stmts, Arms, Guard, RangeForm, Signed, Pat, OptionPat, Pats}
 use Rattle.hir_env.specs.Answered.{PatFields, Side, TypePat, OptionTypePat, TypePats, Limit, Target, Targets, TargetFields}
+use Rattle.hir_env.specs.Targets.{head_pointer}
 use Rattle.hir_data.specs.BindingRule.{made_for}
 use Rattle.hir_data.specs.Data.{PathData, PatData}
 use Rattle.hir_data.specs.Patterns.{is_dots, first_uses, pattern_data, uses_after, uses_after_part, uses_after_each, written_pat}
@@ -61,7 +62,7 @@ use Rattle.hir_one_result.specs.PathRoom.{Seen, nothing_seen, at_first, segments
 use Rattle.hir_one_result.specs.Leads.{Ways, No, OneWay, OneUnled, OneLabelWay, OneFieldWay, OnePatFieldWay, ◌&◌}
 pub use Rattle.hir_one_result.specs.StandsParts.{ExprAt, LabelAt, Open, opened, Absent, There, ThereIf, ReadsAs, statement_of, SomeExpr}
 pub use Rattle.hir_one_result.specs.StandsParts.{WhereOn, Unless}
-use Rattle.hir_one_result.specs.StandsMade.{StandsQuestion, StandsTry, StandsTypedTry}
+use Rattle.hir_one_result.specs.StandsMade.{StandsFor, StandsForLoop, StandsForTurn, StandsQuestion, StandsTry, StandsTypedTry}
 pub use Rattle.hir_one_result.specs.StandsParts.{StandsBefore, WherePath, BehindFront, Names, NewName, StandsName}
 
 -- in a store
@@ -338,6 +339,12 @@ module _ (store : Store) (source_map : SourceMap) where
     -- its condition lies under its label, too
     Stands rs (tree.while_expr at label _ c b) i =
         InLabel rs label (λ inner n. StandsWhile at n (λ x. StandsPart inner c x) (λ x. StandsBlockPart inner b x) i)
+    -- its head and its pattern lie outside of its label
+    Stands rs (tree.for_expr at items label _ p h b) i =
+        StandsFor store source_map at (head_pointer at h) items (λ x. StandsPart rs h x)
+        (λ q. WithNames p (λ ks. StandsPatPart ks rs p [] q) q)
+        (λ n q l. InLabel rs label (λ inner k. StandsForLoop store source_map at k
+        (λ t. StandsForTurn store source_map at items n q (λ x. StandsPart inner b x) t) l)) i
     Stands rs (tree.question_expr at items e) i =
         StandsQuestion store source_map at items (innermost_try_rib rs) (λ x. StandsPart rs e x) i
     Stands rs (tree.itemless_expr at) i = StandsMissing i

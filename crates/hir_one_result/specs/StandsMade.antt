@@ -1,11 +1,17 @@
--- What stands for `?` and `try`. All that lowering makes up for one came from its node, patterns from none. The node leads to the outermost
--- alone, but that of a `try` with a written type to the block in front of which its `let` stands.
+-- What stands for `for`, `?` and `try`. All that lowering makes up for one came from its node, but what makes an iterator of the head of a
+-- `for` from the head's, and patterns from none. The node leads to the outermost alone, but that of a `try` with a written type to the
+-- block in front of which its `let` stands.
 use Rattle.std.specs.Prelude.{◌≡◌, ℕ, Bool, false, List, [], ◌∷◌, Option, Some, None, slice_get}
+use Rattle.hir_binding.specs.declared.binding.BindingAnnotation.{BindingAnnotation}
+use Rattle.hir_binding.specs.declared.binding.BindingAnnotation.TheVariants.{Mutable, Unannotated}
 use Rattle.hir_store.specs.Pointers.{Pointer}
 use Rattle.hir_store.specs.Stored.{Store, SourceMap}
 use Rattle.hir_store.specs.declared.hir.Expr.{Expr as HirExpr}
 use Rattle.hir_store.specs.declared.hir.Expr.TheVariants as hir
+use Rattle.hir_store.specs.declared.hir.LoopSource.TheVariants.{ForLoop}
 use Rattle.hir_store.specs.declared.hir.MatchArm.{MatchArm}
+use Rattle.hir_store.specs.declared.hir.Mutability.TheVariants.{Mut}
+use Rattle.hir_store.specs.declared.hir.Rawness.TheVariants.{Ref}
 use Rattle.hir_store.specs.declared.hir.Statement.{Statement}
 use Rattle.hir_store.specs.declared.hir.Statement.TheVariants as statement
 use Rattle.hir_store.specs.declared.name.Name.TheVariants as name
@@ -20,9 +26,9 @@ use Rattle.hir_store.specs.declared.ids.LangItemId.{LangItemId}
 use Rattle.hir_store.specs.declared.ids.PatId.{PatId}
 use Rattle.hir_store.specs.declared.ids.TypeRefId.{TypeRefId}
 use Rattle.hir_scope.specs.Ribs.{Try}
-use Rattle.hir_env.specs.Answered.{QuestionItems}
+use Rattle.hir_env.specs.Answered.{ForItems, QuestionItems}
 use Rattle.hir_meaning.specs.Contents.{BlockContents}
-use Rattle.hir_one_result.specs.Forms.{item_form, generated_path, generated_binding, residual_item, leaves_with}
+use Rattle.hir_one_result.specs.Forms.{item_form, no_macro, generated_path, generated_binding, residual_item, leaves_with}
 use Rattle.hir_one_result.specs.Leads.{Ways, No, OneWay, OneUnled, OneLabelWay, OneBindingWay, ◌&◌}
 use Rattle.hir_one_result.specs.StandsParts.{ExprAt}
 
@@ -40,10 +46,10 @@ module _ (store : Store) (source_map : SourceMap) where
   abbrev pub StandsMade : HirExpr → Pointer → ExprId → Ways
   StandsMade e at i = λ ws. ExprAt store source_map i e (Some at) × OneUnled i ws
 
-  -- it binds the name of this number, of which nothing is wrong
-  abbrev pub StandsMadeBind : ℕ → PatId → Ways
-  StandsMadeBind n p = λ ws. (b : BindingId) × PatMade p (pat.Bind b None)
-      × (slice_get store.bindings b.0 ≡ Some (generated_binding n)) × OneBindingWay b ws
+  -- it binds the name of this number in this way, and nothing is wrong about that
+  abbrev pub StandsMadeBind : BindingAnnotation → ℕ → PatId → Ways
+  StandsMadeBind mode n p = λ ws. (b : BindingId) × PatMade p (pat.Bind b None)
+      × (slice_get store.bindings b.0 ≡ Some (generated_binding mode n)) × OneBindingWay b ws
 
   -- a call of the item
   abbrev pub StandsItemCall : Pointer → Option LangItemId → ExprId → ExprId → Ways
@@ -55,7 +61,7 @@ module _ (store : Store) (source_map : SourceMap) where
   -- an arm for the item, in which what the item holds has the name of a number
   abbrev pub StandsFlowArm : LangItemId → (ℕ → ExprId → Ways) → MatchArm → Ways
   StandsFlowArm item S a = λ ws. (n : ℕ) × (p : PatId) × (q : PatId) × (e : ExprId) × (a ≡ record { pat = q; guard = None; expr = e })
-      × PatMade q (pat.TupleStruct (LangItem item) None (p ∷ [])) × (StandsMadeBind n p & S n e) ws
+      × PatMade q (pat.TupleStruct (LangItem item) None (p ∷ [])) × (StandsMadeBind Unannotated n p & S n e) ws
 
   -- the residual of that name, what is made of it, and what leaves with that
   abbrev pub StandsResidual : Pointer → QuestionItems → Option (Try LabelId) → ℕ → ExprId → Ways
@@ -92,5 +98,41 @@ module _ (store : Store) (source_map : SourceMap) where
   -- `{ let g: T = block; g }`, where the block is the `try` without its type
   abbrev pub StandsTypedTry : Pointer → (ExprId → Ways) → (TypeRefId → Ways) → ExprId → Ways
   StandsTypedTry at B T i = λ ws. (b : ExprId) × (t : TypeRefId) × (n : ℕ) × (p : PatId) × (e : ExprId)
-      × (B b & T t & StandsMadeBind n p & StandsMade (generated_path n) at e
+      × (B b & T t & StandsMadeBind Unannotated n p & StandsMade (generated_path n) at e
       & StandsMade (hir.Block false None None (statement.Let p (Some t) (Some b) None ∷ []) (Some e)) at i) ws
+
+  -- ---- `for`
+
+  -- a call of the item with `&mut` of the name of this number
+  abbrev pub StandsNext : Pointer → LangItemId → ℕ → ExprId → Ways
+  StandsNext at item n i = λ ws. (g : ExprId) × (r : ExprId)
+      × ((StandsMade (generated_path n) at g & StandsMade (hir.Ref Ref Mut g) at r)
+      & StandsItemCall at (Some item) r i) ws
+
+  -- the arm for the item that holds nothing: it ends the loop
+  abbrev pub StandsDoneArm : Pointer → LangItemId → MatchArm → Ways
+  StandsDoneArm at item a = λ ws. (q : PatId) × (e : ExprId) × (a ≡ record { pat = q; guard = None; expr = e })
+      × PatMade q (pat.Path (LangItem item) no_macro) × StandsMade (hir.Break None None) at e ws
+
+  -- the arm for the item that holds what this pattern fits
+  abbrev pub StandsGivesArm : LangItemId → PatId → (ExprId → Ways) → MatchArm → Ways
+  StandsGivesArm item p B a = λ ws. (q : PatId) × (e : ExprId) × (a ≡ record { pat = q; guard = None; expr = e })
+      × PatMade q (pat.TupleStruct (LangItem item) None (p ∷ [])) × B e ws
+
+  -- `{ match next(&mut g) { None => break, Some(p) => body } }`
+  abbrev pub StandsForTurn : Pointer → ForItems → ℕ → PatId → (ExprId → Ways) → ExprId → Ways
+  StandsForTurn at items n p B i = λ ws. (next : ExprId) × (is_done : MatchArm) × (gives : MatchArm) × (choice : ExprId)
+      × (StandsNext at items.next n next & StandsDoneArm at items.is_done is_done & StandsGivesArm items.gives p B gives
+      & StandsMade (hir.Match next (is_done ∷ gives ∷ [])) at choice
+      & StandsMade (hir.Block false None None [] (Some choice)) at i) ws
+
+  -- a loop of that turn, to which no node leads
+  abbrev pub StandsForLoop : Pointer → Option LabelId → (ExprId → Ways) → ExprId → Ways
+  StandsForLoop at label T i = λ ws. (turn : ExprId) × (T turn & StandsMade (hir.Loop turn label ForLoop) at i) ws
+
+  -- `match into_iter(head) { mut g => loop { .. } }`, where the loop refers to the name of g, and has the pattern in it
+  abbrev pub StandsFor : Pointer → Pointer → ForItems → (ExprId → Ways) → (PatId → Ways) → (ℕ → PatId → ExprId → Ways) → ExprId → Ways
+  StandsFor at head_at items H P L i = λ ws. (head : ExprId) × (iterator : ExprId) × (p : PatId) × (n : ℕ) × (q : PatId) × (l : ExprId)
+      × ExprAt store source_map i (hir.Match iterator (record { pat = q; guard = None; expr = l } ∷ [])) (Some at)
+      × (H head & StandsItemCall head_at (Some items.into_iter) head iterator & P p & StandsMadeBind Mutable n q & L n p l
+      & OneWay at i) ws

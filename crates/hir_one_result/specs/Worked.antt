@@ -1,6 +1,6 @@
 -- Small trees: their faults, their blocks, and what whatever stands for them has stored.
 use Rattle.std.specs.Prelude.{Option, ◌≡◌, ℕ, Bool, true, false, List, [], ◌∷◌, Some, None, slice_get}
-use Rattle.hir_binding.specs.declared.binding.BindingAnnotation.TheVariants.{Unannotated}
+use Rattle.hir_binding.specs.declared.binding.BindingAnnotation.TheVariants.{Mutable, Unannotated}
 use Rattle.hir_binding.specs.declared.binding.BindingProblems.TheVariants.{BoundMoreThanOnce}
 use Rattle.hir_store.specs.Stored.{Store, SourceMap}
 use Rattle.hir_store.specs.declared.diagnostics.ExpressionStoreDiagnostics.TheVariants.{AwaitOutsideOfAsync, InactiveCode}
@@ -8,6 +8,10 @@ use Rattle.hir_store.specs.declared.diagnostics.ExpressionStoreDiagnostics.TheVa
 use Rattle.hir_store.specs.declared.diagnostics.AwaitLocation.{AwaitLocation}
 use Rattle.hir_store.specs.declared.hir.Expr.{Expr as HirExpr}
 use Rattle.hir_store.specs.declared.hir.Expr.TheVariants as hir
+use Rattle.hir_store.specs.declared.hir.LoopSource.TheVariants.{ForLoop}
+use Rattle.hir_store.specs.declared.hir.MatchArm.{MatchArm}
+use Rattle.hir_store.specs.declared.hir.Mutability.TheVariants.{Mut}
+use Rattle.hir_store.specs.declared.hir.Rawness.TheVariants.{Ref}
 use Rattle.hir_store.specs.declared.hir.Statement.TheVariants as statement
 use Rattle.hir_store.specs.declared.name.Name.{Name}
 use Rattle.hir_store.specs.declared.name.Name.TheVariants as name
@@ -24,7 +28,7 @@ use Rattle.hir_store.specs.declared.pat.Pat.TheVariants as pat
 use Rattle.hir_scope.specs.Ribs.{try_rib, barrier_rib}
 use Rattle.hir_scope.specs.Scopes.{loop_scope, barrier}
 use Rattle.hir_env.specs.Answered as tree
-use Rattle.hir_env.specs.Answered.{QuestionItems, Segment, Expr, OptionExpr, Exprs, Block, Stmts, Use, Pat, OptionPat}
+use Rattle.hir_env.specs.Answered.{ForItems, QuestionItems, Segment, Expr, OptionExpr, Exprs, Block, Stmts, Use, Pat, OptionPat}
 use Rattle.hir_data.specs.BindingRule.{made_for}
 use Rattle.hir_data.specs.Worked.{whole}
 use Rattle.hir_meaning.specs.Small.{at, root, one, two, literal_at, label_with, label_a, jump_a, first, in_braces, loop_of}
@@ -252,12 +256,22 @@ pub record Patterned : Type 0 where
 abbrev pub question : QuestionItems → Expr
 question items = tree.question_expr (at 0) items (literal_part 1)
 
+-- its second arm leaves with a value
+pub record LeavesWith (store : Store) (i : ExprId) (x : ExprId → HirExpr) : Type 0 where
+  pub choice : ExprId
+  pub goes_on : MatchArm
+  pub breaks : PatId
+  pub out : ExprId
+  pub value : ExprId
+  pub whole : slice_get store.exprs i.0
+      ≡ Some (hir.Match choice (goes_on ∷ record { pat = breaks; guard = None; expr = out } ∷ []))
+  pub leaves : slice_get store.exprs out.0 ≡ Some (x value)
+
 -- what leaves with the residual, whatever items the language has for that
 abbrev pub LeavesAs : Open → (ExprId → HirExpr) → Type 0
 LeavesAs rs x =
     (items : QuestionItems) (store : Store) (source_map : SourceMap) (i : ExprId) (ws : List Way)
-    → Stands store source_map rs (question items) i ws
-    → (out : ExprId) × (value : ExprId) × (slice_get store.exprs out.0 ≡ Some (x value))
+    → Stands store source_map rs (question items) i ws → LeavesWith store i x
 
 -- `'a: loop { try { break 'a } }`
 abbrev pub break_in_try : Expr
@@ -277,3 +291,56 @@ pub record Tries : Type 0 where
   -- a jump by name passes it by
   pub passed : diagnostics [] break_in_try ≡ []
   pub enters : blocks_of try_numbered ≡ block_id 7 ∷ block_id 3 ∷ []
+
+-- `for`
+
+-- `'a: for x in head body`
+abbrev pub for_over : ForItems → OptionExpr → OptionExpr → Expr
+for_over items head body = tree.for_expr (at 0) items (Some label_a) tt (tree.some_pat (x_at 8)) head body
+
+-- `'a: for x in 1 { break 'a }`
+abbrev pub for_one : ForItems → Expr
+for_one items = for_over items (literal_part 1) (tree.some_expr break_a)
+
+-- What the head became is called upon, from the head's node. The value of that has a name, which may be changed, and the turn of the loop
+-- asks with a reference to what has that very name.
+pub record Iterates (store : Store) (source_map : SourceMap) (i : ExprId) : Type 0 where
+  pub callee : ExprId
+  pub head : ExprId
+  pub iterator : ExprId
+  pub named : PatId
+  pub binding : BindingId
+  pub number : ℕ
+  pub repeats : ExprId
+  pub turn : ExprId
+  pub label : LabelId
+  pub choice : ExprId
+  pub done : MatchArm
+  pub given : MatchArm
+  pub next : ExprId
+  pub next_callee : ExprId
+  pub reference : ExprId
+  pub made : ExprId
+  pub whole : slice_get store.exprs i.0 ≡ Some (hir.Match iterator (record { pat = named; guard = None; expr = repeats } ∷ []))
+  pub calls : slice_get store.exprs iterator.0 ≡ Some (hir.Call callee (head ∷ []))
+  pub from_head : slice_get source_map.expr_sources iterator.0 ≡ Some (Some (at 1))
+  pub is_one : slice_get store.exprs head.0 ≡ Some stored_one
+  pub binds : slice_get store.pats named.0 ≡ Some (pat.Bind binding None)
+  pub is_mutable : slice_get store.bindings binding.0
+      ≡ Some (record { name = name.Generated number; mode = Mutable; hygiene = root; problems = None })
+  pub loops : slice_get store.exprs repeats.0 ≡ Some (hir.Loop turn (Some label) ForLoop)
+  pub turns : slice_get store.exprs turn.0 ≡ Some (hir.Block false None None [] (Some choice))
+  pub chooses : slice_get store.exprs choice.0 ≡ Some (hir.Match next (done ∷ given ∷ []))
+  pub asks : slice_get store.exprs next.0 ≡ Some (hir.Call next_callee (reference ∷ []))
+  pub refers : slice_get store.exprs reference.0 ≡ Some (hir.Ref Ref Mut made)
+  pub to_it : slice_get store.exprs made.0
+      ≡ Some (hir.Path (BarePath (record { kind = kind.Plain; segments = name.Generated number ∷ [] })) root)
+
+pub record Fors : Type 0 where
+  pub iterates : (items : ForItems) (store : Store) (source_map : SourceMap) (i : ExprId) (ws : List Way)
+      → Stands store source_map [] (for_one items) i ws → Iterates store source_map i
+  -- its label is open in the body, and isn't in the head
+  pub no_fault : (items : ForItems) → diagnostics [] (for_one items) ≡ []
+  pub undeclared : (items : ForItems) → diagnostics [] (for_over items (tree.some_expr break_a) (literal_part 1))
+      ≡ UndeclaredLabel jump_a.pointer jump_a.name ∷ []
+  pub head_first : (items : ForItems) → blocks_of (for_over items (just 2) (just 3)) ≡ block_id 2 ∷ block_id 3 ∷ []

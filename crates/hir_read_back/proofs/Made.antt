@@ -1,10 +1,13 @@
 -- What is made up reads back as made.
 use Rattle.std.proofs.Common.{◌≡◌, refl, ℕ, ◌+◌, ◌≤◌, slice_get, length, List, Some, None, arith}
+use Rattle.hir_binding.specs.declared.binding.BindingAnnotation.{BindingAnnotation}
 use Rattle.hir_store.specs.Stored.{Stored, store_of, map_of}
 use Rattle.hir_store.specs.declared.ids.BindingId.{BindingId}
 use Rattle.hir_store.specs.declared.ids.LangItemId.{LangItemId}
 use Rattle.hir_store.specs.declared.ids.PatId.{PatId}
 use Rattle.hir_store.specs.declared.pat.Pat.TheVariants as pat
+use Rattle.hir_store.specs.declared.path.Path.TheVariants.{LangItem}
+use Rattle.hir_lower_form.specs.Forms.{root_hygiene}
 use Rattle.hir_lower_form.specs.Lowering.{alloc_pat}
 use Rattle.hir_lower_form.specs.Made.{item_pat, made_bind_form, made_binding, made_path}
 use Rattle.hir_steps.proofs.Frames.{Frame}
@@ -14,7 +17,7 @@ use Rattle.hir_data.specs.Data as datum
 use Rattle.hir_data.specs.Data.{PatData, pat_at, item_path}
 use Rattle.hir_data.specs.MadeNames.{made_name}
 use Rattle.hir_data.specs.Reading.{stored_pat, stored_path}
-use Rattle.hir_read_back.proofs.Layers.{within}
+use Rattle.hir_read_back.proofs.Layers.{Reads, within}
 use Rattle.hir_read_back.proofs.Names.{found_in}
 use Rattle.hir_read_back.proofs.Pats.{a_pat, pat_stored}
 
@@ -26,21 +29,22 @@ made_pattern = pat_at None datum.generated_pattern
 pub record BindsMade (n : ℕ) (final : Stored) (p : PatId) : Type 0 where
   pub binding : BindingId
   pub here : slice_get final.pats.entries p.0 ≡ Some (pat.Bind binding None)
-  pub found : found_in final binding ≡ Some (made_binding n)
+  pub mode : BindingAnnotation
+  pub found : found_in final binding ≡ Some (made_binding mode n)
 
 pub record MadeRead (n : ℕ) (final : Stored) (ps : List Frame) (m m' : Mark) (p : PatId) : Type 0 where
   pub binds : BindsMade n final p
   pub reads : (d : ℕ) → m'.entries ≤ d → a_pat final (within final d) p ≡ made_pattern
 
-pub made_reads : (n : ℕ) → Correct (made_bind_form n) (MadeRead n)
+pub made_reads : (mode : BindingAnnotation) (n : ℕ) → Correct (made_bind_form mode n) (MadeRead n)
 unfolding made_bind_form
-made_reads n = correct_as (correct_bind (correct_alloc_binding (made_binding n))
+made_reads mode n = correct_as (correct_bind (correct_alloc_binding (made_binding mode n))
     (λ i. correct_bind (correct_alloc_pat (pat.Bind i None) None) (λ p. correct_bind (correct_define i p) (λ u. correct_pure p))))
     (λ final ps m m' q g row.
     let bound = row.first in let s = row.second in let stored = s.first in let v = s.second in
-    let found : found_in final row.one ≡ Some (made_binding n) = rw bound.number bound.here in
+    let found : found_in final row.one ≡ Some (made_binding mode n) = rw bound.number bound.here in
     rw (v.second.is, v.second.still) (record {
-      binds = record { binding = row.one; here = rw stored.number stored.here; found = found };
+      binds = record { binding = row.one; here = rw stored.number stored.here; mode = mode; found = found };
       reads = λ d le. pat_stored stored (λ c ge. rw found refl) d (omega (le, v.after.entries, v.before.entries, s.after.entries, arith));
     }))
 
@@ -58,6 +62,13 @@ item_reads item part = correct_as (correct_alloc_pat (item_pat item part) None)
       reads = λ x h. pat_stored row (λ d le. λ j.
           datum.tuple_struct_pattern (item_path item) None (datum.more_patterns (h d le j) datum.no_patterns));
     })
+
+-- the pattern of an item by itself
+pub item_path_reads : (item : LangItemId)
+    → Correct (alloc_pat (pat.Path (LangItem item) root_hygiene) None)
+    (Reads a_pat (pat_at None (datum.path_pattern (item_path item) root_hygiene)))
+item_path_reads item = correct_as (correct_alloc_pat (pat.Path (LangItem item) root_hygiene) None)
+    (λ final ps m m' q g row. record { is = pat_stored row (λ d le. refl) })
 
 -- a made name as a path
 pub made_path_read : (final : Stored) (n : ℕ) → made_name (stored_path (store_of final) (map_of final) (made_path n)) ≡ Some n

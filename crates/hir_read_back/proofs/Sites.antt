@@ -1,5 +1,6 @@
 -- What a written expression becomes comes from its node: a line for each form, whatever its parts are.
-use Rattle.std.proofs.Common.{arith, refl, Bool, true, false, List, Option, Some, None, option_map}
+use Rattle.std.proofs.Common.{arith, refl, ℕ, Bool, true, false, List, Option, Some, None, option_map}
+use Rattle.hir_binding.specs.declared.binding.BindingAnnotation.TheVariants.{Mutable, Unannotated}
 use Rattle.hir_store.specs.Pointers.{Pointer}
 use Rattle.hir_store.specs.Stored.{Stored}
 use Rattle.hir_store.specs.declared.hir.Expr.{Expr as HirExpr}
@@ -17,11 +18,11 @@ use Rattle.hir_store.specs.declared.path.GenericArgs.{GenericArgs}
 use Rattle.hir_store.specs.declared.path.Path.{Path as HirPath}
 use Rattle.hir_store.specs.declared.diagnostics.AwaitLocation.{AwaitLocation}
 use Rattle.hir_env.specs.Answered as tree
-use Rattle.hir_env.specs.Answered.{Jump, Label, Listing, QuestionItems, RangeForm}
+use Rattle.hir_env.specs.Answered.{ForItems, Jump, Label, Listing, QuestionItems, RangeForm}
 use Rattle.hir_env.specs.NodeMap.{Site}
 use Rattle.hir_env.specs.Spot.{site_of}
 use Rattle.hir_lower_form.specs.Lowering.{Lowering, ◌>>=◌, alloc_expr, alloc_made}
-use Rattle.hir_lower_form.specs.Made.{question_form, try_block_form, typed_try_form}
+use Rattle.hir_lower_form.specs.Made.{for_form, for_turn_form, made_loop_form, question_form, try_block_form, typed_try_form}
 use Rattle.hir_lower_form.specs.Types.{TypeSteps}
 use Rattle.hir_lower_form.specs.Forms.{ExprSteps, StoredContents, StoredFields, missing, if_form, loop_form, call_form, continue_form}
 use Rattle.hir_lower_form.specs.Forms.{break_form, paren_form, path_form, operand_form, operands_form, value_form, list_form}
@@ -187,7 +188,7 @@ module _ (at : Pointer) where
   unfolding range_form
   range_from form hs he = ends_from hs (λ s. ends_from he (λ e. range_made_from form s e))
 
-  -- `?` and `try`
+  -- `for`, `?` and `try`
 
   pub question_from : (items : QuestionItems) {e : ExprSteps} → Correct e Any → From here (question_form at items e)
   unfolding question_form
@@ -204,8 +205,17 @@ module _ (at : Pointer) where
 
   pub typed_try_from : {b : ExprSteps} {t : Lowering TypeRefId} → Correct b Any → Correct t Any → From here (typed_try_form at b t)
   unfolding typed_try_form
-  typed_try_from hb ht = ends_from hb (λ b. ends_from correct_made_number (λ n. ends_from ht (λ t. ends_from (correct_made_bind n)
-      (λ p. ends_from (made_path_apart at n) (λ e. made_from _)))))
+  typed_try_from hb ht = ends_from hb (λ b. ends_from correct_made_number (λ n. ends_from ht
+      (λ t. ends_from (correct_made_bind Unannotated n) (λ p. ends_from (made_path_apart at n) (λ e. made_from _)))))
+
+pub for_from : (at head_at : Pointer) (items : ForItems) (label : Option Label) {h : ExprSteps} {p : Lowering PatId} (b : ExprSteps)
+    → Correct h Any → Correct p Any
+    → ((n : ℕ) (q : PatId) → Correct (made_loop_form at label (for_turn_form at items n q b)) Any)
+    → From (Some (site_of at)) (for_form at head_at items label h p b)
+unfolding for_form
+for_from at head_at items label b hh hp hl = ends_from hh (λ h. ends_from (item_call_apart head_at (Some items.into_iter) h)
+    (λ i. ends_from hp (λ p. ends_from correct_made_number (λ n. ends_from (correct_made_bind Mutable n)
+    (λ q. ends_from (hl n p) (λ l. alloc_from _ (Some at)))))))
 
 pub labelled_from : {x : Option Site} (label : Option Label) {f : Option LabelId → ExprSteps} → ((n : Option LabelId) → From x (f n))
     → From x (labelled label f)

@@ -23,6 +23,7 @@ use Rattle.hir_meaning.specs.Jumps.{EachStatement, EnclosedTo}
 use Rattle.hir_steps.proofs.Frames.{Frame, scopes, Falls}
 use Rattle.hir_same_meaning.proofs.Views.{numbers}
 use Rattle.hir_same_meaning.proofs.Relation.{SameWhere, same_ends, same_pure, same_bind}
+use Rattle.hir_same_meaning.proofs.Senses.{Base}
 use Rattle.hir_same_meaning.proofs.Senses.{Walk, run_in, one, optional, present, contents, Goes, Wider, goes_within}
 use Rattle.hir_same_meaning.proofs.Unmade.{binds_same, written_is_unmade}
 
@@ -33,21 +34,21 @@ part_walk e turns = run_part turns e
 -- what is kept of an expression
 
 -- an expression where one is kept
-abbrev pub KeptIs : ℕ → ℕ → Stored → List Frame → Bool → Walk Value → Option ExprId → Type 0
-KeptIs labels nodes final ps true x None = ⊥
-KeptIs labels nodes final ps true x (Some i) = Goes labels nodes one x final ps i
-KeptIs labels nodes final ps false x None = Unit {0}
-KeptIs labels nodes final ps false x (Some i) = ⊥
+abbrev pub KeptIs : Base → ℕ → Stored → List Frame → Bool → Walk Value → Option ExprId → Type 0
+KeptIs base nodes final ps true x None = ⊥
+KeptIs base nodes final ps true x (Some i) = Goes base nodes one x final ps i
+KeptIs base nodes final ps false x None = Unit {0}
+KeptIs base nodes final ps false x (Some i) = ⊥
 
 -- the statements that are stored, against those that are written
 
-abbrev pub Stored1 : ℕ → ℕ → Stored → List Frame → Bool → Walk Value → Bool → (List Statement → Type 0) → List Statement → Type 0
-Stored1 labels nodes final ps false x semi Rest new = Rest new
-Stored1 labels nodes final ps true x semi Rest [] = ⊥
-Stored1 labels nodes final ps true x semi Rest (statement.Item ∷ new) = ⊥
-Stored1 labels nodes final ps true x semi Rest (statement.Let p t e b ∷ new) = ⊥
-Stored1 labels nodes final ps true x semi Rest (statement.Expr i semi' ∷ new) =
-    (semi' ≡ semi) × Goes labels nodes one x final ps i × Rest new
+abbrev pub Stored1 : Base → ℕ → Stored → List Frame → Bool → Walk Value → Bool → (List Statement → Type 0) → List Statement → Type 0
+Stored1 base nodes final ps false x semi Rest new = Rest new
+Stored1 base nodes final ps true x semi Rest [] = ⊥
+Stored1 base nodes final ps true x semi Rest (statement.Item ∷ new) = ⊥
+Stored1 base nodes final ps true x semi Rest (statement.Let p t e b ∷ new) = ⊥
+Stored1 base nodes final ps true x semi Rest (statement.Expr i semi' ∷ new) =
+    (semi' ≡ semi) × Goes base nodes one x final ps i × Rest new
 
 abbrev pub Item1 : (List Statement → Type 0) → List Statement → Type 0
 Item1 Rest [] = ⊥
@@ -65,30 +66,31 @@ pub record StoredLet : Type 0 where
 abbrev pub let_of : StoredLet → Statement
 let_of s = statement.Let s.pattern s.type_ref s.initializer s.else_branch
 
-abbrev pub ElseIs : ℕ → ℕ → Stored → List Frame → OptionBlock → Option ExprId → Type 0
-ElseIs labels nodes final ps tree.no_block None = Unit {0}
-ElseIs labels nodes final ps tree.no_block (Some i) = ⊥
-ElseIs labels nodes final ps (tree.some_block b) None = ⊥
-ElseIs labels nodes final ps (tree.some_block b) (Some i) = Goes labels nodes one (λ turns. run_block turns b) final ps i
+abbrev pub ElseIs : Base → ℕ → Stored → List Frame → OptionBlock → Option ExprId → Type 0
+ElseIs base nodes final ps tree.no_block None = Unit {0}
+ElseIs base nodes final ps tree.no_block (Some i) = ⊥
+ElseIs base nodes final ps (tree.some_block b) None = ⊥
+ElseIs base nodes final ps (tree.some_block b) (Some i) = Goes base nodes one (λ turns. run_block turns b) final ps i
 
 -- it stands for the written one
-pub record LetIs (labels nodes : ℕ) (final : Stored) (ps : List Frame) (p : OptionPat) (t : OptionType) (e : OptionExpr) (b : OptionBlock)
+pub record LetIs (base : Base) (nodes : ℕ) (final : Stored) (ps : List Frame) (p : OptionPat) (t : OptionType) (e : OptionExpr)
+    (b : OptionBlock)
     (s : StoredLet) : Type 0 where
   pub pattern : stored_pat (store_of final) (map_of final) s.pattern ≡ written_pat p
   pub type_ref : stored_option_type (store_of final) (map_of final) s.type_ref ≡ written_option_type t
-  pub initializer : Goes labels nodes present (λ turns. run_present turns e) final ps s.initializer
-  pub else_branch : ElseIs labels nodes final ps b s.else_branch
+  pub initializer : Goes base nodes present (λ turns. run_present turns e) final ps s.initializer
+  pub else_branch : ElseIs base nodes final ps b s.else_branch
 
-else_within : {labels nodes labels' nodes' : ℕ} (final : Stored) (ps : List Frame) (b : OptionBlock) (o : Option ExprId)
-    → Wider labels nodes labels' nodes' → ElseIs labels nodes final ps b o → ElseIs labels' nodes' final ps b o
+else_within : {base base' : Base} {nodes nodes' : ℕ} (final : Stored) (ps : List Frame) (b : OptionBlock) (o : Option ExprId)
+    → Wider base nodes base' nodes' → ElseIs base nodes final ps b o → ElseIs base' nodes' final ps b o
 else_within final ps tree.no_block None w h = tt
 else_within final ps tree.no_block (Some i) w h = absurd h
 else_within final ps (tree.some_block b) None w h = absurd h
 else_within final ps (tree.some_block b) (Some i) w h = goes_within w h
 
-pub let_within : {labels nodes labels' nodes' : ℕ} (final : Stored) (ps : List Frame) (p : OptionPat) (t : OptionType) (e : OptionExpr)
-    (b : OptionBlock) (s : StoredLet) → Wider labels nodes labels' nodes' → LetIs labels nodes final ps p t e b s
-    → LetIs labels' nodes' final ps p t e b s
+pub let_within : {base base' : Base} {nodes nodes' : ℕ} (final : Stored) (ps : List Frame) (p : OptionPat) (t : OptionType) (e : OptionExpr)
+    (b : OptionBlock) (s : StoredLet) → Wider base nodes base' nodes' → LetIs base nodes final ps p t e b s
+    → LetIs base' nodes' final ps p t e b s
 let_within final ps p t e b s w h = record {
   pattern = h.pattern;
   type_ref = h.type_ref;
@@ -107,15 +109,15 @@ None1 [] = Unit {0}
 None1 (s ∷ new) = ⊥
 
 -- The statements, and then the tail x, which is kept or not.
-module _ (labels nodes : ℕ) (final : Stored) (kept : Bool) (x : Walk Value) where
+module _ (base : Base) (nodes : ℕ) (final : Stored) (kept : Bool) (x : Walk Value) where
   abbrev pub ContentsAre : List Frame → Stmts → List Statement → Option ExprId → Type 0
-  ContentsAre ps tree.no_stmts new o = None1 new × KeptIs labels nodes final ps kept x o
+  ContentsAre ps tree.no_stmts new o = None1 new × KeptIs base nodes final ps kept x o
   ContentsAre ps (tree.more_stmts (tree.disabled_stmt at by s) ss) new o = ContentsAre ps ss new o
   ContentsAre ps (tree.more_stmts tree.item_stmt ss) new o = Item1 (λ more. ContentsAre ps ss more o) new
   ContentsAre ps (tree.more_stmts (tree.let_stmt p t e b) ss) new o =
-      Let1 (LetIs labels nodes final ps p t e b) (λ more. ContentsAre ps ss more o) new
+      Let1 (LetIs base nodes final ps p t e b) (λ more. ContentsAre ps ss more o) new
   ContentsAre ps (tree.more_stmts (tree.expr_stmt e semi) ss) new o =
-      Stored1 labels nodes final ps (is_left e) (part_walk e) semi (λ more. ContentsAre ps ss more o) new
+      Stored1 base nodes final ps (is_left e) (part_walk e) semi (λ more. ContentsAre ps ss more o) new
 
 -- which statement is the last
 
@@ -123,9 +125,9 @@ abbrev empty : List Statement → Bool
 empty [] = true
 empty (s ∷ ss) = false
 
-module _ (labels nodes : ℕ) (final : Stored) (kept : Bool) (x : Walk Value) where
+module _ (base : Base) (nodes : ℕ) (final : Stored) (kept : Bool) (x : Walk Value) where
   none_left_is : (ps : List Frame) (ss : Stmts) (new : List Statement) (o : Option ExprId)
-      → ContentsAre labels nodes final kept x ps ss new o → none_left ss ≡ empty new
+      → ContentsAre base nodes final kept x ps ss new o → none_left ss ≡ empty new
   none_left_is ps tree.no_stmts [] o h = refl
   none_left_is ps tree.no_stmts (s ∷ new) o h = absurd h.0
   none_left_is ps (tree.more_stmts (tree.disabled_stmt at by s) ss) new o h = none_left_is ps ss new o h
@@ -141,8 +143,8 @@ module _ (labels nodes : ℕ) (final : Stored) (kept : Bool) (x : Walk Value) wh
       go (is_left e) (part_walk e) new (λ more. none_left_is ps ss more o) h
     where
       go : (t : Bool) (y : Walk Value) (new : List Statement)
-          → ((more : List Statement) → ContentsAre labels nodes final kept x ps ss more o → none_left ss ≡ empty more)
-          → Stored1 labels nodes final ps t y semi (λ more. ContentsAre labels nodes final kept x ps ss more o) new
+          → ((more : List Statement) → ContentsAre base nodes final kept x ps ss more o → none_left ss ≡ empty more)
+          → Stored1 base nodes final ps t y semi (λ more. ContentsAre base nodes final kept x ps ss more o) new
           → not t && none_left ss ≡ empty new
       go false y new more h = more new h
       go true y [] more h = absurd h
@@ -169,10 +171,11 @@ stored_run final turns d r = run_statements (store_of final) (map_of final) turn
 abbrev before : Bool → Bool → (SyntaxRun Value → SyntaxRun Value) → SyntaxRun Value → SyntaxRun Value → SyntaxRun Value
 before left last out y others = if left then (if last then out y else (y >> others)) else others
 
-module _ (labels nodes : ℕ) (final : Stored) (turns d : ℕ) (deep : nodes ≤ d) where
-  same_else : (ps : List Frame) → Falls labels ps → (b : OptionBlock) (o : Option ExprId) → ElseIs labels nodes final ps b o → (fits : Bool)
-      {m : StoreRun Value} {n : SyntaxRun Value} → SameWhere ps m n
-      → SameWhere ps (stored_else turns (run_in final d turns) o fits m) (run_else turns b fits n (scopes ps))
+module _ (base : Base) (nodes : ℕ) (final : Stored) (turns d : ℕ) (deep : nodes ≤ d) where
+  same_else : (ps : List Frame) → Falls base.labels ps → (b : OptionBlock) (o : Option ExprId) → ElseIs base nodes final ps b o
+      → (fits : Bool)
+      {m : StoreRun Value} {n : SyntaxRun Value} → SameWhere base.names ps m n
+      → SameWhere base.names ps (stored_else turns (run_in final d turns) o fits m) (run_else turns b fits n (scopes ps))
   same_else ps f tree.no_block None h fits k = k
   same_else ps f tree.no_block (Some i) h fits k = absurd h
   same_else ps f (tree.some_block b) None h fits k = absurd h
@@ -181,9 +184,9 @@ module _ (labels nodes : ℕ) (final : Stored) (turns d : ℕ) (deep : nodes ≤
       same_bind (h.same turns d deep f) (λ v. same_ends (leave unmatched) refl)
 
   -- a `let` statement before others
-  same_let : (ps : List Frame) → Falls labels ps → (p : OptionPat) (t : OptionType) (e : OptionExpr) (b : OptionBlock) (s : StoredLet)
-      → LetIs labels nodes final ps p t e b s → {m : StoreRun Value} {n : SyntaxRun Value} → SameWhere ps m n
-      → SameWhere ps
+  same_let : (ps : List Frame) → Falls base.labels ps → (p : OptionPat) (t : OptionType) (e : OptionExpr) (b : OptionBlock) (s : StoredLet)
+      → LetIs base nodes final ps p t e b s → {m : StoreRun Value} {n : SyntaxRun Value} → SameWhere base.names ps m n
+      → SameWhere base.names ps
       (stored_present turns (run_in final d turns) s.initializer >>= (λ vs.
       bound_to (store_of final) (map_of final) s.pattern s.type_ref vs
       >>= (λ fits. stored_else turns (run_in final d turns) s.else_branch fits m)))
@@ -195,20 +198,21 @@ module _ (labels nodes : ℕ) (final : Stored) (turns d : ℕ) (deep : nodes ≤
       (λ fits. same_else ps f b s.else_branch h.else_branch fits k))
 
 -- no tail gives unit
-no_value : {labels nodes : ℕ} {final : Stored} {ps : List Frame} → Goes labels nodes optional (λ turns qs. pure unit) final ps None
+no_value : {base : Base} {nodes : ℕ} {final : Stored} {ps : List Frame} → Goes base nodes optional (λ turns qs. pure unit) final ps None
 no_value = record { same = λ turns d le f. same_pure unit; jumps = λ d le. tt }
 
 -- what a stored tail does, where the value of this one goes through `out`
-abbrev Ends : ℕ → ℕ → Stored → ℕ → ℕ → (SyntaxRun Value → SyntaxRun Value) → List Frame → Option ExprId → Option ExprId → Type 0
-Ends labels nodes final turns d out ps tail o = (y : Walk Value) → Goes labels nodes optional y final ps tail
-    → SameWhere ps (run_or_unit turns (run_in final d turns) o) (out (y turns (scopes ps)))
+abbrev Ends : Base → ℕ → Stored → ℕ → ℕ → (SyntaxRun Value → SyntaxRun Value) → List Frame → Option ExprId → Option ExprId → Type 0
+Ends base nodes final turns d out ps tail o = (y : Walk Value) → Goes base nodes optional y final ps tail
+    → SameWhere base.names ps (run_or_unit turns (run_in final d turns) o) (out (y turns (scopes ps)))
 
-module _ (labels nodes : ℕ) (final : Stored) (turns d : ℕ) (deep : nodes ≤ d) (x : Walk Value) (out : SyntaxRun Value → SyntaxRun Value)
+module _ (base : Base) (nodes : ℕ) (final : Stored) (turns d : ℕ) (deep : nodes ≤ d) (x : Walk Value)
+    (out : SyntaxRun Value → SyntaxRun Value)
     (o : Option ExprId) where
   -- with a tail, the statements as they are
-  with_tail : (ps : List Frame) → Falls labels ps → (ss : Stmts) (new : List Statement) (i : ExprId)
-      → Ends labels nodes final turns d out ps (Some i) o → ContentsAre labels nodes final true x ps ss new (Some i)
-      → SameWhere ps (stored_run final turns d (new, o)) (run_stmts turns ss true out (x turns) (scopes ps))
+  with_tail : (ps : List Frame) → Falls base.labels ps → (ss : Stmts) (new : List Statement) (i : ExprId)
+      → Ends base nodes final turns d out ps (Some i) o → ContentsAre base nodes final true x ps ss new (Some i)
+      → SameWhere base.names ps (stored_run final turns d (new, o)) (run_stmts turns ss true out (x turns) (scopes ps))
   with_tail ps f tree.no_stmts [] i k h = k x (record { same = h.1.same; jumps = h.1.jumps })
   with_tail ps f tree.no_stmts (s ∷ new) i k h = absurd h.0
   with_tail ps f (tree.more_stmts (tree.disabled_stmt at by s) ss) new i k h = with_tail ps f ss new i k h
@@ -220,15 +224,15 @@ module _ (labels nodes : ℕ) (final : Stored) (turns d : ℕ) (deep : nodes ≤
   with_tail ps f (tree.more_stmts (tree.let_stmt p t e b) ss) (statement.Item ∷ new) i k h = absurd h
   with_tail ps f (tree.more_stmts (tree.let_stmt p t e b) ss) (statement.Expr j semi ∷ new) i k h = absurd h
   with_tail ps f (tree.more_stmts (tree.let_stmt p t e b) ss) (statement.Let q t' j l ∷ new) i k h =
-      same_let labels nodes final turns d deep ps f p t e b _ h.0 (with_tail ps f ss new i k h.1)
+      same_let base nodes final turns d deep ps f p t e b _ h.0 (with_tail ps f ss new i k h.1)
   with_tail ps f (tree.more_stmts (tree.expr_stmt e semi) ss) new i k h =
       go (is_left e) (part_walk e) new (λ more h'. with_tail ps f ss more i k h') h
     where
       go : (t : Bool) (y : Walk Value) (new : List Statement)
-          → ((more : List Statement) → ContentsAre labels nodes final true x ps ss more (Some i)
-          → SameWhere ps (stored_run final turns d (more, o)) (run_stmts turns ss true out (x turns) (scopes ps)))
-          → Stored1 labels nodes final ps t y semi (λ more. ContentsAre labels nodes final true x ps ss more (Some i)) new
-          → SameWhere ps (stored_run final turns d (new, o))
+          → ((more : List Statement) → ContentsAre base nodes final true x ps ss more (Some i)
+          → SameWhere base.names ps (stored_run final turns d (more, o)) (run_stmts turns ss true out (x turns) (scopes ps)))
+          → Stored1 base nodes final ps t y semi (λ more. ContentsAre base nodes final true x ps ss more (Some i)) new
+          → SameWhere base.names ps (stored_run final turns d (new, o))
           (before t (not semi && (none_left ss && false)) out (y turns (scopes ps)) (run_stmts turns ss true out (x turns) (scopes ps)))
       go false y new more h = more new h
       go true y [] more h = absurd h
@@ -238,9 +242,10 @@ module _ (labels nodes : ℕ) (final : Stored) (turns d : ℕ) (deep : nodes ≤
           rw (and_false (not semi) (none_left ss)) (same_bind (h.1.same turns d deep f) (λ v. more new h.2))
 
   -- without one, the last statement may become it
-  without_tail : (ps : List Frame) → Falls labels ps → (ss : Stmts) (new : List Statement)
-      → Ends labels nodes final turns d out ps (settled new None).1 o → ContentsAre labels nodes final false x ps ss new None
-      → SameWhere ps (stored_run final turns d ((settled new None).0, o)) (run_stmts turns ss false out (λ qs. pure unit) (scopes ps))
+  without_tail : (ps : List Frame) → Falls base.labels ps → (ss : Stmts) (new : List Statement)
+      → Ends base nodes final turns d out ps (settled new None).1 o → ContentsAre base nodes final false x ps ss new None
+      → SameWhere base.names ps (stored_run final turns d ((settled new None).0, o)) (run_stmts turns ss false out (λ qs. pure unit)
+      (scopes ps))
   without_tail ps f tree.no_stmts [] k h = k (λ turns qs. pure unit) no_value
   without_tail ps f tree.no_stmts (s ∷ new) k h = absurd h.0
   without_tail ps f (tree.more_stmts (tree.disabled_stmt at by s) ss) new k h = without_tail ps f ss new k h
@@ -252,19 +257,19 @@ module _ (labels nodes : ℕ) (final : Stored) (turns d : ℕ) (deep : nodes ≤
   without_tail ps f (tree.more_stmts (tree.let_stmt p t e b) ss) (statement.Item ∷ new) k h = absurd h
   without_tail ps f (tree.more_stmts (tree.let_stmt p t e b) ss) (statement.Expr j semi ∷ new) k h = absurd h
   without_tail ps f (tree.more_stmts (tree.let_stmt p t e b) ss) (statement.Let q t' j l ∷ new) k h =
-      same_let labels nodes final turns d deep ps f p t e b _ h.0 (without_tail ps f ss new k h.1)
+      same_let base nodes final turns d deep ps f p t e b _ h.0 (without_tail ps f ss new k h.1)
   without_tail ps f (tree.more_stmts (tree.expr_stmt e semi) ss) new k h =
-      go (is_left e) (part_walk e) semi new (without_tail ps f ss) (λ more. none_left_is labels nodes final false x ps ss more None) k h
+      go (is_left e) (part_walk e) semi new (without_tail ps f ss) (λ more. none_left_is base nodes final false x ps ss more None) k h
     where
       go : (t : Bool) (y : Walk Value) (semi : Bool) (new : List Statement)
-          → ((more : List Statement) → Ends labels nodes final turns d out ps (settled more None).1 o
-          → ContentsAre labels nodes final false x ps ss more None
-          → SameWhere ps (stored_run final turns d ((settled more None).0, o))
+          → ((more : List Statement) → Ends base nodes final turns d out ps (settled more None).1 o
+          → ContentsAre base nodes final false x ps ss more None
+          → SameWhere base.names ps (stored_run final turns d ((settled more None).0, o))
           (run_stmts turns ss false out (λ qs. pure unit) (scopes ps)))
-          → ((more : List Statement) → ContentsAre labels nodes final false x ps ss more None → none_left ss ≡ empty more)
-          → Ends labels nodes final turns d out ps (settled new None).1 o
-          → Stored1 labels nodes final ps t y semi (λ more. ContentsAre labels nodes final false x ps ss more None) new
-          → SameWhere ps (stored_run final turns d ((settled new None).0, o))
+          → ((more : List Statement) → ContentsAre base nodes final false x ps ss more None → none_left ss ≡ empty more)
+          → Ends base nodes final turns d out ps (settled new None).1 o
+          → Stored1 base nodes final ps t y semi (λ more. ContentsAre base nodes final false x ps ss more None) new
+          → SameWhere base.names ps (stored_run final turns d ((settled new None).0, o))
           (before t (not semi && (none_left ss && true)) out (y turns (scopes ps))
           (run_stmts turns ss false out (λ qs. pure unit) (scopes ps)))
       go false y semi new more left k h = more new k h
@@ -285,22 +290,22 @@ module _ (labels nodes : ℕ) (final : Stored) (turns d : ℕ) (deep : nodes ≤
 abbrev AllEnclosed : (ExprId → Type 0) → List Statement → Option ExprId → Type 0
 AllEnclosed P ss o = EachStatement P ss × IfPresent P o
 
-module _ (labels nodes : ℕ) (final : Stored) (d : ℕ) (deep : nodes ≤ d) (kept : Bool) (x : Walk Value) where
-  kept_jumps : (ps : List Frame) (t : Bool) (y : Walk Value) (o : Option ExprId) → KeptIs labels nodes final ps t y o
+module _ (base : Base) (nodes : ℕ) (final : Stored) (d : ℕ) (deep : nodes ≤ d) (kept : Bool) (x : Walk Value) where
+  kept_jumps : (ps : List Frame) (t : Bool) (y : Walk Value) (o : Option ExprId) → KeptIs base nodes final ps t y o
       → IfPresent (EnclosedTo (store_of final) d (numbers ps)) o
   kept_jumps ps true y None k = absurd k
   kept_jumps ps true y (Some i) k = k.jumps d deep
   kept_jumps ps false y None k = tt
   kept_jumps ps false y (Some i) k = absurd k
 
-  else_jumps : (ps : List Frame) (b : OptionBlock) (o : Option ExprId) → ElseIs labels nodes final ps b o
+  else_jumps : (ps : List Frame) (b : OptionBlock) (o : Option ExprId) → ElseIs base nodes final ps b o
       → IfPresent (EnclosedTo (store_of final) d (numbers ps)) o
   else_jumps ps tree.no_block None h = tt
   else_jumps ps tree.no_block (Some i) h = absurd h
   else_jumps ps (tree.some_block b) None h = absurd h
   else_jumps ps (tree.some_block b) (Some i) h = h.jumps d deep
 
-  all_jumps : (ps : List Frame) (ss : Stmts) (new : List Statement) (o : Option ExprId) → ContentsAre labels nodes final kept x ps ss new o
+  all_jumps : (ps : List Frame) (ss : Stmts) (new : List Statement) (o : Option ExprId) → ContentsAre base nodes final kept x ps ss new o
       → AllEnclosed (EnclosedTo (store_of final) d (numbers ps)) new o
   all_jumps ps tree.no_stmts [] o h = (tt, kept_jumps ps kept x o h.1)
   all_jumps ps tree.no_stmts (s ∷ new) o h = absurd h.0
@@ -319,9 +324,9 @@ module _ (labels nodes : ℕ) (final : Stored) (d : ℕ) (deep : nodes ≤ d) (k
       go (is_left e) (part_walk e) new (λ more. all_jumps ps ss more o) h
     where
       go : (t : Bool) (y : Walk Value) (new : List Statement)
-          → ((more : List Statement) → ContentsAre labels nodes final kept x ps ss more o
+          → ((more : List Statement) → ContentsAre base nodes final kept x ps ss more o
           → AllEnclosed (EnclosedTo (store_of final) d (numbers ps)) more o)
-          → Stored1 labels nodes final ps t y semi (λ more. ContentsAre labels nodes final kept x ps ss more o) new
+          → Stored1 base nodes final ps t y semi (λ more. ContentsAre base nodes final kept x ps ss more o) new
           → AllEnclosed (EnclosedTo (store_of final) d (numbers ps)) new o
       go false y new more h = more new h
       go true y [] more h = absurd h
@@ -342,8 +347,8 @@ settled_jumps P (statement.Expr i false ∷ (s ∷ new)) None h = let r = settle
 
 -- the tail is stored where it is kept
 
-module _ (labels nodes : ℕ) (final : Stored) (x : Walk Value) where
-  no_tail : (ps : List Frame) (ss : Stmts) (new : List Statement) → ContentsAre labels nodes final true x ps ss new None → ⊥
+module _ (base : Base) (nodes : ℕ) (final : Stored) (x : Walk Value) where
+  no_tail : (ps : List Frame) (ss : Stmts) (new : List Statement) → ContentsAre base nodes final true x ps ss new None → ⊥
   no_tail ps tree.no_stmts new h = h.1
   no_tail ps (tree.more_stmts (tree.disabled_stmt at by s) ss) new h = no_tail ps ss new h
   no_tail ps (tree.more_stmts tree.item_stmt ss) [] h = h
@@ -357,16 +362,16 @@ module _ (labels nodes : ℕ) (final : Stored) (x : Walk Value) where
   no_tail ps (tree.more_stmts (tree.expr_stmt e semi) ss) new h = go (is_left e) (part_walk e) new (no_tail ps ss) h
     where
       go : (t : Bool) (y : Walk Value) (new : List Statement)
-          → ((more : List Statement) → ContentsAre labels nodes final true x ps ss more None → ⊥)
-          → Stored1 labels nodes final ps t y semi (λ more. ContentsAre labels nodes final true x ps ss more None) new → ⊥
+          → ((more : List Statement) → ContentsAre base nodes final true x ps ss more None → ⊥)
+          → Stored1 base nodes final ps t y semi (λ more. ContentsAre base nodes final true x ps ss more None) new → ⊥
       go false y new more h = more new h
       go true y [] more h = h
       go true y (statement.Item ∷ new) more h = h
       go true y (statement.Let q k j l ∷ new) more h = h
       go true y (statement.Expr i semi' ∷ new) more h = more new h.2
 
-module _ (labels nodes : ℕ) (final : Stored) (x : Walk Value) (i : ExprId) where
-  a_tail : (ps : List Frame) (ss : Stmts) (new : List Statement) → ContentsAre labels nodes final false x ps ss new (Some i) → ⊥
+module _ (base : Base) (nodes : ℕ) (final : Stored) (x : Walk Value) (i : ExprId) where
+  a_tail : (ps : List Frame) (ss : Stmts) (new : List Statement) → ContentsAre base nodes final false x ps ss new (Some i) → ⊥
   a_tail ps tree.no_stmts new h = h.1
   a_tail ps (tree.more_stmts (tree.disabled_stmt at by s) ss) new h = a_tail ps ss new h
   a_tail ps (tree.more_stmts tree.item_stmt ss) [] h = h
@@ -380,8 +385,8 @@ module _ (labels nodes : ℕ) (final : Stored) (x : Walk Value) (i : ExprId) whe
   a_tail ps (tree.more_stmts (tree.expr_stmt e semi) ss) new h = go (is_left e) (part_walk e) new (a_tail ps ss) h
     where
       go : (t : Bool) (y : Walk Value) (new : List Statement)
-          → ((more : List Statement) → ContentsAre labels nodes final false x ps ss more (Some i) → ⊥)
-          → Stored1 labels nodes final ps t y semi (λ more. ContentsAre labels nodes final false x ps ss more (Some i)) new → ⊥
+          → ((more : List Statement) → ContentsAre base nodes final false x ps ss more (Some i) → ⊥)
+          → Stored1 base nodes final ps t y semi (λ more. ContentsAre base nodes final false x ps ss more (Some i)) new → ⊥
       go false y new more h = more new h
       go true y [] more h = h
       go true y (statement.Item ∷ new) more h = h
@@ -404,20 +409,21 @@ tail_is tree.no_expr turns = refl
 tail_is (tree.some_expr e) turns = kept_tail (is_kept e) (run_expr turns e)
 
 -- What closes a block instead of its settled tail: its value goes through `out`, and it jumps as that tail does.
-pub record Closing (labels nodes nodes' : ℕ) (out : SyntaxRun Value → SyntaxRun Value) (final : Stored) (ps : List Frame)
+pub record Closing (base : Base) (nodes nodes' : ℕ) (out : SyntaxRun Value → SyntaxRun Value) (final : Stored) (ps : List Frame)
     (tail o : Option ExprId) : Type 0 where
-  pub same : (turns d : ℕ) → nodes' ≤ d → Falls labels ps → Ends labels nodes final turns d out ps tail o
+  pub same : (turns d : ℕ) → nodes' ≤ d → Falls base.labels ps → Ends base nodes final turns d out ps tail o
   pub jumps : ((d : ℕ) → nodes ≤ d → IfPresent (EnclosedTo (store_of final) d (numbers ps)) tail)
       → (d : ℕ) → nodes' ≤ d → IfPresent (EnclosedTo (store_of final) d (numbers ps)) o
 
 -- the contents of a block, where `e` is its written tail
-pub contents_close : {labels nodes nodes' : ℕ} {final : Stored} {ps : List Frame} (out : SyntaxRun Value → SyntaxRun Value) (ss : Stmts)
+pub contents_close : {base : Base} {nodes nodes' : ℕ} {final : Stored} {ps : List Frame}
+    (out : SyntaxRun Value → SyntaxRun Value) (ss : Stmts)
     (e : OptionExpr) (new : List Statement) (o c : Option ExprId) → nodes ≤ nodes'
-    → Closing labels nodes nodes' out final ps (settled new o).1 c
-    → ContentsAre labels nodes final (is_left e) (part_walk e) ps ss new o
-    → Goes labels nodes' (contents final) (λ turns qs. run_stmts turns ss (is_left e) out (run_tail turns e) qs) final ps
+    → Closing base nodes nodes' out final ps (settled new o).1 c
+    → ContentsAre base nodes final (is_left e) (part_walk e) ps ss new o
+    → Goes base nodes' (contents final) (λ turns qs. run_stmts turns ss (is_left e) out (run_tail turns e) qs) final ps
     ((settled new o).0, c)
-contents_close {labels = labels} {nodes = nodes} {nodes' = nodes'} {final = final} {ps = ps} out ss e new o c le closing h = record {
+contents_close {base = base} {nodes = nodes} {nodes' = nodes'} {final = final} {ps = ps} out ss e new o c le closing h = record {
   same = λ turns d ge f. rw (tail_is e turns)
       (runs (is_left e) (part_walk e) o h turns d (omega (arith, le, ge)) f (closing.same turns d ge f));
   jumps = λ d ge. ((all d (omega (arith, le, ge))).0, closing.jumps (λ d ge. (all d ge).1) d ge);
@@ -425,21 +431,22 @@ contents_close {labels = labels} {nodes = nodes} {nodes' = nodes'} {final = fina
   where
     all : (d : ℕ) → nodes ≤ d → AllEnclosed (EnclosedTo (store_of final) d (numbers ps)) (settled new o).0 (settled new o).1
     all d ge = settled_jumps (EnclosedTo (store_of final) d (numbers ps)) new o
-        (all_jumps labels nodes final d ge (is_left e) (part_walk e) ps ss new o h)
+        (all_jumps base nodes final d ge (is_left e) (part_walk e) ps ss new o h)
 
-    runs : (t : Bool) (x : Walk Value) (o : Option ExprId) → ContentsAre labels nodes final t x ps ss new o → (turns d : ℕ) → nodes ≤ d
-        → Falls labels ps → Ends labels nodes final turns d out ps (settled new o).1 c
-        → SameWhere ps (stored_run final turns d ((settled new o).0, c)) (run_stmts turns ss t out (tail_of t (x turns)) (scopes ps))
-    runs true x None h turns d le f k = absurd (no_tail labels nodes final x ps ss new h)
-    runs true x (Some i) h turns d le f k = with_tail labels nodes final turns d le x out c ps f ss new i k h
-    runs false x None h turns d le f k = without_tail labels nodes final turns d le x out c ps f ss new k h
-    runs false x (Some i) h turns d le f k = absurd (a_tail labels nodes final x i ps ss new h)
+    runs : (t : Bool) (x : Walk Value) (o : Option ExprId) → ContentsAre base nodes final t x ps ss new o → (turns d : ℕ) → nodes ≤ d
+        → Falls base.labels ps → Ends base nodes final turns d out ps (settled new o).1 c
+        → SameWhere base.names ps (stored_run final turns d ((settled new o).0, c)) (run_stmts turns ss t out (tail_of t (x turns))
+        (scopes ps))
+    runs true x None h turns d le f k = absurd (no_tail base nodes final x ps ss new h)
+    runs true x (Some i) h turns d le f k = with_tail base nodes final turns d le x out c ps f ss new i k h
+    runs false x None h turns d le f k = without_tail base nodes final turns d le x out c ps f ss new k h
+    runs false x (Some i) h turns d le f k = absurd (a_tail base nodes final x i ps ss new h)
 
 -- as they are
-pub contents_go : {labels nodes : ℕ} {final : Stored} {ps : List Frame} (ss : Stmts) (e : OptionExpr)
+pub contents_go : {base : Base} {nodes : ℕ} {final : Stored} {ps : List Frame} (ss : Stmts) (e : OptionExpr)
     (new : List Statement) (o : Option ExprId)
-    → ContentsAre labels nodes final (is_left e) (part_walk e) ps ss new o
-    → Goes labels nodes (contents final) (λ turns qs. run_stmts turns ss (is_left e) as_it_is (run_tail turns e) qs) final ps
+    → ContentsAre base nodes final (is_left e) (part_walk e) ps ss new o
+    → Goes base nodes (contents final) (λ turns qs. run_stmts turns ss (is_left e) as_it_is (run_tail turns e) qs) final ps
     (settled new o)
 contents_go ss e new o h = contents_close as_it_is ss e new o (settled new o).1 (omega arith)
     (record { same = λ turns d le f y goes. goes.same turns d le f; jumps = λ k. k }) h

@@ -10,6 +10,7 @@ use Rattle.hir_meaning.specs.Jumps.{Enclosed}
 use Rattle.hir_meaning.specs.Same.{SameRun, SameBody, ending, begin_with}
 use Rattle.hir_same_meaning.specs.Headline.{body_to}
 use Rattle.hir_same_meaning.proofs.Views.{numbers, view}
+use Rattle.hir_same_meaning.proofs.Senses.{Base}
 use Rattle.hir_same_meaning.proofs.Senses.{Walk, run_in, one, Goes}
 
 ending_view : (ps : List Frame) (o : Outcome JumpLabel Value) → ending o ≡ ending (view ps o)
@@ -22,8 +23,8 @@ ending_view ps (leave x) = refl
 abbrev pub walked : Walk Value → List Frame → SyntaxBody
 walked x ps = record { table = tt; run = λ turns. x turns (scopes ps) }
 
-pub runs_at : {labels nodes : ℕ} {x : Walk Value} {final : Stored} {i : ExprId} (ps : List Frame) (d : ℕ)
-    → Goes labels nodes one x final ps i → nodes ≤ d → Falls labels ps → SameRun (body_to final d i) (walked x ps)
+pub runs_at : {base : Base} {nodes : ℕ} {x : Walk Value} {final : Stored} {i : ExprId} (ps : List Frame) (d : ℕ)
+    → Goes base nodes one x final ps i → nodes ≤ d → Falls base.labels ps → SameRun (body_to final d i) (walked x ps)
 runs_at {final = final} {i = i} ps d h le f = record {
   events = λ turns answers. let a = (h.same turns d le f).same (begin_with new_table answers) in ap (λ w. w.events) a.world;
   endings = λ turns answers. let w = begin_with new_table answers in let a = (h.same turns d le f).same w in
@@ -31,8 +32,8 @@ runs_at {final = final} {i = i} ps d h le f = record {
 }
 
 -- inside frames that have no label, as a body and the inside of a barrier have none around them
-pub body_is : {labels nodes : ℕ} {x : Walk Value} {final : Stored} {i : ExprId} (ps : List Frame)
-    → Goes labels nodes one x final ps i → nodes ≤ length final.exprs.entries → Falls labels ps → numbers ps ≡ []
+pub body_is : {base : Base} {nodes : ℕ} {x : Walk Value} {final : Stored} {i : ExprId} (ps : List Frame)
+    → Goes base nodes one x final ps i → nodes ≤ length final.exprs.entries → Falls base.labels ps → numbers ps ≡ []
     → SameBody (store_of final) (stored_body (store_of final) (map_of final) i) i (walked x ps)
 unfolding run_store Enclosed
 body_is {final = final} ps h le f none = record {

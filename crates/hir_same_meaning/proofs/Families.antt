@@ -2,9 +2,13 @@
 use Rattle.std.proofs.Common.{true, false, List, [], ◌∷◌, Option, Some, None, refl, arith}
 use Rattle.hir_base.specs.declared.op.LogicOp.{LogicOp}
 use Rattle.hir_base.specs.declared.op.BinaryOp.TheVariants as ast
+use Rattle.hir_base.specs.declared.op.UnaryOp.{UnaryOp}
 use Rattle.hir_store.specs.Pointers.{Pointer}
 use Rattle.hir_store.specs.declared.hir.Expr.{Expr as HirExpr}
 use Rattle.hir_store.specs.declared.hir.Expr.TheVariants as hir
+use Rattle.hir_store.specs.declared.hir.Mutability.{Mutability}
+use Rattle.hir_store.specs.declared.hir.Rawness.{Rawness}
+use Rattle.hir_store.specs.declared.name.Name.{Name}
 use Rattle.hir_store.specs.declared.ids.ExprId.{ExprId}
 use Rattle.hir_store.specs.declared.diagnostics.AwaitLocation.{AwaitLocation}
 use Rattle.hir_env.specs.Answered as tree
@@ -14,10 +18,13 @@ use Rattle.hir_env.specs.Answering.{site_of}
 use Rattle.hir_lower_form.specs.Lowering.{Lowering, alloc_expr}
 use Rattle.hir_lower_form.specs.Lower.{ExprSteps, stored_leaf, stored_unary, stored_binary, stored_lazy, stored_leaving}
 use Rattle.hir_lower_form.specs.Lower.{operand_form, operands_form, value_form, list_form, await_form}
-use Rattle.hir_meaning.specs.Run.{Value, Operation, array, yielding, awaiting, leave, became, missing, ends, ◌>>=◌, ask}
+use Rattle.hir_meaning.specs.Run.{Value, Operation, field, prefix, reference, array, yielding, awaiting, leave}
+use Rattle.hir_meaning.specs.Run.{became, missing, ends, ◌>>=◌, ask}
 use Rattle.hir_meaning.specs.Syntax.{run_leaf, unary_operation, run_binary, run_lazy, run_list, leaves_with}
-use Rattle.hir_steps.proofs.Steps.{Rel, Correct, correct_bind, correct_as, correct_alloc, correct_report_await}
-use Rattle.hir_same_meaning.proofs.Senses.{Walk, one, optional, many, Runs, goes_within}
+use Rattle.hir_steps.proofs.Steps.{Rel, Correct, correct_bind, correct_both, correct_as, correct_alloc, correct_report_await}
+use Rattle.hir_same_meaning.proofs.Named.{Unnamed}
+use Rattle.hir_same_meaning.proofs.Relation.{same_ask, same_bind}
+use Rattle.hir_same_meaning.proofs.Senses.{Walk, base_of, one, optional, many, Runs, goes_at, goes_within}
 use Rattle.hir_same_meaning.proofs.Nodes
 use Rattle.hir_same_meaning.proofs.Forms.{missing_fine}
 use Rattle.hir_same_meaning.proofs.Strict.{Finish, asks, leaves, makes_tuple, Form1, finished, goes1, form1_fine, Event2}
@@ -25,10 +32,11 @@ use Rattle.hir_same_meaning.proofs.Strict.{event0_fine, event2_fine}
 
 -- the kinds of each
 
-pub unary_is : (form : Unary) → Form1 (stored_unary form) one (asks (unary_operation form) (λ v. v ∷ []))
-unary_is (tree.field_of name) = record { runs = λ w a. refl; jumps = λ s P ls a h. h }
-unary_is (tree.prefix_of op) = record { runs = λ w a. refl; jumps = λ s P ls a h. h }
-unary_is (tree.reference_to rawness mutability) = record { runs = λ w a. refl; jumps = λ s P ls a h. h }
+field_is : (name : Name) → Form1 (λ i. hir.Field i name) one (asks (field name) (λ v. v ∷ []))
+field_is name = record { runs = λ w a. refl; jumps = λ s P ls a h. h }
+
+prefix_is : (op : UnaryOp) → Form1 (λ i. hir.UnaryOp op i) one (asks (prefix op) (λ v. v ∷ []))
+prefix_is op = record { runs = λ w a. refl; jumps = λ s P ls a h. h }
 
 pub leaving_is : (form : Leaving) → Form1 (stored_leaving form) optional (leaves (leaves_with form))
 leaving_is tree.returning = record { runs = λ w a. refl; jumps = λ s P ls a h. h }
@@ -65,6 +73,25 @@ module _ (at : Pointer) where
       → Correct (operand_form at make p) (Runs one (finished at x f))
   unfolding operand_form
   operand_fine is h = form1_fine at is h
+
+  -- a reference to what is no made name
+  reference_fine : (kind : Rawness) (mutable : Mutability) {p : ExprSteps} {x : Walk Value} → Correct p (Runs one x) → Correct p Unnamed
+      → Correct (operand_form at (λ i. hir.Ref kind mutable i) p) (Runs one (finished at x (asks (reference kind mutable) (λ v. v ∷ []))))
+  unfolding operand_form
+  reference_fine kind mutable h u = correct_as
+      (correct_bind (correct_both h u) (λ e. correct_alloc (hir.Ref kind mutable e) (Some at)))
+      (λ final ps m m' i g row.
+      let k = goes_within {base = base_of m} {base' = base_of m} {nodes' = row.middle.nodes} (omega arith) row.first.one in
+      goes_at row.second
+      (λ turns d le f. rw row.first.other.is (same_bind (k.same turns d le f)
+      (λ v. same_ask (reference kind mutable) (v ∷ []) (Some (site_of at)))))
+      (λ d le. k.jumps d le))
+
+  pub unary_fine : (form : Unary) {p : ExprSteps} {x : Walk Value} → Correct p (Runs one x) → Correct p Unnamed
+      → Correct (operand_form at (stored_unary form) p) (Runs one (finished at x (asks (unary_operation form) (λ v. v ∷ []))))
+  unary_fine (tree.field_of name) h u = operand_fine (field_is name) h
+  unary_fine (tree.prefix_of op) h u = operand_fine (prefix_is op) h
+  unary_fine (tree.reference_to kind mutable) h u = reference_fine kind mutable h u
 
   pub value_fine : {make : Option ExprId → HirExpr} {f : Finish Value} {p : Lowering (Option ExprId)} {x : Walk Value}
       → Form1 make optional f → Correct p (Runs optional x) → Correct (value_form at make p) (Runs one (finished at x f))

@@ -47,6 +47,7 @@ use Rattle.hir_steps.proofs.Steps.{correct_report, correct_point, correct_enter_
 use Rattle.hir_same_meaning.proofs.Targets.{break_meets, continue_meets, among}
 use Rattle.hir_same_meaning.proofs.Relation.{SameWhere, TurnsAlike, same_read_path}
 use Rattle.hir_same_meaning.proofs.Turns.{alike_same, branched, while_alike}
+use Rattle.hir_same_meaning.proofs.Senses.{Base, Under, base_of}
 use Rattle.hir_same_meaning.proofs.Senses.{Walk, one, optional, many, contents, Goes, Runs, Wider, goes_within, goes_at}
 use Rattle.hir_same_meaning.proofs.Nodes
 use Rattle.hir_same_meaning.proofs.Strict.{event0_fine, event2_fine}
@@ -75,10 +76,10 @@ falls_try b c n typed ps e e' f = (omega arith, rw e f)
 
 -- inside a loop without a label, of which lowering knows nothing
 
-record InLoop {A : Type 0} (R : Rel A) (final : Stored) (ps : List Frame) (m m' : Mark) (a : A) : Type 0 where
-  rel : R final (plain_loop ∷ ps) m m' a
+pub record InLoop {A : Type 0} (R : Rel A) (final : Stored) (ps : List Frame) (m m' : Mark) (a : A) : Type 0 where
+  pub rel : R final (plain_loop ∷ ps) m m' a
 
-correct_in_loop : {A : Type 0} {p : Lowering A} {R : Rel A} → Correct p R → Correct p (InLoop R)
+pub correct_in_loop : {A : Type 0} {p : Lowering A} {R : Rel A} → Correct p R → Correct p (InLoop R)
 correct_in_loop {A = A} {p = p} {R = R} h =
     record { holds = λ final ps b r. go final ps b (p b).0 (p b).1 (h.holds final (plain_loop ∷ ps) b r) }
   where
@@ -122,13 +123,14 @@ module _ (at : Pointer) where
   turns_fine from None y alike h = correct_as
       (correct_bind (correct_in_loop h) (λ i. correct_alloc (hir.Loop i None from) (Some at)))
       (λ final ps m m' i g row.
-      Nodes.goes_loop None y (λ turns. alike turns (scopes ps)) (λ f. f) (goes_within (omega arith) row.first.rel) row.second)
+      Nodes.goes_loop {base' = base_of m} None y (λ turns. alike turns (scopes ps)) (λ f. f) (omega arith)
+      (goes_within (omega arith) row.first.rel) row.second)
   turns_fine from (Some l) y alike h = correct_as
       (correct_opened loop_at l (λ n ps. refl) (λ n. h) (λ n i. correct_alloc (hir.Loop i (Some n) from) (Some at)))
       (λ final ps m m' i g row.
-      Nodes.goes_loop {labels' = row.entered.labels} (Some (record { label = l; number = row.number })) y
+      Nodes.goes_loop {base' = base_of row.entered} (Some (record { label = l; number = row.number })) y
       (λ turns. alike turns (scopes ps)) (falls_new m.labels row.entered.labels l row.number ps row.new row.labels)
-      (goes_within (omega arith) row.first) row.second)
+      (omega (arith, row.names)) (goes_within (omega arith) row.first) row.second)
 
   pub loop_fine : (from : LoopSource) (l : Option Label) {p : ExprSteps} {x : Walk Value} → Correct p (Runs one x)
       → Correct (loop_form at from l p) (Runs one (λ turns ss. loop outward turns (turn (x turns (loop_scope l ∷ ss)))))
@@ -146,7 +148,7 @@ module _ (at : Pointer) where
       (correct_bind hb (λ j. correct_bind hc (λ k. correct_bind (correct_alloc (hir.Break None None) (Some at))
       (λ o. correct_alloc (hir.If k j (Some o)) (Some at)))))
       (λ final ps m m' i g row. let r = row.second in let q = r.second in
-      let out = Nodes.goes_break None (break_meets m.labels ps None) (among ps None) Nodes.goes_none q.first in
+      let out = Nodes.goes_break {base = base_of m} None (break_meets m.labels ps None) (among ps None) Nodes.goes_none q.first in
       Nodes.goes_if (goes_within (omega arith) r.first) (goes_within (omega arith) row.first)
       (Nodes.goes_some (goes_within (omega arith) out)) q.second)
 
@@ -183,21 +185,21 @@ abbrev path_in : Stored → Path → PathData
 path_in final p = stored_path (store_of final) (map_of final) p
 
 -- a path that is no made name
-pub looks_unmade : {ps : List Frame} (o : Option ℕ) → o ≡ None → (d : PathData) (h : HygieneId) (site : Option Site)
-    → SameWhere ps (read_or_look o d h site) (read_path d h site)
+pub looks_unmade : {names : ℕ} {ps : List Frame} (o : Option ℕ) → o ≡ None → (d : PathData) (h : HygieneId) (site : Option Site)
+    → SameWhere names ps (read_or_look o d h site) (read_path d h site)
 looks_unmade o e d h site = rw e (same_read_path d h site)
 
 -- what is stored for a path is read as this
-goes_path : {labels : ℕ} {m m' : Mark} {final : Stored} {ps qs : List Frame} {i : ExprId} (at : Pointer) (h : HygieneId)
+goes_path : {base : Base} {m m' : Mark} {final : Stored} {ps qs : List Frame} {i : ExprId} (at : Pointer) (h : HygieneId)
     (r : Option Path) (d : Option PathData) → option_map (path_in final) r ≡ d → PathUnmade d
     → Allocated (path_or_missing h r) (Some at) final qs m m' i
-    → Goes labels m'.nodes one (λ turns ss. run_path d h (Some (site_of at))) final ps i
-goes_path {labels = labels} {m = m} {m' = m'} {final = final} {ps = ps} {qs = qs} {i = i} at h r d is u a =
-    subst (λ k. Goes labels m'.nodes one (λ turns ss. run_path k h (Some (site_of at))) final ps i) is
+    → Goes base m'.nodes one (λ turns ss. run_path d h (Some (site_of at))) final ps i
+goes_path {base = base} {m = m} {m' = m'} {final = final} {ps = ps} {qs = qs} {i = i} at h r d is u a =
+    subst (λ k. Goes base m'.nodes one (λ turns ss. run_path k h (Some (site_of at))) final ps i) is
     (by r (subst PathUnmade (sym is) u) a)
   where
     by : (r : Option Path) → PathUnmade (option_map (path_in final) r) → Allocated (path_or_missing h r) (Some at) final qs m m' i
-        → Goes labels m'.nodes one (λ turns ss. run_path (option_map (path_in final) r) h (Some (site_of at))) final ps i
+        → Goes base m'.nodes one (λ turns ss. run_path (option_map (path_in final) r) h (Some (site_of at))) final ps i
     by None u a = Nodes.goes_missing a
     by (Some p) u a = goes_at a
         (λ turns d le f. rw (looked_up (store_of final) (map_of final) p h)
@@ -214,7 +216,7 @@ path_fine at p h = correct_as
 -- what is kept
 
 pub kept_fine : (e : Expr) {p : ExprSteps} {x : Walk Value} → Correct p (Runs one x)
-    → Correct (kept e p) (λ final ps m m' o. KeptIs m.labels m'.nodes final ps (is_kept e) x o)
+    → Correct (kept e p) (λ final ps m m' o. KeptIs (base_of m) m'.nodes final ps (is_kept e) x o)
 kept_fine (tree.disabled_expr at by e) h = correct_as (correct_bind (correct_report (InactiveCode at by)) (λ u. correct_pure None))
     (λ final ps m m' o g row. rw row.second.is tt)
 kept_fine e h = correct_as (correct_bind h (λ i. correct_pure (Some i)))
@@ -242,7 +244,7 @@ consed x y = ◌then◌ x (λ v. ◌then◌ y (λ vs. gives (v ∷ vs)))
 
 pub each_more : {final : Stored} {ps : List Frame} {m m1 m' : Mark} {r : List ExprId} (t : Bool) (x : Walk Value)
     (y : Walk (List Value)) (done : List ExprId) (o : Option ExprId)
-    → Grows m m1 → Grows m1 m' → KeptIs m.labels m1.nodes final ps t x o → Pushed (push_some done o) (Runs many y) final ps m1 m' r
+    → Grows m m1 → Grows m1 m' → KeptIs (base_of m) m1.nodes final ps t x o → Pushed (push_some done o) (Runs many y) final ps m1 m' r
     → Pushed done (Runs many (λ turns ss. if t then consed (x turns ss) (y turns ss) else y turns ss)) final ps m m' r
 each_more true x y done None g g' h p = absurd h
 each_more true x y done (Some i) g g' h p = record {
@@ -255,8 +257,8 @@ each_more false x y done (Some i) g g' h p = absurd h
 
 -- statements
 
-kept_within : {labels nodes labels' nodes' : ℕ} (final : Stored) (ps : List Frame) (t : Bool) (x : Walk Value) (o : Option ExprId)
-    → Wider labels nodes labels' nodes' → KeptIs labels nodes final ps t x o → KeptIs labels' nodes' final ps t x o
+kept_within : {base base' : Base} {nodes nodes' : ℕ} (final : Stored) (ps : List Frame) (t : Bool) (x : Walk Value) (o : Option ExprId)
+    → Wider base nodes base' nodes' → KeptIs base nodes final ps t x o → KeptIs base' nodes' final ps t x o
 kept_within final ps true x None w h = absurd h
 kept_within final ps true x (Some i) w h = goes_within w h
 kept_within final ps false x None w h = tt
@@ -277,7 +279,7 @@ correct_statement semi h = correct_as (correct_bind h (λ x. correct_pure (optio
 -- the statements with the tail behind them
 abbrev pub ContentsRel : Bool → Walk Value → Stmts → Rel StoredContents
 ContentsRel t x ss final ps m m' r =
-    (labels nodes : ℕ) → labels ≤ m.labels → m'.nodes ≤ nodes → ContentsAre labels nodes final t x ps ss r.0 r.1
+    (base : Base) (nodes : ℕ) → Under base (base_of m) → m'.nodes ≤ nodes → ContentsAre base nodes final t x ps ss r.0 r.1
 
 -- the statements are pushed on those that stand
 pub record Filled (done : List Statement) (R : Rel StoredContents) (final : Stored) (ps : List Frame) (m m' : Mark)
@@ -288,11 +290,11 @@ pub record Filled (done : List Statement) (R : Rel StoredContents) (final : Stor
 
 pub filled_end : {final : Stored} {ps : List Frame} {m m' : Mark} {r : StoredContents} (t : Bool) (x : Walk Value)
     (done : List Statement) (o : Option ExprId) → r ≡ (done, o)
-    → KeptIs m.labels m'.nodes final ps t x o → Filled done (ContentsRel t x tree.no_stmts) final ps m m' r
+    → KeptIs (base_of m) m'.nodes final ps t x o → Filled done (ContentsRel t x tree.no_stmts) final ps m m' r
 filled_end {final = final} {ps = ps} t x done o e h = rw e (record {
   new = [];
   is = sym (append-nil done);
-  rel = λ labels nodes le le'. (tt, kept_within final ps t x o (omega arith) h);
+  rel = λ base nodes le le'. (tt, kept_within final ps t x o (omega arith) h);
 })
 
 pub filled_item : {final : Stored} {ps : List Frame} {m m' : Mark} {r : StoredContents} (t : Bool) (x : Walk Value)
@@ -302,7 +304,7 @@ pub filled_item : {final : Stored} {ps : List Frame} {m m' : Mark} {r : StoredCo
 filled_item t x ss done p = record {
   new = statement.Item ∷ p.new;
   is = pushed_one done statement.Item p.new p.is;
-  rel = λ labels nodes le le'. p.rel labels nodes le le';
+  rel = λ base nodes le le'. p.rel base nodes le le';
 }
 
 -- nothing of a statement
@@ -311,39 +313,39 @@ pub filled_nothing : {final : Stored} {ps : List Frame} {m m1 m' : Mark} {r : St
     → Filled done (ContentsRel t x ss) final ps m1 m' r
     → Filled done (ContentsRel t x (tree.more_stmts (tree.disabled_stmt at by s) ss)) final ps m m' r
 filled_nothing t x at by s ss done g p =
-    record { new = p.new; is = p.is; rel = λ labels nodes le le'. p.rel labels nodes (omega arith) (omega arith) }
+    record { new = p.new; is = p.is; rel = λ base nodes le le'. p.rel base nodes (omega arith) (omega arith) }
 
 -- a `let` statement
 pub filled_let : {final : Stored} {ps : List Frame} {m m1 m' : Mark} {r : StoredContents} (t : Bool) (x : Walk Value)
     (p : OptionPat) (ty : OptionType) (e : OptionExpr) (b : OptionBlock) (ss : Stmts) (done : List Statement) (s : StoredLet)
-    → Grows m m1 → Grows m1 m' → LetIs m.labels m1.nodes final ps p ty e b s
+    → Grows m m1 → Grows m1 m' → LetIs (base_of m) m1.nodes final ps p ty e b s
     → Filled (done ++ let_of s ∷ []) (ContentsRel t x ss) final ps m1 m' r
     → Filled done (ContentsRel t x (tree.more_stmts (tree.let_stmt p ty e b) ss)) final ps m m' r
 filled_let {final = final} {ps = ps} t x p ty e b ss done s g g' h q = record {
   new = let_of s ∷ q.new;
   is = pushed_one done (let_of s) q.new q.is;
-  rel = λ labels nodes le le'. (let_within final ps p ty e b s (omega arith) h, q.rel labels nodes (omega arith) (omega arith));
+  rel = λ base nodes le le'. (let_within final ps p ty e b s (omega arith) h, q.rel base nodes (omega arith) (omega arith));
 }
 
 pub filled_expr : {final : Stored} {ps : List Frame} {m m1 m' : Mark} {r : StoredContents} (t : Bool) (x : Walk Value)
     (e : OptionExpr) (semi : Bool) (ss : Stmts) (done : List Statement) (o : Option ExprId)
-    → Grows m m1 → Grows m1 m' → KeptIs m.labels m1.nodes final ps (is_left e) (part_walk e) o
+    → Grows m m1 → Grows m1 m' → KeptIs (base_of m) m1.nodes final ps (is_left e) (part_walk e) o
     → Filled (push_some done (option_map (λ i. statement.Expr i semi) o)) (ContentsRel t x ss) final ps m1 m' r
     → Filled done (ContentsRel t x (tree.more_stmts (tree.expr_stmt e semi) ss)) final ps m m' r
 filled_expr {final = final} {ps = ps} {m = m} {m1 = m1} {m' = m'} {r = r} t x e semi ss done o g g' h p =
     go (is_left e) (part_walk e) o h p
   where
-    go : (k : Bool) (y : Walk Value) (o : Option ExprId) → KeptIs m.labels m1.nodes final ps k y o
+    go : (k : Bool) (y : Walk Value) (o : Option ExprId) → KeptIs (base_of m) m1.nodes final ps k y o
         → Filled (push_some done (option_map (λ i. statement.Expr i semi) o)) (ContentsRel t x ss) final ps m1 m' r
-        → Filled done (λ final ps m m' r. (labels nodes : ℕ) → labels ≤ m.labels → m'.nodes ≤ nodes
-        → Stored1 labels nodes final ps k y semi (λ more. ContentsAre labels nodes final t x ps ss more r.1) r.0) final ps m m' r
+        → Filled done (λ final ps m m' r. (base : Base) (nodes : ℕ) → Under base (base_of m) → m'.nodes ≤ nodes
+        → Stored1 base nodes final ps k y semi (λ more. ContentsAre base nodes final t x ps ss more r.1) r.0) final ps m m' r
     go true y None h p = absurd h
     go true y (Some i) h p = record {
       new = statement.Expr i semi ∷ p.new;
       is = pushed_one done (statement.Expr i semi) p.new p.is;
-      rel = λ labels nodes le le'. (refl, goes_within (omega arith) h, p.rel labels nodes (omega arith) (omega arith));
+      rel = λ base nodes le le'. (refl, goes_within (omega arith) h, p.rel base nodes (omega arith) (omega arith));
     }
-    go false y None h p = record { new = p.new; is = p.is; rel = λ labels nodes le le'. p.rel labels nodes (omega arith) (omega arith) }
+    go false y None h p = record { new = p.new; is = p.is; rel = λ base nodes le le'. p.rel base nodes (omega arith) (omega arith) }
     go false y (Some i) h p = absurd h
 
 -- blocks
@@ -352,7 +354,7 @@ pub record BlockIs (at : Pointer) (is_unsafe : Bool) (label : Option LabelId) (n
     (final : Stored) (ps : List Frame) (m m' : Mark) (i : ExprId) : Type 0 where
   pub middle : Mark
   pub held : List Statement × Option ExprId
-  pub goes : Goes m.labels middle.nodes (contents final) x final ps held
+  pub goes : Goes (base_of m) middle.nodes (contents final) x final ps held
   pub here : Allocated (hir.Block is_unsafe label number held.0 held.1) (Some at) final ps middle m' i
 
 abbrev block_walk : Stmts → OptionExpr → Walk Value
@@ -371,7 +373,7 @@ block_form_fine at is_unsafe label number ss e hp = correct_as
     (λ final ps m m' i g row. let r = row.second in record {
       middle = r.middle;
       held = settled r.one.0 r.one.1;
-      goes = rw r.first.is (contents_go ss e r.first.new r.one.1 (r.first.rel m.labels r.middle.nodes (omega arith) (omega arith)));
+      goes = rw r.first.is (contents_go ss e r.first.new r.one.1 (r.first.rel (base_of m) r.middle.nodes (omega arith) (omega arith)));
       here = r.second;
     })
 
@@ -386,8 +388,8 @@ block_fine at is_unsafe None number ss e hp = correct_as (block_form_fine at is_
 block_fine at is_unsafe (Some l) number ss e hp = correct_as
     (correct_opened block_at l (λ n ps. refl) (λ n. block_form_fine at is_unsafe (Some n) number ss e hp) (λ n i. correct_pure i))
     (λ final ps m m' i g row. rw (row.second.is, row.second.still)
-    (Nodes.goes_block {labels' = row.entered.labels} is_unsafe number l row.number
-    (falls_new m.labels row.entered.labels l row.number ps row.new row.labels) row.first.goes row.first.here))
+    (Nodes.goes_block {base' = base_of row.entered} is_unsafe number l row.number
+    (falls_new m.labels row.entered.labels l row.number ps row.new row.labels) (omega (arith, row.names)) row.first.goes row.first.here))
 
 -- what is not kept
 
@@ -396,7 +398,7 @@ pub disabled_fine : (at : Pointer) (by : CfgId)
 disabled_fine at by = correct_as (correct_bind (correct_report (InactiveCode at by)) (λ u. missing_fine))
     (λ final ps m m' i g row. goes_within (omega arith) row.second)
 
-pub nothing_fine : (x : Walk Value) → Correct (pure None) (λ final ps m m' o. KeptIs m.labels m'.nodes final ps false x o)
+pub nothing_fine : (x : Walk Value) → Correct (pure None) (λ final ps m m' o. KeptIs (base_of m) m'.nodes final ps false x o)
 nothing_fine x = correct_as (correct_pure None) (λ final ps m m' o g row. rw row.is tt)
 
 pub pushed_all : {p : Lowering (List ExprId)} {y : Walk (List Value)} → Correct p (Pushed [] (Runs many y)) → Correct p (Runs many y)

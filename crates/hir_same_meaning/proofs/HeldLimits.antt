@@ -1,5 +1,5 @@
 -- The ends of ranges in types, each a body of its own: it runs as it is written, and holds what its path holds.
-use Rattle.std.proofs.Common.{◌≡◌, refl, sym, subst, ℕ, List, [], ◌∷◌, ◌++◌, append-nil, Option, Some, None, option_map, arith}
+use Rattle.std.proofs.Common.{◌≡◌, refl, sym, subst, List, [], ◌∷◌, ◌++◌, append-nil, Option, Some, None, option_map, arith}
 use Rattle.hir_store.specs.Names.{IsWritten}
 use Rattle.hir_store.specs.Pointers.{Pointer}
 use Rattle.hir_store.specs.Stored.{Stored, store_of, map_of}
@@ -44,13 +44,14 @@ use Rattle.hir_same_meaning.proofs.Nodes
 use Rattle.hir_same_meaning.proofs.Ranges.{goes_item}
 use Rattle.hir_same_meaning.proofs.Rows.{stored_row, stored_pure}
 use Rattle.hir_same_meaning.proofs.Relation.{same_bind, same_ask}
+use Rattle.hir_same_meaning.proofs.Senses.{Base, base_of}
 use Rattle.hir_same_meaning.proofs.Senses.{Walk, one, Goes, Runs, goes_within, goes_at}
 use Rattle.hir_same_meaning.proofs.Strict.{event0_fine}
 
 -- ---- runs
 
-item_runs : {labels : ℕ} {m m' : Mark} {final : Stored} {ps qs : List Frame} {i : ExprId} (item : Option LangItemId)
-    → Allocated (forms.item_expr item) None final qs m m' i → Goes labels m'.nodes one (λ turns ss. run_item item) final ps i
+item_runs : {base : Base} {m m' : Mark} {final : Stored} {ps qs : List Frame} {i : ExprId} (item : Option LangItemId)
+    → Allocated (forms.item_expr item) None final qs m m' i → Goes base m'.nodes one (λ turns ss. run_item item) final ps i
 item_runs None a = Nodes.goes_missing a
 item_runs (Some item) a = goes_item item a
 
@@ -81,17 +82,17 @@ module _ (at : Pointer) where
       (looks_unmade (made_name (bare_path n)) (bare_unmade n w) (bare_path n) root_hygiene (Some (site_of at)))) (λ d le. tt))
 
   -- what is stored for a path is read as this
-  goes_side_path : {labels : ℕ} {m m' : Mark} {final : Stored} {ps qs : List Frame} {i : ExprId} (r : Option HirPath)
+  goes_side_path : {base : Base} {m m' : Mark} {final : Stored} {ps qs : List Frame} {i : ExprId} (r : Option HirPath)
       (d : Option PathData) → option_map (stored_path (store_of final) (map_of final)) r ≡ d → PathUnmade d
       → Allocated (forms.path_limit_of r) (Some at) final qs m m' i
-      → Goes labels m'.nodes one (λ turns ss. run_side_path d (Some (site_of at))) final ps i
-  goes_side_path {labels = labels} {m = m} {m' = m'} {final = final} {ps = ps} {qs = qs} {i = i} r d is u a =
-      subst (λ k. Goes labels m'.nodes one (λ turns ss. run_side_path k (Some (site_of at))) final ps i) is
+      → Goes base m'.nodes one (λ turns ss. run_side_path d (Some (site_of at))) final ps i
+  goes_side_path {base = base} {m = m} {m' = m'} {final = final} {ps = ps} {qs = qs} {i = i} r d is u a =
+      subst (λ k. Goes base m'.nodes one (λ turns ss. run_side_path k (Some (site_of at))) final ps i) is
       (by r (subst PathUnmade (sym is) u) a)
     where
       by : (r : Option HirPath) → PathUnmade (option_map (stored_path (store_of final) (map_of final)) r)
           → Allocated (forms.path_limit_of r) (Some at) final qs m m' i
-          → Goes labels m'.nodes one
+          → Goes base m'.nodes one
           (λ turns ss. run_side_path (option_map (stored_path (store_of final) (map_of final)) r) (Some (site_of at))) final ps i
       by None u a = Nodes.goes_missing a
       by (Some p) u a = goes_at a
@@ -120,7 +121,7 @@ before_fine item h = correct_as (correct_bind h (λ e. correct_bind (correct_all
     (λ f. correct_alloc (hir.Call f (e ∷ [])) None)))
     (λ final ps m m' i g row. let s = row.second in
     let k = goes_within (omega arith) row.first in
-    let f : Goes m.labels s.middle.nodes one (λ turns ss. run_item item) final ps s.one = item_runs item s.first in
+    let f : Goes (base_of m) s.middle.nodes one (λ turns ss. run_item item) final ps s.one = item_runs item s.first in
     goes_at s.second
     (λ turns d le falls. same_bind (f.same turns d le falls) (λ v. stored_row _ _ _ (same_bind (k.same turns d le falls)
     (λ w. stored_row _ _ _ (stored_pure _ (stored_pure _ (same_ask call (v ∷ w ∷ []) None)))))))

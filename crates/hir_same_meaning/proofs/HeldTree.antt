@@ -21,6 +21,7 @@ use Rattle.hir_env.specs.Answered.{OptionRet, OptionArgs, Args, Arg, Bounds, Bou
 use Rattle.hir_env.specs.Answered.{Expr, OptionExpr, Exprs, Fields, Field, Spread, Block, OptionBlock, Stmts, Stmt}
 use Rattle.hir_env.specs.Answered.{Arms, Arm, Guard, Pat, OptionPat, Pats, PatFields, Side, TypePat, OptionTypePat, TypePats, Limit}
 use Rattle.hir_env.specs.Answered.{Target, Targets, TargetFields}
+use Rattle.hir_env.specs.Targets.{head_pointer}
 use Rattle.hir_data.specs.Written.{path_of}
 use Rattle.hir_lower_form.specs.declared.args.ArgLists.{ArgLists}
 use Rattle.hir_lower_form.specs.Lowering.{Lowering}
@@ -50,6 +51,7 @@ use Rattle.hir_same_meaning.proofs.HeldTypes.{a_constant, a_path, some_args, a_b
 use Rattle.hir_same_meaning.proofs.HeldPaths as paths
 use Rattle.hir_same_meaning.proofs.HeldForms as forms
 use Rattle.hir_same_meaning.proofs.HeldForms.{a_field, a_spread, a_statement, Filled}
+use Rattle.hir_same_meaning.proofs.HeldFors.{for_held}
 use Rattle.hir_same_meaning.proofs.HeldTries as tries
 use Rattle.hir_same_meaning.proofs.HeldTries.{an_arm}
 
@@ -202,6 +204,8 @@ mutual
   expr_holds (tree.block_expr b) = block_holds b
   expr_holds (tree.loop_expr at label _ b) = forms.loop_held at _ label (block_part_holds b)
   expr_holds (tree.while_expr at label _ c b) = forms.loop_held at _ label (forms.turn_held at (body_holds c) (block_part_holds b))
+  expr_holds (tree.for_expr at items label _ p h b) =
+      for_held at (head_pointer at h) items label (body_holds h) (top_holds p) (body_holds b)
   expr_holds (tree.question_expr at items e) = tries.question_held at items (body_holds e)
   expr_holds (tree.itemless_expr at) = forms.missing_held
   expr_holds (tree.try_expr at i tree.no_type number ss e) =

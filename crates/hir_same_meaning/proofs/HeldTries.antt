@@ -1,6 +1,8 @@
 -- What `?` and `try` become holds what their parts hold: nothing that is made up holds a body.
 use Rattle.std.proofs.Common.{◌≡◌, ◌∙◌, refl, sym, ap, subst, ℕ, ◌+◌, ◌≤◌, Bool, false, List, [], ◌∷◌, ◌++◌, append-nil, Option}
 use Rattle.std.proofs.Common.{Some, None, arith}
+use Rattle.hir_binding.specs.declared.binding.BindingAnnotation.{BindingAnnotation}
+use Rattle.hir_binding.specs.declared.binding.BindingAnnotation.TheVariants.{Unannotated}
 use Rattle.hir_store.specs.Pointers.{Pointer}
 use Rattle.hir_store.specs.Stored.{Stored}
 use Rattle.hir_store.specs.declared.hir.Expr.{Expr as HirExpr}
@@ -31,11 +33,12 @@ use Rattle.hir_same_meaning.proofs.Holding.{same_append, same_bodies, same_ids}
 abbrev pub an_arm : Ids MatchArm
 an_arm r a = of_arm r a
 
-made_held : (e : HirExpr) (source : Option Pointer) → ((r : Inners) → of_expr r e ≡ []) → Correct (alloc_made e source) (Holds an_expr [])
+pub made_held : (e : HirExpr) (source : Option Pointer) → ((r : Inners) → of_expr r e ≡ [])
+    → Correct (alloc_made e source) (Holds an_expr [])
 made_held e source is = correct_as (correct_alloc_made e source)
     (λ final ps m m' i g at. expr_held at g (λ d le. same_ids final [] (is (inners_in final d)) tt))
 
-item_is : (o : Option LangItemId) (r : Inners) → of_expr r (item_or_missing o) ≡ []
+pub item_is : (o : Option LangItemId) (r : Inners) → of_expr r (item_or_missing o) ≡ []
 item_is None r = refl
 item_is (Some i) r = refl
 
@@ -44,13 +47,13 @@ leaving_is None r e = refl
 leaving_is (Some t) r e = refl
 
 -- a call holds what its argument does, where the item holds nothing
-called_is : (r : Inners) (c e : ExprId) → of_expr r (made_call c e) ≡ r.expr c ++ r.expr e
+pub called_is : (r : Inners) (c e : ExprId) → of_expr r (made_call c e) ≡ r.expr c ++ r.expr e
 called_is r c e = ap (λ is. r.expr c ++ is) (append-nil (r.expr e))
 
-bind_held : (n : ℕ) → Correct (made_bind_form n) (Holds a_pat [])
+pub bind_held : (mode : BindingAnnotation) (n : ℕ) → Correct (made_bind_form mode n) (Holds a_pat [])
 unfolding made_bind_form
-bind_held n = correct_as (correct_bind (correct_alloc_binding (made_binding n)) (λ i. correct_bind (pat0 (pat.Bind i None) None (λ r. refl))
-    (λ p. correct_bind (correct_define i p) (λ u. correct_pure p))))
+bind_held mode n = correct_as (correct_bind (correct_alloc_binding (made_binding mode n))
+    (λ i. correct_bind (pat0 (pat.Bind i None) None (λ r. refl)) (λ p. correct_bind (correct_define i p) (λ u. correct_pure p))))
     (λ final ps m m' q g row. let s = row.second in let v = s.second in rw (v.second.is, v.second.still) (record {
       same = λ d le. s.first.same d (omega (arith, le, v.before.nodes, v.before.entries));
     }))
@@ -58,7 +61,7 @@ bind_held n = correct_as (correct_bind (correct_alloc_binding (made_binding n)) 
 flow_arm_held : (item : LangItemId) {body : ℕ → ExprSteps} → ((n : ℕ) → Correct (body n) (Holds an_expr []))
     → Correct (flow_arm_form item body) (Holds an_arm [])
 unfolding flow_arm_form
-flow_arm_held item h = correct_as (correct_bind correct_made_number (λ n. correct_bind (bind_held n) (λ p. correct_bind
+flow_arm_held item h = correct_as (correct_bind correct_made_number (λ n. correct_bind (bind_held Unannotated n) (λ p. correct_bind
     (correct_alloc_pat (item_pat item p) None) (λ q. correct_bind (h n) (λ e. correct_pure (record { pat = q; guard = None; expr = e }))))))
     (λ final ps m m' a g row. let p = row.second in let q = p.second in let e = q.second in
     let pattern : Holds a_pat [] final ps row.middle q.middle q.one = pat_held q.first (λ d le. let r = inners_in final d in
@@ -69,7 +72,7 @@ flow_arm_held item h = correct_as (correct_bind correct_made_number (λ n. corre
     }))
 
 module _ (at : Pointer) where
-  name_held : (n : ℕ) → Correct (made_path_form at n) (Holds an_expr [])
+  pub name_held : (n : ℕ) → Correct (made_path_form at n) (Holds an_expr [])
   unfolding made_path_form
   name_held n = made_held (hir.Path (made_path n) root_hygiene) (Some at) (λ r. refl)
 
@@ -158,7 +161,8 @@ module _ (at : Pointer) where
         → Correct (typed_try_form at p t) (Holds an_expr (es ++ fs))
     unfolding typed_try_form
     typed_try_held hp ht = correct_as (correct_bind hp (λ b. correct_bind correct_made_number (λ n. correct_bind ht
-        (λ k. correct_bind (bind_held n) (λ p. correct_bind (name_held n) (λ e. correct_alloc_made (bound_block p k b e) (Some at)))))))
+        (λ k. correct_bind (bind_held Unannotated n) (λ p. correct_bind (name_held n)
+        (λ e. correct_alloc_made (bound_block p k b e) (Some at)))))))
         (λ final ps m m' i g row. let s = row.second in let u = s.second in let q = u.second in let r = q.second in
         expr_held r.second r.after (λ d le. let k = inners_in final d in
         same_bodies final (of_expr k (bound_block q.one u.one row.one r.one)) (front_is es fs)

@@ -11,6 +11,7 @@ use Rattle.hir_store.specs.declared.ids.ExprId.{ExprId}
 use Rattle.hir_env.specs.Answered as tree
 use Rattle.hir_env.specs.Answered.{Expr, OptionExpr, Exprs, Fields, Spread, Block, OptionBlock, Stmts, Arms, Target, Targets}
 use Rattle.hir_env.specs.Answered.{TargetFields}
+use Rattle.hir_env.specs.Targets.{head_pointer}
 use Rattle.hir_lower_form.specs.Lower.{push_some, lower, lower_part, present, kept_part, lower_each, lower_block, lower_block_part}
 use Rattle.hir_lower_form.specs.Lower.{lower_stmts, lower_fields, lower_spread, lower_arms, lower_target, lower_targets}
 use Rattle.hir_lower_form.specs.Lower.{lower_target_fields, present_block}
@@ -24,6 +25,7 @@ use Rattle.hir_data.specs.Written.{path_of}
 use Rattle.hir_read_back.proofs.Tree.{path_reads}
 use Rattle.hir_steps.proofs.Steps.{Correct, correct_bind, correct_as, correct_pure, correct_report}
 use Rattle.hir_steps.proofs.TypeAny.{any}
+use Rattle.hir_same_meaning.proofs.Senses.{base_of}
 use Rattle.hir_same_meaning.proofs.Senses.{Walk, one, optional, many, Runs}
 use Rattle.hir_same_meaning.proofs.Senses.{present as initial}
 use Rattle.hir_same_meaning.proofs.Blocks.{part_walk, KeptIs, ElseIs}
@@ -34,6 +36,8 @@ use Rattle.hir_same_meaning.proofs.Typed
 use Rattle.hir_same_meaning.proofs.Patterned
 use Rattle.hir_same_meaning.proofs.Ranges
 use Rattle.hir_same_meaning.proofs.Questions
+use Rattle.hir_same_meaning.proofs.Fors
+use Rattle.hir_same_meaning.proofs.Named.{part_unnamed}
 use Rattle.hir_same_meaning.proofs.Tries
 use Rattle.hir_same_meaning.proofs.TargetPlaces
 use Rattle.hir_same_meaning.proofs.TargetPlaces.{PlacesAre}
@@ -48,6 +52,7 @@ mutual
   expr_fine (tree.if_expr at c t e) = Forms.if_fine at (part_fine c) (block_part_fine t) (present_fine e)
   expr_fine (tree.loop_expr at label _ b) = Forms.loop_fine at _ label (block_part_fine b)
   expr_fine (tree.while_expr at label _ c b) = Forms.while_fine at _ label (part_fine c) (block_part_fine b)
+  expr_fine (tree.for_expr at items label _ p h b) = Fors.for_fine at (head_pointer at h) items label p (part_fine h) (part_fine b)
   expr_fine (tree.question_expr at items e) = Questions.question_fine at items (part_fine e)
   expr_fine (tree.itemless_expr at) = Forms.missing_fine
   expr_fine (tree.try_expr at i tree.no_type number ss e) =
@@ -58,7 +63,7 @@ mutual
   expr_fine (tree.continue_expr at jump) = Forms.continue_fine at jump
   expr_fine (tree.block_expr b) = block_is_fine b
   expr_fine (tree.leaf_expr at form) = Families.leaf_fine at form
-  expr_fine (tree.unary_expr at form e) = Families.operand_fine at (Families.unary_is form) (part_fine e)
+  expr_fine (tree.unary_expr at form e) = Families.unary_fine at form (part_fine e) (part_unnamed e)
   expr_fine (tree.binary_expr at form a b) = Families.binary_fine at form (part_fine a) (part_fine b)
   expr_fine (tree.lazy_expr at op a b) = Families.lazy_fine at op (part_fine a) (part_fine b)
   expr_fine (tree.list_expr at form es) = Families.list_fine at form (Forms.pushed_all (each_fine es []))
@@ -102,13 +107,13 @@ mutual
   end_fine (tree.some_expr e) = correct_as (correct_bind (expr_fine e) (λ i. correct_pure (Some i)))
       (λ final ps m m' o g row. rw (row.second.is, row.second.still) row.first)
 
-  else_fine : (b : OptionBlock) → Correct (present_block b) (λ final ps m m' o. ElseIs m.labels m'.nodes final ps b o)
+  else_fine : (b : OptionBlock) → Correct (present_block b) (λ final ps m m' o. ElseIs (base_of m) m'.nodes final ps b o)
   else_fine tree.no_block = correct_as (correct_pure None) (λ final ps m m' o g row. rw row.is tt)
   else_fine (tree.some_block b) = correct_as (correct_bind (block_is_fine b) (λ i. correct_pure (Some i)))
       (λ final ps m m' o g row. rw (row.second.is, row.second.still) row.first)
 
   kept_part_fine : (e : OptionExpr)
-      → Correct (kept_part e) (λ final ps m m' o. KeptIs m.labels m'.nodes final ps (is_left e) (part_walk e) o)
+      → Correct (kept_part e) (λ final ps m m' o. KeptIs (base_of m) m'.nodes final ps (is_left e) (part_walk e) o)
   kept_part_fine tree.no_expr = Forms.nothing_fine (part_walk tree.no_expr)
   kept_part_fine (tree.some_expr e) = Forms.kept_fine e (expr_fine e)
 
@@ -194,7 +199,7 @@ mutual
       (stmts_fine (is_left e) (part_walk e) (kept_part_fine e) ss [])
 
   stmts_fine : (t : Bool) (x : Walk Value) {q : Lowering (Option ExprId)}
-      → Correct q (λ final ps m m' o. KeptIs m.labels m'.nodes final ps t x o)
+      → Correct q (λ final ps m m' o. KeptIs (base_of m) m'.nodes final ps t x o)
       → (ss : Stmts) (done : List Statement) → Correct (lower_stmts done ss q) (Forms.Filled done (Forms.ContentsRel t x ss))
   stmts_fine t x hq tree.no_stmts done = correct_as (correct_bind hq (λ o. correct_pure (done, o)))
       (λ final ps m m' r g row. rw row.second.still (Forms.filled_end t x done row.one row.second.is row.first))

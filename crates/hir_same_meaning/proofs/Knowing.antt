@@ -1,5 +1,4 @@
--- Runs of the store from where a made name stands for a value. What lowering makes up changes what no name stands for, but where it
--- binds one.
+-- Runs of the store from where a made name stands for a value, which it does afterwards.
 use Rattle.std.proofs.Common.{◌≡◌, refl, ap, subst, ◌∙◌, ℕ, zero, suc, ◌≤◌, List, [], ◌∷◌, Option, Some, None, option_map, arith}
 use Rattle.hir_store.specs.Pointers.{Pointer}
 use Rattle.hir_store.specs.Stored.{Stored, store_of}
@@ -15,7 +14,7 @@ use Rattle.hir_lower_form.specs.Forms.{root_hygiene}
 use Rattle.hir_lower_form.specs.Made.{item_or_missing, made_call, made_path}
 use Rattle.hir_meaning.specs.Jumps.{EnclosedTo, StoredEnclosed}
 use Rattle.hir_meaning.specs.Run.{Value, Operation, call, leave, missing, Outcome, value, break, continue, World, ends, pure, after, ◌>>=◌}
-use Rattle.hir_meaning.specs.Run.{event, ask, item}
+use Rattle.hir_meaning.specs.Run.{ask, item}
 use Rattle.hir_meaning.specs.Store.{JumpLabel, RunTable, StoreRun, looked_up, looks_up, read_or_look, run_to}
 use Rattle.hir_meaning.specs.Syntax.{SyntaxRun, run_item}
 use Rattle.hir_scope.specs.Scopes.{Count}
@@ -23,19 +22,26 @@ use Rattle.hir_read_back.proofs.Made.{made_path_read}
 use Rattle.hir_steps.proofs.Frames.{Frame, Falls, falls_more}
 use Rattle.hir_steps.proofs.Steps.{AllocatedBy, Mark, Put}
 use Rattle.hir_same_meaning.proofs.Ranges.{item_is}
-use Rattle.hir_same_meaning.proofs.Relation.{Agrees, agrees_as, bare, same_ask}
-use Rattle.hir_same_meaning.proofs.Senses.{node_in, run_in}
+use Rattle.hir_same_meaning.proofs.NamesKept.{KeepsBelow, keeps_bind, keeps_ends, keeps_fewer, keeps_pure, keeps_row}
+use Rattle.hir_same_meaning.proofs.Relation.{Agrees, SameWhere, agrees_as, bare, same_ask}
+use Rattle.hir_same_meaning.proofs.Senses.{Base, Under, node_in, run_in}
 use Rattle.hir_same_meaning.proofs.Views.{numbers, view}
 
--- from each world where the name of this number stands for this value the same, and no name stands for another afterwards
+-- From each world where the name of this number stands for this value the same. It stands for it afterwards, and so does each name that
+-- was made before.
 pub record SameKnowing {A : Type 0} (n : ℕ) (v : Value) (ps : List Frame) (m : StoreRun A) (s : SyntaxRun A) : Type 0 where
   pub same : (w : World RunTable) → w.table n ≡ Some v → Agrees ps (m w).0 (m w).1 (s (bare w)).0 (s (bare w)).1
-  pub still : (w : World RunTable) → (m w).1.table ≡ w.table
+  pub keeps : KeepsBelow (suc n) m
 
 module _ {n : ℕ} {v : Value} {ps : List Frame} where
+  -- where nothing is known of what the name stands for
+  pub known_from : {A : Type 0} {names : ℕ} {m : StoreRun A} {s : SyntaxRun A} → suc n ≤ names → SameWhere names ps m s
+      → SameKnowing n v ps m s
+  known_from le h = record { same = λ w k. h.same w; keeps = keeps_fewer le h.keeps }
+
   pub known_ends : {A : Type 0} (o : Outcome JumpLabel A) {o' : Outcome Count A} → view ps o ≡ o' → SameKnowing n v ps (ends o) (ends o')
   unfolding ends
-  known_ends o e = record { same = λ w k. record { outcome = e; world = refl }; still = λ w. refl }
+  known_ends o e = record { same = λ w k. record { outcome = e; world = refl }; keeps = keeps_ends o }
 
   after_known : {A B : Type 0} {f : A → StoreRun B} {g : A → SyntaxRun B} → ((a : A) → SameKnowing n v ps (f a) (g a))
       → (o : Outcome JumpLabel A) (w : World RunTable) → w.table n ≡ Some v
@@ -45,13 +51,6 @@ module _ {n : ℕ} {v : Value} {ps : List Frame} where
   after_known h (continue j) w k = record { outcome = refl; world = refl }
   after_known h (leave x) w k = record { outcome = refl; world = refl }
 
-  after_still : {A B : Type 0} {f : A → StoreRun B} {g : A → SyntaxRun B} → ((a : A) → SameKnowing n v ps (f a) (g a))
-      → (o : Outcome JumpLabel A) (w : World RunTable) → (after o w f).1.table ≡ w.table
-  after_still h (value a) w = (h a).still w
-  after_still h (break j x) w = refl
-  after_still h (continue j) w = refl
-  after_still h (leave x) w = refl
-
   pub known_bind : {A B : Type 0} {m : StoreRun A} {s : SyntaxRun A} {f : A → StoreRun B} {g : A → SyntaxRun B}
       → SameKnowing n v ps m s → ((a : A) → SameKnowing n v ps (f a) (g a)) → SameKnowing n v ps (m >>= f) (s >>= g)
   unfolding ◌>>=◌
@@ -59,19 +58,18 @@ module _ {n : ℕ} {v : Value} {ps : List Frame} where
     same = λ w k.
         let a = p.same w k in
         agrees_as (λ o u. after o u g) a.outcome a.world
-        (after_known h (m w).0 (m w).1 (ap (λ table. table n) (p.still w) ∙ k));
-    still = λ w. after_still h (m w).0 (m w).1 ∙ p.still w;
+        (after_known h (m w).0 (m w).1 (p.keeps.still w n (omega arith) ∙ k));
+    keeps = keeps_bind p.keeps (λ a. (h a).keeps);
   }
 
   pub known_ask : (o : Operation) (vs : List Value) (site : Option Site) → SameKnowing n v ps (ask o vs site) (ask o vs site)
-  unfolding event ends ◌>>=◌
-  known_ask o vs site = record { same = λ w k. (same_ask o vs site).same w; still = λ w. refl }
+  known_ask o vs site = known_from {names = suc n} (omega arith) (same_ask o vs site)
 
   pub known_like : {A : Type 0} {m : StoreRun A} {s s' : SyntaxRun A} → ((w : World (Unit {0})) → s w ≡ s' w) → SameKnowing n v ps m s
       → SameKnowing n v ps m s'
   known_like {m = m} e h = record {
     same = λ w k. subst (λ r. Agrees ps (m w).0 (m w).1 r.0 r.1) (e (bare w)) (h.same w k);
-    still = h.still;
+    keeps = h.keeps;
   }
 
   -- what is read of the name
@@ -79,7 +77,7 @@ module _ {n : ℕ} {v : Value} {ps : List Frame} where
   unfolding looks_up ends
   known_looks = record {
     same = λ w k. record { outcome = ap (λ o. view ps (looked_up o)) k; world = refl };
-    still = λ w. refl;
+    keeps = record { still = λ w k lt. refl };
   }
 
   known_name : (o : Option ℕ) → o ≡ Some n → (d : PathData) (h : HygieneId) (site : Option Site)
@@ -96,15 +94,6 @@ module _ {n : ℕ} {v : Value} {ps : List Frame} where
   after_single f g h (continue j) w k = record { outcome = refl; world = refl }
   after_single f g h (leave x) w k = record { outcome = refl; world = refl }
 
-  still_single : {B : Type 0} (f : List Value → StoreRun B) (g : Value → SyntaxRun B)
-      → ((x : Value) → SameKnowing n v ps (f (x ∷ [])) (g x)) → (o : Outcome JumpLabel Value) (w : World RunTable)
-      → let r = after o w (λ x. pure [] >>= (λ xs. pure (x ∷ xs))) in (after r.0 r.1 f).1.table ≡ w.table
-  unfolding ends ◌>>=◌
-  still_single f g h (value x) w = (h x).still w
-  still_single f g h (break j x) w = refl
-  still_single f g h (continue j) w = refl
-  still_single f g h (leave x) w = refl
-
   -- one argument
   pub known_single : {B : Type 0} {m : StoreRun Value} {s : SyntaxRun Value} (f : List Value → StoreRun B) (g : Value → SyntaxRun B)
       → SameKnowing n v ps m s → ((x : Value) → SameKnowing n v ps (f (x ∷ [])) (g x))
@@ -114,32 +103,35 @@ module _ {n : ℕ} {v : Value} {ps : List Frame} where
     same = λ w k.
         let a = p.same w k in
         agrees_as (λ o u. after o u g) a.outcome a.world
-        (after_single f g h (m w).0 (m w).1 (ap (λ table. table n) (p.still w) ∙ k));
-    still = λ w. still_single f g h (m w).0 (m w).1 ∙ p.still w;
+        (after_single f g h (m w).0 (m w).1 (p.keeps.still w n (omega arith) ∙ k));
+    keeps = keeps_row m (λ x. pure [] >>= (λ xs. pure (x ∷ xs))) f (keeps_bind p.keeps
+        (λ x. keeps_row (pure []) (λ xs. pure (x ∷ xs)) f (keeps_pure _ (keeps_pure f (h x).keeps))));
   }
 
 -- nodes
 
-pub record GoesKnowing (labels nodes n : ℕ) (v : Value) (x : SyntaxRun Value) (final : Stored) (ps : List Frame) (i : ExprId) : Type 0 where
-  pub same : (turns d : ℕ) → nodes ≤ d → Falls labels ps → SameKnowing n v ps (run_in final d turns i) x
+pub record GoesKnowing (base : Base) (nodes n : ℕ) (v : Value) (x : SyntaxRun Value) (final : Stored) (ps : List Frame)
+    (i : ExprId) : Type 0 where
+  pub same : (turns d : ℕ) → nodes ≤ d → Falls base.labels ps → SameKnowing n v ps (run_in final d turns i) x
   pub jumps : (d : ℕ) → nodes ≤ d → EnclosedTo (store_of final) d (numbers ps) i
 
-pub known_within : {labels nodes labels' nodes' n : ℕ} {v : Value} {x : SyntaxRun Value} {final : Stored} {ps : List Frame} {i : ExprId}
-    → labels' ≤ labels → nodes ≤ nodes' → GoesKnowing labels nodes n v x final ps i → GoesKnowing labels' nodes' n v x final ps i
-known_within {labels = labels} {labels' = labels'} {ps = ps} le le' h = record {
-  same = λ turns d ge f. h.same turns d (omega (arith, le', ge)) (falls_more ps labels' labels le f);
+pub known_within : {base base' : Base} {nodes nodes' n : ℕ} {v : Value} {x : SyntaxRun Value} {final : Stored} {ps : List Frame}
+    {i : ExprId}
+    → Under base' base → nodes ≤ nodes' → GoesKnowing base nodes n v x final ps i → GoesKnowing base' nodes' n v x final ps i
+known_within {base = base} {base' = base'} {ps = ps} le le' h = record {
+  same = λ turns d ge f. h.same turns d (omega (arith, le', ge)) (falls_more ps base'.labels base.labels le.labels f);
   jumps = λ d ge. h.jumps d (omega (arith, le', ge));
 }
 
-module _ {labels n : ℕ} {v : Value} {m m' : Mark} {final : Stored} {ps qs : List Frame} {i : ExprId} {put : Put} where
+module _ {base : Base} {n : ℕ} {v : Value} {m m' : Mark} {final : Stored} {ps qs : List Frame} {i : ExprId} {put : Put} where
   pub known_at : {e : Expr} {source : Option Pointer} {x : SyntaxRun Value} → AllocatedBy put e source final qs m m' i
-      → ((turns d : ℕ) → m.nodes ≤ d → Falls labels ps → SameKnowing n v ps (node_in final d turns e (option_map site_of source)) x)
+      → ((turns d : ℕ) → m.nodes ≤ d → Falls base.labels ps → SameKnowing n v ps (node_in final d turns e (option_map site_of source)) x)
       → ((d : ℕ) → m.nodes ≤ d → StoredEnclosed (store_of final) (EnclosedTo (store_of final) d) (numbers ps) e)
-      → GoesKnowing labels m'.nodes n v x final ps i
+      → GoesKnowing base m'.nodes n v x final ps i
   unfolding run_to EnclosedTo
   known_at {x = x} at same jumps = record { same = λ turns d le f. at_depth turns d le f; jumps = jumps_at }
     where
-      at_depth : (turns d : ℕ) → m'.nodes ≤ d → Falls labels ps → SameKnowing n v ps (run_in final d turns i) x
+      at_depth : (turns d : ℕ) → m'.nodes ≤ d → Falls base.labels ps → SameKnowing n v ps (run_in final d turns i) x
       at_depth turns zero le f = absurd (omega (arith, at.next))
       at_depth turns (suc d) le f = rw (at.number, at.here, at.from) (same turns d (omega (arith, at.next)) f)
 
@@ -149,19 +141,19 @@ module _ {labels n : ℕ} {v : Value} {m m' : Mark} {final : Stored} {ps qs : Li
 
   -- the name itself
   pub known_path : {source : Option Pointer} → AllocatedBy put (hir.Path (made_path n) root_hygiene) source final qs m m' i
-      → GoesKnowing labels m'.nodes n v (pure v) final ps i
+      → GoesKnowing base m'.nodes n v (pure v) final ps i
   known_path {source = source} a = known_at a
       (λ turns d le f. known_name _ (made_path_read final n) _ root_hygiene (option_map site_of source)) (λ d le. tt)
 
   pub known_item : {source : Option Pointer} (o : Option LangItemId) → AllocatedBy put (item_or_missing o) source final qs m m' i
-      → GoesKnowing labels m'.nodes n v (run_item o) final ps i
+      → GoesKnowing base m'.nodes n v (run_item o) final ps i
   known_item None a = known_at a (λ turns d le f. known_ends (leave missing) refl) (λ d le. tt)
   known_item (Some j) a = known_at a (λ turns d le f. rw (item_is final j) (known_ends (value (item j)) refl)) (λ d le. tt)
 
   -- a call with one argument
-  pub known_call : {at : Pointer} {f e : ExprId} {x y : SyntaxRun Value} → GoesKnowing labels m.nodes n v x final ps f
-      → GoesKnowing labels m.nodes n v y final ps e → AllocatedBy put (made_call f e) (Some at) final qs m m' i
-      → GoesKnowing labels m'.nodes n v (x >>= (λ u. y >>= (λ w. ask call (u ∷ w ∷ []) (Some (site_of at))))) final ps i
+  pub known_call : {at : Pointer} {f e : ExprId} {x y : SyntaxRun Value} → GoesKnowing base m.nodes n v x final ps f
+      → GoesKnowing base m.nodes n v y final ps e → AllocatedBy put (made_call f e) (Some at) final qs m m' i
+      → GoesKnowing base m'.nodes n v (x >>= (λ u. y >>= (λ w. ask call (u ∷ w ∷ []) (Some (site_of at))))) final ps i
   known_call {at = at} h k a = known_at a
       (λ turns d le falls. known_bind (h.same turns d le falls)
       (λ u. known_single _ _ (k.same turns d le falls) (λ w. known_ask call (u ∷ w ∷ []) (Some (site_of at)))))

@@ -1,5 +1,6 @@
 pub mod Views
 pub mod Targets
+pub mod NamesKept
 pub mod Relation
 pub mod Rows
 pub mod Turns
@@ -9,6 +10,7 @@ pub mod Unmade
 pub mod Blocks
 pub mod Strict
 pub mod Forms
+pub mod Named
 pub mod Families
 pub mod Typed
 pub mod Patterned
@@ -17,11 +19,13 @@ pub mod Ranges
 pub mod Knowing
 pub mod Questions
 pub mod Tries
+pub mod Fors
 pub mod Induction
 pub mod Spread
 pub mod Owning
 pub mod OwningPats
 pub mod OwningTries
+pub mod OwningFors
 pub mod Owned
 pub mod Body
 pub mod Tree
@@ -32,6 +36,7 @@ pub mod HeldWalk
 pub mod HeldPaths
 pub mod HeldForms
 pub mod HeldTries
+pub mod HeldFors
 pub mod HeldPats
 pub mod HeldLimits
 pub mod HeldPatterned

@@ -1,5 +1,5 @@
 -- What each node of the store stands for, given what its parts stand for.
-use Rattle.std.proofs.Common.{◌≡◌, ℕ, Bool, false, if◌then◌else◌, List, [], ◌∷◌, Option, Some, None, refl, ap}
+use Rattle.std.proofs.Common.{◌≡◌, ◌≤◌, ℕ, Bool, false, if◌then◌else◌, List, [], ◌∷◌, Option, Some, None, refl, ap}
 use Rattle.hir_base.specs.declared.op.LogicOp.{LogicOp}
 use Rattle.hir_base.specs.declared.op.BinaryOp.TheVariants as ast
 use Rattle.hir_store.specs.Pointers.{Pointer}
@@ -22,20 +22,21 @@ use Rattle.hir_meaning.specs.Jumps.{NamesAmong}
 use Rattle.hir_steps.proofs.Frames.{Frame, block_at, try_at, inside, scopes, Falls}
 use Rattle.hir_steps.proofs.Steps.{Mark, AllocatedBy, Put}
 use Rattle.hir_same_meaning.proofs.Views.{Numbered, number, numbers, loop_frame, loop_numbers, count_break, count_continue}
-use Rattle.hir_same_meaning.proofs.Relation.{same_ends, same_pure, same_bind, same_tests, same_if, same_turns, same_loop}
+use Rattle.hir_same_meaning.proofs.Relation.{same_ends, same_fewer, same_pure, same_bind, same_tests, same_if, same_turns, same_loop}
 use Rattle.hir_same_meaning.proofs.Relation.{TurnsAlike, same_turns_as}
 use Rattle.hir_same_meaning.proofs.Relation.{same_lazily, same_stop, same_block, same_plain_block, same_entering, same_try}
+use Rattle.hir_same_meaning.proofs.Senses.{Base}
 use Rattle.hir_same_meaning.proofs.Senses.{Walk, one, optional, many, others, present, contents, Goes, goes_at}
 
-module _ {labels : ℕ} {m m' : Mark} {at : Option Pointer} {final : Stored} {ps qs : List Frame} {i : ExprId} {put : Put} where
-  pub goes_missing : AllocatedBy put hir.Missing at final qs m m' i → Goes labels m'.nodes one (λ turns ss. ends (leave missing)) final ps i
+module _ {base : Base} {m m' : Mark} {at : Option Pointer} {final : Stored} {ps qs : List Frame} {i : ExprId} {put : Put} where
+  pub goes_missing : AllocatedBy put hir.Missing at final qs m m' i → Goes base m'.nodes one (λ turns ss. ends (leave missing)) final ps i
   goes_missing h = goes_at h (λ turns d le f. same_ends (leave missing) refl) (λ d le. tt)
 
-module _ {labels : ℕ} {m m' : Mark} {at : Pointer} {final : Stored} {ps qs : List Frame} {i : ExprId} {put : Put} where
-  pub goes_if : {c t : ExprId} {e : Option ExprId} {x y z : Walk Value} → Goes labels m.nodes one x final ps c
-      → Goes labels m.nodes one y final ps t → Goes labels m.nodes optional z final ps e
+module _ {base : Base} {m m' : Mark} {at : Pointer} {final : Stored} {ps qs : List Frame} {i : ExprId} {put : Put} where
+  pub goes_if : {c t : ExprId} {e : Option ExprId} {x y z : Walk Value} → Goes base m.nodes one x final ps c
+      → Goes base m.nodes one y final ps t → Goes base m.nodes optional z final ps e
       → AllocatedBy put (hir.If c t e) (Some at) final qs m m' i
-      → Goes labels m'.nodes one (λ turns ss. x turns ss >>=
+      → Goes base m'.nodes one (λ turns ss. x turns ss >>=
       (λ v. tests is_true v (Some (site_of at)) >>= (λ holds. if holds then y turns ss else z turns ss))) final ps i
   goes_if c t e a = goes_at a
       (λ turns d le f. same_bind (c.same turns d le f)
@@ -43,9 +44,9 @@ module _ {labels : ℕ} {m m' : Mark} {at : Pointer} {final : Stored} {ps qs : L
       (λ b. same_if b (t.same turns d le f) (e.same turns d le f))))
       (λ d le. (c.jumps d le, t.jumps d le, e.jumps d le))
 
-  pub goes_lazy : {op : LogicOp} {a b : ExprId} {x y : Walk Value} → Goes labels m.nodes one x final ps a
-      → Goes labels m.nodes one y final ps b → AllocatedBy put (hir.BinaryOp (Some (ast.LogicOp op)) a b) (Some at) final qs m m' i
-      → Goes labels m'.nodes one (λ turns ss. run_lazy op (x turns ss) (y turns ss) (Some (site_of at))) final ps i
+  pub goes_lazy : {op : LogicOp} {a b : ExprId} {x y : Walk Value} → Goes base m.nodes one x final ps a
+      → Goes base m.nodes one y final ps b → AllocatedBy put (hir.BinaryOp (Some (ast.LogicOp op)) a b) (Some at) final qs m m' i
+      → Goes base m'.nodes one (λ turns ss. run_lazy op (x turns ss) (y turns ss) (Some (site_of at))) final ps i
   goes_lazy {op = op} a b here = goes_at here
       (λ turns d le f. same_bind (a.same turns d le f)
       (λ v. same_bind (same_tests is_true v (Some (site_of at)))
@@ -54,99 +55,101 @@ module _ {labels : ℕ} {m m' : Mark} {at : Pointer} {final : Stored} {ps qs : L
 
   -- a tuple whose first element is missing
   pub goes_front_missing : {first : ExprId} {es : List ExprId} {x : Walk (List Value)}
-      → Goes labels m.nodes one (λ turns ss. ends (leave missing)) final ps first → Goes labels m.nodes many x final ps es
+      → Goes base m.nodes one (λ turns ss. ends (leave missing)) final ps first → Goes base m.nodes many x final ps es
       → AllocatedBy put (hir.Tuple (first ∷ es)) (Some at) final qs m m' i
-      → Goes labels m'.nodes one (λ turns ss. ends (leave missing)) final ps i
+      → Goes base m'.nodes one (λ turns ss. ends (leave missing)) final ps i
   goes_front_missing h hs here = goes_at here
       (λ turns d le f. same_stop _ missing (same_stop _ missing (h.same turns d le f)))
       (λ d le. (h.jumps d le, hs.jumps d le))
 
   pub goes_break : {n : Option LabelId} {e : Option ExprId} {x : Walk Value} (j : Option Jump)
-      → (Falls labels ps → count_break ps n ≡ break_target (scopes ps) j) → NamesAmong (numbers ps) n
-      → Goes labels m.nodes optional x final ps e → AllocatedBy put (hir.Break n e) (Some at) final qs m m' i
-      → Goes labels m'.nodes one (λ turns ss. x turns ss >>= (λ v. ends (break (break_target ss j) v))) final ps i
+      → (Falls base.labels ps → count_break ps n ≡ break_target (scopes ps) j) → NamesAmong (numbers ps) n
+      → Goes base m.nodes optional x final ps e → AllocatedBy put (hir.Break n e) (Some at) final qs m m' i
+      → Goes base m'.nodes one (λ turns ss. x turns ss >>= (λ v. ends (break (break_target ss j) v))) final ps i
   goes_break {n = n} j meets named e a = goes_at a
       (λ turns d le f. same_bind (e.same turns d le f) (λ v. same_ends (break n v) (ap (λ c. break c v) (meets f))))
       (λ d le. (named, e.jumps d le))
 
-  pub goes_continue : {n : Option LabelId} (j : Option Jump) → (Falls labels ps → count_continue ps n ≡ continue_target (scopes ps) j)
+  pub goes_continue : {n : Option LabelId} (j : Option Jump) → (Falls base.labels ps → count_continue ps n ≡ continue_target (scopes ps) j)
       → NamesAmong (numbers ps) n
       → AllocatedBy put (hir.Continue n) (Some at) final qs m m' i
-      → Goes labels m'.nodes one (λ turns ss. ends (continue (continue_target ss j))) final ps i
+      → Goes base m'.nodes one (λ turns ss. ends (continue (continue_target ss j))) final ps i
   goes_continue {n = n} j meets named a = goes_at a (λ turns d le f. same_ends (continue n) (ap continue (meets f))) (λ d le. named)
 
   -- where the body goes as a turn that is one of the loop
-  pub goes_loop : {from : LoopSource} {labels' : ℕ} {b : ExprId} {x : Walk Value} (n : Option Numbered) (y : Walk (Option Value))
+  pub goes_loop : {from : LoopSource} {base' : Base} {b : ExprId} {x : Walk Value} (n : Option Numbered) (y : Walk (Option Value))
       → ((turns : ℕ) → TurnsAlike (x turns (inside (loop_frame n) (scopes ps))) (y turns (inside (loop_frame n) (scopes ps))))
-      → (Falls labels ps → Falls labels' (loop_frame n ∷ ps)) → Goes labels' m.nodes one x final (loop_frame n ∷ ps) b
+      → (Falls base.labels ps → Falls base'.labels (loop_frame n ∷ ps)) → base.names ≤ base'.names
+      → Goes base' m.nodes one x final (loop_frame n ∷ ps) b
       → AllocatedBy put (hir.Loop b (number n) from) (Some at) final qs m m' i
-      → Goes labels m'.nodes one (λ turns ss. loop outward turns (y turns (inside (loop_frame n) ss))) final ps i
-  goes_loop n y alike falls h a = goes_at a
+      → Goes base m'.nodes one (λ turns ss. loop outward turns (y turns (inside (loop_frame n) ss))) final ps i
+  goes_loop n y alike falls few h a = goes_at a
       (λ turns d le f. same_loop (same_turns_as (alike turns)
-      (same_turns n (same_bind (h.same turns d le (falls f)) (λ v. same_pure None)))) turns)
+      (same_turns n (same_bind (same_fewer few (h.same turns d le (falls f))) (λ v. same_pure None)))) turns)
       (λ d le. let r = h.jumps d le in rw (loop_numbers n ps) at r)
 
   pub goes_plain_block : {r : List Statement × Option ExprId} {x : Walk Value} (is_unsafe : Bool) (number : Option BlockId)
-      → Goes labels m.nodes (contents final) x final ps r
+      → Goes base m.nodes (contents final) x final ps r
       → AllocatedBy put (hir.Block is_unsafe None number r.0 r.1) (Some at) final qs m m' i
-      → Goes labels m'.nodes one (λ turns ss. entering is_unsafe number (Some (site_of at)) (x turns ss)) final ps i
+      → Goes base m'.nodes one (λ turns ss. entering is_unsafe number (Some (site_of at)) (x turns ss)) final ps i
   goes_plain_block is_unsafe number h a = goes_at a
       (λ turns d le f. same_entering is_unsafe number (Some (site_of at)) (same_plain_block (h.same turns d le f)))
       (λ d le. h.jumps d le)
 
-  pub goes_block : {labels' : ℕ} {r : List Statement × Option ExprId} {x : Walk Value} (is_unsafe : Bool) (number : Option BlockId)
-      (l : Label) (n : LabelId) → (Falls labels ps → Falls labels' (block_at l n ∷ ps))
-      → Goes labels' m.nodes (contents final) x final (block_at l n ∷ ps) r
+  pub goes_block : {base' : Base} {r : List Statement × Option ExprId} {x : Walk Value} (is_unsafe : Bool) (number : Option BlockId)
+      (l : Label) (n : LabelId) → (Falls base.labels ps → Falls base'.labels (block_at l n ∷ ps)) → base.names ≤ base'.names
+      → Goes base' m.nodes (contents final) x final (block_at l n ∷ ps) r
       → AllocatedBy put (hir.Block is_unsafe (Some n) number r.0 r.1) (Some at) final qs m m' i
-      → Goes labels m'.nodes one (λ turns ss. entering is_unsafe number (Some (site_of at))
+      → Goes base m'.nodes one (λ turns ss. entering is_unsafe number (Some (site_of at))
       (block outward continue_past_block (x turns (block_scope l ∷ ss)))) final ps i
-  goes_block is_unsafe number l n falls h a = goes_at a
+  goes_block is_unsafe number l n falls few h a = goes_at a
       (λ turns d le f. same_entering is_unsafe number (Some (site_of at))
-      (same_block (record { label = l; number = n }) (h.same turns d le (falls f))))
+      (same_block (record { label = l; number = n }) (same_fewer few (h.same turns d le (falls f)))))
       (λ d le. h.jumps d le)
 
-  pub goes_try : {labels' : ℕ} {r : List Statement × Option ExprId} {x : Walk Value} (number : Option BlockId) (n : LabelId) (typed : Bool)
-      → (Falls labels ps → Falls labels' (try_at n typed ∷ ps)) → Goes labels' m.nodes (contents final) x final (try_at n typed ∷ ps) r
+  pub goes_try : {base' : Base} {r : List Statement × Option ExprId} {x : Walk Value} (number : Option BlockId) (n : LabelId) (typed : Bool)
+      → (Falls base.labels ps → Falls base'.labels (try_at n typed ∷ ps)) → base.names ≤ base'.names
+      → Goes base' m.nodes (contents final) x final (try_at n typed ∷ ps) r
       → AllocatedBy put (hir.Block false (Some n) number r.0 r.1) (Some at) final qs m m' i
-      → Goes labels m'.nodes one (λ turns ss. entering false number (Some (site_of at))
+      → Goes base m'.nodes one (λ turns ss. entering false number (Some (site_of at))
       (block outward continue_past_block (x turns (try_scope typed ∷ ss)))) final ps i
-  goes_try number n typed falls h a = goes_at a
-      (λ turns d le f. same_entering false number (Some (site_of at)) (same_try n typed (h.same turns d le (falls f))))
+  goes_try number n typed falls few h a = goes_at a
+      (λ turns d le f. same_entering false number (Some (site_of at)) (same_try n typed (same_fewer few (h.same turns d le (falls f)))))
       (λ d le. h.jumps d le)
 
 -- parts
 
-module _ {labels nodes : ℕ} {final : Stored} {ps : List Frame} where
-  pub goes_none : Goes labels nodes optional (λ turns ss. pure unit) final ps None
+module _ {base : Base} {nodes : ℕ} {final : Stored} {ps : List Frame} where
+  pub goes_none : Goes base nodes optional (λ turns ss. pure unit) final ps None
   goes_none = record { same = λ turns d le f. same_pure unit; jumps = λ d le. tt }
 
-  pub goes_some : {x : Walk Value} {i : ExprId} → Goes labels nodes one x final ps i → Goes labels nodes optional x final ps (Some i)
+  pub goes_some : {x : Walk Value} {i : ExprId} → Goes base nodes one x final ps i → Goes base nodes optional x final ps (Some i)
   goes_some h = record { same = h.same; jumps = h.jumps }
 
-  pub goes_nil : Goes labels nodes many (λ turns ss. pure []) final ps []
+  pub goes_nil : Goes base nodes many (λ turns ss. pure []) final ps []
   goes_nil = record { same = λ turns d le f. same_pure []; jumps = λ d le. tt }
 
-  pub goes_cons : {x : Walk Value} {y : Walk (List Value)} {i : ExprId} {is : List ExprId} → Goes labels nodes one x final ps i
-      → Goes labels nodes many y final ps is
-      → Goes labels nodes many (λ turns ss. x turns ss >>= (λ v. y turns ss >>= (λ vs. pure (v ∷ vs)))) final ps (i ∷ is)
+  pub goes_cons : {x : Walk Value} {y : Walk (List Value)} {i : ExprId} {is : List ExprId} → Goes base nodes one x final ps i
+      → Goes base nodes many y final ps is
+      → Goes base nodes many (λ turns ss. x turns ss >>= (λ v. y turns ss >>= (λ vs. pure (v ∷ vs)))) final ps (i ∷ is)
   goes_cons h hs = record {
     same = λ turns d le f. same_bind (h.same turns d le f) (λ v. same_bind (hs.same turns d le f) (λ vs. same_pure (v ∷ vs)));
     jumps = λ d le. (h.jumps d le, hs.jumps d le);
   }
 
-  pub goes_absent : Goes labels nodes present (λ turns ss. pure []) final ps None
+  pub goes_absent : Goes base nodes present (λ turns ss. pure []) final ps None
   goes_absent = record { same = λ turns d le f. same_pure []; jumps = λ d le. tt }
 
-  pub goes_present : {x : Walk Value} {i : ExprId} → Goes labels nodes one x final ps i
-      → Goes labels nodes present (λ turns ss. x turns ss >>= (λ v. pure (v ∷ []))) final ps (Some i)
+  pub goes_present : {x : Walk Value} {i : ExprId} → Goes base nodes one x final ps i
+      → Goes base nodes present (λ turns ss. x turns ss >>= (λ v. pure (v ∷ []))) final ps (Some i)
   goes_present h = record { same = λ turns d le f. same_bind (h.same turns d le f) (λ v. same_pure (v ∷ [])); jumps = h.jumps }
 
-  pub goes_no_others : Goes labels nodes others (λ turns ss. pure []) final ps spread.None
+  pub goes_no_others : Goes base nodes others (λ turns ss. pure []) final ps spread.None
   goes_no_others = record { same = λ turns d le f. same_pure []; jumps = λ d le. tt }
 
-  pub goes_defaults : Goes labels nodes others (λ turns ss. pure []) final ps spread.FieldDefaults
+  pub goes_defaults : Goes base nodes others (λ turns ss. pure []) final ps spread.FieldDefaults
   goes_defaults = record { same = λ turns d le f. same_pure []; jumps = λ d le. tt }
 
-  pub goes_other : {x : Walk Value} {i : ExprId} → Goes labels nodes one x final ps i
-      → Goes labels nodes others (λ turns ss. x turns ss >>= (λ v. pure (v ∷ []))) final ps (spread.Expr i)
+  pub goes_other : {x : Walk Value} {i : ExprId} → Goes base nodes one x final ps i
+      → Goes base nodes others (λ turns ss. x turns ss >>= (λ v. pure (v ∷ []))) final ps (spread.Expr i)
   goes_other h = record { same = λ turns d le f. same_bind (h.same turns d le f) (λ v. same_pure (v ∷ [])); jumps = h.jumps }

@@ -1,6 +1,7 @@
 -- What `?` and `try` become holds: each number is reached in one way, and those of what is made up are new.
 use Rattle.std.proofs.Common.{◌≡◌, ◌⊎◌, inl, inr, ⊎_elim, refl, sym, subst, ℕ, ◌≤◌, Bool, false, List, [], ◌∷◌, ◌++◌, append-nil}
 use Rattle.std.proofs.Common.{Option, Some, None, arith}
+use Rattle.hir_binding.specs.declared.binding.BindingAnnotation.TheVariants.{Unannotated}
 use Rattle.hir_store.specs.Pointers.{Pointer}
 use Rattle.hir_store.specs.Stored.{Stored, Store, store_of}
 use Rattle.hir_store.specs.declared.hir.Expr.{Expr as HirExpr}
@@ -28,18 +29,18 @@ use Rattle.hir_steps.proofs.Steps.{Correct, Mark, correct_alloc, correct_as, cor
 use Rattle.hir_same_meaning.proofs.Owning.{Filled, Owns, OwnsAs, of_contents, order_all, order_ended, owns_at, settled_order}
 use Rattle.hir_same_meaning.proofs.Spread.{spread_append, spread_none, spread_wider}
 
-made_leaf_owns : (e : HirExpr) (from : Option Pointer) → ((f : ExprId → List ℕ) (s : Store) → below f s e ≡ [])
+pub made_leaf_owns : (e : HirExpr) (from : Option Pointer) → ((f : ExprId → List ℕ) (s : Store) → below f s e ≡ [])
     → Correct (alloc_made e from) Owns
 made_leaf_owns e from n = correct_as (correct_alloc_made e from)
     (λ final ps m m' i g a. owns_at m a (omega arith)
     (λ d le. rw (n (reached_to (store_of final) d) (store_of final)) (spread_none m.nodes m.nodes)))
 
-item_below : (o : Option LangItemId) (f : ExprId → List ℕ) (s : Store) → below f s (item_or_missing o) ≡ []
+pub item_below : (o : Option LangItemId) (f : ExprId → List ℕ) (s : Store) → below f s (item_or_missing o) ≡ []
 item_below None f s = refl
 item_below (Some i) f s = refl
 
 -- a call of what was stored behind its argument
-called_owns : {final : Stored} {ps : List Frame} (m : Mark) {m1 m2 m' : Mark} {c e i : ExprId} {from : Option Pointer}
+pub called_owns : {final : Stored} {ps : List Frame} (m : Mark) {m1 m2 m' : Mark} {c e i : ExprId} {from : Option Pointer}
     → m.nodes ≤ m1.nodes → m1.nodes ≤ m2.nodes → Owns final ps m m1 e → Owns final ps m1 m2 c
     → AllocatedMade (made_call c e) from final ps m2 m' i → Owns final ps m m' i
 called_owns m {m1 = m1} {m2 = m2} {e = e} le le' own callee a = owns_at m a (omega (arith, le, le')) (λ d ge.
@@ -52,7 +53,7 @@ of_one_arm f a = f a.expr ++ of_some f a.guard
 flow_arm_owns : (item : LangItemId) {body : ℕ → ExprSteps} → ((n : ℕ) → Correct (body n) Owns)
     → Correct (flow_arm_form item body) (OwnsAs of_one_arm)
 unfolding flow_arm_form
-flow_arm_owns item h = correct_as (correct_bind correct_made_number (λ n. correct_bind (correct_made_bind n) (λ p. correct_bind
+flow_arm_owns item h = correct_as (correct_bind correct_made_number (λ n. correct_bind (correct_made_bind Unannotated n) (λ p. correct_bind
     (correct_alloc_pat (item_pat item p) None) (λ q. correct_bind (h n) (λ e. correct_pure (record { pat = q; guard = None; expr = e }))))))
     (λ final ps m m' a g row. let p = row.second in let q = p.second in let e = q.second in rw (e.second.is, e.second.still) (record {
       spread = λ d le. rw (append-nil (reached_to (store_of final) d e.one))
@@ -65,7 +66,7 @@ leaving_one None f s e = refl
 leaving_one (Some t) f s e = refl
 
 module _ (at : Pointer) where
-  name_owns : (n : ℕ) → Correct (made_path_form at n) Owns
+  pub name_owns : (n : ℕ) → Correct (made_path_form at n) Owns
   unfolding made_path_form
   name_owns n = made_leaf_owns (hir.Path (made_path n) root_hygiene) (Some at) (λ f s. refl)
 
@@ -169,7 +170,7 @@ module _ (at : Pointer) where
   pub typed_try_owns : (t : Type_) {p : ExprSteps} → Correct p Owns → Correct (typed_try_form at p (lower_type None t)) Owns
   unfolding typed_try_form
   typed_try_owns t hp = correct_as (correct_bind hp (λ b. correct_bind correct_made_number (λ n. correct_bind (one_type_any None t)
-      (λ k. correct_bind (correct_made_bind n) (λ p. correct_bind (name_owns n)
+      (λ k. correct_bind (correct_made_bind Unannotated n) (λ p. correct_bind (name_owns n)
       (λ e. correct_alloc_made (bound_block p k b e) (Some at)))))))
       (λ final ps m m' i g row. let s = row.second in let u = s.second in let q = u.second in let r = q.second in
       let begun : row.middle.nodes ≤ q.middle.nodes = omega (arith, s.before.nodes, u.before.nodes, q.before.nodes) in

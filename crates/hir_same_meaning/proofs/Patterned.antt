@@ -32,7 +32,8 @@ use Rattle.hir_meaning.specs.Syntax.{SyntaxRun, run_present}
 use Rattle.hir_scope.specs.Each.{IfPresent}
 use Rattle.hir_scope.specs.Scopes.{Scope}
 use Rattle.hir_same_meaning.proofs.Views.{numbers}
-use Rattle.hir_same_meaning.proofs.Relation.{SameWhere, same_ends, same_pure, same_bind, same_tests, same_if}
+use Rattle.hir_same_meaning.proofs.Relation.{SameWhere, same_ends, same_fewer, same_pure, same_bind, same_tests, same_if}
+use Rattle.hir_same_meaning.proofs.Senses.{Base, Under, base_of, under_refl, wider}
 use Rattle.hir_same_meaning.proofs.Senses.{Walk, run_in, one, present, Goes, Runs, goes_within, goes_at}
 use Rattle.hir_same_meaning.proofs.Blocks.{StoredLet, let_of, LetIs, ElseIs}
 use Rattle.hir_same_meaning.proofs.Unmade.{fits_same, written_is_unmade}
@@ -46,9 +47,9 @@ pat_in final i = stored_pat (store_of final) (map_of final) i
 abbrev pub condition : PatData → Walk Value → Walk Value
 condition d x turns ss = x turns ss >>= (λ v. tests_pattern d v >>= (λ fits. pure (truth fits)))
 
-goes_let : {labels : ℕ} {m m' : Mark} {at : Pointer} {final : Stored} {ps qs : List Frame} {i e : ExprId} {x : Walk Value} (p : PatId)
-    (d : PatData) → pat_in final p ≡ d → Unmade d → Goes labels m.nodes one x final ps e
-    → Allocated (hir.Let p e) (Some at) final qs m m' i → Goes labels m'.nodes one (condition d x) final ps i
+goes_let : {base : Base} {m m' : Mark} {at : Pointer} {final : Stored} {ps qs : List Frame} {i e : ExprId} {x : Walk Value} (p : PatId)
+    (d : PatData) → pat_in final p ≡ d → Unmade d → Goes base m.nodes one x final ps e
+    → Allocated (hir.Let p e) (Some at) final qs m m' i → Goes base m'.nodes one (condition d x) final ps i
 goes_let {final = final} p d is u h a = goes_at a
     (λ turns n le f. same_bind (h.same turns n le f) (λ v. same_bind (fits_same final p d is u v) (λ holds. same_pure (truth holds))))
     (λ n le. h.jumps n le)
@@ -66,20 +67,21 @@ let_fine at p h = correct_as (correct_bind (top_now p) (λ i. correct_bind h (λ
 abbrev pub ArmsWalk : Type 0
 ArmsWalk = Value → Option Site → Walk Value
 
-pub record ArmsGo (labels nodes : ℕ) (x : ArmsWalk) (final : Stored) (ps : List Frame) (arms : List MatchArm) : Type 0 where
-  pub same : (turns d : ℕ) → nodes ≤ d → Falls labels ps → (v : Value) (site : Option Site)
-      → SameWhere ps (run_arms (store_of final) (map_of final) turns (run_in final d turns) arms v site) (x v site turns (scopes ps))
+pub record ArmsGo (base : Base) (nodes : ℕ) (x : ArmsWalk) (final : Stored) (ps : List Frame) (arms : List MatchArm) : Type 0 where
+  pub same : (turns d : ℕ) → nodes ≤ d → Falls base.labels ps → (v : Value) (site : Option Site)
+      → SameWhere base.names ps (run_arms (store_of final) (map_of final) turns (run_in final d turns) arms v site) (x v site turns
+      (scopes ps))
   pub jumps : (d : ℕ) → nodes ≤ d → EachArm (EnclosedTo (store_of final) d (numbers ps)) arms
 
 abbrev pub ArmsAre : ArmsWalk → Rel (List MatchArm)
-ArmsAre x final ps m m' arms = ArmsGo m.labels m'.nodes x final ps arms
+ArmsAre x final ps m m' arms = ArmsGo (base_of m) m'.nodes x final ps arms
 
 -- a guard, where one is written
-abbrev pub GuardIs : ℕ → ℕ → Stored → List Frame → Option (Walk Value) → Option ExprId → Type 0
-GuardIs labels nodes final ps None None = Unit {0}
-GuardIs labels nodes final ps None (Some i) = ⊥
-GuardIs labels nodes final ps (Some x) None = ⊥
-GuardIs labels nodes final ps (Some x) (Some i) = Goes labels nodes one x final ps i
+abbrev pub GuardIs : Base → ℕ → Stored → List Frame → Option (Walk Value) → Option ExprId → Type 0
+GuardIs base nodes final ps None None = Unit {0}
+GuardIs base nodes final ps None (Some i) = ⊥
+GuardIs base nodes final ps (Some x) None = ⊥
+GuardIs base nodes final ps (Some x) (Some i) = Goes base nodes one x final ps i
 
 -- the body of an arm, or the others where its guard doesn't hold
 abbrev pub guarded : Option (Walk Value) → Option Site → SyntaxRun Value → SyntaxRun Value → ℕ → List Scope → SyntaxRun Value
@@ -91,11 +93,11 @@ abbrev pub arm_walk : PatData → Option (Walk Value) → Walk Value → ArmsWal
 arm_walk d g x y v site turns ss = tests_pattern d v
     >>= (λ fits. if fits then guarded g site (x turns ss) (y v site turns ss) turns ss else y v site turns ss)
 
-pub no_guard_fine : Correct (gives None) (λ final ps m m' o. GuardIs m.labels m'.nodes final ps None o)
+pub no_guard_fine : Correct (gives None) (λ final ps m m' o. GuardIs (base_of m) m'.nodes final ps None o)
 no_guard_fine = correct_as (correct_pure None) (λ final ps m m' o g row. rw row.is tt)
 
 pub guard_fine : {p : ExprSteps} {x : Walk Value} → Correct p (Runs one x)
-    → Correct (some p) (λ final ps m m' o. GuardIs m.labels m'.nodes final ps (Some x) o)
+    → Correct (some p) (λ final ps m m' o. GuardIs (base_of m) m'.nodes final ps (Some x) o)
 guard_fine h = correct_as (correct_bind h (λ i. correct_pure (Some i)))
     (λ final ps m m' o g row. rw (row.second.is, row.second.still) row.first)
 
@@ -106,11 +108,11 @@ pub record ArmIs (d : PatData) (g : Option (Walk Value)) (x : Walk Value) (final
   pub is : o ≡ Some arm
   pub pattern : pat_in final arm.pat ≡ d
   pub unmade : Unmade d
-  pub guard : GuardIs m.labels m'.nodes final ps g arm.guard
-  pub body : Goes m.labels m'.nodes one x final ps arm.expr
+  pub guard : GuardIs (base_of m) m'.nodes final ps g arm.guard
+  pub body : Goes (base_of m) m'.nodes one x final ps arm.expr
 
 pub arm_fine : (p : OptionPat) {q : ExprSteps} {r : Lowering (Option ExprId)} {g : Option (Walk Value)} {x : Walk Value}
-    → Correct q (Runs one x) → Correct r (λ final ps m m' o. GuardIs m.labels m'.nodes final ps g o)
+    → Correct q (Runs one x) → Correct r (λ final ps m m' o. GuardIs (base_of m) m'.nodes final ps g o)
     → Correct (arm_form (lower_top p) q r) (ArmIs (written_pat p) g x)
 unfolding arm_form
 arm_fine p {g = g} hq hr = correct_as (correct_bind (top_now p) (λ i. correct_bind hq (λ e. correct_bind hr
@@ -124,53 +126,54 @@ arm_fine p {g = g} hq hr = correct_as (correct_bind (top_now p) (λ i. correct_b
       body = rw v.second.still (goes_within (omega arith) s.first);
     })
   where
-    guard_within : {labels nodes labels' nodes' : ℕ} (final : Stored) (ps : List Frame) (g : Option (Walk Value)) (o : Option ExprId)
-        → labels' ≤ labels → nodes ≤ nodes' → GuardIs labels nodes final ps g o → GuardIs labels' nodes' final ps g o
+    guard_within : {base base' : Base} {nodes nodes' : ℕ} (final : Stored) (ps : List Frame) (g : Option (Walk Value)) (o : Option ExprId)
+        → Under base' base → nodes ≤ nodes' → GuardIs base nodes final ps g o → GuardIs base' nodes' final ps g o
     guard_within final ps None None le le' h = tt
     guard_within final ps None (Some i) le le' h = absurd h
     guard_within final ps (Some x) None le le' h = absurd h
-    guard_within final ps (Some x) (Some i) le le' h = goes_within (record { labels_from = le; nodes_to = le' }) h
+    guard_within final ps (Some x) (Some i) le le' h = goes_within (wider le le') h
 
 pub no_arms_are : {final : Stored} {ps : List Frame} (m m' : Mark) → ArmsAre (λ v site turns ss. ends (leave unmatched)) final ps m m' []
 no_arms_are m m' = record { same = λ turns d le f v site. same_ends (leave unmatched) refl; jumps = λ d le. tt }
 
-module _ (labels nodes : ℕ) (final : Stored) (ps : List Frame) where
-  same_guarded : (turns d : ℕ) → nodes ≤ d → Falls labels ps → (g : Option (Walk Value)) (o : Option ExprId) (site : Option Site)
-      → GuardIs labels nodes final ps g o → {m m' : StoreRun Value} {n n' : SyntaxRun Value} → SameWhere ps m n → SameWhere ps m' n'
-      → SameWhere ps (run_guarded turns (run_in final d turns) o site m m') (guarded g site n n' turns (scopes ps))
+module _ (base : Base) (nodes : ℕ) (final : Stored) (ps : List Frame) where
+  same_guarded : (turns d : ℕ) → nodes ≤ d → Falls base.labels ps → (g : Option (Walk Value)) (o : Option ExprId) (site : Option Site)
+      → GuardIs base nodes final ps g o → {m m' : StoreRun Value} {n n' : SyntaxRun Value} → SameWhere base.names ps m n
+      → SameWhere base.names ps m' n'
+      → SameWhere base.names ps (run_guarded turns (run_in final d turns) o site m m') (guarded g site n n' turns (scopes ps))
   same_guarded turns d le f None None site h k l = k
   same_guarded turns d le f None (Some i) site h k l = absurd h
   same_guarded turns d le f (Some x) None site h k l = absurd h
   same_guarded turns d le f (Some x) (Some i) site h k l = same_bind (h.same turns d le f)
       (λ v. same_bind (same_tests is_true v site) (λ holds. same_if holds k l))
 
-  guard_jumps : (d : ℕ) → nodes ≤ d → (g : Option (Walk Value)) (o : Option ExprId) → GuardIs labels nodes final ps g o
+  guard_jumps : (d : ℕ) → nodes ≤ d → (g : Option (Walk Value)) (o : Option ExprId) → GuardIs base nodes final ps g o
       → IfPresent (EnclosedTo (store_of final) d (numbers ps)) o
   guard_jumps d le None None h = tt
   guard_jumps d le None (Some i) h = absurd h
   guard_jumps d le (Some x) None h = absurd h
   guard_jumps d le (Some x) (Some i) h = h.jumps d le
 
-module _ {labels nodes : ℕ} {final : Stored} {ps : List Frame} where
+module _ {base : Base} {nodes : ℕ} {final : Stored} {ps : List Frame} where
   arms_go : {x : Walk Value} {y : ArmsWalk} {arms : List MatchArm} (d : PatData) (g : Option (Walk Value)) (a : MatchArm)
-      → pat_in final a.pat ≡ d → Unmade d → GuardIs labels nodes final ps g a.guard → Goes labels nodes one x final ps a.expr
-      → ArmsGo labels nodes y final ps arms → ArmsGo labels nodes (arm_walk d g x y) final ps (a ∷ arms)
+      → pat_in final a.pat ≡ d → Unmade d → GuardIs base nodes final ps g a.guard → Goes base nodes one x final ps a.expr
+      → ArmsGo base nodes y final ps arms → ArmsGo base nodes (arm_walk d g x y) final ps (a ∷ arms)
   arms_go {x = x} {y = y} {arms = arms} d g a is u h k l = record {
     same = λ turns n le f v site. same_bind (fits_same final a.pat d is u v) (λ holds. same_if holds
-        (same_guarded labels nodes final ps turns n le f g a.guard site h (k.same turns n le f) (l.same turns n le f v site))
+        (same_guarded base nodes final ps turns n le f g a.guard site h (k.same turns n le f) (l.same turns n le f v site))
         (l.same turns n le f v site));
-    jumps = λ n le. (guard_jumps labels nodes final ps n le g a.guard h, k.jumps n le, l.jumps n le);
+    jumps = λ n le. (guard_jumps base nodes final ps n le g a.guard h, k.jumps n le, l.jumps n le);
   }
 
-arms_within : {labels nodes labels' nodes' : ℕ} {y : ArmsWalk} {final : Stored} {ps : List Frame} {arms : List MatchArm}
-    → labels' ≤ labels → nodes ≤ nodes' → ArmsGo labels nodes y final ps arms → ArmsGo labels' nodes' y final ps arms
-arms_within {labels = labels} {labels' = labels'} {ps = ps} le le' h = record {
-  same = λ turns d ge f v site. h.same turns d (omega (ge, le', arith)) (falls_from f) v site;
+arms_within : {base base' : Base} {nodes nodes' : ℕ} {y : ArmsWalk} {final : Stored} {ps : List Frame} {arms : List MatchArm}
+    → Under base' base → nodes ≤ nodes' → ArmsGo base nodes y final ps arms → ArmsGo base' nodes' y final ps arms
+arms_within {base = base} {base' = base'} {ps = ps} le le' h = record {
+  same = λ turns d ge f v site. same_fewer le.names (h.same turns d (omega (ge, le', arith)) (falls_from f) v site);
   jumps = λ d ge. h.jumps d (omega (ge, le', arith));
 }
   where
-    falls_from : Falls labels' ps → Falls labels ps
-    falls_from f = falls_more ps labels' labels le f
+    falls_from : Falls base'.labels ps → Falls base.labels ps
+    falls_from f = falls_more ps base'.labels base.labels le.labels f
 
 -- an arm that is left out
 pub arms_skip : {final : Stored} {ps : List Frame} {m m1 m' : Mark} {y : ArmsWalk} {r : List MatchArm} (done : List MatchArm)
@@ -188,16 +191,16 @@ arms_more {final = final} {ps = ps} {m = m} {m1 = m1} {m' = m'} {d = d} {g = g} 
     let q = subst (λ z. Pushed (push_some done z) (ArmsAre y) final ps m1 m' r) h.is p in record {
       new = h.arm ∷ q.new;
       is = pushed_one done h.arm q.new q.is;
-      rel = arms_go d g h.arm h.pattern h.unmade (guard_to m.labels final ps g h.arm.guard (omega arith) h.guard)
+      rel = arms_go d g h.arm h.pattern h.unmade (guard_to (base_of m) final ps g h.arm.guard (omega arith) h.guard)
           (goes_within (omega arith) h.body) (arms_within (omega arith) (omega arith) q.rel);
     }
   where
-    guard_to : {nodes nodes' : ℕ} (labels : ℕ) (final : Stored) (ps : List Frame) (g : Option (Walk Value)) (o : Option ExprId)
-        → nodes ≤ nodes' → GuardIs labels nodes final ps g o → GuardIs labels nodes' final ps g o
-    guard_to labels final ps None None le h = tt
-    guard_to labels final ps None (Some i) le h = absurd h
-    guard_to labels final ps (Some x) None le h = absurd h
-    guard_to labels final ps (Some x) (Some i) le h = goes_within (record { labels_from = omega arith; nodes_to = le }) h
+    guard_to : {nodes nodes' : ℕ} (base : Base) (final : Stored) (ps : List Frame) (g : Option (Walk Value)) (o : Option ExprId)
+        → nodes ≤ nodes' → GuardIs base nodes final ps g o → GuardIs base nodes' final ps g o
+    guard_to base final ps None None le h = tt
+    guard_to base final ps None (Some i) le h = absurd h
+    guard_to base final ps (Some x) None le h = absurd h
+    guard_to base final ps (Some x) (Some i) le h = goes_within (wider (under_refl base) le) h
 
 pub match_fine : (at : Pointer) {p : ExprSteps} {q : Lowering (List MatchArm)} {x : Walk Value} {y : ArmsWalk} → Correct p (Runs one x)
     → Correct q (Pushed [] (ArmsAre y))
@@ -206,7 +209,7 @@ unfolding match_form
 match_fine at {y = y} hp hq = correct_as (correct_bind hp (λ e. correct_bind hq (λ arms. correct_alloc (hir.Match e arms) (Some at))))
     (λ final ps m m' i g row. let s = row.second in
     let h = goes_within (omega arith) row.first in
-    let k = arms_within {labels = row.middle.labels} {nodes = s.middle.nodes} {labels' = m.labels} {nodes' = s.middle.nodes} {y = y}
+    let k = arms_within {base = base_of row.middle} {base' = base_of m} {nodes = s.middle.nodes} {nodes' = s.middle.nodes} {y = y}
     {final = final} {ps = ps} {arms = s.one} (omega arith) (omega arith) (rw s.first.is s.first.rel) in
     goes_at s.second
     (λ turns d le f. same_bind (h.same turns d le f) (λ v. k.same turns d le f v (Some (site_of at))))
@@ -218,11 +221,11 @@ pub record AsLet (p : OptionPat) (t : OptionType) (e : OptionExpr) (b : OptionBl
     (o : Option Statement) : Type 0 where
   pub held : StoredLet
   pub is : o ≡ Some (let_of held)
-  pub rel : LetIs m.labels m'.nodes final ps p t e b held
+  pub rel : LetIs (base_of m) m'.nodes final ps p t e b held
 
 pub let_stmt_fine : (p : OptionPat) (t : OptionType) (e : OptionExpr) (b : OptionBlock) {q r : Lowering (Option ExprId)}
     → Correct q (Runs present (λ turns. run_present turns e))
-    → Correct r (λ final ps m m' o. ElseIs m.labels m'.nodes final ps b o)
+    → Correct r (λ final ps m m' o. ElseIs (base_of m) m'.nodes final ps b o)
     → Correct (let_stmt_form (lower_top p) (present_type t) q r) (AsLet p t e b)
 unfolding let_stmt_form
 let_stmt_fine p t e b hq hr = correct_as (correct_bind (top_now p) (λ i. correct_bind (option_type_now t) (λ k. correct_bind hq
@@ -238,9 +241,9 @@ let_stmt_fine p t e b hq hr = correct_as (correct_bind (top_now p) (λ i. correc
       };
     })
   where
-    else_to : {labels nodes labels' nodes' : ℕ} (final : Stored) (ps : List Frame) (b : OptionBlock) (o : Option ExprId)
-        → labels' ≤ labels → nodes ≤ nodes' → ElseIs labels nodes final ps b o → ElseIs labels' nodes' final ps b o
+    else_to : {base base' : Base} {nodes nodes' : ℕ} (final : Stored) (ps : List Frame) (b : OptionBlock) (o : Option ExprId)
+        → Under base' base → nodes ≤ nodes' → ElseIs base nodes final ps b o → ElseIs base' nodes' final ps b o
     else_to final ps tree.no_block None le le' h = tt
     else_to final ps tree.no_block (Some i) le le' h = absurd h
     else_to final ps (tree.some_block b) None le le' h = absurd h
-    else_to final ps (tree.some_block b) (Some i) le le' h = goes_within (record { labels_from = le; nodes_to = le' }) h
+    else_to final ps (tree.some_block b) (Some i) le le' h = goes_within (wider le le') h

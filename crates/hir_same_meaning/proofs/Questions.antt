@@ -1,7 +1,8 @@
 -- What a `?` becomes runs as it is written.
-use Rattle.std.proofs.Common.{◌≡◌, refl, sym, ap, subst, ℕ, ◌≤◌, Bool, true, false, if◌then◌else◌, List, [], ◌∷◌, Option, Some, None}
+use Rattle.std.proofs.Common.{◌≡◌, ◌∙◌, refl, sym, ap, subst, ℕ, ◌≤◌, Bool, true, false, if◌then◌else◌, List, [], ◌∷◌, Option, Some, None}
 use Rattle.std.proofs.Common.{arith, slice_get}
 use Rattle.std.proofs.lemmas.Bool.{eq-eqb}
+use Rattle.hir_binding.specs.declared.binding.BindingAnnotation.TheVariants.{Unannotated}
 use Rattle.hir_store.specs.Pointers.{Pointer}
 use Rattle.hir_store.specs.Stored.{Stored, store_of, map_of}
 use Rattle.hir_store.specs.declared.hir.Expr.TheVariants as hir
@@ -33,8 +34,10 @@ use Rattle.hir_same_meaning.proofs.Knowing.{GoesKnowing, SameKnowing, known_at, 
 use Rattle.hir_same_meaning.proofs.Knowing.{known_path, known_within}
 use Rattle.hir_same_meaning.proofs.Nodes
 use Rattle.hir_same_meaning.proofs.Ranges.{goes_item}
+use Rattle.hir_same_meaning.proofs.NamesKept.{other_name}
 use Rattle.hir_same_meaning.proofs.Relation.{SameWhere, same_ask, same_bind, same_ends, same_event}
 use Rattle.hir_same_meaning.proofs.Rows.{stored_pure, stored_row, written_apart, written_value}
+use Rattle.hir_same_meaning.proofs.Senses.{Base, Under, base_of, under_grown, under_refl, under_trans, wider}
 use Rattle.hir_same_meaning.proofs.Senses.{Goes, Runs, Walk, goes_at, goes_within, one, run_in}
 use Rattle.hir_same_meaning.proofs.Targets.{OneTry, TryAmong, try_among, try_meets}
 use Rattle.hir_same_meaning.proofs.Unmade.{all_of, inside_made, made_whole}
@@ -42,9 +45,9 @@ use Rattle.hir_same_meaning.proofs.Views.{numbers, view}
 
 -- ---- items
 
-pub made_item_goes : {labels : ℕ} {m m' : Mark} {final : Stored} {ps qs : List Frame} {i : ExprId} {put : Put} {source : Option Pointer}
+pub made_item_goes : {base : Base} {m m' : Mark} {final : Stored} {ps qs : List Frame} {i : ExprId} {put : Put} {source : Option Pointer}
     (o : Option LangItemId) → AllocatedBy put (item_or_missing o) source final qs m m' i
-    → Goes labels m'.nodes one (λ turns ss. run_item o) final ps i
+    → Goes base m'.nodes one (λ turns ss. run_item o) final ps i
 made_item_goes None a = Nodes.goes_missing a
 made_item_goes (Some j) a = goes_item j a
 
@@ -52,10 +55,10 @@ made_item_goes (Some j) a = goes_item j a
 abbrev pub through_walk : Pointer → Option LangItemId → Walk Value → Walk Value
 through_walk at o y turns ss = through o (Some (site_of at)) (y turns ss)
 
-pub made_call_goes : {labels : ℕ} {m m' : Mark} {final : Stored} {ps qs : List Frame} {i f e : ExprId} {put : Put} {at : Pointer}
-    {y : Walk Value} (o : Option LangItemId) → Goes labels m.nodes one (λ turns ss. run_item o) final ps f
-    → Goes labels m.nodes one y final ps e → AllocatedBy put (made_call f e) (Some at) final qs m m' i
-    → Goes labels m'.nodes one (through_walk at o y) final ps i
+pub made_call_goes : {base : Base} {m m' : Mark} {final : Stored} {ps qs : List Frame} {i f e : ExprId} {put : Put} {at : Pointer}
+    {y : Walk Value} (o : Option LangItemId) → Goes base m.nodes one (λ turns ss. run_item o) final ps f
+    → Goes base m.nodes one y final ps e → AllocatedBy put (made_call f e) (Some at) final qs m m' i
+    → Goes base m'.nodes one (through_walk at o y) final ps i
 made_call_goes {at = at} o h k a = goes_at a
     (λ turns d le falls. same_bind (h.same turns d le falls) (λ u. stored_row _ _ _ (same_bind (k.same turns d le falls)
     (λ w. stored_row _ _ _ (stored_pure _ (stored_pure _ (same_ask call (u ∷ w ∷ []) (Some (site_of at)))))))))
@@ -73,23 +76,34 @@ pub with_it : (n : ℕ) (v : Value) (table : RunTable) → with_name n v table n
 with_it n v table = rw (eq-eqb n n refl) refl
 
 module _ {n : ℕ} {ps : List Frame} {m m' : StoreRun Value} {s : Value → SyntaxRun Value} {s' : SyntaxRun Value}
-    (h : (v : Value) → SameKnowing n v ps m (s v)) (k : SameWhere ps m' s') where
+    {names : ℕ} (le : names ≤ n) (h : (v : Value) → SameKnowing n v ps m (s v)) (k : SameWhere names ps m' s') where
   taken : (t : Bool) (x : Value)
-      → SameWhere ps (((if t then takes n x else pure tt) >>= (λ u. pure t)) >>= (λ holds. if holds then m else m')) (if t then s x else s')
+      → SameWhere names ps (((if t then takes n x else pure tt) >>= (λ u. pure t)) >>= (λ holds. if holds then m else m'))
+      (if t then s x else s')
   unfolding ends ◌>>=◌ takes
-  taken true x = record { same = λ w. (h x).same (record w { table = with_name n x w.table }) (with_it n x w.table) }
-  taken false x = record { same = λ w. k.same w }
+  taken true x = record {
+    same = λ w. (h x).same (record w { table = with_name n x w.table }) (with_it n x w.table);
+    keeps = record {
+      still = λ w k lt. (h x).keeps.still (record w { table = with_name n x w.table }) k (omega (arith, lt, le))
+          ∙ other_name n x w.table k le lt;
+    };
+  }
+  taken false x = record {
+    same = λ w. k.same w;
+    keeps = record { still = λ w i lt. k.keeps.still w i lt };
+  }
 
   taken_by : (a b : Option ℕ) → a ≡ None → b ≡ Some n → (d : PatData) (v : Value)
-      → SameWhere ps (fits_or_takes a b d v >>= (λ holds. if holds then m else m'))
+      → SameWhere names ps (fits_or_takes a b d v >>= (λ holds. if holds then m else m'))
       (event (test (matches d)) (v ∷ []) (pattern_site d) >>= (λ a. if a.yes then s (answered a.value) else s'))
   taken_by a b e e' d v = rw (e, e') (stored_row _ _ _ (same_bind (same_event (test (matches d)) (v ∷ []) (pattern_site d))
       (λ a. taken a.yes (answered a.value))))
 
   takes_then : (final : Stored) (chosen : LangItemId) (q : PatId) → TakesBy chosen n final q → (v : Value)
-      → SameWhere ps (fits (store_of final) (map_of final) q v >>= (λ holds. if holds then m else m'))
+      → SameWhere names ps (fits (store_of final) (map_of final) q v >>= (λ holds. if holds then m else m'))
       (event (test (matches (item_pattern chosen))) (v ∷ []) None >>= (λ a. if a.yes then s (answered a.value) else s'))
-  takes_then final chosen q t v = subst (λ d. SameWhere ps (fits (store_of final) (map_of final) q v >>= (λ holds. if holds then m else m'))
+  takes_then final chosen q t v = subst (λ d. SameWhere names ps (fits (store_of final) (map_of final) q v
+      >>= (λ holds. if holds then m else m'))
       (event (test (matches d)) (v ∷ []) (pattern_site d) >>= (λ a. if a.yes then s (answered a.value) else s'))) t.reads
       (taken_by (made_whole final q) (inside_made final q) t.whole t.part (stored_pat (store_of final) (map_of final) q) v)
 
@@ -108,15 +122,16 @@ pub record FlowIs (chosen : LangItemId) (R : ℕ → Rel ExprId) (final : Stored
   pub pattern : PatId
   pub body : ExprId
   pub start : Mark
+  pub number : m.names ≤ name
   pub is : a ≡ record { pat = pattern; guard = None; expr = body }
   pub takes : TakesBy chosen name final pattern
-  pub labels : m.labels ≤ start.labels
+  pub grown : Under (base_of m) (base_of start)
   pub rel : R name final ps start m' body
 
 flow_arm_is : (chosen : LangItemId) {body : ℕ → ExprSteps} {R : ℕ → Rel ExprId} → ((n : ℕ) → Correct (body n) (R n))
     → Correct (flow_arm_form chosen body) (FlowIs chosen R)
 unfolding flow_arm_form
-flow_arm_is chosen h = correct_as (correct_bind correct_made_number (λ n. correct_bind (made_reads n) (λ p. correct_bind
+flow_arm_is chosen h = correct_as (correct_bind correct_made_number (λ n. correct_bind (made_reads Unannotated n) (λ p. correct_bind
     (correct_in_store (item_reads chosen p)) (λ q. correct_bind (h n) (λ e. correct_pure (record { pat = q; guard = None; expr = e }))))))
     (λ final ps m m' a g row. let p = row.second in let q = p.second in let e = q.second in
     let entries = q.first.entries in
@@ -129,7 +144,8 @@ flow_arm_is chosen h = correct_as (correct_bind correct_made_number (λ n. corre
       is = e.second.is;
       takes = takes_made final chosen row.one p.one q.one p.first.binds q.first.rel.here
           (pat_in_full final q.one (item_pattern chosen) reads);
-      labels = omega (arith, row.before.labels, p.before.labels, q.before.labels);
+      number = omega (arith, row.first.is);
+      grown = under_trans (under_grown row.before) (under_trans (under_grown p.before) (under_grown q.before));
       rel = e.first;
     }))
 
@@ -151,22 +167,22 @@ module _ (at : Pointer) where
       by (leave x) w = refl
 
   -- what leaves for the `try` that lowering knows, or else returns
-  leaving_known : {labels n : ℕ} {v : Value} {m m' : Mark} {final : Stored} {ps qs : List Frame} {i c : ExprId} {x : SyntaxRun Value}
-      (t : Option (Try LabelId)) (u : Option (Try ℕ)) → (Falls labels ps → OneTry labels ps t u) → TryAmong (numbers ps) t
-      → GoesKnowing labels m.nodes n v x final ps c → AllocatedMade (leaving_node t c) (Some at) final qs m m' i
-      → GoesKnowing labels m'.nodes n v (x >>= (λ w. ends (leaves_try u w))) final ps i
-  leaving_known {labels = labels} {ps = ps} None u meets around h a = known_at a
+  leaving_known : {base : Base} {n : ℕ} {v : Value} {m m' : Mark} {final : Stored} {ps qs : List Frame} {i c : ExprId} {x : SyntaxRun Value}
+      (t : Option (Try LabelId)) (u : Option (Try ℕ)) → (Falls base.labels ps → OneTry base.labels ps t u) → TryAmong (numbers ps) t
+      → GoesKnowing base m.nodes n v x final ps c → AllocatedMade (leaving_node t c) (Some at) final qs m m' i
+      → GoesKnowing base m'.nodes n v (x >>= (λ w. ends (leaves_try u w))) final ps i
+  leaving_known {base = base} {ps = ps} None u meets around h a = known_at a
       (λ turns d le f. known_bind (h.same turns d le f) (λ w. known_ends (leave (returned w)) (returns u (meets f) w)))
       (λ d le. h.jumps d le)
     where
-      returns : (u : Option (Try ℕ)) → OneTry labels ps None u → (w : Value) → leave (returned w) ≡ leaves_try u w
+      returns : (u : Option (Try ℕ)) → OneTry base.labels ps None u → (w : Value) → leave (returned w) ≡ leaves_try u w
       returns None e w = refl
       returns (Some t) e w = absurd e
-  leaving_known {labels = labels} {ps = ps} (Some t) u meets around h a = known_at a
+  leaving_known {base = base} {ps = ps} (Some t) u meets around h a = known_at a
       (λ turns d le f. known_bind (h.same turns d le f) (λ w. known_ends (break (Some t.place) w) (breaks u (meets f) w)))
       (λ d le. (around, h.jumps d le))
     where
-      breaks : (u : Option (Try ℕ)) → OneTry labels ps (Some t) u → (w : Value) → view ps (break (Some t.place) w) ≡ leaves_try u w
+      breaks : (u : Option (Try ℕ)) → OneTry base.labels ps (Some t) u → (w : Value) → view ps (break (Some t.place) w) ≡ leaves_try u w
       breaks None e w = absurd e
       breaks (Some x) e w = ap (λ c. break c w) e.2
 
@@ -187,7 +203,7 @@ module _ (at : Pointer) where
   -- for each value that the name may stand for
   abbrev ResidualIs : QuestionItems → ℕ → Rel ExprId
   ResidualIs items n final ps m m' i = (v : Value)
-      → GoesKnowing m.labels m'.nodes n v (run_residual items (innermost_try (scopes ps)) v here) final ps i
+      → GoesKnowing (base_of m) m'.nodes n v (run_residual items (innermost_try (scopes ps)) v here) final ps i
 
   residual_is : (items : QuestionItems) (n : ℕ) → Correct (residual_form at items n) (ResidualIs items n)
   unfolding residual_form made_path_form item_call_form
@@ -200,8 +216,8 @@ module _ (at : Pointer) where
       let meets : Falls m.labels ps → OneTry m.labels ps t u =
       λ f. subst (λ k. OneTry m.labels ps k u) (sym s.first.is) (try_meets m.labels ps f) in
       let around : TryAmong (numbers ps) t = subst (TryAmong (numbers ps)) (sym s.first.is) (try_among ps) in
-      let name = known_within {labels = m.labels} {labels' = m.labels} (omega arith)
-      (omega (arith, s.before.nodes, c.first.before.nodes)) (known_path {labels = m.labels} {v = v} {ps = ps} row.first) in
+      let name = known_within {base = base_of m} {base' = base_of m} (under_refl (base_of m))
+      (omega (arith, s.before.nodes, c.first.before.nodes)) (known_path {base = base_of m} {v = v} {ps = ps} row.first) in
       let called = known_call (known_item (conversion items t) c.first.first) name c.first.second in
       let all = leaving_known t u meets around called c.second in record {
         same = λ turns d le f. subst (λ o. SameKnowing n v ps (run_in final d turns i)
@@ -212,7 +228,7 @@ module _ (at : Pointer) where
       })
 
   abbrev NameIs : ℕ → Rel ExprId
-  NameIs n final ps m m' i = (v : Value) → GoesKnowing m.labels m'.nodes n v (pure v) final ps i
+  NameIs n final ps m m' i = (v : Value) → GoesKnowing (base_of m) m'.nodes n v (pure v) final ps i
 
   name_is : (n : ℕ) → Correct (made_path_form at n) (NameIs n)
   unfolding made_path_form
@@ -223,21 +239,22 @@ module _ (at : Pointer) where
   abbrev arm_of : PatId → ExprId → MatchArm
   arm_of q e = record { pat = q; guard = None; expr = e }
 
-  goes_question : {labels : ℕ} {m m' : Mark} {final : Stored} {ps qs : List Frame} {i b : ExprId} {put : Put}
+  goes_question : {base : Base} {m m' : Mark} {final : Stored} {ps qs : List Frame} {i b : ExprId} {put : Put}
       (x : Walk Value) (items : QuestionItems) (g h : ℕ) (q r : PatId) (e f : ExprId)
-      → Goes labels m.nodes one (through_walk at (Some items.branch) x) final ps b → TakesBy items.goes_on g final q
-      → ((v : Value) → GoesKnowing labels m.nodes g v (pure v) final ps e) → TakesBy items.breaks h final r
-      → ((v : Value) → GoesKnowing labels m.nodes h v (run_residual items (innermost_try (scopes ps)) v here) final ps f)
+      → Goes base m.nodes one (through_walk at (Some items.branch) x) final ps b → base.names ≤ g → TakesBy items.goes_on g final q
+      → ((v : Value) → GoesKnowing base m.nodes g v (pure v) final ps e) → base.names ≤ h → TakesBy items.breaks h final r
+      → ((v : Value) → GoesKnowing base m.nodes h v (run_residual items (innermost_try (scopes ps)) v here) final ps f)
       → AllocatedBy put (hir.Match b (arm_of q e ∷ arm_of r f ∷ [])) (Some at) final qs m m' i
-      → Goes labels m'.nodes one (λ turns ss. run_question items (innermost_try ss) (x turns ss) here) final ps i
-  goes_question {final = final} {ps = ps} x items g h q r e f branch goes_on name breaks residual a = goes_at a
-      (λ turns d le falls.
-      let second = takes_then (λ v. (residual v).same turns d le falls) (same_ends (leave unmatched) refl) final items.breaks r breaks in
+      → Goes base m'.nodes one (λ turns ss. run_question items (innermost_try ss) (x turns ss) here) final ps i
+  goes_question {final = final} {ps = ps} x items g h q r e f branch le goes_on name le' breaks residual a = goes_at a
+      (λ turns d deep falls.
+      let second = takes_then le' (λ v. (residual v).same turns d deep falls)
+      (same_ends (leave unmatched) refl) final items.breaks r breaks in
       let none = item items.branch in
       written_apart (x turns (scopes ps)) (λ v. ask call (none ∷ v ∷ []) here) _
       (same_bind
-      (written_value none (λ k. x turns (scopes ps) >>= (λ v. ask call (k ∷ v ∷ []) here)) (branch.same turns d le falls))
-      (λ w. takes_then (λ v. (name v).same turns d le falls) (second w) final items.goes_on q goes_on w)))
+      (written_value none (λ k. x turns (scopes ps) >>= (λ v. ask call (k ∷ v ∷ []) here)) (branch.same turns d deep falls))
+      (λ w. takes_then le (λ v. (name v).same turns d deep falls) (second w) final items.goes_on q goes_on w)))
       (λ d le. (branch.jumps d le, (tt, (name unit).jumps d le, (tt, (residual unit).jumps d le, tt))))
 
   pub question_fine : (items : QuestionItems) {p : ExprSteps} {x : Walk Value} → Correct p (Runs one x)
@@ -249,12 +266,15 @@ module _ (at : Pointer) where
       (λ c. correct_alloc (hir.Match b (a ∷ c ∷ [])) (Some at))))))
       (λ final ps m m' i g row.
       let s = row.second in let u = s.second in let t = u.second in let a = u.first in let c = t.first in
-      let operand = goes_within (record { labels_from = omega arith; nodes_to = s.first.before.nodes }) row.first in
-      let branch = made_call_goes (Some items.branch) (made_item_goes {labels = m.labels} (Some items.branch) s.first.first) operand
+      let operand = goes_within (wider (under_refl (base_of m)) s.first.before.nodes) row.first in
+      let branch = made_call_goes (Some items.branch) (made_item_goes {base = base_of m} (Some items.branch) s.first.first) operand
       s.first.second in
       goes_question x items a.name c.name a.pattern c.pattern a.body c.body
-      (goes_within (record { labels_from = omega arith; nodes_to = omega (arith, u.before.nodes, t.before.nodes) }) branch)
-      a.takes (λ v. known_within (omega (arith, row.before.labels, s.before.labels, a.labels)) t.before.nodes (a.rel v))
-      c.takes (λ v. known_within (omega (arith, row.before.labels, s.before.labels, u.before.labels, c.labels)) (omega arith) (c.rel v))
+      (goes_within (wider (under_refl (base_of m)) (omega (arith, u.before.nodes, t.before.nodes))) branch)
+      (omega (arith, row.before.names, s.before.names, a.number)) a.takes
+      (λ v. known_within (under_trans (under_grown row.before) (under_trans (under_grown s.before) a.grown)) t.before.nodes (a.rel v))
+      (omega (arith, row.before.names, s.before.names, u.before.names, c.number)) c.takes
+      (λ v. known_within (under_trans (under_grown row.before) (under_trans (under_grown s.before) (under_trans (under_grown u.before)
+      c.grown))) (omega arith) (c.rel v))
       (subst (λ z. Allocated (hir.Match s.one (arm_of a.pattern a.body ∷ z ∷ [])) (Some at) final ps t.middle m' i) c.is
       (subst (λ z. Allocated (hir.Match s.one (z ∷ t.one ∷ [])) (Some at) final ps t.middle m' i) a.is t.second)))

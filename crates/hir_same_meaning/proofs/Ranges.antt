@@ -27,37 +27,38 @@ use Rattle.hir_steps.proofs.Steps.{AllocatedBy, Mark, Put, Rel, Correct, Allocat
 use Rattle.hir_same_meaning.proofs.Nodes
 use Rattle.hir_same_meaning.proofs.Relation.{SameWhere, same_pure, same_bind, same_ask, same_stop}
 use Rattle.hir_same_meaning.proofs.Rows.{stored_pure, stored_row, written_pure, written_row, written_value}
+use Rattle.hir_same_meaning.proofs.Senses.{Base, base_of, under_refl, wider}
 use Rattle.hir_same_meaning.proofs.Senses.{Walk, run_in, one, Goes, Runs, Wider, goes_within, goes_at}
 use Rattle.hir_same_meaning.proofs.Views.{numbers}
 
 -- ---- ends
 
 -- what an end became: nothing where it is absent
-abbrev pub EndIs : ℕ → ℕ → Stored → List Frame → OptionExpr → Option ExprId → Type 0
-EndIs labels nodes final ps tree.no_expr None = Unit {0}
-EndIs labels nodes final ps tree.no_expr (Some i) = ⊥
-EndIs labels nodes final ps (tree.some_expr e) None = ⊥
-EndIs labels nodes final ps (tree.some_expr e) (Some i) = Goes labels nodes one (λ turns. run_expr turns e) final ps i
+abbrev pub EndIs : Base → ℕ → Stored → List Frame → OptionExpr → Option ExprId → Type 0
+EndIs base nodes final ps tree.no_expr None = Unit {0}
+EndIs base nodes final ps tree.no_expr (Some i) = ⊥
+EndIs base nodes final ps (tree.some_expr e) None = ⊥
+EndIs base nodes final ps (tree.some_expr e) (Some i) = Goes base nodes one (λ turns. run_expr turns e) final ps i
 
 abbrev pub EndRel : OptionExpr → Rel (Option ExprId)
-EndRel e final ps m m' o = EndIs m.labels m'.nodes final ps e o
+EndRel e final ps m m' o = EndIs (base_of m) m'.nodes final ps e o
 
-end_within : {labels nodes labels' nodes' : ℕ} (final : Stored) (ps : List Frame) (e : OptionExpr) (o : Option ExprId)
-    → Wider labels nodes labels' nodes' → EndIs labels nodes final ps e o → EndIs labels' nodes' final ps e o
+end_within : {base base' : Base} {nodes nodes' : ℕ} (final : Stored) (ps : List Frame) (e : OptionExpr) (o : Option ExprId)
+    → Wider base nodes base' nodes' → EndIs base nodes final ps e o → EndIs base' nodes' final ps e o
 end_within final ps tree.no_expr None w h = tt
 end_within final ps tree.no_expr (Some i) w h = absurd h
 end_within final ps (tree.some_expr e) None w h = absurd h
 end_within final ps (tree.some_expr e) (Some i) w h = goes_within w h
 
-same_labels : {nodes nodes' : ℕ} (labels : ℕ) → nodes ≤ nodes' → Wider labels nodes labels nodes'
-same_labels labels le = record { labels_from = omega arith; nodes_to = le }
+same_labels : {nodes nodes' : ℕ} (base : Base) → nodes ≤ nodes' → Wider base nodes base nodes'
+same_labels base le = wider (under_refl base) le
 
-module _ (labels : ℕ) {nodes : ℕ} (final : Stored) {ps : List Frame} (turns d : ℕ) (le : nodes ≤ d) (f : Falls labels ps)
+module _ (base : Base) {nodes : ℕ} (final : Stored) {ps : List Frame} (turns d : ℕ) (le : nodes ≤ d) (f : Falls base.labels ps)
     {k : List Value → StoreRun Value} {l : List Value → SyntaxRun Value} where
   -- both ends, and then the same
-  same_ends_of : ((vs : List Value) → SameWhere ps (k vs) (l vs)) → (start end : OptionExpr) (s e : Option ExprId)
-      → EndIs labels nodes final ps start s → EndIs labels nodes final ps end e
-      → SameWhere ps (stored_each turns (run_in final d turns) (end_operand s ++ end_operand e) >>= k)
+  same_ends_of : ((vs : List Value) → SameWhere base.names ps (k vs) (l vs)) → (start end : OptionExpr) (s e : Option ExprId)
+      → EndIs base nodes final ps start s → EndIs base nodes final ps end e
+      → SameWhere base.names ps (stored_each turns (run_in final d turns) (end_operand s ++ end_operand e) >>= k)
       (run_present turns start (scopes ps) >>= (λ vs. run_present turns end (scopes ps) >>= (λ ws. l (vs ++ ws))))
   same_ends_of same tree.no_expr tree.no_expr None None h h' = stored_pure _ (written_pure _ (written_pure _ (same [])))
   same_ends_of same tree.no_expr (tree.some_expr y) None (Some e) h h' =
@@ -75,9 +76,9 @@ module _ (labels : ℕ) {nodes : ℕ} (final : Stored) {ps : List Frame} (turns 
   same_ends_of same start tree.no_expr s (Some e) h h' = absurd h'
   same_ends_of same start (tree.some_expr y) s None h h' = absurd h'
 
-module _ (labels nodes : ℕ) (final : Stored) (ps : List Frame) where
+module _ (base : Base) (nodes : ℕ) (final : Stored) (ps : List Frame) where
   ends_jump : (d : ℕ) → nodes ≤ d → (start end : OptionExpr) (s e : Option ExprId)
-      → EndIs labels nodes final ps start s → EndIs labels nodes final ps end e
+      → EndIs base nodes final ps start s → EndIs base nodes final ps end e
       → Each (EnclosedTo (store_of final) d (numbers ps)) (end_operand s ++ end_operand e)
   ends_jump d le tree.no_expr tree.no_expr None None h h' = tt
   ends_jump d le tree.no_expr (tree.some_expr y) None (Some e) h h' = (h'.jumps d le, tt)
@@ -89,7 +90,7 @@ module _ (labels nodes : ℕ) (final : Stored) (ps : List Frame) where
   ends_jump d le start (tree.some_expr y) s None h h' = absurd h'
 
   names_are : (last : Name) (start end : OptionExpr) (s e : Option ExprId)
-      → EndIs labels nodes final ps start s → EndIs labels nodes final ps end e
+      → EndIs base nodes final ps start s → EndIs base nodes final ps end e
       → map (λ f. f.name) (range_fields last s e) ≡ range_names last start end
   names_are last tree.no_expr tree.no_expr None None h h' = refl
   names_are last tree.no_expr (tree.some_expr y) None (Some e) h h' = refl
@@ -112,69 +113,69 @@ pub item_is : (final : Stored) (i : LangItemId) → stored_path (store_of final)
 unfolding stored_path
 item_is final i = refl
 
-pub goes_item : {labels : ℕ} {m m' : Mark} {final : Stored} {ps qs : List Frame} {i : ExprId} {put : Put} {source : Option Pointer}
+pub goes_item : {base : Base} {m m' : Mark} {final : Stored} {ps qs : List Frame} {i : ExprId} {put : Put} {source : Option Pointer}
     (item' : LangItemId) → AllocatedBy put (item_expr (Some item')) source final qs m m' i
-    → Goes labels m'.nodes one (λ turns ss. pure (item item')) final ps i
+    → Goes base m'.nodes one (λ turns ss. pure (item item')) final ps i
 goes_item {final = final} item' a = goes_at a (λ turns d le f. rw (item_is final item') (same_pure (item item'))) (λ d le. tt)
 
 module _ (at : Pointer) (start end : OptionExpr) where
   abbrev range_walk : RangeForm → Walk Value
   range_walk form turns ss = run_range form start end (run_present turns start ss) (run_present turns end ss) (Some (site_of at))
 
-  goes_record_range : {labels : ℕ} {m m' : Mark} {final : Stored} {ps qs : List Frame} {i : ExprId} (named : LangItemId) (last : Name)
-      (s e : Option ExprId) → EndIs labels m.nodes final ps start s → EndIs labels m.nodes final ps end e
+  goes_record_range : {base : Base} {m m' : Mark} {final : Stored} {ps qs : List Frame} {i : ExprId} (named : LangItemId) (last : Name)
+      (s e : Option ExprId) → EndIs base m.nodes final ps start s → EndIs base m.nodes final ps end e
       → Allocated (hir.RecordLit (LangItem named) (range_fields last s e) spread.None) (Some at) final qs m m' i
-      → Goes labels m'.nodes one (range_walk (tree.record_range named last)) final ps i
-  goes_record_range {labels = labels} {m = m} {final = final} {ps = ps} named last s e h h' a = goes_at a
-      (λ turns d le f. rw (item_is final named, fields_are last s e, names_are labels m.nodes final ps last start end s e h h')
-      (same_ends_of labels final turns d le f (λ vs. stored_pure _ (of_all (range_names last start end) vs)) start end s e h h'))
-      (λ d le. rw (fields_are last s e) (ends_jump labels m.nodes final ps d le start end s e h h', tt))
+      → Goes base m'.nodes one (range_walk (tree.record_range named last)) final ps i
+  goes_record_range {base = base} {m = m} {final = final} {ps = ps} named last s e h h' a = goes_at a
+      (λ turns d le f. rw (item_is final named, fields_are last s e, names_are base m.nodes final ps last start end s e h h')
+      (same_ends_of base final turns d le f (λ vs. stored_pure _ (of_all (range_names last start end) vs)) start end s e h h'))
+      (λ d le. rw (fields_are last s e) (ends_jump base m.nodes final ps d le start end s e h h', tt))
     where
       of_all : (names : List Name) (vs : List Value)
-          → SameWhere ps (ask (made_record (item_path named) names no_spread) (vs ++ []) (Some (site_of at)))
+          → SameWhere base.names ps (ask (made_record (item_path named) names no_spread) (vs ++ []) (Some (site_of at)))
           (ask (made_record (item_path named) names no_spread) vs (Some (site_of at)))
       of_all names vs = rw (append-nil vs) (same_ask (made_record (item_path named) names no_spread) vs (Some (site_of at)))
 
-  goes_call_range : {labels : ℕ} {m m1 m' : Mark} {final : Stored} {ps qs : List Frame} {c i : ExprId} (called : Option LangItemId)
-      (s e : Option ExprId) → EndIs labels m1.nodes final ps start s → EndIs labels m1.nodes final ps end e
+  goes_call_range : {base : Base} {m m1 m' : Mark} {final : Stored} {ps qs : List Frame} {c i : ExprId} (called : Option LangItemId)
+      (s e : Option ExprId) → EndIs base m1.nodes final ps start s → EndIs base m1.nodes final ps end e
       → Allocated (item_expr called) None final qs m m1 c
       → Allocated (hir.Call c (end_operand s ++ end_operand e)) (Some at) final qs m1 m' i
-      → Goes labels m'.nodes one (range_walk (tree.call_range called)) final ps i
-  goes_call_range {labels = labels} {m1 = m1} {final = final} {ps = ps} {c = c} None s e h h' b a =
-      let callee : Goes labels m1.nodes one (λ turns ss. ends (leave missing)) final ps c = Nodes.goes_missing b in goes_at a
+      → Goes base m'.nodes one (range_walk (tree.call_range called)) final ps i
+  goes_call_range {base = base} {m1 = m1} {final = final} {ps = ps} {c = c} None s e h h' b a =
+      let callee : Goes base m1.nodes one (λ turns ss. ends (leave missing)) final ps c = Nodes.goes_missing b in goes_at a
       (λ turns d le f. same_stop _ missing (callee.same turns d le f))
-      (λ d le. (callee.jumps d le, ends_jump labels m1.nodes final ps d le start end s e h h'))
-  goes_call_range {labels = labels} {m1 = m1} {final = final} {ps = ps} {c = c} (Some item') s e h h' b a =
-      let callee : Goes labels m1.nodes one (λ turns ss. pure (item item')) final ps c = goes_item item' b in goes_at a
+      (λ d le. (callee.jumps d le, ends_jump base m1.nodes final ps d le start end s e h h'))
+  goes_call_range {base = base} {m1 = m1} {final = final} {ps = ps} {c = c} (Some item') s e h h' b a =
+      let callee : Goes base m1.nodes one (λ turns ss. pure (item item')) final ps c = goes_item item' b in goes_at a
       (λ turns d le f. written_value (item item') (λ v. run_present turns start (scopes ps)
       >>= (λ vs. run_present turns end (scopes ps) >>= (λ ws. ask call (v ∷ (vs ++ ws)) (Some (site_of at)))))
       (same_bind (callee.same turns d le f)
-      (λ v. same_ends_of labels final turns d le f (λ vs. same_ask call (v ∷ vs) (Some (site_of at))) start end s e h h')))
-      (λ d le. (callee.jumps d le, ends_jump labels m1.nodes final ps d le start end s e h h'))
+      (λ v. same_ends_of base final turns d le f (λ vs. same_ask call (v ∷ vs) (Some (site_of at))) start end s e h h')))
+      (λ d le. (callee.jumps d le, ends_jump base m1.nodes final ps d le start end s e h h'))
 
   -- whatever its ends became
   abbrev MadeOf : RangeForm → Option ExprId → Option ExprId → Rel ExprId
   MadeOf form s e final ps m m' i =
-      (labels : ℕ) → EndIs labels m.nodes final ps start s → EndIs labels m.nodes final ps end e
-      → Goes labels m'.nodes one (range_walk form) final ps i
+      (base : Base) → EndIs base m.nodes final ps start s → EndIs base m.nodes final ps end e
+      → Goes base m'.nodes one (range_walk form) final ps i
 
   made_fine : (form : RangeForm) (s e : Option ExprId) → Correct (made_range at form s e) (MadeOf form s e)
   made_fine (tree.record_range named last) s e =
       correct_as (correct_alloc (hir.RecordLit (LangItem named) (range_fields last s e) spread.None) (Some at))
-      (λ final ps m m' i g a labels h h'. goes_record_range named last s e h h' a)
+      (λ final ps m m' i g a base h h'. goes_record_range named last s e h h' a)
   made_fine (tree.call_range called) s e = correct_as
       (correct_bind (correct_alloc (item_expr called) None)
       (λ c. correct_alloc (hir.Call c (end_operand s ++ end_operand e)) (Some at)))
-      (λ final ps m m' i g row labels h h'. goes_call_range called s e
-      (end_within final ps start s (same_labels labels row.before.nodes) h)
-      (end_within final ps end e (same_labels labels row.before.nodes) h') row.first row.second)
+      (λ final ps m m' i g row base h h'. goes_call_range called s e
+      (end_within final ps start s (same_labels base row.before.nodes) h)
+      (end_within final ps end e (same_labels base row.before.nodes) h') row.first row.second)
   made_fine tree.itemless_range s e =
-      correct_as (correct_alloc hir.Missing (Some at)) (λ final ps m m' i g a labels h h'. Nodes.goes_missing a)
+      correct_as (correct_alloc hir.Missing (Some at)) (λ final ps m m' i g a base h h'. Nodes.goes_missing a)
 
   pub range_fine : (form : RangeForm) {q r : Lowering (Option ExprId)} → Correct q (EndRel start) → Correct r (EndRel end)
       → Correct (range_form at form q r) (Runs one (range_walk form))
   unfolding range_form
   range_fine form hq hr = correct_as (correct_bind hq (λ s. correct_bind hr (λ e. made_fine form s e)))
       (λ final ps m m' i g row. let u = row.second in
-      u.second m.labels (end_within final ps start row.one (omega arith) row.first)
+      u.second (base_of m) (end_within final ps start row.one (omega arith) row.first)
       (end_within final ps end u.one (omega arith) u.first))

@@ -1,5 +1,5 @@
 -- Runs of the store that go as runs of the syntax.
-use Rattle.std.proofs.Common.{◌≡◌, ℕ, zero, suc, Bool, true, false, if◌then◌else◌, List, [], ◌∷◌, Option, Some, None, refl, ap, ◌∙◌}
+use Rattle.std.proofs.Common.{◌≡◌, ◌≤◌, ℕ, zero, suc, Bool, true, false, if◌then◌else◌, List, [], ◌∷◌, Option, Some, None, refl, ap, ◌∙◌}
 use Rattle.std.proofs.Common.{subst, sym}
 use Rattle.hir_base.specs.declared.op.LogicOp.{LogicOp}
 use Rattle.hir_base.specs.declared.op.LogicOp.TheVariants as logic
@@ -18,6 +18,7 @@ use Rattle.hir_meaning.specs.Store.{JumpLabel, RunTable, StoreRun, past_loop, pa
 use Rattle.hir_steps.proofs.Frames.{Frame, block_at, try_at}
 use Rattle.hir_same_meaning.proofs.Views.{Numbered, number, view, view_step, turn_ends, block_ends, plain_block_ends}
 use Rattle.hir_same_meaning.proofs.Views.{loop_frame, try_ends}
+use Rattle.hir_same_meaning.proofs.NamesKept.{KeepsBelow, keeps_ends, keeps_event, keeps_bind, keeps_loop, keeps_block, keeps_fewer}
 
 -- without the values of names that lowering made up
 abbrev pub bare : World RunTable → World (Unit {0})
@@ -28,9 +29,15 @@ pub record Agrees {A : Type 0} (ps : List Frame) (o : Outcome JumpLabel A) (w : 
   pub outcome : view ps o ≡ o'
   pub world : bare w ≡ w'
 
--- from each world the same, whatever made names stand for there, with jumps by number read as jumps by scope
-pub record SameWhere {A : Type 0} (ps : List Frame) (m : StoreRun A) (n : SyntaxRun A) : Type 0 where
+-- From each world the same, whatever made names stand for there, with jumps by number read as jumps by scope. The names below `names`
+-- stand for what they did afterwards.
+pub record SameWhere {A : Type 0} (names : ℕ) (ps : List Frame) (m : StoreRun A) (n : SyntaxRun A) : Type 0 where
   pub same : (w : World RunTable) → Agrees ps (m w).0 (m w).1 (n (bare w)).0 (n (bare w)).1
+  pub keeps : KeepsBelow names m
+
+pub same_fewer : {A : Type 0} {names names' : ℕ} {ps : List Frame} {m : StoreRun A} {n : SyntaxRun A} → names' ≤ names
+    → SameWhere names ps m n → SameWhere names' ps m n
+same_fewer le h = record { same = h.same; keeps = keeps_fewer le h.keeps }
 
 pub agrees_as : {A S : Type 0} {ps : List Frame} {o : Outcome JumpLabel A} {w : World RunTable}
     (k : S → World (Unit {0}) → Outcome Count A × World (Unit {0}))
@@ -49,19 +56,34 @@ leave_of _ = cut
 
 -- steps
 
-module _ {ps : List Frame} where
-  pub same_ends : {A : Type 0} (o : Outcome JumpLabel A) {o' : Outcome Count A} → view ps o ≡ o' → SameWhere ps (ends o) (ends o')
-  unfolding ends
-  same_ends o e = record { same = λ w. record { outcome = e; world = refl } }
+stopped : {A B : Type 0} {ps : List Frame} (f : A → StoreRun B) (x : Leave) (o : Outcome JumpLabel A) (w : World RunTable)
+    (w' : World (Unit {0}))
+    → view ps o ≡ leave x → bare w ≡ w' → Agrees ps (after o w f).0 (after o w f).1 (leave x) w'
+stopped f x (value a) w w' e e' = absurd (subst is_leave (sym e) tt)
+stopped f x (break j v) w w' e e' = absurd (subst is_leave (sym e) tt)
+stopped f x (continue j) w w' e e' = absurd (subst is_leave (sym e) tt)
+stopped f x (leave y) w w' e e' = record { outcome = ap (λ o. leave (leave_of o)) e; world = e' }
 
-  pub same_pure : {A : Type 0} (a : A) → SameWhere ps (pure a) (pure a)
+stopped_still : {A B : Type 0} (ps : List Frame) (f : A → StoreRun B) (x : Leave) (o : Outcome JumpLabel A) (w : World RunTable) (k : ℕ)
+    → view ps o ≡ leave x → (after o w f).1.table k ≡ w.table k
+stopped_still ps f x (value a) w k e = absurd (subst is_leave (sym e) tt)
+stopped_still ps f x (break j v) w k e = absurd (subst is_leave (sym e) tt)
+stopped_still ps f x (continue j) w k e = absurd (subst is_leave (sym e) tt)
+stopped_still ps f x (leave y) w k e = refl
+
+module _ {names : ℕ} {ps : List Frame} where
+  pub same_ends : {A : Type 0} (o : Outcome JumpLabel A) {o' : Outcome Count A} → view ps o ≡ o' → SameWhere names ps (ends o) (ends o')
+  unfolding ends
+  same_ends o e = record { same = λ w. record { outcome = e; world = refl }; keeps = keeps_ends o }
+
+  pub same_pure : {A : Type 0} (a : A) → SameWhere names ps (pure a) (pure a)
   same_pure a = same_ends (value a) refl
 
-  pub same_event : (o : Operation) (vs : List Value) (site : Option Site) → SameWhere ps (event o vs site) (event o vs site)
+  pub same_event : (o : Operation) (vs : List Value) (site : Option Site) → SameWhere names ps (event o vs site) (event o vs site)
   unfolding event
-  same_event o vs site = record { same = λ w. record { outcome = refl; world = refl } }
+  same_event o vs site = record { same = λ w. record { outcome = refl; world = refl }; keeps = keeps_event o vs site }
 
-  after_same : {A B : Type 0} {f : A → StoreRun B} {g : A → SyntaxRun B} → ((a : A) → SameWhere ps (f a) (g a))
+  after_same : {A B : Type 0} {f : A → StoreRun B} {g : A → SyntaxRun B} → ((a : A) → SameWhere names ps (f a) (g a))
       → (o : Outcome JumpLabel A) (w : World RunTable)
       → Agrees ps (after o w f).0 (after o w f).1 (after (view ps o) (bare w) g).0 (after (view ps o) (bare w) g).1
   after_same h (value a) w = (h a).same w
@@ -70,68 +92,67 @@ module _ {ps : List Frame} where
   after_same h (leave x) w = record { outcome = refl; world = refl }
 
   pub same_bind : {A B : Type 0} {m : StoreRun A} {n : SyntaxRun A} {f : A → StoreRun B} {g : A → SyntaxRun B}
-      → SameWhere ps m n → ((a : A) → SameWhere ps (f a) (g a)) → SameWhere ps (m >>= f) (n >>= g)
+      → SameWhere names ps m n → ((a : A) → SameWhere names ps (f a) (g a)) → SameWhere names ps (m >>= f) (n >>= g)
   unfolding ◌>>=◌
   same_bind {m = m} {g = g} p h = record {
     same = λ w.
         let a = p.same w in
         agrees_as (λ o v. after o v g) a.outcome a.world (after_same h (m w).0 (m w).1);
+    keeps = keeps_bind p.keeps (λ a. (h a).keeps);
   }
 
-  pub same_ask : (o : Operation) (vs : List Value) (site : Option Site) → SameWhere ps (ask o vs site) (ask o vs site)
+  pub same_ask : (o : Operation) (vs : List Value) (site : Option Site) → SameWhere names ps (ask o vs site) (ask o vs site)
   same_ask o vs site = same_bind (same_event o vs site) (λ a. same_pure (answered a.value))
 
-  pub same_tests : (t : Test) (v : Value) (site : Option Site) → SameWhere ps (tests t v site) (tests t v site)
+  pub same_tests : (t : Test) (v : Value) (site : Option Site) → SameWhere names ps (tests t v site) (tests t v site)
   same_tests t v site = same_bind (same_event (test t) (v ∷ []) site) (λ a. same_pure a.yes)
 
-  pub same_tests_pattern : (p : PatData) (v : Value) → SameWhere ps (tests_pattern p v) (tests_pattern p v)
+  pub same_tests_pattern : (p : PatData) (v : Value) → SameWhere names ps (tests_pattern p v) (tests_pattern p v)
   same_tests_pattern p v = same_tests (matches p) v (pattern_site p)
 
-  pub same_binds : (p : PatData) (t : OptionTypeData) (vs : List Value) → SameWhere ps (binds p t vs) (binds p t vs)
+  pub same_binds : (p : PatData) (t : OptionTypeData) (vs : List Value) → SameWhere names ps (binds p t vs) (binds p t vs)
   same_binds p t vs = same_bind (same_event (bound p t) vs (pattern_site p)) (λ a. same_pure a.yes)
 
-  pub same_assigns : (p : PatData) (vs : List Value) (site : Option Site) → SameWhere ps (assigns p vs site) (assigns p vs site)
+  pub same_assigns : (p : PatData) (vs : List Value) (site : Option Site) → SameWhere names ps (assigns p vs site) (assigns p vs site)
   same_assigns p vs site = same_bind (same_event (assigned p) vs site) (λ a. same_pure unit)
 
-  pub same_read_path : (p : PathData) (h : HygieneId) (site : Option Site) → SameWhere ps (read_path p h site) (read_path p h site)
+  pub same_read_path : (p : PathData) (h : HygieneId) (site : Option Site) → SameWhere names ps (read_path p h site) (read_path p h site)
   same_read_path (path_data k anchor ns bare) h site = same_ask (read (path_data k anchor ns bare) h) [] site
   same_read_path (item_path i) h site = same_pure (item i)
 
-  pub same_if : {A : Type 0} (b : Bool) {m m' : StoreRun A} {n n' : SyntaxRun A} → SameWhere ps m n → SameWhere ps m' n'
-      → SameWhere ps (if b then m else m') (if b then n else n')
+  pub same_if : {A : Type 0} (b : Bool) {m m' : StoreRun A} {n n' : SyntaxRun A} → SameWhere names ps m n → SameWhere names ps m' n'
+      → SameWhere names ps (if b then m else m') (if b then n else n')
   same_if true h h' = h
   same_if false h h' = h'
 
   pub same_entering : {A : Type 0} (is_unsafe : Bool) (b : Option BlockId) (site : Option Site) {m : StoreRun A} {n : SyntaxRun A}
-      → SameWhere ps m n → SameWhere ps (entering is_unsafe b site m) (entering is_unsafe b site n)
+      → SameWhere names ps m n → SameWhere names ps (entering is_unsafe b site m) (entering is_unsafe b site n)
   same_entering false None site h = h
   same_entering false (Some b) site h = same_bind (same_event (enter (Some b) false) [] site) (λ a. h)
   same_entering true None site h = same_bind (same_event (enter None true) [] site) (λ a. h)
   same_entering true (Some b) site h = same_bind (same_event (enter (Some b) true) [] site) (λ a. h)
 
-  pub same_made_tuple : (vs : List Value) (site : Option Site) → SameWhere ps (made_tuple vs site) (made_tuple vs site)
+  pub same_made_tuple : (vs : List Value) (site : Option Site) → SameWhere names ps (made_tuple vs site) (made_tuple vs site)
   same_made_tuple [] site = same_pure unit
   same_made_tuple (v ∷ vs) site = same_ask tuple (v ∷ vs) site
 
-  pub same_lazily : (op : LogicOp) (holds : Bool) {m : StoreRun Value} {n : SyntaxRun Value} → SameWhere ps m n
-      → SameWhere ps (lazily op holds m) (lazily op holds n)
+  pub same_lazily : (op : LogicOp) (holds : Bool) {m : StoreRun Value} {n : SyntaxRun Value} → SameWhere names ps m n
+      → SameWhere names ps (lazily op holds m) (lazily op holds n)
   same_lazily logic.And true h = h
   same_lazily logic.And false h = same_pure (truth false)
   same_lazily logic.Or true h = same_pure (truth true)
   same_lazily logic.Or false h = h
 
-  stopped : {A B : Type 0} (f : A → StoreRun B) (x : Leave) (o : Outcome JumpLabel A) (w : World RunTable) (w' : World (Unit {0}))
-      → view ps o ≡ leave x → bare w ≡ w' → Agrees ps (after o w f).0 (after o w f).1 (leave x) w'
-  stopped f x (value a) w w' e e' = absurd (subst is_leave (sym e) tt)
-  stopped f x (break j v) w w' e e' = absurd (subst is_leave (sym e) tt)
-  stopped f x (continue j) w w' e e' = absurd (subst is_leave (sym e) tt)
-  stopped f x (leave y) w w' e e' = record { outcome = ap (λ o. leave (leave_of o)) e; world = e' }
-
   -- what leaves the body leaves out what is behind it
-  pub same_stop : {A B : Type 0} (f : A → StoreRun B) (x : Leave) {m : StoreRun A} → SameWhere ps m (ends (leave x))
-      → SameWhere ps (m >>= f) (ends (leave x))
+  pub same_stop : {A B : Type 0} (f : A → StoreRun B) (x : Leave) {m : StoreRun A} → SameWhere names ps m (ends (leave x))
+      → SameWhere names ps (m >>= f) (ends (leave x))
   unfolding ends ◌>>=◌
-  same_stop f x {m = m} h = record { same = λ w. let a = h.same w in stopped f x (m w).0 (m w).1 (bare w) a.outcome a.world }
+  same_stop f x {m = m} h = record {
+    same = λ w. let a = h.same w in stopped f x (m w).0 (m w).1 (bare w) a.outcome a.world;
+    keeps = record {
+      still = λ w k lt. let a = h.same w in stopped_still ps f x (m w).0 (m w).1 k a.outcome ∙ h.keeps.still w k lt;
+    };
+  }
 
 -- loops and blocks
 
@@ -140,74 +161,82 @@ pub record TurnsAgree (ps : List Frame) (s : Step JumpLabel) (w : World RunTable
   pub world : bare w ≡ w'
 
 -- the turns of a loop that catches what it is to catch
-pub record SameTurns (ps : List Frame) (leaves : Outward JumpLabel) (m : StoreRun (Option Value))
+pub record SameTurns (names : ℕ) (ps : List Frame) (leaves : Outward JumpLabel) (m : StoreRun (Option Value))
     (n : SyntaxRun (Option Value)) : Type 0 where
   pub same : (w : World RunTable)
       → TurnsAgree ps (turn_end leaves (m w).0) (m w).1 (turn_end outward (n (bare w)).0) (n (bare w)).1
+  pub keeps : KeepsBelow names m
 
 -- To a loop a turn that runs the one is the other.
 pub record TurnsAlike (m : SyntaxRun Value) (n : SyntaxRun (Option Value)) : Type 0 where
   pub steps : (w : World (Unit {0})) → turn_end outward (turn m w).0 ≡ turn_end outward (n w).0
   pub worlds : (w : World (Unit {0})) → (turn m w).1 ≡ (n w).1
 
-module _ {ps : List Frame} where
-  pub same_turns : (x : Option Numbered) {m : StoreRun (Option Value)} {n : SyntaxRun (Option Value)} → SameWhere (loop_frame x ∷ ps) m n
-      → SameTurns ps (past_loop (number x)) m n
+module _ {names : ℕ} {ps : List Frame} where
+  pub same_turns : (x : Option Numbered) {m : StoreRun (Option Value)} {n : SyntaxRun (Option Value)}
+      → SameWhere names (loop_frame x ∷ ps) m n
+      → SameTurns names ps (past_loop (number x)) m n
   same_turns x {m = m} h = record {
     same = λ w. let a = h.same w in record {
       step = turn_ends x ps (m w).0 ∙ ap (turn_end outward) a.outcome;
       world = a.world;
     };
+    keeps = h.keeps;
   }
 
   pub same_turns_as : {leaves : Outward JumpLabel} {m : StoreRun (Option Value)} {n : SyntaxRun Value} {n' : SyntaxRun (Option Value)}
-      → TurnsAlike n n' → SameTurns ps leaves m (turn n) → SameTurns ps leaves m n'
+      → TurnsAlike n n' → SameTurns names ps leaves m (turn n) → SameTurns names ps leaves m n'
   same_turns_as alike h = record {
     same = λ w. let a = h.same w in record { step = a.step ∙ alike.steps (bare w); world = a.world ∙ alike.worlds (bare w) };
+    keeps = h.keeps;
   }
 
-  goes_same : {f : StoreRun Value} {g : SyntaxRun Value} → SameWhere ps f g → (s : Step JumpLabel) (w : World RunTable)
+  goes_same : {f : StoreRun Value} {g : SyntaxRun Value} → SameWhere names ps f g → (s : Step JumpLabel) (w : World RunTable)
       → let r = goes_on g (view_step ps s) (bare w) in Agrees ps (goes_on f s w).0 (goes_on f s w).1 r.0 r.1
   goes_same h again w = h.same w
   goes_same h (done o) w = record { outcome = refl; world = refl }
 
-  pub same_loop : {leaves : Outward JumpLabel} {m : StoreRun (Option Value)} {n : SyntaxRun (Option Value)} → SameTurns ps leaves m n
-      → (turns : ℕ) → SameWhere ps (loop leaves turns m) (loop outward turns n)
+  pub same_loop : {leaves : Outward JumpLabel} {m : StoreRun (Option Value)} {n : SyntaxRun (Option Value)} → SameTurns names ps leaves m n
+      → (turns : ℕ) → SameWhere names ps (loop leaves turns m) (loop outward turns n)
   unfolding loop
   same_loop h zero = same_ends (leave cut) refl
   same_loop {leaves = leaves} {m = m} {n = n} h (suc k) = record {
     same = λ w.
         let a = h.same w in
         agrees_as (λ s v. goes_on (loop outward k n) s v) a.step a.world (goes_same (same_loop h k) (turn_end leaves (m w).0) (m w).1);
+    keeps = keeps_loop leaves h.keeps (suc k);
   }
 
-  pub same_block : (n : Numbered) {m : StoreRun Value} {m' : SyntaxRun Value} → SameWhere (block_at n.label n.number ∷ ps) m m'
-      → SameWhere ps (block (past_block (Some n.number)) (λ j. j) m) (block outward continue_past_block m')
+  pub same_block : (n : Numbered) {m : StoreRun Value} {m' : SyntaxRun Value} → SameWhere names (block_at n.label n.number ∷ ps) m m'
+      → SameWhere names ps (block (past_block (Some n.number)) (λ j. j) m) (block outward continue_past_block m')
   unfolding block
   same_block n {m = m} h = record {
     same = λ w. let a = h.same w in record {
       outcome = block_ends n ps (m w).0 ∙ ap (block_end outward continue_past_block) a.outcome;
       world = a.world;
     };
+    keeps = keeps_block _ _ h.keeps;
   }
 
-  pub same_try : (n : LabelId) (typed : Bool) {m : StoreRun Value} {m' : SyntaxRun Value} → SameWhere (try_at n typed ∷ ps) m m'
-      → SameWhere ps (block (past_block (Some n)) (λ j. j) m) (block outward continue_past_block m')
+  pub same_try : (n : LabelId) (typed : Bool) {m : StoreRun Value} {m' : SyntaxRun Value} → SameWhere names (try_at n typed ∷ ps) m m'
+      → SameWhere names ps (block (past_block (Some n)) (λ j. j) m) (block outward continue_past_block m')
   unfolding block
   same_try n typed {m = m} h = record {
     same = λ w. let a = h.same w in record {
       outcome = try_ends n typed ps (m w).0 ∙ ap (block_end outward continue_past_block) a.outcome;
       world = a.world;
     };
+    keeps = keeps_block _ _ h.keeps;
   }
 
   -- a block without a label catches nothing
-  pub same_plain_block : {m : StoreRun Value} {m' : SyntaxRun Value} → SameWhere ps m m'
-      → SameWhere ps (block (past_block None) (λ j. j) m) m'
+  pub same_plain_block : {m : StoreRun Value} {m' : SyntaxRun Value} → SameWhere names ps m m'
+      → SameWhere names ps (block (past_block None) (λ j. j) m) m'
   unfolding block
   same_plain_block {m = m} h = record {
     same = λ w. let a = h.same w in record {
       outcome = ap (view ps) (plain_block_ends (m w).0) ∙ a.outcome;
       world = a.world;
     };
+    keeps = keeps_block _ _ h.keeps;
   }

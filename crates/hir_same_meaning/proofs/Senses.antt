@@ -16,9 +16,9 @@ use Rattle.hir_meaning.specs.Store.{StoreRun, run_or_unit, run_each, run_others,
 use Rattle.hir_scope.specs.Each.{Each, IfPresent}
 use Rattle.hir_meaning.specs.Jumps.{EachStatement, OthersEnclosed, StoredEnclosed, EnclosedTo}
 use Rattle.hir_steps.proofs.Frames.{Frame, scopes, Falls, falls_more}
-use Rattle.hir_steps.proofs.Steps.{Mark, Rel, AllocatedBy, Put}
+use Rattle.hir_steps.proofs.Steps.{Mark, Grows, Rel, AllocatedBy, Put}
 use Rattle.hir_same_meaning.proofs.Views.{numbers}
-use Rattle.hir_same_meaning.proofs.Relation.{SameWhere}
+use Rattle.hir_same_meaning.proofs.Relation.{SameWhere, same_fewer}
 
 -- a run of the syntax, with so many turns and under these scopes
 abbrev pub Walk : Type 0 → Type 0
@@ -60,23 +60,54 @@ contents final = record {
   Jumps = λ P r. EachStatement P r.0 × IfPresent P r.1;
 }
 
--- What stands at a is x, inside frames whose labels are below `labels`, where the store is looked into past `nodes`.
-pub record Goes {A B : Type 0} (labels nodes : ℕ) (r : Reading A B) (x : Walk B) (final : Stored) (ps : List Frame) (a : A) : Type 0 where
-  pub same : (turns d : ℕ) → nodes ≤ d → Falls labels ps → SameWhere ps (r.run turns (run_in final d turns) a) (x turns (scopes ps))
+-- how many labels and made names there are where something begins
+pub record Base : Type 0 where
+  pub labels : ℕ
+  pub names : ℕ
+
+abbrev pub base_of : Mark → Base
+base_of m = record { labels = m.labels; names = m.names }
+
+-- no more than there
+pub record Under (base' base : Base) : Type 0 where
+  pub labels : base'.labels ≤ base.labels
+  pub names : base'.names ≤ base.names
+
+pub under_grown : {m m' : Mark} → Grows m m' → Under (base_of m) (base_of m')
+under_grown g = record { labels = g.labels; names = g.names }
+
+pub under_refl : (base : Base) → Under base base
+under_refl base = record { labels = omega arith; names = omega arith }
+
+pub under_trans : {a b c : Base} → Under a b → Under b c → Under a c
+under_trans h k = record { labels = omega (arith, h.labels, k.labels); names = omega (arith, h.names, k.names) }
+
+-- What stands at a is x, inside frames whose labels are below those of the base, where the store is looked into past `nodes`. The made
+-- names of the base stand for what they did afterwards.
+pub record Goes {A B : Type 0} (base : Base) (nodes : ℕ) (r : Reading A B) (x : Walk B) (final : Stored) (ps : List Frame)
+    (a : A) : Type 0 where
+  pub same : (turns d : ℕ) → nodes ≤ d → Falls base.labels ps
+      → SameWhere base.names ps (r.run turns (run_in final d turns) a) (x turns (scopes ps))
   pub jumps : (d : ℕ) → nodes ≤ d → r.Jumps (EnclosedTo (store_of final) d (numbers ps)) a
 
 abbrev pub Runs : {A B : Type 0} → Reading A B → Walk B → Rel A
-Runs r x final ps m m' a = Goes m.labels m'.nodes r x final ps a
+Runs r x final ps m m' a = Goes (base_of m) m'.nodes r x final ps a
 
-pub record Wider (labels nodes labels' nodes' : ℕ) : Type 0 where
-  pub labels_from : labels' ≤ labels
+pub record Wider (base : Base) (nodes : ℕ) (base' : Base) (nodes' : ℕ) : Type 0 where
+  pub labels_from : base'.labels ≤ base.labels
+  pub names_from : base'.names ≤ base.names
   pub nodes_to : nodes ≤ nodes'
 
-pub goes_within : {A B : Type 0} {labels nodes labels' nodes' : ℕ} {r : Reading A B} {x : Walk B} {final : Stored} {ps : List Frame} {a : A}
-    → Wider labels nodes labels' nodes' → Goes labels nodes r x final ps a → Goes labels' nodes' r x final ps a
-goes_within {labels = labels} {labels' = labels'} {ps = ps} wide h = record {
-  same = λ turns d le f. h.same turns d (omega arith) (falls_more ps labels' labels wide.labels_from f);
-  jumps = λ d le. h.jumps d (omega arith);
+pub wider : {base base' : Base} {nodes nodes' : ℕ} → Under base' base → nodes ≤ nodes' → Wider base nodes base' nodes'
+wider u le = record { labels_from = u.labels; names_from = u.names; nodes_to = le }
+
+pub goes_within : {A B : Type 0} {base base' : Base} {nodes nodes' : ℕ} {r : Reading A B} {x : Walk B} {final : Stored}
+    {ps : List Frame} {a : A}
+    → Wider base nodes base' nodes' → Goes base nodes r x final ps a → Goes base' nodes' r x final ps a
+goes_within {base = base} {base' = base'} {ps = ps} wide h = record {
+  same = λ turns d le f. same_fewer wide.names_from
+      (h.same turns d (omega (arith, le, wide.nodes_to)) (falls_more ps base'.labels base.labels wide.labels_from f));
+  jumps = λ d le. h.jumps d (omega (arith, le, wide.nodes_to));
 }
 
 -- where its parts' jumps are for what encloses them
@@ -89,17 +120,17 @@ enclosed_at at ls jumps zero le = tt
 enclosed_at at ls jumps (suc d) le = rw (at.number, at.here) (jumps d (omega (arith, at.next)))
 
 -- an expression that was stored under the number from
-pub goes_at : {labels : ℕ} {m m' : Mark} {e : Expr} {source : Option Pointer} {x : Walk Value} {final : Stored} {ps qs : List Frame}
+pub goes_at : {base : Base} {m m' : Mark} {e : Expr} {source : Option Pointer} {x : Walk Value} {final : Stored} {ps qs : List Frame}
     {i : ExprId} {put : Put} → AllocatedBy put e source final qs m m' i
-    → ((turns d : ℕ) → m.nodes ≤ d → Falls labels ps
-    → SameWhere ps (node_in final d turns e (option_map site_of source)) (x turns (scopes ps)))
+    → ((turns d : ℕ) → m.nodes ≤ d → Falls base.labels ps
+    → SameWhere base.names ps (node_in final d turns e (option_map site_of source)) (x turns (scopes ps)))
     → ((d : ℕ) → m.nodes ≤ d → StoredEnclosed (store_of final) (EnclosedTo (store_of final) d) (numbers ps) e)
-    → Goes labels m'.nodes one x final ps i
+    → Goes base m'.nodes one x final ps i
 unfolding run_to EnclosedTo
-goes_at {labels = labels} {m = m} {m' = m'} {x = x} {final = final} {ps = ps} {i = i} at same jumps =
+goes_at {base = base} {m = m} {m' = m'} {x = x} {final = final} {ps = ps} {i = i} at same jumps =
     record { same = λ turns d le f. at_depth turns d le f; jumps = jumps_at }
   where
-    at_depth : (turns d : ℕ) → m'.nodes ≤ d → Falls labels ps → SameWhere ps (run_in final d turns i) (x turns (scopes ps))
+    at_depth : (turns d : ℕ) → m'.nodes ≤ d → Falls base.labels ps → SameWhere base.names ps (run_in final d turns i) (x turns (scopes ps))
     at_depth turns zero le f = absurd (omega (arith, at.next))
     at_depth turns (suc d) le f = rw (at.number, at.here, at.from) (same turns d (omega (arith, at.next)) f)
 

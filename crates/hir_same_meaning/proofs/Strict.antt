@@ -16,6 +16,7 @@ use Rattle.hir_meaning.specs.Store.{StoreRun, run_stored}
 use Rattle.hir_meaning.specs.Jumps.{StoredEnclosed, EnclosedTo}
 use Rattle.hir_same_meaning.proofs.Views.{numbers}
 use Rattle.hir_same_meaning.proofs.Relation.{SameWhere, same_ends, same_bind, same_ask, same_made_tuple}
+use Rattle.hir_same_meaning.proofs.Senses.{Base}
 use Rattle.hir_same_meaning.proofs.Senses.{Walk, Reading, run_in, one, Goes, Runs, goes_within, goes_at}
 
 -- where a stored expression is run: what runs its parts, and its site
@@ -63,27 +64,27 @@ event0_fine {e = e} {o = o} at is = correct_as (correct_alloc e (Some at)) (λ f
 pub record Finish (B : Type 0) : Type 1 where
   pub stored : B → Option Site → StoreRun Value
   pub written : B → Option Site → SyntaxRun Value
-  pub same : (ps : List Frame) (b : B) (site : Option Site) → SameWhere ps (stored b site) (written b site)
+  pub same : (names : ℕ) (ps : List Frame) (b : B) (site : Option Site) → SameWhere names ps (stored b site) (written b site)
 
 abbrev pub asks : {B : Type 0} → Operation → (B → List Value) → Finish B
 asks o values = record {
   stored = λ b site. ask o (values b) site;
   written = λ b site. ask o (values b) site;
-  same = λ ps b site. same_ask o (values b) site;
+  same = λ names ps b site. same_ask o (values b) site;
 }
 
 abbrev pub leaves : (Value → Leave) → Finish Value
 leaves x = record {
   stored = λ v site. ends (leave (x v));
   written = λ v site. ends (leave (x v));
-  same = λ ps v site. same_ends (leave (x v)) refl;
+  same = λ names ps v site. same_ends (leave (x v)) refl;
 }
 
 abbrev pub makes_tuple : Finish (List Value)
 makes_tuple = record {
   stored = λ vs site. made_tuple vs site;
   written = λ vs site. made_tuple vs site;
-  same = λ ps vs site. same_made_tuple vs site;
+  same = λ names ps vs site. same_made_tuple vs site;
 }
 
 pub record Form1 {A B : Type 0} (e : A → Expr) (r : Reading A B) (f : Finish B) : Type 1 where
@@ -94,12 +95,12 @@ pub record Form1 {A B : Type 0} (e : A → Expr) (r : Reading A B) (f : Finish B
 abbrev pub finished : {B : Type 0} → Pointer → Walk B → Finish B → Walk Value
 finished at x f turns ss = x turns ss >>= (λ b. f.written b (Some (site_of at)))
 
-pub goes1 : {A B : Type 0} {e : A → Expr} {r : Reading A B} {f : Finish B} {x : Walk B} {at : Pointer} {labels : ℕ} {m m' : Mark}
-    {final : Stored} {ps qs : List Frame} {a : A} {i : ExprId} → Form1 e r f → Goes labels m.nodes r x final ps a
-    → Allocated (e a) (Some at) final qs m m' i → Goes labels m'.nodes one (finished at x f) final ps i
-goes1 {f = f} {at = at} {final = final} {ps = ps} {a = a} is h here = goes_at here
+pub goes1 : {A B : Type 0} {e : A → Expr} {r : Reading A B} {f : Finish B} {x : Walk B} {at : Pointer} {base : Base} {m m' : Mark}
+    {final : Stored} {ps qs : List Frame} {a : A} {i : ExprId} → Form1 e r f → Goes base m.nodes r x final ps a
+    → Allocated (e a) (Some at) final qs m m' i → Goes base m'.nodes one (finished at x f) final ps i
+goes1 {f = f} {at = at} {base = base} {final = final} {ps = ps} {a = a} is h here = goes_at here
     (λ turns d le falls. rw (is.runs (looked_into final d turns at) a)
-    (same_bind (h.same turns d le falls) (λ b. f.same ps b (Some (site_of at)))))
+    (same_bind (h.same turns d le falls) (λ b. f.same base.names ps b (Some (site_of at)))))
     (λ d le. is.jumps (store_of final) (EnclosedTo (store_of final) d) (numbers ps) a (h.jumps d le))
 
 pub form1_fine : {A B : Type 0} {e : A → Expr} {r : Reading A B} {f : Finish B} {p : Lowering A} {x : Walk B} (at : Pointer) → Form1 e r f

@@ -43,7 +43,8 @@ use Rattle.hir_meaning.specs.Syntax.{SyntaxRun, if_read}
 use Rattle.hir_scope.specs.Each.{Each}
 use Rattle.hir_scope.specs.Scopes.{Scope}
 use Rattle.hir_same_meaning.proofs.Views.{numbers}
-use Rattle.hir_same_meaning.proofs.Relation.{SameWhere, same_pure, same_bind, same_assigns}
+use Rattle.hir_same_meaning.proofs.Relation.{SameWhere, same_fewer, same_pure, same_bind, same_assigns}
+use Rattle.hir_same_meaning.proofs.Senses.{Base, Under, base_of, under_grown, under_trans}
 use Rattle.hir_same_meaning.proofs.Senses.{Walk, run_in, one, Goes, Runs, goes_within, goes_at}
 use Rattle.hir_same_meaning.proofs.Forms.{Pushed, pushed_one}
 
@@ -52,10 +53,10 @@ abbrev pub Placing : Type 0
 Placing = ℕ → List Scope → SyntaxRun (List Value) → SyntaxRun (List Value)
 
 -- These expressions before others run as these places do before others.
-pub record Put (labels nodes : ℕ) (x : Placing) (final : Stored) (ps : List Frame) (put : List ExprId → List ExprId) : Type 0 where
-  pub same : (turns d : ℕ) → nodes ≤ d → Falls labels ps → (is : List ExprId) (m : SyntaxRun (List Value))
-      → SameWhere ps (run_each turns (run_in final d turns) is) m
-      → SameWhere ps (run_each turns (run_in final d turns) (put is)) (x turns (scopes ps) m)
+pub record Put (base : Base) (nodes : ℕ) (x : Placing) (final : Stored) (ps : List Frame) (put : List ExprId → List ExprId) : Type 0 where
+  pub same : (turns d : ℕ) → nodes ≤ d → Falls base.labels ps → (names : ℕ) → names ≤ base.names → (is : List ExprId)
+      (m : SyntaxRun (List Value)) → SameWhere names ps (run_each turns (run_in final d turns) is) m
+      → SameWhere names ps (run_each turns (run_in final d turns) (put is)) (x turns (scopes ps) m)
   pub jumps : (d : ℕ) → nodes ≤ d → (is : List ExprId) → Each (EnclosedTo (store_of final) d (numbers ps)) is
       → Each (EnclosedTo (store_of final) d (numbers ps)) (put is)
 
@@ -65,41 +66,42 @@ nothing turns ss m = m
 abbrev both : Placing → Placing → Placing
 both x y turns ss m = x turns ss (y turns ss m)
 
-pub put_nothing : {labels nodes : ℕ} {final : Stored} {ps : List Frame} → Put labels nodes nothing final ps (λ is. is)
-put_nothing = record { same = λ turns d le f is m h. h; jumps = λ d le is h. h }
+pub put_nothing : {base : Base} {nodes : ℕ} {final : Stored} {ps : List Frame} → Put base nodes nothing final ps (λ is. is)
+put_nothing = record { same = λ turns d le f names few is m h. h; jumps = λ d le is h. h }
 
-put_both : {labels nodes : ℕ} {final : Stored} {ps : List Frame} {x y : Placing} {f g : List ExprId → List ExprId}
-    → Put labels nodes x final ps f → Put labels nodes y final ps g → Put labels nodes (both x y) final ps (λ is. f (g is))
+put_both : {base : Base} {nodes : ℕ} {final : Stored} {ps : List Frame} {x y : Placing} {f g : List ExprId → List ExprId}
+    → Put base nodes x final ps f → Put base nodes y final ps g → Put base nodes (both x y) final ps (λ is. f (g is))
 put_both h k = record {
-  same = λ turns d le f is m s. h.same turns d le f _ _ (k.same turns d le f is m s);
+  same = λ turns d le f names few is m s. h.same turns d le f names few _ _ (k.same turns d le f names few is m s);
   jumps = λ d le is s. h.jumps d le _ (k.jumps d le is s);
 }
 
-put_within : {labels nodes labels' nodes' : ℕ} {final : Stored} {ps : List Frame} {x : Placing} {f : List ExprId → List ExprId}
-    → labels' ≤ labels → nodes ≤ nodes' → Put labels nodes x final ps f → Put labels' nodes' x final ps f
-put_within {labels = labels} {labels' = labels'} {ps = ps} le le' h = record {
-  same = λ turns d ge f is m s. h.same turns d (omega (ge, le', arith)) (falls_more ps labels' labels le f) is m s;
+put_within : {base base' : Base} {nodes nodes' : ℕ} {final : Stored} {ps : List Frame} {x : Placing} {f : List ExprId → List ExprId}
+    → Under base' base → nodes ≤ nodes' → Put base nodes x final ps f → Put base' nodes' x final ps f
+put_within {base = base} {base' = base'} {ps = ps} le le' h = record {
+  same = λ turns d ge f names few is m s. h.same turns d (omega (ge, le', arith)) (falls_more ps base'.labels base.labels le.labels f)
+      names (omega (few, le.names, arith)) is m s;
   jumps = λ d ge is s. h.jumps d (omega (ge, le', arith)) is s;
 }
 
 -- looked into past the patterns that are stored by then
 pub record PlacesAre (x : Placing) (final : Stored) (ps : List Frame) (m m' : Mark) (i : PatId) : Type 0 where
-  pub put : (c : ℕ) → m'.pats ≤ c → Put m.labels m'.nodes x final ps (places_to (store_of final) c i)
+  pub put : (c : ℕ) → m'.pats ≤ c → Put (base_of m) m'.nodes x final ps (places_to (store_of final) c i)
 
 -- one that was stored under the number from
 places_at : {p : HirPat} {source : Option Pointer} {x : Placing} {final : Stored} {ps qs : List Frame} {m0 m m' : Mark} {i : PatId}
     → AllocatedPat p source final qs m m' i
-    → ((c : ℕ) → m.pats ≤ c → Put m0.labels m'.nodes x final ps (places_in (places_to (store_of final) c) p))
+    → ((c : ℕ) → m.pats ≤ c → Put (base_of m0) m'.nodes x final ps (places_in (places_to (store_of final) c) p))
     → PlacesAre x final ps m0 m' i
 unfolding places_to
 places_at {p = p} {x = x} {final = final} {ps = ps} {m0 = m0} {m' = m'} {i = i} at h = record { put = by }
   where
-    by : (c : ℕ) → m'.pats ≤ c → Put m0.labels m'.nodes x final ps (places_to (store_of final) c i)
+    by : (c : ℕ) → m'.pats ≤ c → Put (base_of m0) m'.nodes x final ps (places_to (store_of final) c i)
     by zero le = absurd (omega (arith, le, at.next))
     by (suc c) le =
         let found : (is : List ExprId) → places_to (store_of final) (suc c) i is ≡ places_in (places_to (store_of final) c) p is
         = λ is. rw (at.number, at.here) refl in
-        subst (λ k. Put m0.labels m'.nodes x final ps k) (λ j is. sym (found is) j) (h c (omega (arith, le, at.next)))
+        subst (λ k. Put (base_of m0) m'.nodes x final ps k) (λ j is. sym (found is) j) (h c (omega (arith, le, at.next)))
 
 -- ---- without places
 
@@ -108,7 +110,7 @@ without : (p : HirPat) (source : Option Pointer)
     → Correct (alloc_pat p source) (PlacesAre nothing)
 without p source e = correct_as (correct_alloc_pat p source)
     (λ final ps m m' i g at. places_at at (λ c le. record {
-      same = λ turns d ge f is n h. rw (e (places_to (store_of final) c) is) h;
+      same = λ turns d ge f names few is n h. rw (e (places_to (store_of final) c) is) h;
       jumps = λ d ge is h. rw (e (places_to (store_of final) c) is) h;
     }))
 
@@ -139,8 +141,9 @@ pub place_places : (at : Pointer) {e : ExprSteps} {x : Walk Value} → Correct e
 unfolding forms.place_form
 place_places at h = correct_as (correct_bind h (λ e. correct_alloc_pat (pat.Expr e) (Some at)))
     (λ final ps m m' i g row. places_at row.second (λ c le.
-    let e = goes_within {labels' = m.labels} {nodes' = m'.nodes} (omega arith) row.first in record {
-      same = λ turns d ge f is n s. same_bind (e.same turns d ge f) (λ v. same_bind s (λ vs. same_pure (v ∷ vs)));
+    let e = goes_within {base' = base_of m} {nodes' = m'.nodes} (omega arith) row.first in record {
+      same = λ turns d ge f names few is n s. same_bind (same_fewer few (e.same turns d ge f))
+          (λ v. same_bind s (λ vs. same_pure (v ∷ vs)));
       jumps = λ d ge is s. (e.jumps d ge, s);
     }))
 
@@ -149,7 +152,7 @@ place_places at h = correct_as (correct_bind h (λ e. correct_alloc_pat (pat.Exp
 pub record ElementsPlace (done : Elements) (x : Placing) (final : Stored) (ps : List Frame) (m m' : Mark) (r : Elements) : Type 0 where
   pub new : List PatId
   pub is : r.0 ≡ done.0 ++ new
-  pub put : (c : ℕ) → m'.pats ≤ c → Put m.labels m'.nodes x final ps (places_in_each (places_to (store_of final) c) new)
+  pub put : (c : ℕ) → m'.pats ≤ c → Put (base_of m) m'.nodes x final ps (places_in_each (places_to (store_of final) c) new)
 
 pub none_place : (done : Elements) → Correct (pure done) (ElementsPlace done nothing)
 none_place done = correct_as (correct_pure done) (λ final ps m m' r g row. rw row.is (record {
@@ -208,14 +211,14 @@ found_places : (y : Option PathRead) {x : Placing} {q : Lowering (Option HirPath
     → ((o : HirPath) → Correct (g (Some o)) (PlacesAre x))
     → Correct (◌then◌ q g) (PlacesAre (λ turns ss m. if_read y (x turns ss m) m))
 found_places y {x = x} hq g none' some' = correct_as (correct_bind hq found)
-    (λ final ps m m' i u row. join final ps m row.middle m' y row.one i row.first.is row.second row.before.labels)
+    (λ final ps m m' i u row. join final ps m row.middle m' y row.one i row.first.is row.second (under_grown row.before))
   where
     found : (o : Option HirPath) → Correct (g o) (Found o x)
     found None = none'
     found (Some o) = some' o
 
     join : (final : Stored) (ps : List Frame) (m n m' : Mark) (y : Option PathRead) (o : Option HirPath) (i : PatId)
-        → Answers final n.entries y o → Found o x final ps n m' i → m.labels ≤ n.labels
+        → Answers final n.entries y o → Found o x final ps n m' i → Under (base_of m) (base_of n)
         → PlacesAre (λ turns ss v. if_read y (x turns ss v) v) final ps m m' i
     join final ps m n m' None None i a h le = record { put = λ c ge. put_within le (omega arith) (h.put c ge) }
     join final ps m n m' None (Some o) i a h le = absurd a
@@ -237,7 +240,7 @@ call_places {x = x} {p = p} y at hq h = found_places y hq (forms.call_target_of 
 
 -- the dots of an array hold no place
 record RestIs (final : Stored) (ps : List Frame) (m m' : Mark) (o : Option PatId) : Type 0 where
-  put : (c : ℕ) → m'.pats ≤ c → Put m.labels m'.nodes nothing final ps (places_in_present (places_to (store_of final) c) o)
+  put : (c : ℕ) → m'.pats ≤ c → Put (base_of m) m'.nodes nothing final ps (places_in_present (places_to (store_of final) c) o)
 
 rest_places : (dots : Option Pointer) → Correct (forms.rest_target dots) RestIs
 rest_places None = correct_as (correct_pure None) (λ final ps m m' o g row. rw row.is (record { put = λ c le. put_nothing }))
@@ -255,8 +258,8 @@ array_places at dots h k = correct_as (correct_bind h (λ b. correct_bind k (λ 
     (put_within (omega arith) (omega (s.before.nodes, u.before.nodes, u.after.nodes, arith)) (b.put c
     (omega (le, s.before.pats, u.before.pats, arith))))
     (put_both
-    (put_within (omega (row.before.labels, s.before.labels, arith)) (omega (u.after.nodes, arith)) (u.first.put c le))
-    (put_within row.before.labels (omega (u.before.nodes, u.after.nodes, arith)) (a.put c (omega (le, u.before.pats, arith))))))))
+    (put_within (under_trans (under_grown row.before) (under_grown s.before)) (omega (u.after.nodes, arith)) (u.first.put c le))
+    (put_within (under_grown row.before) (omega (u.before.nodes, u.after.nodes, arith)) (a.put c (omega (le, u.before.pats, arith))))))))
 
 -- ---- fields of a record
 
@@ -265,10 +268,10 @@ places_in_field part None is = is
 places_in_field part (Some f) is = part f.pat is
 
 pub record FieldPlace (x : Placing) (final : Stored) (ps : List Frame) (m m' : Mark) (o : Option RecordFieldPat) : Type 0 where
-  pub put : (c : ℕ) → m'.pats ≤ c → Put m.labels m'.nodes x final ps (places_in_field (places_to (store_of final) c) o)
+  pub put : (c : ℕ) → m'.pats ≤ c → Put (base_of m) m'.nodes x final ps (places_in_field (places_to (store_of final) c) o)
 
 pub record FieldsPlace (x : Placing) (final : Stored) (ps : List Frame) (m m' : Mark) (fs : List RecordFieldPat) : Type 0 where
-  pub put : (c : ℕ) → m'.pats ≤ c → Put m.labels m'.nodes x final ps (places_in_fields (places_to (store_of final) c) fs)
+  pub put : (c : ℕ) → m'.pats ≤ c → Put (base_of m) m'.nodes x final ps (places_in_fields (places_to (store_of final) c) fs)
 
 pub no_field : Correct (pure None) (FieldPlace nothing)
 no_field = correct_as (correct_pure None) (λ final ps m m' o g row. rw row.is (record { put = λ c le. put_nothing }))
@@ -276,7 +279,7 @@ no_field = correct_as (correct_pure None) (λ final ps m m' o g row. rw row.is (
 -- one that is left out
 pub disabled_place : (at : Pointer) (by : CfgId) → Correct (◌then◌ (report (InactiveCode at by)) (λ u. pure None)) (FieldPlace nothing)
 disabled_place at by = correct_as (correct_bind (correct_report (InactiveCode at by)) (λ u. no_field))
-    (λ final ps m m' o g row. record { put = λ c le. put_within row.before.labels (omega arith) (row.second.put c le) })
+    (λ final ps m m' o g row. record { put = λ c le. put_within (under_grown row.before) (omega arith) (row.second.put c le) })
 
 pub nameless_place : {p : Lowering PatId} (at : Pointer) → Correct p Any
     → Correct (forms.target_field_form at None p) (FieldPlace nothing)
@@ -308,7 +311,7 @@ field_before {x = x} {y = y} h hs done = correct_as (correct_bind h (λ o. hs (p
       is = rest.is;
       rel = record {
         put = λ c le. put_both (put_within (omega arith) g'.nodes (one.put c (omega (le, g'.pats, arith))))
-            (put_within g.labels (omega arith) (rest.rel.put c le));
+            (put_within (under_grown g) (omega arith) (rest.rel.put c le));
       };
     }
     go final ps m n m' r (Some f) one rest g g' = record {
@@ -316,7 +319,7 @@ field_before {x = x} {y = y} h hs done = correct_as (correct_bind h (λ o. hs (p
       is = pushed_one done f rest.new rest.is;
       rel = record {
         put = λ c le. put_both (put_within (omega arith) g'.nodes (one.put c (omega (le, g'.pats, arith))))
-            (put_within g.labels (omega arith) (rest.rel.put c le));
+            (put_within (under_grown g) (omega arith) (rest.rel.put c le));
       };
     }
 
@@ -335,7 +338,7 @@ record_places {x = x} {p = p} y at dots spread hq h =
     there o = correct_as (correct_bind (spread_any spread) (λ u. correct_bind h
         (λ fs. correct_alloc_pat (pat.Record o fs dots) (Some at))))
         (λ final ps m m' i g row. let s = row.second in let e = s.first in
-        places_at s.second (λ c le. rw e.is (put_within row.before.labels s.after.nodes (e.rel.put c le))))
+        places_at s.second (λ c le. rw e.is (put_within (under_grown row.before) s.after.nodes (e.rel.put c le))))
 
 -- ---- assignments
 
@@ -343,13 +346,14 @@ abbrev pub assigned : Pointer → PatData → Placing → Walk Value → Walk Va
 assigned at d y x turns ss = x turns ss
     >>= (λ w. y turns ss (gives []) >>= (λ ws. assigns d (w ∷ ws) (Some (site_of at))))
 
-goes_assign : {labels : ℕ} {m m' : Mark} {at : Pointer} {final : Stored} {ps qs : List Frame} {i e : ExprId} {x : Walk Value} {y : Placing}
+goes_assign : {base : Base} {m m' : Mark} {at : Pointer} {final : Stored} {ps qs : List Frame} {i e : ExprId} {x : Walk Value} {y : Placing}
     (p : PatId) (d : PatData) → stored_pat (store_of final) (map_of final) p ≡ d
-    → Put labels m.nodes y final ps (places (store_of final) p) → Goes labels m.nodes one x final ps e
-    → Allocated (hir.Assignment p e) (Some at) final qs m m' i → Goes labels m'.nodes one (assigned at d y x) final ps i
-goes_assign {labels = labels} {m' = m'} {at = at} {final = final} {ps = ps} {i = i} {x = x} {y = y} p d is put h a =
-    subst (λ k. Goes labels m'.nodes one (assigned at k y x) final ps i) is (goes_at a
-    (λ turns n le f. same_bind (h.same turns n le f) (λ w. same_bind (put.same turns n le f [] (gives []) (same_pure []))
+    → Put base m.nodes y final ps (places (store_of final) p) → Goes base m.nodes one x final ps e
+    → Allocated (hir.Assignment p e) (Some at) final qs m m' i → Goes base m'.nodes one (assigned at d y x) final ps i
+goes_assign {base = base} {m' = m'} {at = at} {final = final} {ps = ps} {i = i} {x = x} {y = y} p d is put h a =
+    subst (λ k. Goes base m'.nodes one (assigned at k y x) final ps i) is (goes_at a
+    (λ turns n le f. same_bind (h.same turns n le f) (λ w. same_bind (put.same turns n le f base.names (omega arith) [] (gives [])
+    (same_pure []))
     (λ ws. same_assigns (stored_pat (store_of final) (map_of final) p) (w ∷ ws) (Some (site_of at)))))
     (λ n le. (h.jumps n le, put.jumps n le [] tt)))
 

@@ -1,5 +1,6 @@
 -- What a `try` becomes runs as it is written, with a written type and without.
-use Rattle.std.proofs.Common.{◌≡◌, refl, ap, subst, ℕ, ◌≤◌, Bool, false, List, [], ◌∷◌, Option, Some, None, arith}
+use Rattle.std.proofs.Common.{◌≡◌, ◌∙◌, refl, ap, subst, ℕ, ◌≤◌, Bool, false, List, [], ◌∷◌, Option, Some, None, arith}
+use Rattle.hir_binding.specs.declared.binding.BindingAnnotation.TheVariants.{Unannotated}
 use Rattle.hir_store.specs.Pointers.{Pointer}
 use Rattle.hir_store.specs.Stored.{Stored, store_of, map_of}
 use Rattle.hir_store.specs.declared.hir.Expr.TheVariants as hir
@@ -40,8 +41,10 @@ use Rattle.hir_same_meaning.proofs.Forms.{BlockRel, falls_try}
 use Rattle.hir_same_meaning.proofs.Knowing.{GoesKnowing, SameKnowing, known_path, known_within}
 use Rattle.hir_same_meaning.proofs.Nodes
 use Rattle.hir_same_meaning.proofs.Questions.{made_call_goes, made_item_goes, with_it}
+use Rattle.hir_same_meaning.proofs.NamesKept.{other_name}
 use Rattle.hir_same_meaning.proofs.Relation.{SameWhere, same_bind, same_event, same_plain_block}
 use Rattle.hir_same_meaning.proofs.Rows.{stored_pure, stored_row}
+use Rattle.hir_same_meaning.proofs.Senses.{Base, base_of, under_grown, under_refl, under_trans, wider}
 use Rattle.hir_same_meaning.proofs.Senses.{Goes, Runs, Walk, enclosed_at, goes_at, goes_within, one, optional}
 use Rattle.hir_same_meaning.proofs.Unmade.{all_of, made_whole}
 use Rattle.hir_same_meaning.proofs.Views.{numbers}
@@ -54,8 +57,8 @@ module _ (at : Pointer) where
 
   -- the value of the tail, or unit
   record ValueIs (tail : Option ExprId) (final : Stored) (ps : List Frame) (m m' : Mark) (i : ExprId) : Type 0 where
-    goes : (labels nodes : ℕ) → nodes ≤ m.nodes → (qs : List Frame) (y : Walk Value) → Goes labels nodes optional y final qs tail
-        → Goes labels m'.nodes one y final qs i
+    goes : (base : Base) (nodes : ℕ) → nodes ≤ m.nodes → (qs : List Frame) (y : Walk Value) → Goes base nodes optional y final qs tail
+        → Goes base m'.nodes one y final qs i
     jumps : (nodes : ℕ) → nodes ≤ m.nodes → (ls : List LabelId)
         → ((d : ℕ) → nodes ≤ d → IfPresent (EnclosedTo (store_of final) d ls) tail)
         → (d : ℕ) → m'.nodes ≤ d → EnclosedTo (store_of final) d ls i
@@ -63,35 +66,36 @@ module _ (at : Pointer) where
   value_is : (tail : Option ExprId) → Correct (value_or_unit at tail) (ValueIs tail)
   unfolding value_or_unit ends ◌>>=◌
   value_is (Some e) = correct_as (correct_pure e) (λ final ps m m' i g row. rw (row.is, row.still) (record {
-    goes = λ labels nodes le qs y h. record {
+    goes = λ base nodes le qs y h. record {
       same = λ turns d ge f. h.same turns d (omega (arith, le, ge)) f;
       jumps = λ d ge. h.jumps d (omega (arith, le, ge));
     };
     jumps = λ nodes le ls h d ge. h d (omega (arith, le, ge));
   }))
   value_is None = correct_as (correct_alloc_made (hir.Tuple []) (Some at)) (λ final ps m m' i g row. record {
-    goes = λ labels nodes le qs y h. goes_at row
-        (λ turns d ge f. record { same = λ w. (h.same turns d (omega (arith, le, ge)) f).same w }) (λ d ge. tt);
+    goes = λ base nodes le qs y h. goes_at row
+        (λ turns d ge f. let k = h.same turns d (omega (arith, le, ge)) f in
+        record { same = λ w. k.same w; keeps = record { still = λ w. k.keeps.still w } }) (λ d ge. tt);
     jumps = λ nodes le ls h. enclosed_at row ls (λ d ge. tt);
   })
 
   -- the value goes through a call of the item, wherever it is looked at
   record Wrapped (o : Option LangItemId) (tail : Option ExprId) (final : Stored) (ps : List Frame) (m m' : Mark) (i : ExprId)
       : Type 0 where
-    closes : (labels nodes : ℕ) → nodes ≤ m.nodes → (qs : List Frame)
-        → Closing labels nodes m'.nodes (through o here) final qs tail (Some i)
+    closes : (base : Base) (nodes : ℕ) → nodes ≤ m.nodes → (qs : List Frame)
+        → Closing base nodes m'.nodes (through o here) final qs tail (Some i)
 
   wrapped_is : (o : Option LangItemId) (tail : Option ExprId) → Correct (wrapped_form at o tail) (Wrapped o tail)
   unfolding wrapped_form
   wrapped_is o tail = correct_as (correct_bind (correct_alloc_made (item_or_missing o) (Some at))
       (λ f. correct_bind (value_is tail) (λ v. correct_alloc_made (made_call f v) (Some at))))
       (λ final ps m m' i g row. let s = row.second in record {
-        closes = λ labels nodes le qs.
-            let f = made_item_goes {labels = labels} {ps = qs} o row.first in
-            let callee = goes_within (record { labels_from = omega arith; nodes_to = s.before.nodes }) f in
+        closes = λ base nodes le qs.
+            let f = made_item_goes {base = base} {ps = qs} o row.first in
+            let callee = goes_within (wider (under_refl base) s.before.nodes) f in
             let past : nodes ≤ row.middle.nodes = omega (arith, le, row.before.nodes) in record {
               same = λ turns d ge falls y h.
-                  (made_call_goes o callee (s.first.goes labels nodes past qs y h) s.second).same turns d ge falls;
+                  (made_call_goes o callee (s.first.goes base nodes past qs y h) s.second).same turns d ge falls;
               jumps = λ h. enclosed_at s.second (numbers qs)
                   (λ d ge. (callee.jumps d ge, (s.first.jumps nodes past (numbers qs) h d ge, tt)));
             };
@@ -114,28 +118,35 @@ module _ (at : Pointer) where
       (λ final ps m m' i g row.
       let r = row.one in let inner = row.first in let held = inner.second in let s = row.second in
       let frame = try_at row.number typed in
-      let labels = row.entered.labels in
+      let base = base_of row.entered in
       let new = held.new in
-      let closing = s.first.closes labels row.left.nodes (omega arith) (frame ∷ ps) in
+      let closing = s.first.closes base row.left.nodes (omega arith) (frame ∷ ps) in
       let contents = contents_close (through o here) ss e new r.1 (Some s.one) s.before.nodes
-      (subst (λ ks. Closing labels row.left.nodes s.middle.nodes (through o here) final (frame ∷ ps) (settled ks r.1).1 (Some s.one))
+      (subst (λ ks. Closing base row.left.nodes s.middle.nodes (through o here) final (frame ∷ ps) (settled ks r.1).1 (Some s.one))
       held.is closing)
-      (held.rel labels row.left.nodes inner.before.labels (omega arith)) in
-      Nodes.goes_try {labels' = labels} number row.number typed (falls_try m.labels labels row.number typed ps row.new row.labels) contents
+      (held.rel base row.left.nodes (under_grown inner.before) (omega arith)) in
+      Nodes.goes_try {base' = base} number row.number typed (falls_try m.labels row.entered.labels row.number typed ps row.new row.labels)
+      (omega (arith, row.names)) contents
       (subst (λ ks. Allocated (settled_block false (Some row.number) number ((settled ks r.1).0, Some s.one)) (Some at) final ps
       s.middle m' i) held.is s.second))
 
 -- ---- with one
 
-module _ {n : ℕ} {ps : List Frame} {m : StoreRun Value} (h : (v : Value) → SameKnowing n v ps m (pure v)) where
-  taken : (t : Bool) (v : Value) → SameWhere ps ((takes n v >>= (λ u. pure t)) >>= (λ holds. m)) (pure v)
+module _ {n names : ℕ} (le : names ≤ n) {ps : List Frame} {m : StoreRun Value} (h : (v : Value) → SameKnowing n v ps m (pure v)) where
+  taken : (t : Bool) (v : Value) → SameWhere names ps ((takes n v >>= (λ u. pure t)) >>= (λ holds. m)) (pure v)
   unfolding ends ◌>>=◌ takes
-  taken t v = record { same = λ w. (h v).same (record w { table = with_name n v w.table }) (with_it n v w.table) }
+  taken t v = record {
+    same = λ w. (h v).same (record w { table = with_name n v w.table }) (with_it n v w.table);
+    keeps = record {
+      still = λ w k lt. (h v).keeps.still (record w { table = with_name n v w.table }) k (omega (arith, lt, le))
+          ∙ other_name n v w.table k le lt;
+    };
+  }
 
   -- the name takes what the `let` is answered
   bound_by : (a : Option ℕ) → a ≡ Some n → (d : PatData) → d ≡ made_pattern → (x : OptionTypeData) (t : TypeData) → x ≡ some_type t
       → (v : Value)
-      → SameWhere ps (binds_or_takes a d x (v ∷ []) >>= (λ holds. m))
+      → SameWhere names ps (binds_or_takes a d x (v ∷ []) >>= (λ holds. m))
       (event (bound unnamed_pattern (some_type t)) (v ∷ []) None >>= (λ k. pure (answered k.value)))
   bound_by a e d is x t same v = rw (e, is, same) (stored_row (event (bound unnamed_pattern (some_type t)) (v ∷ []) None)
       (λ k. takes n (answered k.value) >>= (λ u. pure k.yes)) (λ holds. m)
@@ -146,19 +157,19 @@ type_of : (final : Stored) (i : TypeRefId) (x : TypeData) → stored_type (store
 unfolding stored_type stored_option_type
 type_of final i x e = ap some_type e
 
-whole_of : (final : Stored) (n : ℕ) (p : PatId) → BindsMade n final p → made_whole final p ≡ Some n
+pub whole_of : (final : Stored) (n : ℕ) (p : PatId) → BindsMade n final p → made_whole final p ≡ Some n
 whole_of final n p b = rw (b.here, b.found) refl
 
 module _ (at : Pointer) where
-  goes_typed : {labels : ℕ} {m m' : Mark} {final : Stored} {ps qs : List Frame} {i b e : ExprId} {put : Put} {x : Walk Value}
+  goes_typed : {base : Base} {m m' : Mark} {final : Stored} {ps qs : List Frame} {i b e : ExprId} {put : Put} {x : Walk Value}
       (n : ℕ) (p : PatId) (t : TypeRefId) (y : TypeData) → BindsMade n final p
       → stored_pat (store_of final) (map_of final) p ≡ made_pattern → stored_type (store_of final) (map_of final) t ≡ y
-      → Goes labels m.nodes one x final ps b → ((v : Value) → GoesKnowing labels m.nodes n v (pure v) final ps e)
+      → Goes base m.nodes one x final ps b → base.names ≤ n → ((v : Value) → GoesKnowing base m.nodes n v (pure v) final ps e)
       → AllocatedBy put (bound_block p t b e) (Some at) final qs m m' i
-      → Goes labels m'.nodes one (λ turns ss. run_typed (some_type y) (x turns ss)) final ps i
-  goes_typed {final = final} n p t y binds is same block name a = goes_at a
+      → Goes base m'.nodes one (λ turns ss. run_typed (some_type y) (x turns ss)) final ps i
+  goes_typed {final = final} n p t y binds is same block few name a = goes_at a
       (λ turns d le f. same_plain_block (stored_row _ _ _ (same_bind (block.same turns d le f) (λ v. stored_pure _
-      (bound_by (λ u. (name u).same turns d le f) (made_whole final p) (whole_of final n p binds)
+      (bound_by few (λ u. (name u).same turns d le f) (made_whole final p) (whole_of final n p binds)
       (stored_pat (store_of final) (map_of final) p) is (stored_option_type (store_of final) (map_of final) (Some t)) y
       (type_of final t y same) v)))))
       (λ d le. ((block.jumps d le, tt, tt), (name unit).jumps d le))
@@ -168,16 +179,16 @@ module _ (at : Pointer) where
       (Runs one (λ turns ss. run_typed (written_option_type (tree.some_type t)) (x turns ss)))
   unfolding typed_try_form made_path_form
   typed_try_fine t hp = correct_as (correct_bind hp (λ b. correct_bind correct_made_number (λ n. correct_bind (type_now (tree.some_type t))
-      (λ k. correct_bind (correct_in_store (made_reads n)) (λ p.
+      (λ k. correct_bind (correct_in_store (made_reads Unannotated n)) (λ p.
       correct_bind (correct_alloc_made (hir.Path (made_path n) root_hygiene) (Some at))
       (λ e. correct_alloc_made (bound_block p k b e) (Some at)))))))
       (λ final ps m m' i g row.
       let s = row.second in let u = s.second in let q = u.second in let r = q.second in
       goes_typed s.one q.one u.one (written_type (tree.some_type t)) q.first.rel.binds
       (pat_in_full final q.one made_pattern (q.first.rel.reads (all_of final) q.first.entries)) u.first.is
-      (goes_within (record {
-        labels_from = omega arith;
-        nodes_to = omega (arith, s.before.nodes, u.before.nodes, q.before.nodes, r.before.nodes);
-      }) row.first)
-      (λ v. known_within (omega (arith, row.before.labels, s.before.labels, u.before.labels, q.before.labels)) (omega arith)
-      (known_path {labels = q.middle.labels} {v = v} {ps = ps} r.first)) r.second)
+      (goes_within (wider (under_refl (base_of m))
+      (omega (arith, s.before.nodes, u.before.nodes, q.before.nodes, r.before.nodes))) row.first)
+      (omega (arith, row.before.names, s.first.is))
+      (λ v. known_within (under_trans (under_grown row.before) (under_trans (under_grown s.before) (under_trans (under_grown u.before)
+      (under_grown q.before)))) (omega arith)
+      (known_path {base = base_of q.middle} {v = v} {ps = ps} r.first)) r.second)

@@ -1,11 +1,14 @@
 -- Turns of loops that are alike: what is stored for a `while` goes as a turn with a break in it, and to a loop that is the turn of a
 -- `while`. Here nothing is known of any store.
-use Rattle.std.proofs.Common.{◌≡◌, Bool, true, false, if◌then◌else◌, Option, Some, None, refl}
+use Rattle.std.proofs.Common.{◌≡◌, Bool, true, false, if◌then◌else◌, [], ◌∷◌, Option, Some, None, refl}
 use Rattle.hir_env.specs.NodeMap.{Site}
 use Rattle.hir_scope.specs.Scopes.{Count, outward}
-use Rattle.hir_meaning.specs.Run.{Value, unit, is_true, Outcome, value, break, continue, leave, World, ends, pure, after, ◌>>=◌, tests}
+use Rattle.hir_meaning.specs.Run.{Value, unit, item, mutable_to, is_true, matches, call, Outcome, value, break, continue, leave, unmatched}
+use Rattle.hir_meaning.specs.Run.{World, ends, pure, after, ◌>>=◌, ask, tests}
+use Rattle.hir_data.specs.Data.{PatData}
+use Rattle.hir_env.specs.Answered.{ForItems}
 use Rattle.hir_meaning.specs.Catching.{turn, turn_end}
-use Rattle.hir_meaning.specs.Syntax.{SyntaxRun, while_turn}
+use Rattle.hir_meaning.specs.Syntax.{SyntaxRun, done_pattern, for_turn, gives_pattern, while_turn}
 use Rattle.hir_same_meaning.proofs.Relation.{TurnsAlike}
 
 pub alike_same : (m : SyntaxRun Value) → TurnsAlike m (turn m)
@@ -59,3 +62,22 @@ pub while_alike : (condition body : SyntaxRun Value) (site : Option Site)
     → TurnsAlike (branched condition body out site) (while_turn condition body site)
 while_alike condition body site =
     alike_bind condition (λ v. alike_bind (tests is_true v site) (λ holds. alike_if holds (alike_same body) alike_out))
+
+-- what leaves the body is no turn that goes on
+alike_unmatched : TurnsAlike (ends (leave unmatched)) (ends (leave unmatched))
+unfolding ◌>>=◌ ends
+alike_unmatched = record { steps = λ w. refl; worlds = λ w. refl }
+
+-- A turn that asks for the next one, breaks where there is none, and runs the body where there is one that fits, is one of `for`.
+abbrev pub asked_next : ForItems → PatData → Value → SyntaxRun Value → Option Site → SyntaxRun Value
+asked_next items p iterator body site = ask call (item items.next ∷ mutable_to iterator ∷ []) site
+    >>= (λ v. tests (matches (done_pattern items.is_done)) v None
+    >>= (λ is_done. if is_done then out else (tests (matches (gives_pattern items.gives p)) v None
+    >>= (λ fits. if fits then body else ends (leave unmatched)))))
+
+pub for_alike : (items : ForItems) (p : PatData) (iterator : Value) (body : SyntaxRun Value) (site : Option Site)
+    → TurnsAlike (asked_next items p iterator body site) (for_turn items p iterator body site)
+for_alike items p iterator body site = alike_bind (ask call (item items.next ∷ mutable_to iterator ∷ []) site)
+    (λ v. alike_bind (tests (matches (done_pattern items.is_done)) v None)
+    (λ is_done. alike_if is_done alike_out (alike_bind (tests (matches (gives_pattern items.gives p)) v None)
+    (λ fits. alike_if fits (alike_same body) alike_unmatched))))

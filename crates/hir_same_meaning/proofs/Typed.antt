@@ -1,5 +1,5 @@
 -- Casts, records, offsets of fields and calls of methods: what is read back of a type, a path or arguments is in their events.
-use Rattle.std.proofs.Common.{◌≡◌, ℕ, List, [], ◌∷◌, ◌++◌, map, Option, Some, None, option_map, refl, sym, ap, ◌∙◌, subst, arith}
+use Rattle.std.proofs.Common.{◌≡◌, List, [], ◌∷◌, ◌++◌, map, Option, Some, None, option_map, refl, sym, ap, ◌∙◌, subst, arith}
 use Rattle.hir_store.specs.Pointers.{Pointer}
 use Rattle.hir_store.specs.Stored.{Stored, store_of, map_of}
 use Rattle.hir_store.specs.declared.hir.Expr.TheVariants as hir
@@ -29,6 +29,7 @@ use Rattle.hir_steps.proofs.Steps.{Mark, Grows, Rel, Correct, Allocated, correct
 use Rattle.hir_steps.proofs.Steps.{correct_alloc}
 use Rattle.hir_steps.proofs.Steps.{correct_point_field}
 use Rattle.hir_same_meaning.proofs.Relation.{same_bind, same_ask}
+use Rattle.hir_same_meaning.proofs.Senses.{Base, base_of}
 use Rattle.hir_same_meaning.proofs.Senses.{Walk, one, many, others, Goes, Runs, goes_within, goes_at}
 use Rattle.hir_same_meaning.proofs.Nodes
 use Rattle.hir_same_meaning.proofs.Forms.{missing_fine, Pushed, pushed_one}
@@ -51,11 +52,11 @@ module _ (at : Pointer) where
   abbrev cast_walk : Walk Value → TypeData → Walk Value
   cast_walk x t turns ss = x turns ss >>= (λ v. ask (cast t) (v ∷ []) here)
 
-  goes_cast : {labels : ℕ} {m m' : Mark} {final : Stored} {ps qs : List Frame} {i e : ExprId} {x : Walk Value} (t : TypeRefId)
-      (d : TypeData) → type_in final t ≡ d → Goes labels m.nodes one x final ps e
-      → Allocated (hir.Cast e t) (Some at) final qs m m' i → Goes labels m'.nodes one (cast_walk x d) final ps i
-  goes_cast {labels = labels} {m' = m'} {final = final} {ps = ps} {i = i} {x = x} t d is h a =
-      subst (λ k. Goes labels m'.nodes one (cast_walk x k) final ps i) is (goes_at a
+  goes_cast : {base : Base} {m m' : Mark} {final : Stored} {ps qs : List Frame} {i e : ExprId} {x : Walk Value} (t : TypeRefId)
+      (d : TypeData) → type_in final t ≡ d → Goes base m.nodes one x final ps e
+      → Allocated (hir.Cast e t) (Some at) final qs m m' i → Goes base m'.nodes one (cast_walk x d) final ps i
+  goes_cast {base = base} {m' = m'} {final = final} {ps = ps} {i = i} {x = x} t d is h a =
+      subst (λ k. Goes base m'.nodes one (cast_walk x k) final ps i) is (goes_at a
       (λ turns d le f. same_bind (h.same turns d le f) (λ v. same_ask (cast (type_in final t)) (v ∷ []) here))
       (λ d le. h.jumps d le))
 
@@ -68,11 +69,11 @@ module _ (at : Pointer) where
 
   -- offsets of fields
 
-  goes_offset : {labels : ℕ} {m m' : Mark} {final : Stored} {ps qs : List Frame} {i : ExprId} (names : List Name) (t : TypeRefId)
+  goes_offset : {base : Base} {m m' : Mark} {final : Stored} {ps qs : List Frame} {i : ExprId} (names : List Name) (t : TypeRefId)
       (d : TypeData) → type_in final t ≡ d → Allocated (hir.OffsetOf t names) (Some at) final qs m m' i
-      → Goes labels m'.nodes one (λ turns ss. ask (offset_of d names) [] here) final ps i
-  goes_offset {labels = labels} {m' = m'} {final = final} {ps = ps} {i = i} names t d is a =
-      subst (λ k. Goes labels m'.nodes one (λ turns ss. ask (offset_of k names) [] here) final ps i) is (goes_at a
+      → Goes base m'.nodes one (λ turns ss. ask (offset_of d names) [] here) final ps i
+  goes_offset {base = base} {m' = m'} {final = final} {ps = ps} {i = i} names t d is a =
+      subst (λ k. Goes base m'.nodes one (λ turns ss. ask (offset_of k names) [] here) final ps i) is (goes_at a
       (λ turns d le f. same_ask (offset_of (type_in final t) names) [] here) (λ d le. tt))
 
   pub offset_of_fine : (t : OptionType) (names : List Name)
@@ -86,12 +87,12 @@ module _ (at : Pointer) where
   abbrev call_walk : Walk Value → Walk (List Value) → Name → OptionArgsData → Walk Value
   call_walk x y name d turns ss = x turns ss >>= (λ v. y turns ss >>= (λ vs. ask (method_call name d) (v ∷ vs) here))
 
-  goes_method : {labels : ℕ} {m m' : Mark} {final : Stored} {ps qs : List Frame} {i e : ExprId} {es : List ExprId} {x : Walk Value}
+  goes_method : {base : Base} {m m' : Mark} {final : Stored} {ps qs : List Frame} {i e : ExprId} {es : List ExprId} {x : Walk Value}
       {y : Walk (List Value)} (name : Name) (g : Option GenericArgs) (d : OptionArgsData) → args_in final g ≡ d
-      → Goes labels m.nodes one x final ps e → Goes labels m.nodes many y final ps es
-      → Allocated (hir.MethodCall e name g es) (Some at) final qs m m' i → Goes labels m'.nodes one (call_walk x y name d) final ps i
-  goes_method {labels = labels} {m' = m'} {final = final} {ps = ps} {i = i} {x = x} {y = y} name g d is h k a =
-      subst (λ z. Goes labels m'.nodes one (call_walk x y name z) final ps i) is (goes_at a
+      → Goes base m.nodes one x final ps e → Goes base m.nodes many y final ps es
+      → Allocated (hir.MethodCall e name g es) (Some at) final qs m m' i → Goes base m'.nodes one (call_walk x y name d) final ps i
+  goes_method {base = base} {m' = m'} {final = final} {ps = ps} {i = i} {x = x} {y = y} name g d is h k a =
+      subst (λ z. Goes base m'.nodes one (call_walk x y name z) final ps i) is (goes_at a
       (λ turns d le f. same_bind (h.same turns d le f) (λ v. same_bind (k.same turns d le f)
       (λ vs. same_ask (method_call name (args_in final g)) (v ∷ vs) here)))
       (λ d le. (h.jumps d le, k.jumps d le)))
@@ -112,7 +113,7 @@ pub record AsField (name : Name) (x : Walk Value) (final : Stored) (ps : List Fr
     (o : Option RecordLitField) : Type 0 where
   pub number : ExprId
   pub is : o ≡ Some (record { name = name; expr = number })
-  pub rel : Goes m.labels m'.nodes one x final ps number
+  pub rel : Goes (base_of m) m'.nodes one x final ps number
 
 pub field_fine : (at : Pointer) (name : Name) {p : ExprSteps} {x : Walk Value} → Correct p (Runs one x)
     → Correct (field_form at name p) (AsField name x)
@@ -124,7 +125,7 @@ field_fine at name h = correct_as (correct_bind h (λ i. correct_bind (correct_p
 pub record FieldsAre (names : List Name) (x : Walk (List Value)) (final : Stored) (ps : List Frame) (m m' : Mark)
     (fields : List RecordLitField) : Type 0 where
   pub names_are : map (λ f. f.name) fields ≡ names
-  pub rel : Goes m.labels m'.nodes many x final ps (map (λ f. f.expr) fields)
+  pub rel : Goes (base_of m) m'.nodes many x final ps (map (λ f. f.expr) fields)
 
 pub fields_none : {final : Stored} {ps : List Frame} {m m' : Mark} → FieldsAre [] (λ turns ss. gives []) final ps m m' []
 fields_none = record { names_are = refl; rel = Nodes.goes_nil }
@@ -161,14 +162,14 @@ fields_more {final = final} {ps = ps} {m = m} {m1 = m1} {m' = m'} {name = name} 
 pub record OthersAre (form : SpreadForm) (x : Walk (List Value)) (final : Stored) (ps : List Frame) (m m' : Mark)
     (o : RecordSpread) : Type 0 where
   pub form_is : others_form o ≡ form
-  pub rel : Goes m.labels m'.nodes others x final ps o
+  pub rel : Goes (base_of m) m'.nodes others x final ps o
 
 pub record RecordIs (names : List Name) (form : SpreadForm) (x y : Walk (List Value)) (final : Stored) (ps : List Frame) (m m' : Mark)
     (r : StoredFields) : Type 0 where
   pub names_are : map (λ f. f.name) r.0 ≡ names
   pub form_is : others_form r.1 ≡ form
-  pub fields : Goes m.labels m'.nodes many x final ps (map (λ f. f.expr) r.0)
-  pub rest : Goes m.labels m'.nodes others y final ps r.1
+  pub fields : Goes (base_of m) m'.nodes many x final ps (map (λ f. f.expr) r.0)
+  pub rest : Goes (base_of m) m'.nodes others y final ps r.1
 
 pub contents_fine : {names : List Name} {form : SpreadForm} {x y : Walk (List Value)} {p : Lowering (List RecordLitField)}
     {q : Lowering RecordSpread} → Correct p (Pushed [] (FieldsAre names x)) → Correct q (OthersAre form y)
@@ -180,7 +181,8 @@ contents_fine {names = names} {form = form} {x = x} {y = y} hp hq =
     rw s.second.is (record {
       names_are = ap (map (λ f. f.name)) f.is ∙ f.rel.names_are;
       form_is = s.first.form_is;
-      fields = subst (λ k. Goes m.labels m'.nodes many x final ps (map (λ f. f.expr) k)) (sym f.is) (goes_within (omega arith) f.rel.rel);
+      fields = subst (λ k. Goes (base_of m) m'.nodes many x final ps (map (λ f. f.expr) k)) (sym f.is)
+          (goes_within (omega arith) f.rel.rel);
       rest = goes_within (omega arith) s.first.rel;
     }))
 
@@ -190,14 +192,14 @@ module _ (at : Pointer) (names : List Name) (form : SpreadForm) where
   record_walk d ns s x y turns ss =
       x turns ss >>= (λ vs. y turns ss >>= (λ ws. ask (made_record d ns s) (vs ++ ws) (Some (site_of at))))
 
-  goes_record : {labels : ℕ} {m m' : Mark} {final : Stored} {ps qs : List Frame} {i : ExprId} {x y : Walk (List Value)} (p : Path)
+  goes_record : {base : Base} {m m' : Mark} {final : Stored} {ps qs : List Frame} {i : ExprId} {x y : Walk (List Value)} (p : Path)
       (r : StoredFields) → map (λ f. f.name) r.0 ≡ names → others_form r.1 ≡ form
-      → Goes labels m.nodes many x final ps (map (λ f. f.expr) r.0) → Goes labels m.nodes others y final ps r.1
+      → Goes base m.nodes many x final ps (map (λ f. f.expr) r.0) → Goes base m.nodes others y final ps r.1
       → Allocated (hir.RecordLit p r.0 r.1) (Some at) final qs m m' i
-      → Goes labels m'.nodes one (record_walk (path_in final p) names form x y) final ps i
-  goes_record {labels = labels} {m' = m'} {final = final} {ps = ps} {i = i} {x = x} {y = y} p r e e' h k a =
-      subst (λ s. Goes labels m'.nodes one (record_walk (path_in final p) names s x y) final ps i) e'
-      (subst (λ ns. Goes labels m'.nodes one (record_walk (path_in final p) ns (others_form r.1) x y) final ps i) e (goes_at a
+      → Goes base m'.nodes one (record_walk (path_in final p) names form x y) final ps i
+  goes_record {base = base} {m' = m'} {final = final} {ps = ps} {i = i} {x = x} {y = y} p r e e' h k a =
+      subst (λ s. Goes base m'.nodes one (record_walk (path_in final p) names s x y) final ps i) e'
+      (subst (λ ns. Goes base m'.nodes one (record_walk (path_in final p) ns (others_form r.1) x y) final ps i) e (goes_at a
       (λ turns d le f. same_bind (h.same turns d le f) (λ vs. same_bind (k.same turns d le f)
       (λ ws. same_ask (made_record (path_in final p) (map (λ f. f.name) r.0) (others_form r.1)) (vs ++ ws) (Some (site_of at)))))
       (λ d le. (h.jumps d le, k.jumps d le))))
@@ -205,7 +207,7 @@ module _ (at : Pointer) (names : List Name) (form : SpreadForm) where
   -- where the path became this
   abbrev of_path : Option Path → Walk (List Value) → Walk (List Value) → Rel ExprId
   of_path o x y final ps m m' i =
-      Goes m.labels m'.nodes one (λ turns ss. run_record (option_map (path_in final) o) names form (x turns ss) (y turns ss)
+      Goes (base_of m) m'.nodes one (λ turns ss. run_record (option_map (path_in final) o) names form (x turns ss) (y turns ss)
       (Some (site_of at))) final ps i
 
   record_of_fine : {x y : Walk (List Value)} {c : Lowering StoredFields} → Correct c (RecordIs names form x y) → (o : Option Path)
@@ -221,5 +223,6 @@ module _ (at : Pointer) (names : List Name) (form : SpreadForm) where
   unfolding record_form
   record_fine p {x = x} {y = y} h = correct_as (correct_bind (path_now p) (λ o. record_of_fine h o))
       (λ final ps m m' i g row.
-      subst (λ d. Goes m.labels m'.nodes one (λ turns ss. run_record d names form (x turns ss) (y turns ss) (Some (site_of at))) final ps i)
+      subst (λ d. Goes (base_of m) m'.nodes one (λ turns ss. run_record d names form (x turns ss) (y turns ss)
+      (Some (site_of at))) final ps i)
       row.first.is (goes_within (omega arith) row.second))

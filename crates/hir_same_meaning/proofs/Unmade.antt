@@ -158,28 +158,29 @@ inside_unmade final p h = ⊎_elim (λ lt. inside_full final p (all_of final) re
 
 -- ---- runs
 
-module _ {ps : List Frame} where
-  fits_by : (a b : Option ℕ) → a ≡ None → b ≡ None → (d : PatData) (v : Value) → SameWhere ps (fits_or_takes a b d v) (tests_pattern d v)
+module _ {names : ℕ} {ps : List Frame} where
+  fits_by : (a b : Option ℕ) → a ≡ None → b ≡ None → (d : PatData) (v : Value)
+      → SameWhere names ps (fits_or_takes a b d v) (tests_pattern d v)
   fits_by a b e e' d v = rw (e, e') (same_tests_pattern d v)
 
   binds_by : (a : Option ℕ) → a ≡ None → (d : PatData) (t : OptionTypeData) (vs : List Value)
-      → SameWhere ps (binds_or_takes a d t vs) (binds d t vs)
+      → SameWhere names ps (binds_or_takes a d t vs) (binds d t vs)
   binds_by a e d t vs = rw e (same_binds d t vs)
 
   -- of a pattern that reads back as what is no made name
   pub fits_same : (final : Stored) (p : PatId) (d : PatData) → stored_pat (store_of final) (map_of final) p ≡ d → Unmade d → (v : Value)
-      → SameWhere ps (fits (store_of final) (map_of final) p v) (tests_pattern d v)
-  fits_same final p d is u v = subst (λ k. SameWhere ps (fits (store_of final) (map_of final) p v) (tests_pattern k v)) is
+      → SameWhere names ps (fits (store_of final) (map_of final) p v) (tests_pattern d v)
+  fits_same final p d is u v = subst (λ k. SameWhere names ps (fits (store_of final) (map_of final) p v) (tests_pattern k v)) is
       (fits_by (made_whole final p) (inside_made final p) (whole_unmade final p (subst (λ k. is_made k ≡ false) (sym is) u.whole))
       (inside_unmade final p (subst (λ k. part_is_made k ≡ false) (sym is) u.part)) (stored_pat (store_of final) (map_of final) p) v)
 
   pub binds_same : (final : Stored) (p : PatId) (t : Option TypeRefId) (d : PatData) (x : OptionTypeData)
       → stored_pat (store_of final) (map_of final) p ≡ d → stored_option_type (store_of final) (map_of final) t ≡ x → Unmade d
-      → (vs : List Value) → SameWhere ps (bound_to (store_of final) (map_of final) p t vs) (binds d x vs)
+      → (vs : List Value) → SameWhere names ps (bound_to (store_of final) (map_of final) p t vs) (binds d x vs)
   binds_same final p t d x is same u vs =
       let whole = whole_unmade final p (subst (λ k. is_made k ≡ false) (sym is) u.whole) in
-      subst (λ k. SameWhere ps (bound_to (store_of final) (map_of final) p t vs) (binds k x vs)) is
-      (subst (λ y. SameWhere ps (bound_to (store_of final) (map_of final) p t vs)
+      subst (λ k. SameWhere names ps (bound_to (store_of final) (map_of final) p t vs) (binds k x vs)) is
+      (subst (λ y. SameWhere names ps (bound_to (store_of final) (map_of final) p t vs)
       (binds (stored_pat (store_of final) (map_of final) p) y vs)) same
       (binds_by (made_whole final p) whole (stored_pat (store_of final) (map_of final) p)
       (stored_option_type (store_of final) (map_of final) t) vs))

@@ -5,6 +5,7 @@ use Rattle.std.proofs.lemmas.Bool.{eqb-true}
 use Rattle.hir_binding.specs.declared.binding.BindingProblems.{BindingProblems}
 use Rattle.hir_store.specs.Bindings.{at_place, problem_set}
 use Rattle.hir_store.specs.Names.{IsWritten}
+use Rattle.hir_binding.specs.declared.binding.BindingAnnotation.{BindingAnnotation}
 use Rattle.hir_store.specs.Pointers.{Pointer}
 use Rattle.hir_store.specs.Stored.{Stored}
 use Rattle.hir_store.specs.declared.hir.Expr.{Expr}
@@ -300,17 +301,17 @@ binding_apart b w = correct_as (correct_alloc_binding b) (λ final ps m m' i g r
     apart_written m m' b.name w row.names (λ k. ap (times_made k) row.stored ∙ binding_push m.stored b k))
 
 -- one of a name that is made up some steps before
-pub named_apart : {A B : Type 0} {p : Lowering A} {f : ℕ → A → PatId → Lowering B} → Correct p Apart
+pub named_apart : (mode : BindingAnnotation) {A B : Type 0} {p : Lowering A} {f : ℕ → A → PatId → Lowering B} → Correct p Apart
     → ((n : ℕ) (a : A) (q : PatId) → Correct (f n a q) Apart)
-    → Correct (made_number >>= (λ n. p >>= (λ a. made_bind_form n >>= (λ q. f n a q)))) Apart
-named_apart hp hf = correct_as
-    (correct_bind correct_made_number (λ n. correct_bind hp (λ a. correct_bind (correct_made_bind n) (λ q. hf n a q))))
+    → Correct (made_number >>= (λ n. p >>= (λ a. made_bind_form mode n >>= (λ q. f n a q)))) Apart
+named_apart mode hp hf = correct_as
+    (correct_bind correct_made_number (λ n. correct_bind hp (λ a. correct_bind (correct_made_bind mode n) (λ q. hf n a q))))
     (λ final ps m m' b g row.
     let next = row.first in
     let own = row.second.second.first in
     apart_trans
     (apart_made {b = row.second.second.one} m row.middle row.second.middle row.second.second.middle row.one next.is next.names next.stored
-    row.second.first own.names (λ k. ap (times_made k) own.stored ∙ binding_push row.second.middle.stored (made_binding row.one) k))
+    row.second.first own.names (λ k. ap (times_made k) own.stored ∙ binding_push row.second.middle.stored (made_binding mode row.one) k))
     row.second.second.second)
 
 -- labels

@@ -1,5 +1,6 @@
 -- What is done with the parts of expressions is made of steps, so that made names stay apart.
-use Rattle.std.proofs.Common.{ℕ, Bool, true, false, List, Option, Some, None, refl}
+use Rattle.std.proofs.Common.{ℕ, Bool, true, false, List, [], ◌∷◌, Option, Some, None, refl}
+use Rattle.hir_binding.specs.declared.binding.BindingAnnotation.TheVariants.{Mutable, Unannotated}
 use Rattle.hir_store.specs.Pointers.{Pointer}
 use Rattle.hir_store.specs.declared.hir.Expr.{Expr as HirExpr}
 use Rattle.hir_store.specs.declared.hir.LoopSource.{LoopSource}
@@ -29,7 +30,11 @@ use Rattle.hir_steps.proofs.Apart.{opened_apart, opened_try_apart, point_apart, 
 use Rattle.hir_steps.proofs.Apart.{report_await_apart, stored_pat_apart, jump_apart, then_apart, try_target_apart}
 use Rattle.hir_steps.proofs.Frames.{loop_at, block_at}
 use Rattle.hir_steps.proofs.Steps.{Correct}
-use Rattle.hir_env.specs.Answered.{QuestionItems, IsWrittenLabel}
+use Rattle.hir_env.specs.Answered.{ForItems, QuestionItems, IsWrittenLabel}
+use Rattle.hir_store.specs.declared.hir.Expr.TheVariants as hir
+use Rattle.hir_store.specs.declared.ids.PatId.{PatId}
+use Rattle.hir_lower_form.specs.Made.{arm_for, done_arm_form, for_form, for_turn_form, gives_arm_form, made_loop_form, made_reference_form}
+use Rattle.hir_lower_form.specs.Made.{next_form}
 use Rattle.hir_store.specs.declared.ids.LangItemId.{LangItemId}
 use Rattle.hir_lower_form.specs.Lower.{settled}
 use Rattle.hir_lower_form.specs.Lowering.{pure, alloc_pat}
@@ -49,7 +54,7 @@ some_apart h = then_apart h (λ a. pure_apart (Some a))
 pub flow_arm_apart : (item : LangItemId) {body : ℕ → ExprSteps} → ((n : ℕ) → Correct (body n) Apart)
     → Correct (flow_arm_form item body) Apart
 unfolding flow_arm_form
-flow_arm_apart item {body = body} h = named_apart {A = Unit {0}} {p = pure tt}
+flow_arm_apart item {body = body} h = named_apart Unannotated {A = Unit {0}} {p = pure tt}
     {f = λ n u p. alloc_pat (item_pat item p) None >>= (λ q. body n >>= (λ e. pure (record { pat = q; guard = None; expr = e })))}
     (pure_apart tt) (λ n u p. then_apart (stored_pat_apart _ None) (λ q. then_apart (h n) (λ e. pure_apart _)))
 
@@ -164,6 +169,30 @@ module _ (at : Pointer) where
       (λ b. then_apart (flow_arm_apart items.goes_on made_path_apart)
       (λ a. then_apart (flow_arm_apart items.breaks (residual_apart items)) (λ c. stored_apart _ at))))
 
+  next_apart : (item : LangItemId) (n : ℕ) → Correct (next_form at item n) Apart
+  unfolding next_form made_reference_form
+  next_apart item n = then_apart (then_apart (made_path_apart n) (λ e. made_apart _ (Some at))) (λ r. item_call_apart (Some item) r)
+
+  done_arm_apart : (item : LangItemId) → Correct (done_arm_form at item) Apart
+  unfolding done_arm_form
+  done_arm_apart item = then_apart (stored_pat_apart _ None) (λ p. then_apart (made_apart _ (Some at)) (λ e. pure_apart _))
+
+  gives_arm_apart : (item : LangItemId) (p : PatId) {b : ExprSteps} → Correct b Apart → Correct (gives_arm_form item p b) Apart
+  unfolding gives_arm_form
+  gives_arm_apart item p h = then_apart (stored_pat_apart _ None) (λ q. then_apart h (λ e. pure_apart _))
+
+  pub for_turn_apart : (items : ForItems) (n : ℕ) (p : PatId) {b : ExprSteps} → Correct b Apart
+      → Correct (for_turn_form at items n p b) Apart
+  unfolding for_turn_form
+  for_turn_apart items n p h = then_apart (next_apart items.next n) (λ c. then_apart (done_arm_apart items.is_done)
+      (λ a. then_apart (gives_arm_apart items.gives p h) (λ b. then_apart (made_apart _ (Some at)) (λ e. made_apart _ (Some at)))))
+
+  pub made_loop_apart : (label : Option Label) → IsWrittenLabel label → {b : ExprSteps} → Correct b Apart
+      → Correct (made_loop_form at label b) Apart
+  unfolding made_loop_form
+  made_loop_apart None w h = then_apart h (λ i. made_apart _ (Some at))
+  made_loop_apart (Some l) w h = opened_apart loop_at l w (λ n ps. refl) (λ n. h) (λ n i. made_apart _ (Some at))
+
   value_or_unit_apart : (tail : Option ExprId) → Correct (value_or_unit at tail) Apart
   unfolding value_or_unit
   value_or_unit_apart (Some e) = pure_apart e
@@ -183,7 +212,17 @@ module _ (at : Pointer) where
   pub typed_try_apart : {b : ExprSteps} {t : Lowering TypeRefId} → Correct b Apart → Correct t Apart
       → Correct (typed_try_form at b t) Apart
   unfolding typed_try_form
-  typed_try_apart hb ht = then_apart hb (λ b. named_apart ht (λ n t p. then_apart (made_path_apart n) (λ e. made_apart _ (Some at))))
+  typed_try_apart hb ht = then_apart hb (λ b. named_apart Unannotated ht
+      (λ n t p. then_apart (made_path_apart n) (λ e. made_apart _ (Some at))))
+
+pub for_apart : (at head_at : Pointer) (items : ForItems) (label : Option Label) → IsWrittenLabel label → {h : ExprSteps}
+    {p : Lowering PatId} {b : ExprSteps} → Correct h Apart → Correct p Apart → Correct b Apart
+    → Correct (for_form at head_at items label h p b) Apart
+unfolding for_form
+for_apart at head_at items label w {b = b} hh hp hb = then_apart hh (λ h. then_apart (item_call_apart head_at (Some items.into_iter) h)
+    (λ i. then_apart hp (λ p. named_apart Mutable {A = Unit {0}} {p = pure tt}
+    {f = λ n u q. made_loop_form at label (for_turn_form at items n p b) >>= (λ l. alloc_expr (hir.Match i (arm_for q l ∷ [])) (Some at))}
+    (pure_apart tt) (λ n u q. then_apart (made_loop_apart at label w (for_turn_apart at items n p hb)) (λ l. stored_apart _ at)))))
 
 pub contents_apart : {fs : Lowering (List RecordLitField)} {s : Lowering RecordSpread} → Correct fs Apart → Correct s Apart
     → Correct (record_contents fs s) Apart

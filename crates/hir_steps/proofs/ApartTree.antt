@@ -52,7 +52,7 @@ use Rattle.hir_steps.proofs.ApartForms.{missing_apart, stored_apart, some_apart,
 use Rattle.hir_steps.proofs.ApartForms.{continue_apart, break_apart, paren_apart, path_apart, operand_apart, operands_apart, value_apart}
 use Rattle.hir_steps.proofs.ApartForms.{list_apart, method_call_apart, cast_apart, offset_of_apart, record_apart, field_apart, await_apart}
 use Rattle.hir_steps.proofs.ApartForms.{block_form_apart, question_apart, try_apart, typed_try_apart, contents_apart, labelled_apart}
-use Rattle.hir_steps.proofs.ApartForms.{kept_apart}
+use Rattle.hir_steps.proofs.ApartForms.{for_apart, kept_apart}
 
 mutual
   pub one_type_apart : (b : Option Binder) (t : Type_) → Correct (lower_type b t) Apart
@@ -170,6 +170,8 @@ mutual
   node_apart (tree.block_expr b) = block_apart b
   node_apart (tree.loop_expr at label w b) = loop_apart at _ label w (block_part_apart b)
   node_apart (tree.while_expr at label w c b) = loop_apart at _ label w (turn_apart at (part_apart c) (block_part_apart b))
+  node_apart (tree.for_expr at items label w p h b) =
+      for_apart at _ items label w (part_apart h) (top_apart p) (part_apart b)
   node_apart (tree.question_expr at items e) = question_apart at items (part_apart e)
   node_apart (tree.itemless_expr at) = missing_apart
   node_apart (tree.try_expr at item tree.no_type number ss e) =

@@ -1,5 +1,5 @@
 -- Lowering a tree is made of steps, so that nothing is lost.
-use Rattle.std.proofs.Common.{◌≡◌, List, [], Option, Some, Ok, Err, subst}
+use Rattle.std.proofs.Common.{◌≡◌, ℕ, List, [], Option, Some, Ok, Err, subst}
 use Rattle.hir_store.specs.Stored.{Stored}
 use Rattle.hir_store.proofs.Extending.{extends_refl}
 use Rattle.hir_store.specs.declared.hir.MatchArm.{MatchArm}
@@ -8,7 +8,9 @@ use Rattle.hir_store.specs.declared.hir.RecordSpread.{RecordSpread}
 use Rattle.hir_store.specs.declared.ids.ExprId.{ExprId}
 use Rattle.hir_store.specs.Pointers.{Pointer}
 use Rattle.hir_env.specs.Answered.{Arms, Binder, Exprs, Fields, OptionArgs, OptionBlock, OptionExpr, OptionPat, OptionPath, OptionType}
-use Rattle.hir_env.specs.Answered.{Spread, Stmts, Target, Type_}
+use Rattle.hir_store.specs.declared.ids.PatId.{PatId}
+use Rattle.hir_env.specs.Answered.{ForItems, IsWrittenLabel, Label, Spread, Stmts, Target, Type_}
+use Rattle.hir_lower_form.specs.Made.{for_turn_form, made_loop_form}
 use Rattle.hir_lower_form.specs.Builder.{Builder}
 use Rattle.hir_lower_form.specs.Lower.{ExprSteps, args_part, kept_part, lower_arms, lower_block_part, lower_each, lower_fields}
 use Rattle.hir_lower_form.specs.Lower.{lower_part, lower_path, lower_spread, lower_stmts, lower_target, lower_top, present}
@@ -16,6 +18,7 @@ use Rattle.hir_lower_form.specs.Lower.{lower_type, present_type, record_contents
 use Rattle.hir_lower_form.specs.Lowering.{Checked, Lowering}
 use Rattle.hir_steps.specs.Keeps.{Keeps, Keeping, KeepsApart, MadeApart, Paired, PathsKeep, TypesKeep}
 use Rattle.hir_steps.proofs.Apart.{Apart}
+use Rattle.hir_steps.proofs.ApartForms.{for_turn_apart, made_loop_apart}
 use Rattle.hir_steps.proofs.ApartTree as apart
 use Rattle.hir_steps.proofs.Frames.{Frame, frames, ribs_frames}
 use Rattle.hir_steps.proofs.Steps.{Holds, Correct, correct_alloc, correct_pure}
@@ -69,6 +72,11 @@ top_any p = any (apart.top_apart p)
 
 pub target_any : (t : Target) → Correct (lower_target t) Any
 target_any t = any (apart.target_apart t)
+
+-- the loop of a `for`
+pub for_loop_any : (at : Pointer) (items : ForItems) (label : Option Label) → IsWrittenLabel label → (n : ℕ) (p : PatId) (b : OptionExpr)
+    → Correct (made_loop_form at label (for_turn_form at items n p (lower_part b))) Any
+for_loop_any at items label w n p b = any (made_loop_apart at label w (for_turn_apart at items n p (apart.part_apart b)))
 
 -- of forms
 

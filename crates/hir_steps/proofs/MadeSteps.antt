@@ -1,6 +1,7 @@
 -- Steps that make up what nobody wrote: nodes that their source doesn't lead to, names, and `try`s with labels of made names.
 use Rattle.std.proofs.Common.{◌≡◌, ◌^◌, suc, Bool, true, false, if◌then◌else◌, nat_lt, slice_get, map, List, []}
 use Rattle.std.proofs.Common.{◌∷◌, length, Option, Some, None, Ok, Err, refl, sym, ap, subst, ◌∙◌, arith, length-append, ℕ}
+use Rattle.hir_binding.specs.declared.binding.BindingAnnotation.{BindingAnnotation}
 use Rattle.hir_store.specs.Pointers.{Pointer}
 use Rattle.hir_store.specs.Arenas.{Sourced, with_made}
 use Rattle.hir_store.specs.Bindings.{without_problem}
@@ -164,13 +165,13 @@ correct_made_number = record { holds = λ final ps b r. go final ps b (nat_lt (s
     go final ps b false = extends_refl b.stored
 
 -- What binds the name of this number, alone.
-pub record MadeBind (n : ℕ) (final : Stored) (ps : List Frame) (m m' : Mark) (p : PatId) : Type 0 where
+pub record MadeBind (mode : BindingAnnotation) (n : ℕ) (final : Stored) (ps : List Frame) (m m' : Mark) (p : PatId) : Type 0 where
   pub binding : BindingId
   pub number : p.0 ≡ m.pats
   pub here : slice_get final.pats.entries m.pats ≡ Some (pat.Bind binding None)
   pub from : slice_get final.pats.sources m.pats ≡ Some None
   pub is : binding.0 ≡ m.bindings
-  pub bound : slice_get (map without_problem final.bindings.entries) m.bindings ≡ Some (made_binding n)
+  pub bound : slice_get (map without_problem final.bindings.entries) m.bindings ≡ Some (made_binding mode n)
   pub pats : m'.pats ≡ suc m.pats
   pub bindings : m'.bindings ≡ suc m.bindings
   pub entries : m'.entries ≡ suc m.entries
@@ -179,11 +180,11 @@ pub record MadeBind (n : ℕ) (final : Stored) (ps : List Frame) (m m' : Mark) (
   pub types : m'.types ≡ m.types
   pub lifetimes : m'.lifetimes ≡ m.lifetimes
   pub names : m'.names ≡ m.names
-  pub stored : m'.stored ≡ defining binding p (with_pat (pat.Bind binding None) None (with_new_binding (made_binding n) m.stored))
+  pub stored : m'.stored ≡ defining binding p (with_pat (pat.Bind binding None) None (with_new_binding (made_binding mode n) m.stored))
 
-pub correct_made_bind : (n : ℕ) → Correct (made_bind_form n) (MadeBind n)
+pub correct_made_bind : (mode : BindingAnnotation) (n : ℕ) → Correct (made_bind_form mode n) (MadeBind mode n)
 unfolding made_bind_form
-correct_made_bind n = correct_as (correct_bind (correct_alloc_binding (made_binding n))
+correct_made_bind mode n = correct_as (correct_bind (correct_alloc_binding (made_binding mode n))
     (λ i. correct_bind (correct_alloc_pat (pat.Bind i None) None) (λ p. correct_bind (correct_define i p) (λ u. correct_pure p))))
     (λ final ps m m' q g row. let one = row.first in let two = row.second.first in let three = row.second.second.first in
     let last = row.second.second.second in

@@ -19,6 +19,7 @@ use Rattle.hir_env.specs.Answered.{Expr, OptionExpr, Exprs, Fields, Field, Sprea
 use Rattle.hir_env.specs.Answered.{Binder, Type_, Parts, Path as TreePath, Segments, Segment, SegmentArgs, OptionParens, OptionRet}
 use Rattle.hir_env.specs.Answered.{Args, Arg, Bounds, Bound, Constant, TypePat, OptionTypePat, TypePats, Limit, Target, Targets}
 use Rattle.hir_env.specs.Answered.{TargetFields, TargetField}
+use Rattle.hir_env.specs.Targets.{head_pointer}
 use Rattle.hir_lower_form.specs.declared.args.ArgLists.{ArgLists}
 use Rattle.hir_lower_form.specs.declared.walk.PathWalk.{PathWalk}
 use Rattle.hir_lower_form.specs.declared.walk.Reading.TheVariants.{Open}
@@ -63,6 +64,7 @@ use Rattle.hir_type_result.proofs.InsidePats as pats
 use Rattle.hir_type_result.proofs.InsideTargets as aims
 use Rattle.hir_type_result.proofs.InsideForms as forms
 use Rattle.hir_type_result.proofs.InsideMade as made
+use Rattle.hir_type_result.proofs.InsideFors.{for_adds}
 use Rattle.hir_type_result.proofs.InsideForms.{maybe, each, a_field, a_spread, a_statement, contents, some_more, missing_adds, some_adds}
 use Rattle.hir_type_result.proofs.InsideForms.{kept_adds}
 
@@ -224,6 +226,8 @@ mutual
   node_adds (tree.block_expr b) = block_adds b
   node_adds (tree.loop_expr at label _ b) = forms.loop_adds at _ label (block_part_adds b)
   node_adds (tree.while_expr at label _ c b) = forms.loop_adds at _ label (forms.turn_adds at (body_adds c) (block_part_adds b))
+  node_adds (tree.for_expr at items label _ p h b) =
+      for_adds at (head_pointer at h) items label (body_adds h) (top_adds p) (body_adds b)
   node_adds (tree.question_expr at items e) = made.question_adds at items (body_adds e)
   node_adds (tree.itemless_expr at) = missing_adds
   node_adds (tree.try_expr at item tree.no_type number ss e) =

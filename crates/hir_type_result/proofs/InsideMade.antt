@@ -1,5 +1,6 @@
 -- What `?` and `try` become reaches and holds what their parts do, and what is made up, each once.
 use Rattle.std.proofs.Common.{◌≡◌, ◌∙◌, refl, sym, ap, ℕ, ◌+◌, ◌≤◌, Bool, true, false, List, [], ◌∷◌, ◌++◌, Option, Some, None, arith}
+use Rattle.hir_binding.specs.declared.binding.BindingAnnotation.{BindingAnnotation}
 use Rattle.hir_store.specs.Pointers.{Pointer}
 use Rattle.hir_store.specs.Stored.{Stored}
 use Rattle.hir_store.specs.declared.hir.Expr.TheVariants as hir
@@ -42,28 +43,28 @@ item_less (Some i) v = omega arith
 made_call_less : (f a : ExprId) (v : View) → in_expr (made_call f a) v ≤ an_expr a v + an_expr f v
 made_call_less f a v = let x = first_less f (a ∷ []) v in omega (arith, x)
 
-item_pat_less : (item : LangItemId) (p : PatId) (v : View) → in_pat (item_pat item p) v ≤ a_pat p v
+pub item_pat_less : (item : LangItemId) (p : PatId) (v : View) → in_pat (item_pat item p) v ≤ a_pat p v
 item_pat_less item p v = let x = sum_append v.weight (v.held.pat p) [] in omega (arith, x)
 
 leaving_less : (t : Option (Try LabelId)) (e : ExprId) (v : View) → in_expr (leaving_node t e) v ≤ an_expr e v
 leaving_less None e v = value_less (Some e) v
 leaving_less (Some t) e v = value_less (Some e) v
 
-made_bind_adds : (n : ℕ) → Correct (made_bind_form n) (Adds free a_pat)
+pub made_bind_adds : (mode : BindingAnnotation) (n : ℕ) → Correct (made_bind_form mode n) (Adds free a_pat)
 unfolding made_bind_form
-made_bind_adds n = adds_then (adds_any (correct_alloc_binding (made_binding n)))
+made_bind_adds mode n = adds_then (adds_any (correct_alloc_binding (made_binding mode n)))
     (λ b. adds_then (adds_pat (pat.Bind b None) None (λ v. omega arith))
     (λ p. adds_then (adds_any (correct_define b p)) (λ u. adds_pure p (λ v. omega arith))))
 
 module _ (at : Pointer) where
-  made_path_adds : (n : ℕ) → Correct (made_path_form at n) (Adds free an_expr)
+  pub made_path_adds : (n : ℕ) → Correct (made_path_form at n) (Adds free an_expr)
   unfolding made_path_form
   made_path_adds n = adds_made _ (Some at) (λ v. omega arith)
 
   item_adds : (item : Option LangItemId) → Correct (alloc_made (item_or_missing item) (Some at)) (Adds free an_expr)
   item_adds item = adds_made (item_or_missing item) (Some at) (item_less item)
 
-  item_call_adds : (item : Option LangItemId) (a : ExprId) → Correct (item_call_form at item a) (Adds (an_expr a) an_expr)
+  pub item_call_adds : (item : Option LangItemId) (a : ExprId) → Correct (item_call_form at item a) (Adds (an_expr a) an_expr)
   unfolding item_call_form
   item_call_adds item a = adds_then (adds_beside (an_expr a) (item_adds item))
       (λ f. adds_made (made_call f a) (Some at) (made_call_less f a))
@@ -73,7 +74,7 @@ module _ (at : Pointer) where
   flow_arm_adds : (item : LangItemId) {body : ℕ → ExprSteps} → ((n : ℕ) → Correct (body n) (Adds free an_expr))
       → Correct (flow_arm_form item body) (Adds free an_arm)
   unfolding flow_arm_form
-  flow_arm_adds item h = adds_then (adds_any correct_made_number) (λ n. adds_then (made_bind_adds n)
+  flow_arm_adds item h = adds_then (adds_any correct_made_number) (λ n. adds_then (made_bind_adds _ n)
       (λ p. adds_then (adds_pat (item_pat item p) None (item_pat_less item p))
       (λ q. adds_then (adds_beside (a_pat q) (h n))
       (λ e. adds_pure _ (λ v. let x = arm_less q None e v in omega (arith, x))))))
@@ -83,7 +84,7 @@ module _ (at : Pointer) where
   residual_adds items n = adds_then (made_path_adds n) (λ r. adds_then (adds_any correct_try_target)
       (λ t. adds_then (item_call_adds (conversion items t) r) (λ e. adds_made (leaving_node t e) (Some at) (leaving_less t e))))
 
-  two_arms_less : (e : ExprId) (a c : MatchArm) (v : View)
+  pub two_arms_less : (e : ExprId) (a c : MatchArm) (v : View)
       → in_expr (hir.Match e (a ∷ c ∷ [])) v ≤ (an_expr e v + an_arm a v) + an_arm c v
   two_arms_less e a c v =
       let arms = a ∷ c ∷ [] in
@@ -113,7 +114,7 @@ module _ (at : Pointer) where
 -- ---- what is in a block, of which the tail lies deeper than the rest
 
 -- deep enough, so far
-abbrev DeepView : Mark → ℕ → ℕ × ℕ × ℕ → Type 0
+abbrev pub DeepView : Mark → ℕ → ℕ × ℕ × ℕ → Type 0
 DeepView m all d = Deep m all d.0 d.1 d.2
 
 abbrev at_depth : Stored → ℕ → ℕ → ℕ × ℕ × ℕ → View
@@ -137,7 +138,7 @@ pub record Contains (done : List Statement) (final : Stored) (ps : List Frame) (
   pub settles : (from all number : ℕ) → Front from final m all number done → Settles from final m' all number r
 
 -- what was deep enough later was so before
-deep_before : {m m' : Mark} {all : ℕ} (d : ℕ × ℕ × ℕ) → Grows m m' → DeepView m' all d → DeepView m all d
+pub deep_before : {m m' : Mark} {all : ℕ} (d : ℕ × ℕ × ℕ) → Grows m m' → DeepView m' all d → DeepView m all d
 deep_before d g h = record {
   all_of = omega (arith, h.all_of, g.nodes);
   deep = omega (arith, h.deep, g.nodes);
@@ -329,6 +330,6 @@ pub typed_try_adds : (at : Pointer) {b : ExprSteps} {t : Lowering TypeRefId} →
 unfolding typed_try_form
 typed_try_adds at hb ht = adds_then hb (λ b. adds_then (adds_any correct_made_number)
     (λ n. adds_then (adds_beside (an_expr b) ht)
-    (λ t. adds_then (adds_beside (beside (an_expr b) (a_type t)) (made_bind_adds n))
+    (λ t. adds_then (adds_beside (beside (an_expr b) (a_type t)) (made_bind_adds _ n))
     (λ p. adds_then (adds_beside (beside (beside (an_expr b) (a_type t)) (a_pat p)) (made_path_adds at n))
     (λ e. adds_made (bound_block p t b e) (Some at) (bound_less p t b e))))))

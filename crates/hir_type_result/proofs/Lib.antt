@@ -6,6 +6,7 @@ pub mod Owned
 pub mod OwnedPats
 pub mod NamingForms
 pub mod NamingMade
+pub mod NamingFors
 pub mod TreeNamed
 pub mod Named
 pub mod Ranges
@@ -24,5 +25,6 @@ pub mod Fronts
 pub mod InsidePats
 pub mod InsideTargets
 pub mod InsideMade
+pub mod InsideFors
 pub mod Inside
 pub mod InsideBody

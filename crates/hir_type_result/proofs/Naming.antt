@@ -33,7 +33,7 @@ use Rattle.hir_steps.proofs.PatSteps.{PatWrites, correct_alloc_binding, correct_
 use Rattle.hir_steps.proofs.Steps.{Mark, Grows, Rel, Correct, correct_as, correct_pure, correct_point, correct_point_field, correct_report}
 use Rattle.hir_steps.proofs.Steps.{correct_report_await, correct_enter_block, correct_opened, correct_target, OpenedBy}
 use Rattle.hir_steps.proofs.Steps.{with_await, with_block, with_jump, with_label, with_target}
-use Rattle.hir_type_result.specs.Named.{Look, of_expr}
+use Rattle.hir_type_result.specs.Named.{Look, of_bindings_alone, of_expr}
 use Rattle.hir_type_result.proofs.Counted.{times, less, ◌⊑◌, less_grows}
 use Rattle.hir_type_result.proofs.Adding.{Sort, the_types, the_pats, known, grows, named, Quiet, linked, adds_pure, adds_then}
 use Rattle.hir_type_result.proofs.Adding.{Adds, adds_still, adds_expr, adds_made, adds_done, Numbers, none, Steps, look, made_then}
@@ -262,17 +262,18 @@ with_label_known the_types l m entered stored types was is = types
 with_label_known the_pats l m entered stored types was is = is ∙ (ap (λ x. length x.pats.entries) stored ∙ sym was)
 
 -- of what is opened, and what stands behind it
-opened_quiet : {made : ℕ} {A B : Type 0} {at : Label → LabelId → Frame} {l : Label} {R : LabelId → Rel A} {one : A → Numbers}
-    {final : Stored} {ps : List Frame} {m m' : Mark} {b : B} → Grows m m' → m.pats ≡ length m.stored.pats.entries
-    → m.bindings ≡ length m.stored.bindings.entries → (row : OpenedBy made at l R (λ n a. Adds (one a) (λ b. none)) final ps m m' b)
+opened_adds : {made : ℕ} {A B : Type 0} {at : Label → LabelId → Frame} {l : Label} {R : LabelId → Rel A} {was : Numbers}
+    {one : A → Numbers} {now : B → Numbers} {final : Stored} {ps : List Frame} {m m' : Mark} {b : B}
+    → m.pats ≡ length m.stored.pats.entries → m.bindings ≡ length m.stored.bindings.entries
+    → (row : OpenedBy made at l R (λ n a. Adds (one a) now) final ps m m' b)
     → row.entered.pats ≡ length row.entered.stored.pats.entries → row.entered.bindings ≡ length row.entered.stored.bindings.entries
-    → Adds none one final (at l row.number ∷ ps) row.entered row.left row.one → Quiet final ps m m' b
-opened_quiet {l = l} {final = final} {m = m} {m' = m'} g pats bindings row pats' bindings' first = record {
+    → Adds was one final (at l row.number ∷ ps) row.entered row.left row.one → Adds was now final ps m m' b
+opened_adds {l = l} {was = was} {final = final} {m = m} {m' = m'} pats bindings row pats' bindings' first = record {
   bound = λ lo le t w.
       let q : row.entered.bindings ≡ m.bindings =
       bindings' ∙ (ap (λ x. length x.bindings.entries) row.stored ∙ sym bindings) in
       let none = ap (λ x. length x.pats.entries) row.stored in
-      let x = first.bound lo (omega (arith, le, q)) tt tt in
+      let x = first.bound lo (omega (arith, le, q)) tt (subst (λ n. Each (Between lo n) (was of_bindings_alone)) (sym q) w) in
       let y = row.second.bound lo (omega (arith, le, q, row.before.bindings)) x.known x.named in record {
         known = y.known;
         named = y.named;
@@ -287,8 +288,8 @@ opened_quiet {l = l} {final = final} {m = m} {m' = m'} g pats bindings row pats'
       let y = row.second.earlier s d all le le' in
       let x = first.earlier s y.depth all y.deep (omega (arith, le', grows s row.after)) in
       let t = with_label_known s l m row.entered row.stored row.types pats pats' in record {
-        depth = d;
-        deep = omega (arith, le, grows s g);
+        depth = x.depth;
+        deep = omega (arith, x.deep, t);
         counted = λ k.
             let n = ap (λ x. named s final all x k) row.stored in
             let t = ap (less k) t in
@@ -297,13 +298,21 @@ opened_quiet {l = l} {final = final} {m = m} {m' = m'} g pats bindings row pats'
       };
 }
 
+pub opened_names : {A B : Type 0} (at : Label → LabelId → Frame) (l : Label) {was : Numbers} {one : A → Numbers} {now : B → Numbers}
+    {p : LabelId → Lowering A} {f : LabelId → A → Lowering B}
+    → ((n : LabelId) (ps : List Frame) → ribs (at l n ∷ ps) ≡ rib l n ∷ ribs ps)
+    → ((n : LabelId) → Correct (p n) (Adds was one)) → ((n : LabelId) (a : A) → Correct (f n a) (Adds (one a) now))
+    → Correct (open_label l >>= (λ n. p n >>= (λ a. close >>= (λ _. f n a)))) (Adds was now)
+opened_names at l {one = one} frame hp hf = correct_as (linked (correct_opened at l frame (λ n. linked (hp n)) hf))
+    (λ final ps m m' b g linked.
+    let row = linked.rel in
+    opened_adds {one = one} linked.pats linked.bindings row row.first.pats row.first.bindings row.first.rel)
+
 pub quiet_opened : {A B : Type 0} (at : Label → LabelId → Frame) (l : Label) {p : LabelId → Lowering A} {f : LabelId → A → Lowering B}
     → ((n : LabelId) (ps : List Frame) → ribs (at l n ∷ ps) ≡ rib l n ∷ ribs ps)
     → ((n : LabelId) → Correct (p n) Quiet) → ((n : LabelId) (a : A) → Correct (f n a) Quiet)
     → Correct (open_label l >>= (λ n. p n >>= (λ a. close >>= (λ _. f n a)))) Quiet
-quiet_opened at l frame hp hf = correct_as (linked (correct_opened at l frame (λ n. linked (hp n)) hf)) (λ final ps m m' b g linked.
-    let row = linked.rel in
-    opened_quiet {one = λ a. none} g linked.pats linked.bindings row row.first.pats row.first.bindings row.first.rel)
+quiet_opened at l frame hp hf = opened_names at l {one = λ a. none} frame hp hf
 
 -- what is made up
 
@@ -328,7 +337,7 @@ opened_try_names at typed {one = one} hs hp hf = correct_as (linked (correct_ope
     (λ final ps m m' b g linked.
     let row = linked.rel in
     let both = row.first in
-    opened_quiet {one = one} g linked.pats linked.bindings row both.first.pats both.first.bindings (adds_seq (record {
+    opened_adds {one = one} linked.pats linked.bindings row both.first.pats both.first.bindings (adds_seq (record {
       middle = both.middle;
       one = both.one;
       before = both.before;

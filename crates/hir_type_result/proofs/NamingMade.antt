@@ -1,5 +1,6 @@
 -- What is made up for `?` and `try` names the patterns and types that are made up for them or are written there, each once.
 use Rattle.std.proofs.Common.{arith, ℕ, Bool, [], ◌∷◌, ◌++◌, Option, Some, None}
+use Rattle.hir_binding.specs.declared.binding.BindingAnnotation.{BindingAnnotation}
 use Rattle.hir_store.specs.Pointers.{Pointer}
 use Rattle.hir_store.specs.declared.hir.Expr.TheVariants as hir
 use Rattle.hir_store.specs.declared.hir.MatchArm.{MatchArm}
@@ -36,28 +37,28 @@ leaving_named None e l k = omega arith
 leaving_named (Some t) e l k = omega arith
 
 -- an arm
-abbrev an_arm : MatchArm → Numbers
+abbrev pub an_arm : MatchArm → Numbers
 an_arm a l = of_arm l a
 
-made_bind_names : (n : ℕ) → Correct (made_bind_form n) (Adds none a_pat)
+pub made_bind_names : (mode : BindingAnnotation) (n : ℕ) → Correct (made_bind_form mode n) (Adds none a_pat)
 unfolding made_bind_form
-made_bind_names n = adds_then (new_made_binding (made_binding n))
+made_bind_names mode n = adds_then (new_made_binding (made_binding mode n))
     (λ b. adds_then (adds_pat (pat.Bind b None) None (λ l k. let x = times_append k (l.bindings b) [] in omega arith))
     (λ p. adds_then (adds_quiet (quiet_define b p)) (λ u. adds_pure p (λ l k. omega arith))))
 
 module _ (at : Pointer) where
-  made_path_quiet : (n : ℕ) → Correct (made_path_form at n) Quiet
+  pub made_path_quiet : (n : ℕ) → Correct (made_path_form at n) Quiet
   unfolding made_path_form
   made_path_quiet n = quiet_made _ (Some at) (λ l k. omega arith)
 
-  item_call_quiet : (item : Option LangItemId) (a : ExprId) → Correct (item_call_form at item a) Quiet
+  pub item_call_quiet : (item : Option LangItemId) (a : ExprId) → Correct (item_call_form at item a) Quiet
   unfolding item_call_form
   item_call_quiet item a = quiet_then (quiet_made _ (Some at) (item_named item)) (λ f. quiet_made _ (Some at) (λ l k. omega arith))
 
   flow_arm_names : (item : LangItemId) {body : ℕ → ExprSteps} → ((n : ℕ) → Correct (body n) Quiet)
       → Correct (flow_arm_form item body) (Adds none an_arm)
   unfolding flow_arm_form
-  flow_arm_names item h = adds_then quiet_number (λ n. adds_then (made_bind_names n)
+  flow_arm_names item h = adds_then quiet_number (λ n. adds_then (made_bind_names _ n)
       (λ p. adds_then (adds_pat (item_pat item p) None (λ l k. let x = times_append k (l.pats p) [] in omega arith))
       (λ q. adds_then (adds_quiet (h n)) (λ e. adds_pure _ (λ l k. omega arith)))))
 
@@ -66,7 +67,7 @@ module _ (at : Pointer) where
   residual_quiet items n = quiet_then (made_path_quiet n) (λ r. quiet_then quiet_try_target
       (λ t. quiet_then (item_call_quiet (conversion items t) r) (λ e. quiet_made _ (Some at) (leaving_named t e))))
 
-  two_arms : (b : ExprId) (a c : MatchArm) (l : Look) → of_expr l (hir.Match b (a ∷ c ∷ [])) ⊑ an_arm a l ++ an_arm c l
+  pub two_arms : (b : ExprId) (a c : MatchArm) (l : Look) → of_expr l (hir.Match b (a ∷ c ∷ [])) ⊑ an_arm a l ++ an_arm c l
   two_arms b a c l k =
       let x = times_append k (of_arm l a) (of_arm l c ++ []) in
       let y = times_append k (of_arm l c) [] in
@@ -103,5 +104,5 @@ module _ (at : Pointer) where
       → Correct (typed_try_form at b t) Quiet
   unfolding typed_try_form
   typed_try_quiet hb ht = quiet_then hb (λ b. adds_then quiet_number (λ n. adds_then ht
-      (λ t. adds_then (adds_beside (a_type t) (made_bind_names n))
+      (λ t. adds_then (adds_beside (a_type t) (made_bind_names _ n))
       (λ p. adds_then (adds_quiet (made_path_quiet n)) (λ e. adds_made (bound_block p t b e) (Some at) (bound_named p t b e))))))

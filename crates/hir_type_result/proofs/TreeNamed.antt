@@ -54,6 +54,8 @@ use Rattle.hir_type_result.proofs.Naming.{quiet_settle}
 use Rattle.hir_type_result.proofs.NamingForms.{missing_quiet, leaf_quiet, unary_quiet, binary_quiet, leaving_quiet, if_quiet, loop_quiet}
 use Rattle.hir_type_result.proofs.NamingForms.{turn_quiet}
 use Rattle.hir_type_result.proofs.NamingMade.{question_quiet, try_block_quiet, typed_try_quiet}
+use Rattle.hir_type_result.proofs.NamingFors.{for_quiet}
+use Rattle.hir_env.specs.Targets.{head_pointer}
 use Rattle.hir_type_result.proofs.NamingForms.{call_quiet, continue_quiet, break_quiet, paren_quiet, operand_quiet, operands_quiet}
 use Rattle.hir_type_result.proofs.NamingForms.{value_quiet, list_quiet, await_quiet, field_quiet, block_form_quiet, path_quiet, cast_quiet}
 use Rattle.hir_type_result.proofs.NamingForms.{offset_of_quiet, method_call_quiet, record_quiet, contents_quiet, labelled_quiet}
@@ -233,6 +235,8 @@ mutual
   node_quiet (tree.block_expr b) = block_quiet b
   node_quiet (tree.loop_expr at label _ b) = loop_quiet at _ label (block_part_quiet b)
   node_quiet (tree.while_expr at label _ c b) = loop_quiet at _ label (turn_quiet at (part_quiet c) (block_part_quiet b))
+  node_quiet (tree.for_expr at items label _ p h b) =
+      for_quiet at (head_pointer at h) items label (part_quiet h) (top_adds p) (part_quiet b)
   node_quiet (tree.question_expr at items e) = question_quiet at items (part_quiet e)
   node_quiet (tree.itemless_expr at) = missing_quiet
   node_quiet (tree.try_expr at item tree.no_type number ss e) =

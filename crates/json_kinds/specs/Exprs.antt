@@ -26,6 +26,15 @@ expr_row kind.WhileExpr = record {
       ∷ (codes "body" ∶ sort.Part group.Block)
       ∷ [];
 }
+expr_row kind.ForExpr = record {
+  word = codes "ForExpr";
+  groups = group.Expr ∷ [];
+  fields = (codes "label" ∶ sort.Part group.Label)
+      ∷ (codes "pat" ∶ sort.Part group.Pat)
+      ∷ (codes "iterable" ∶ sort.Part group.Expr)
+      ∷ (codes "body" ∶ sort.Part group.Block)
+      ∷ [];
+}
 expr_row kind.TryExpr = record {
   word = codes "TryExpr";
   groups = group.Expr ∷ [];

@@ -62,8 +62,9 @@ row (kind.Part k) = part_row k
 
 -- the kinds that serve as expressions: those of the core
 abbrev pub exprs : List Kind
-exprs = kind.IfExpr ∷ kind.BlockExpr ∷ kind.Expr expr.LoopExpr ∷ kind.Expr expr.WhileExpr ∷ kind.Expr expr.TryExpr
-    ∷ kind.Expr expr.CallExpr ∷ kind.Expr expr.PathExpr ∷ kind.Expr expr.ContinueExpr ∷ kind.Expr expr.BreakExpr ∷ kind.Expr expr.ParenExpr ∷ kind.Literal ∷ []
+exprs = kind.IfExpr ∷ kind.BlockExpr ∷ kind.Expr expr.LoopExpr ∷ kind.Expr expr.WhileExpr ∷ kind.Expr expr.ForExpr
+    ∷ kind.Expr expr.TryExpr ∷ kind.Expr expr.CallExpr ∷ kind.Expr expr.PathExpr ∷ kind.Expr expr.ContinueExpr
+    ∷ kind.Expr expr.BreakExpr ∷ kind.Expr expr.ParenExpr ∷ kind.Literal ∷ []
 
 -- those that are made of operands
 abbrev pub operations : List Kind

@@ -14,6 +14,7 @@ fn exprs(word: &str) -> Option<Kind>
         "BlockExpr" => Some(Kind::BlockExpr),
         "LoopExpr" => Some(Kind::Expr(ExprNode::LoopExpr)),
         "WhileExpr" => Some(Kind::Expr(ExprNode::WhileExpr)),
+        "ForExpr" => Some(Kind::Expr(ExprNode::ForExpr)),
         "TryExpr" => Some(Kind::Expr(ExprNode::TryExpr)),
         "CallExpr" => Some(Kind::Expr(ExprNode::CallExpr)),
         "PathExpr" => Some(Kind::Expr(ExprNode::PathExpr)),

@@ -26,6 +26,7 @@ pub enum ExprNode {
     LetExpr,
     LoopExpr,
     WhileExpr,
+    ForExpr,
     TryExpr,
     CallExpr,
     MethodCallExpr,

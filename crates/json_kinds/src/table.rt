@@ -30,6 +30,7 @@ macro_rules! exprs {
             LetExpr [Expr] { "pat": Part(Pat), "expr": Part(Expr) }
             LoopExpr [Expr] { "label": Part(Label), "body": Part(Block) }
             WhileExpr [Expr] { "label": Part(Label), "condition": Part(Expr), "body": Part(Block) }
+            ForExpr [Expr] { "label": Part(Label), "pat": Part(Pat), "iterable": Part(Expr), "body": Part(Block) }
             TryExpr [Expr] { "expr": Part(Expr) }
             CallExpr [Expr] { "expr": Part(Expr), "args": List(Expr) }
             MethodCallExpr [Expr] {

@@ -8,7 +8,7 @@ use Rattle.hir_base.specs.declared.node.PredId.{PredId}
 use Rattle.json_faults.specs.Values.{small_of}
 use Rattle.json_kinds.specs.declared.kind.ExprNode.{ExprNode}
 use Rattle.json_kinds.specs.declared.kind.ExprNode.TheVariants as kind
-use Rattle.json_nodes.specs.Groups.{as_expr, as_block, as_else, as_path, as_label, as_lifetime, as_name, as_generic_args}
+use Rattle.json_nodes.specs.Groups.{as_expr, as_block, as_else, as_pat, as_path, as_label, as_lifetime, as_name, as_generic_args}
 use Rattle.json_nodes.specs.Fields.{flag_of}
 use Rattle.json_nodes.specs.Literals.{literal_of}
 use Rattle.json_nodes.specs.Operators.{unary_op_in, binary_op_in, range_op_in}
@@ -39,6 +39,11 @@ unfoldable pub flow : Here → ExprNode → Option AnyPart
 flow h kind.LoopExpr = Some (whole_expr h (expr.LoopExpr (part_in h as_label (codes "label")) (part_in h as_block (codes "body"))))
 flow h kind.WhileExpr = Some (whole_expr h
     (expr.WhileExpr (part_in h as_label (codes "label")) (part_in h as_expr (codes "condition")) (part_in h as_block (codes "body"))))
+flow h kind.ForExpr = Some (whole_expr h (expr.ForExpr
+    (part_in h as_label (codes "label"))
+    (part_in h as_pat (codes "pat"))
+    (part_in h as_expr (codes "iterable"))
+    (part_in h as_block (codes "body"))))
 flow h kind.TryExpr = Some (whole_expr h (expr.TryExpr (part_in h as_expr (codes "expr"))))
 flow h kind.ContinueExpr = Some (whole_expr h (expr.ContinueExpr (part_in h as_lifetime (codes "lifetime"))))
 flow h kind.BreakExpr = Some (whole_expr h (expr.BreakExpr (part_in h as_lifetime (codes "lifetime")) (part_in h as_expr (codes "expr"))))

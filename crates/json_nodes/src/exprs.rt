@@ -9,6 +9,7 @@ use crate::fields::{AllIfThere, Fields, InBox, One};
 use crate::literal::literal;
 use crate::name_parts::{Labels, Lifetimes};
 use crate::operators::range_op;
+use crate::param_parts::Pats;
 use crate::part::AnyPart;
 use crate::path_parts::Paths;
 use hir_syntax::ast::{Expr, ExprKind};
@@ -96,6 +97,22 @@ pub fn flow<F: Fields>(node: &F, refused: &mut bool, kind: ExprNode) -> Option<A
                 ExprKind::WhileExpr {
                     label,
                     condition,
+                    body,
+                },
+            )
+        }
+        ExprNode::ForExpr => {
+            let label = node.field::<One<Labels>>(refused, "label");
+            let pat = node.field::<InBox<Pats>>(refused, "pat");
+            let iterable = node.field::<InBox<Exprs>>(refused, "iterable");
+            let body = node.field::<One<Blocks>>(refused, "body");
+            whole_expr(
+                node,
+                refused,
+                ExprKind::ForExpr {
+                    label,
+                    pat,
+                    iterable,
                     body,
                 },
             )

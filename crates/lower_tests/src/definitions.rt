@@ -40,6 +40,18 @@ const QUESTION: &str = r#"{"nodes": [
     {"k": "PathSegment", "seg": "name", "name": "a"}
 ]}"#;
 
+/// A function with the body `{ for x in a {} }`.
+const FOR: &str = r#"{"nodes": [
+    {"k": "Fn", "body": 1},
+    {"k": "BlockExpr", "tail": 2},
+    {"k": "ForExpr", "pat": 3, "iterable": 4, "body": 7},
+    {"k": "IdentPat", "name": "x"},
+    {"k": "PathExpr", "path": 5},
+    {"k": "Path", "segs": [6]},
+    {"k": "PathSegment", "seg": "name", "name": "a"},
+    {"k": "BlockExpr"}
+]}"#;
+
 /// The first three.
 type Definitions = [Option<PatId>; 3];
 
@@ -109,4 +121,15 @@ fn each_name_of_a_question_is_a_binding_of_one_pattern(rt: HostRuntime) {
         bindings: 2,
     };
     assert_eq!(rt; defined_in_text(rt.alloc(), QUESTION), Ok(Some(question)));
+}
+
+#[test]
+fn the_name_of_a_for_is_a_binding_behind_those_of_its_pattern(rt: HostRuntime) {
+    let loop_ = Defined {
+        first: Some([Some(PatId(0)), None, None]),
+        second: Some([Some(PatId(1)), None, None]),
+        pats: 4,
+        bindings: 2,
+    };
+    assert_eq!(rt; defined_in_text(rt.alloc(), FOR), Ok(Some(loop_)));
 }

@@ -209,6 +209,42 @@ fn a_question_of_one_takes_nine_expressions(rt: HostRuntime) {
     );
 }
 
+/// The constant that is a `for` over `1`, without pattern and body.
+fn for_over_one(alloc: Global) -> Result<ConstArg, AllocError> {
+    let head = Boxed::new(alloc, one(alloc, 2)?)?;
+    let turns = ExprKind::ForExpr {
+        label: None,
+        pat: None,
+        iterable: Some(head),
+        body: None,
+    };
+    constant(alloc, expr(1, turns))
+}
+
+/// The `for` in a collector for twelve expressions, and in one for thirteen.
+fn for_in_twelve_and_thirteen(alloc: Global) -> Result<(Answers, Stored), AllocError> {
+    let turns = for_over_one(alloc)?;
+    let in_twelve = lowered_twice(alloc, &turns, 12);
+    let in_thirteen = lowered_once(alloc, &turns, 13);
+    drop(turns);
+    Ok((in_twelve, in_thirteen))
+}
+
+#[test]
+fn a_for_over_one_takes_thirteen_expressions(rt: HostRuntime) {
+    let in_twelve = Answers {
+        first: Some(LowerError::Full),
+        exprs: 12,
+        again: Some(LowerError::Failed),
+        stored: Err(LowerError::Failed),
+    };
+    let in_thirteen = Ok(Some(ExprId(13)));
+    assert_eq!(rt;
+        for_in_twelve_and_thirteen(rt.alloc()),
+        Ok((in_twelve, in_thirteen))
+    );
+}
+
 fn literal_in_none(alloc: Global) -> Result<Answers, AllocError> {
     let literal = constant(alloc, one(alloc, 1)?)?;
     let answers = lowered_twice(alloc, &literal, 0);

@@ -1,9 +1,10 @@
-//! What the nodes of `?` and `try` lead to, and how much is stored for them.
+//! What the nodes of `?`, `try` and `for` lead to, and how much is stored for them.
 
 use crate::lowered::lowered_text;
-use crate::ways::node;
+use crate::ways::{Way, node, way};
 use hir_lower::{Body, BodySourceMap};
 use hir_store::hir::Expr;
+use hir_store::ids::ExprId;
 use lower_json::fault::ReadError;
 use std::alloc::Global;
 
@@ -46,6 +47,45 @@ const TYPED: &str = r#"{"nodes": [
     {"k": "Path", "segs": [5]},
     {"k": "PathSegment", "seg": "name", "name": "T"}
 ]}"#;
+
+/// `fn f() { 'a: for x in a {} }`
+const FOR: &str = r#"{"nodes": [
+    {"k": "Fn", "body": 1},
+    {"k": "BlockExpr", "tail": 2},
+    {"k": "ForExpr", "label": 3, "pat": 4, "iterable": 5, "body": 8},
+    {"k": "Label", "lifetime": "'a"},
+    {"k": "IdentPat", "name": "x"},
+    {"k": "PathExpr", "path": 6},
+    {"k": "Path", "segs": [7]},
+    {"k": "PathSegment", "seg": "name", "name": "a"},
+    {"k": "BlockExpr"}
+]}"#;
+
+/// The same where the language has no item that gives the next one.
+const FOR_WITHOUT_ITEM: &str = r#"{"nodes": [
+    {"k": "Fn", "body": 1},
+    {"k": "BlockExpr", "tail": 2},
+    {"k": "ForExpr", "label": 3, "pat": 4, "iterable": 5, "body": 8},
+    {"k": "Label", "lifetime": "'a"},
+    {"k": "IdentPat", "name": "x"},
+    {"k": "PathExpr", "path": 6},
+    {"k": "Path", "segs": [7]},
+    {"k": "PathSegment", "seg": "name", "name": "a"},
+    {"k": "BlockExpr"}
+], "env": {"lang": {"IteratorNext": null}}}"#;
+
+/// `fn f() { 'a: for x in #[cfg(no)] a {} }`
+const FOR_OF_DISABLED_HEAD: &str = r#"{"nodes": [
+    {"k": "Fn", "body": 1},
+    {"k": "BlockExpr", "tail": 2},
+    {"k": "ForExpr", "label": 3, "pat": 4, "iterable": 5, "body": 8},
+    {"k": "Label", "lifetime": "'a"},
+    {"k": "IdentPat", "name": "x"},
+    {"k": "PathExpr", "path": 6},
+    {"k": "Path", "segs": [7]},
+    {"k": "PathSegment", "seg": "name", "name": "a"},
+    {"k": "BlockExpr"}
+], "env": {"disabled": [[0, 5, 5]]}}"#;
 
 /// What a node leads to.
 #[derive(Clone, Copy, Debug, PartialEq)]
@@ -136,4 +176,48 @@ fn a_typed_try_leads_to_the_labelled_block_inside(rt: HostRuntime) {
         lengths: [7, 1, 1, 1, 1],
     };
     assert_eq!(rt; rewritten_in_text(rt.alloc(), TYPED), Ok(Some(typed)));
+}
+
+#[test]
+fn a_for_leads_to_its_outer_match(rt: HostRuntime) {
+    let turns = Rewritten {
+        led: Led::Match,
+        lengths: [14, 4, 2, 1, 0],
+    };
+    assert_eq!(rt; rewritten_in_text(rt.alloc(), FOR), Ok(Some(turns)));
+}
+
+#[test]
+fn a_for_without_its_items_leads_nowhere(rt: HostRuntime) {
+    let missing = Rewritten {
+        led: Led::Nowhere,
+        lengths: [2, 0, 0, 0, 0],
+    };
+    assert_eq!(rt;
+        rewritten_in_text(rt.alloc(), FOR_WITHOUT_ITEM),
+        Ok(Some(missing))
+    );
+}
+
+/// What the head of the `for` leads to, which is node 5.
+fn way_of_head(alloc: Global, text: &str) -> Result<Option<Way>, ReadError> {
+    match lowered_text(alloc, text)? {
+        Some((body, source_map)) => {
+            let found = way(&source_map, 5);
+            drop(body);
+            drop(source_map);
+            Ok(Some(found))
+        }
+        None => Ok(None),
+    }
+}
+
+#[test]
+fn the_head_of_a_for_leads_to_itself_and_nowhere_where_it_is_disabled(rt: HostRuntime) {
+    let head = (Some(ExprId(0)), None);
+    assert_eq!(rt; way_of_head(rt.alloc(), FOR), Ok(Some(head)));
+    assert_eq!(rt;
+        way_of_head(rt.alloc(), FOR_OF_DISABLED_HEAD),
+        Ok(Some((None, None)))
+    );
 }

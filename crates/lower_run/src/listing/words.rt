@@ -82,6 +82,7 @@ pub fn loop_word(source: LoopSource) -> &'static str {
     match source {
         LoopSource::Loop => "loop",
         LoopSource::While => "while",
+        LoopSource::ForLoop => "for",
     }
 }
 

@@ -1,0 +1,358 @@
+//! `for`: a match on the iterator that is made of the head, of which the one arm is a loop. Each turn of it matches on the next item.
+
+ghost use Rattle.std.specs.Prelude.{◌≡◌, [], ◌∷◌, IfOk, Some, option_map};
+ghost use Rattle.hir_syntax.specs.declared.ast.BlockExpr.{out-BlockExpr};
+ghost use Rattle.hir_store.specs.Range.{HasExpr, HasPat};
+ghost use Rattle.hir_env.specs.Answered as tree;
+ghost use Rattle.hir_env.specs.Answering as of;
+ghost use Rattle.hir_env.specs.Targets.{head_pointer, pointer_of};
+ghost use Rattle.hir_env.specs.Whole.{answered, answered_block, answered_body, body_part, expr_part, label_part, own_pointer};
+ghost use Rattle.hir_env.specs.Whole.{pat_part, pointer_at};
+ghost use Rattle.hir_lower_form.specs.Lower.{lower_part};
+ghost use Rattle.hir_lower_form.specs.Lowering.{Lowers};
+ghost use Rattle.hir_lower_form.specs.Lowering as step;
+ghost use Rattle.hir_lower_form.specs.Made as spec;
+ghost use Rattle.hir_lower_form.specs.Methods.{HasArm, LowersExpr, LowersExprOpt};
+ghost use Rattle.hir_lower_form.specs.Nests.{IfPresent, KidsBody};
+ghost use Rattle.hir_lower_expr.specs.Fors.{items_of};
+
+use crate::blocks::block_form;
+use crate::questions::two_arms;
+use hir_base::node::{AstPtr, InFile};
+use hir_env::lang::LangItems;
+use hir_lower_form::builder::BodyBuilder;
+use hir_lower_form::parts::{LowerParts, Lowerer, site};
+use hir_lower_pat::top::top_pat;
+use hir_store::diagnostics::ExpressionStoreDiagnostics;
+use hir_store::fault::StoreFault;
+use hir_store::hir::{BindingAnnotation, Expr, LoopSource, MatchArm, Pat};
+use hir_store::ids::{ExprId, HygieneId, LangItemId, PatId};
+use hir_store::lists::push_arm;
+use hir_store::path::Path;
+use hir_syntax::{Boxed, Seq, ast};
+use std::alloc::{AllocError, Global};
+
+/// The items that a `for` takes. It can't do without any.
+#[derive(Clone, Copy)]
+struct ForItems {
+    into_iter: LangItemId,
+    next: LangItemId,
+    gives: LangItemId,
+    is_done: LangItemId,
+}
+
+/// Those of the language, where all are there.
+fn for_items(items: &LangItems) -> Option<ForItems>
+    ensures { option_map items_of result ≡ of.for_items items.now }
+{
+    let into_iter = items.into_iter_into_iter?;
+    let next = items.iterator_next?;
+    let gives = items.option_some?;
+    let is_done = items.option_none?;
+    Some(ForItems {
+        into_iter,
+        next,
+        gives,
+        is_done,
+    })
+}
+
+/// A block as an expression, missing where a condition disables it.
+fn asked_body<P: LowerParts>(
+    lowerer: &Lowerer<P>,
+    state: &mut BodyBuilder,
+    node: &ast::BlockExpr,
+) -> Result<ExprId, StoreFault>
+    requires { KidsBody (P.can lowerer.now.parts) (P.spot lowerer.now.parts).place node.now }
+    ensures { let spot = P.spot lowerer.now.parts in
+        let level = out-BlockExpr node.now in
+        let at = pointer_at spot level.id level.range in
+        let read = of.asked at (spot.answers.cfg (of.site_of at)) (answered_block spot node.now) in
+        LowersExpr read state.old result state.new }
+{
+    let at = lowerer.pointer(node.id, node.range);
+    match lowerer.parts.cfg(site(at)) {
+        Err(cfg) => {
+            state.report(ExpressionStoreDiagnostics::InactiveCode { node: at, cfg })?;
+            state.missing_expr()
+        }
+        Ok(()) => block_form(lowerer, state, node),
+    }
+}
+
+fn body_node<P: LowerParts>(
+    lowerer: &Lowerer<P>,
+    state: &mut BodyBuilder,
+    node: &ast::BlockExpr,
+) -> Result<ExprId, StoreFault>
+    requires { KidsBody (P.can lowerer.now.parts) (P.spot lowerer.now.parts).place node.now }
+    ensures { LowersExpr (answered_body (P.spot lowerer.now.parts) node.now) state.old result state.new }
+{
+    asked_body(lowerer, state, node)
+}
+
+/// The body, missing where it is absent.
+fn body_opt<P: LowerParts>(
+    lowerer: &Lowerer<P>,
+    state: &mut BodyBuilder,
+    part: &Option<Boxed<ast::BlockExpr>>,
+) -> Result<ExprId, StoreFault>
+    requires { IfPresent (KidsBody (P.can lowerer.now.parts) (P.spot lowerer.now.parts).place) part.now }
+    ensures { LowersExprOpt (body_part (P.spot lowerer.now.parts) part.now) state.old result state.new }
+{
+    match part {
+        None => state.missing_expr(),
+        Some(part) => body_node(lowerer, state, part.get()),
+    }
+}
+
+/// What asks the iterator for its next item.
+#[tactic(auto, unfolding(hir_lower_form::specs::Made::next_form))]
+fn next_item(
+    alloc: Global,
+    state: &mut BodyBuilder,
+    at: InFile<AstPtr>,
+    item: LangItemId,
+    number: u32,
+) -> Result<ExprId, StoreFault>
+    ensures { Lowers HasExpr (spec.next_form at item number) state.old result state.new }
+{
+    let iterator = state.made_reference(alloc, at, number)?;
+    state.item_call(alloc, at, Some(item), iterator)
+}
+
+/// The arm for no item, which ends the loop.
+#[tactic(auto, unfolding(hir_lower_form::specs::Made::done_arm_form))]
+fn done_arm(
+    state: &mut BodyBuilder,
+    at: InFile<AstPtr>,
+    item: LangItemId,
+) -> Result<MatchArm, StoreFault>
+    ensures { Lowers HasArm (spec.done_arm_form at item) state.old result state.new }
+{
+    let path = Path::LangItem(item);
+    let hygiene = HygieneId::ROOT;
+    let pat = state.alloc_pat(Pat::Path { path, hygiene }, None)?;
+    let label = None;
+    let expr = None;
+    let expr = state.alloc_made(Expr::Break { label, expr }, Some(at))?;
+    let guard = None;
+    Ok(MatchArm { pat, guard, expr })
+}
+
+/// The arm for an item that the pattern fits, with the body.
+#[tactic(auto, unfolding(hir_lower_form::specs::Made::gives_arm_form))]
+fn gives_arm<P: LowerParts>(
+    lowerer: &Lowerer<P>,
+    state: &mut BodyBuilder,
+    item: LangItemId,
+    part: PatId,
+    body: &Option<Boxed<ast::BlockExpr>>,
+) -> Result<MatchArm, StoreFault>
+    requires part { HasPat state.old.stored part }
+    requires body { IfPresent (KidsBody (P.can lowerer.now.parts) (P.spot lowerer.now.parts).place) body.now }
+    ensures { let body = lower_part (body_part (P.spot lowerer.now.parts) body.now) in
+        Lowers HasArm (spec.gives_arm_form item part body) state.old result state.new }
+{
+    let pat = state.item_pat(lowerer.alloc, item, part)?;
+    let expr = body_opt(lowerer, state, body)?;
+    let guard = None;
+    Ok(MatchArm { pat, guard, expr })
+}
+
+/// A block with nothing but this value.
+fn only_tail(
+    alloc: Global,
+    state: &mut BodyBuilder,
+    at: InFile<AstPtr>,
+    value: ExprId,
+) -> Result<ExprId, StoreFault>
+    requires { HasExpr state.old.stored value }
+    ensures { Lowers HasExpr (step.alloc_made (spec.only_tail value) (Some at)) state.old result state.new }
+{
+    let expr = Expr::Block {
+        is_unsafe: false,
+        label: None,
+        id: None,
+        statements: Seq::new(alloc),
+        tail: Some(value),
+    };
+    state.alloc_made(expr, Some(at))
+}
+
+/// One turn of the loop, for the iterator of this name.
+#[tactic(auto, unfolding(hir_lower_form::specs::Made::for_turn_form))]
+fn turn<P: LowerParts>(
+    lowerer: &Lowerer<P>,
+    state: &mut BodyBuilder,
+    at: InFile<AstPtr>,
+    items: ForItems,
+    number: u32,
+    pat: PatId,
+    body: &Option<Boxed<ast::BlockExpr>>,
+) -> Result<ExprId, StoreFault>
+    requires pat { HasPat state.old.stored pat }
+    requires body { IfPresent (KidsBody (P.can lowerer.now.parts) (P.spot lowerer.now.parts).place) body.now }
+    ensures { let body = lower_part (body_part (P.spot lowerer.now.parts) body.now) in
+        Lowers HasExpr (spec.for_turn_form at (items_of items) number pat body) state.old result state.new }
+{
+    let expr = next_item(lowerer.alloc, state, at, items.next, number)?;
+    let done = done_arm(state, at, items.is_done)?;
+    let gives = gives_arm(lowerer, state, items.gives, pat, body)?;
+    let arms = two_arms(lowerer.alloc, done, gives)?;
+    let value = state.alloc_made(Expr::Match { expr, arms }, Some(at))?;
+    only_tail(lowerer.alloc, state, at, value)
+}
+
+/// The loop over such turns.
+#[tactic(auto, unfolding(hir_lower_form::specs::Made::made_loop_form))]
+fn turns<P: LowerParts>(
+    lowerer: &Lowerer<P>,
+    state: &mut BodyBuilder,
+    at: InFile<AstPtr>,
+    items: ForItems,
+    label: &Option<ast::Label>,
+    number: u32,
+    pat: PatId,
+    body: &Option<Boxed<ast::BlockExpr>>,
+) -> Result<ExprId, StoreFault>
+    requires pat { HasPat state.old.stored pat }
+    requires body { IfPresent (KidsBody (P.can lowerer.now.parts) (P.spot lowerer.now.parts).place) body.now }
+    ensures { let spot = P.spot lowerer.now.parts in
+        let turn = spec.for_turn_form at (items_of items) number pat (lower_part (body_part spot body.now)) in
+        Lowers HasExpr (spec.made_loop_form at (label_part spot label.now) turn) state.old result state.new }
+{
+    let source = LoopSource::ForLoop;
+    match label {
+        None => {
+            let body = turn(lowerer, state, at, items, number, pat, body)?;
+            let label = None;
+            state.alloc_made(
+                Expr::Loop {
+                    body,
+                    label,
+                    source,
+                },
+                Some(at),
+            )
+        }
+        Some(label) => {
+            let label = lowerer.open_label(state, label)?;
+            let body = turn(lowerer, state, at, items, number, pat, body)?;
+            state.close();
+            let label = Some(label);
+            state.alloc_made(
+                Expr::Loop {
+                    body,
+                    label,
+                    source,
+                },
+                Some(at),
+            )
+        }
+    }
+}
+
+/// The node of an expression, which of a block is the block's.
+fn own_node<P: LowerParts>(lowerer: &Lowerer<P>, node: &ast::Expr) -> InFile<AstPtr>
+    ensures { result ≡ own_pointer (P.spot lowerer.now.parts) node.now }
+{
+    match &node.kind {
+        ast::ExprKind::BlockExpr(block) => {
+            let block = block.get();
+            lowerer.pointer(block.id, block.range)
+        }
+        _ => lowerer.pointer(node.id, node.range),
+    }
+}
+
+fn node_of<P: LowerParts>(lowerer: &Lowerer<P>, node: &ast::Expr) -> InFile<AstPtr>
+    ensures { result ≡ pointer_of (answered (P.spot lowerer.now.parts) node.now) }
+{
+    own_node(lowerer, node)
+}
+
+/// The node of the head, or the form's where that is absent.
+fn head_node<P: LowerParts>(
+    lowerer: &Lowerer<P>,
+    at: InFile<AstPtr>,
+    head: &Option<Boxed<ast::Expr>>,
+) -> InFile<AstPtr>
+    ensures { result ≡ head_pointer at (expr_part (P.spot lowerer.now.parts) head.now) }
+{
+    match head {
+        None => at,
+        Some(head) => node_of(lowerer, head.get()),
+    }
+}
+
+/// A list with this arm alone, which has no guard.
+fn one_arm(alloc: Global, pat: PatId, expr: ExprId) -> Result<Seq<MatchArm>, AllocError>
+    ensures value { IfOk result (λ arms. arms ≡ spec.arm_for pat expr ∷ []) }
+{
+    let mut arms = Seq::new(alloc);
+    let guard = None;
+    push_arm(&mut arms, MatchArm { pat, guard, expr })?;
+    Ok(arms)
+}
+
+/// The head and the pattern lie outside of the label.
+#[tactic(auto, unfolding(hir_lower_form::specs::Made::for_form))]
+fn for_with<P: LowerParts>(
+    lowerer: &Lowerer<P>,
+    state: &mut BodyBuilder,
+    at: InFile<AstPtr>,
+    items: ForItems,
+    label: &Option<ast::Label>,
+    pat: &Option<Boxed<ast::Pat>>,
+    iterable: &Option<Boxed<ast::Expr>>,
+    body: &Option<Boxed<ast::BlockExpr>>,
+) -> Result<ExprId, StoreFault>
+    requires pat { IfPresent ((P.can lowerer.now.parts).pat (P.spot lowerer.now.parts).place) pat.now }
+    requires iterable { IfPresent (P.can lowerer.now.parts).expr iterable.now }
+    requires body { IfPresent (KidsBody (P.can lowerer.now.parts) (P.spot lowerer.now.parts).place) body.now }
+    ensures { let spot = P.spot lowerer.now.parts in
+        LowersExpr (tree.for_expr at (items_of items)
+        (label_part spot label.now)
+        (of.label_written spot.answers spot.place label.now)
+        (pat_part spot pat.now)
+        (expr_part spot iterable.now)
+        (body_part spot body.now)) state.old result state.new }
+{
+    let head_at = head_node(lowerer, at, iterable);
+    let head = lowerer.collect_expr_opt(state, iterable)?;
+    let expr = state.item_call(lowerer.alloc, head_at, Some(items.into_iter), head)?;
+    let pat = top_pat(lowerer, state, pat)?;
+    let number = state.made_number()?;
+    let iterator = state.made_bind(BindingAnnotation::Mutable, number)?;
+    let turns = turns(lowerer, state, at, items, label, number, pat, body)?;
+    let arms = one_arm(lowerer.alloc, iterator, turns)?;
+    state.alloc_expr(Expr::Match { expr, arms }, Some(at))
+}
+
+/// Where the language lacks one of the items, a `for` is missing, and nothing in it is lowered.
+pub(crate) fn for_form<P: LowerParts>(
+    lowerer: &Lowerer<P>,
+    state: &mut BodyBuilder,
+    at: InFile<AstPtr>,
+    label: &Option<ast::Label>,
+    pat: &Option<Boxed<ast::Pat>>,
+    iterable: &Option<Boxed<ast::Expr>>,
+    body: &Option<Boxed<ast::BlockExpr>>,
+) -> Result<ExprId, StoreFault>
+    requires pat { IfPresent ((P.can lowerer.now.parts).pat (P.spot lowerer.now.parts).place) pat.now }
+    requires iterable { IfPresent (P.can lowerer.now.parts).expr iterable.now }
+    requires body { IfPresent (KidsBody (P.can lowerer.now.parts) (P.spot lowerer.now.parts).place) body.now }
+    ensures { let spot = P.spot lowerer.now.parts in
+        LowersExpr (of.for_of (of.for_items spot.answers.lang_items) at
+        (label_part spot label.now)
+        (of.label_written spot.answers spot.place label.now)
+        (pat_part spot pat.now)
+        (expr_part spot iterable.now)
+        (body_part spot body.now)) state.old result state.new }
+{
+    match for_items(lowerer.parts.lang_items()) {
+        None => state.missing_expr(),
+        Some(items) => for_with(lowerer, state, at, items, label, pat, iterable, body),
+    }
+}
