@@ -40,7 +40,7 @@ pub(crate) fn assign_form<P: LowerParts>(
 }
 
 /// By the operator: what is on the left of `=` is no operand.
-pub(crate) fn bin_form<P: LowerParts>(
+pub fn bin_form<P: LowerParts>(
     lowerer: &Lowerer<P>,
     state: &mut BodyBuilder,
     at: InFile<AstPtr>,

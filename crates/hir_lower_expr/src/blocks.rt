@@ -262,7 +262,7 @@ fn headed_block<P: LowerParts>(
 }
 
 /// A block as an expression, where its own modifier and its own label count.
-pub(crate) fn block_form<P: LowerParts>(
+pub fn block_form<P: LowerParts>(
     lowerer: &Lowerer<P>,
     state: &mut BodyBuilder,
     node: &ast::BlockExpr,

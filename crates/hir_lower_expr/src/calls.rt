@@ -17,8 +17,9 @@ use hir_store::hir::Expr;
 use hir_store::ids::ExprId;
 use hir_syntax::{Boxed, Seq, ast};
 
+/// A call: the callee, then its arguments first to last.
 #[tactic(auto, unfolding(hir_lower_form::specs::Forms::call_form))]
-pub(crate) fn call_form<P: LowerParts>(
+pub fn call_form<P: LowerParts>(
     lowerer: &Lowerer<P>,
     state: &mut BodyBuilder,
     at: InFile<AstPtr>,
@@ -39,7 +40,7 @@ pub(crate) fn call_form<P: LowerParts>(
 
 /// The generic arguments behind the others.
 #[tactic(auto, unfolding(hir_lower_form::specs::Forms::method_call_form))]
-pub(crate) fn method_call_form<P: LowerParts>(
+pub fn method_call_form<P: LowerParts>(
     lowerer: &Lowerer<P>,
     state: &mut BodyBuilder,
     at: InFile<AstPtr>,
@@ -72,7 +73,7 @@ pub(crate) fn method_call_form<P: LowerParts>(
 
 /// The parentheses lead to what is in them.
 #[tactic(auto, unfolding(hir_lower_form::specs::Forms::paren_form))]
-pub(crate) fn paren_form<P: LowerParts>(
+pub fn paren_form<P: LowerParts>(
     lowerer: &Lowerer<P>,
     state: &mut BodyBuilder,
     at: InFile<AstPtr>,

@@ -60,7 +60,7 @@ fn else_if_present<P: LowerParts>(
 
 /// The branches are lowered before the condition.
 #[tactic(auto, unfolding(hir_lower_form::specs::Forms::if_form))]
-pub(crate) fn if_form<P: LowerParts>(
+pub fn if_form<P: LowerParts>(
     lowerer: &Lowerer<P>,
     state: &mut BodyBuilder,
     at: InFile<AstPtr>,
@@ -87,8 +87,9 @@ pub(crate) fn if_form<P: LowerParts>(
     state.alloc_expr(expr, Some(at))
 }
 
+/// A `loop`, whose label lies around its body.
 #[tactic(auto, unfolding(hir_lower_form::specs::Forms::loop_form))]
-pub(crate) fn loop_form<P: LowerParts>(
+pub fn loop_form<P: LowerParts>(
     lowerer: &Lowerer<P>,
     state: &mut BodyBuilder,
     at: InFile<AstPtr>,
@@ -165,7 +166,7 @@ fn turn_form<P: LowerParts>(
 
 /// A loop over such a turn. The condition lies under the label as the body does.
 #[tactic(auto, unfolding(hir_lower_form::specs::Forms::loop_form))]
-pub(crate) fn while_form<P: LowerParts>(
+pub fn while_form<P: LowerParts>(
     lowerer: &Lowerer<P>,
     state: &mut BodyBuilder,
     at: InFile<AstPtr>,

@@ -331,7 +331,7 @@ fn for_with<P: LowerParts>(
 }
 
 /// Where the language lacks one of the items, a `for` is missing, and nothing in it is lowered.
-pub(crate) fn for_form<P: LowerParts>(
+pub fn for_form<P: LowerParts>(
     lowerer: &Lowerer<P>,
     state: &mut BodyBuilder,
     at: InFile<AstPtr>,

@@ -13,8 +13,9 @@ use hir_store::hir::Expr;
 use hir_store::ids::ExprId;
 use hir_syntax::{Boxed, ast};
 
+/// A `continue`. Where its label has no target, that is told, and it has none.
 #[tactic(auto, unfolding(hir_lower_form::specs::Forms::continue_form))]
-pub(crate) fn continue_form<P: LowerParts>(
+pub fn continue_form<P: LowerParts>(
     lowerer: &Lowerer<P>,
     state: &mut BodyBuilder,
     at: InFile<AstPtr>,
@@ -26,8 +27,9 @@ pub(crate) fn continue_form<P: LowerParts>(
     state.alloc_expr(Expr::Continue { label }, Some(at))
 }
 
+/// A `break`: its target first, then its value. Where its label has no target, that is told, and it has none.
 #[tactic(auto, unfolding(hir_lower_form::specs::Forms::break_form))]
-pub(crate) fn break_form<P: LowerParts>(
+pub fn break_form<P: LowerParts>(
     lowerer: &Lowerer<P>,
     state: &mut BodyBuilder,
     at: InFile<AstPtr>,

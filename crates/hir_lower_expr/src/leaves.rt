@@ -13,7 +13,8 @@ use hir_store::hir::Expr;
 use hir_store::ids::ExprId;
 use hir_syntax::ast;
 
-pub(crate) fn literal_form<P: LowerParts>(
+/// A literal.
+pub fn literal_form<P: LowerParts>(
     lowerer: &Lowerer<P>,
     state: &mut BodyBuilder,
     at: InFile<AstPtr>,
@@ -26,7 +27,7 @@ pub(crate) fn literal_form<P: LowerParts>(
 }
 
 /// A condition predicate is read to what it comes to.
-pub(crate) fn predicate_form<P: LowerParts>(
+pub fn predicate_form<P: LowerParts>(
     lowerer: &Lowerer<P>,
     state: &mut BodyBuilder,
     at: InFile<AstPtr>,
@@ -39,7 +40,8 @@ pub(crate) fn predicate_form<P: LowerParts>(
     state.alloc_expr(Expr::Literal(read), Some(at))
 }
 
-pub(crate) fn underscore_form<P: LowerParts>(
+/// `_` where a value stands.
+pub fn underscore_form<P: LowerParts>(
     lowerer: &Lowerer<P>,
     state: &mut BodyBuilder,
     at: InFile<AstPtr>,
@@ -49,7 +51,8 @@ pub(crate) fn underscore_form<P: LowerParts>(
     state.alloc_expr(Expr::Underscore, Some(at))
 }
 
-pub(crate) fn include_bytes_form<P: LowerParts>(
+/// `include_bytes!`, whose bytes nobody read.
+pub fn include_bytes_form<P: LowerParts>(
     lowerer: &Lowerer<P>,
     state: &mut BodyBuilder,
     at: InFile<AstPtr>,
@@ -60,7 +63,7 @@ pub(crate) fn include_bytes_form<P: LowerParts>(
 }
 
 /// Inline assembly and format strings are left out, and missing.
-pub(crate) fn left_out_form<P: LowerParts>(
+pub fn left_out_form<P: LowerParts>(
     lowerer: &Lowerer<P>,
     state: &mut BodyBuilder,
     at: InFile<AstPtr>,

@@ -13,8 +13,9 @@ use hir_store::hir::Expr;
 use hir_store::ids::ExprId;
 use hir_syntax::{Boxed, ast};
 
+/// A `return`, with its value if it has one.
 #[tactic(auto, unfolding(hir_lower_form::specs::Forms::value_form))]
-pub(crate) fn return_form<P: LowerParts>(
+pub fn return_form<P: LowerParts>(
     lowerer: &Lowerer<P>,
     state: &mut BodyBuilder,
     at: InFile<AstPtr>,
@@ -29,8 +30,9 @@ pub(crate) fn return_form<P: LowerParts>(
     state.alloc_expr(Expr::Return { expr }, Some(at))
 }
 
+/// A `do yeet`, with its value if it has one.
 #[tactic(auto, unfolding(hir_lower_form::specs::Forms::value_form))]
-pub(crate) fn yeet_form<P: LowerParts>(
+pub fn yeet_form<P: LowerParts>(
     lowerer: &Lowerer<P>,
     state: &mut BodyBuilder,
     at: InFile<AstPtr>,
@@ -45,8 +47,9 @@ pub(crate) fn yeet_form<P: LowerParts>(
     state.alloc_expr(Expr::Yeet { expr }, Some(at))
 }
 
+/// A `yield`, with its value if it has one.
 #[tactic(auto, unfolding(hir_lower_form::specs::Forms::value_form))]
-pub(crate) fn yield_form<P: LowerParts>(
+pub fn yield_form<P: LowerParts>(
     lowerer: &Lowerer<P>,
     state: &mut BodyBuilder,
     at: InFile<AstPtr>,
@@ -61,7 +64,7 @@ pub(crate) fn yield_form<P: LowerParts>(
 
 /// The call that it becomes is missing where it is absent.
 #[tactic(auto, unfolding(hir_lower_form::specs::Forms::operand_form))]
-pub(crate) fn become_form<P: LowerParts>(
+pub fn become_form<P: LowerParts>(
     lowerer: &Lowerer<P>,
     state: &mut BodyBuilder,
     at: InFile<AstPtr>,

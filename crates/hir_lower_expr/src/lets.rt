@@ -19,7 +19,7 @@ use hir_syntax::{Boxed, ast};
 
 /// The pattern before the expression.
 #[tactic(auto, unfolding(hir_lower_form::specs::Forms::let_form))]
-pub(crate) fn let_form<P: LowerParts>(
+pub fn let_form<P: LowerParts>(
     lowerer: &Lowerer<P>,
     state: &mut BodyBuilder,
     at: InFile<AstPtr>,

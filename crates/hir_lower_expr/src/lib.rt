@@ -2,24 +2,22 @@
 //! parts is handed in.
 #![tactic(auto)]
 
-mod assignments;
+pub mod assignments;
 pub mod blocks;
-mod calls;
-mod control;
-pub mod exprs;
-mod families;
-mod fors;
+pub mod calls;
+pub mod control;
+pub mod fors;
 mod here;
-mod jumps;
+pub mod jumps;
 mod kept;
-mod leaves;
-mod leaving;
-mod lets;
-mod lists;
-mod matches;
-mod operators;
-mod questions;
-mod ranges;
-mod records;
+pub mod leaves;
+pub mod leaving;
+pub mod lets;
+pub mod lists;
+pub mod matches;
+pub mod operators;
+pub mod questions;
+pub mod ranges;
+pub mod records;
 mod tries;
-mod typed;
+pub mod typed;

@@ -27,7 +27,7 @@ fn with_first(alloc: Global, first: ExprId, rest: Seq<ExprId>) -> Result<Seq<Exp
 
 /// A leading comma stands for a missing element in front, which is made last.
 #[tactic(auto, unfolding(hir_lower_form::specs::Forms::list_form))]
-pub(crate) fn tuple_form<P: LowerParts>(
+pub fn tuple_form<P: LowerParts>(
     lowerer: &Lowerer<P>,
     state: &mut BodyBuilder,
     at: InFile<AstPtr>,
@@ -48,8 +48,9 @@ pub(crate) fn tuple_form<P: LowerParts>(
     state.alloc_expr(Expr::Tuple { exprs }, Some(at))
 }
 
+/// An array of listed elements, first to last.
 #[tactic(auto, unfolding(hir_lower_form::specs::Forms::list_form))]
-pub(crate) fn array_form<P: LowerParts>(
+pub fn array_form<P: LowerParts>(
     lowerer: &Lowerer<P>,
     state: &mut BodyBuilder,
     at: InFile<AstPtr>,

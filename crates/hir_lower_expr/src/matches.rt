@@ -119,7 +119,7 @@ fn arms<P: LowerParts>(
 
 /// What is matched before the arms.
 #[tactic(auto, unfolding(hir_lower_form::specs::Forms::match_form))]
-pub(crate) fn match_form<P: LowerParts>(
+pub fn match_form<P: LowerParts>(
     lowerer: &Lowerer<P>,
     state: &mut BodyBuilder,
     at: InFile<AstPtr>,

@@ -35,8 +35,9 @@ fn mutability(is_mut: bool) -> Mutability
     }
 }
 
+/// A field of a value, by its name.
 #[tactic(auto, unfolding(hir_lower_form::specs::Forms::operand_form))]
-pub(crate) fn field_form<P: LowerParts>(
+pub fn field_form<P: LowerParts>(
     lowerer: &Lowerer<P>,
     state: &mut BodyBuilder,
     at: InFile<AstPtr>,
@@ -55,7 +56,7 @@ pub(crate) fn field_form<P: LowerParts>(
 
 /// Without its operator the expression is missing, and its operand stays.
 #[tactic(auto, unfolding(hir_lower_form::specs::Forms::operand_form))]
-pub(crate) fn prefix_form<P: LowerParts>(
+pub fn prefix_form<P: LowerParts>(
     lowerer: &Lowerer<P>,
     state: &mut BodyBuilder,
     at: InFile<AstPtr>,
@@ -72,8 +73,9 @@ pub(crate) fn prefix_form<P: LowerParts>(
     }
 }
 
+/// A reference to a place, or a raw pointer to one.
 #[tactic(auto, unfolding(hir_lower_form::specs::Forms::operand_form))]
-pub(crate) fn reference_form<P: LowerParts>(
+pub fn reference_form<P: LowerParts>(
     lowerer: &Lowerer<P>,
     state: &mut BodyBuilder,
     at: InFile<AstPtr>,
@@ -122,8 +124,9 @@ pub(crate) fn binary_form<P: LowerParts>(
     state.alloc_expr(Expr::BinaryOp { op, lhs, rhs }, Some(at))
 }
 
+/// An element: what is indexed, then the index.
 #[tactic(auto, unfolding(hir_lower_form::specs::Forms::operands_form))]
-pub(crate) fn index_form<P: LowerParts>(
+pub fn index_form<P: LowerParts>(
     lowerer: &Lowerer<P>,
     state: &mut BodyBuilder,
     at: InFile<AstPtr>,
@@ -143,7 +146,7 @@ pub(crate) fn index_form<P: LowerParts>(
 
 /// Outside of async code it is a fault, which comes behind those of the operand.
 #[tactic(auto, unfolding(hir_lower_form::specs::Forms::await_form))]
-pub(crate) fn await_form<P: LowerParts>(
+pub fn await_form<P: LowerParts>(
     lowerer: &Lowerer<P>,
     state: &mut BodyBuilder,
     at: InFile<AstPtr>,

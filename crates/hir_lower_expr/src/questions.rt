@@ -174,7 +174,7 @@ fn question_with<P: LowerParts>(
 }
 
 /// Where the language lacks an item that a `?` can't do without, it is missing, and nothing in it is lowered.
-pub(crate) fn question_form<P: LowerParts>(
+pub fn question_form<P: LowerParts>(
     lowerer: &Lowerer<P>,
     state: &mut BodyBuilder,
     at: InFile<AstPtr>,

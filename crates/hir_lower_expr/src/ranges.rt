@@ -222,7 +222,7 @@ fn made_of(
 
 /// The ends from left to right, whatever it is made as.
 #[tactic(auto, unfolding(hir_lower_form::specs::Ranges::range_form))]
-pub(crate) fn range_form<P: LowerParts>(
+pub fn range_form<P: LowerParts>(
     lowerer: &Lowerer<P>,
     state: &mut BodyBuilder,
     at: InFile<AstPtr>,

@@ -159,7 +159,7 @@ fn contents<P: LowerParts>(
 
 /// Where the path is absent or refused the record is missing, and nothing else of it is read.
 #[tactic(auto, unfolding(hir_lower_form::specs::Forms::record_form))]
-pub(crate) fn record_form<P: LowerParts>(
+pub fn record_form<P: LowerParts>(
     lowerer: &Lowerer<P>,
     state: &mut BodyBuilder,
     at: InFile<AstPtr>,

@@ -21,7 +21,7 @@ use std::alloc::{AllocError, Global};
 
 /// A path that is absent or refused is missing.
 #[tactic(auto, unfolding(hir_lower_form::specs::Forms::path_form))]
-pub(crate) fn path_form<P: LowerParts>(
+pub fn path_form<P: LowerParts>(
     lowerer: &Lowerer<P>,
     state: &mut BodyBuilder,
     at: InFile<AstPtr>,
@@ -36,8 +36,9 @@ pub(crate) fn path_form<P: LowerParts>(
     state.alloc_expr(path_expr(path, hygiene), Some(at))
 }
 
+/// A cast: what is cast, then the type.
 #[tactic(auto, unfolding(hir_lower_form::specs::Forms::cast_form))]
-pub(crate) fn cast_form<P: LowerParts>(
+pub fn cast_form<P: LowerParts>(
     lowerer: &Lowerer<P>,
     state: &mut BodyBuilder,
     at: InFile<AstPtr>,
@@ -61,8 +62,9 @@ fn field_names(alloc: Global, names: &Seq<ast::Name>) -> Result<Seq<Name>, Alloc
     names_of(alloc, names.as_slice())
 }
 
+/// `offset_of!`: the type, then the names of the fields.
 #[tactic(auto, unfolding(hir_lower_form::specs::Forms::offset_of_form))]
-pub(crate) fn offset_of_form<P: LowerParts>(
+pub fn offset_of_form<P: LowerParts>(
     lowerer: &Lowerer<P>,
     state: &mut BodyBuilder,
     at: InFile<AstPtr>,
