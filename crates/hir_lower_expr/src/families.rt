@@ -17,7 +17,7 @@ use crate::leaves::{
 };
 use crate::leaving::{become_form, return_form, yeet_form, yield_form};
 use crate::lets::let_form;
-use crate::lists::{array_form, tuple_form};
+use crate::lists::{array_form, repeat_form, tuple_form};
 use crate::matches::match_form;
 use crate::operators::{await_form, field_form, index_form, prefix_form, reference_form};
 use crate::questions::question_form;
@@ -90,7 +90,7 @@ pub(crate) fn matching_kind<P: LowerParts>(
     }
 }
 
-/// What has a list of parts.
+/// What has a list of parts, or one part again and again.
 #[tactic(auto, using(crate::proofs::OfFamily::only_listing))]
 pub(crate) fn listing_kind<P: LowerParts>(
     lowerer: &Lowerer<P>,
@@ -115,6 +115,7 @@ pub(crate) fn listing_kind<P: LowerParts>(
             fields,
         } => tuple_form(lowerer, state, at, *leading_comma, fields),
         ast::ExprKind::ArrayExpr { elems } => array_form(lowerer, state, at, elems),
+        ast::ExprKind::RepeatExpr { init, len } => repeat_form(lowerer, state, at, init, len),
         _ => unreachable!(),
     }
 }

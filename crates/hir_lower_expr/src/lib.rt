@@ -5,6 +5,7 @@
 mod assignments;
 pub mod blocks;
 mod calls;
+mod consts;
 mod control;
 pub mod exprs;
 mod families;
