@@ -4,6 +4,7 @@ use Rattle.std.proofs.Common.{option_map, option_to_list, Bool, true, false, app
 use Rattle.hir_syntax.specs.declared.ast.Literal.{Literal as AstLiteral}
 use Rattle.hir_store.specs.Pointers.{Pointer}
 use Rattle.hir_store.specs.Stored.{Stored, store_of, map_of}
+use Rattle.hir_store.specs.declared.hir.Array.TheVariants as array
 use Rattle.hir_store.specs.declared.hir.Expr.{Expr as HirExpr}
 use Rattle.hir_store.specs.declared.hir.Expr.TheVariants as hir
 use Rattle.hir_store.specs.declared.hir.LoopSource.TheVariants as source
@@ -37,7 +38,8 @@ use Rattle.hir_lower_form.specs.Lower.{record_of, record_form, field_form, ExprS
 use Rattle.hir_lower_form.specs.Lower.{call_form, continue_form, break_form, stored_leaf, stored_unary, stored_binary, stored_leaving}
 use Rattle.hir_lower_form.specs.Lower.{operand_form, operands_form, value_form, list_form, method_call_form, await_form, paren_form}
 use Rattle.hir_lower_form.specs.Lower.{path_or_missing, path_form, lower_path, block_form, labelled, settled, stored_literal, let_form}
-use Rattle.hir_lower_form.specs.Lower.{match_form, arm_form, assign_form, let_stmt_form}
+use Rattle.hir_lower_form.specs.Lower.{match_form, arm_form, assign_form, let_stmt_form, repeat_form, const_form}
+use Rattle.hir_store.specs.declared.type_ref.ConstRef.{ConstRef}
 use Rattle.hir_lower_form.specs.Lowering.{Lowering, ◌>>=◌, pure, alloc_expr}
 use Rattle.hir_lower_form.specs.Ranges as ranges
 use Rattle.hir_lower_form.specs.Ranges.{range_form, item_expr, end_operand}
@@ -330,6 +332,18 @@ module _ (at : Pointer) where
   list_stands (tree.tuple_of false) h = over (λ is. refl) h
   list_stands (tree.tuple_of true) h = over_two (λ is i. refl) h missing_stands
   list_stands tree.array_of h = over (λ is. refl) h
+
+  pub repeat_stands : {e : ExprSteps} {c : Lowering ConstRef} {S : Of ExprId} {T : Of ConstRef} → Correct e (Shows S) → Correct c (Shows T)
+      → Correct (repeat_form at e c) (Shows (λ final rs i. StandsOverTwo (store_of final) (map_of final)
+      (λ x n. hir.Array (array.Repeat x n)) at (λ x. S final rs x) (λ n. T final rs n) i))
+  unfolding repeat_form
+  repeat_stands he hc = over_two (λ e c. refl) he hc
+
+  pub const_stands : {c : Lowering ConstRef} {T : Of ConstRef} → Correct c (Shows T)
+      → Correct (const_form at c)
+      (Shows (λ final rs i. StandsOver (store_of final) (map_of final) hir.Const at (λ n. T final rs n) i))
+  unfolding const_form
+  const_stands h = over (λ c. refl) h
 
   pub method_call_stands : (name : Name) {e : ExprSteps} {xs : Lowering (List ExprId)} {as' : Lowering (Option GenericArgs)}
       {S : Of ExprId} {X : Of (List ExprId)} {G : Of (Option GenericArgs)} → Correct e (Shows S) → Correct xs (Shows X)
