@@ -49,7 +49,7 @@ use Rattle.hir_steps.proofs.MadeSteps.{AllocatedMade}
 use Rattle.hir_steps.proofs.Steps.{Mark, Rel, Put, Allocated, AllocatedBy, OpenedBy, with_fault, with_target, with_jump, with_block}
 use Rattle.hir_steps.proofs.Steps.{with_await}
 use Rattle.hir_one_result.specs.Forms.{leaf_form, unary_form, binary_form, leaving_form, item_form, range_fields}
-use Rattle.hir_one_result.specs.Leads.{Way, Ways, OneWay, OneUnled, OneLabelWay, OneFieldWay, ◌&◌}
+use Rattle.hir_one_result.specs.Leads.{Way, Ways, OneWay, OneUnled, OneLabelWay, OneFieldWay, Overtaken, ◌&◌}
 use Rattle.hir_one_result.specs.Stands.{ReadsAs, StandsOverThree, StandsRecord, Open, Absent, There, ExprAt, LabelAt, StandsMissing}
 use Rattle.hir_one_result.specs.Stands.{StandsAlone, StandsPath, StandsLiteral, StandsOver, StandsOverTwo, StandsList, InLabel}
 use Rattle.hir_one_result.specs.Stands.{StandsRange}
@@ -60,6 +60,7 @@ use Rattle.hir_one_result.proofs.Lasting.{correct_target}
 use Rattle.hir_one_result.proofs.Leading.{Shown, shown_as, shown_none, shown_both, shown_swap, shown_after, shown_before, shown_to}
 use Rattle.hir_one_result.proofs.Leading.{shown_expr, shown_made, shown_unled, shown_label, shown_point, shown_field, Moved, moved_same}
 use Rattle.hir_one_result.proofs.Leading.{moved_to, moved_still, moved_report}
+use Rattle.hir_one_result.proofs.Overtaken.{shown_later}
 
 abbrev pub Of : Type 0 → Type 1
 Of A = Stored → Open → A → Ways
@@ -341,9 +342,13 @@ module _ (at : Pointer) where
 
   pub const_stands : {c : Lowering ConstRef} {T : Of ConstRef} → Correct c (Shows T)
       → Correct (const_form at c)
-      (Shows (λ final rs i. StandsOver (store_of final) (map_of final) hir.Const at (λ n. T final rs n) i))
+      (Shows (λ final rs i. StandsOver (store_of final) (map_of final) hir.Const at (λ n. Overtaken at (T final rs n)) i))
   unfolding const_form
-  const_stands h = over (λ c. refl) h
+  const_stands h = correct_as (correct_bind h (λ c. correct_alloc (hir.Const c) (Some at))) (λ final ps m m' i g row.
+      let made = row.second in record {
+        shown = shown_as (shown_later (hir.Const row.one) at i row.first.shown (made.number ∙ made.last) made.stored)
+            (λ ws x. (row.one, expr_at made, x));
+      })
 
   pub method_call_stands : (name : Name) {e : ExprSteps} {xs : Lowering (List ExprId)} {as' : Lowering (Option GenericArgs)}
       {S : Of ExprId} {X : Of (List ExprId)} {G : Of (Option GenericArgs)} → Correct e (Shows S) → Correct xs (Shows X)

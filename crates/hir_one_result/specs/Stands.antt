@@ -61,7 +61,7 @@ use Rattle.hir_meaning.specs.Contents.{BlockContents}
 use Rattle.hir_one_result.specs.Forms.{leaf_form, unary_form, binary_form, lazy_form, leaving_form, item_form, no_macro, path_of_name}
 use Rattle.hir_one_result.specs.Forms.{pat_unary_form, range_fields}
 use Rattle.hir_one_result.specs.PathRoom.{Seen, nothing_seen, at_first, segments_read, own_read, yields}
-use Rattle.hir_one_result.specs.Leads.{Ways, No, OneWay, OneUnled, OneLabelWay, OneFieldWay, OnePatFieldWay, ◌&◌}
+use Rattle.hir_one_result.specs.Leads.{Ways, No, OneWay, OneUnled, OneLabelWay, OneFieldWay, OnePatFieldWay, Overtaken, ◌&◌}
 pub use Rattle.hir_one_result.specs.StandsParts.{ExprAt, LabelAt, Open, opened, Absent, There, ThereIf, ReadsAs, statement_of, SomeExpr}
 pub use Rattle.hir_one_result.specs.StandsParts.{WhereOn, Unless}
 use Rattle.hir_one_result.specs.StandsMade.{StandsFor, StandsForLoop, StandsForTurn, StandsQuestion, StandsTry, StandsTypedTry, StandsWhile}
@@ -367,7 +367,8 @@ module _ (store : Store) (source_map : SourceMap) where
     Stands rs (tree.list_expr at form es) i = StandsList at form (λ is. StandsEach rs es is) i
     Stands rs (tree.repeat_expr at e c) i =
         StandsOverTwo (λ x n. hir.Array (array.Repeat x n)) at (λ x. StandsPart rs e x) (λ n. StandsConstant rs c n) i
-    Stands rs (tree.const_expr at c) i = StandsOver hir.Const at (λ n. StandsConstant rs c n) i
+    -- the block in it came from the same node, which leads to the const block alone
+    Stands rs (tree.const_expr at c) i = StandsOver hir.Const at (λ n. Overtaken at (StandsConstant rs c n)) i
     Stands rs (tree.method_call_expr at e name es generics) i =
         StandsOverThree (λ receiver arguments g. hir.MethodCall receiver name g arguments) at
         (λ x. StandsPart rs e x) (λ is. StandsEach rs es is)
