@@ -43,7 +43,8 @@ use Rattle.hir_env.specs.Answering.{guard_or_none, let_else_or_none, guard_step,
 use Rattle.hir_env.specs.Pats.{pats_of, pat_fields_of, pat_at, pat_field_step}
 use Rattle.hir_env.specs.Targets.{resolves, target_of}
 use Rattle.hir_env.specs.TypePats.{type_pat_or_none}
-use Rattle.hir_env.specs.Paths.{inside_impl, outside_impl, inside_constant, inside_const_block, path_or_none, segment_or_absent, segments_of}
+use Rattle.hir_env.specs.Paths.{inside_impl, outside_impl, inside_constant, inside_const_block, path_or_none, segment_or_absent}
+use Rattle.hir_env.specs.Paths.{segments_of}
 use Rattle.hir_env.specs.Paths.{first_of, rest_of, type_or_none, types_of, parts_of, params_or_none, is_varargs, answer_or_none}
 use Rattle.hir_env.specs.Paths.{ret_or_none, parens_or_none, path_type_or_none, arg_list_or_none, generic_args_of, bounds_of}
 use Rattle.hir_env.specs.Paths.{constant_or_absent, type_at, generic_arg_step, path_step, segment_step, assoc_type_arg_step}

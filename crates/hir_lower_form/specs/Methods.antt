@@ -31,7 +31,8 @@ use Rattle.hir_env.specs.declared.place.Place.{Place}
 use Rattle.hir_env.specs.Answered.{Binder, Type_, OptionType, Parts, Path, OptionPath, Segment, OptionArgs, Bounds, Constant}
 use Rattle.hir_env.specs.Answered.{Expr, OptionExpr, Exprs, Block, OptionBlock, Stmts, Stmt}
 use Rattle.hir_env.specs.Answered.{OptionPat, Side, OptionTypePat, Limit, Target}
-use Rattle.hir_env.specs.Whole.{answered_plain, expr_part, in_const_block, in_constant, label_part, pointer_at, reader, stmts_part, type_part}
+use Rattle.hir_env.specs.Whole.{answered_plain, expr_part, in_const_block, in_constant, label_part, pointer_at, reader, stmts_part}
+use Rattle.hir_env.specs.Whole.{type_part}
 use Rattle.hir_store.specs.declared.path.Path.{Path as HirPath}
 use Rattle.hir_lower_form.specs.Builder.{Builder}
 use Rattle.hir_lower_form.specs.Walks.{past_walk, past_reading}

@@ -203,6 +203,7 @@ impl<'a> Waiting<'a> {
         }
     }
 
+    /// The same of an array.
     fn push_array_parts(&mut self, array: &'a Array) -> Result<(), AllocError> {
         match array {
             Array::ElementList { elements } => self.push_parts(&[Piece::Exprs(
