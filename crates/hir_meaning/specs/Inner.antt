@@ -1,5 +1,5 @@
--- The bodies inside a body, written and stored: the constants of its types, paths and arguments, and the ends of ranges in its
--- types, each before those that are inside it, in the order of parts.
+-- The bodies inside a body, written and stored: the constants of its expressions, types, paths and arguments, and the ends of ranges
+-- in its types, each before those that are inside it, in the order of parts.
 use Rattle.std.specs.Prelude.{ℕ, zero, suc, ◌+◌, List, [], ◌∷◌, ◌++◌, length, slice_get}
 use Rattle.std.specs.Prelude.{Option, Some, None}
 use Rattle.hir_store.specs.Stored.{Store}

@@ -187,7 +187,7 @@ module _ (e : Expr) (p : Pointer) (a b : Stored) (vs : List Way) (g : Moved a b 
   moved_later : Moved a (with_expr e (Some p) b) now
   moved_later =
       let new = shown_new e p b in
-      let m : Moved a (with_expr e (Some p) b) (vs ++ expr_way p last ∷ []) = moved_then g new.moved in
+      let m = subst (λ ws. Moved a (with_expr e (Some p) b) (vs ++ ws)) new.shown (moved_then g new.moved) in
       let l = m.labels in
       let s = labels_stay p vs (expr_way p last ∷ []) in record {
         covers = λ i from to. ends_stay i (m.covers i from to);
