@@ -6,7 +6,7 @@ ghost use Rattle.hir_env.specs.Paths as of;
 ghost use Rattle.hir_env.specs.Whole.{answered_plain, in_const_block};
 ghost use Rattle.hir_lower_form.specs.Lower as spec;
 ghost use Rattle.hir_lower_form.specs.Lowering.{Lowers};
-ghost use Rattle.hir_lower_form.specs.Methods.{const_steps_at};
+ghost use Rattle.hir_lower_form.specs.Methods.{LowersInside, const_steps_at};
 ghost use Rattle.hir_lower_form.specs.declared.parts.BlockRole.TheVariants as role;
 
 use hir_env::place::Place;
@@ -29,28 +29,39 @@ fn inside_const_block(place: Place) -> Place
     }
 }
 
-/// The block, as a constant: no jump in it reaches what is open around it.
-#[tactic(auto, unfolding(hir_lower_form::specs::Forms::constant_form))]
+/// The block in a `const` block, which is a plain one.
 fn inner_block<P: LowerParts>(
+    lowerer: &Lowerer<P>,
+    state: &mut BodyBuilder,
+    node: &ast::BlockExpr,
+) -> Result<ExprId, StoreFault>
+    requires { (P.can lowerer.now.parts).block (of.inside_const_block (P.spot lowerer.now.parts).place) node.now }
+    ensures { let inside = in_const_block (P.spot lowerer.now.parts) in
+        LowersInside (role.Plain false None) (answered_plain inside node.now) state.old result state.new }
+{
+    let role = BlockRole::Plain {
+        is_unsafe: false,
+        label: None,
+    };
+    let place = inside_const_block(lowerer.parts.place());
+    lowerer.parts.collect_block_inside(state, place, role, node)
+}
+
+/// The same as a constant: no jump in it reaches what is open around it.
+#[tactic(auto, unfolding(hir_lower_form::specs::Forms::constant_form))]
+fn inner_constant<P: LowerParts>(
     lowerer: &Lowerer<P>,
     state: &mut BodyBuilder,
     node: &ast::BlockExpr,
 ) -> Result<ConstRef, StoreFault>
     requires { (P.can lowerer.now.parts).block (of.inside_const_block (P.spot lowerer.now.parts).place) node.now }
-    ensures { let block = answered_plain (in_const_block (P.spot lowerer.now.parts)) node.now in
-        let inner = spec.lower_inside (role.Plain false None) block in
+    ensures { let inside = in_const_block (P.spot lowerer.now.parts) in
+        let inner = spec.lower_inside (role.Plain false None) (answered_plain inside node.now) in
         Lowers HasConst (spec.constant_form inner) state.old result state.new }
 {
-    let place = inside_const_block(lowerer.parts.place());
-    let role = BlockRole::Plain {
-        is_unsafe: false,
-        label: None,
-    };
     state.open_barrier()?;
     let outer = state.enter_root();
-    let id = lowerer
-        .parts
-        .collect_block_inside(state, place, role, node)?;
+    let id = inner_block(lowerer, state, node)?;
     state.close();
     state.leave_root(outer, id)?;
     Ok(ConstRef { expr: id })
@@ -66,7 +77,7 @@ pub(crate) fn const_form<P: LowerParts>(
     requires { (P.can lowerer.now.parts).block (of.inside_const_block (P.spot lowerer.now.parts).place) node.now }
     ensures { Lowers HasExpr (const_steps_at (P.spot lowerer.now.parts) node.now) state.old result state.new }
 {
-    let constant = inner_block(lowerer, state, node)?;
+    let constant = inner_constant(lowerer, state, node)?;
     let at = lowerer.pointer(node.id, node.range);
     state.alloc_expr(Expr::Const(constant), Some(at))
 }

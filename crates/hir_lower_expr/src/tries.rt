@@ -30,11 +30,9 @@ fn typed_try<P: LowerParts>(
 {
     let item = lowerer.parts.lang_items().try_trait_from_output;
     let role = BlockRole::Try { item, typed: true };
-    let place = lowerer.parts.place();
-    let block = lowerer
-        .parts
-        .collect_block_inside(state, place, role, node)?;
+    let block = block_here(lowerer, state, role, node)?;
     let number = state.made_number()?;
+    let place = lowerer.parts.place();
     let type_ref = lowerer.parts.lower_type(state, place, &None, ty)?;
     let pat = state.made_bind(BindingAnnotation::Unannotated, number)?;
     let at = lowerer.pointer(node.id, node.range);
