@@ -43,8 +43,7 @@ fn inner_block<P: LowerParts>(
         is_unsafe: false,
         label: None,
     };
-    let place = inside_const_block(lowerer.parts.place());
-    lowerer.parts.collect_block_inside(state, place, role, node)
+    lowerer.parts.collect_block_inside(state, inside_const_block(lowerer.parts.place()), role, node)
 }
 
 /// The same as a constant: no jump in it reaches what is open around it.
