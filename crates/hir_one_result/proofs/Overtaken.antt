@@ -1,5 +1,5 @@
 -- Where the source map leads once something more comes from the node of what was stored before it: to that, and no more to those.
-use Rattle.std.proofs.Common.{arith, ◌≡◌, ◌∙◌, refl, sym, ap, subst, ◌+◌, length, map, Bool, true, false, if◌then◌else◌, true≢false}
+use Rattle.std.proofs.Common.{arith, ◌≡◌, ◌∙◌, refl, sym, ap, subst, ◌+◌, ◌<◌, length, map, Bool, true, false, if◌then◌else◌, true≢false}
 use Rattle.std.proofs.Common.{List, [], ◌∷◌, ◌++◌, suc, Some, Contains, ◌⊎◌, inl, inr, ⊎_elim}
 use Rattle.std.proofs.lemmas.List.Elements.{Contains-append_left, Contains-append_right, Contains-append_cases, Contains-push}
 use Rattle.std.proofs.lemmas.List.Elements.{Contains-push_cases}
@@ -38,8 +38,8 @@ module _ (f : Way → Way) where
   map_contains : (ws : List Way) (w : Way) → Contains (map f ws) w → (v : Way) × Contains ws v × (f v ≡ w)
   map_contains [] w c = none_in w c
   map_contains (v ∷ ws) w c = ⊎_elim
-      (λ x. (v, (Contains-append_left (v ∷ []) ws v (Contains-push [] v), only_one (f v) w x)))
-      (λ x. let r = map_contains ws w x in (r.0, (Contains-append_right (v ∷ []) ws r.0 r.1, r.2)))
+      (λ x. (v, Contains-append_left (v ∷ []) ws v (Contains-push [] v), only_one (f v) w x))
+      (λ x. let r = map_contains ws w x in (r.0, Contains-append_right (v ∷ []) ws r.0 r.1, r.2))
       (Contains-append_cases (f v ∷ []) (map f ws) w c)
 
 -- ---- ways that are overtaken at a node
@@ -135,8 +135,8 @@ module _ (p : Pointer) where
               let new = found_new p k es in
               let is = pointer_is p q s in
               let same : Some k ≡ Some u = sym new ∙ subst (λ r. found (insert_entry same_pointer es p k) r ≡ Some u) (sym is) f in
-              let end : k ≡ u = cc in
-              let one = subst (λ x. Contains (expr_way p k ∷ []) x) (λ j. expr_way (is j) (end j)) (Contains-push [] (expr_way p k)) in
+              let same_end : k ≡ u = cc in
+              let one = subst (λ x. Contains (expr_way p k ∷ []) x) (λ j. expr_way (is j) (same_end j)) (Contains-push [] (expr_way p k)) in
               Contains-append_right before later (expr_way q u)
               (Contains-append_right (map (overtaken p) vs) (expr_way p k ∷ []) (expr_way q u) one)
           led_from q u false s f = forth_behind (expr_way q u) (stays q u s) (h.only q u (sym (found_other p k es q s) ∙ f))
@@ -208,7 +208,7 @@ shown_later {P = P} {a = a} {b = b} e p i x number is =
         left = map (overtaken p) x.ways;
         right = expr_way p n ∷ [];
         is = refl;
-        first = (x.ways, (refl, x.shown));
+        first = (x.ways, refl, x.shown);
         second = refl;
       };
       moved = moved_later e p a b x.ways x.moved;

@@ -63,7 +63,7 @@ use Rattle.hir_one_result.specs.Forms.{pat_unary_form, range_fields}
 use Rattle.hir_one_result.specs.PathRoom.{Seen, nothing_seen, at_first, segments_read, own_read, yields}
 use Rattle.hir_one_result.specs.Leads.{Ways, No, OneWay, OneUnled, OneLabelWay, OneFieldWay, OnePatFieldWay, Overtaken, ◌&◌}
 pub use Rattle.hir_one_result.specs.StandsParts.{ExprAt, LabelAt, Open, opened, Absent, There, ThereIf, ReadsAs, statement_of, SomeExpr}
-pub use Rattle.hir_one_result.specs.StandsParts.{WhereOn, Unless}
+pub use Rattle.hir_one_result.specs.StandsParts.{SomeConst, WhereOn, Unless}
 use Rattle.hir_one_result.specs.StandsMade.{StandsFor, StandsForLoop, StandsForTurn, StandsQuestion, StandsTry, StandsTypedTry, StandsWhile}
 pub use Rattle.hir_one_result.specs.StandsParts.{StandsBefore, WherePath, BehindFront, Names, NewName, StandsName}
 
@@ -195,7 +195,7 @@ module _ (store : Store) (source_map : SourceMap) where
     TypeWays rs (tree.leaf_type at form) = No
     TypeWays rs (tree.over_type at form t) = TypePartWays rs t
     -- its length first
-    TypeWays rs (tree.array_type at c t) = ConstantWays rs c & TypePartWays rs t
+    TypeWays rs (tree.array_type at c t) = SomeConst (λ n. StandsConstant rs c n) & TypePartWays rs t
     TypeWays rs (tree.tuple_type at ts) = PartsWays rs ts
     TypeWays rs (tree.path_type at p) = WholeWays rs p
     TypeWays rs (tree.ref_type at l mutability t) = TypePartWays rs t
@@ -267,7 +267,7 @@ module _ (store : Store) (source_map : SourceMap) where
     ArgWays rs tree.skipped_arg = No
     ArgWays rs (tree.type_arg t) = TypePartWays rs t
     ArgWays rs (tree.lifetime_arg l) = No
-    ArgWays rs (tree.const_arg c) = ConstantWays rs c
+    ArgWays rs (tree.const_arg c) = SomeConst (λ n. StandsConstant rs c n)
     ArgWays rs (tree.assoc_arg n as' dots t bs) = ArgsWays rs as' & (PresentTypeWays rs t & BoundsWays rs bs)
 
     pub BoundsWays : Open → Bounds → Ways
@@ -279,9 +279,6 @@ module _ (store : Store) (source_map : SourceMap) where
     BoundWays rs (tree.path_bound at p maybe binder) = WholeWays rs p
     BoundWays rs (tree.lifetime_bound l) = No
     BoundWays rs (tree.use_bound us) = No
-
-    pub ConstantWays : Open → Constant → Ways
-    ConstantWays rs c = λ ws. (n : ConstRef) × StandsConstant rs c n ws
 
     -- no jump in it reaches what is open around it
     pub StandsConstant : Open → Constant → ConstRef → Ways
@@ -579,6 +576,10 @@ module _ (store : Store) (source_map : SourceMap) where
     StandsTargetFields rs (tree.more_target_fields f fs) is = StandsTargetFields rs fs is
 
   -- ---- whole ones
+
+  -- a constant, whatever its number
+  abbrev pub ConstantWays : Open → Constant → Ways
+  ConstantWays rs c = SomeConst (λ n. StandsConstant rs c n)
 
   -- an end of a range in a type, which is a body of its own
   abbrev pub LimitWays : Open → Limit → Ways
