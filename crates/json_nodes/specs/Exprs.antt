@@ -1,5 +1,5 @@
 -- Expressions, by their kind.
-use Rattle.std.specs.Prelude.{codes, Option, Some, None, option_map, option_and_then}
+use Rattle.std.specs.Prelude.{if◌then◌else◌, codes, Option, Some, None, option_map, option_and_then}
 use Rattle.serde_json.specs.Data.{Data}
 use Rattle.serde_json.specs.Find.{get}
 use Rattle.hir_syntax.specs.declared.ast.ExprKind.{ExprKind}
@@ -70,6 +70,13 @@ operation h kind.RefExpr = Some (whole_expr h (expr.RefExpr
     (part_in h as_expr (codes "expr"))))
 operation h _ = None
 
+-- an array, which with a semicolon repeats one part
+unfoldable pub array : Here → ExprKind
+array h =
+    if flag_of (get (codes "semi") h.value)
+    then expr.RepeatExpr (part_in h as_expr (codes "init")) (part_in h as_expr (codes "len"))
+    else expr.ArrayExpr (list_in h as_expr (codes "elems"))
+
 -- what names a member, or lists its elements
 unfoldable pub member : Here → ExprNode → Option AnyPart
 member h kind.MethodCallExpr = Some (whole_expr h (expr.MethodCallExpr
@@ -80,7 +87,7 @@ member h kind.MethodCallExpr = Some (whole_expr h (expr.MethodCallExpr
 member h kind.FieldExpr = Some (whole_expr h (expr.FieldExpr (part_in h as_expr (codes "expr")) (part_in h as_name (codes "name"))))
 member h kind.TupleExpr =
     Some (whole_expr h (expr.TupleExpr (flag_of (get (codes "leading_comma") h.value)) (list_in h as_expr (codes "fields"))))
-member h kind.ArrayExpr = Some (whole_expr h (expr.ArrayExpr (list_in h as_expr (codes "elems"))))
+member h kind.ArrayExpr = Some (whole_expr h (array h))
 member h _ = None
 
 -- what leaves a body, or waits in it

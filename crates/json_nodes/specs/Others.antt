@@ -36,10 +36,11 @@ of_stmt h k = Some (part.Code (code_part.Stmt (record { id = h.id; range = h.ran
 abbrev modifier_word : BlockModifier → List ℕ
 modifier_word modifiers.Unsafe = codes "unsafe"
 modifier_word modifiers.Try = codes "try"
+modifier_word modifiers.Const = codes "const"
 
 -- the modifier that a word is, of those that are read yet
 abbrev pub modifier_of : List ℕ → Option BlockModifier
-modifier_of word = with_word modifier_word (modifiers.Unsafe ∷ modifiers.Try ∷ []) word
+modifier_of word = with_word modifier_word (modifiers.Unsafe ∷ modifiers.Try ∷ modifiers.Const ∷ []) word
 
 unfoldable pub of_block : Here → Option AnyPart
 of_block h = Some (part.Expr (expr_part.Block (roll-BlockExpr (record {

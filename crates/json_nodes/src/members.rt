@@ -14,6 +14,22 @@ use crate::path_parts::GenericArgLists;
 use hir_syntax::ast::ExprKind;
 use json_kinds::kind::ExprNode;
 
+/// An array, which with a semicolon repeats one part.
+#[tactic(auto, unfolding(crate::specs::Exprs::array))]
+fn array<F: Fields>(node: &F, refused: &mut bool) -> ExprKind
+    requires { F.can node.now }
+    ensures { Kept refused.old refused.new (result ≡ spec.array (F.here node.now)) }
+{
+    if flag(node.value(), "semi") {
+        let init = node.field::<InBox<Exprs>>(refused, "init");
+        let len = node.field::<InBox<Exprs>>(refused, "len");
+        ExprKind::RepeatExpr { init, len }
+    } else {
+        let elems = node.field::<All<Exprs>>(refused, "elems");
+        ExprKind::ArrayExpr { elems }
+    }
+}
+
 /// Methods and fields, tuples and arrays.
 #[tactic(auto, unfolding(crate::specs::Exprs::member))]
 pub fn member<F: Fields>(node: &F, refused: &mut bool, kind: ExprNode) -> Option<AnyPart>
@@ -54,8 +70,8 @@ pub fn member<F: Fields>(node: &F, refused: &mut bool, kind: ExprNode) -> Option
             )
         }
         ExprNode::ArrayExpr => {
-            let elems = node.field::<All<Exprs>>(refused, "elems");
-            whole_expr(node, refused, ExprKind::ArrayExpr { elems })
+            let kind = array(node, refused);
+            whole_expr(node, refused, kind)
         }
         _ => None,
     }

@@ -63,6 +63,7 @@ fn modifier_with(word: &str) -> Option<BlockModifier>
     match word {
         "unsafe" => Some(BlockModifier::Unsafe),
         "try" => Some(BlockModifier::Try),
+        "const" => Some(BlockModifier::Const),
         _ => None,
     }
 }
