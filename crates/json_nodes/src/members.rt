@@ -4,12 +4,11 @@ ghost use Rattle.std.specs.Prelude.{◌≡◌};
 ghost use Rattle.json_nodes.specs.Kept.{Kept};
 ghost use Rattle.json_nodes.specs.Exprs as spec;
 
-use crate::code_parts::Exprs;
+use crate::code_parts::{ExprPart, Exprs};
 use crate::exprs::whole_expr;
 use crate::field::flag;
 use crate::fields::{All, AllIfThere, Fields, InBox, One};
 use crate::name_parts::Names;
-use crate::part::AnyPart;
 use crate::path_parts::GenericArgLists;
 use hir_syntax::ast::ExprKind;
 use json_kinds::kind::ExprNode;
@@ -32,7 +31,7 @@ fn array<F: Fields>(node: &F, refused: &mut bool) -> ExprKind
 
 /// Methods and fields, tuples and arrays.
 #[tactic(auto, unfolding(crate::specs::Exprs::member))]
-pub fn member<F: Fields>(node: &F, refused: &mut bool, kind: ExprNode) -> Option<AnyPart>
+pub fn member<F: Fields>(node: &F, refused: &mut bool, kind: ExprNode) -> Option<ExprPart>
     requires { F.can node.now }
     ensures { Kept refused.old refused.new (result ≡ spec.member (F.here node.now) kind) }
 {
