@@ -42,6 +42,10 @@ pub type_ids_push : (xs : List TypeRefId) (x : TypeRefId)
     → of.past_type_ids (xs ++ x ∷ []) ≡ join (of.past_type_ids xs) (of.past_type_id x)
 type_ids_push = each_push of.past_type_id
 
+pub type_options_push : (xs : List (Option TypeRefId)) (x : Option TypeRefId)
+    → of.past_type_options (xs ++ x ∷ []) ≡ join (of.past_type_options xs) (of.past_present of.past_type_id x)
+type_options_push = each_push (of.past_present of.past_type_id)
+
 pub pat_ids_push : (xs : List PatId) (x : PatId)
     → of.past_pat_ids (xs ++ x ∷ []) ≡ join (of.past_pat_ids xs) (of.past_pat_id x)
 pat_ids_push = each_push of.past_pat_id
