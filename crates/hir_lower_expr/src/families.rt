@@ -9,6 +9,7 @@ ghost use Rattle.hir_lower_form.specs.Methods.{LowersExpr, kind_at};
 use crate::assignments::bin_form;
 use crate::blocks::block_form;
 use crate::calls::{call_form, method_call_form, paren_form};
+use crate::closures::closure_form;
 use crate::control::{if_form, loop_form, while_form};
 use crate::fors::for_form;
 use crate::jumps::{break_form, continue_form};
@@ -86,6 +87,15 @@ pub(crate) fn matching_kind<P: LowerParts>(
             iterable,
             body,
         } => for_form(lowerer, state, at, label, pat, iterable, body),
+        ast::ExprKind::ClosureExpr {
+            params,
+            ret,
+            body,
+            move_,
+            static_,
+        } => closure_form(
+            lowerer, state, at, params, ret, body, *move_, *static_,
+        ),
         _ => unreachable!(),
     }
 }

@@ -5,6 +5,7 @@
 mod assignments;
 pub mod blocks;
 mod calls;
+mod closures;
 mod consts;
 mod control;
 pub mod exprs;
