@@ -27,6 +27,7 @@ impl ClosureParams {
         }
     }
 
+    #[tactic(auto, using(hir_store::proofs::Past::join_across))]
     pub fn with_param(
         self,
         pat: PatId,

@@ -29,6 +29,9 @@ same_past exprs types lifetimes pats =
 pub join_assoc : (p q r : Past) → join p (join q r) ≡ join (join p q) r
 join_assoc p q r = same_past (omega arith) (omega arith) (omega arith) (omega arith)
 
+pub join_across : (p q r s : Past) → join (join p q) (join r s) ≡ join (join p r) (join q s)
+join_across p q r s = same_past (omega arith) (omega arith) (omega arith) (omega arith)
+
 pub join_nothing : (p : Past) → join p of.nothing ≡ join of.nothing p
 join_nothing p = same_past (omega arith) (omega arith) (omega arith) (omega arith)
 
