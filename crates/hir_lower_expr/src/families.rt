@@ -93,9 +93,7 @@ pub(crate) fn matching_kind<P: LowerParts>(
             body,
             move_,
             static_,
-        } => closure_form(
-            lowerer, state, at, params, ret, body, *move_, *static_,
-        ),
+        } => closure_form(lowerer, state, at, params, ret, body, *move_, *static_),
         _ => unreachable!(),
     }
 }

@@ -430,11 +430,11 @@ impl BodyBuilder {
     }
 
     /// Closes a border that was opened last, around which a `yield` stood or none did. It answers whether one stood in it.
-    #[tactic(auto, unfolding(crate::specs::Lowering::close_barrier))]
+    #[tactic(auto, unfolding(crate::specs::Lowering::close_barrier, crate::specs::Lowering::close))]
     pub fn close_barrier(&mut self, outside: bool) -> bool
         ensures { Lowers HasFlag (spec.close_barrier outside) self.old (Ok result) self.new }
     {
-        self.scopes.leave();
+        self.close();
         let inside = self.yields;
         self.yields = outside;
         inside

@@ -28,11 +28,7 @@ impl ClosureParams {
     }
 
     #[tactic(auto, using(hir_store::proofs::Past::join_across))]
-    pub fn with_param(
-        self,
-        pat: PatId,
-        ty: Option<TypeRefId>,
-    ) -> Result<ClosureParams, AllocError>
+    pub fn with_param(self, pat: PatId, ty: Option<TypeRefId>) -> Result<ClosureParams, AllocError>
         ensures value { IfOk result (λ l. l ≡ spec.add_param self pat ty) }
         ensures past { IfOk result (λ l. past_params l
             ≡ join (past_params self) (join (past_pat_id pat) (past_present past_type_id ty))) }

@@ -42,11 +42,7 @@ fn open(state: &mut BodyBuilder) -> Result<(bool, bool), StoreFault>
 }
 
 /// The body ends with this expression, and is recorded unless it stands inside of another root.
-fn shut(
-    state: &mut BodyBuilder,
-    around: (bool, bool),
-    id: ExprId,
-) -> Result<ExprId, StoreFault>
+fn shut(state: &mut BodyBuilder, around: (bool, bool), id: ExprId) -> Result<ExprId, StoreFault>
     requires { HasExpr state.old.stored id }
     ensures { Lowers HasExpr (bodies.shut around id) state.old result state.new }
 {
