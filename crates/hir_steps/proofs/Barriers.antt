@@ -173,16 +173,18 @@ pub record ClosureRow (at : Pointer) (moves is_static : Bool) (p : Lowering Clos
   pub in_body : S final (barrier_at ∷ ps) after_ret left body
   pub made : Allocated (stored_closure moves is_static params ret body yields) (Some at) final ps left m' i
 
+-- the node, of what was made behind the barrier
+abbrev node_of : Pointer → Bool → Bool → Made → Bool → ExprSteps
+node_of at moves is_static a y = alloc_expr (stored_closure moves is_static a.0 a.1 a.2 y) (Some at)
+
 module _ (at : Pointer) (moves is_static : Bool) {p : Lowering ClosureParams} {t : Lowering (Option TypeRefId)} {e : ExprSteps}
     {P : Rel ClosureParams} {T : Rel (Option TypeRefId)} {S : Rel ExprId} where
-  abbrev node_of : Made → Bool → ExprSteps
-  node_of a y = alloc_expr (stored_closure moves is_static a.0 a.1 a.2 y) (Some at)
-
   pub correct_closure : Correct p P → Correct t T → Correct e S
       → Correct (closure_form at moves is_static p t e) (ClosureRow at moves is_static p t e P T S)
   unfolding closure_form
   correct_closure hp ht he = correct_as
-      (correct_like (behind open_barrier (λ outside. all_grouped p t e (λ a. close_barrier outside >>= (λ y. node_of a y))))
+      (correct_like (behind open_barrier (λ outside.
+      all_grouped p t e (λ a. close_barrier outside >>= (λ y. node_of at moves is_static a y))))
       (correct_behind_barrier {p = all_of p t e}
       (correct_bind hp (λ l. correct_bind ht (λ r. correct_bind he (λ i. correct_pure (l, r, i)))))
       (λ a y. correct_alloc (stored_closure moves is_static a.0 a.1 a.2 y) (Some at))))
@@ -207,13 +209,14 @@ module _ (at : Pointer) (moves is_static : Bool) {p : Lowering ClosureParams} {t
             last.is row.second;
       })
 
+module _ (at : Pointer) (moves is_static : Bool) (p : Lowering ClosureParams) (t : Lowering (Option TypeRefId)) (e : ExprSteps) where
   -- none of its body is one of the body around it
   pub still_closure : Still (closure_form at moves is_static p t e)
   unfolding closure_form open_barrier close_barrier
   still_closure = record { still = λ b. by_params b (p (shut b)).0 (p (shut b)).1 }
     where
       after_body : Bool → ClosureParams → Option TypeRefId → ExprId → ExprSteps
-      after_body outside l r i = λ c. node_of (l, r, i) c.yields (reopened outside c)
+      after_body outside l r i = λ c. node_of at moves is_static (l, r, i) c.yields (reopened outside c)
 
       after_type : Bool → ClosureParams → Option TypeRefId → ExprSteps
       after_type outside l r = e >>= after_body outside l r
@@ -225,7 +228,7 @@ module _ (at : Pointer) (moves is_static : Bool) {p : Lowering ClosureParams} {t
           → LeavesTo b (go_on o c (after_body b.yields l r)).0 (go_on o c (after_body b.yields l r)).1
       by_body b l r (Ok i) c =
           let out = reopened b.yields c in
-          still_trans refl (node_of (l, r, i) c.yields out).0 (node_of (l, r, i) c.yields out).1
+          still_trans refl (node_of at moves is_static (l, r, i) c.yields out).0 (node_of at moves is_static (l, r, i) c.yields out).1
           ((still_expr (stored_closure moves is_static l r i c.yields) (Some at)).still out)
       by_body b l r (Err f) c = tt
 

@@ -74,7 +74,7 @@ elements_still comma es = still_then (dots_still comma es.1) (λ place. still_th
 
 -- ---- records
 
-named_still : (at : Pointer) (n : Option Name) (i : PatId) → Still (forms.named_part at n i)
+pub named_still : (at : Pointer) (n : Option Name) (i : PatId) → Still (forms.named_part at n i)
 named_still at None i = still_pure None
 named_still at (Some n) i = still_then (still_point_pat_field i at) (λ u. still_pure _)
 
