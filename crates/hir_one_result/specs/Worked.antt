@@ -37,7 +37,8 @@ use Rattle.hir_meaning.specs.Small.{stored_one, stored_two, none_beside}
 pub use Rattle.hir_meaning.specs.Turns.{other}
 use Rattle.hir_meaning.specs.Forms.{plus}
 use Rattle.hir_one_result.specs.Leads.{Way, expr_way, unled_way, binding_way}
-use Rattle.hir_one_result.specs.Stands.{Open, opened, Stands, StandsTop}
+use Rattle.hir_one_result.specs.Stands.{Open, opened, Stands}
+use Rattle.hir_one_result.specs.StandsWhole.{StandsTop}
 use Rattle.hir_one_result.specs.Diagnostics.{diagnostics}
 use Rattle.hir_one_result.specs.Blocks.{blocks_of}
 

@@ -1,22 +1,21 @@
 -- A closure runs as it is written: what is read back of its parameters and its type is in its event, and of its kind what stands in its
 -- body.
-use Rattle.std.proofs.Common.{◌≡◌, ◌∙◌, refl, ap, subst, Bool, true, false, if◌then◌else◌, List, [], Option, Some}
+use Rattle.std.proofs.Common.{◌≡◌, ◌∙◌, ap, subst, Bool, List, [], Option, Some}
 use Rattle.hir_store.specs.Pointers.{Pointer}
 use Rattle.hir_store.specs.Stored.{Stored, store_of, map_of}
 use Rattle.hir_store.specs.declared.hir.CaptureBy.{CaptureBy}
 use Rattle.hir_store.specs.declared.hir.ClosureKind.{ClosureKind}
-use Rattle.hir_store.specs.declared.hir.ClosureKind.TheVariants as kind
 use Rattle.hir_store.specs.declared.ids.ExprId.{ExprId}
 use Rattle.hir_store.specs.declared.ids.TypeRefId.{TypeRefId}
 use Rattle.hir_env.specs.Answered.{OptionExpr, OptionType, Params}
 use Rattle.hir_env.specs.Answering.{site_of}
 use Rattle.hir_lower_form.specs.declared.closures.ClosureParams.{ClosureParams}
-use Rattle.hir_lower_form.specs.Forms.{capture_by, closure_kind, movability, stored_closure}
+use Rattle.hir_lower_form.specs.Forms.{capture_by, closure_kind, stored_closure}
 use Rattle.hir_lower_form.specs.Lower.{closure_form, lower_params, lower_part, no_closure_params, present_type}
-use Rattle.hir_data.specs.Closures.{capture_of, movability_of}
 use Rattle.hir_data.specs.Data.{OptionTypeData, PatData}
 use Rattle.hir_data.specs.Reading.{stored_option_type}
 use Rattle.hir_data.specs.Yields.{yields_in}
+use Rattle.hir_read_back.proofs.Kinds.{captures_as, kind_as}
 use Rattle.hir_read_back.proofs.Now.{option_type_now}
 use Rattle.hir_read_back.proofs.Params.{params_now, pats_in, types_in}
 use Rattle.hir_read_back.proofs.YieldTree.{part_raises}
@@ -28,20 +27,6 @@ use Rattle.hir_steps.proofs.StillTree.{params_still, present_type_still}
 use Rattle.hir_steps.proofs.Steps.{Allocated, Correct, Mark, Rel, correct_as}
 use Rattle.hir_same_meaning.proofs.Relation.{same_ask}
 use Rattle.hir_same_meaning.proofs.Senses.{Base, Goes, Runs, goes_at, one}
-
--- ---- what it is
-
-moves_as : (is_static : Bool) → movability is_static ≡ movability_of is_static
-moves_as true = refl
-moves_as false = refl
-
-captures_as : (by_move : Bool) → capture_by by_move ≡ capture_of by_move
-captures_as true = refl
-captures_as false = refl
-
-kind_as : (y is_static : Bool) → closure_kind y is_static ≡ (if y then kind.OldCoroutine (movability_of is_static) else kind.Closure)
-kind_as true is_static = ap kind.OldCoroutine (moves_as is_static)
-kind_as false is_static = refl
 
 -- events of the same parts
 event_as : {k k' : ClosureKind} {c c' : CaptureBy} {ps ps' : List PatData} {ts ts' : List OptionTypeData} {t t' : OptionTypeData}
@@ -74,5 +59,5 @@ module _ (at : Pointer) (moves is_static : Bool) where
       (λ final fs m m' i g row.
       let yields = row.raised (params_still no_closure_params ps) (present_type_still t) (yields_in e) (part_raises e) in
       goes_closure row.params row.ret row.body row.yields (closure_of moves is_static ps t e)
-      (event_as (ap (λ y. closure_kind y is_static) yields ∙ kind_as (yields_in e) is_static) (captures_as moves)
+      (event_as (kind_as is_static e yields) (captures_as moves)
       row.in_params.pats row.in_params.types row.in_ret.is) row.made)
