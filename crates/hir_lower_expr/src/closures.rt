@@ -169,8 +169,7 @@ fn body_opt<P: LowerParts>(
         IfPresent ((P.can lowerer.now.parts).inner (of.inside_closure place)) body.now }
     ensures { LowersExprOpt (expr_part (in_closure (P.spot lowerer.now.parts)) body.now) state.old result state.new }
 {
-    let place = inside_closure(lowerer.parts.place());
-    lowerer.collect_expr_opt_inside(state, place, body)
+    lowerer.collect_expr_opt_inside(state, inside_closure(lowerer.parts.place()), body)
 }
 
 /// The parameters, what it returns, its body. No jump in it reaches what is open around it, and whether a `yield` stands in its body,
