@@ -39,7 +39,7 @@ use Rattle.hir_steps.proofs.Steps.{correct_target}
 use Rattle.hir_steps.proofs.MadeSteps.{correct_alloc_made, correct_made_number, correct_try_target}
 use Rattle.hir_steps.proofs.PatSteps.{correct_alloc_binding, correct_alloc_pat, correct_define}
 use Rattle.hir_steps.proofs.Opening.{raises_close, raises_open_label, raises_open_try}
-use Rattle.hir_steps.proofs.Yields.{Raises, raises_end, raises_pure, raises_still, raises_then, still_binding, still_define}
+use Rattle.hir_steps.proofs.Yields.{Raises, raises_begin, raises_end, raises_pure, raises_still, raises_then, still_binding, still_define}
 use Rattle.hir_steps.proofs.Yields.{still_enter_block}
 use Rattle.hir_steps.proofs.Yields.{still_expr, still_jump_target, still_made, still_made_number, still_pat, still_point, still_point_field}
 use Rattle.hir_steps.proofs.Yields.{still_report, still_report_await, still_try_target}
@@ -73,19 +73,19 @@ opened_raises : {A B : Type 0} {y : Bool} (l : Label) {p : LabelId → Lowering 
     → ((n : LabelId) → Raises y (p n)) → ((n : LabelId) (a : A) → Raises false (f n a))
     → Raises y (open_label l >>= (λ n. p n >>= (λ a. close >>= (λ _. f n a))))
 opened_raises l h k =
-    raises_then (raises_open_label l) (λ n. raises_end (h n) (λ a. raises_then raises_close (λ u. k n a)))
+    raises_begin (raises_open_label l) (λ n. raises_end (h n) (λ a. raises_begin raises_close (λ u. k n a)))
 
 -- ---- what is made up
 
 bind_off : (mode : BindingAnnotation) (n : ℕ) → Raises false (made_bind_form mode n)
 unfolding made_bind_form
-bind_off mode n = raises_then (raises_still (correct_alloc_binding _) (still_binding _)) (λ i. raises_then (pat_off _ None)
-    (λ p. raises_then (raises_still (correct_define i p) (still_define i p)) (λ u. raises_pure p)))
+bind_off mode n = raises_begin (raises_still (correct_alloc_binding _) (still_binding _)) (λ i. raises_begin (pat_off _ None)
+    (λ p. raises_begin (raises_still (correct_define i p) (still_define i p)) (λ u. raises_pure p)))
 
 flow_arm_off : (item : LangItemId) {body : ℕ → ExprSteps} → ((n : ℕ) → Raises false (body n)) → Raises false (flow_arm_form item body)
 unfolding flow_arm_form
-flow_arm_off item h = raises_then number_off (λ n. raises_then (bind_off _ n) (λ p. raises_then (pat_off _ None)
-    (λ q. raises_then (h n) (λ e. raises_pure _))))
+flow_arm_off item h = raises_begin number_off (λ n. raises_begin (bind_off _ n) (λ p. raises_begin (pat_off _ None)
+    (λ q. raises_begin (h n) (λ e. raises_pure _))))
 
 module _ (at : Pointer) where
   path_off : (n : ℕ) → Raises false (made_path_form at n)
@@ -94,12 +94,12 @@ module _ (at : Pointer) where
 
   item_call_off : (item : Option LangItemId) (argument : ExprId) → Raises false (item_call_form at item argument)
   unfolding item_call_form
-  item_call_off item argument = raises_then (made_off _ (Some at)) (λ f. made_off _ (Some at))
+  item_call_off item argument = raises_begin (made_off _ (Some at)) (λ f. made_off _ (Some at))
 
   residual_off : (items : QuestionItems) (n : ℕ) → Raises false (residual_form at items n)
   unfolding residual_form
-  residual_off items n = raises_then (path_off n) (λ r. raises_then (raises_still correct_try_target still_try_target)
-      (λ t. raises_then (item_call_off (conversion items t) r) (λ e. made_off _ (Some at))))
+  residual_off items n = raises_begin (path_off n) (λ r. raises_begin (raises_still correct_try_target still_try_target)
+      (λ t. raises_begin (item_call_off (conversion items t) r) (λ e. made_off _ (Some at))))
 
   value_or_unit_off : (tail : Option ExprId) → Raises false (value_or_unit at tail)
   value_or_unit_off (Some e) = raises_pure e
@@ -107,15 +107,15 @@ module _ (at : Pointer) where
 
   wrapped_off : (item : Option LangItemId) (tail : Option ExprId) → Raises false (wrapped_form at item tail)
   unfolding wrapped_form
-  wrapped_off item tail = raises_then (made_off _ (Some at)) (λ f. raises_then (value_or_unit_off tail) (λ v. made_off _ (Some at)))
+  wrapped_off item tail = raises_begin (made_off _ (Some at)) (λ f. raises_begin (value_or_unit_off tail) (λ v. made_off _ (Some at)))
 
   next_off : (item : LangItemId) (n : ℕ) → Raises false (next_form at item n)
   unfolding next_form made_reference_form
-  next_off item n = raises_then (raises_then (path_off n) (λ e. made_off _ (Some at))) (λ r. item_call_off (Some item) r)
+  next_off item n = raises_begin (raises_begin (path_off n) (λ e. made_off _ (Some at))) (λ r. item_call_off (Some item) r)
 
   done_arm_off : (item : LangItemId) → Raises false (done_arm_form at item)
   unfolding done_arm_form
-  done_arm_off item = raises_then (pat_off _ None) (λ p. raises_then (made_off _ (Some at)) (λ e. raises_pure _))
+  done_arm_off item = raises_begin (pat_off _ None) (λ p. raises_begin (made_off _ (Some at)) (λ e. raises_pure _))
 
 -- ---- forms
 
@@ -136,7 +136,7 @@ module _ (at : Pointer) where
 
   pub turn_raises : {y z : Bool} {c b : ExprSteps} → Raises z c → Raises y b → Raises (y || z) (turn_form at c b)
   unfolding turn_form
-  turn_raises hc hb = raises_then hb (λ i. raises_end hc (λ k. raises_then (stored_here _) (λ o. stored_here _)))
+  turn_raises hc hb = raises_then hb (λ i. raises_end hc (λ k. raises_begin (stored_here _) (λ o. stored_here _)))
 
   pub call_raises : {y z : Bool} {f : ExprSteps} {xs : Lowering (List ExprId)} → Raises y f → Raises z xs
       → Raises (y || z) (call_form at f xs)
@@ -146,12 +146,12 @@ module _ (at : Pointer) where
   pub break_raises : {y : Bool} (j : Option Jump) {e : Lowering (Option ExprId)} → Raises y e → Raises y (break_form at j e)
   unfolding break_form
   break_raises j h =
-      raises_then (raises_still (correct_target j) (still_jump_target j)) (λ n. raises_end h (λ v. stored_here _))
+      raises_begin (raises_still (correct_target j) (still_jump_target j)) (λ n. raises_end h (λ v. stored_here _))
 
   pub paren_raises : {y : Bool} {e : ExprSteps} → Raises y e → Raises y (paren_form at e)
   unfolding paren_form
   paren_raises h =
-      raises_end h (λ i. raises_then (raises_still (correct_point at i) (still_point at i)) (λ u. raises_pure i))
+      raises_end h (λ i. raises_begin (raises_still (correct_point at i) (still_point at i)) (λ u. raises_pure i))
 
   pub operand_raises : {y : Bool} (form : ExprId → HirExpr) {e : ExprSteps} → Raises y e → Raises y (operand_form at form e)
   unfolding operand_form
@@ -170,57 +170,57 @@ module _ (at : Pointer) where
   pub list_raises : {y : Bool} (form : Listing) {xs : Lowering (List ExprId)} → Raises y xs → Raises y (list_form at form xs)
   unfolding list_form
   list_raises (tree.tuple_of false) h = raises_end h (λ is. stored_here _)
-  list_raises (tree.tuple_of true) h = raises_end h (λ is. raises_then missing_off (λ i. stored_here _))
+  list_raises (tree.tuple_of true) h = raises_end h (λ is. raises_begin missing_off (λ i. stored_here _))
   list_raises tree.array_of h = raises_end h (λ is. stored_here _)
 
   pub repeat_raises : {y : Bool} {e : ExprSteps} {c : Lowering ConstRef} → Raises y e → Raises false c → Raises y (repeat_form at e c)
   unfolding repeat_form
-  repeat_raises he hc = raises_end he (λ i. raises_then hc (λ c. stored_here _))
+  repeat_raises he hc = raises_end he (λ i. raises_begin hc (λ c. stored_here _))
 
   pub const_off : {c : Lowering ConstRef} → Raises false c → Raises false (const_form at c)
   unfolding const_form
-  const_off h = raises_then h (λ c. stored_here _)
+  const_off h = raises_begin h (λ c. stored_here _)
 
   pub path_form_off : (h : HygieneId) {p : Lowering (Option HirPath)} → Raises false p → Raises false (path_form at h p)
   unfolding path_form
-  path_form_off h hp = raises_then hp (λ r. stored_here _)
+  path_form_off h hp = raises_begin hp (λ r. stored_here _)
 
   pub continue_off : (j : Option Jump) → Raises false (continue_form at j)
   unfolding continue_form
-  continue_off j = raises_then (raises_still (correct_target j) (still_jump_target j)) (λ n. stored_here _)
+  continue_off j = raises_begin (raises_still (correct_target j) (still_jump_target j)) (λ n. stored_here _)
 
   pub offset_of_off : {t : Lowering TypeRefId} (names : List Name) → Raises false t → Raises false (offset_of_form at t names)
   unfolding offset_of_form
-  offset_of_off names h = raises_then h (λ t. stored_here _)
+  offset_of_off names h = raises_begin h (λ t. stored_here _)
 
   pub method_call_raises : {y z : Bool} {e : ExprSteps} (name : Name) {xs : Lowering (List ExprId)} {as' : Lowering (Option GenericArgs)}
       → Raises y e → Raises z xs → Raises false as' → Raises (y || z) (method_call_form at e name xs as')
   unfolding method_call_form
-  method_call_raises name he hx ha = raises_then he (λ i. raises_end hx (λ is. raises_then ha (λ g. stored_here _)))
+  method_call_raises name he hx ha = raises_then he (λ i. raises_end hx (λ is. raises_begin ha (λ g. stored_here _)))
 
   pub cast_raises : {y : Bool} {e : ExprSteps} {t : Lowering TypeRefId} → Raises y e → Raises false t → Raises y (cast_form at e t)
   unfolding cast_form
-  cast_raises he ht = raises_end he (λ i. raises_then ht (λ t. stored_here _))
+  cast_raises he ht = raises_end he (λ i. raises_begin ht (λ t. stored_here _))
 
   pub field_raises : {y : Bool} (name : Name) {e : ExprSteps} → Raises y e → Raises y (field_form at name e)
   unfolding field_form
   field_raises name h =
-      raises_end h (λ i. raises_then (raises_still (correct_point_field i at) (still_point_field i at)) (λ u. raises_pure _))
+      raises_end h (λ i. raises_begin (raises_still (correct_point_field i at) (still_point_field i at)) (λ u. raises_pure _))
 
   pub await_raises : {y : Bool} (location : Option AwaitLocation) {e : ExprSteps} → Raises y e → Raises y (await_form at location e)
   unfolding await_form
-  await_raises location h = raises_end h (λ i. raises_then
+  await_raises location h = raises_end h (λ i. raises_begin
       (raises_still (correct_report_await at location) (still_report_await at location)) (λ u. stored_here _))
 
   pub block_form_raises : {y : Bool} (is_unsafe : Bool) (label : Option LabelId) (number : Option BlockId) {c : Lowering StoredContents}
       → Raises y c → Raises y (block_form at is_unsafe label number c)
   unfolding block_form
   block_form_raises is_unsafe label number h =
-      raises_then (raises_still (correct_enter_block number) (still_enter_block number)) (λ u. raises_end h (λ r. stored_here _))
+      raises_begin (raises_still (correct_enter_block number) (still_enter_block number)) (λ u. raises_end h (λ r. stored_here _))
 
   pub let_raises : {y : Bool} {p : Lowering PatId} {e : ExprSteps} → Raises false p → Raises y e → Raises y (let_form at p e)
   unfolding let_form
-  let_raises hp he = raises_then hp (λ p. raises_end he (λ i. stored_here _))
+  let_raises hp he = raises_begin hp (λ p. raises_end he (λ i. stored_here _))
 
   pub match_raises : {y z : Bool} {e : ExprSteps} {arms : Lowering (List MatchArm)} → Raises y e → Raises z arms
       → Raises (y || z) (match_form at e arms)
@@ -233,7 +233,7 @@ module _ (at : Pointer) where
 
   range_off : (form : RangeForm) (s e : Option ExprId) → Raises false (made_range at form s e)
   range_off (tree.record_range i last) s e = stored_here _
-  range_off (tree.call_range i) s e = raises_then (stored_off _ None) (λ f. stored_here _)
+  range_off (tree.call_range i) s e = raises_begin (stored_off _ None) (λ f. stored_here _)
   range_off tree.itemless_range s e = stored_here _
 
   pub range_raises : {y z : Bool} (form : RangeForm) {s e : Lowering (Option ExprId)} → Raises y s → Raises z e
@@ -245,32 +245,32 @@ module _ (at : Pointer) where
 
   pub question_raises : {y : Bool} (items : QuestionItems) {e : ExprSteps} → Raises y e → Raises y (question_form at items e)
   unfolding question_form
-  question_raises items h = raises_end h (λ e. raises_then (item_call_off at (Some items.branch) e)
-      (λ b. raises_then (flow_arm_off items.goes_on (path_off at))
-      (λ a. raises_then (flow_arm_off items.breaks (residual_off at items)) (λ c. stored_here _))))
+  question_raises items h = raises_end h (λ e. raises_begin (item_call_off at (Some items.branch) e)
+      (λ b. raises_begin (flow_arm_off items.goes_on (path_off at))
+      (λ a. raises_begin (flow_arm_off items.breaks (residual_off at items)) (λ c. stored_here _))))
 
   pub try_raises : {y : Bool} (item : Option LangItemId) (typed : Bool) (number : Option BlockId) {c : Lowering StoredContents} → Raises y c
       → Raises y (try_block_form at item typed number c)
   unfolding try_block_form
-  try_raises item typed number h = raises_then (raises_open_try at typed) (λ n. raises_then
-      (raises_still (correct_enter_block number) (still_enter_block number)) (λ u. raises_end h (λ r. raises_then raises_close
-      (λ v. raises_then (wrapped_off at item (settled r.0 r.1).1) (λ w. stored_here _)))))
+  try_raises item typed number h = raises_begin (raises_open_try at typed) (λ n. raises_begin
+      (raises_still (correct_enter_block number) (still_enter_block number)) (λ u. raises_end h (λ r. raises_begin raises_close
+      (λ v. raises_begin (wrapped_off at item (settled r.0 r.1).1) (λ w. stored_here _)))))
 
   pub typed_try_raises : {y : Bool} {b : ExprSteps} {t : Lowering TypeRefId} → Raises y b → Raises false t
       → Raises y (typed_try_form at b t)
   unfolding typed_try_form
-  typed_try_raises hb ht = raises_end hb (λ b. raises_then number_off (λ n. raises_then ht (λ t. raises_then (bind_off _ n)
-      (λ p. raises_then (path_off at n) (λ e. made_off _ (Some at))))))
+  typed_try_raises hb ht = raises_end hb (λ b. raises_begin number_off (λ n. raises_begin ht (λ t. raises_begin (bind_off _ n)
+      (λ p. raises_begin (path_off at n) (λ e. made_off _ (Some at))))))
 
   gives_arm_raises : {y : Bool} (item : LangItemId) (p : PatId) {b : ExprSteps} → Raises y b → Raises y (gives_arm_form item p b)
   unfolding gives_arm_form
-  gives_arm_raises item p h = raises_then (pat_off _ None) (λ q. raises_end h (λ e. raises_pure _))
+  gives_arm_raises item p h = raises_begin (pat_off _ None) (λ q. raises_end h (λ e. raises_pure _))
 
   for_turn_raises : {y : Bool} (items : ForItems) (n : ℕ) (p : PatId) {b : ExprSteps} → Raises y b
       → Raises y (for_turn_form at items n p b)
   unfolding for_turn_form
-  for_turn_raises items n p h = raises_then (next_off at items.next n) (λ c. raises_then (done_arm_off at items.is_done)
-      (λ a. raises_end (gives_arm_raises items.gives p h) (λ b. raises_then (made_off _ (Some at)) (λ e. made_off _ (Some at)))))
+  for_turn_raises items n p h = raises_begin (next_off at items.next n) (λ c. raises_begin (done_arm_off at items.is_done)
+      (λ a. raises_end (gives_arm_raises items.gives p h) (λ b. raises_begin (made_off _ (Some at)) (λ e. made_off _ (Some at)))))
 
   made_loop_raises : {y : Bool} (label : Option Label) {b : ExprSteps} → Raises y b → Raises y (made_loop_form at label b)
   unfolding made_loop_form
@@ -280,8 +280,8 @@ module _ (at : Pointer) where
 pub for_raises : {y z : Bool} (at head_at : Pointer) (items : ForItems) (label : Option Label) {h : ExprSteps} {p : Lowering PatId}
     {b : ExprSteps} → Raises y h → Raises false p → Raises z b → Raises (y || z) (for_form at head_at items label h p b)
 unfolding for_form
-for_raises at head_at items label hh hp hb = raises_then hh (λ h. raises_then (item_call_off head_at (Some items.into_iter) h)
-    (λ i. raises_then hp (λ p. raises_then number_off (λ n. raises_then (bind_off _ n)
+for_raises at head_at items label hh hp hb = raises_then hh (λ h. raises_begin (item_call_off head_at (Some items.into_iter) h)
+    (λ i. raises_begin hp (λ p. raises_begin number_off (λ n. raises_begin (bind_off _ n)
     (λ q. raises_end (made_loop_raises at label (for_turn_raises at items n p hb)) (λ l. stored_off _ (Some at)))))))
 
 pub contents_raises : {y z : Bool} {fs : Lowering (List RecordLitField)} {s : Lowering RecordSpread} → Raises y fs → Raises z s
@@ -298,9 +298,9 @@ labelled_raises (Some l) h = opened_raises l (λ n. h (Some n)) (λ n i. raises_
 pub arm_raises : {y z : Bool} {p : Lowering PatId} {e : ExprSteps} {g : Lowering (Option ExprId)} → Raises false p → Raises y e
     → Raises z g → Raises (y || z) (arm_form p e g)
 unfolding arm_form
-arm_raises hp he hg = raises_then hp (λ p. raises_then he (λ e. raises_end hg (λ g. raises_pure _)))
+arm_raises hp he hg = raises_begin hp (λ p. raises_then he (λ e. raises_end hg (λ g. raises_pure _)))
 
 pub let_stmt_raises : {y z : Bool} {p : Lowering PatId} {t : Lowering (Option TypeRefId)} {i b : Lowering (Option ExprId)}
     → Raises false p → Raises false t → Raises y i → Raises z b → Raises (y || z) (let_stmt_form p t i b)
 unfolding let_stmt_form
-let_stmt_raises hp ht hi hb = raises_then hp (λ p. raises_then ht (λ t. raises_then hi (λ i. raises_end hb (λ b. raises_pure _))))
+let_stmt_raises hp ht hi hb = raises_begin hp (λ p. raises_begin ht (λ t. raises_then hi (λ i. raises_end hb (λ b. raises_pure _))))

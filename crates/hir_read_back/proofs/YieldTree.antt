@@ -30,7 +30,8 @@ use Rattle.hir_steps.proofs.Barriers.{raises_yield, still_closure}
 use Rattle.hir_steps.proofs.Logic.{mark}
 use Rattle.hir_steps.proofs.StillPats.{elements_still, missing_pat_still, named_still}
 use Rattle.hir_steps.proofs.StillTree as still
-use Rattle.hir_steps.proofs.Yields.{Raises, RaisedTo, or_assoc, raises_as, raises_by, raises_end, raises_pure, raises_still, raises_then}
+use Rattle.hir_steps.proofs.Yields.{Raises, RaisedTo, or_assoc, raises_as, raises_by, raises_begin, raises_end, raises_pure, raises_still}
+use Rattle.hir_steps.proofs.Yields.{raises_then}
 use Rattle.hir_data.specs.Rule.{PathRead}
 use Rattle.hir_data.specs.Written.{path_of}
 use Rattle.hir_data.specs.Yields.{arms_yields, block_part_yields, block_yields, each_yields, expr_yields, fields_yields, guard_yields}
@@ -62,7 +63,7 @@ elements_off es = raises_still (elements_apart false es) (elements_still false e
 
 rest_off : (dots : Option Pointer) → Raises false (targets.rest_target dots)
 rest_off None = raises_pure None
-rest_off (Some p) = raises_then (pat_off _ (Some p)) (λ i. raises_pure (Some i))
+rest_off (Some p) = raises_begin (pat_off _ (Some p)) (λ i. raises_pure (Some i))
 
 spread_off : (spread : Option Pointer) → Raises false (targets.report_spread spread)
 spread_off None = raises_pure tt
@@ -94,28 +95,28 @@ module _ (at : Pointer) where
 
   path_target_off : (h : HygieneId) {q : Lowering (Option HirPath)} → Raises false q → Raises false (targets.path_target_form at h q)
   unfolding targets.path_target_form
-  path_target_off h hq = raises_then hq (λ p. pat_off _ (Some at))
+  path_target_off h hq = raises_begin hq (λ p. pat_off _ (Some at))
 
   tuple_target_raises : {y : Bool} {ps : Lowering Elements} → Raises y ps → Raises y (targets.tuple_target_form at ps)
   unfolding targets.tuple_target_form
-  tuple_target_raises h = raises_end h (λ r. raises_then (elements_off r) (λ es. pat_off _ (Some at)))
+  tuple_target_raises h = raises_end h (λ r. raises_begin (elements_off r) (λ es. pat_off _ (Some at)))
 
   call_target_raises : {y : Bool} (p : OptionPath) {ps : Lowering Elements} → Raises y ps
       → Raises (yields_if_read (path_of p) y) (targets.call_target_form at ps (lower.lower_path p))
   unfolding targets.call_target_form
   call_target_raises p h = beside p (raises_still missing_pat_apart missing_pat_still)
-      (λ o. raises_end h (λ r. raises_then (elements_off r) (λ es. pat_off _ (Some at))))
+      (λ o. raises_end h (λ r. raises_begin (elements_off r) (λ es. pat_off _ (Some at))))
 
   array_target_raises : {y z : Bool} (dots : Option Pointer) {b a : Lowering Elements} → Raises y b → Raises z a
       → Raises (y || z) (targets.array_target_form at dots b a)
   unfolding targets.array_target_form
-  array_target_raises dots hb ha = raises_then hb (λ b. raises_end ha (λ a. raises_then (rest_off dots) (λ m. pat_off _ (Some at))))
+  array_target_raises dots hb ha = raises_then hb (λ b. raises_end ha (λ a. raises_begin (rest_off dots) (λ m. pat_off _ (Some at))))
 
   record_target_raises : {y : Bool} (p : OptionPath) (dots : Bool) (spread : Option Pointer) {fs : Lowering (List RecordFieldPat)}
       → Raises y fs → Raises (yields_if_read (path_of p) y) (targets.record_target_form at dots spread fs (lower.lower_path p))
   unfolding targets.record_target_form
   record_target_raises p dots spread h = beside p (raises_still missing_pat_apart missing_pat_still)
-      (λ o. raises_then (spread_off spread) (λ u. raises_end h (λ fs. pat_off _ (Some at))))
+      (λ o. raises_begin (spread_off spread) (λ u. raises_end h (λ fs. pat_off _ (Some at))))
 
   target_field_raises : {y : Bool} (n : Option Name) {p : Lowering PatId} → Raises y p → Raises y (targets.target_field_form at n p)
   unfolding targets.target_field_form
@@ -123,12 +124,12 @@ module _ (at : Pointer) where
 
 -- a disabled one leaves a fault and nothing else
 kept_raises : (e : Expr) {p : ExprSteps} → Raises (expr_yields e) p → Raises (expr_yields e) (kept e p)
-kept_raises (tree.disabled_expr at by e) h = raises_then (report_off _) (λ u. raises_pure None)
+kept_raises (tree.disabled_expr at by e) h = raises_begin (report_off _) (λ u. raises_pure None)
 kept_raises e h = some_raises h
 
 mutual
   expr_raises : (e : Expr) → Raises (expr_yields e) (lower.lower e)
-  expr_raises (tree.disabled_expr at by e) = raises_then (report_off _) (λ u. missing_off)
+  expr_raises (tree.disabled_expr at by e) = raises_begin (report_off _) (λ u. missing_off)
   expr_raises (tree.if_expr at c t e) = forms.if_raises at (part_raises c) (block_part_raises t) (present_raises e)
   expr_raises (tree.block_expr b) = block_raises b
   expr_raises (tree.loop_expr at label _ b) = forms.loop_raises at _ label (block_part_raises b)
@@ -195,8 +196,8 @@ mutual
   fields_raise : (done : List RecordLitField) (fs : Fields) → Raises (fields_yields fs) (lower.lower_fields done fs)
   fields_raise done tree.no_fields = raises_pure done
   fields_raise done (tree.more_fields (tree.disabled_field at by f) fs) =
-      raises_then (raises_then (report_off _) (λ u. raises_pure None)) (λ x. fields_raise _ fs)
-  fields_raise done (tree.more_fields (tree.nameless_field at e) fs) = raises_then (raises_pure None) (λ x. fields_raise _ fs)
+      raises_begin (raises_begin (report_off _) (λ u. raises_pure None)) (λ x. fields_raise _ fs)
+  fields_raise done (tree.more_fields (tree.nameless_field at e) fs) = raises_begin (raises_pure None) (λ x. fields_raise _ fs)
   fields_raise done (tree.more_fields (tree.named_field at name e) fs) =
       raises_then (forms.field_raises at name (part_raises e)) (λ x. fields_raise _ fs)
 
@@ -221,11 +222,11 @@ mutual
       → Raises (stmts_yields ss || y) (lower.lower_stmts done ss tail)
   stmts_raise done tree.no_stmts h = raises_end h (λ t. raises_pure (done, t))
   stmts_raise done (tree.more_stmts (tree.disabled_stmt at by s) ss) h =
-      raises_then (raises_then (report_off _) (λ u. raises_pure None)) (λ x. stmts_raise _ ss h)
+      raises_begin (raises_begin (report_off _) (λ u. raises_pure None)) (λ x. stmts_raise _ ss h)
   stmts_raise done (tree.more_stmts (tree.expr_stmt e semi) ss) {y = y} h =
       raises_as (sym (or_assoc (yields_in e) (stmts_yields ss) y))
       (raises_then (raises_end (kept_part_raises e) (λ x. raises_pure _)) (λ x. stmts_raise _ ss h))
-  stmts_raise done (tree.more_stmts tree.item_stmt ss) h = raises_then (raises_pure _) (λ x. stmts_raise _ ss h)
+  stmts_raise done (tree.more_stmts tree.item_stmt ss) h = raises_begin (raises_pure _) (λ x. stmts_raise _ ss h)
   stmts_raise done (tree.more_stmts (tree.let_stmt p t e b) ss) {y = y} h =
       raises_as (sym (or_assoc (yields_in e || block_part_yields b) (stmts_yields ss) y))
       (raises_then (forms.let_stmt_raises (top_off p) (present_type_off t) (present_raises e) (present_block_raises b))
@@ -234,7 +235,7 @@ mutual
   arms_raise : (done : List MatchArm) (arms : Arms) → Raises (arms_yields arms) (lower.lower_arms done arms)
   arms_raise done tree.no_arms = raises_pure done
   arms_raise done (tree.more_arms (tree.disabled_arm at by a) arms) =
-      raises_then (raises_then (report_off _) (λ u. raises_pure None)) (λ x. arms_raise _ arms)
+      raises_begin (raises_begin (report_off _) (λ u. raises_pure None)) (λ x. arms_raise _ arms)
   arms_raise done (tree.more_arms (tree.arm p e g) arms) =
       raises_then (forms.arm_raises (top_off p) (part_raises e) (guard_raises g)) (λ x. arms_raise _ arms)
 
@@ -247,7 +248,7 @@ mutual
   target_raises (tree.place_target at e) = place_raises at (expr_raises e)
   target_raises (tree.wild_target at) = pat_off _ (Some at)
   target_raises (tree.path_target at p h) = path_target_off at h
-      (raises_then (raises_still (apart.reading_apart p start) (still.reading_still p start)) (λ r. raises_pure (path_read r)))
+      (raises_begin (raises_still (apart.reading_apart p start) (still.reading_still p start)) (λ r. raises_pure (path_read r)))
   target_raises (tree.tuple_target at ts) = tuple_target_raises at (targets_raise no_elements ts)
   target_raises (tree.call_target at p ts) = call_target_raises at p (targets_raise no_elements ts)
   target_raises (tree.array_target at before dots behind) =
@@ -263,9 +264,9 @@ mutual
       → Raises (target_fields_yields fs) (lower.lower_target_fields done fs)
   target_fields_raise done tree.no_target_fields = raises_pure done
   target_fields_raise done (tree.more_target_fields (tree.disabled_target_field at by) fs) =
-      raises_then (raises_then (report_off _) (λ u. raises_pure None)) (λ x. target_fields_raise _ fs)
+      raises_begin (raises_begin (report_off _) (λ u. raises_pure None)) (λ x. target_fields_raise _ fs)
   target_fields_raise done (tree.more_target_fields tree.partless_target_field fs) =
-      raises_then (raises_pure None) (λ x. target_fields_raise _ fs)
+      raises_begin (raises_pure None) (λ x. target_fields_raise _ fs)
   target_fields_raise done (tree.more_target_fields (tree.target_field at n t) fs) =
       raises_then (target_field_raises at n (target_raises t)) (λ x. target_fields_raise _ fs)
 

@@ -24,7 +24,8 @@ use Rattle.hir_steps.proofs.Logic.{Mark, mark, Grows, Rel, Answers, Holds, Corre
 use Rattle.hir_steps.proofs.Logic.{grows_trans}
 use Rattle.hir_steps.proofs.MadeSteps.{behind, correct_like}
 use Rattle.hir_steps.proofs.Steps.{Allocated, correct_alloc}
-use Rattle.hir_steps.proofs.Yields.{LeavesTo, Still, Raises, RaisedTo, raises_end, raises_noted, raises_pure, raises_still, raises_then}
+use Rattle.hir_steps.proofs.Yields.{LeavesTo, Still, Raises, RaisedTo, raises_begin, raises_end, raises_noted, raises_pure, raises_still}
+use Rattle.hir_steps.proofs.Yields.{raises_then}
 use Rattle.hir_steps.proofs.Yields.{still_expr, still_pure, still_then, still_trans}
 
 -- ---- constants
@@ -150,7 +151,7 @@ module _ (p : Lowering ClosureParams) (t : Lowering (Option TypeRefId)) (e : Exp
 raises_all : {p : Lowering ClosureParams} {t : Lowering (Option TypeRefId)} {e : ExprSteps} {P : Rel ClosureParams}
     {T : Rel (Option TypeRefId)} {y : Bool} → Correct p P → Still p → Correct t T → Still t → Raises y e → Raises y (all_of p t e)
 raises_all hp sp ht st he =
-    raises_then (raises_still hp sp) (λ l. raises_then (raises_still ht st) (λ r. raises_end he (λ i. raises_pure _)))
+    raises_begin (raises_still hp sp) (λ l. raises_begin (raises_still ht st) (λ r. raises_end he (λ i. raises_pure _)))
 
 -- Its parameters, its type and its body behind a barrier, and then the node, which is of a kind by whether its body yields.
 pub record ClosureRow (at : Pointer) (moves is_static : Bool) (p : Lowering ClosureParams) (t : Lowering (Option TypeRefId)) (e : ExprSteps)
@@ -284,4 +285,4 @@ correct_yield h = correct_noted h
 pub raises_yield : {at : Pointer} {v : Lowering (Option ExprId)} {y : Bool} → Raises y (value_form at hir.Yield v)
     → Raises true (yield_form at v)
 unfolding yield_form value_form
-raises_yield h = raises_then raises_noted (λ u. h)
+raises_yield {y = y} h = raises_then {y = true} {z = y} raises_noted (λ u. h)

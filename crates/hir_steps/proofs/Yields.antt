@@ -228,8 +228,13 @@ pub raises_then : {A B : Type 0} {y z : Bool} {p : Lowering A} {f : A → Loweri
 raises_then {A = A} {y = y} {z = z} {p = p} {f = f} h k = record { at = λ b d. by b (p b).0 (p b).1 (h.at b d) }
   where
     by : (b : Builder) (o : Checked A) (c : Builder) → RaisedTo y b o c → RaisedTo (y || z) b (go_on o c f).0 (go_on o c f).1
-    by b (Ok a) c x = raised_trans x.1 (f a c).0 (f a c).1 ((k a).at c x.0)
+    by b (Ok a) c x = raised_trans {y = y} {z = z} x.1 (f a c).0 (f a c).1 ((k a).at c x.0)
     by b (Err e) c x = tt
+
+-- nothing stands in the first
+pub raises_begin : {A B : Type 0} {y : Bool} {p : Lowering A} {f : A → Lowering B} → Raises false p → ((a : A) → Raises y (f a))
+    → Raises y (p >>= f)
+raises_begin {y = y} h k = raises_then {y = false} {z = y} h k
 
 -- the same, otherwise told
 pub raises_as : {A : Type 0} {y z : Bool} {p : Lowering A} → y ≡ z → Raises y p → Raises z p
@@ -238,7 +243,7 @@ raises_as {p = p} e h = subst (λ t. Raises t p) e h
 -- nothing stands in the second
 pub raises_end : {A B : Type 0} {y : Bool} {p : Lowering A} {f : A → Lowering B} → Raises y p → ((a : A) → Raises false (f a))
     → Raises y (p >>= f)
-raises_end {y = y} h k = raises_as (or_false y) (raises_then h k)
+raises_end {y = y} h k = raises_as (or_false y) (raises_then {y = y} {z = false} h k)
 
 -- where what the second is depends on what the first answers
 pub raises_by : {A B : Type 0} {y : Bool} {p : Lowering A} {f : A → Lowering B} → Raises false p
@@ -247,7 +252,7 @@ raises_by {A = A} {y = y} {p = p} {f = f} h k = record { at = λ b d. by b d (p 
   where
     by : (b : Builder) → Paired b.stored → (o : Checked A) (c : Builder) → p b ≡ (o, c) → RaisedTo false b o c
         → RaisedTo y b (go_on o c f).0 (go_on o c f).1
-    by b d (Ok a) c is x = raised_trans x.1 (f a c).0 (f a c).1 ((k b a c d is).at c x.0)
+    by b d (Ok a) c is x = raised_trans {y = false} {z = y} x.1 (f a c).0 (f a c).1 ((k b a c d is).at c x.0)
     by b d (Err e) c is x = tt
 
 pub raises_pure : {A : Type 0} (a : A) → Raises false (pure a)
