@@ -1,6 +1,6 @@
 -- Whether a `yield` stood in the body that is being lowered: steps by what they make of that.
 use Rattle.std.proofs.Common.{◌≡◌, ◌∙◌, ◌^◌, ℕ, suc, nat_lt, refl, sym, ap, subst, Bool, true, false, ◌||◌, if◌then◌else◌}
-use Rattle.std.proofs.Common.{Option, Some, None, Ok, Err}
+use Rattle.std.proofs.Common.{List, Option, Some, None, Ok, Err}
 use Rattle.hir_binding.specs.declared.binding.BindingProblems.{BindingProblems}
 use Rattle.hir_store.specs.Pointers.{Pointer}
 use Rattle.hir_store.specs.Stored.{Stored}
@@ -39,7 +39,7 @@ LeavesTo b (Err e) c = Unit {0}
 pub record Still {A : Type 0} (p : Lowering A) : Type 0 where
   pub still : (b : Builder) → LeavesTo b (p b).0 (p b).1
 
-still_trans : {A : Type 0} {b c : Builder} → c.yields ≡ b.yields → (o : Checked A) (d : Builder) → LeavesTo c o d → LeavesTo b o d
+pub still_trans : {A : Type 0} {b c : Builder} → c.yields ≡ b.yields → (o : Checked A) (d : Builder) → LeavesTo c o d → LeavesTo b o d
 still_trans g (Ok a) d h = h ∙ g
 still_trans g (Err e) d h = tt
 
@@ -183,7 +183,7 @@ or_true : (x : Bool) → (x || true) ≡ true
 or_true true = refl
 or_true false = refl
 
-or_assoc : (x y z : Bool) → ((x || y) || z) ≡ (x || (y || z))
+pub or_assoc : (x y z : Bool) → ((x || y) || z) ≡ (x || (y || z))
 or_assoc true y z = refl
 or_assoc false y z = refl
 
