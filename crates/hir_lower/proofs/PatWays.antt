@@ -33,7 +33,8 @@ use Rattle.hir_scope.specs.Each.{Each}
 use Rattle.hir_steps.proofs.Logic.{longer}
 use Rattle.hir_lower.proofs.Ways.{Leading, Low, Goes, Went, any, since, then', makes, anyway, in_turn, leading_pure, leading_alloc}
 use Rattle.hir_lower.proofs.Ways.{leading_alloc_binding}
-use Rattle.hir_lower.proofs.Ways.{leading_alloc_pat, leading_barrier, leading_close_barrier, leading_count_out, leading_define, leading_enter}
+use Rattle.hir_lower.proofs.Ways.{leading_alloc_pat, leading_barrier, leading_close_barrier, leading_count_out, leading_define}
+use Rattle.hir_lower.proofs.Ways.{leading_enter}
 use Rattle.hir_lower.proofs.Ways.{leading_leave, leading_point_pat_field, leading_report}
 
 node_leads : (e : HirExpr) (source : Option Pointer) → Leading any (alloc_expr e source)

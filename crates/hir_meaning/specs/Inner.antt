@@ -38,7 +38,8 @@ pub use Rattle.hir_meaning.specs.InnerWritten.{part_bodies, parts_bodies, bounds
 pub use Rattle.hir_meaning.specs.InnerWritten.{type_pat_part_bodies, type_pats_bodies, list_bodies, arguments_bodies}
 pub use Rattle.hir_meaning.specs.InnerWritten.{argument_bodies, bindings_bodies, binding_bodies, beside_bodies, parens_bodies}
 pub use Rattle.hir_meaning.specs.InnerWritten.{output_bodies, path_bodies, held, path_parts, outer_parts, behind_parts}
-pub use Rattle.hir_meaning.specs.InnerWritten.{anchor_bodies, names_bodies, expr_bodies, params_bodies, bodies_in, each_bodies, fields_bodies}
+pub use Rattle.hir_meaning.specs.InnerWritten.{anchor_bodies, names_bodies, expr_bodies, params_bodies, bodies_in, each_bodies}
+pub use Rattle.hir_meaning.specs.InnerWritten.{fields_bodies}
 pub use Rattle.hir_meaning.specs.InnerWritten.{field_bodies, spread_bodies, arms_bodies, arm_bodies, guard_bodies, block_bodies}
 pub use Rattle.hir_meaning.specs.InnerWritten.{block_part_bodies, stmts_bodies, stmt_bodies, pat_bodies, pat_part_bodies}
 pub use Rattle.hir_meaning.specs.InnerWritten.{pats_bodies, pat_fields_bodies, target_bodies, targets_bodies}

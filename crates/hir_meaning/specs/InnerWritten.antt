@@ -1,6 +1,6 @@
 -- The bodies inside a written body: the constants of its types, paths and arguments, the bodies of its closures, and the ends of ranges
--- in its types, each before those that are inside it, in the order of parts. What nothing reads isn't among them: what a refused path or an `impl`
--- that is an error held, what stands left of where a path begins, and arguments that go again.
+-- in its types, each before those that are inside it, in the order of parts. What nothing reads isn't among them: what a refused path or
+-- an `impl` that is an error held, what stands left of where a path begins, and arguments that go again.
 use Rattle.std.specs.Prelude.{if◌then◌else◌, Bool, true, false, List, [], ◌∷◌, ◌++◌, reverse, map}
 use Rattle.std.specs.Prelude.{Option, Some, None}
 use Rattle.hir_env.specs.declared.place.ImplTrait.{ImplTrait}
