@@ -23,7 +23,7 @@ use Rattle.hir_read_back.proofs.YieldTree.{part_raises}
 use Rattle.hir_steps.proofs.Frames.{ribs}
 use Rattle.hir_steps.proofs.StillTree.{params_still, present_type_still}
 use Rattle.hir_one_result.specs.Leads.{Ways, ◌&◌}
-use Rattle.hir_one_result.specs.Stands.{Open}
+use Rattle.hir_one_result.specs.Stands.{Open, StandsParams}
 use Rattle.hir_one_result.specs.StandsMade.{StandsClosure, StandsParam, StoredParams}
 use Rattle.hir_one_result.proofs.Lasting.{Correct, correct_as, correct_bind, correct_closure, correct_pure, correct_report}
 use Rattle.hir_one_result.proofs.Leading.{Shown, moved_then, shown_after, shown_as, shown_before, shown_both, shown_none}
@@ -50,6 +50,10 @@ off_stands at by done T h = correct_as
 abbrev pub ParamsBehind : ClosureParams → (StoredParams → Ways) → ClosureParams → Ways
 ParamsBehind done S l = λ ws. (new : StoredParams) × (l.args ≡ done.args ++ new.0) × (l.arg_types ≡ done.arg_types ++ new.1) × S new ws
 
+-- what stands for them
+abbrev pub params_for : Params → Stored → Open → StoredParams → Ways
+params_for xs final rs l = StandsParams (store_of final) (map_of final) rs xs l
+
 pub params_none : (done : ClosureParams)
     → Correct (pure done) (Shows (λ final rs l. ParamsBehind done (λ new ws. (new ≡ ([], [])) × (ws ≡ [])) l))
 params_none done = correct_as (correct_pure done) (λ final ps m m' l g row. record {
@@ -61,11 +65,11 @@ params_none done = correct_as (correct_pure done) (λ final ps m m' l g row. rec
   );
 })
 
-pub params_off : {S : Stored → Open → StoredParams → Ways} (at : Pointer) (by : CfgId) (done : ClosureParams)
+pub params_off : (S : Stored → Open → StoredParams → Ways) (at : Pointer) (by : CfgId) (done : ClosureParams)
     {q : ClosureParams → Lowering ClosureParams}
     → ((k : ClosureParams) → Correct (q k) (Shows (λ final rs l. ParamsBehind k (S final rs) l)))
     → Correct ((report (InactiveCode at by) >> pure done) >>= q) (Shows (λ final rs l. ParamsBehind done (S final rs) l))
-params_off {S = S} at by done h = correct_as
+params_off S at by done h = correct_as
     (correct_bind (correct_bind (correct_report (InactiveCode at by)) (λ u. correct_pure done)) h)
     (λ final ps m m' l g row.
     let moved = moved_then (moved_fault (InactiveCode at by) row.first.first.stored) (moved_pure row.first.second.still) in record {
@@ -84,12 +88,12 @@ module _ {P : Of PatId} {T : Of (Option TypeRefId)} where
             (λ ws z. (row.one, s.one, s.second.is, z));
       })
 
-  pub params_more : {S : Stored → Open → StoredParams → Ways} (done : ClosureParams) {p : Lowering PatId} {t : Lowering (Option TypeRefId)}
+  pub params_more : (S : Stored → Open → StoredParams → Ways) (done : ClosureParams) {p : Lowering PatId} {t : Lowering (Option TypeRefId)}
       {q : ClosureParams → Lowering ClosureParams} → Correct p (Shows P) → Correct t (Shows T)
       → ((k : ClosureParams) → Correct (q k) (Shows (λ final rs l. ParamsBehind k (S final rs) l)))
       → Correct (param_form done p t >>= q) (Shows (λ final rs l.
       ParamsBehind done (λ new. StandsParam (P final rs) (T final rs) (S final rs) new) l))
-  params_more done hp ht h = correct_as (correct_bind (param_stands done hp ht) h) (λ final ps m m' l g row. record {
+  params_more S done hp ht h = correct_as (correct_bind (param_stands done hp ht) h) (λ final ps m m' l g row. record {
     shown = shown_as (shown_both row.first.shown row.second.shown) (λ ws z.
         let x = z.first in
         let y = z.second in
@@ -111,14 +115,14 @@ closure_as {a' = a'} {b = b} {b' = b'} {k = k} {k' = k'} {c = c} t body f g h i 
     ap (λ x. hir.Closure x b t body k c) f ∙ (ap (λ x. hir.Closure a' x t body k c) g
     ∙ (ap (λ x. hir.Closure a' b' t body x c) h ∙ ap (λ x. hir.Closure a' b' t body k' x) i))
 
-pub closure_stands : {P : Stored → Open → StoredParams → Ways} {T : Of (Option TypeRefId)} {S : Of ExprId} (at : Pointer)
+pub closure_stands : (P : Stored → Open → StoredParams → Ways) {T : Of (Option TypeRefId)} {S : Of ExprId} (at : Pointer)
     (moves is_static : Bool) (xs : Params) (t : OptionType) (e : OptionExpr)
     → Correct (lower_params no_closure_params xs) (Shows (λ final rs l. ParamsBehind no_closure_params (P final rs) l))
     → Correct (present_type t) (Shows T) → Correct (lower_part e) (Shows S)
     → Correct (closure_form at moves is_static (lower_params no_closure_params xs) (present_type t) (lower_part e))
     (Shows (λ final rs i. StandsClosure (store_of final) (map_of final) at (kind_of is_static e) (capture_of moves)
     (λ l. P final (barrier_rib ∷ rs) l) (λ y. T final (barrier_rib ∷ rs) y) (λ x. S final (barrier_rib ∷ rs) x) i))
-closure_stands at moves is_static xs t e hp ht he = correct_as (correct_closure at moves is_static hp ht he)
+closure_stands P at moves is_static xs t e hp ht he = correct_as (correct_closure at moves is_static hp ht he)
     (λ final ps m m' i g row.
     let noted = row.raised (params_still no_closure_params xs) (present_type_still t) (yields_in e) (part_raises e) in record {
       shown = shown_as (shown_both row.in_params.shown (shown_both row.in_ret.shown (shown_both row.in_body.shown (own row.made))))

@@ -35,4 +35,4 @@ module _ {X : Type 0} (L : Listing X) where
 
   pub yield_tells : (at : Pointer) {D : List Scope → List X} {e : Lowering (Option ExprId)} → Correct e (Tells L D)
       → Correct (yield_form at e) (Tells L D)
-  yield_tells at h = correct_yield (value_tells L at hir.Yield h)
+  yield_tells at h = correct_yield at _ (value_tells L at hir.Yield h)

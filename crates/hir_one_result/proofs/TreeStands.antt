@@ -45,7 +45,7 @@ use Rattle.hir_steps.proofs.Frames.{ribs, ribs_frames}
 use Rattle.hir_one_result.specs.Laws.{AllStand}
 use Rattle.hir_one_result.specs.Leads.{Ways, OneFieldWay, ◌&◌}
 use Rattle.hir_one_result.specs.PathRoom.{at_first}
-use Rattle.hir_one_result.specs.Stands.{StandsOthers, Open, Stands, StandsParams, StandsPresent, StandsBlock, StandsBlockPart, TypeWays}
+use Rattle.hir_one_result.specs.Stands.{StandsOthers, Open, Stands, StandsPresent, StandsBlock, StandsBlockPart, TypeWays}
 use Rattle.hir_one_result.specs.Stands.{TypePartWays}
 use Rattle.hir_one_result.specs.Stands.{PresentTypeWays, PartsWays, SegmentWays, SegmentsWays, PathWays, OuterWays, WholeWays, BesideWays}
 use Rattle.hir_one_result.specs.Stands.{ParensWays, OutputWays, ArgsWays, EachArgWays, ArgWays, BoundsWays, BoundWays, ConstantWays}
@@ -55,7 +55,8 @@ use Rattle.hir_one_result.specs.Stands.{StandsPresentBlock, StandsPat, StandsPat
 use Rattle.hir_one_result.specs.StandsWhole.{StandsTop}
 use Rattle.hir_one_result.specs.Stands.{StandsElements, StandsPatFields, StandsSide, StandsTarget}
 use Rattle.hir_one_result.proofs.AfterLowering.{after_lowering}
-use Rattle.hir_one_result.proofs.ClosureStands.{ParamsBehind, closure_stands, off_stands, params_more, params_none, params_off}
+use Rattle.hir_one_result.proofs.ClosureStands.{ParamsBehind, closure_stands, off_stands, params_for, params_more}
+use Rattle.hir_one_result.proofs.ClosureStands.{params_none, params_off}
 use Rattle.hir_one_result.proofs.Elements.{all_behind, all_elements, element_stands, no_alternatives, no_elements_stand}
 use Rattle.hir_one_result.proofs.Lasting.{Correct, bound, correct_as, correct_bind, correct_pure, correct_report, unchanged_settled}
 use Rattle.hir_one_result.proofs.Leading.{Shown, shown_as, shown_none, shown_both, shown_after, shown_before, moved_then}
@@ -242,7 +243,7 @@ mutual
   node_stands (tree.list_expr at form es) = list_stands at form (all_stand_for es (each_stands [] es))
   node_stands (tree.repeat_expr at e (tree.constant l)) = repeat_stands at (part_stands e) (constant_shows (part_stands l))
   node_stands (tree.const_expr at (tree.constant e)) = const_stands at (constant_shows (part_stands e))
-  node_stands (tree.closure_expr at moves is_static xs t e) = closure_stands at moves is_static xs t e
+  node_stands (tree.closure_expr at moves is_static xs t e) = closure_stands (params_for xs) at moves is_static xs t e
       (params_stand xs no_closure_params) (option_type_shown t (present_type_left t)) (part_stands e)
   node_stands (tree.method_call_expr at e name es generics) =
       method_call_stands at name (part_stands e) (all_stand_for es (each_stands [] es)) (args_shown generics (args_left generics))
@@ -252,7 +253,7 @@ mutual
   node_stands (tree.offset_of_expr at t names) = offset_of_stands at names (type_shown t (type_left None t))
   node_stands (tree.leaving_expr at form e) = value_stands at (leaving_is form) (present_stands e)
   node_stands (tree.become_expr at e) = operand_stands at (λ i. refl) (part_stands e)
-  node_stands (tree.yield_expr at e) = correct_yield (value_stands at (λ o. refl) (present_stands e))
+  node_stands (tree.yield_expr at e) = correct_yield at _ (value_stands at (λ o. refl) (present_stands e))
   node_stands (tree.await_expr at location e) = await_stands at location (part_stands e)
   node_stands (tree.nameless_expr at e) = operand_stands at (λ i. refl) (part_stands e)
   node_stands (tree.let_expr at p e) = let_stands at (top_stands p) (part_stands e)
@@ -261,11 +262,11 @@ mutual
   node_stands (tree.assign_expr at own t e) = assign_stands at (assigned_stands t (target_stands t)) (part_stands e)
 
   params_stand : (xs : Params) (done : ClosureParams) → Correct (lower_params done xs)
-      (Shows (λ final rs l. ParamsBehind done (λ new. StandsParams (store_of final) (map_of final) rs xs new) l))
+      (Shows (λ final rs l. ParamsBehind done (params_for xs final rs) l))
   params_stand tree.no_params done = params_none done
-  params_stand (tree.more_params (tree.disabled_param at by x) xs) done = params_off at by done (params_stand xs)
+  params_stand (tree.more_params (tree.disabled_param at by x) xs) done = params_off (params_for xs) at by done (params_stand xs)
   params_stand (tree.more_params (tree.param p t) xs) done =
-      params_more done (top_stands p) (option_type_shown t (present_type_left t)) (params_stand xs)
+      params_more (params_for xs) done (top_stands p) (option_type_shown t (present_type_left t)) (params_stand xs)
 
   pub part_stands : (e : OptionExpr) → Correct (lower_part e) (Shows (λ final rs i. part final rs e i))
   part_stands tree.no_expr = missing_stands

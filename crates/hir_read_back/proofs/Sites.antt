@@ -142,7 +142,7 @@ module _ (at : Pointer) where
       (λ final ps m m' i g row. record { is = λ d le. rw (row.made.number, row.made.from) refl })
 
   pub yield_from : {e : Lowering (Option ExprId)} → Correct e Any → From here (yield_form at e)
-  yield_from h = correct_yield (value_from hir.Yield h)
+  yield_from h = correct_yield at _ (value_from hir.Yield h)
 
   pub method_call_from : {e : ExprSteps} (name : Name) {xs : Lowering (List ExprId)} {as' : Lowering (Option GenericArgs)}
       → Correct e Any → Correct xs Any → Correct as' Any → From here (method_call_form at e name xs as')

@@ -17,7 +17,7 @@ use Rattle.hir_env.specs.Answered as tree
 use Rattle.hir_env.specs.Answered.{Arms, Block, Expr, Exprs, Fields, Guard, OptionBlock, OptionExpr, OptionPat, OptionPath, OptionType}
 use Rattle.hir_env.specs.Answered.{Spread, Stmts, Target, TargetFields, Targets}
 use Rattle.hir_lower_form.specs.Builder.{Builder}
-use Rattle.hir_lower_form.specs.Forms.{ExprSteps, StoredFields, kept, record_form}
+use Rattle.hir_lower_form.specs.Forms.{ExprSteps, StoredFields, kept, record_form, record_of}
 use Rattle.hir_lower_form.specs.Lower as lower
 use Rattle.hir_lower_form.specs.Lowering.{Lowering, ◌>>=◌}
 use Rattle.hir_lower_form.specs.Pats.{Elements, elements_form, no_elements}
@@ -70,9 +70,9 @@ spread_off None = raises_pure tt
 spread_off (Some p) = report_off _
 
 -- What stands beside a path is read only where the path is.
-beside : {A : Type 0} (p : OptionPath) {y : Bool} {f : Option HirPath → Lowering A} → Raises false (f None)
+beside : {A : Type 0} (p : OptionPath) {y : Bool} (f : Option HirPath → Lowering A) → Raises false (f None)
     → ((o : HirPath) → Raises y (f (Some o))) → Raises (yields_if_read (path_of p) y) (lower.lower_path p >>= f)
-beside p {y = y} {f = f} none some = raises_by (path_off p)
+beside p {y = y} f none some = raises_by (path_off p)
     (λ b o c d is. by c.stored (mark c).entries (path_of p) o (answered (path_reads p) b c o d is c.stored (extends_refl c.stored)).is)
   where
     by : (final : Stored) (n : ℕ) (x : Option PathRead) (o : Option HirPath) → Answers final n x o → Raises (yields_if_read x y) (f o)
@@ -87,7 +87,7 @@ module _ (at : Pointer) where
   record_raises : {y : Bool} (p : OptionPath) {c : Lowering StoredFields} → Raises y c
       → Raises (yields_if_read (path_of p) y) (record_form at (lower.lower_path p) c)
   unfolding record_form
-  record_raises p h = beside p missing_off (λ o. raises_end h (λ r. stored_off _ (Some at)))
+  record_raises p {c = c} h = beside p (record_of at c) missing_off (λ o. raises_end h (λ r. stored_off _ (Some at)))
 
   place_raises : {y : Bool} {e : ExprSteps} → Raises y e → Raises y (targets.place_form at e)
   unfolding targets.place_form
@@ -104,7 +104,7 @@ module _ (at : Pointer) where
   call_target_raises : {y : Bool} (p : OptionPath) {ps : Lowering Elements} → Raises y ps
       → Raises (yields_if_read (path_of p) y) (targets.call_target_form at ps (lower.lower_path p))
   unfolding targets.call_target_form
-  call_target_raises p h = beside p (raises_still missing_pat_apart missing_pat_still)
+  call_target_raises p {ps = ps} h = beside p (targets.call_target_of at ps) (raises_still missing_pat_apart missing_pat_still)
       (λ o. raises_end h (λ r. raises_begin (elements_off r) (λ es. pat_off _ (Some at))))
 
   array_target_raises : {y z : Bool} (dots : Option Pointer) {b a : Lowering Elements} → Raises y b → Raises z a
@@ -115,7 +115,7 @@ module _ (at : Pointer) where
   record_target_raises : {y : Bool} (p : OptionPath) (dots : Bool) (spread : Option Pointer) {fs : Lowering (List RecordFieldPat)}
       → Raises y fs → Raises (yields_if_read (path_of p) y) (targets.record_target_form at dots spread fs (lower.lower_path p))
   unfolding targets.record_target_form
-  record_target_raises p dots spread h = beside p (raises_still missing_pat_apart missing_pat_still)
+  record_target_raises p dots spread {fs = fs} h = beside p (targets.record_target_of at dots spread fs) (raises_still missing_pat_apart missing_pat_still)
       (λ o. raises_begin (spread_off spread) (λ u. raises_end h (λ fs. pat_off _ (Some at))))
 
   target_field_raises : {y : Bool} (n : Option Name) {p : Lowering PatId} → Raises y p → Raises y (targets.target_field_form at n p)
@@ -166,7 +166,7 @@ mutual
       (raises_still (apart.args_apart generics) (still.args_still generics))
   expr_raises (tree.leaving_expr at form e) = forms.value_raises at _ (present_raises e)
   expr_raises (tree.become_expr at e) = forms.operand_raises at _ (part_raises e)
-  expr_raises (tree.yield_expr at e) = raises_yield (forms.value_raises at hir.Yield (present_raises e))
+  expr_raises (tree.yield_expr at e) = raises_yield at _ (forms.value_raises at hir.Yield (present_raises e))
   expr_raises (tree.await_expr at location e) = forms.await_raises at location (part_raises e)
   expr_raises (tree.cast_expr at e t) = forms.cast_raises at (part_raises e) (type_off t)
   expr_raises (tree.record_expr at p head fs s) = record_raises at p (forms.contents_raises (fields_raise [] fs) (spread_raises s))

@@ -107,7 +107,7 @@ module _ (at : Pointer) where
 
   pub yield_fine : {p : Lowering (Option ExprId)} {x : Walk Value} → Correct p (Runs optional x)
       → Correct (yield_form at p) (Runs one (finished at x (asks yielding (λ v. v ∷ []))))
-  yield_fine h = correct_yield (value_fine yield_is h)
+  yield_fine h = correct_yield at _ (value_fine yield_is h)
 
   pub operands_fine : {make : ExprId → ExprId → HirExpr} {o : Operation} {p q : ExprSteps} {x y : Walk Value}
       → Event2 make one one o (λ v w. v ∷ w ∷ []) → Correct p (Runs one x) → Correct q (Runs one y)

@@ -174,7 +174,7 @@ module _ (at : Pointer) {es : Bodies} where
   pub yield_held : {p : Lowering (Option ExprId)} → Correct p (Holds (maybe an_expr) es)
       → Correct (yield_form at p) (Holds an_expr es)
   unfolding value_form
-  yield_held h = correct_yield (expr1 (Some at) hir.Yield (λ r o. refl) h)
+  yield_held h = correct_yield at _ (expr1 (Some at) hir.Yield (λ r o. refl) h)
 
   pub list_held : (form : Listing) {p : Lowering (List ExprId)} → Correct p (Holds (each an_expr) es)
       → Correct (list_form at form p) (Holds an_expr es)

@@ -231,7 +231,7 @@ mutual
       (λ is. ends_unnamed (args_any as') (λ g. stored_unnamed _ (Some at) (λ final. refl))))
   expr_unnamed (tree.leaving_expr at form e) = value_unnamed at _ (leaving_none form) (present_any e)
   expr_unnamed (tree.become_expr at e) = operand_unnamed at _ (λ i final. refl) (part_any e)
-  expr_unnamed (tree.yield_expr at e) = correct_yield (value_unnamed at _ (λ v final. refl) (present_any e))
+  expr_unnamed (tree.yield_expr at e) = correct_yield at _ (value_unnamed at _ (λ v final. refl) (present_any e))
   expr_unnamed (tree.await_expr at location e) =
       ends_unnamed (part_any e) (λ i. ends_unnamed (correct_report_await at location) (λ u. stored_unnamed _ (Some at) (λ final. refl)))
   expr_unnamed (tree.cast_expr at e t) =

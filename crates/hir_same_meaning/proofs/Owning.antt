@@ -202,7 +202,7 @@ module _ (at : Pointer) where
       (λ d le. spread_none m.nodes row.left.nodes))
 
   pub yield_owns : {p : Lowering (Option ExprId)} → Correct p OwnsSome → Correct (yield_form at p) Owns
-  yield_owns h = correct_yield (value_owns hir.Yield (λ f s o. refl) h)
+  yield_owns h = correct_yield at _ (value_owns hir.Yield (λ f s o. refl) h)
 
   pub method_call_owns : (name : Name) (g : OptionArgs) {p : ExprSteps} {q : Lowering (List ExprId)} → Correct p Owns
       → Correct q (OwnsAs of_each) → Correct (method_call_form at p name q (args_part g)) Owns

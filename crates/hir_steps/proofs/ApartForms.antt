@@ -125,7 +125,7 @@ module _ (at : Pointer) where
   const_apart h = then_apart h (λ c. stored_apart _ at)
 
   pub yield_apart : {e : Lowering (Option ExprId)} → Correct e Apart → Correct (yield_form at e) Apart
-  yield_apart h = correct_yield (value_apart hir.Yield h)
+  yield_apart h = correct_yield at _ (value_apart hir.Yield h)
 
   pub method_call_apart : {e : ExprSteps} (name : Name) {xs : Lowering (List ExprId)} {as' : Lowering (Option GenericArgs)}
       → Correct e Apart → Correct xs Apart → Correct as' Apart → Correct (method_call_form at e name xs as') Apart

@@ -71,7 +71,7 @@ pub record Behind {A B : Type 0} (p : Lowering A) (R : Rel A) (Q : A → Bool �
   pub first : R final (barrier_at ∷ ps) m left one
   pub second : Q one yields final ps left m' b
 
-module _ {A B : Type 0} {p : Lowering A} {R : Rel A} {f : A → Bool → Lowering B} {Q : A → Bool → Rel B} where
+module _ {A B : Type 0} (p : Lowering A) (R : Rel A) (f : A → Bool → Lowering B) (Q : A → Bool → Rel B) where
   -- what is done with what was made behind it
   abbrev go_out : Bool → A → Lowering B
   go_out outside a = λ c. f a c.yields (reopened outside c)
@@ -114,13 +114,14 @@ module _ {A B : Type 0} {p : Lowering A} {R : Rel A} {f : A → Bool → Lowerin
       ((k a c.yields).holds final ps out (ap rest x.kept.scopes ∙ r))
   inside_of k final ps b r (Err e) c is x = x
 
-  pub correct_behind_barrier : Correct p R → ((a : A) (y : Bool) → Correct (f a y) (Q a y))
-      → Correct (open_barrier >>= (λ outside. p >>= (λ a. close_barrier outside >>= (λ y. f a y)))) (Behind p R Q)
-  unfolding open_barrier close_barrier
-  correct_behind_barrier h k = record {
-    holds = λ final ps b r. inside_of k final ps b r (p (shut b)).0 (p (shut b)).1 refl
-        (h.holds final (barrier_at ∷ ps) (shut b) (ap (λ rs. barrier_rib ∷ rs) r));
-  }
+pub correct_behind_barrier : {A B : Type 0} {p : Lowering A} {R : Rel A} {f : A → Bool → Lowering B} {Q : A → Bool → Rel B} → Correct p R
+    → ((a : A) (y : Bool) → Correct (f a y) (Q a y))
+    → Correct (open_barrier >>= (λ outside. p >>= (λ a. close_barrier outside >>= (λ y. f a y)))) (Behind p R Q)
+unfolding open_barrier close_barrier
+correct_behind_barrier {p = p} {R = R} {f = f} {Q = Q} h k = record {
+  holds = λ final ps b r. inside_of p R f Q k final ps b r (p (shut b)).0 (p (shut b)).1 refl
+      (h.holds final (barrier_at ∷ ps) (shut b) (ap (λ rs. barrier_rib ∷ rs) r));
+}
 
 -- ---- steps of a closure, grouped otherwise
 
@@ -229,7 +230,7 @@ module _ (at : Pointer) (moves is_static : Bool) (p : Lowering ClosureParams) (t
           → LeavesTo b (go_on o c (after_body b.yields l r)).0 (go_on o c (after_body b.yields l r)).1
       by_body b l r (Ok i) c =
           let out = reopened b.yields c in
-          still_trans refl (node_of at moves is_static (l, r, i) c.yields out).0 (node_of at moves is_static (l, r, i) c.yields out).1
+          still_trans b out refl (node_of at moves is_static (l, r, i) c.yields out).0 (node_of at moves is_static (l, r, i) c.yields out).1
           ((still_expr (stored_closure moves is_static l r i c.yields) (Some at)).still out)
       by_body b l r (Err f) c = tt
 
@@ -277,12 +278,12 @@ correct_noted {A = A} {p = p} {R = R} h = record {
     by final ps b (Err e) c x = x
 
 -- it is an expression with a value that may be absent
-pub correct_yield : {at : Pointer} {v : Lowering (Option ExprId)} {R : Rel ExprId} → Correct (value_form at hir.Yield v) R
+pub correct_yield : (at : Pointer) (v : Lowering (Option ExprId)) {R : Rel ExprId} → Correct (value_form at hir.Yield v) R
     → Correct (yield_form at v) R
 unfolding yield_form value_form
-correct_yield h = correct_noted h
+correct_yield at v h = correct_noted h
 
-pub raises_yield : {at : Pointer} {v : Lowering (Option ExprId)} {y : Bool} → Raises y (value_form at hir.Yield v)
+pub raises_yield : (at : Pointer) (v : Lowering (Option ExprId)) {y : Bool} → Raises y (value_form at hir.Yield v)
     → Raises true (yield_form at v)
 unfolding yield_form value_form
-raises_yield {y = y} h = raises_then {y = true} {z = y} raises_noted (λ u. h)
+raises_yield at v {y = y} h = raises_then {y = true} {z = y} raises_noted (λ u. h)

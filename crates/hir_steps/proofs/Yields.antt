@@ -39,9 +39,9 @@ LeavesTo b (Err e) c = Unit {0}
 pub record Still {A : Type 0} (p : Lowering A) : Type 0 where
   pub still : (b : Builder) → LeavesTo b (p b).0 (p b).1
 
-pub still_trans : {A : Type 0} {b c : Builder} → c.yields ≡ b.yields → (o : Checked A) (d : Builder) → LeavesTo c o d → LeavesTo b o d
-still_trans g (Ok a) d h = h ∙ g
-still_trans g (Err e) d h = tt
+pub still_trans : {A : Type 0} (b c : Builder) → c.yields ≡ b.yields → (o : Checked A) (d : Builder) → LeavesTo c o d → LeavesTo b o d
+still_trans b c g (Ok a) d h = h ∙ g
+still_trans b c g (Err e) d h = tt
 
 pub still_pure : {A : Type 0} (a : A) → Still (pure a)
 still_pure a = record { still = λ b. refl }
@@ -50,7 +50,7 @@ pub still_then : {A B : Type 0} {p : Lowering A} {f : A → Lowering B} → Stil
 still_then {A = A} {p = p} {f = f} h k = record { still = λ b. by b (p b).0 (p b).1 (h.still b) }
   where
     by : (b : Builder) (o : Checked A) (c : Builder) → LeavesTo b o c → LeavesTo b (go_on o c f).0 (go_on o c f).1
-    by b (Ok a) c x = still_trans x (f a c).0 (f a c).1 ((k a).still c)
+    by b (Ok a) c x = still_trans b c x (f a c).0 (f a c).1 ((k a).still c)
     by b (Err e) c x = tt
 
 -- what only stores
@@ -202,10 +202,10 @@ abbrev PairsTo : {A : Type 0} → Builder → Checked A → Builder → Type 0
 PairsTo b (Ok a) c = Paired b.stored → Paired c.stored
 PairsTo b (Err e) c = Unit {0}
 
-pairs_of : {A : Type 0} {R : Rel A} (final : Stored) (ps : List Frame) (b : Builder) (o : Checked A) (c : Builder) → Holds R final ps b o c
+pairs_of : {A : Type 0} (R : Rel A) (final : Stored) (ps : List Frame) (b : Builder) (o : Checked A) (c : Builder) → Holds R final ps b o c
     → PairsTo b o c
-pairs_of final ps b (Ok a) c h = h.kept.paired
-pairs_of final ps b (Err e) c h = tt
+pairs_of R final ps b (Ok a) c h = h.kept.paired
+pairs_of R final ps b (Err e) c h = tt
 
 as_raised : {A : Type 0} (b : Builder) (o : Checked A) (c : Builder) → PairsTo b o c → LeavesTo b o c → Paired b.stored
     → RaisedTo false b o c
@@ -213,22 +213,22 @@ as_raised b (Ok a) c pairs e d = (pairs d, e ∙ sym (or_false b.yields))
 as_raised b (Err e) c pairs u d = tt
 
 pub raises_still : {A : Type 0} {p : Lowering A} {R : Rel A} → Correct p R → Still p → Raises false p
-raises_still {p = p} h s = record {
+raises_still {p = p} {R = R} h s = record {
   at = λ b d. let ps = frames b.scopes in
-      as_raised b (p b).0 (p b).1 (pairs_of b.stored ps b (p b).0 (p b).1 (h.holds b.stored ps b (ribs_frames b.scopes))) (s.still b) d;
+      as_raised b (p b).0 (p b).1 (pairs_of R b.stored ps b (p b).0 (p b).1 (h.holds b.stored ps b (ribs_frames b.scopes))) (s.still b) d;
 }
 
-raised_trans : {A : Type 0} {y z : Bool} {b c : Builder} → c.yields ≡ (b.yields || y) → (o : Checked A) (d : Builder) → RaisedTo z c o d
+raised_trans : {A : Type 0} (y z : Bool) (b c : Builder) → c.yields ≡ (b.yields || y) → (o : Checked A) (d : Builder) → RaisedTo z c o d
     → RaisedTo (y || z) b o d
-raised_trans {y = y} {z = z} {b = b} e (Ok a) d x = (x.0, x.1 ∙ (ap (λ t. t || z) e ∙ or_assoc b.yields y z))
-raised_trans e (Err f) d x = tt
+raised_trans y z b c e (Ok a) d x = (x.0, x.1 ∙ (ap (λ t. t || z) e ∙ or_assoc b.yields y z))
+raised_trans y z b c e (Err f) d x = tt
 
 pub raises_then : {A B : Type 0} {y z : Bool} {p : Lowering A} {f : A → Lowering B} → Raises y p → ((a : A) → Raises z (f a))
     → Raises (y || z) (p >>= f)
 raises_then {A = A} {y = y} {z = z} {p = p} {f = f} h k = record { at = λ b d. by b (p b).0 (p b).1 (h.at b d) }
   where
     by : (b : Builder) (o : Checked A) (c : Builder) → RaisedTo y b o c → RaisedTo (y || z) b (go_on o c f).0 (go_on o c f).1
-    by b (Ok a) c x = raised_trans {y = y} {z = z} x.1 (f a c).0 (f a c).1 ((k a).at c x.0)
+    by b (Ok a) c x = raised_trans y z b c x.1 (f a c).0 (f a c).1 ((k a).at c x.0)
     by b (Err e) c x = tt
 
 -- nothing stands in the first
@@ -252,7 +252,7 @@ raises_by {A = A} {y = y} {p = p} {f = f} h k = record { at = λ b d. by b d (p 
   where
     by : (b : Builder) → Paired b.stored → (o : Checked A) (c : Builder) → p b ≡ (o, c) → RaisedTo false b o c
         → RaisedTo y b (go_on o c f).0 (go_on o c f).1
-    by b d (Ok a) c is x = raised_trans {y = false} {z = y} x.1 (f a c).0 (f a c).1 ((k b a c d is).at c x.0)
+    by b d (Ok a) c is x = raised_trans false y b c x.1 (f a c).0 (f a c).1 ((k b a c d is).at c x.0)
     by b d (Err e) c is x = tt
 
 pub raises_pure : {A : Type 0} (a : A) → Raises false (pure a)

@@ -107,4 +107,4 @@ module _ (at : Pointer) where
       }))
 
   pub yield_quiet : {e : Lowering (Option ExprId)} → Correct e Quiet → Correct (yield_form at e) Quiet
-  yield_quiet h = correct_yield (value_quiet at hir.Yield (λ v l k. omega arith) h)
+  yield_quiet h = correct_yield at _ (value_quiet at hir.Yield (λ v l k. omega arith) h)

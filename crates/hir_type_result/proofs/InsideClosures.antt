@@ -91,4 +91,4 @@ module _ (at : Pointer) where
       added_then (grows_trans row.to_ret (grows_trans row.to_body row.to_end)) row.in_params last)
 
   pub yield_adds : {e : Lowering (Option ExprId)} → Correct e (Adds free (maybe an_expr)) → Correct (yield_form at e) (Adds free an_expr)
-  yield_adds h = correct_yield (value_adds at hir.Yield value_less h)
+  yield_adds h = correct_yield at _ (value_adds at hir.Yield value_less h)
