@@ -37,6 +37,8 @@ abbrev mutual
   expr_tops (tree.binary_expr at form a b) = tops_of a ++ tops_of b
   expr_tops (tree.lazy_expr at op a b) = tops_of a ++ tops_of b
   expr_tops (tree.list_expr at form es) = each_tops es
+  expr_tops (tree.repeat_expr at e c) = tops_of e
+  expr_tops (tree.const_expr at c) = []
   expr_tops (tree.method_call_expr at e name es generics) = tops_of e ++ each_tops es
   expr_tops (tree.leaving_expr at form e) = tops_of e
   expr_tops (tree.become_expr at e) = tops_of e

@@ -28,10 +28,11 @@ use Rattle.hir_env.specs.Folds.{written, reader, read_else_branch, read_expr_kin
 use Rattle.hir_env.specs.Folds.{read_expr, read_field, read_record, read_stmt, read_arm}
 use Rattle.hir_env.specs.Answered as tree
 use Rattle.hir_env.specs.Answered.{Expr, OptionExpr, Field, OptionBlock, Arm}
+use Rattle.hir_env.specs.Paths.{inside_const_block, inside_constant}
 use Rattle.hir_env.specs.Targets.{resolves}
 use Rattle.hir_env.specs.Whole.{answered, answered_plain, answered_block, answered_else, answered_constant, answered_field}
 use Rattle.hir_env.specs.Whole.{answered_record, block_head, stmts_part, in_block, block_number, pointer_at, asked_expr}
-use Rattle.hir_env.specs.Whole.{answered_body, body_level, own_level, try_level, type_part}
+use Rattle.hir_env.specs.Whole.{answered_body, body_level, in_const_block, own_level, try_level, type_part}
 use Rattle.hir_env.specs.Whole.{block_level, stmt_level, else_level, constant_level, field_level, record_level, guard_level}
 use Rattle.hir_env.specs.Whole.{let_else_level, arm_level, answered_guard, answered_let_else, answered_arm}
 use Rattle.hir_env.proofs.Mapped.{optional, listed, mapped_else, mapped_kind, mapped_stmt_kind, mapped_block}
@@ -136,6 +137,8 @@ module _ (env : Answers) where
       tree.unary_expr s (tree.reference_to (of.rawness r) (of.mutability m)) (expr_is rd.expr e p j)
   expr_at_is (ExprKind-F.TupleExpr comma es) p s = λ j. tree.list_expr s (tree.tuple_of comma) (exprs_is rd.expr es p j)
   expr_at_is (ExprKind-F.ArrayExpr es) p s = λ j. tree.list_expr s tree.array_of (exprs_is rd.expr es p j)
+  expr_at_is (ExprKind-F.RepeatExpr e n) p s = λ j.
+      tree.repeat_expr s (expr_is rd.expr e p j) (tree.constant (expr_is rd.expr n (inside_constant p) j))
   expr_at_is (ExprKind-F.ReturnExpr e) p s = λ j. tree.leaving_expr s tree.returning (expr_is rd.expr e p j)
   expr_at_is (ExprKind-F.BecomeExpr e) p s = λ j. tree.become_expr s (expr_is rd.expr e p j)
   expr_at_is (ExprKind-F.YieldExpr e) p s = λ j. tree.yield_expr s (expr_is rd.expr e p j)
@@ -201,6 +204,8 @@ module _ (env : Answers) where
       tree.block_expr (block_at_is b (of.labelled_head (option_map (of.label_of env p) b.label) (of.label_written env p b.label)) p j)
   own_block_is (Some modifier.Unsafe) b p = λ j. tree.block_expr (block_at_is b of.unsafe_head p j)
   own_block_is (Some modifier.Try) b p = try_at_is b p
+  own_block_is (Some modifier.Const) b p = λ j.
+      of.const_of (of.in_file p (of.ptr b.id b.range)) (block_at_is b of.plain_head (inside_const_block p) j)
 
   stmt_at_is : (k : StmtKindLayer written) (p : Place) (s : Pointer)
       → of.stmt_at env itself (mapped_stmt_kind env k) p s ≡ of.stmt_at env rd k p s
@@ -282,6 +287,8 @@ own_block_level : (at : Spot) (m : Option BlockModifier) (b : AstBlockExpr)
 own_block_level at None b = ap tree.block_expr (block_at_level at (block_head at b) b)
 own_block_level at (Some modifier.Unsafe) b = ap tree.block_expr (block_at_level at of.unsafe_head b)
 own_block_level at (Some modifier.Try) b = try_at_level at b
+own_block_level at (Some modifier.Const) b =
+    ap (of.const_of (pointer_at at (out-BlockExpr b).id (out-BlockExpr b).range)) (block_at_level (in_const_block at) of.plain_head b)
 
 pub expr_is_level : (at : Spot) (e : AstExpr) → answered at e ≡ asked_expr at e
 expr_is_level at e = read_expr_is at.answers e at.place

@@ -29,6 +29,7 @@ own_block_pointer : (at : Spot) (m : Option BlockModifier) (b : AstBlockExpr)
 own_block_pointer at None b = refl
 own_block_pointer at (Some modifier.Unsafe) b = refl
 own_block_pointer at (Some modifier.Try) b = refl
+own_block_pointer at (Some modifier.Const) b = refl
 
 question_pointer : (items : Option QuestionItems) (s : Pointer) (e : OptionExpr) → pointer_of (question_of items s e) ≡ s
 question_pointer None s e = refl
@@ -71,6 +72,7 @@ kept_pointer at (ExprKind-F.IndexExpr a b) s = refl
 kept_pointer at (ExprKind-F.RefExpr r m e) s = refl
 kept_pointer at (ExprKind-F.TupleExpr comma es) s = refl
 kept_pointer at (ExprKind-F.ArrayExpr es) s = refl
+kept_pointer at (ExprKind-F.RepeatExpr e n) s = refl
 kept_pointer at (ExprKind-F.ReturnExpr e) s = refl
 kept_pointer at (ExprKind-F.BecomeExpr e) s = refl
 kept_pointer at (ExprKind-F.YieldExpr e) s = refl

@@ -258,7 +258,7 @@ mutual
     lifetime_bound : Lifetime → Bound
     use_bound : List UseRead → Bound
 
-  -- An argument, or the length of an array. A length that a text lacks is a constant, too.
+  -- An argument, the length of an array, or a `const` block. A length that a text lacks is a constant, too.
   pub data Constant : Type 0 where
     constant : OptionExpr → Constant
 
@@ -289,6 +289,10 @@ mutual
     binary_expr : Pointer → Binary → OptionExpr → OptionExpr → Expr
     lazy_expr : Pointer → LogicOp → OptionExpr → OptionExpr → Expr
     list_expr : Pointer → Listing → Exprs → Expr
+    -- `[e; n]`: what is repeated, and how often, which is a body of its own
+    repeat_expr : Pointer → OptionExpr → Constant → Expr
+    -- a `const` block, which is a body of its own
+    const_expr : Pointer → Constant → Expr
     method_call_expr : Pointer → OptionExpr → Name → Exprs → OptionArgs → Expr
     leaving_expr : Pointer → Leaving → OptionExpr → Expr
     become_expr : Pointer → OptionExpr → Expr

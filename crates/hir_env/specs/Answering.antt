@@ -31,7 +31,7 @@ use Rattle.hir_env.specs.declared.lang.LangItems.{LangItems}
 use Rattle.hir_env.specs.Answers.{Answers}
 pub use Rattle.hir_env.specs.Spot.{in_file, ptr, site_of}
 pub use Rattle.hir_env.specs.Paths.{mutability, expr_or_none, constant_step, generic_arg_list_step}
-use Rattle.hir_env.specs.Paths.{path_or_none, type_or_none, pat_or_none, arg_list_or_none}
+use Rattle.hir_env.specs.Paths.{inside_const_block, path_or_none, type_or_none, pat_or_none, arg_list_or_none}
 use Rattle.hir_env.specs.Ranges.{range_form}
 use Rattle.hir_env.specs.Targets.{resolves, target_of}
 use Rattle.hir_env.specs.Layers.{BlockReading, StmtReading, RecordReading, Sorts, Reader, ElseBranchLayer, ExprKindLayer}
@@ -152,6 +152,10 @@ plain_head = labelled_head None tt
 
 abbrev pub unsafe_head : BlockHead
 unsafe_head = record { is_unsafe = true; label = None; written = tt }
+
+-- a `const` block around this one
+abbrev pub const_of : Pointer → Block → Expr
+const_of s b = tree.const_expr s (tree.constant (tree.some_expr (tree.block_expr b)))
 
 -- the number and the module of a block, where numbers are asked for
 abbrev pub numbered : Answers → Place → NodeId → Option (BlockId × ModuleId)
@@ -292,6 +296,7 @@ module _ (env : Answers) {S : Sorts} (part : Reader S) where
   expr_at (ExprKind-F.RefExpr r m e) p s = tree.unary_expr s (tree.reference_to (rawness r) (mutability m)) (expr_or_none part.expr e p)
   expr_at (ExprKind-F.TupleExpr comma es) p s = tree.list_expr s (tree.tuple_of comma) (exprs_of part.expr es p)
   expr_at (ExprKind-F.ArrayExpr es) p s = tree.list_expr s tree.array_of (exprs_of part.expr es p)
+  expr_at (ExprKind-F.RepeatExpr e n) p s = tree.repeat_expr s (expr_or_none part.expr e p) (constant_step env part n p)
   expr_at (ExprKind-F.ReturnExpr e) p s = tree.leaving_expr s tree.returning (expr_or_none part.expr e p)
   expr_at (ExprKind-F.BecomeExpr e) p s = tree.become_expr s (expr_or_none part.expr e p)
   expr_at (ExprKind-F.YieldExpr e) p s = tree.yield_expr s (expr_or_none part.expr e p)
@@ -354,11 +359,12 @@ module _ (env : Answers) {S : Sorts} (part : Reader S) where
       tree.try_expr (in_file p (ptr b.id b.range)) env.lang_items.try_trait_from_output (type_or_none part.type_ b.ty p)
       (option_map (λ n. n.0) number) c.0 c.1
 
-  -- A label counts only where no modifier stands, and a type only behind `try`.
+  -- A label counts only where no modifier stands, and a type only behind `try`. What is in a `const` block is a plain block.
   abbrev pub own_block : Option BlockModifier → BlockExprLayer S → Place → Expr
   own_block None b p = tree.block_expr (block_at b (labelled_head (option_map (label_of env p) b.label) (label_written env p b.label)) p)
   own_block (Some modifier.Unsafe) b p = tree.block_expr (block_at b unsafe_head p)
   own_block (Some modifier.Try) b p = try_at b p
+  own_block (Some modifier.Const) b p = const_of (in_file p (ptr b.id b.range)) (block_at b plain_head (inside_const_block p))
 
   abbrev pub block_step : BlockExprLayer S → BlockReading
   block_step b = record {

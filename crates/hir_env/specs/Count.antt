@@ -114,6 +114,8 @@ abbrev mutual
   count_expr (tree.binary_expr at form a b) = suc (count_option_expr a + count_option_expr b)
   count_expr (tree.lazy_expr at op a b) = suc (count_option_expr a + count_option_expr b)
   count_expr (tree.list_expr at form es) = suc (count_exprs es)
+  count_expr (tree.repeat_expr at e c) = suc (count_option_expr e + count_constant c)
+  count_expr (tree.const_expr at c) = suc (count_constant c)
   count_expr (tree.method_call_expr at e name es as') = suc (count_option_expr e + (count_exprs es + count_option_args as'))
   count_expr (tree.leaving_expr at form e) = suc (count_option_expr e)
   count_expr (tree.become_expr at e) = suc (count_option_expr e)

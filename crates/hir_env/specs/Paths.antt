@@ -23,6 +23,7 @@ use Rattle.hir_store.specs.declared.type_ref.LifetimeRef.{LifetimeRef}
 use Rattle.hir_store.specs.declared.type_ref.LifetimeRef.TheVariants as lifetime
 use Rattle.hir_store.specs.declared.type_ref.ExternAbi.{ExternAbi}
 use Rattle.hir_store.specs.declared.type_ref.ExternAbi.TheVariants as abi
+use Rattle.hir_store.specs.declared.diagnostics.AwaitLocation.TheVariants as location
 use Rattle.hir_env.specs.declared.place.Place.{Place}
 use Rattle.hir_env.specs.declared.place.ImplTrait.{ImplTrait}
 use Rattle.hir_env.specs.declared.place.ImplTrait.TheVariants as becomes
@@ -106,6 +107,10 @@ outside_impl p = record p { in_impl = false }
 -- Inside of a constant, or of the pattern of a type, where an `impl` is an error. An `await` there stands in what the constant stands in.
 abbrev pub inside_constant : Place → Place
 inside_constant p = record p { impl_trait = becomes.Error }
+
+-- Inside of a `const` block, which is what an `await` there stands in.
+abbrev pub inside_const_block : Place → Place
+inside_const_block p = record p { await_location = Some location.ConstantBlock }
 
 -- segments
 

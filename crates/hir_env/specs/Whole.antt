@@ -36,14 +36,15 @@ use Rattle.hir_store.specs.declared.name.Name.{Name}
 use Rattle.hir_env.specs.declared.place.Place.{Place}
 use Rattle.hir_env.specs.Layers.{RecordReading, ExprKindLayer}
 use Rattle.hir_env.specs.Answering.{in_file, ptr, site_of, label_of, label_written, jump_of, expr_or_none, plain_or_none, exprs_of}
-use Rattle.hir_env.specs.Answering.{BlockHead, labelled_head, unsafe_head, asked_or_none}
+use Rattle.hir_env.specs.Answering.{BlockHead, labelled_head, plain_head, unsafe_head, asked_or_none, const_of}
 use Rattle.hir_env.specs.Answering.{exprs_or_none, numbered, inside, asked, else_branch, expr_at, constant_step, stmt_at}
 use Rattle.hir_env.specs.Answering.{field_step, record_step, fields_of, spread_or_none, record_or_empty, arms_of, arms_or_none}
 use Rattle.hir_env.specs.Answering.{guard_or_none, let_else_or_none, guard_step, let_else_step, arm_step}
 use Rattle.hir_env.specs.Pats.{pats_of, pat_fields_of, pat_at, pat_field_step}
 use Rattle.hir_env.specs.Targets.{resolves, target_of}
 use Rattle.hir_env.specs.TypePats.{type_pat_or_none}
-use Rattle.hir_env.specs.Paths.{inside_impl, outside_impl, inside_constant, path_or_none, segment_or_absent, segments_of}
+use Rattle.hir_env.specs.Paths.{inside_impl, outside_impl, inside_constant, inside_const_block, path_or_none, segment_or_absent}
+use Rattle.hir_env.specs.Paths.{segments_of}
 use Rattle.hir_env.specs.Paths.{first_of, rest_of, type_or_none, types_of, parts_of, params_or_none, is_varargs, answer_or_none}
 use Rattle.hir_env.specs.Paths.{ret_or_none, parens_or_none, path_type_or_none, arg_list_or_none, generic_args_of, bounds_of}
 use Rattle.hir_env.specs.Paths.{constant_or_absent, type_at, generic_arg_step, path_step, segment_step, assoc_type_arg_step}
@@ -314,11 +315,20 @@ try_level at b =
     tree.try_expr (pointer_at at level.id level.range) at.answers.lang_items.try_trait_from_output (type_part at level.ty)
     (block_number at level.id) (stmts_part within level.stmts) (expr_part within level.tail)
 
+-- the spot inside of a `const` block
+abbrev pub in_const_block : Spot → Spot
+in_const_block at = record at { place = inside_const_block at.place }
+
+abbrev pub const_level : Spot → AstBlockExpr → Expr
+const_level at b =
+    let level = out-BlockExpr b in const_of (pointer_at at level.id level.range) (block_level (in_const_block at) plain_head b)
+
 -- a block as an expression, by its modifier
 abbrev pub own_level : Spot → Option BlockModifier → AstBlockExpr → Expr
 own_level at None b = tree.block_expr (block_level at (block_head at b) b)
 own_level at (Some modifier.Unsafe) b = tree.block_expr (block_level at unsafe_head b)
 own_level at (Some modifier.Try) b = try_level at b
+own_level at (Some modifier.Const) b = const_level at b
 
 -- such a block, with the condition that disables it
 abbrev pub body_level : Spot → AstBlockExpr → Expr

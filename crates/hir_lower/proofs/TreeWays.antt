@@ -18,6 +18,7 @@ use Rattle.hir_store.specs.declared.ids.LabelId.{LabelId}
 use Rattle.hir_store.specs.declared.ids.BlockId.{BlockId}
 use Rattle.hir_store.specs.declared.ids.PatId.{PatId}
 use Rattle.hir_store.specs.declared.ids.TypeRefId.{TypeRefId}
+use Rattle.hir_store.specs.declared.type_ref.ConstRef.{ConstRef}
 use Rattle.hir_store.specs.declared.type_ref.TypeBound.{TypeBound}
 use Rattle.hir_env.specs.Answered as tree
 use Rattle.hir_env.specs.Answered.{Binder, Type_, OptionType, Parts, Path, OptionPath, Segments, Segment, SegmentArgs, OptionParens}
@@ -30,7 +31,7 @@ use Rattle.hir_lower_form.specs.declared.args.ArgLists.{ArgLists}
 use Rattle.hir_lower_form.specs.declared.walk.PathWalk.{PathWalk}
 use Rattle.hir_lower_form.specs.Lowering.{Lowering, ◌>>=◌}
 use Rattle.hir_lower_form.specs.Lower.{ExprSteps, StoredContents, missing, some, if_form, loop_form, turn_form, call_form, continue_form}
-use Rattle.hir_lower_form.specs.Lower.{break_form, paren_form, operand_form, operands_form, value_form, list_form}
+use Rattle.hir_lower_form.specs.Lower.{break_form, paren_form, operand_form, operands_form, value_form, list_form, repeat_form, const_form}
 use Rattle.hir_lower_form.specs.Types.{TypeSteps}
 use Rattle.hir_lower_form.specs.Lower.{path_form, method_call_form, await_form, block_form, labelled, kept, lower, lower_part}
 use Rattle.hir_lower_form.specs.Lower.{StoredFields, cast_form, offset_of_form, record_contents, record_of, record_form, field_form}
@@ -123,6 +124,14 @@ module _ (at : Pointer) where
   list_leads (tree.tuple_of false) h = makes h (λ is. leading_alloc _ (Some at))
   list_leads (tree.tuple_of true) h = makes h (λ is. makes missing_leads (λ i. leading_alloc _ (Some at)))
   list_leads tree.array_of h = makes h (λ is. leading_alloc _ (Some at))
+
+  repeat_leads : {e : ExprSteps} {n : Lowering ConstRef} → Leading since e → Leading any n → Leading since (repeat_form at e n)
+  unfolding repeat_form
+  repeat_leads he hn = makes he (λ i. makes hn (λ c. leading_alloc _ (Some at)))
+
+  const_leads : {n : Lowering ConstRef} → Leading any n → Leading since (const_form at n)
+  unfolding const_form
+  const_leads h = makes h (λ c. leading_alloc _ (Some at))
 
   method_call_leads : {e : ExprSteps} (name : Name) {xs : Lowering (List ExprId)} {as' : Lowering (Option GenericArgs)}
       → Leading since e → Leading any xs → Leading any as' → Leading since (method_call_form at e name xs as')
@@ -313,6 +322,8 @@ mutual
   node_leads (tree.binary_expr at form a b) = operands_leads at _ (part_leads a) (part_leads b)
   node_leads (tree.lazy_expr at op a b) = operands_leads at _ (part_leads a) (part_leads b)
   node_leads (tree.list_expr at form es) = list_leads at form (each_leads [] es)
+  node_leads (tree.repeat_expr at e c) = repeat_leads at (part_leads e) (constant_leads c)
+  node_leads (tree.const_expr at c) = const_leads at (constant_leads c)
   node_leads (tree.method_call_expr at e name es as') =
       method_call_leads at name (part_leads e) (each_leads [] es) (args_part_leads as')
   node_leads (tree.leaving_expr at form e) = value_leads at _ (present_leads e)

@@ -7,11 +7,13 @@ ghost use Rattle.hir_store.specs.Range.{HasExpr, HasLabelOption};
 ghost use Rattle.hir_env.specs.Whole.{answered_block, answered_plain, expr_part, label_part, stmt_level, stmts_part};
 ghost use Rattle.hir_lower_form.specs.Lowering.{Lowers};
 ghost use Rattle.hir_lower_form.specs.Lower as spec;
-ghost use Rattle.hir_lower_form.specs.Nests.{Each, KidsBlock, KidsOwn, KidsStmt};
+ghost use Rattle.hir_lower_form.specs.Nests.{Each, KidsBlock, KidsBody, KidsStmt};
 ghost use Rattle.hir_lower_form.specs.Methods.{HasContents, HasRole, LowersExpr, LowersStmt, LowersStmts, block_steps_at, contents_at};
 ghost use Rattle.hir_lower_form.specs.Methods.{flat, own_steps_at};
 ghost use Rattle.hir_lower_form.specs.declared.parts.BlockRole.TheVariants as role;
 
+use crate::consts::const_form;
+use crate::here::block_here;
 use crate::kept::push_kept_statement;
 use crate::lets::let_stmt;
 use crate::tries::try_form;
@@ -219,7 +221,7 @@ fn labelled_block<P: LowerParts>(
     label: &Option<ast::Label>,
     node: &ast::BlockExpr,
 ) -> Result<ExprId, StoreFault>
-    requires { (P.can lowerer.now.parts).block node.now }
+    requires { (P.can lowerer.now.parts).block (P.spot lowerer.now.parts).place node.now }
     ensures { let block = answered_plain (P.spot lowerer.now.parts) node.now in
         let label = label_part (P.spot lowerer.now.parts) label.now in
         Lowers HasExpr (spec.labelled label (λ id. spec.lower_inside (role.Plain false id) block)) state.old result state.new }
@@ -228,11 +230,11 @@ fn labelled_block<P: LowerParts>(
     let Some(label) = label else {
         let label = None;
         let role = BlockRole::Plain { is_unsafe, label };
-        return lowerer.parts.collect_block_inside(state, role, node);
+        return block_here(lowerer, state, role, node);
     };
     let label = Some(lowerer.open_label(state, label)?);
     let role = BlockRole::Plain { is_unsafe, label };
-    let id = lowerer.parts.collect_block_inside(state, role, node)?;
+    let id = block_here(lowerer, state, role, node)?;
     state.close();
     Ok(id)
 }
@@ -243,8 +245,7 @@ fn headed_block<P: LowerParts>(
     state: &mut BodyBuilder,
     node: &ast::BlockExpr,
 ) -> Result<ExprId, StoreFault>
-    requires block { (P.can lowerer.now.parts).block node.now }
-    requires own { KidsOwn (P.can lowerer.now.parts) (P.spot lowerer.now.parts).place (out-BlockExpr node.now) }
+    requires { KidsBody (P.can lowerer.now.parts) (P.spot lowerer.now.parts).place node.now }
     ensures { let spot = P.spot lowerer.now.parts in
         Lowers HasExpr (own_steps_at spot (out-BlockExpr node.now).mod_ node.now) state.old result state.new }
 {
@@ -255,9 +256,10 @@ fn headed_block<P: LowerParts>(
                 is_unsafe: true,
                 label: None,
             };
-            lowerer.parts.collect_block_inside(state, role, node)
+            block_here(lowerer, state, role, node)
         }
         Some(ast::BlockModifier::Try) => try_form(lowerer, state, &node.ty, node),
+        Some(ast::BlockModifier::Const) => const_form(lowerer, state, node),
     }
 }
 
@@ -267,8 +269,7 @@ pub fn block_form<P: LowerParts>(
     state: &mut BodyBuilder,
     node: &ast::BlockExpr,
 ) -> Result<ExprId, StoreFault>
-    requires block { (P.can lowerer.now.parts).block node.now }
-    requires own { KidsOwn (P.can lowerer.now.parts) (P.spot lowerer.now.parts).place (out-BlockExpr node.now) }
+    requires { KidsBody (P.can lowerer.now.parts) (P.spot lowerer.now.parts).place node.now }
     ensures { LowersExpr (answered_block (P.spot lowerer.now.parts) node.now) state.old result state.new }
 {
     headed_block(lowerer, state, node)

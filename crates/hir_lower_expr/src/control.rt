@@ -69,7 +69,7 @@ pub fn if_form<P: LowerParts>(
     else_: &Option<ast::ElseBranch>,
 ) -> Result<ExprId, StoreFault>
     requires condition { IfPresent (P.can lowerer.now.parts).expr condition.now }
-    requires then { IfPresent (P.can lowerer.now.parts).block then.now }
+    requires then { IfPresent ((P.can lowerer.now.parts).block (P.spot lowerer.now.parts).place) then.now }
     requires else_ { IfPresent (λ e. KidsElse (P.can lowerer.now.parts) (P.spot lowerer.now.parts).place (out-ElseBranch e)) else_.now }
     ensures { LowersExpr (tree.if_expr at
         (expr_part (P.spot lowerer.now.parts) condition.now)
@@ -96,7 +96,7 @@ pub fn loop_form<P: LowerParts>(
     label: &Option<ast::Label>,
     body: &Option<Boxed<ast::BlockExpr>>,
 ) -> Result<ExprId, StoreFault>
-    requires { IfPresent (P.can lowerer.now.parts).block body.now }
+    requires { IfPresent ((P.can lowerer.now.parts).block (P.spot lowerer.now.parts).place) body.now }
     ensures { let spot = P.spot lowerer.now.parts in
         LowersExpr (tree.loop_expr at
         (label_part spot label.now)
@@ -144,7 +144,7 @@ fn turn_form<P: LowerParts>(
     body: &Option<Boxed<ast::BlockExpr>>,
 ) -> Result<ExprId, StoreFault>
     requires condition { IfPresent (P.can lowerer.now.parts).expr condition.now }
-    requires body { IfPresent (P.can lowerer.now.parts).block body.now }
+    requires body { IfPresent ((P.can lowerer.now.parts).block (P.spot lowerer.now.parts).place) body.now }
     ensures { Lowers HasExpr (spec.turn_form at
         (lower_part (expr_part (P.spot lowerer.now.parts) condition.now))
         (lower_block_part (block_part (P.spot lowerer.now.parts) body.now))) state.old result state.new }
@@ -175,7 +175,7 @@ pub fn while_form<P: LowerParts>(
     body: &Option<Boxed<ast::BlockExpr>>,
 ) -> Result<ExprId, StoreFault>
     requires condition { IfPresent (P.can lowerer.now.parts).expr condition.now }
-    requires body { IfPresent (P.can lowerer.now.parts).block body.now }
+    requires body { IfPresent ((P.can lowerer.now.parts).block (P.spot lowerer.now.parts).place) body.now }
     ensures { let spot = P.spot lowerer.now.parts in
         LowersExpr (tree.while_expr at
         (label_part spot label.now)

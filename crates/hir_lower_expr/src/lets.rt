@@ -42,7 +42,7 @@ fn else_block<P: LowerParts>(
     state: &mut BodyBuilder,
     node: &ast::LetElse,
 ) -> Result<Option<ExprId>, StoreFault>
-    requires { KidsLetElse (P.can lowerer.now.parts) node.now }
+    requires { KidsLetElse (P.can lowerer.now.parts) (P.spot lowerer.now.parts).place node.now }
     ensures { LowersBlockIfPresent (answered_let_else (P.spot lowerer.now.parts) node.now) state.old result state.new }
 {
     match node {
@@ -56,7 +56,7 @@ fn else_if_present<P: LowerParts>(
     state: &mut BodyBuilder,
     part: &Option<ast::LetElse>,
 ) -> Result<Option<ExprId>, StoreFault>
-    requires { IfPresent (KidsLetElse (P.can lowerer.now.parts)) part.now }
+    requires { IfPresent (KidsLetElse (P.can lowerer.now.parts) (P.spot lowerer.now.parts).place) part.now }
     ensures { LowersBlockIfPresent (let_else_part (P.spot lowerer.now.parts) part.now) state.old result state.new }
 {
     match part {
@@ -78,7 +78,7 @@ fn kept_let<P: LowerParts>(
     requires pat { IfPresent ((P.can lowerer.now.parts).pat (P.spot lowerer.now.parts).place) pat.now }
     requires ty { IfPresent ((P.can lowerer.now.parts).type_ (P.spot lowerer.now.parts).place) ty.now }
     requires init { IfPresent (P.can lowerer.now.parts).expr init.now }
-    requires else_ { IfPresent (KidsLetElse (P.can lowerer.now.parts)) else_.now }
+    requires else_ { IfPresent (KidsLetElse (P.can lowerer.now.parts) (P.spot lowerer.now.parts).place) else_.now }
     ensures { let spot = P.spot lowerer.now.parts in
         LowersStmt (tree.let_stmt
         (pat_part spot pat.now)
@@ -111,7 +111,7 @@ pub(crate) fn let_stmt<P: LowerParts>(
     requires pat { IfPresent ((P.can lowerer.now.parts).pat (P.spot lowerer.now.parts).place) pat.now }
     requires ty { IfPresent ((P.can lowerer.now.parts).type_ (P.spot lowerer.now.parts).place) ty.now }
     requires init { IfPresent (P.can lowerer.now.parts).expr init.now }
-    requires else_ { IfPresent (KidsLetElse (P.can lowerer.now.parts)) else_.now }
+    requires else_ { IfPresent (KidsLetElse (P.can lowerer.now.parts) (P.spot lowerer.now.parts).place) else_.now }
     ensures { let spot = P.spot lowerer.now.parts in
         LowersStmt (asked_stmt at (spot.answers.cfg (site_of at)) (tree.let_stmt
         (pat_part spot pat.now)

@@ -7,6 +7,7 @@ ghost use Rattle.hir_lower_form.specs.Lowering.{Lowers};
 ghost use Rattle.hir_lower_form.specs.Methods.{try_steps_at};
 ghost use Rattle.hir_lower_form.specs.Nests.{IfPresent};
 
+use crate::here::block_here;
 use hir_lower_form::builder::BodyBuilder;
 use hir_lower_form::parts::{BlockRole, LowerParts, Lowerer};
 use hir_store::fault::StoreFault;
@@ -22,14 +23,14 @@ fn typed_try<P: LowerParts>(
     ty: &ast::Type_,
     node: &ast::BlockExpr,
 ) -> Result<ExprId, StoreFault>
-    requires block { (P.can lowerer.now.parts).block node.now }
+    requires block { (P.can lowerer.now.parts).block (P.spot lowerer.now.parts).place node.now }
     requires ty { (P.can lowerer.now.parts).type_ (P.spot lowerer.now.parts).place ty.now }
     ensures { let spot = P.spot lowerer.now.parts in
         Lowers HasExpr (try_steps_at spot (tree.some_type (answered_type spot ty.now)) node.now) state.old result state.new }
 {
     let item = lowerer.parts.lang_items().try_trait_from_output;
     let role = BlockRole::Try { item, typed: true };
-    let block = lowerer.parts.collect_block_inside(state, role, node)?;
+    let block = block_here(lowerer, state, role, node)?;
     let number = state.made_number()?;
     let place = lowerer.parts.place();
     let type_ref = lowerer.parts.lower_type(state, place, &None, ty)?;
@@ -46,7 +47,7 @@ pub(crate) fn try_form<P: LowerParts>(
     ty: &Option<Boxed<ast::Type_>>,
     node: &ast::BlockExpr,
 ) -> Result<ExprId, StoreFault>
-    requires block { (P.can lowerer.now.parts).block node.now }
+    requires block { (P.can lowerer.now.parts).block (P.spot lowerer.now.parts).place node.now }
     requires ty { IfPresent ((P.can lowerer.now.parts).type_ (P.spot lowerer.now.parts).place) ty.now }
     ensures { let spot = P.spot lowerer.now.parts in
         Lowers HasExpr (try_steps_at spot (type_part spot ty.now) node.now) state.old result state.new }
@@ -55,7 +56,7 @@ pub(crate) fn try_form<P: LowerParts>(
         None => {
             let item = lowerer.parts.lang_items().try_trait_from_output;
             let role = BlockRole::Try { item, typed: false };
-            lowerer.parts.collect_block_inside(state, role, node)
+            block_here(lowerer, state, role, node)
         }
         Some(ty) => typed_try(lowerer, state, ty.get(), node),
     }

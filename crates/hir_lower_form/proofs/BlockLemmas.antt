@@ -15,10 +15,11 @@ use Rattle.hir_env.specs.Spot.{Spot}
 use Rattle.hir_env.specs.Answered as tree
 use Rattle.hir_env.specs.Answered.{Block, Expr, OptionType}
 use Rattle.hir_env.specs.Answering.{plain_head, unsafe_head}
-use Rattle.hir_env.specs.Whole.{answered_block, answered_plain, block_head, block_level, block_number, expr_part, in_block, own_level}
+use Rattle.hir_env.specs.Whole.{answered_block, answered_plain, block_head, block_level, block_number, const_level, expr_part, in_block}
+use Rattle.hir_env.specs.Whole.{in_const_block, own_level}
 use Rattle.hir_env.specs.Whole.{pointer_at, stmts_part, type_part}
 use Rattle.hir_env.proofs.Levels.{block_is_level, plain_is_level}
-use Rattle.hir_lower_form.specs.Forms.{labelled}
+use Rattle.hir_lower_form.specs.Forms.{const_form, constant_form, labelled}
 use Rattle.hir_lower_form.specs.Lower.{lower, lower_block, lower_inside, settled, try_form, value_of}
 use Rattle.hir_lower_form.specs.Methods.{own_steps_at}
 use Rattle.hir_lower_form.specs.declared.parts.BlockRole.TheVariants as role
@@ -131,6 +132,12 @@ module _ (at : Spot) (b : AstBlockExpr) where
   abbrev Unsafe : Block → Type 0
   Unsafe x = lower (tree.block_expr (block_level at unsafe_head b)) ≡ lower_inside (role.Plain true None) x
 
+  abbrev Const : Block → Type 0
+  Const x =
+      let level = out-BlockExpr b in
+      lower (const_level at b)
+      ≡ const_form (pointer_at at level.id level.range) (constant_form (lower_inside (role.Plain false None) x))
+
   abbrev try_of : OptionType → Expr
   try_of t =
       let level = out-BlockExpr b in
@@ -154,6 +161,7 @@ module _ (at : Spot) (b : AstBlockExpr) where
   own_level_inside (Some modifier.Unsafe) = subst Unsafe (sym (plain_is_level at b)) refl
   own_level_inside (Some modifier.Try) =
       let t = type_part at (out-BlockExpr b).ty in subst (Tried t) (sym (plain_is_level at b)) (tried_level t)
+  own_level_inside (Some modifier.Const) = subst Const (sym (plain_is_level (in_const_block at) b)) refl
 
   pub own_inside : lower (answered_block at b) ≡ own_steps_at at (out-BlockExpr b).mod_ b
   own_inside = ap lower (block_is_level at b) ∙ own_level_inside (out-BlockExpr b).mod_

@@ -14,12 +14,13 @@ IsControl (ExprKind-F.ContinueExpr l) = Unit {0}
 IsControl (ExprKind-F.BreakExpr l e) = Unit {0}
 IsControl _ = ⊥
 
--- with a list of parts
+-- with a list of parts, or one part again and again
 abbrev pub IsListing : ExprKindLayer written → Type 0
 IsListing (ExprKind-F.CallExpr f es) = Unit {0}
 IsListing (ExprKind-F.MethodCallExpr e n as' es) = Unit {0}
 IsListing (ExprKind-F.TupleExpr comma es) = Unit {0}
 IsListing (ExprKind-F.ArrayExpr es) = Unit {0}
+IsListing (ExprKind-F.RepeatExpr e n) = Unit {0}
 IsListing _ = ⊥
 
 -- what stands for a thing in memory, or refers to one

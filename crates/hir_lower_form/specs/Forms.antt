@@ -7,6 +7,7 @@ use Rattle.hir_base.specs.declared.op.BinaryOp.TheVariants as operator
 use Rattle.hir_store.specs.Pointers.{Pointer}
 use Rattle.hir_store.specs.declared.hir.Expr.{Expr as HirExpr}
 use Rattle.hir_store.specs.declared.hir.Expr.TheVariants as hir
+use Rattle.hir_store.specs.declared.hir.Array.TheVariants as array
 use Rattle.hir_store.specs.declared.hir.LoopSource.{LoopSource}
 use Rattle.hir_store.specs.declared.hir.MatchArm.{MatchArm}
 use Rattle.hir_store.specs.declared.hir.Statement.{Statement}
@@ -190,7 +191,20 @@ list_form at (tree.tuple_of true) elements = do
   alloc_expr (hir.Tuple (first ∷ es)) (Some at)
 list_form at tree.array_of elements = do
   es ← elements
-  alloc_expr (hir.Array es) (Some at)
+  alloc_expr (hir.Array (array.ElementList es)) (Some at)
+
+-- what is repeated before how often
+unfoldable pub repeat_form : Pointer → ExprSteps → Lowering ConstRef → ExprSteps
+repeat_form at initializer repeat = do
+  e ← initializer
+  c ← repeat
+  alloc_expr (hir.Array (array.Repeat e c)) (Some at)
+
+-- a `const` block
+unfoldable pub const_form : Pointer → Lowering ConstRef → ExprSteps
+const_form at inner = do
+  c ← inner
+  alloc_expr (hir.Const c) (Some at)
 
 -- the generic arguments behind the others
 unfoldable pub method_call_form : Pointer → ExprSteps → Name → Lowering (List ExprId) → Lowering (Option GenericArgs) → ExprSteps

@@ -31,7 +31,8 @@ use Rattle.hir_env.specs.declared.place.Place.{Place}
 use Rattle.hir_env.specs.Answered.{Binder, Type_, OptionType, Parts, Path, OptionPath, Segment, OptionArgs, Bounds, Constant}
 use Rattle.hir_env.specs.Answered.{Expr, OptionExpr, Exprs, Block, OptionBlock, Stmts, Stmt}
 use Rattle.hir_env.specs.Answered.{OptionPat, Side, OptionTypePat, Limit, Target}
-use Rattle.hir_env.specs.Whole.{answered_plain, expr_part, in_constant, label_part, pointer_at, reader, stmts_part, type_part}
+use Rattle.hir_env.specs.Whole.{answered_plain, expr_part, in_const_block, in_constant, label_part, pointer_at, reader, stmts_part}
+use Rattle.hir_env.specs.Whole.{type_part}
 use Rattle.hir_store.specs.declared.path.Path.{Path as HirPath}
 use Rattle.hir_lower_form.specs.Builder.{Builder}
 use Rattle.hir_lower_form.specs.Walks.{past_walk, past_reading}
@@ -232,9 +233,17 @@ try_steps_at at t b =
     let item = at.answers.lang_items.try_trait_from_output in
     spec.try_form (pointer_at at node.id node.range) t (λ typed. spec.lower_inside (role.Try item typed) (answered_plain at b))
 
+-- a `const` block that is written here
+abbrev pub const_steps_at : Spot → AstBlockExpr → ExprSteps
+const_steps_at at b =
+    let node = out-BlockExpr b in
+    spec.const_form (pointer_at at node.id node.range)
+    (spec.constant_form (spec.lower_inside (role.Plain false None) (answered_plain (in_const_block at) b)))
+
 -- a block as an expression, by its modifier, where only without one its label counts
 abbrev pub own_steps_at : Spot → Option BlockModifier → AstBlockExpr → ExprSteps
 own_steps_at at None b =
     spec.labelled (label_part at (out-BlockExpr b).label) (λ id. spec.lower_inside (role.Plain false id) (answered_plain at b))
 own_steps_at at (Some modifier.Unsafe) b = spec.lower_inside (role.Plain true None) (answered_plain at b)
 own_steps_at at (Some modifier.Try) b = try_steps_at at (type_part at (out-BlockExpr b).ty) b
+own_steps_at at (Some modifier.Const) b = const_steps_at at b

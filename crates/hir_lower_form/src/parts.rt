@@ -99,16 +99,17 @@ pub trait LowerParts {
         requires { (can self.now).expr node.now }
         ensures { MaybeLowersExpr (answered (spot self.now) node.now) state.old result state.new };
 
-    /// The block, as one of this role.
+    /// The block, read at this place, as one of this role.
     fn collect_block_inside(
         &self,
         state: &mut BodyBuilder,
+        place: Place,
         role: BlockRole,
         node: &ast::BlockExpr,
     ) -> Result<ExprId, StoreFault>
-        requires part { (can self.now).block node.now }
+        requires part { (can self.now).block place node.now }
         requires role { HasRole state.old.stored role }
-        ensures { LowersInside role (answered_plain (spot self.now) node.now) state.old result state.new };
+        ensures { LowersInside role (answered_plain (at_place (spot self.now) place) node.now) state.old result state.new };
 
     /// Goes on with the segments of the path, at this place, and then with those of the use tree around it.
     fn read_path(
@@ -264,14 +265,15 @@ impl<P: LowerParts> Lowerer<P> {
         state: &mut BodyBuilder,
         node: &ast::BlockExpr,
     ) -> Result<ExprId, StoreFault>
-        requires { (P.can self.now.parts).block node.now }
+        requires { (P.can self.now.parts).block (P.spot self.now.parts).place node.now }
         ensures { LowersBlock (answered_plain (P.spot self.now.parts) node.now) state.old result state.new }
     {
         let role = BlockRole::Plain {
             is_unsafe: false,
             label: None,
         };
-        self.parts.collect_block_inside(state, role, node)
+        self.parts
+            .collect_block_inside(state, self.parts.place(), role, node)
     }
 
     /// Such a block, missing where it is absent.
@@ -280,7 +282,7 @@ impl<P: LowerParts> Lowerer<P> {
         state: &mut BodyBuilder,
         part: &Option<Boxed<ast::BlockExpr>>,
     ) -> Result<ExprId, StoreFault>
-        requires { IfPresent (P.can self.now.parts).block part.now }
+        requires { IfPresent ((P.can self.now.parts).block (P.spot self.now.parts).place) part.now }
         ensures { LowersBlockOpt (block_part (P.spot self.now.parts) part.now) state.old result state.new }
     {
         match part {

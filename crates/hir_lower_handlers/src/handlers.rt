@@ -135,10 +135,11 @@ impl<
     fn collect_block_inside(
         &self,
         state: &mut BodyBuilder,
+        place: Place,
         role: BlockRole,
         node: &ast::BlockExpr,
     ) -> Result<ExprId, StoreFault> {
-        (self.block)(self.alloc, self.env, self.place, state, role, node)
+        (self.block)(self.alloc, self.env, place, state, role, node)
     }
 
     fn read_path(

@@ -68,14 +68,16 @@ pub only_listing : (k : AstExprKind) → IsListing (out-ExprKind k)
     → ((e : Option AstExpr) (n : Option AstName) (as' : Option AstGenericArgList) (es : Option (List AstExpr))
     → k ≡ kind.MethodCallExpr e n as' es → ⊥)
     → ((comma : Bool) (es : List AstExpr) → k ≡ kind.TupleExpr comma es → ⊥)
-    → ((es : List AstExpr) → k ≡ kind.ArrayExpr es → ⊥) → ⊥
-only_listing k is no_call no_methodcall no_tuple no_array = by (out-ExprKind k) refl is
+    → ((es : List AstExpr) → k ≡ kind.ArrayExpr es → ⊥)
+    → ((e n : Option AstExpr) → k ≡ kind.RepeatExpr e n → ⊥) → ⊥
+only_listing k is no_call no_methodcall no_tuple no_array no_repeat = by (out-ExprKind k) refl is
   where
     by : (l : ExprKindLayer written) → out-ExprKind k ≡ l → IsListing l → ⊥
     by (ExprKind-F.CallExpr f es) h is = no_call f es (made k _ h ∙ kind.rolls-CallExpr f es)
     by (ExprKind-F.MethodCallExpr e n as' es) h is = no_methodcall e n as' es (made k _ h ∙ kind.rolls-MethodCallExpr e n as' es)
     by (ExprKind-F.TupleExpr comma es) h is = no_tuple comma es (made k _ h ∙ kind.rolls-TupleExpr comma es)
     by (ExprKind-F.ArrayExpr es) h is = no_array es (made k _ h ∙ kind.rolls-ArrayExpr es)
+    by (ExprKind-F.RepeatExpr e n) h is = no_repeat e n (made k _ h ∙ kind.rolls-RepeatExpr e n)
     by _ h is = is
 
 pub only_access : (k : AstExprKind) → IsAccess (out-ExprKind k)

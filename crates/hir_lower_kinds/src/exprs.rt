@@ -37,7 +37,8 @@ fn expr_form<P: LowerParts>(
         ast::ExprKind::CallExpr { .. }
         | ast::ExprKind::MethodCallExpr { .. }
         | ast::ExprKind::TupleExpr { .. }
-        | ast::ExprKind::ArrayExpr { .. } => listing_kind(lowerer, state, at, &node.kind),
+        | ast::ExprKind::ArrayExpr { .. }
+        | ast::ExprKind::RepeatExpr { .. } => listing_kind(lowerer, state, at, &node.kind),
         ast::ExprKind::ParenExpr { .. }
         | ast::ExprKind::FieldExpr { .. }
         | ast::ExprKind::IndexExpr { .. }

@@ -18,7 +18,7 @@ use hir_lower_expr::leaves::{
 };
 use hir_lower_expr::leaving::{become_form, return_form, yeet_form, yield_form};
 use hir_lower_expr::lets::let_form;
-use hir_lower_expr::lists::{array_form, tuple_form};
+use hir_lower_expr::lists::{array_form, repeat_form, tuple_form};
 use hir_lower_expr::matches::match_form;
 use hir_lower_expr::operators::{await_form, field_form, index_form, prefix_form, reference_form};
 use hir_lower_expr::questions::question_form;
@@ -90,7 +90,7 @@ pub(crate) fn matching_kind<P: LowerParts>(
     }
 }
 
-/// What has a list of parts.
+/// What has a list of parts, or one part again and again.
 #[tactic(auto, using(crate::proofs::OfFamily::only_listing))]
 pub(crate) fn listing_kind<P: LowerParts>(
     lowerer: &Lowerer<P>,
@@ -115,6 +115,7 @@ pub(crate) fn listing_kind<P: LowerParts>(
             fields,
         } => tuple_form(lowerer, state, at, *leading_comma, fields),
         ast::ExprKind::ArrayExpr { elems } => array_form(lowerer, state, at, elems),
+        ast::ExprKind::RepeatExpr { init, len } => repeat_form(lowerer, state, at, init, len),
         _ => unreachable!(),
     }
 }

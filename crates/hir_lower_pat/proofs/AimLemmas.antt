@@ -23,8 +23,8 @@ use Rattle.hir_store.specs.declared.pat.Pat.TheVariants as pat
 use Rattle.hir_store.specs.declared.path.Path.{Path as HirPath}
 use Rattle.hir_env.specs.Spot.{Spot, site_of}
 use Rattle.hir_env.specs.Answered as tree
-use Rattle.hir_env.specs.Answered.{Block, Expr, Exprs, ForItems, IsWrittenLabel, Label, OptionExpr, OptionPat, OptionPath, OptionType}
-use Rattle.hir_env.specs.Answered.{Path, QuestionItems, Stmts, Target, Targets}
+use Rattle.hir_env.specs.Answered.{Block, Constant, Expr, Exprs, ForItems, IsWrittenLabel, Label, OptionExpr, OptionPat, OptionPath}
+use Rattle.hir_env.specs.Answered.{OptionType, Path, QuestionItems, Stmts, Target, Targets}
 use Rattle.hir_env.specs.Answering.{asked, expr_at, for_items, for_of, question_items, question_of}
 use Rattle.hir_env.specs.Count.{count_expr}
 use Rattle.hir_env.specs.Layers.{ExprKindLayer}
@@ -90,15 +90,17 @@ of_for f a k j (Some items) s label w p h b = k s items label w p h b
 of_own : {A : Type 0} (f : Expr → A) (a : A) → ((b : Block) → f (tree.block_expr b) ≡ a)
     → ((s : Pointer) (item : Option LangItemId) (t : OptionType) (number : Option BlockId) (ss : Stmts) (e : OptionExpr)
     → f (tree.try_expr s item t number ss e) ≡ a)
+    → ((s : Pointer) (c : Constant) → f (tree.const_expr s c) ≡ a)
     → (at : Spot) (m : Option BlockModifier) (b : AstBlockExpr) → f (own_level at m b) ≡ a
-of_own f a h k at None b = h _
-of_own f a h k at (Some modifier.Unsafe) b = h _
-of_own f a h k at (Some modifier.Try) b = k _ _ _ _ _ _
+of_own f a h k j at None b = h _
+of_own f a h k j at (Some modifier.Unsafe) b = h _
+of_own f a h k j at (Some modifier.Try) b = k _ _ _ _ _ _
+of_own f a h k j at (Some modifier.Const) b = j _ _
 
 dots_at : (at : Spot) (k : ExprKindLayer written) (s : Pointer) → is_dots (level at k s) ≡ dots_kind k
 dots_at at (ExprKind-F.BlockExpr b) s =
     ap is_dots (block_is_level at b)
-    ∙ of_own is_dots false (λ x. refl) (λ t item y number ss e. refl) at (out-BlockExpr b).mod_ b
+    ∙ of_own is_dots false (λ x. refl) (λ t item y number ss e. refl) (λ t c. refl) at (out-BlockExpr b).mod_ b
 dots_at at (ExprKind-F.TryExpr e) s = of_question is_dots false s _ (λ items. refl) refl (question_items at.answers.lang_items)
 dots_at at (ExprKind-F.RangeExpr o None None) s = refl
 dots_at at (ExprKind-F.RangeExpr o None (Some e)) s = refl
@@ -128,6 +130,7 @@ dots_at at (ExprKind-F.IndexExpr a b) s = refl
 dots_at at (ExprKind-F.RefExpr r m e) s = refl
 dots_at at (ExprKind-F.TupleExpr comma es) s = refl
 dots_at at (ExprKind-F.ArrayExpr es) s = refl
+dots_at at (ExprKind-F.RepeatExpr e n) s = refl
 dots_at at (ExprKind-F.ReturnExpr e) s = refl
 dots_at at (ExprKind-F.BecomeExpr e) s = refl
 dots_at at (ExprKind-F.YieldExpr e) s = refl
@@ -154,7 +157,7 @@ callee_at : (at : Spot) (k : ExprKindLayer written) (s : Pointer)
     → callee_path (level at k s) ≡ option_map (path_part at) (path_of_callee k)
 callee_at at (ExprKind-F.BlockExpr b) s =
     ap callee_path (block_is_level at b)
-    ∙ of_own callee_path None (λ x. refl) (λ t item y number ss e. refl) at (out-BlockExpr b).mod_ b
+    ∙ of_own callee_path None (λ x. refl) (λ t item y number ss e. refl) (λ t c. refl) at (out-BlockExpr b).mod_ b
 callee_at at (ExprKind-F.TryExpr e) s = of_question callee_path None s _ (λ items. refl) refl (question_items at.answers.lang_items)
 callee_at at (ExprKind-F.RangeExpr o a b) s = refl
 callee_at at (ExprKind-F.IfExpr c t e) s = refl
@@ -182,6 +185,7 @@ callee_at at (ExprKind-F.IndexExpr a b) s = refl
 callee_at at (ExprKind-F.RefExpr r m e) s = refl
 callee_at at (ExprKind-F.TupleExpr comma es) s = refl
 callee_at at (ExprKind-F.ArrayExpr es) s = refl
+callee_at at (ExprKind-F.RepeatExpr e n) s = refl
 callee_at at (ExprKind-F.ReturnExpr e) s = refl
 callee_at at (ExprKind-F.BecomeExpr e) s = refl
 callee_at at (ExprKind-F.YieldExpr e) s = refl
@@ -212,7 +216,8 @@ IsPlaced f e = target_or f tree.absent_target e ≡ tree.absent_target
 other_at : (f : Path → Bool) (at : Spot) (k : ExprKindLayer written) (s : Pointer) → IsPlace k → IsPlaced f (level at k s)
 other_at f at (ExprKind-F.BlockExpr b) s h =
     ap (target_or f tree.absent_target) (block_is_level at b)
-    ∙ of_own (target_or f tree.absent_target) tree.absent_target (λ x. refl) (λ t item y number ss e. refl) at (out-BlockExpr b).mod_ b
+    ∙ of_own (target_or f tree.absent_target) tree.absent_target (λ x. refl) (λ t item y number ss e. refl) (λ t c. refl)
+    at (out-BlockExpr b).mod_ b
 other_at f at (ExprKind-F.TryExpr e) s h =
     of_question (target_or f tree.absent_target) tree.absent_target s _ (λ items. refl) refl (question_items at.answers.lang_items)
 other_at f at (ExprKind-F.RangeExpr o a b) s h = refl
@@ -237,6 +242,7 @@ other_at f at (ExprKind-F.BinExpr (Some (op.Assignment o)) a b) s h = refl
 other_at f at (ExprKind-F.BinExpr (Some op.Assign) a b) s h = refl
 other_at f at (ExprKind-F.IndexExpr a b) s h = refl
 other_at f at (ExprKind-F.RefExpr r m e) s h = refl
+other_at f at (ExprKind-F.RepeatExpr e n) s h = refl
 other_at f at (ExprKind-F.ReturnExpr e) s h = refl
 other_at f at (ExprKind-F.BecomeExpr e) s h = refl
 other_at f at (ExprKind-F.YieldExpr e) s h = refl
@@ -360,6 +366,8 @@ module _ (f : Path → Bool) where
   put_is place (tree.unary_expr at form e) = refl
   put_is place (tree.binary_expr at form a b) = refl
   put_is place (tree.lazy_expr at o a b) = refl
+  put_is place (tree.repeat_expr at e c) = refl
+  put_is place (tree.const_expr at c) = refl
   put_is place (tree.method_call_expr at e name es as') = refl
   put_is place (tree.leaving_expr at form e) = refl
   put_is place (tree.become_expr at e) = refl

@@ -12,7 +12,7 @@ use Rattle.hir_data.specs.Patterns.{written_pat}
 use Rattle.hir_data.specs.Targets.{target_data}
 use Rattle.hir_data.specs.Written.{path_of, written_path, written_type, written_option_type, written_args}
 use Rattle.hir_meaning.specs.Run.{Value, unit, truth, is_true, call, method_call, cast, yielding, awaiting, break, continue, leave}
-use Rattle.hir_meaning.specs.Run.{became, unmatched, ends, pure, ◌>>=◌, ◌>>◌, ask, tests, tests_pattern, binds, assigns, entering}
+use Rattle.hir_meaning.specs.Run.{repeated, became, unmatched, ends, pure, ◌>>=◌, ◌>>◌, ask, tests, tests_pattern, binds, assigns, entering}
 use Rattle.hir_meaning.specs.Catching.{turn, loop}
 use Rattle.hir_meaning.specs.Left.{is_kept, is_left, is_last, field_names}
 use Rattle.hir_meaning.specs.Syntax.{run_for, run_question, run_try, is_typed, through, as_it_is}
@@ -63,6 +63,9 @@ module _ (turns : ℕ) (outer : List Scope) where
         run_binary form (part_alone a inner i) (part_alone b inner i) (Some (site_of at))
     expr_alone (tree.lazy_expr at op a b) inner = λ i. run_lazy op (part_alone a inner i) (part_alone b inner i) (Some (site_of at))
     expr_alone (tree.list_expr at form es) inner = λ i. run_list form (each_alone es inner i) (Some (site_of at))
+    expr_alone (tree.repeat_expr at e c) inner = λ i.
+        part_alone e inner i >>= (λ v. ask repeated (v ∷ []) (Some (site_of at)))
+    expr_alone (tree.const_expr at c) inner = refl
     expr_alone (tree.method_call_expr at e name es generics) inner = λ i.
         part_alone e inner i >>= (λ v. each_alone es inner i
         >>= (λ vs. ask (method_call name (written_args generics)) (v ∷ vs) (Some (site_of at))))

@@ -49,6 +49,10 @@ pub data Operation : Type 0 where
   index : Operation
   tuple : Operation
   array : Operation
+  -- an array of one operand again and again; its length is a body inside
+  repeated : Operation
+  -- what is in it is a body inside
+  const_block : Operation
   method_call : Name → OptionArgsData → Operation
   cast : TypeData → Operation
   -- with the names of its fields

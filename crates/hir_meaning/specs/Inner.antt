@@ -1,9 +1,10 @@
--- The bodies inside a body, written and stored: the constants of its types, paths and arguments, and the ends of ranges in its
--- types, each before those that are inside it, in the order of parts.
+-- The bodies inside a body, written and stored: the constants of its expressions, types, paths and arguments, and the ends of ranges
+-- in its types, each before those that are inside it, in the order of parts.
 use Rattle.std.specs.Prelude.{ℕ, zero, suc, ◌+◌, List, [], ◌∷◌, ◌++◌, length, slice_get}
 use Rattle.std.specs.Prelude.{Option, Some, None}
 use Rattle.hir_store.specs.Stored.{Store}
 use Rattle.hir_store.specs.declared.hir.Expr.{Expr as HirExpr}
+use Rattle.hir_store.specs.declared.hir.Array.TheVariants as array
 use Rattle.hir_store.specs.declared.hir.Expr.TheVariants as hir
 use Rattle.hir_store.specs.declared.hir.MatchArm.{MatchArm}
 use Rattle.hir_store.specs.declared.hir.RecordLitField.{RecordLitField}
@@ -176,7 +177,9 @@ module _ (r : Inners) where
   of_expr (hir.BinaryOp op a b) = r.expr a ++ r.expr b
   of_expr (hir.Index a b) = r.expr a ++ r.expr b
   of_expr (hir.Tuple es) = all_of r.expr es
-  of_expr (hir.Array es) = all_of r.expr es
+  of_expr (hir.Array (array.ElementList es)) = all_of r.expr es
+  of_expr (hir.Array (array.Repeat e c)) = r.expr e ++ of_constant c
+  of_expr (hir.Const c) = of_constant c
   of_expr (hir.MethodCall e name generics es) = r.expr e ++ (of_list generics ++ all_of r.expr es)
   of_expr (hir.Cast e t) = r.expr e ++ r.type t
   of_expr (hir.RecordLit p fields others) = of_path p ++ (all_of of_field fields ++ of_others others)

@@ -128,12 +128,25 @@ question_of at items e a = tree.some_expr (tree.question_expr at items (cast_to 
 abbrev pub typed_try_of : Pointer → OptionExpr → OptionExpr → OptionExpr → OptionExpr
 typed_try_of at a e b = tree.some_expr (tree.try_expr at None (nevers at a) None tree.no_stmts (cast_to at e b))
 
+-- `[l as [!; a]; l as [!; b]]`, and `const { l as [!; a] }`
+abbrev pub repeat_of : Pointer → OptionExpr → OptionExpr → OptionExpr → OptionExpr
+repeat_of at l a b = tree.some_expr (tree.repeat_expr at (cast_to at l a) (tree.constant (cast_to at l b)))
+
+abbrev pub block_of : Pointer → OptionExpr → OptionExpr → OptionExpr
+block_of at l a = tree.some_expr (tree.block_expr (tree.block at false None tt None tree.no_stmts (cast_to at l a)))
+
+abbrev pub const_of : Pointer → OptionExpr → OptionExpr → OptionExpr
+const_of at l a = tree.some_expr (tree.const_expr at (tree.constant (block_of at l a)))
+
 abbrev pub ExprsInOrder : Type 0
 ExprsInOrder = (at : Pointer) (a b e f : Literal) (n : Name) (items : QuestionItems)
     → (bodies_in (method_of at n (body at e) (body at a) (body at f) (body at b)) ≡ constants (body at a ∷ body at b ∷ []))
     × (bodies_in (record_of at n (body at a) (body at e) (body at b)) ≡ constants (body at a ∷ body at b ∷ []))
     × (bodies_in (question_of at items (body at e) (body at a)) ≡ constants (body at a ∷ []))
     × (bodies_in (typed_try_of at (body at a) (body at e) (body at b)) ≡ constants (body at a ∷ body at b ∷ []))
+    × (bodies_in (repeat_of at (body at e) (body at a) (body at b))
+    ≡ constants (body at a ∷ cast_to at (body at e) (body at b) ∷ body at b ∷ []))
+    × (bodies_in (const_of at (body at e) (body at a)) ≡ constants (block_of at (body at e) (body at a) ∷ body at a ∷ []))
 
 -- `A::<{a}>(..)` with a part `A::<{b}>`, and the same behind a path that is refused
 abbrev pub call_of : Pointer → OptionPath → OptionExpr → OptionPat

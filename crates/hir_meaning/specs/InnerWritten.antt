@@ -1,6 +1,6 @@
--- The bodies inside a written body: the constants of its types, paths and arguments, and the ends of ranges in its types, each
--- before those that are inside it, in the order of parts. What nothing reads isn't among them: what a refused path or an `impl`
--- that is an error held, what stands left of where a path begins, and arguments that go again.
+-- The bodies inside a written body: the constants of its expressions, types, paths and arguments, and the ends of ranges in its
+-- types, each before those that are inside it, in the order of parts. What nothing reads isn't among them: what a refused path or
+-- an `impl` that is an error held, what stands left of where a path begins, and arguments that go again.
 use Rattle.std.specs.Prelude.{if◌then◌else◌, Bool, true, false, List, [], ◌∷◌, ◌++◌, reverse, map}
 use Rattle.std.specs.Prelude.{Option, Some, None}
 use Rattle.hir_env.specs.declared.place.ImplTrait.{ImplTrait}
@@ -289,6 +289,9 @@ abbrev mutual
   expr_bodies (tree.binary_expr at form a b) = bodies_in a ++ bodies_in b
   expr_bodies (tree.lazy_expr at op a b) = bodies_in a ++ bodies_in b
   expr_bodies (tree.list_expr at form es) = each_bodies es
+  -- the length stands behind what is repeated
+  expr_bodies (tree.repeat_expr at e c) = bodies_in e ++ constant_bodies c
+  expr_bodies (tree.const_expr at c) = constant_bodies c
   expr_bodies (tree.method_call_expr at e name es generics) = bodies_in e ++ (list_bodies generics ++ each_bodies es)
   expr_bodies (tree.cast_expr at e t) = bodies_in e ++ part_bodies t
   -- a record whose path is absent or refused isn't read

@@ -1,6 +1,7 @@
 -- That each labelled jump that a stored body reaches names a loop or a block around it.
 use Rattle.std.specs.Prelude.{◌≡◌, ◌⊎◌, ℕ, zero, suc, length, map, List, [], ◌∷◌, Option, Some, None, slice_get}
 use Rattle.hir_store.specs.declared.hir.Expr.{Expr}
+use Rattle.hir_store.specs.declared.hir.Array.TheVariants as array
 use Rattle.hir_store.specs.declared.hir.Expr.TheVariants as hir
 use Rattle.hir_store.specs.Stored.{Store}
 use Rattle.hir_store.specs.declared.hir.MatchArm.{MatchArm}
@@ -62,7 +63,9 @@ module _ (store : Store) (Part : List LabelId → ExprId → Type 0) (ls : List 
   StoredEnclosed (hir.BinaryOp op a b) = Part ls a × Part ls b
   StoredEnclosed (hir.Index a b) = Part ls a × Part ls b
   StoredEnclosed (hir.Tuple es) = Each (Part ls) es
-  StoredEnclosed (hir.Array es) = Each (Part ls) es
+  StoredEnclosed (hir.Array (array.ElementList es)) = Each (Part ls) es
+  StoredEnclosed (hir.Array (array.Repeat e c)) = Part ls e
+  StoredEnclosed (hir.Const c) = Unit {0}
   StoredEnclosed (hir.MethodCall e name generics es) = Part ls e × Each (Part ls) es
   StoredEnclosed (hir.Cast e t) = Part ls e
   StoredEnclosed (hir.RecordLit p fields others) = Each (Part ls) (map (λ f. f.expr) fields) × OthersEnclosed (Part ls) others

@@ -25,3 +25,4 @@ pub mod Whiles
 pub mod Questions
 pub mod Tries
 pub mod Fors
+pub mod Constants

@@ -5,6 +5,7 @@ use Rattle.std.specs.Prelude.{Option, Some, None, option_map}
 use Rattle.hir_store.specs.Pointers.{flattened}
 use Rattle.hir_store.specs.Stored.{Store, SourceMap}
 use Rattle.hir_store.specs.declared.hir.Expr.{Expr}
+use Rattle.hir_store.specs.declared.hir.Array.TheVariants as hir_array
 use Rattle.hir_store.specs.declared.hir.Expr.TheVariants as hir
 use Rattle.hir_store.specs.declared.hir.MatchArm.{MatchArm}
 use Rattle.hir_store.specs.declared.hir.Mutability.{Mutability}
@@ -35,6 +36,7 @@ use Rattle.hir_meaning.specs.Places.{places}
 use Rattle.hir_meaning.specs.Run.{Value, answered, unit, truth, mutable_to, is_true, matches, test, bound, Operation, literal, call, Answer}
 use Rattle.hir_meaning.specs.Run.{Outcome, value, break, continue, leave, missing, Body, Run}
 use Rattle.hir_meaning.specs.Run.{underscore, include_bytes, field, prefix, reference, operator, index, array, method_call}
+use Rattle.hir_meaning.specs.Run.{repeated, const_block}
 use Rattle.hir_meaning.specs.Run.{yielding, awaiting, cast, SpreadForm, no_spread, field_defaults, rest_of, made_record, offset_of}
 use Rattle.hir_meaning.specs.Run.{returned, became, yeeted, unmatched, made_tuple, lazily, read_path, binds, assigns}
 use Rattle.hir_base.specs.declared.op.BinaryOp.TheVariants as ast
@@ -297,9 +299,11 @@ module _ (store : Store) (source_map : SourceMap) where
     run_stored (hir.Tuple es) site = do
       vs ← run_each turns part es
       made_tuple vs site
-    run_stored (hir.Array es) site = do
+    run_stored (hir.Array (hir_array.ElementList es)) site = do
       vs ← run_each turns part es
       ask array vs site
+    run_stored (hir.Array (hir_array.Repeat e c)) site = operand e repeated site
+    run_stored (hir.Const c) site = ask const_block [] site
     run_stored (hir.MethodCall e name generics es) site = do
       v ← part e
       vs ← run_each turns part es

@@ -18,6 +18,7 @@ use Rattle.hir_env.specs.Targets.{head_pointer}
 use Rattle.hir_meaning.specs.Run.{Value, answered, unit, item, mutable_to, truth, is_true, matches, test, bound, Operation, literal, call}
 use Rattle.hir_meaning.specs.Run.{Outcome, break, continue, leave, missing, Body, Run}
 use Rattle.hir_meaning.specs.Run.{underscore, include_bytes, field, prefix, reference, operator, index, array, method_call}
+use Rattle.hir_meaning.specs.Run.{repeated, const_block}
 use Rattle.hir_meaning.specs.Run.{yielding, awaiting, cast, SpreadForm, no_spread, field_defaults, rest_of, made_record, offset_of}
 use Rattle.hir_meaning.specs.Run.{Leave, returned, became, yeeted, unmatched, made_tuple, lazily, read_path, binds, assigns}
 use Rattle.hir_meaning.specs.Run.{ends, pure, ◌>>=◌, ◌>>◌, event, ask, tests, tests_pattern, entering}
@@ -283,6 +284,12 @@ module _ (turns : ℕ) where
     run_expr (tree.binary_expr at form a b) ss = run_binary form (run_part a ss) (run_part b ss) (Some (site_of at))
     run_expr (tree.lazy_expr at op a b) ss = run_lazy op (run_part a ss) (run_part b ss) (Some (site_of at))
     run_expr (tree.list_expr at form es) ss = run_list form (run_each es ss) (Some (site_of at))
+    -- its length is a body inside
+    run_expr (tree.repeat_expr at e c) ss = do
+      v ← run_part e ss
+      ask repeated (v ∷ []) (Some (site_of at))
+    -- what is in it is a body inside
+    run_expr (tree.const_expr at c) ss = ask const_block [] (Some (site_of at))
     run_expr (tree.method_call_expr at e name es generics) ss = do
       v ← run_part e ss
       vs ← run_each es ss

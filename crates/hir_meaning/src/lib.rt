@@ -22,6 +22,7 @@ ghost use Rattle.hir_meaning.specs.Tries.{LeavesPastTheLoop, GoesThroughTheOutpu
 ghost use Rattle.hir_meaning.specs.Tries.{BarrierHidesTheTry};
 ghost use Rattle.hir_meaning.specs.Fors.{AsksForTheNext, HasItsTurns, IsNeitherNoneNorGiven, KeepsItsIterator, LeavesByItsBody};
 ghost use Rattle.hir_meaning.specs.Fors.{ContinuesTheFor, LeavesByItsHead, HeadAsWritten, ForItemlessIsMissing, RefersSilently};
+ghost use Rattle.hir_meaning.specs.Constants.{RepeatsItsOperand, HasItsBlockInside, StraysFromItsLength, ReturnsFromItsLength};
 ghost use Rattle.hir_meaning.specs.InnerRows.{TypesInOrder, PathsInOrder, ExprsInOrder, PatternsInOrder, StoredInOrder};
 
 /// `'a: { loop { break 'a 1 } }` with one turn is the literal and its value.
@@ -242,7 +243,8 @@ pub fn foreign_is_not_enclosed()
 /// The bodies inside `[[!; a]; b]` are a and b, inside `[!; a as [!; b]]` the cast and b; inside a refused path, and in
 /// arguments that go again, there are none. Arguments come before bindings, and of a method call those in `<..>` before the
 /// others; of an arm those of its guard before those of its body; of a `try` those of its type; of a `for` those of its head, its
-/// pattern and its body. So they are stored, too.
+/// pattern and its body; of a repeat array those of what is repeated before its length and what is in that; of a const block the
+/// block and what is in that. So they are stored, too.
 pub fn inner_bodies_in_order()
     ensures types { TypesInOrder }
     ensures paths { PathsInOrder }
@@ -450,4 +452,24 @@ pub fn for_itemless_is_missing()
 /// A mutable reference to what a made name stands for is silent; any other reference to it is not, nor is any that is written.
 pub fn refers_silently()
     ensures { RefersSilently }
+{}
+
+/// `[1; 2]` is the literal and one event with its value; the length is a body inside, and runs by itself.
+pub fn repeats_its_operand()
+    ensures { RepeatsItsOperand }
+{}
+
+/// `const { 1 }` is one event without operands; the block is a body inside, and runs by itself.
+pub fn has_its_block_inside()
+    ensures { HasItsBlockInside }
+{}
+
+/// `'a: loop { [1; break 'a] }` makes the array turn after turn, and the length by itself is a stray break.
+pub fn strays_from_its_length()
+    ensures { StraysFromItsLength }
+{}
+
+/// `try { [1; a?] }` has the array's value, and the length by itself returns what is made of the residual as for a body.
+pub fn returns_from_its_length()
+    ensures { ReturnsFromItsLength }
 {}

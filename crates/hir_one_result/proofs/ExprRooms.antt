@@ -17,12 +17,13 @@ use Rattle.hir_lower_form.specs.Lower.{ExprSteps, StoredContents, missing, some,
 use Rattle.hir_lower_form.specs.Lower.{continue_form, break_form}
 use Rattle.hir_lower_form.specs.Lower.{paren_form, path_form, operand_form, operands_form, value_form, list_form, method_call_form}
 use Rattle.hir_lower_form.specs.Lower.{await_form, block_form, labelled, kept, StoredFields, cast_form, offset_of_form, record_contents}
-use Rattle.hir_lower_form.specs.Lower.{record_of, record_form, field_form}
+use Rattle.hir_lower_form.specs.Lower.{record_of, record_form, field_form, repeat_form, const_form}
 use Rattle.hir_one_result.specs.Size.{Size, an_expr, ◌∪◌, if_so}
 use Rattle.hir_store.specs.declared.hir.RecordLitField.{RecordLitField}
 use Rattle.hir_store.specs.declared.hir.RecordSpread.{RecordSpread}
 use Rattle.hir_store.specs.declared.path.Path.{Path}
 use Rattle.hir_store.specs.declared.path.GenericArgs.{GenericArgs}
+use Rattle.hir_store.specs.declared.type_ref.ConstRef.{ConstRef}
 use Rattle.hir_lower_form.specs.Types.{TypeSteps}
 use Rattle.hir_one_result.specs.PathRoom.{Seen}
 use Rattle.hir_one_result.specs.Room.{label_size, front_size}
@@ -105,6 +106,15 @@ module _ (at : Pointer) where
   list_takes (tree.tuple_of false) h = takes_then h (λ is. takes_as (nothing_first an_expr) (takes_alloc _ (Some at)))
   list_takes (tree.tuple_of true) h = takes_then h (λ is. takes_then missing_takes (λ i. takes_alloc _ (Some at)))
   list_takes tree.array_of h = takes_then h (λ is. takes_as (nothing_first an_expr) (takes_alloc _ (Some at)))
+
+  pub repeat_takes : {n k : Size} {e : ExprSteps} {c : Lowering ConstRef} → Takes n e → Takes k c
+      → Takes (n ∪ (k ∪ an_expr)) (repeat_form at e c)
+  unfolding repeat_form
+  repeat_takes he hc = takes_then he (λ i. takes_then hc (λ c. takes_alloc _ (Some at)))
+
+  pub const_takes : {n : Size} {c : Lowering ConstRef} → Takes n c → Takes (n ∪ an_expr) (const_form at c)
+  unfolding const_form
+  const_takes h = takes_then h (λ c. takes_alloc _ (Some at))
 
   pub method_call_takes : (name : Name) {n k j : Size} {e : ExprSteps} {xs : Lowering (List ExprId)} {as' : Lowering (Option GenericArgs)}
       → Takes n e → Takes k xs → Takes j as' → Takes (n ∪ (k ∪ (j ∪ an_expr))) (method_call_form at e name xs as')

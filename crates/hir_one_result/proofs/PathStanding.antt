@@ -263,10 +263,14 @@ root_moved : (i : ExprId) {a b : Stored} → (b ≡ a) ⊎ (b ≡ with_root i a)
 root_moved i (inl e) = moved_same e
 root_moved i {a = a} (inr e) = moved_to e (moved_still a (with_root i a) refl refl refl refl refl refl)
 
+pub constant_shows : {S : Of ExprId} {p : ExprSteps} → Correct p (Shows S)
+    → Correct (constant_form p) (Shows (λ final rs n. S final (barrier_rib ∷ rs) n.expr))
+constant_shows h = correct_as (correct_constant h)
+    (λ final ps m m' c g row. record { shown = shown_before row.first.shown (root_moved c.expr row.stored) })
+
 pub constant_leaves : {S : Of ExprId} {p : ExprSteps} → Correct p (Shows S)
-    → Correct (constant_form p) (Leaves (λ final rs ws. (i : ExprId) × S final (barrier_rib ∷ rs) i ws))
-constant_leaves h = correct_as (correct_constant h) (λ final ps m m' c g row.
-    record { shown = shown_as (shown_before row.first.shown (root_moved c.expr row.stored)) (λ ws y. (c.expr, y)) })
+    → Correct (constant_form p) (Leaves (λ final rs ws. (n : ConstRef) × S final (barrier_rib ∷ rs) n.expr ws))
+constant_leaves h = correct_as (constant_shows h) (λ final ps m m' c g row. record { shown = shown_as row.shown (λ ws y. (c, y)) })
 
 -- patterns in types
 

@@ -1,6 +1,6 @@
 -- Small trees, worked out.
-use Rattle.std.proofs.Common.{slice_get, ◌≡◌, ◌∙◌, refl, sym, ap, Bool, true, false, List, [], ◌∷◌, ◌++◌, option_to_list, Option, Some}
-use Rattle.std.proofs.Common.{None, true≢false}
+use Rattle.std.proofs.Common.{slice_get, ◌≡◌, ◌∙◌, refl, sym, ap, Bool, true, false, List, [], ◌∷◌, ◌++◌, option_to_list, map, Option}
+use Rattle.std.proofs.Common.{Some, None, true≢false}
 use Rattle.hir_store.specs.Stored.{Store, SourceMap}
 use Rattle.hir_store.specs.declared.hir.Expr.{Expr as HirExpr}
 use Rattle.hir_store.specs.declared.hir.Expr.TheVariants as hir
@@ -26,11 +26,12 @@ use Rattle.hir_meaning.specs.Contents.{BlockContents}
 use Rattle.hir_store.specs.declared.ids.CfgId.{CfgId}
 use Rattle.hir_meaning.specs.Small.{at, root, stored_one}
 use Rattle.hir_one_result.specs.Forms.{leaves_with}
-use Rattle.hir_one_result.specs.Leads.{Way, Ways, expr_way}
+use Rattle.hir_one_result.specs.Leads.{Way, Ways, expr_way, unled_way, overtaken}
 use Rattle.hir_one_result.specs.Stands.{Absent, Stands, statement_of, StandsLiteral, StandsEach, StandsContents}
 use Rattle.hir_one_result.specs.Worked.{Jumps, other, literal_first, Statements, EntersInOrder, Leaves, letter, block_id}
 use Rattle.hir_one_result.specs.StandsMade.{StandsQuestion}
 use Rattle.hir_one_result.specs.Worked.{elements, PlainForms, LeavesWith, Tries, Iterates, Fors, for_one}
+use Rattle.hir_one_result.specs.Worked.{Consts, IsConst, const_one}
 
 -- the bare path of this data
 abbrev bare_path : PathData → Path
@@ -277,4 +278,41 @@ fors = record {
   no_fault = λ items. refl;
   undeclared = λ items. refl;
   head_first = λ items. refl;
+}
+
+-- repeat arrays and const blocks
+
+abbrev plain_block : List Statement → Option ExprId → Option HirExpr
+plain_block ss tail = Some (hir.Block false None None ss tail)
+
+is_const : (store : Store) (source_map : SourceMap) (i : ExprId) (ws : List Way) → Stands store source_map [] const_one i ws
+    → IsConst store i ws
+is_const store source_map i ws h =
+    let c = h.2.first.2 in
+    let tail = c.5.first.1 in
+    let inside = c.5.is ∙ (ap (λ l. l ++ c.5.right) tail.2.2.1 ∙ ap (λ r. expr_way (at 1) tail.0 ∷ r) c.5.second) in
+    let before = h.2.first.1 ∙ ap (λ vs. map (overtaken (at 0)) vs) inside in
+    record {
+      block = h.0.expr;
+      value = tail.0;
+      whole = h.1.stored;
+      inner = c.4.stored ∙ (ap (λ r. plain_block r.0 r.1) c.3
+          ∙ (ap (λ ss. plain_block ss c.1) c.5.first.0 ∙ ap (λ t. plain_block [] t) tail.1));
+      is_one = literal_stored store source_map (at 1) _ tail.0 c.5.left tail.2;
+      ways = h.2.is ∙ (ap (λ l. l ++ h.2.right) before ∙ ap (λ r. expr_way (at 1) tail.0 ∷ unled_way h.0.expr ∷ r) h.2.second);
+    }
+
+pub consts : Consts
+consts = record {
+  repeats = λ outer store source_map i ws h.
+      let length = h.3.second.first in record {
+        one = h.0;
+        other = h.1.expr;
+        whole = h.2.stored;
+        first = literal_stored store source_map (at 1) _ h.0 h.3.left h.3.first;
+        second = length.1.stored ∙ ap (λ v. Some (hir.Break None v)) length.2.first.0;
+      };
+  unreachable = refl;
+  is_const = is_const;
+  length_last = refl;
 }

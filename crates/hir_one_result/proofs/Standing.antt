@@ -4,6 +4,7 @@ use Rattle.std.proofs.Common.{option_map, option_to_list, Bool, true, false, app
 use Rattle.hir_syntax.specs.declared.ast.Literal.{Literal as AstLiteral}
 use Rattle.hir_store.specs.Pointers.{Pointer}
 use Rattle.hir_store.specs.Stored.{Stored, store_of, map_of}
+use Rattle.hir_store.specs.declared.hir.Array.TheVariants as array
 use Rattle.hir_store.specs.declared.hir.Expr.{Expr as HirExpr}
 use Rattle.hir_store.specs.declared.hir.Expr.TheVariants as hir
 use Rattle.hir_store.specs.declared.hir.LoopSource.TheVariants as source
@@ -37,7 +38,8 @@ use Rattle.hir_lower_form.specs.Lower.{record_of, record_form, field_form, ExprS
 use Rattle.hir_lower_form.specs.Lower.{call_form, continue_form, break_form, stored_leaf, stored_unary, stored_binary, stored_leaving}
 use Rattle.hir_lower_form.specs.Lower.{operand_form, operands_form, value_form, list_form, method_call_form, await_form, paren_form}
 use Rattle.hir_lower_form.specs.Lower.{path_or_missing, path_form, lower_path, block_form, labelled, settled, stored_literal, let_form}
-use Rattle.hir_lower_form.specs.Lower.{match_form, arm_form, assign_form, let_stmt_form}
+use Rattle.hir_lower_form.specs.Lower.{match_form, arm_form, assign_form, let_stmt_form, repeat_form, const_form}
+use Rattle.hir_store.specs.declared.type_ref.ConstRef.{ConstRef}
 use Rattle.hir_lower_form.specs.Lowering.{Lowering, ◌>>=◌, pure, alloc_expr}
 use Rattle.hir_lower_form.specs.Ranges as ranges
 use Rattle.hir_lower_form.specs.Ranges.{range_form, item_expr, end_operand}
@@ -47,7 +49,7 @@ use Rattle.hir_steps.proofs.MadeSteps.{AllocatedMade}
 use Rattle.hir_steps.proofs.Steps.{Mark, Rel, Put, Allocated, AllocatedBy, OpenedBy, with_fault, with_target, with_jump, with_block}
 use Rattle.hir_steps.proofs.Steps.{with_await}
 use Rattle.hir_one_result.specs.Forms.{leaf_form, unary_form, binary_form, leaving_form, item_form, range_fields}
-use Rattle.hir_one_result.specs.Leads.{Way, Ways, OneWay, OneUnled, OneLabelWay, OneFieldWay, ◌&◌}
+use Rattle.hir_one_result.specs.Leads.{Way, Ways, OneWay, OneUnled, OneLabelWay, OneFieldWay, Overtaken, ◌&◌}
 use Rattle.hir_one_result.specs.Stands.{ReadsAs, StandsOverThree, StandsRecord, Open, Absent, There, ExprAt, LabelAt, StandsMissing}
 use Rattle.hir_one_result.specs.Stands.{StandsAlone, StandsPath, StandsLiteral, StandsOver, StandsOverTwo, StandsList, InLabel}
 use Rattle.hir_one_result.specs.Stands.{StandsRange}
@@ -58,6 +60,7 @@ use Rattle.hir_one_result.proofs.Lasting.{correct_target}
 use Rattle.hir_one_result.proofs.Leading.{Shown, shown_as, shown_none, shown_both, shown_swap, shown_after, shown_before, shown_to}
 use Rattle.hir_one_result.proofs.Leading.{shown_expr, shown_made, shown_unled, shown_label, shown_point, shown_field, Moved, moved_same}
 use Rattle.hir_one_result.proofs.Leading.{moved_to, moved_still, moved_report}
+use Rattle.hir_one_result.proofs.Overtaken.{shown_later}
 
 abbrev pub Of : Type 0 → Type 1
 Of A = Stored → Open → A → Ways
@@ -330,6 +333,22 @@ module _ (at : Pointer) where
   list_stands (tree.tuple_of false) h = over (λ is. refl) h
   list_stands (tree.tuple_of true) h = over_two (λ is i. refl) h missing_stands
   list_stands tree.array_of h = over (λ is. refl) h
+
+  pub repeat_stands : {e : ExprSteps} {c : Lowering ConstRef} {S : Of ExprId} {T : Of ConstRef} → Correct e (Shows S) → Correct c (Shows T)
+      → Correct (repeat_form at e c) (Shows (λ final rs i. StandsOverTwo (store_of final) (map_of final)
+      (λ x n. hir.Array (array.Repeat x n)) at (λ x. S final rs x) (λ n. T final rs n) i))
+  unfolding repeat_form
+  repeat_stands he hc = over_two (λ e c. refl) he hc
+
+  pub const_stands : {c : Lowering ConstRef} {T : Of ConstRef} → Correct c (Shows T)
+      → Correct (const_form at c)
+      (Shows (λ final rs i. StandsOver (store_of final) (map_of final) hir.Const at (λ n. Overtaken at (T final rs n)) i))
+  unfolding const_form
+  const_stands h = correct_as (correct_bind h (λ c. correct_alloc (hir.Const c) (Some at))) (λ final ps m m' i g row.
+      let made = row.second in record {
+        shown = shown_as (shown_later (hir.Const row.one) at i row.first.shown (made.number ∙ made.last) made.stored)
+            (λ ws x. (row.one, expr_at made, x));
+      })
 
   pub method_call_stands : (name : Name) {e : ExprSteps} {xs : Lowering (List ExprId)} {as' : Lowering (Option GenericArgs)}
       {S : Of ExprId} {X : Of (List ExprId)} {G : Of (Option GenericArgs)} → Correct e (Shows S) → Correct xs (Shows X)

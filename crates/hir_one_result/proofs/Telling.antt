@@ -27,10 +27,11 @@ use Rattle.hir_lower_form.specs.Lower.{ExprSteps, StoredContents, missing, some,
 use Rattle.hir_lower_form.specs.Lower.{continue_form, break_form}
 use Rattle.hir_lower_form.specs.Lower.{operand_form, operands_form, value_form, list_form, method_call_form, await_form, paren_form}
 use Rattle.hir_lower_form.specs.Lower.{path_form, block_form, labelled, StoredFields, lower_path, cast_form, offset_of_form}
-use Rattle.hir_lower_form.specs.Lower.{record_contents, record_of, record_form, field_form, constant_form}
+use Rattle.hir_lower_form.specs.Lower.{record_contents, record_of, record_form, field_form, constant_form, repeat_form, const_form}
 use Rattle.hir_store.specs.declared.hir.RecordLitField.{RecordLitField}
 use Rattle.hir_store.specs.declared.hir.RecordSpread.{RecordSpread}
 use Rattle.hir_store.specs.declared.path.GenericArgs.{GenericArgs}
+use Rattle.hir_store.specs.declared.type_ref.ConstRef.{ConstRef}
 use Rattle.hir_data.specs.Reading.{stored_path}
 use Rattle.hir_data.specs.Written.{written_path}
 use Rattle.hir_read_back.proofs.Now.{path_now}
@@ -309,6 +310,15 @@ module _ {X : Type 0} (L : Listing X) where
     list_tells (tree.tuple_of false) h = tells_end h (λ is. tells_alloc _ _)
     list_tells (tree.tuple_of true) h = tells_end h (λ is. tells_end missing_tells (λ i. tells_alloc _ _))
     list_tells tree.array_of h = tells_end h (λ is. tells_alloc _ _)
+
+    pub repeat_tells : {D E : List Scope → List X} {e : ExprSteps} {c : Lowering ConstRef} → Correct e (Tells D) → Correct c (Tells E)
+        → Correct (repeat_form at e c) (Tells (λ ss. D ss ++ E ss))
+    unfolding repeat_form
+    repeat_tells he hc = tells_bind he (λ i. tells_end hc (λ c. tells_alloc _ _))
+
+    pub const_tells : {D : List Scope → List X} {c : Lowering ConstRef} → Correct c (Tells D) → Correct (const_form at c) (Tells D)
+    unfolding const_form
+    const_tells h = tells_end h (λ c. tells_alloc _ _)
 
     pub method_call_tells : (name : Name) {D E F : List Scope → List X} {e : ExprSteps} {xs : Lowering (List ExprId)}
         {as' : Lowering (Option GenericArgs)} → Correct e (Tells D) → Correct xs (Tells E) → Correct as' (Tells F)

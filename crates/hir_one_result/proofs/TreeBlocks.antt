@@ -48,6 +48,7 @@ use Rattle.hir_one_result.proofs.Telling.{operand_tells, operands_tells, value_t
 use Rattle.hir_one_result.proofs.MadeTelling.{for_tells, question_tells, try_block_tells, typed_try_tells}
 use Rattle.hir_one_result.proofs.Telling.{cast_tells, record_tells, offset_of_tells, field_tells, contents_tells, path_tells}
 use Rattle.hir_one_result.proofs.Telling.{block_form_tells, labelled_tells, tells_alloc, tells_aside, constant_tells, inner_tells}
+use Rattle.hir_one_result.proofs.Telling.{repeat_tells, const_tells}
 use Rattle.hir_lower_form.specs.Walks.{start, super_read}
 use Rattle.hir_one_result.proofs.PathTelling.{tells_type, over_tells, array_tells, tuple_tells, path_type_tells, ref_tells, fn_tells}
 use Rattle.hir_one_result.proofs.PathTelling.{impl_tells, dyn_tells, path_bound_tells, reads_then, whole_tells, first_tells, counted_tells}
@@ -283,6 +284,8 @@ mutual
   node_blocks (tree.binary_expr at form a b) = operands_tells entered at _ (part_blocks a) (part_blocks b)
   node_blocks (tree.lazy_expr at op a b) = operands_tells entered at _ (part_blocks a) (part_blocks b)
   node_blocks (tree.list_expr at form es) = list_tells entered at form (each_blocks [] es)
+  node_blocks (tree.repeat_expr at e c) = repeat_tells entered at (part_blocks e) (constant_enters c)
+  node_blocks (tree.const_expr at c) = const_tells entered at (constant_enters c)
   node_blocks (tree.method_call_expr at e name es generics) =
       method_call_tells entered at name (part_blocks e) (each_blocks [] es) (args_enters generics)
   node_blocks (tree.cast_expr at e t) = cast_tells entered at (part_blocks e) (type_enters None t)

@@ -48,6 +48,7 @@ use Rattle.hir_one_result.proofs.Telling.{operand_tells, operands_tells, value_t
 use Rattle.hir_one_result.proofs.MadeTelling.{for_tells, question_tells, try_block_tells, typed_try_tells}
 use Rattle.hir_one_result.proofs.Telling.{cast_tells, record_tells, offset_of_tells, field_tells, contents_tells, path_tells}
 use Rattle.hir_one_result.proofs.Telling.{block_form_tells, labelled_tells, tells_alloc, tells_aside, constant_tells, inner_tells}
+use Rattle.hir_one_result.proofs.Telling.{repeat_tells, const_tells}
 use Rattle.hir_lower_form.specs.Walks.{start, super_read}
 use Rattle.hir_one_result.proofs.PathTelling.{tells_type, over_tells, array_tells, tuple_tells, path_type_tells, ref_tells, fn_tells}
 use Rattle.hir_one_result.proofs.PathTelling.{impl_tells, dyn_tells, path_bound_tells, reads_then, whole_tells, first_tells, counted_tells}
@@ -293,6 +294,8 @@ mutual
   node_faults (tree.binary_expr at form a b) = operands_tells reported at _ (part_faults a) (part_faults b)
   node_faults (tree.lazy_expr at op a b) = operands_tells reported at _ (part_faults a) (part_faults b)
   node_faults (tree.list_expr at form es) = list_tells reported at form (each_faults [] es)
+  node_faults (tree.repeat_expr at e c) = repeat_tells reported at (part_faults e) (constant_reports c)
+  node_faults (tree.const_expr at c) = const_tells reported at (constant_reports c)
   node_faults (tree.method_call_expr at e name es generics) =
       method_call_tells reported at name (part_faults e) (each_faults [] es) (args_reports generics)
   node_faults (tree.cast_expr at e t) = cast_tells reported at (part_faults e) (type_reports None t)

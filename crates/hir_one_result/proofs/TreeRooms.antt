@@ -72,7 +72,7 @@ use Rattle.hir_lower_form.specs.Walks as walks
 use Rattle.hir_lower_form.specs.Walks.{start}
 use Rattle.hir_lower_form.specs.Paths.{proceed}
 use Rattle.hir_one_result.proofs.ExprRooms.{missing_takes, some_takes, if_takes, loop_takes, turn_takes, call_takes, continue_takes}
-use Rattle.hir_one_result.proofs.ExprRooms.{break_takes}
+use Rattle.hir_one_result.proofs.ExprRooms.{break_takes, repeat_takes, const_takes}
 use Rattle.hir_one_result.proofs.ExprRooms.{paren_takes, path_takes, operand_takes, operands_take, value_takes, list_takes}
 use Rattle.hir_one_result.proofs.ExprRooms.{method_call_takes, cast_takes, offset_of_takes, record_takes, field_takes, await_takes}
 use Rattle.hir_one_result.proofs.Giving.{tells_given, stmts_value}
@@ -283,6 +283,8 @@ mutual
   node_takes (tree.binary_expr at form a b) = operands_take at _ (part_takes a) (part_takes b)
   node_takes (tree.lazy_expr at op a b) = operands_take at _ (part_takes a) (part_takes b)
   node_takes (tree.list_expr at form es) = list_takes at form (each_takes [] es)
+  node_takes (tree.repeat_expr at e c) = repeat_takes at (part_takes e) (constant_takes c)
+  node_takes (tree.const_expr at c) = const_takes at (constant_takes c)
   node_takes (tree.method_call_expr at e name es generics) =
       method_call_takes at name (part_takes e) (each_takes [] es) (takes_of (args_tell generics))
   node_takes (tree.cast_expr at e t) = cast_takes at (part_takes e) (type_part_takes None t)

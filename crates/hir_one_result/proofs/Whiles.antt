@@ -11,7 +11,8 @@ use Rattle.hir_lower_form.specs.Lower.{ExprSteps, loop_form, turn_form}
 use Rattle.hir_steps.proofs.Frames.{Frame, loop_at, ribs}
 use Rattle.hir_steps.proofs.Steps.{Mark, with_expr}
 use Rattle.hir_one_result.specs.Leads.{OneWay, OneUnled, ◌&◌}
-use Rattle.hir_one_result.specs.Stands.{InLabel, StandsWhile}
+use Rattle.hir_one_result.specs.Stands.{InLabel}
+use Rattle.hir_one_result.specs.StandsMade.{StandsWhile}
 use Rattle.hir_one_result.proofs.Lasting.{Correct, correct_alloc, correct_as, correct_bind, correct_opened}
 use Rattle.hir_one_result.proofs.Leading.{Shown, shown_as, shown_both, shown_swap, shown_third}
 use Rattle.hir_one_result.proofs.Standing.{Of, Placed, Shows, expr_at, label_at, own_label}

@@ -171,6 +171,8 @@ abbrev mutual
   blocks_of (tree.binary_expr at form a b) = blocks_of_part a ++ blocks_of_part b
   blocks_of (tree.lazy_expr at op a b) = blocks_of_part a ++ blocks_of_part b
   blocks_of (tree.list_expr at form es) = blocks_of_each es
+  blocks_of (tree.repeat_expr at e c) = blocks_of_part e ++ blocks_of_constant c
+  blocks_of (tree.const_expr at c) = blocks_of_constant c
   blocks_of (tree.method_call_expr at e name es generics) = blocks_of_part e ++ (blocks_of_each es ++ blocks_of_args generics)
   blocks_of (tree.cast_expr at e t) = blocks_of_part e ++ blocks_of_type_part t
   blocks_of (tree.record_expr at p head fs s) =

@@ -194,6 +194,8 @@ abbrev mutual
   diagnostics ss (tree.binary_expr at form a b) = part_diagnostics ss a ++ part_diagnostics ss b
   diagnostics ss (tree.lazy_expr at op a b) = part_diagnostics ss a ++ part_diagnostics ss b
   diagnostics ss (tree.list_expr at form es) = each_diagnostics ss es
+  diagnostics ss (tree.repeat_expr at e c) = part_diagnostics ss e ++ constant_faults ss c
+  diagnostics ss (tree.const_expr at c) = constant_faults ss c
   diagnostics ss (tree.method_call_expr at e name es generics) =
       part_diagnostics ss e ++ (each_diagnostics ss es ++ args_faults ss generics)
   diagnostics ss (tree.cast_expr at e t) = part_diagnostics ss e ++ type_part_faults ss t

@@ -204,6 +204,8 @@ abbrev mutual
   size (tree.binary_expr at form a b) = size_part a ∪ size_part b ∪ an_expr
   size (tree.lazy_expr at op a b) = size_part a ∪ size_part b ∪ an_expr
   size (tree.list_expr at form es) = size_each es ∪ front_size form ∪ an_expr
+  size (tree.repeat_expr at e c) = size_part e ∪ constant_size c ∪ an_expr
+  size (tree.const_expr at c) = constant_size c ∪ an_expr
   size (tree.method_call_expr at e name es generics) = size_part e ∪ size_each es ∪ args_size generics ∪ an_expr
   size (tree.cast_expr at e t) = size_part e ∪ type_part_size t ∪ an_expr
   -- where the path is absent or refused nothing else is read

@@ -12,6 +12,7 @@ use Rattle.hir_binding.specs.Rule.{Shows}
 use Rattle.hir_syntax.specs.declared.ast.Literal.{Literal as AstLiteral}
 use Rattle.hir_store.specs.Pointers.{Pointer}
 use Rattle.hir_store.specs.Stored.{Store, SourceMap}
+use Rattle.hir_store.specs.declared.hir.Array.TheVariants as array
 use Rattle.hir_store.specs.declared.hir.Expr.{Expr as HirExpr}
 use Rattle.hir_store.specs.declared.hir.Expr.TheVariants as hir
 use Rattle.hir_store.specs.declared.hir.LoopSource.TheVariants as source
@@ -37,6 +38,7 @@ use Rattle.hir_store.specs.declared.ids.LangItemId.{LangItemId}
 use Rattle.hir_store.specs.declared.ids.HygieneId.{HygieneId}
 use Rattle.hir_store.specs.declared.ids.PatId.{PatId}
 use Rattle.hir_store.specs.declared.ids.TypeRefId.{TypeRefId}
+use Rattle.hir_store.specs.declared.type_ref.ConstRef.{ConstRef}
 use Rattle.hir_scope.specs.Ribs.{try_rib, barrier_rib, jump_number, innermost_try_rib}
 use Rattle.hir_env.specs.Answered as tree
 use Rattle.hir_env.specs.Answered.{Type_, OptionType, Parts, Path as WrittenPath, OptionPath, Segments, Segment, SegmentArgs, OptionParens}
@@ -59,10 +61,10 @@ use Rattle.hir_meaning.specs.Contents.{BlockContents}
 use Rattle.hir_one_result.specs.Forms.{leaf_form, unary_form, binary_form, lazy_form, leaving_form, item_form, no_macro, path_of_name}
 use Rattle.hir_one_result.specs.Forms.{pat_unary_form, range_fields}
 use Rattle.hir_one_result.specs.PathRoom.{Seen, nothing_seen, at_first, segments_read, own_read, yields}
-use Rattle.hir_one_result.specs.Leads.{Ways, No, OneWay, OneUnled, OneLabelWay, OneFieldWay, OnePatFieldWay, ◌&◌}
+use Rattle.hir_one_result.specs.Leads.{Ways, No, OneWay, OneUnled, OneLabelWay, OneFieldWay, OnePatFieldWay, Overtaken, ◌&◌}
 pub use Rattle.hir_one_result.specs.StandsParts.{ExprAt, LabelAt, Open, opened, Absent, There, ThereIf, ReadsAs, statement_of, SomeExpr}
-pub use Rattle.hir_one_result.specs.StandsParts.{WhereOn, Unless}
-use Rattle.hir_one_result.specs.StandsMade.{StandsFor, StandsForLoop, StandsForTurn, StandsQuestion, StandsTry, StandsTypedTry}
+pub use Rattle.hir_one_result.specs.StandsParts.{SomeConst, WhereOn, Unless}
+use Rattle.hir_one_result.specs.StandsMade.{StandsFor, StandsForLoop, StandsForTurn, StandsQuestion, StandsTry, StandsTypedTry, StandsWhile}
 pub use Rattle.hir_one_result.specs.StandsParts.{StandsBefore, WherePath, BehindFront, Names, NewName, StandsName}
 
 -- in a store
@@ -102,7 +104,7 @@ module _ (store : Store) (source_map : SourceMap) where
   abbrev pub StandsList : Pointer → Listing → (List ExprId → Ways) → ExprId → Ways
   StandsList at (tree.tuple_of false) S i = StandsOver hir.Tuple at S i
   StandsList at (tree.tuple_of true) S i = StandsOverTwo (λ elements front. hir.Tuple (front ∷ elements)) at S StandsMissing i
-  StandsList at tree.array_of S i = StandsOver hir.Array at S i
+  StandsList at tree.array_of S i = StandsOver (λ elements. hir.Array (array.ElementList elements)) at S i
 
   -- It is read as it was written. An absent or refused path is a missing expression.
   abbrev pub StandsPath : Pointer → Option PathData → HygieneId → ExprId → Ways
@@ -117,16 +119,6 @@ module _ (store : Store) (source_map : SourceMap) where
   abbrev pub InLabel : Open → Option Label → (Open → Option LabelId → Ways) → Ways
   InLabel rs None S = S rs None
   InLabel rs (Some l) S = λ ws. (n : LabelId) × LabelAt store source_map n l × (OneLabelWay l.pointer n & S (opened l n rs) (Some n)) ws
-
-  -- The turn of a `while` is its body where the condition holds, else a break. It, the break and the loop came from the node of the
-  -- `while`, which leads to the loop alone.
-  abbrev pub StandsWhile : Pointer → Option LabelId → (ExprId → Ways) → (ExprId → Ways) → ExprId → Ways
-  StandsWhile at n C B i = λ ws.
-      (condition : ExprId) × (body : ExprId) × (out : ExprId) × (turn : ExprId)
-      × ExprAt store source_map i (hir.Loop turn n source.While) (Some at)
-      × ExprAt store source_map turn (hir.If condition body (Some out)) (Some at)
-      × ExprAt store source_map out (hir.Break None None) (Some at)
-      × (C condition & B body & OneUnled out & OneUnled turn & OneWay at i) ws
 
   -- an item of the language comes from no node
   abbrev pub StandsItem : Option LangItemId → ExprId → Ways
@@ -203,7 +195,7 @@ module _ (store : Store) (source_map : SourceMap) where
     TypeWays rs (tree.leaf_type at form) = No
     TypeWays rs (tree.over_type at form t) = TypePartWays rs t
     -- its length first
-    TypeWays rs (tree.array_type at c t) = ConstantWays rs c & TypePartWays rs t
+    TypeWays rs (tree.array_type at c t) = SomeConst (λ n. StandsConstant rs c n) & TypePartWays rs t
     TypeWays rs (tree.tuple_type at ts) = PartsWays rs ts
     TypeWays rs (tree.path_type at p) = WholeWays rs p
     TypeWays rs (tree.ref_type at l mutability t) = TypePartWays rs t
@@ -275,7 +267,7 @@ module _ (store : Store) (source_map : SourceMap) where
     ArgWays rs tree.skipped_arg = No
     ArgWays rs (tree.type_arg t) = TypePartWays rs t
     ArgWays rs (tree.lifetime_arg l) = No
-    ArgWays rs (tree.const_arg c) = ConstantWays rs c
+    ArgWays rs (tree.const_arg c) = SomeConst (λ n. StandsConstant rs c n)
     ArgWays rs (tree.assoc_arg n as' dots t bs) = ArgsWays rs as' & (PresentTypeWays rs t & BoundsWays rs bs)
 
     pub BoundsWays : Open → Bounds → Ways
@@ -289,8 +281,8 @@ module _ (store : Store) (source_map : SourceMap) where
     BoundWays rs (tree.use_bound us) = No
 
     -- no jump in it reaches what is open around it
-    pub ConstantWays : Open → Constant → Ways
-    ConstantWays rs (tree.constant e) = λ ws. (i : ExprId) × StandsPart (barrier_rib ∷ rs) e i ws
+    pub StandsConstant : Open → Constant → ConstRef → Ways
+    StandsConstant rs (tree.constant e) n = StandsPart (barrier_rib ∷ rs) e n.expr
 
     pub TypePatWays : Open → TypePat → Ways
     TypePatWays rs (tree.not_null_type_pat at) = No
@@ -338,7 +330,7 @@ module _ (store : Store) (source_map : SourceMap) where
         × (StandsBlockPart inner b body & OneWay at i) ws)
     -- its condition lies under its label, too
     Stands rs (tree.while_expr at label _ c b) i =
-        InLabel rs label (λ inner n. StandsWhile at n (λ x. StandsPart inner c x) (λ x. StandsBlockPart inner b x) i)
+        InLabel rs label (λ inner n. StandsWhile store source_map at n (λ x. StandsPart inner c x) (λ x. StandsBlockPart inner b x) i)
     -- its head and its pattern lie outside of its label
     Stands rs (tree.for_expr at items label _ p h b) i =
         StandsFor store source_map at (head_pointer at h) items (λ x. StandsPart rs h x)
@@ -370,6 +362,10 @@ module _ (store : Store) (source_map : SourceMap) where
     Stands rs (tree.binary_expr at form a b) i = StandsOverTwo (binary_form form) at (λ x. StandsPart rs a x) (λ y. StandsPart rs b y) i
     Stands rs (tree.lazy_expr at op a b) i = StandsOverTwo (lazy_form op) at (λ x. StandsPart rs a x) (λ y. StandsPart rs b y) i
     Stands rs (tree.list_expr at form es) i = StandsList at form (λ is. StandsEach rs es is) i
+    Stands rs (tree.repeat_expr at e c) i =
+        StandsOverTwo (λ x n. hir.Array (array.Repeat x n)) at (λ x. StandsPart rs e x) (λ n. StandsConstant rs c n) i
+    -- the block in it came from the same node, which leads to the const block alone
+    Stands rs (tree.const_expr at c) i = StandsOver hir.Const at (λ n. Overtaken at (StandsConstant rs c n)) i
     Stands rs (tree.method_call_expr at e name es generics) i =
         StandsOverThree (λ receiver arguments g. hir.MethodCall receiver name g arguments) at
         (λ x. StandsPart rs e x) (λ is. StandsEach rs es is)
@@ -580,6 +576,10 @@ module _ (store : Store) (source_map : SourceMap) where
     StandsTargetFields rs (tree.more_target_fields f fs) is = StandsTargetFields rs fs is
 
   -- ---- whole ones
+
+  -- a constant, whatever its number
+  abbrev pub ConstantWays : Open → Constant → Ways
+  ConstantWays rs c = SomeConst (λ n. StandsConstant rs c n)
 
   -- an end of a range in a type, which is a body of its own
   abbrev pub LimitWays : Open → Limit → Ways

@@ -1,6 +1,6 @@
--- What stands for `for`, `?` and `try`. All that lowering makes up for one came from its node, but what makes an iterator of the head of a
--- `for` from the head's, and patterns from none. The node leads to the outermost alone, but that of a `try` with a written type to the
--- block in front of which its `let` stands.
+-- What stands for `while`, `for`, `?` and `try`. All that lowering makes up for one came from its node, but what makes an iterator of the
+-- head of a `for` from the head's, and patterns from none. The node leads to the outermost alone, but that of a `try` with a written type
+-- to the block in front of which its `let` stands.
 use Rattle.std.specs.Prelude.{◌≡◌, ℕ, Bool, false, List, [], ◌∷◌, Option, Some, None, slice_get}
 use Rattle.hir_binding.specs.declared.binding.BindingAnnotation.{BindingAnnotation}
 use Rattle.hir_binding.specs.declared.binding.BindingAnnotation.TheVariants.{Mutable, Unannotated}
@@ -8,7 +8,7 @@ use Rattle.hir_store.specs.Pointers.{Pointer}
 use Rattle.hir_store.specs.Stored.{Store, SourceMap}
 use Rattle.hir_store.specs.declared.hir.Expr.{Expr as HirExpr}
 use Rattle.hir_store.specs.declared.hir.Expr.TheVariants as hir
-use Rattle.hir_store.specs.declared.hir.LoopSource.TheVariants.{ForLoop}
+use Rattle.hir_store.specs.declared.hir.LoopSource.TheVariants.{ForLoop, While}
 use Rattle.hir_store.specs.declared.hir.MatchArm.{MatchArm}
 use Rattle.hir_store.specs.declared.hir.Mutability.TheVariants.{Mut}
 use Rattle.hir_store.specs.declared.hir.Rawness.TheVariants.{Ref}
@@ -55,6 +55,18 @@ module _ (store : Store) (source_map : SourceMap) where
   abbrev pub StandsItemCall : Pointer → Option LangItemId → ExprId → ExprId → Ways
   StandsItemCall at item argument i = λ ws. (callee : ExprId)
       × (StandsMade (item_form item) at callee & StandsMade (hir.Call callee (argument ∷ [])) at i) ws
+
+  -- ---- `while`
+
+  -- The turn of a `while` is its body where the condition holds, else a break. It, the break and the loop came from the node of the
+  -- `while`, which leads to the loop alone.
+  abbrev pub StandsWhile : Pointer → Option LabelId → (ExprId → Ways) → (ExprId → Ways) → ExprId → Ways
+  StandsWhile at n C B i = λ ws.
+      (condition : ExprId) × (body : ExprId) × (out : ExprId) × (turn : ExprId)
+      × ExprAt store source_map i (hir.Loop turn n While) (Some at)
+      × ExprAt store source_map turn (hir.If condition body (Some out)) (Some at)
+      × ExprAt store source_map out (hir.Break None None) (Some at)
+      × (C condition & B body & OneUnled out & OneUnled turn & OneWay at i) ws
 
   -- ---- `?`
 

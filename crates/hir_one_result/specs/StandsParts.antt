@@ -10,6 +10,7 @@ use Rattle.hir_store.specs.declared.ids.BindingId.{BindingId}
 use Rattle.hir_store.specs.declared.ids.ExprId.{ExprId}
 use Rattle.hir_store.specs.declared.ids.LabelId.{LabelId}
 use Rattle.hir_store.specs.declared.ids.PatId.{PatId}
+use Rattle.hir_store.specs.declared.type_ref.ConstRef.{ConstRef}
 use Rattle.hir_scope.specs.Ribs.{Rib, label_rib}
 use Rattle.hir_env.specs.Answered.{Label, Use}
 use Rattle.hir_data.specs.Data.{PathData}
@@ -58,6 +59,10 @@ statement_of semi o = option_map (λ id. statement.Expr id semi) o
 -- of some expression, whatever its number
 abbrev pub SomeExpr : (ExprId → Ways) → Ways
 SomeExpr S = λ ws. (i : ExprId) × S i ws
+
+-- of some constant
+abbrev pub SomeConst : (ConstRef → Ways) → Ways
+SomeConst S = λ ws. (n : ConstRef) × S n ws
 
 -- what stands before is read where the reading goes on
 abbrev pub WhereOn : Read → (Seen → Ways) → Ways

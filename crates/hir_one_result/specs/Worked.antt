@@ -6,6 +6,7 @@ use Rattle.hir_store.specs.Stored.{Store, SourceMap}
 use Rattle.hir_store.specs.declared.diagnostics.ExpressionStoreDiagnostics.TheVariants.{AwaitOutsideOfAsync, InactiveCode}
 use Rattle.hir_store.specs.declared.diagnostics.ExpressionStoreDiagnostics.TheVariants.{UndeclaredLabel, UnreachableLabel}
 use Rattle.hir_store.specs.declared.diagnostics.AwaitLocation.{AwaitLocation}
+use Rattle.hir_store.specs.declared.hir.Array.TheVariants as array
 use Rattle.hir_store.specs.declared.hir.Expr.{Expr as HirExpr}
 use Rattle.hir_store.specs.declared.hir.Expr.TheVariants as hir
 use Rattle.hir_store.specs.declared.hir.LoopSource.TheVariants.{ForLoop}
@@ -35,7 +36,7 @@ use Rattle.hir_meaning.specs.Small.{at, root, one, two, literal_at, label_with, 
 use Rattle.hir_meaning.specs.Small.{stored_one, stored_two, none_beside}
 pub use Rattle.hir_meaning.specs.Turns.{other}
 use Rattle.hir_meaning.specs.Forms.{plus}
-use Rattle.hir_one_result.specs.Leads.{Way, expr_way, binding_way}
+use Rattle.hir_one_result.specs.Leads.{Way, expr_way, unled_way, binding_way}
 use Rattle.hir_one_result.specs.Stands.{Open, opened, Stands, StandsTop}
 use Rattle.hir_one_result.specs.Diagnostics.{diagnostics}
 use Rattle.hir_one_result.specs.Blocks.{blocks_of}
@@ -344,3 +345,36 @@ pub record Fors : Type 0 where
   pub undeclared : (items : ForItems) → diagnostics [] (for_over items (tree.some_expr break_a) (literal_part 1))
       ≡ UndeclaredLabel jump_a.pointer jump_a.name ∷ []
   pub head_first : (items : ForItems) → blocks_of (for_over items (just 2) (just 3)) ≡ block_id 2 ∷ block_id 3 ∷ []
+
+-- repeat arrays and const blocks
+
+-- `[1; break 'a]`
+abbrev pub repeat_break : Expr
+repeat_break = tree.repeat_expr (at 5) (literal_part 1) (tree.constant (tree.some_expr break_a))
+
+-- `const { 1 }`
+abbrev pub const_one : Expr
+const_one = tree.const_expr (at 0) (tree.constant (tree.some_expr (tree.block_expr (in_braces 0 None (literal_at 1 one)))))
+
+-- what is repeated, and the length
+abbrev pub repeat_array : ExprId → ExprId → HirExpr
+repeat_array x n = hir.Array (array.Repeat x (record { expr = n }))
+
+-- Its node leads to it, and no node to the block in it.
+pub record IsConst (store : Store) (i : ExprId) (ws : List Way) : Type 0 where
+  pub block : ExprId
+  pub value : ExprId
+  pub whole : slice_get store.exprs i.0 ≡ Some (hir.Const (record { expr = block }))
+  pub inner : slice_get store.exprs block.0 ≡ Some (hir.Block false None None [] (Some value))
+  pub is_one : slice_get store.exprs value.0 ≡ Some stored_one
+  pub ways : ws ≡ expr_way (at 1) value ∷ unled_way block ∷ expr_way (at 0) i ∷ []
+
+pub record Consts : Type 0 where
+  -- a label that is open around the array isn't in its length, and that is told
+  pub repeats : (outer : LabelId) (store : Store) (source_map : SourceMap) (i : ExprId) (ws : List Way)
+      → Stands store source_map (opened label_a outer []) repeat_break i ws
+      → StoredWith repeat_array stored_one (hir.Break None None) store i
+  pub unreachable : diagnostics (loop_scope (Some label_a) ∷ []) repeat_break ≡ UnreachableLabel jump_a.pointer jump_a.name ∷ []
+  pub is_const : (store : Store) (source_map : SourceMap) (i : ExprId) (ws : List Way) → Stands store source_map [] const_one i ws
+      → IsConst store i ws
+  pub length_last : blocks_of (tree.repeat_expr (at 0) (just 2) (tree.constant (just 3))) ≡ block_id 2 ∷ block_id 3 ∷ []

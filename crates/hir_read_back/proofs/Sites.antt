@@ -16,6 +16,7 @@ use Rattle.hir_store.specs.declared.ids.TypeRefId.{TypeRefId}
 use Rattle.hir_store.specs.declared.name.Name.{Name}
 use Rattle.hir_store.specs.declared.path.GenericArgs.{GenericArgs}
 use Rattle.hir_store.specs.declared.path.Path.{Path as HirPath}
+use Rattle.hir_store.specs.declared.type_ref.ConstRef.{ConstRef}
 use Rattle.hir_store.specs.declared.diagnostics.AwaitLocation.{AwaitLocation}
 use Rattle.hir_env.specs.Answered as tree
 use Rattle.hir_env.specs.Answered.{ForItems, Jump, Label, Listing, QuestionItems, RangeForm}
@@ -27,7 +28,7 @@ use Rattle.hir_lower_form.specs.Types.{TypeSteps}
 use Rattle.hir_lower_form.specs.Forms.{ExprSteps, StoredContents, StoredFields, missing, if_form, loop_form, call_form, continue_form}
 use Rattle.hir_lower_form.specs.Forms.{break_form, paren_form, path_form, operand_form, operands_form, value_form, list_form}
 use Rattle.hir_lower_form.specs.Forms.{method_call_form, await_form, cast_form, offset_of_form, record_of, record_form, block_form}
-use Rattle.hir_lower_form.specs.Forms.{labelled, constant_form, let_form, match_form, assign_form, settled}
+use Rattle.hir_lower_form.specs.Forms.{labelled, constant_form, let_form, match_form, assign_form, settled, repeat_form, const_form}
 use Rattle.hir_lower_form.specs.Ranges.{made_range, range_form}
 use Rattle.hir_steps.proofs.Frames.{Frame, loop_at, block_at}
 use Rattle.hir_steps.proofs.Steps.{Mark, Rel, Correct, correct_bind, correct_as, correct_pure, correct_alloc, correct_point}
@@ -122,6 +123,14 @@ module _ (at : Pointer) where
   list_from (tree.tuple_of false) h = ends_from h (λ is. stored_from _)
   list_from (tree.tuple_of true) h = ends_from h (λ is. ends_from missing_from (λ i. stored_from _))
   list_from tree.array_of h = ends_from h (λ is. stored_from _)
+
+  pub repeat_from : {e : ExprSteps} {c : Lowering ConstRef} → Correct e Any → Correct c Any → From here (repeat_form at e c)
+  unfolding repeat_form
+  repeat_from he hc = ends_from he (λ i. ends_from hc (λ c. stored_from _))
+
+  pub const_from : {c : Lowering ConstRef} → Correct c Any → From here (const_form at c)
+  unfolding const_form
+  const_from h = ends_from h (λ c. stored_from _)
 
   pub method_call_from : {e : ExprSteps} (name : Name) {xs : Lowering (List ExprId)} {as' : Lowering (Option GenericArgs)}
       → Correct e Any → Correct xs Any → Correct as' Any → From here (method_call_form at e name xs as')

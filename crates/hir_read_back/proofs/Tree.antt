@@ -25,7 +25,7 @@ use Rattle.hir_lower_form.specs.Lower as lower
 use Rattle.hir_steps.proofs.Steps.{Correct, correct_report}
 use Rattle.hir_steps.proofs.Keeping.{part_any, present_any, each_any, block_part_any, contents_part_any, contents_any, fields_any}
 use Rattle.hir_steps.proofs.Keeping.{any, turn_any, spread_any, one_type_any, type_any, lower_path_any, args_any, top_any, arms_any}
-use Rattle.hir_steps.proofs.Keeping.{for_loop_any, target_any}
+use Rattle.hir_steps.proofs.Keeping.{for_loop_any, target_any, constant_any}
 use Rattle.hir_data.specs.Data as datum
 use Rattle.hir_data.specs.Data.{TypesData, no_args}
 use Rattle.hir_data.specs.Rule.{broken, named}
@@ -255,6 +255,8 @@ mutual
   expr_from (tree.binary_expr at form a b) = sites.operands_from at _ (part_any a) (part_any b)
   expr_from (tree.lazy_expr at op a b) = sites.operands_from at _ (part_any a) (part_any b)
   expr_from (tree.list_expr at form es) = sites.list_from at form (each_any [] es)
+  expr_from (tree.repeat_expr at e c) = sites.repeat_from at (part_any e) (constant_any c)
+  expr_from (tree.const_expr at c) = sites.const_from at (constant_any c)
   expr_from (tree.method_call_expr at e name es as') =
       sites.method_call_from at name (part_any e) (each_any [] es) (args_any as')
   expr_from (tree.leaving_expr at form e) = sites.value_from at _ (present_any e)

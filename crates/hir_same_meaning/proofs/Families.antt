@@ -4,10 +4,12 @@ use Rattle.hir_base.specs.declared.op.LogicOp.{LogicOp}
 use Rattle.hir_base.specs.declared.op.BinaryOp.TheVariants as ast
 use Rattle.hir_base.specs.declared.op.UnaryOp.{UnaryOp}
 use Rattle.hir_store.specs.Pointers.{Pointer}
+use Rattle.hir_store.specs.declared.hir.Array.TheVariants as hir_array
 use Rattle.hir_store.specs.declared.hir.Expr.{Expr as HirExpr}
 use Rattle.hir_store.specs.declared.hir.Expr.TheVariants as hir
 use Rattle.hir_store.specs.declared.hir.Mutability.{Mutability}
 use Rattle.hir_store.specs.declared.hir.Rawness.{Rawness}
+use Rattle.hir_store.specs.declared.type_ref.ConstRef.{ConstRef}
 use Rattle.hir_store.specs.declared.name.Name.{Name}
 use Rattle.hir_store.specs.declared.ids.ExprId.{ExprId}
 use Rattle.hir_store.specs.declared.diagnostics.AwaitLocation.{AwaitLocation}
@@ -17,9 +19,9 @@ use Rattle.hir_env.specs.NodeMap.{Site}
 use Rattle.hir_env.specs.Answering.{site_of}
 use Rattle.hir_lower_form.specs.Lowering.{Lowering, alloc_expr}
 use Rattle.hir_lower_form.specs.Lower.{ExprSteps, stored_leaf, stored_unary, stored_binary, stored_lazy, stored_leaving}
-use Rattle.hir_lower_form.specs.Lower.{operand_form, operands_form, value_form, list_form, await_form}
-use Rattle.hir_meaning.specs.Run.{Value, Operation, field, prefix, reference, array, yielding, awaiting, leave}
-use Rattle.hir_meaning.specs.Run.{became, missing, ends, ◌>>=◌, ask}
+use Rattle.hir_lower_form.specs.Lower.{operand_form, operands_form, value_form, list_form, await_form, repeat_form, const_form}
+use Rattle.hir_meaning.specs.Run.{Value, Operation, field, prefix, reference, array, repeated, const_block, yielding}
+use Rattle.hir_meaning.specs.Run.{awaiting, leave, became, missing, ends, ◌>>=◌, ask}
 use Rattle.hir_meaning.specs.Syntax.{run_leaf, unary_operation, run_binary, run_lazy, run_list, leaves_with}
 use Rattle.hir_steps.proofs.Steps.{Rel, Correct, correct_bind, correct_both, correct_as, correct_alloc, correct_report_await}
 use Rattle.hir_same_meaning.proofs.Named.{Unnamed}
@@ -54,8 +56,11 @@ await_is = record { runs = λ w a. refl; jumps = λ s P ls a h. h }
 tuple_is : Form1 hir.Tuple many makes_tuple
 tuple_is = record { runs = λ w a. refl; jumps = λ s P ls a h. h }
 
-array_is : Form1 hir.Array many (asks array (λ vs. vs))
+array_is : Form1 (λ es. hir.Array (hir_array.ElementList es)) many (asks array (λ vs. vs))
 array_is = record { runs = λ w a. refl; jumps = λ s P ls a h. h }
+
+repeat_is : (c : ConstRef) → Form1 (λ e. hir.Array (hir_array.Repeat e c)) one (asks repeated (λ v. v ∷ []))
+repeat_is c = record { runs = λ w a. refl; jumps = λ s P ls a h. h }
 
 -- forms
 
@@ -134,6 +139,21 @@ module _ (at : Pointer) where
       (λ final ps m m' i g row. let r = row.second in
       Nodes.goes_front_missing (goes_within (omega arith) r.first) (goes_within (omega arith) row.first) r.second)
   list_fine tree.array_of h = form1_fine at array_is h
+
+  -- the length has no part in the run, nor has what is in a const block
+
+  pub repeat_fine : {p : ExprSteps} {n : Lowering ConstRef} {R : Rel ConstRef} {x : Walk Value} → Correct p (Runs one x) → Correct n R
+      → Correct (repeat_form at p n) (Runs one (finished at x (asks repeated (λ v. v ∷ []))))
+  unfolding repeat_form
+  repeat_fine h k = correct_as
+      (correct_bind h (λ e. correct_bind k (λ c. correct_alloc (hir.Array (hir_array.Repeat e c)) (Some at))))
+      (λ final ps m m' i g row. let r = row.second in goes1 (repeat_is r.one) (goes_within (omega arith) row.first) r.second)
+
+  pub const_fine : {n : Lowering ConstRef} {R : Rel ConstRef} → Correct n R
+      → Correct (const_form at n) (Runs one (λ turns ss. ask const_block [] here))
+  unfolding const_form
+  const_fine h = correct_as (correct_bind h (λ c. correct_alloc (hir.Const c) (Some at)))
+      (λ final ps m m' i g row. goes_at row.second (λ turns d le f. same_ask const_block [] here) (λ d le. tt))
 
   pub await_fine : (location : Option AwaitLocation) {p : ExprSteps} {x : Walk Value} → Correct p (Runs one x)
       → Correct (await_form at location p) (Runs one (finished at x (asks awaiting (λ v. v ∷ []))))

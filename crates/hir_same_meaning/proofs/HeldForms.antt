@@ -5,6 +5,7 @@ use Rattle.hir_store.specs.Pointers.{Pointer}
 use Rattle.hir_store.specs.Stored.{Stored}
 use Rattle.hir_store.specs.declared.diagnostics.AwaitLocation.{AwaitLocation}
 use Rattle.hir_store.specs.declared.diagnostics.ExpressionStoreDiagnostics.TheVariants.{InactiveCode}
+use Rattle.hir_store.specs.declared.hir.Array.TheVariants as array
 use Rattle.hir_store.specs.declared.hir.Expr.{Expr as HirExpr}
 use Rattle.hir_store.specs.declared.hir.Expr.TheVariants as hir
 use Rattle.hir_store.specs.declared.hir.LoopSource.{LoopSource}
@@ -19,6 +20,7 @@ use Rattle.hir_store.specs.declared.ids.LabelId.{LabelId}
 use Rattle.hir_store.specs.declared.name.Name.{Name}
 use Rattle.hir_store.specs.declared.path.GenericArgs.{GenericArgs}
 use Rattle.hir_store.specs.declared.path.Path.{Path as HirPath}
+use Rattle.hir_store.specs.declared.type_ref.ConstRef.{ConstRef}
 use Rattle.hir_env.specs.Answered as tree
 use Rattle.hir_env.specs.Answered.{Leaf, Unary, Binary, Listing, Leaving, Label, Jump, Expr}
 use Rattle.hir_data.specs.Rule.{PathRead}
@@ -28,6 +30,7 @@ use Rattle.hir_lower_form.specs.Lower.{ExprSteps, StoredContents, StoredFields, 
 use Rattle.hir_lower_form.specs.Lower.{turn_form, continue_form, break_form, operand_form, operands_form, value_form, list_form}
 use Rattle.hir_lower_form.specs.Lower.{method_call_form, await_form, paren_form, path_form, path_or_missing, cast_form}
 use Rattle.hir_lower_form.specs.Lower.{offset_of_form, record_contents, record_of, record_form, field_form, block_form, labelled}
+use Rattle.hir_lower_form.specs.Lower.{repeat_form, const_form}
 use Rattle.hir_lower_form.specs.Lower.{stored_leaf, stored_unary, stored_binary, stored_leaving, settled, settled_block, kept}
 use Rattle.hir_meaning.specs.Inner.{Bodies, Inners, all_of, of_present, of_path, of_list, of_field, of_others, of_statement, of_expr}
 use Rattle.hir_meaning.specs.Inner.{if_read, expr_bodies}
@@ -40,7 +43,7 @@ use Rattle.hir_steps.proofs.Steps.{correct_report, correct_report_await, correct
 use Rattle.hir_steps.proofs.Steps.{correct_opened, correct_target}
 use Rattle.hir_same_meaning.proofs.Holding.{SameIn, inners_in, same_append, same_ids, same_bodies, Ids, an_expr, a_type, each, maybe, Holds}
 use Rattle.hir_same_meaning.proofs.Holding.{holds_none, holds_one, holds_two, holds_behind, expr_held, expr0, expr1, expr2}
-use Rattle.hir_same_meaning.proofs.HeldTypes.{a_path, some_args}
+use Rattle.hir_same_meaning.proofs.HeldTypes.{a_constant, a_path, some_args}
 
 -- ---- what is kept, and lists of it
 
@@ -182,7 +185,11 @@ module _ (at : Pointer) {es : Bodies} where
       (λ final ps m m' i g row. let s = row.second in expr_held s.second s.after (λ d le. let r = inners_in final d in
       same_append final (r.expr s.one) (all_of r.expr row.one) [] es (s.first.same d le)
       (row.first.same d (omega (le, s.before.nodes, s.before.entries, arith)))))
-  list_held tree.array_of h = expr1 (Some at) hir.Array (λ r is. refl) h
+  list_held tree.array_of h = expr1 (Some at) (λ is. hir.Array (array.ElementList is)) (λ r is. refl) h
+
+  pub const_held : {n : Lowering ConstRef} → Correct n (Holds a_constant es) → Correct (const_form at n) (Holds an_expr es)
+  unfolding const_form
+  const_held h = expr1 (Some at) hir.Const (λ r c. refl) h
 
   pub await_held : (l : Option AwaitLocation) {p : ExprSteps} → Correct p (Holds an_expr es)
       → Correct (await_form at l p) (Holds an_expr es)
@@ -268,6 +275,12 @@ module _ (at : Pointer) {es : Bodies} where
         → Correct (cast_form at p t) (Holds an_expr (es ++ fs))
     unfolding cast_form
     cast_held hp ht = expr2 (Some at) hir.Cast (λ r e t. refl) hp ht
+
+    -- the length stands behind what is repeated
+    pub repeat_held : {p : ExprSteps} {n : Lowering ConstRef} → Correct p (Holds an_expr es) → Correct n (Holds a_constant fs)
+        → Correct (repeat_form at p n) (Holds an_expr (es ++ fs))
+    unfolding repeat_form
+    repeat_held hp hn = expr2 (Some at) (λ e c. hir.Array (array.Repeat e c)) (λ r e c. refl) hp hn
 
     -- it is read where its path is
     pub record_held : (y : Option PathRead) {p : Lowering (Option HirPath)} {c : Lowering StoredFields} → Correct p (PathIs y)

@@ -223,6 +223,8 @@ mutual
   expr_holds (tree.binary_expr at form a b) = forms.binary_held at form (body_holds a) (body_holds b)
   expr_holds (tree.lazy_expr at op a b) = forms.both_held at (lower.stored_lazy op) (λ r i j. refl) (body_holds a) (body_holds b)
   expr_holds (tree.list_expr at form es) = forms.list_held at form (pushed_all (each_holds es []))
+  expr_holds (tree.repeat_expr at e c) = forms.repeat_held at (body_holds e) (constant_holds c)
+  expr_holds (tree.const_expr at c) = forms.const_held at (constant_holds c)
   expr_holds (tree.method_call_expr at e name es generics) =
       forms.method_call_held at name (body_holds e) (list_holds generics) (pushed_all (each_holds es []))
   expr_holds (tree.cast_expr at e t) = forms.cast_held at (body_holds e) (part_holds None t)

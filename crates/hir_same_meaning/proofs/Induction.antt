@@ -23,6 +23,7 @@ use Rattle.hir_meaning.specs.Syntax.{run_expr, run_block_part, run_or_unit, run_
 use Rattle.hir_meaning.specs.Syntax.{run_present, run_arms, run_places, run_each_place, run_field_places}
 use Rattle.hir_data.specs.Written.{path_of}
 use Rattle.hir_read_back.proofs.Tree.{path_reads}
+use Rattle.hir_steps.proofs.Keeping.{constant_any}
 use Rattle.hir_steps.proofs.Steps.{Correct, correct_bind, correct_as, correct_pure, correct_report}
 use Rattle.hir_steps.proofs.TypeAny.{any}
 use Rattle.hir_same_meaning.proofs.Senses.{base_of}
@@ -67,6 +68,8 @@ mutual
   expr_fine (tree.binary_expr at form a b) = Families.binary_fine at form (part_fine a) (part_fine b)
   expr_fine (tree.lazy_expr at op a b) = Families.lazy_fine at op (part_fine a) (part_fine b)
   expr_fine (tree.list_expr at form es) = Families.list_fine at form (Forms.pushed_all (each_fine es []))
+  expr_fine (tree.repeat_expr at e c) = Families.repeat_fine at (part_fine e) (constant_any c)
+  expr_fine (tree.const_expr at c) = Families.const_fine at (constant_any c)
   expr_fine (tree.method_call_expr at e name es generics) =
       Typed.method_call_fine at name generics (part_fine e) (Forms.pushed_all (each_fine es []))
   expr_fine (tree.cast_expr at e t) = Typed.cast_fine at t (part_fine e)

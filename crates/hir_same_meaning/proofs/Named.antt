@@ -22,7 +22,7 @@ use Rattle.hir_lower_form.specs.Lower as lower
 use Rattle.hir_lower_form.specs.Made.{for_form, for_turn_form, made_loop_form, question_form, try_block_form, typed_try_form}
 use Rattle.hir_lower_form.specs.Forms.{ExprSteps, StoredContents, StoredFields, missing, if_form, loop_form, call_form, continue_form}
 use Rattle.hir_lower_form.specs.Forms.{break_form, paren_form, path_form, path_or_missing, operand_form, operands_form, value_form}
-use Rattle.hir_lower_form.specs.Forms.{list_form}
+use Rattle.hir_lower_form.specs.Forms.{list_form, repeat_form, const_form}
 use Rattle.hir_lower_form.specs.Forms.{method_call_form, await_form, cast_form, offset_of_form, record_of, record_form, block_form}
 use Rattle.hir_lower_form.specs.Forms.{labelled, let_form, match_form, assign_form, settled, stored_binary, stored_leaf}
 use Rattle.hir_lower_form.specs.Forms.{stored_leaving, stored_unary}
@@ -35,7 +35,7 @@ use Rattle.hir_steps.proofs.Steps.{correct_enter_block, correct_opened, correct_
 use Rattle.hir_steps.proofs.ApartForms.{flow_arm_apart, item_call_apart, made_path_apart, residual_apart, wrapped_apart}
 use Rattle.hir_steps.proofs.Keeping.{Any, any, args_any, arms_any, block_part_any, contents_any, contents_part_any, each_any, fields_any}
 use Rattle.hir_steps.proofs.Keeping.{for_loop_any, lower_path_any, one_type_any, part_any, present_any, spread_any, target_any, top_any}
-use Rattle.hir_steps.proofs.Keeping.{turn_any, type_any}
+use Rattle.hir_steps.proofs.Keeping.{turn_any, type_any, constant_any}
 use Rattle.hir_steps.proofs.MadeSteps.{correct_alloc_made, correct_made_bind, correct_made_number, correct_opened_try}
 
 -- what stands at this number is no made name
@@ -180,7 +180,7 @@ block_unnamed (tree.block at is_unsafe (Some l) _ number ss e) =
 
 mutual
   unfolding if_form call_form continue_form break_form method_call_form await_form cast_form offset_of_form record_form let_form
-      match_form assign_form range_form
+      match_form assign_form range_form repeat_form const_form
 
   pub part_unnamed : (e : OptionExpr) → Correct (lower.lower_part e) Unnamed
   part_unnamed tree.no_expr = missing_unnamed
@@ -215,6 +215,9 @@ mutual
   expr_unnamed (tree.binary_expr at form a b) = operands_unnamed at _ (binary_none form) (part_any a) (part_any b)
   expr_unnamed (tree.lazy_expr at op a b) = operands_unnamed at _ (λ i j final. refl) (part_any a) (part_any b)
   expr_unnamed (tree.list_expr at form es) = list_unnamed at form (each_any [] es)
+  expr_unnamed (tree.repeat_expr at e c) =
+      ends_unnamed (part_any e) (λ i. ends_unnamed (constant_any c) (λ n. stored_unnamed _ (Some at) (λ final. refl)))
+  expr_unnamed (tree.const_expr at c) = ends_unnamed (constant_any c) (λ n. stored_unnamed _ (Some at) (λ final. refl))
   expr_unnamed (tree.method_call_expr at e name es as') = ends_unnamed (part_any e) (λ i. ends_unnamed (each_any [] es)
       (λ is. ends_unnamed (args_any as') (λ g. stored_unnamed _ (Some at) (λ final. refl))))
   expr_unnamed (tree.leaving_expr at form e) = value_unnamed at _ (leaving_none form) (present_any e)

@@ -4,6 +4,7 @@ use Rattle.std.proofs.Common.{◌≡◌, ℕ, zero, suc, ◌≤◌, inl, inr, Bo
 use Rattle.std.proofs.Common.{append_assoc, Option, Some, None, option_map, refl, sym, ap, subst, ◌∙◌, arith}
 use Rattle.hir_store.specs.Pointers.{Pointer}
 use Rattle.hir_store.specs.Stored.{Stored, Store, store_of}
+use Rattle.hir_store.specs.declared.hir.Array.TheVariants as array
 use Rattle.hir_store.specs.declared.hir.Expr.{Expr as HirExpr}
 use Rattle.hir_store.specs.declared.hir.Expr.TheVariants as hir
 use Rattle.hir_store.specs.declared.hir.LoopSource.{LoopSource}
@@ -11,6 +12,7 @@ use Rattle.hir_store.specs.declared.hir.Statement.{Statement}
 use Rattle.hir_store.specs.declared.hir.Statement.TheVariants as statement
 use Rattle.hir_store.specs.declared.name.Name.{Name}
 use Rattle.hir_store.specs.declared.path.Path.{Path}
+use Rattle.hir_store.specs.declared.type_ref.ConstRef.{ConstRef}
 use Rattle.hir_store.specs.declared.hir.RecordLitField.{RecordLitField}
 use Rattle.hir_store.specs.declared.hir.RecordSpread.{RecordSpread}
 use Rattle.hir_store.specs.declared.ids.ExprId.{ExprId}
@@ -33,6 +35,7 @@ use Rattle.hir_lower_form.specs.Lower.{StoredFields, type_part, args_part, cast_
 use Rattle.hir_lower_form.specs.Lower.{record_form, field_form}
 use Rattle.hir_lower_form.specs.Lower.{stored_leaf, stored_unary, stored_binary, stored_leaving}
 use Rattle.hir_lower_form.specs.Lower.{operand_form, operands_form, value_form, list_form, method_call_form, await_form}
+use Rattle.hir_lower_form.specs.Lower.{repeat_form, const_form}
 use Rattle.hir_same_meaning.specs.Reached.{of_some, of_each, of_fields, of_others, of_statement, of_statements, below, reached_to, Spread}
 use Rattle.hir_steps.proofs.Frames.{Frame, loop_at, block_at}
 use Rattle.hir_steps.proofs.Steps.{Mark, Grows, Put, Rel, Correct, AllocatedBy, correct_bind, correct_as, correct_pure}
@@ -170,7 +173,22 @@ module _ (at : Pointer) where
       (λ final ps m m' i g row. let r = row.second in
       owns_at m r.second (omega arith) (λ d le. spread_append m.nodes r.middle.nodes (inr (omega arith)) (omega arith)
       (r.first.spread d le) (row.first.spread d (omega arith))))
-  list_owns tree.array_of h = owns1 hir.Array (Some at) (λ f s es. refl) h
+  list_owns tree.array_of h = owns1 (λ es. hir.Array (array.ElementList es)) (Some at) (λ f s es. refl) h
+
+  -- the length is reached by nothing that runs, and neither is what is in a const block
+
+  pub repeat_owns : {p : ExprSteps} {n : Lowering ConstRef} {R : Rel ConstRef} → Correct p Owns → Correct n R
+      → Correct (repeat_form at p n) Owns
+  unfolding repeat_form
+  repeat_owns h k = correct_as (correct_bind h (λ e. correct_bind k (λ c. correct_alloc (hir.Array (array.Repeat e c)) (Some at))))
+      (λ final ps m m' i g row. let r = row.second in
+      owns_at m r.second (omega arith) (λ d le. spread_wider m.nodes r.middle.nodes (omega arith) (omega arith)
+      (row.first.spread d (omega arith))))
+
+  pub const_owns : {n : Lowering ConstRef} {R : Rel ConstRef} → Correct n R → Correct (const_form at n) Owns
+  unfolding const_form
+  const_owns h = correct_as (correct_bind h (λ c. correct_alloc (hir.Const c) (Some at)))
+      (λ final ps m m' i g row. owns_at m row.second (omega arith) (λ d le. spread_none m.nodes row.middle.nodes))
 
   pub method_call_owns : (name : Name) (g : OptionArgs) {p : ExprSteps} {q : Lowering (List ExprId)} → Correct p Owns
       → Correct q (OwnsAs of_each) → Correct (method_call_form at p name q (args_part g)) Owns

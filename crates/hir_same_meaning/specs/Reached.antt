@@ -2,6 +2,7 @@
 use Rattle.std.specs.Prelude.{◌≢◌, ℕ, zero, suc, ◌<◌, ◌≤◌, length, map, List, [], ◌∷◌, ◌++◌, Option, Some, None, slice_get}
 use Rattle.hir_store.specs.Stored.{Store, store_of}
 use Rattle.hir_store.specs.declared.hir.Expr.{Expr}
+use Rattle.hir_store.specs.declared.hir.Array.TheVariants as array
 use Rattle.hir_store.specs.declared.hir.Expr.TheVariants as hir
 use Rattle.hir_store.specs.declared.hir.MatchArm.{MatchArm}
 use Rattle.hir_store.specs.declared.hir.Statement.{Statement}
@@ -66,7 +67,10 @@ module _ (f : ExprId → List ℕ) where
     below (hir.BinaryOp op a b) = f a ++ f b
     below (hir.Index a b) = f a ++ f b
     below (hir.Tuple es) = of_each es
-    below (hir.Array es) = of_each es
+    below (hir.Array (array.ElementList es)) = of_each es
+    -- the length is a body by itself, and so is what is in a const block
+    below (hir.Array (array.Repeat e c)) = f e
+    below (hir.Const c) = []
     below (hir.MethodCall e name generics es) = f e ++ of_each es
     below (hir.Cast e t) = f e
     below (hir.RecordLit p fields others) = of_fields fields ++ of_others others

@@ -15,6 +15,7 @@ use Rattle.hir_store.specs.declared.ids.LabelId.{LabelId}
 use Rattle.hir_store.specs.declared.ids.BlockId.{BlockId}
 use Rattle.hir_store.specs.declared.ids.HygieneId.{HygieneId}
 use Rattle.hir_env.specs.Answered as tree
+use Rattle.hir_store.specs.declared.type_ref.ConstRef.{ConstRef}
 use Rattle.hir_env.specs.Answered.{Listing, Label, Jump, Expr}
 use Rattle.hir_store.specs.declared.ids.TypeRefId.{TypeRefId}
 use Rattle.hir_lower_form.specs.Lowering.{Lowering, ◌>>=◌, alloc_expr}
@@ -36,7 +37,7 @@ use Rattle.hir_store.specs.declared.ids.PatId.{PatId}
 use Rattle.hir_lower_form.specs.Made.{arm_for, done_arm_form, for_form, for_turn_form, gives_arm_form, made_loop_form, made_reference_form}
 use Rattle.hir_lower_form.specs.Made.{next_form}
 use Rattle.hir_store.specs.declared.ids.LangItemId.{LangItemId}
-use Rattle.hir_lower_form.specs.Lower.{settled}
+use Rattle.hir_lower_form.specs.Lower.{settled, repeat_form, const_form}
 use Rattle.hir_lower_form.specs.Lowering.{pure, alloc_pat}
 use Rattle.hir_lower_form.specs.Made.{item_pat}
 
@@ -112,6 +113,14 @@ module _ (at : Pointer) where
   list_apart (tree.tuple_of false) h = then_apart h (λ is. stored_apart _ at)
   list_apart (tree.tuple_of true) h = then_apart h (λ is. then_apart missing_apart (λ i. stored_apart _ at))
   list_apart tree.array_of h = then_apart h (λ is. stored_apart _ at)
+
+  pub repeat_apart : {e : ExprSteps} {c : Lowering ConstRef} → Correct e Apart → Correct c Apart → Correct (repeat_form at e c) Apart
+  unfolding repeat_form
+  repeat_apart he hc = then_apart he (λ i. then_apart hc (λ c. stored_apart _ at))
+
+  pub const_apart : {c : Lowering ConstRef} → Correct c Apart → Correct (const_form at c) Apart
+  unfolding const_form
+  const_apart h = then_apart h (λ c. stored_apart _ at)
 
   pub method_call_apart : {e : ExprSteps} (name : Name) {xs : Lowering (List ExprId)} {as' : Lowering (Option GenericArgs)}
       → Correct e Apart → Correct xs Apart → Correct as' Apart → Correct (method_call_form at e name xs as') Apart

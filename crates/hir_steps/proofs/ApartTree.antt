@@ -52,7 +52,7 @@ use Rattle.hir_steps.proofs.ApartForms.{missing_apart, stored_apart, some_apart,
 use Rattle.hir_steps.proofs.ApartForms.{continue_apart, break_apart, paren_apart, path_apart, operand_apart, operands_apart, value_apart}
 use Rattle.hir_steps.proofs.ApartForms.{list_apart, method_call_apart, cast_apart, offset_of_apart, record_apart, field_apart, await_apart}
 use Rattle.hir_steps.proofs.ApartForms.{block_form_apart, question_apart, try_apart, typed_try_apart, contents_apart, labelled_apart}
-use Rattle.hir_steps.proofs.ApartForms.{for_apart, kept_apart}
+use Rattle.hir_steps.proofs.ApartForms.{for_apart, kept_apart, repeat_apart, const_apart}
 
 mutual
   pub one_type_apart : (b : Option Binder) (t : Type_) → Correct (lower_type b t) Apart
@@ -159,7 +159,7 @@ mutual
 
   -- constants
 
-  a_constant_apart : (c : Constant) → Correct (lower_constant c) Apart
+  pub a_constant_apart : (c : Constant) → Correct (lower_constant c) Apart
   a_constant_apart (tree.constant e) = constant_apart (part_apart e)
 
   -- expressions
@@ -189,6 +189,8 @@ mutual
   node_apart (tree.binary_expr at form a b) = operands_apart at _ (part_apart a) (part_apart b)
   node_apart (tree.lazy_expr at op a b) = operands_apart at _ (part_apart a) (part_apart b)
   node_apart (tree.list_expr at form es) = list_apart at form (each_apart [] es)
+  node_apart (tree.repeat_expr at e c) = repeat_apart at (part_apart e) (a_constant_apart c)
+  node_apart (tree.const_expr at c) = const_apart at (a_constant_apart c)
   node_apart (tree.method_call_expr at e name es generics) =
       method_call_apart at name (part_apart e) (each_apart [] es) (args_apart generics)
   node_apart (tree.cast_expr at e t) = cast_apart at (part_apart e) (type_apart None t)

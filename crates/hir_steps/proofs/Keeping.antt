@@ -7,13 +7,13 @@ use Rattle.hir_store.specs.declared.hir.RecordLitField.{RecordLitField}
 use Rattle.hir_store.specs.declared.hir.RecordSpread.{RecordSpread}
 use Rattle.hir_store.specs.declared.ids.ExprId.{ExprId}
 use Rattle.hir_store.specs.Pointers.{Pointer}
-use Rattle.hir_env.specs.Answered.{Arms, Binder, Exprs, Fields, OptionArgs, OptionBlock, OptionExpr, OptionPat, OptionPath, OptionType}
+use Rattle.hir_env.specs.Answered.{Arms, Binder, Constant, Exprs, Fields, OptionArgs, OptionBlock, OptionExpr, OptionPat, OptionPath}
 use Rattle.hir_store.specs.declared.ids.PatId.{PatId}
-use Rattle.hir_env.specs.Answered.{ForItems, IsWrittenLabel, Label, Spread, Stmts, Target, Type_}
+use Rattle.hir_env.specs.Answered.{ForItems, IsWrittenLabel, Label, OptionType, Spread, Stmts, Target, Type_}
 use Rattle.hir_lower_form.specs.Made.{for_turn_form, made_loop_form}
 use Rattle.hir_lower_form.specs.Builder.{Builder}
-use Rattle.hir_lower_form.specs.Lower.{ExprSteps, args_part, kept_part, lower_arms, lower_block_part, lower_each, lower_fields}
-use Rattle.hir_lower_form.specs.Lower.{lower_part, lower_path, lower_spread, lower_stmts, lower_target, lower_top, present}
+use Rattle.hir_lower_form.specs.Lower.{ExprSteps, args_part, kept_part, lower_arms, lower_block_part, lower_constant, lower_each}
+use Rattle.hir_lower_form.specs.Lower.{lower_fields, lower_part, lower_path, lower_spread, lower_stmts, lower_target, lower_top, present}
 use Rattle.hir_lower_form.specs.Lower.{lower_type, present_type, record_contents, turn_form, type_part}
 use Rattle.hir_lower_form.specs.Lowering.{Checked, Lowering}
 use Rattle.hir_steps.specs.Keeps.{Keeps, Keeping, KeepsApart, MadeApart, Paired, PathsKeep, TypesKeep}
@@ -41,6 +41,9 @@ lower_path_any p = any (apart.lower_path_apart p)
 
 pub args_any : (as' : OptionArgs) → Correct (args_part as') Any
 args_any as' = any (apart.args_apart as')
+
+pub constant_any : (c : Constant) → Correct (lower_constant c) Any
+constant_any c = any (apart.a_constant_apart c)
 
 pub part_any : (e : OptionExpr) → Correct (lower_part e) Any
 part_any e = any (apart.part_apart e)

@@ -7,6 +7,7 @@ use Rattle.hir_store.specs.Past.{past_pat, past_pat_fields, past_pat_id, past_pa
 use Rattle.hir_store.specs.Past.{past_lifetime_id, past_path, past_present, past_type, past_type_id, past_type_ids, past_use_args}
 use Rattle.hir_store.specs.declared.hir.Expr.{Expr}
 use Rattle.hir_store.specs.declared.hir.Expr.TheVariants as hir
+use Rattle.hir_store.specs.declared.hir.Array.TheVariants as array
 use Rattle.hir_store.specs.declared.hir.Statement.{Statement}
 use Rattle.hir_store.specs.declared.hir.MatchArm.{MatchArm}
 use Rattle.hir_store.specs.declared.pat.Pat.{Pat}
@@ -61,6 +62,7 @@ exprs_in (hir.Path p hygiene) = (past_path p).exprs
 exprs_in (hir.If c t e) = max (suc c.0) (max (suc t.0) (past_option past_expr e))
 exprs_in (hir.Let p e) = suc e.0
 exprs_in (hir.Block is_unsafe label id ss tail) = max (past_statements ss).exprs (past_option past_expr tail)
+exprs_in (hir.Const c) = suc c.expr.0
 exprs_in (hir.Loop b label source) = suc b.0
 exprs_in (hir.Call f es) = max (suc f.0) (past past_expr es)
 exprs_in (hir.Match e arms) = max (suc e.0) (past_arms arms).exprs
@@ -75,7 +77,8 @@ exprs_in (hir.Assignment target value) = suc value.0
 exprs_in (hir.Index base index) = max (suc base.0) (suc index.0)
 exprs_in (hir.Ref rawness mutability e) = suc e.0
 exprs_in (hir.Tuple es) = past past_expr es
-exprs_in (hir.Array es) = past past_expr es
+exprs_in (hir.Array (array.ElementList es)) = past past_expr es
+exprs_in (hir.Array (array.Repeat e c)) = max (suc e.0) (suc c.expr.0)
 exprs_in (hir.Return e) = past_option past_expr e
 exprs_in (hir.Become e) = suc e.0
 exprs_in (hir.Yield e) = past_option past_expr e

@@ -245,6 +245,8 @@ mutual
   node_adds (tree.binary_expr at form a b) = forms.operands_adds at _ (forms.binary_less form) (body_adds a) (body_adds b)
   node_adds (tree.lazy_expr at op a b) = forms.operands_adds at _ forms.two_less (body_adds a) (body_adds b)
   node_adds (tree.list_expr at form es) = forms.list_adds at form (each_expr_adds [] es)
+  node_adds (tree.repeat_expr at e c) = forms.repeat_adds at (body_adds e) (constant_adds c)
+  node_adds (tree.const_expr at c) = forms.const_adds at (constant_adds c)
   node_adds (tree.method_call_expr at e name es generics) =
       forms.method_call_adds at name (body_adds e) (each_expr_adds [] es) (args_add generics)
   node_adds (tree.cast_expr at e t) = forms.cast_adds at (body_adds e) (part_adds None t)

@@ -3,6 +3,7 @@ use Rattle.std.proofs.Common.{◌≡◌, refl, ℕ, ◌+◌, ◌≤◌, Bool, tr
 use Rattle.hir_store.specs.Pointers.{Pointer}
 use Rattle.hir_store.specs.declared.diagnostics.AwaitLocation.{AwaitLocation}
 use Rattle.hir_store.specs.declared.diagnostics.ExpressionStoreDiagnostics.TheVariants.{InactiveCode}
+use Rattle.hir_store.specs.declared.hir.Array.TheVariants as array
 use Rattle.hir_store.specs.declared.hir.Expr.{Expr as HirExpr}
 use Rattle.hir_store.specs.declared.hir.Expr.TheVariants as hir
 use Rattle.hir_store.specs.declared.hir.LoopSource.{LoopSource}
@@ -17,25 +18,26 @@ use Rattle.hir_store.specs.declared.ids.LabelId.{LabelId}
 use Rattle.hir_store.specs.declared.name.Name.{Name}
 use Rattle.hir_store.specs.declared.path.GenericArgs.{GenericArgs}
 use Rattle.hir_store.specs.declared.path.Path.{Path}
+use Rattle.hir_store.specs.declared.type_ref.ConstRef.{ConstRef}
 use Rattle.hir_env.specs.Answered as tree
 use Rattle.hir_env.specs.Answered.{Leaf, Unary, Binary, Listing, Leaving, Label, Jump, Expr}
 use Rattle.hir_lower_form.specs.Lowering.{Lowering, ◌>>=◌, pure, alloc_expr}
 use Rattle.hir_lower_form.specs.Types.{TypeSteps}
 use Rattle.hir_lower_form.specs.Lower.{ExprSteps, StoredContents, StoredFields, push_some, missing, some, if_form, loop_form, call_form}
-use Rattle.hir_lower_form.specs.Lower.{turn_form}
+use Rattle.hir_lower_form.specs.Lower.{turn_form, repeat_form, const_form}
 use Rattle.hir_lower_form.specs.Lower.{continue_form, break_form, operand_form, operands_form, value_form, list_form}
 use Rattle.hir_lower_form.specs.Lower.{method_call_form, await_form, paren_form, path_form, path_or_missing, cast_form}
 use Rattle.hir_lower_form.specs.Lower.{offset_of_form, record_contents, record_of, record_form, field_form, block_form, labelled}
 use Rattle.hir_lower_form.specs.Lower.{stored_leaf, stored_unary, stored_binary, stored_leaving, settled, kept}
 use Rattle.hir_meaning.specs.Inner as inner
-use Rattle.hir_meaning.specs.Inner.{all_of, of_present, of_list, of_path}
+use Rattle.hir_meaning.specs.Inner.{all_of, of_constant, of_present, of_list, of_path}
 use Rattle.hir_steps.proofs.Frames.{loop_at, block_at}
 use Rattle.hir_steps.proofs.Steps.{Correct, correct_report, correct_report_await, correct_point, correct_point_field}
 use Rattle.hir_steps.proofs.Steps.{correct_enter_block, correct_target}
 use Rattle.hir_same_meaning.specs.Reached.{of_some, of_each, of_fields, of_others, of_statement, of_statements}
 use Rattle.hir_type_result.proofs.Counted.{times, times_append}
-use Rattle.hir_type_result.proofs.Weighed.{View, Cost, free, beside, an_expr, a_type, in_expr, sum, sum_append, Adds, adds_pure, adds_then}
-use Rattle.hir_type_result.proofs.Weighed.{adds_beside, adds_any, adds_from, adds_expr, adds_opened}
+use Rattle.hir_type_result.proofs.Weighed.{View, Cost, free, beside, an_expr, a_type, a_constant, in_expr, sum, sum_append, Adds, adds_pure}
+use Rattle.hir_type_result.proofs.Weighed.{adds_then, adds_beside, adds_any, adds_from, adds_expr, adds_opened}
 use Rattle.hir_type_result.proofs.InsideTypes.{arguments, maybe_path}
 
 -- ---- costs of lists and options
@@ -304,6 +306,16 @@ module _ (at : Pointer) where
   unfolding cast_form
   cast_adds h ht = adds_then h (λ e. adds_then (adds_beside (an_expr e) ht) (λ t. adds_expr _ (Some at)
       (λ v. let x = sum_append v.weight (v.held.expr e) (v.held.type t) in omega arith)))
+
+  pub repeat_adds : {e : ExprSteps} {n : Lowering ConstRef} → Correct e (Adds free an_expr) → Correct n (Adds free a_constant)
+      → Correct (repeat_form at e n) (Adds free an_expr)
+  unfolding repeat_form
+  repeat_adds h k = adds_then h (λ e. adds_then (adds_beside (an_expr e) k) (λ c. adds_expr (hir.Array (array.Repeat e c)) (Some at)
+      (λ v. let x = sum_append v.weight (v.held.expr e) (of_constant v.held c) in omega arith)))
+
+  pub const_adds : {n : Lowering ConstRef} → Correct n (Adds free a_constant) → Correct (const_form at n) (Adds free an_expr)
+  unfolding const_form
+  const_adds h = adds_then h (λ c. adds_expr (hir.Const c) (Some at) (λ v. omega arith))
 
   pub offset_of_adds : (names : List Name) {t : TypeSteps} → Correct t (Adds free a_type)
       → Correct (offset_of_form at t names) (Adds free an_expr)

@@ -15,6 +15,7 @@ use Rattle.hir_store.specs.declared.ids.LabelId.{LabelId}
 use Rattle.hir_store.specs.declared.name.Name.{Name}
 use Rattle.hir_store.specs.declared.path.Path.{Path}
 use Rattle.hir_store.specs.declared.path.GenericArgs.{GenericArgs}
+use Rattle.hir_store.specs.declared.type_ref.ConstRef.{ConstRef}
 use Rattle.hir_env.specs.Answered as tree
 use Rattle.hir_env.specs.Answered.{Leaf, Unary, Binary, Listing, Leaving, Label, Jump, Expr}
 use Rattle.hir_lower_form.specs.Lowering.{Lowering}
@@ -23,7 +24,7 @@ use Rattle.hir_lower_form.specs.Lower.{ExprSteps, StoredContents, StoredFields, 
 use Rattle.hir_lower_form.specs.Lower.{continue_form, break_form, operand_form, operands_form, value_form, list_form}
 use Rattle.hir_lower_form.specs.Lower.{method_call_form, await_form, paren_form, path_form, path_or_missing, cast_form}
 use Rattle.hir_lower_form.specs.Lower.{offset_of_form, record_contents, record_of, record_form, field_form, block_form, labelled}
-use Rattle.hir_lower_form.specs.Lower.{stored_leaf, stored_unary, stored_binary, stored_leaving, settled, kept}
+use Rattle.hir_lower_form.specs.Lower.{stored_leaf, stored_unary, stored_binary, stored_leaving, settled, kept, repeat_form, const_form}
 use Rattle.hir_steps.proofs.Frames.{loop_at, block_at}
 use Rattle.hir_steps.proofs.Steps.{Correct}
 use Rattle.hir_type_result.specs.Reached.{of_path}
@@ -136,6 +137,14 @@ module _ (at : Pointer) where
   list_quiet (tree.tuple_of true) h =
       quiet_then h (λ is. quiet_then missing_quiet (λ i. quiet_alloc _ (Some at) (λ f k. omega arith)))
   list_quiet tree.array_of h = quiet_then h (λ is. quiet_alloc _ (Some at) (λ f k. omega arith))
+
+  pub repeat_quiet : {e : ExprSteps} {n : Lowering ConstRef} → Correct e Quiet → Correct n Quiet → Correct (repeat_form at e n) Quiet
+  unfolding repeat_form
+  repeat_quiet h k = quiet_then h (λ i. quiet_then k (λ c. quiet_alloc _ (Some at) (λ f k. omega arith)))
+
+  pub const_quiet : {n : Lowering ConstRef} → Correct n Quiet → Correct (const_form at n) Quiet
+  unfolding const_form
+  const_quiet h = quiet_then h (λ c. quiet_alloc _ (Some at) (λ f k. omega arith))
 
   pub await_quiet : (l : Option AwaitLocation) {e : ExprSteps} → Correct e Quiet → Correct (await_form at l e) Quiet
   unfolding await_form

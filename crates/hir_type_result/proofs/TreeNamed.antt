@@ -52,7 +52,7 @@ use Rattle.hir_type_result.proofs.OwnedPats as pats
 use Rattle.hir_type_result.proofs.Naming.{quiet_pure, quiet_then, quiet_some, quiet_alloc, quiet_report, quiet_constant, quiet_inner}
 use Rattle.hir_type_result.proofs.Naming.{quiet_settle}
 use Rattle.hir_type_result.proofs.NamingForms.{missing_quiet, leaf_quiet, unary_quiet, binary_quiet, leaving_quiet, if_quiet, loop_quiet}
-use Rattle.hir_type_result.proofs.NamingForms.{turn_quiet}
+use Rattle.hir_type_result.proofs.NamingForms.{turn_quiet, repeat_quiet, const_quiet}
 use Rattle.hir_type_result.proofs.NamingMade.{question_quiet, try_block_quiet, typed_try_quiet}
 use Rattle.hir_type_result.proofs.NamingFors.{for_quiet}
 use Rattle.hir_env.specs.Targets.{head_pointer}
@@ -254,6 +254,8 @@ mutual
   node_quiet (tree.binary_expr at form a b) = operands_quiet at _ (binary_quiet form) (part_quiet a) (part_quiet b)
   node_quiet (tree.lazy_expr at op a b) = operands_quiet at _ (λ i j f k. omega arith) (part_quiet a) (part_quiet b)
   node_quiet (tree.list_expr at form es) = list_quiet at form (each_quiet [] es)
+  node_quiet (tree.repeat_expr at e c) = repeat_quiet at (part_quiet e) (constant_quiet c)
+  node_quiet (tree.const_expr at c) = const_quiet at (constant_quiet c)
   node_quiet (tree.method_call_expr at e name es generics) =
       method_call_quiet at name (part_quiet e) (each_quiet [] es) (args_add generics)
   node_quiet (tree.cast_expr at e t) = cast_quiet at (part_quiet e) (part_adds None t)

@@ -1,6 +1,6 @@
 -- The first fault of the nodes of a list.
 use Rattle.std.specs.Prelude.{◌≡◌, ℕ, suc, Bool, true, false, not, List, [], ◌∷◌, Option, Some, None, is_some, bytes_eq, codes}
-use Rattle.std.specs.Prelude.{length, slice_index_or, Result, Ok, Err}
+use Rattle.std.specs.Prelude.{length, option_and_then, slice_index_or, unwrap_or, Result, Ok, Err}
 use Rattle.serde_json.specs.Data.{Data, string, Items, no_items, item}
 use Rattle.serde_json.specs.Find.{get, as_array, as_object, as_str, as_bool}
 use Rattle.serde_json.specs.View.{view}
@@ -53,6 +53,10 @@ is_text t _ = false
 abbrev pub says : List ℕ → List ℕ → Data → Bool
 says name t d = is_text t (get name d)
 
+-- the field is a flag that is set
+abbrev pub is_set : List ℕ → Data → Bool
+is_set name d = unwrap_or (option_and_then as_bool (get name d)) false
+
 -- the text of a number or of a truth value is one
 abbrev pub literal_sort : Bool → Bool → Sort
 literal_sort true b = sort.Integer
@@ -69,11 +73,22 @@ abbrev pub type_sort : Bool → Sort
 type_sort true = sort.Part group.Type_
 type_sort false = sort.Excluded
 
+-- an array has elements without a semicolon, and with one what is repeated, and how often
+abbrev pub elements_sort : Bool → Sort
+elements_sort true = sort.PassedOver
+elements_sort false = sort.List group.Expr
+
+abbrev pub repeated_sort : Bool → Sort
+repeated_sort true = sort.Part group.Expr
+repeated_sort false = sort.PassedOver
+
 -- what a field holds, in the light of the others
 abbrev pub sort_at : Data → Sort → Sort
 sort_at d sort.LiteralText = literal_sort (says (codes "lit") (codes "int") d) (says (codes "lit") (codes "bool") d)
 sort_at d sort.PlainLabel = label_sort (get (codes "mod") d)
 sort_at d sort.TryType = type_sort (says (codes "mod") (codes "try") d)
+sort_at d sort.Elements = elements_sort (is_set (codes "semi") d)
+sort_at d sort.Repeated = repeated_sort (is_set (codes "semi") d)
 sort_at d s = s
 
 -- a field of the sort must be there
@@ -100,6 +115,7 @@ fits sort.Number d = is_some (small_of d)
 fits sort.Range d = is_range d
 fits sort.Integer d = text_is is_integer (as_str d)
 fits sort.Truth d = text_is is_truth (as_str d)
+fits sort.PassedOver d = true
 fits _ d = false
 
 -- a node of a list, and the kinds of all

@@ -89,6 +89,38 @@ fn try_type_sort(node: &Value) -> Sort
     }
 }
 
+/// Whether an array has a semicolon.
+fn has_semi(node: &Value) -> bool
+    ensures { result ≡ spec.is_set (codes "semi") (view node.now) }
+{
+    match node.get("semi") {
+        Some(value) => value.as_bool().unwrap_or(false),
+        None => false,
+    }
+}
+
+/// What the elements of an array are, in the light of its semicolon.
+fn elements_sort(node: &Value) -> Sort
+    ensures { result ≡ spec.sort_at (view node.now) Sort.Elements }
+{
+    if has_semi(node) {
+        Sort::PassedOver
+    } else {
+        Sort::List(Group::Expr)
+    }
+}
+
+/// What is repeated in an array, or how often, in the light of its semicolon.
+fn repeated_sort(node: &Value) -> Sort
+    ensures { result ≡ spec.sort_at (view node.now) Sort.Repeated }
+{
+    if has_semi(node) {
+        Sort::Part(Group::Expr)
+    } else {
+        Sort::PassedOver
+    }
+}
+
 /// What a field holds, in the light of the others.
 fn sort_at(node: &Value, sort: Sort) -> Sort
     ensures { result ≡ spec.sort_at (view node.now) sort }
@@ -97,6 +129,8 @@ fn sort_at(node: &Value, sort: Sort) -> Sort
         Sort::LiteralText => literal_sort(node),
         Sort::PlainLabel => label_sort(node),
         Sort::TryType => try_type_sort(node),
+        Sort::Elements => elements_sort(node),
+        Sort::Repeated => repeated_sort(node),
         _ => sort,
     }
 }
@@ -141,6 +175,7 @@ fn fits(sort: Sort, value: &Value) -> bool
         Sort::Range => is_range(value),
         Sort::Integer => is_integer_text(value),
         Sort::Truth => is_truth_text(value),
+        Sort::PassedOver => true,
         _ => false,
     }
 }

@@ -145,7 +145,11 @@ expr_row kind.TupleExpr = record {
 expr_row kind.ArrayExpr = record {
   word = codes "ArrayExpr";
   groups = group.Expr ∷ [];
-  fields = (codes "semi" ∶ sort.NotYet) ∷ (codes "elems" ∶ sort.List group.Expr) ∷ [];
+  fields = (codes "semi" ∶ sort.Flag)
+      ∷ (codes "elems" ∶ sort.Elements)
+      ∷ (codes "init" ∶ sort.Repeated)
+      ∷ (codes "len" ∶ sort.Repeated)
+      ∷ [];
 }
 expr_row kind.IndexExpr = record {
   word = codes "IndexExpr";

@@ -24,8 +24,14 @@ pub enum Sort {
     PlainLabel,
     /// A type, which stands behind `try` alone.
     TryType,
+    /// The elements of an array, which counts only without a semicolon.
+    Elements,
+    /// What is repeated in an array, or how often, which counts only with a semicolon.
+    Repeated,
     /// No value: another field excludes this one.
     Excluded,
+    /// Any value: another field makes this one an unknown one.
+    PassedOver,
     /// A text that fits the kind of the literal, and has to be there.
     LiteralText,
     /// A text of digits, of a number of 128 bits, which has to be there.

@@ -12,8 +12,8 @@ ghost use Rattle.json_kinds.specs.Types.{type_row};
 
 use crate::field::Field;
 use crate::field::Sort::{
-    Flag, List, ListWithNulls, LiteralText, NotYet, Number, Part, PlainLabel, Text, TextIfThere,
-    TryType, Word, WordIfThere,
+    Elements, Flag, List, ListWithNulls, LiteralText, NotYet, Number, Part, PlainLabel, Repeated,
+    Text, TextIfThere, TryType, Word, WordIfThere,
 };
 use crate::group::Group;
 use crate::group::Group::{
@@ -53,7 +53,7 @@ macro_rules! exprs {
             PrefixExpr [Expr] { "op": WordIfThere(Words::UnaryOps), "expr": Part(Expr) }
             BinExpr [Expr] { "op": WordIfThere(Words::BinaryOps), "lhs": Part(Expr), "rhs": Part(Expr) }
             TupleExpr [Expr] { "leading_comma": Flag, "fields": List(Expr) }
-            ArrayExpr [Expr] { "semi": NotYet, "elems": List(Expr) }
+            ArrayExpr [Expr] { "semi": Flag, "elems": Elements, "init": Repeated, "len": Repeated }
             IndexExpr [Expr] { "base": Part(Expr), "index": Part(Expr) }
             RangeExpr [Expr] { "op": WordIfThere(Words::RangeOps), "start": Part(Expr), "end": Part(Expr) }
             OffsetOfExpr [Expr] { "ty": Part(Type_), "fields": List(Name) }

@@ -9,8 +9,7 @@ use Rattle.json_kinds.specs.declared.kind.PathNode.TheVariants as kind
 use Rattle.json_nodes.specs.Fields.{flag_of}
 use Rattle.json_nodes.specs.Groups.{as_expr, as_type, as_name, as_lifetime, as_generic_args, as_generic_arg, as_type_arg, as_bound}
 use Rattle.json_nodes.specs.Parts.{Here, part_in, list_in}
-use Rattle.json_nodes.specs.declared.part.AnyPart.{AnyPart}
-use Rattle.json_nodes.specs.declared.part.AnyPart.TheVariants as part
+use Rattle.json_nodes.specs.declared.path_parts.PathPart.{PathPart}
 use Rattle.json_nodes.specs.declared.path_parts.PathPart.TheVariants as path_part
 
 unfoldable pub assoc_arg : Here → AssocTypeArg
@@ -25,22 +24,22 @@ assoc_arg h = roll-AssocTypeArg (record {
   bounds = list_in h as_bound (codes "bounds");
 })
 
-unfoldable pub arg : Here → PathNode → Option AnyPart
-arg h kind.TypeArg = Some (part.Path (path_part.TypeArg (part_in h as_type (codes "ty"))))
-arg h kind.AssocTypeArg = Some (part.Path (path_part.GenericArg (arguments.AssocTypeArg (assoc_arg h))))
-arg h kind.LifetimeArg = Some (part.Path (path_part.GenericArg (arguments.LifetimeArg (record {
+unfoldable pub arg : Here → PathNode → Option PathPart
+arg h kind.TypeArg = Some (path_part.TypeArg (part_in h as_type (codes "ty")))
+arg h kind.AssocTypeArg = Some (path_part.GenericArg (arguments.AssocTypeArg (assoc_arg h)))
+arg h kind.LifetimeArg = Some (path_part.GenericArg (arguments.LifetimeArg (record {
   id = h.id;
   range = h.range;
   lifetime = part_in h as_lifetime (codes "lifetime");
-}))))
-arg h kind.ConstArg = Some (part.Path (path_part.ConstArg (part_in h as_expr (codes "expr"))))
+})))
+arg h kind.ConstArg = Some (path_part.ConstArg (part_in h as_expr (codes "expr")))
 arg h _ = None
 
-unfoldable pub arg_list : Here → PathNode → Option AnyPart
-arg_list h kind.GenericArgList = Some (part.Path (path_part.GenericArgs (list_in h as_generic_arg (codes "args"))))
-arg_list h kind.ParenArgs = Some (part.Path (path_part.ParenArgs (list_in h as_type_arg (codes "args"))))
+unfoldable pub arg_list : Here → PathNode → Option PathPart
+arg_list h kind.GenericArgList = Some (path_part.GenericArgs (list_in h as_generic_arg (codes "args")))
+arg_list h kind.ParenArgs = Some (path_part.ParenArgs (list_in h as_type_arg (codes "args")))
 arg_list h _ = None
 
 -- an argument, or a list of some
-abbrev pub of_args : Here → PathNode → Option AnyPart
+abbrev pub of_args : Here → PathNode → Option PathPart
 of_args h k = or_else (arg h k) (arg_list h k)

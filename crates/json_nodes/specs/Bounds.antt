@@ -10,8 +10,7 @@ use Rattle.json_kinds.specs.declared.kind.PartNode.TheVariants as kind
 use Rattle.json_nodes.specs.Fields.{flag_of, text_in}
 use Rattle.json_nodes.specs.Groups.{as_type, as_path_type, as_binder, as_lifetime, as_use_arg}
 use Rattle.json_nodes.specs.Parts.{Here, part_in, list_in, list_with_nulls_in}
-use Rattle.json_nodes.specs.declared.part.AnyPart.{AnyPart}
-use Rattle.json_nodes.specs.declared.part.AnyPart.TheVariants as part
+use Rattle.json_nodes.specs.declared.type_parts.TypePart.{TypePart}
 use Rattle.json_nodes.specs.declared.type_parts.TypePart.TheVariants as type_part
 
 -- the word of a kind of bounds
@@ -37,12 +36,12 @@ bound h = roll-TypeBound (record {
 })
 
 -- a bound, or what else stands beside types
-unfoldable pub of_bound : Here → PartNode → Option AnyPart
-of_bound h kind.TypeBound = Some (part.Type_ (type_part.Bound (bound h)))
-of_bound h kind.ForBinder = Some (part.Type_ (type_part.Binder (record {
+unfoldable pub of_bound : Here → PartNode → Option TypePart
+of_bound h kind.TypeBound = Some (type_part.Bound (bound h))
+of_bound h kind.ForBinder = Some (type_part.Binder (record {
   id = h.id;
   range = h.range;
   params = list_with_nulls_in h as_lifetime (codes "params");
-})))
-of_bound h kind.RetType = Some (part.Type_ (type_part.Ret (part_in h as_type (codes "ty"))))
+}))
+of_bound h kind.RetType = Some (type_part.Ret (part_in h as_type (codes "ty")))
 of_bound h _ = None

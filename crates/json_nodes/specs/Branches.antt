@@ -9,26 +9,26 @@ use Rattle.json_kinds.specs.declared.kind.PartNode.TheVariants as part_kind
 use Rattle.json_nodes.specs.Exprs.{whole_expr}
 use Rattle.json_nodes.specs.Groups.{as_expr, as_block, as_pat, as_arm, as_guard}
 use Rattle.json_nodes.specs.Parts.{Here, part_in, list_if_there}
-use Rattle.json_nodes.specs.declared.part.AnyPart.{AnyPart}
-use Rattle.json_nodes.specs.declared.part.AnyPart.TheVariants as part
+use Rattle.json_nodes.specs.declared.code_parts.CodePart.{CodePart}
 use Rattle.json_nodes.specs.declared.code_parts.CodePart.TheVariants as code_part
+use Rattle.json_nodes.specs.declared.code_parts.ExprPart.{ExprPart}
 
 -- what tests a pattern, or some in order
-unfoldable pub branching : Here → ExprNode → Option AnyPart
+unfoldable pub branching : Here → ExprNode → Option ExprPart
 branching h kind.LetExpr = Some (whole_expr h (expr.LetExpr (part_in h as_pat (codes "pat")) (part_in h as_expr (codes "expr"))))
 branching h kind.MatchExpr =
     Some (whole_expr h (expr.MatchExpr (part_in h as_expr (codes "expr")) (list_if_there h as_arm (codes "arms"))))
 branching h _ = None
 
 -- an arm, its guard, and what follows the `else` of a `let`
-unfoldable pub of_branch : Here → PartNode → Option AnyPart
-of_branch h part_kind.MatchArm = Some (part.Code (code_part.Arm (roll-MatchArm (record {
+unfoldable pub of_branch : Here → PartNode → Option CodePart
+of_branch h part_kind.MatchArm = Some (code_part.Arm (roll-MatchArm (record {
   id = h.id;
   range = h.range;
   pat = part_in h as_pat (codes "pat");
   guard = part_in h as_guard (codes "guard");
   expr = part_in h as_expr (codes "expr");
-}))))
-of_branch h part_kind.Guard = Some (part.Code (code_part.Guard (part_in h as_expr (codes "condition"))))
-of_branch h part_kind.LetElse = Some (part.Code (code_part.LetElse (part_in h as_block (codes "block"))))
+})))
+of_branch h part_kind.Guard = Some (code_part.Guard (part_in h as_expr (codes "condition")))
+of_branch h part_kind.LetElse = Some (code_part.LetElse (part_in h as_block (codes "block")))
 of_branch h _ = None

@@ -1,5 +1,5 @@
 -- Expressions, by their kind.
-use Rattle.std.specs.Prelude.{codes, Option, Some, None, option_map, option_and_then}
+use Rattle.std.specs.Prelude.{if◌then◌else◌, codes, Option, Some, None, option_map, option_and_then}
 use Rattle.serde_json.specs.Data.{Data}
 use Rattle.serde_json.specs.Find.{get}
 use Rattle.hir_syntax.specs.declared.ast.ExprKind.{ExprKind}
@@ -13,12 +13,11 @@ use Rattle.json_nodes.specs.Fields.{flag_of}
 use Rattle.json_nodes.specs.Literals.{literal_of}
 use Rattle.json_nodes.specs.Operators.{unary_op_in, binary_op_in, range_op_in}
 use Rattle.json_nodes.specs.Parts.{Here, part_in, list_in, list_if_there}
-use Rattle.json_nodes.specs.declared.part.AnyPart.{AnyPart}
-use Rattle.json_nodes.specs.declared.part.AnyPart.TheVariants as part
+use Rattle.json_nodes.specs.declared.code_parts.ExprPart.{ExprPart}
 use Rattle.json_nodes.specs.declared.code_parts.ExprPart.TheVariants as expr_part
 
-abbrev pub whole_expr : Here → ExprKind → AnyPart
-whole_expr h x = part.Expr (expr_part.Expr (record { id = h.id; range = h.range; kind = x }))
+abbrev pub whole_expr : Here → ExprKind → ExprPart
+whole_expr h x = expr_part.Expr (record { id = h.id; range = h.range; kind = x })
 
 unfoldable pub if_expr : Here → ExprKind
 if_expr h = expr.IfExpr
@@ -27,15 +26,15 @@ if_expr h = expr.IfExpr
     (part_in h as_else (codes "else"))
 
 -- an `if` is told from other expressions, since it may follow `else`
-abbrev pub of_if : Here → Option AnyPart
-of_if h = Some (part.Expr (expr_part.If (record { id = h.id; range = h.range; kind = if_expr h })))
+abbrev pub of_if : Here → Option ExprPart
+of_if h = Some (expr_part.If (record { id = h.id; range = h.range; kind = if_expr h }))
 
 -- a literal too, since it may stand in a pattern
-abbrev pub of_literal : Here → Option AnyPart
-of_literal h = option_map (λ l. part.Expr (expr_part.Literal h.id h.range l)) (literal_of h.value)
+abbrev pub of_literal : Here → Option ExprPart
+of_literal h = option_map (λ l. expr_part.Literal h.id h.range l) (literal_of h.value)
 
 -- what steers the order of running
-unfoldable pub flow : Here → ExprNode → Option AnyPart
+unfoldable pub flow : Here → ExprNode → Option ExprPart
 flow h kind.LoopExpr = Some (whole_expr h (expr.LoopExpr (part_in h as_label (codes "label")) (part_in h as_block (codes "body"))))
 flow h kind.WhileExpr = Some (whole_expr h
     (expr.WhileExpr (part_in h as_label (codes "label")) (part_in h as_expr (codes "condition")) (part_in h as_block (codes "body"))))
@@ -50,7 +49,7 @@ flow h kind.BreakExpr = Some (whole_expr h (expr.BreakExpr (part_in h as_lifetim
 flow h _ = None
 
 -- calls, paths, parentheses and ranges
-unfoldable pub plain : Here → ExprNode → Option AnyPart
+unfoldable pub plain : Here → ExprNode → Option ExprPart
 plain h kind.CallExpr = Some (whole_expr h (expr.CallExpr (part_in h as_expr (codes "expr")) (list_if_there h as_expr (codes "args"))))
 plain h kind.PathExpr = Some (whole_expr h (expr.PathExpr (part_in h as_path (codes "path"))))
 plain h kind.ParenExpr = Some (whole_expr h (expr.ParenExpr (part_in h as_expr (codes "expr"))))
@@ -59,7 +58,7 @@ plain h kind.RangeExpr =
 plain h _ = None
 
 -- what is made of operands
-unfoldable pub operation : Here → ExprNode → Option AnyPart
+unfoldable pub operation : Here → ExprNode → Option ExprPart
 operation h kind.PrefixExpr = Some (whole_expr h (expr.PrefixExpr (unary_op_in h.value) (part_in h as_expr (codes "expr"))))
 operation h kind.BinExpr =
     Some (whole_expr h (expr.BinExpr (binary_op_in h.value) (part_in h as_expr (codes "lhs")) (part_in h as_expr (codes "rhs"))))
@@ -70,8 +69,15 @@ operation h kind.RefExpr = Some (whole_expr h (expr.RefExpr
     (part_in h as_expr (codes "expr"))))
 operation h _ = None
 
+-- an array, which with a semicolon repeats one part
+unfoldable pub array : Here → ExprKind
+array h =
+    if flag_of (get (codes "semi") h.value)
+    then expr.RepeatExpr (part_in h as_expr (codes "init")) (part_in h as_expr (codes "len"))
+    else expr.ArrayExpr (list_in h as_expr (codes "elems"))
+
 -- what names a member, or lists its elements
-unfoldable pub member : Here → ExprNode → Option AnyPart
+unfoldable pub member : Here → ExprNode → Option ExprPart
 member h kind.MethodCallExpr = Some (whole_expr h (expr.MethodCallExpr
     (part_in h as_expr (codes "receiver"))
     (part_in h as_name (codes "name"))
@@ -80,11 +86,11 @@ member h kind.MethodCallExpr = Some (whole_expr h (expr.MethodCallExpr
 member h kind.FieldExpr = Some (whole_expr h (expr.FieldExpr (part_in h as_expr (codes "expr")) (part_in h as_name (codes "name"))))
 member h kind.TupleExpr =
     Some (whole_expr h (expr.TupleExpr (flag_of (get (codes "leading_comma") h.value)) (list_in h as_expr (codes "fields"))))
-member h kind.ArrayExpr = Some (whole_expr h (expr.ArrayExpr (list_in h as_expr (codes "elems"))))
+member h kind.ArrayExpr = Some (whole_expr h (array h))
 member h _ = None
 
 -- what leaves a body, or waits in it
-unfoldable pub leaving : Here → ExprNode → Option AnyPart
+unfoldable pub leaving : Here → ExprNode → Option ExprPart
 leaving h kind.ReturnExpr = Some (whole_expr h (expr.ReturnExpr (part_in h as_expr (codes "expr"))))
 leaving h kind.BecomeExpr = Some (whole_expr h (expr.BecomeExpr (part_in h as_expr (codes "expr"))))
 leaving h kind.YieldExpr = Some (whole_expr h (expr.YieldExpr (part_in h as_expr (codes "expr"))))
@@ -97,7 +103,7 @@ abbrev pub pred_in : Option Data → Option PredId
 pred_in d = option_map (λ n. record { 0 = n }) (option_and_then small_of d)
 
 -- what has no parts
-unfoldable pub partless : Here → ExprNode → Option AnyPart
+unfoldable pub partless : Here → ExprNode → Option ExprPart
 partless h kind.CfgPredExpr = Some (whole_expr h (expr.CfgPredExpr (pred_in (get (codes "pred") h.value))))
 partless h kind.UnderscoreExpr = Some (whole_expr h expr.UnderscoreExpr)
 partless h kind.IncludeBytesExpr = Some (whole_expr h expr.IncludeBytesExpr)

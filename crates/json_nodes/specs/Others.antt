@@ -15,10 +15,11 @@ use Rattle.json_kinds.specs.declared.kind.PartNode.TheVariants as kind
 use Rattle.json_nodes.specs.Fields.{flag_of, text_in}
 use Rattle.json_nodes.specs.Groups.{as_expr, as_stmt, as_label, as_let_else, as_lifetime, as_param_list, as_pat, as_type}
 use Rattle.json_nodes.specs.Parts.{Here, part_in, list_in}
-use Rattle.json_nodes.specs.declared.part.AnyPart.{AnyPart}
-use Rattle.json_nodes.specs.declared.part.AnyPart.TheVariants as part
+use Rattle.json_nodes.specs.declared.code_parts.CodePart.{CodePart}
 use Rattle.json_nodes.specs.declared.code_parts.CodePart.TheVariants as code_part
+use Rattle.json_nodes.specs.declared.code_parts.ExprPart.{ExprPart}
 use Rattle.json_nodes.specs.declared.code_parts.ExprPart.TheVariants as expr_part
+use Rattle.json_nodes.specs.declared.name_parts.NamePart.{NamePart}
 use Rattle.json_nodes.specs.declared.name_parts.NamePart.TheVariants as name_part
 
 unfoldable pub statement : Here → StmtNode → StmtKind
@@ -30,19 +31,20 @@ statement h stmt_kind.LetStmt = stmt.LetStmt
 statement h stmt_kind.ExprStmt = stmt.ExprStmt (part_in h as_expr (codes "expr")) (flag_of (get (codes "semi") h.value))
 statement h stmt_kind.Item = stmt.Item
 
-abbrev pub of_stmt : Here → StmtNode → Option AnyPart
-of_stmt h k = Some (part.Code (code_part.Stmt (record { id = h.id; range = h.range; kind = statement h k })))
+abbrev pub of_stmt : Here → StmtNode → Option CodePart
+of_stmt h k = Some (code_part.Stmt (record { id = h.id; range = h.range; kind = statement h k }))
 
 abbrev modifier_word : BlockModifier → List ℕ
 modifier_word modifiers.Unsafe = codes "unsafe"
 modifier_word modifiers.Try = codes "try"
+modifier_word modifiers.Const = codes "const"
 
 -- the modifier that a word is, of those that are read yet
 abbrev pub modifier_of : List ℕ → Option BlockModifier
-modifier_of word = with_word modifier_word (modifiers.Unsafe ∷ modifiers.Try ∷ []) word
+modifier_of word = with_word modifier_word (modifiers.Unsafe ∷ modifiers.Try ∷ modifiers.Const ∷ []) word
 
-unfoldable pub of_block : Here → Option AnyPart
-of_block h = Some (part.Expr (expr_part.Block (roll-BlockExpr (record {
+unfoldable pub of_block : Here → Option ExprPart
+of_block h = Some (expr_part.Block (roll-BlockExpr (record {
   id = h.id;
   range = h.range;
   mod_ = option_and_then modifier_of (text_in (codes "mod") h.value);
@@ -50,20 +52,19 @@ of_block h = Some (part.Expr (expr_part.Block (roll-BlockExpr (record {
   ty = part_in h as_type (codes "ty");
   stmts = list_in h as_stmt (codes "stmts");
   tail = part_in h as_expr (codes "tail");
-}))))
+})))
 
-unfoldable pub label : Here → Option AnyPart
-label h = Some (part.Name (name_part.Label (record { id = h.id; range = h.range; lifetime = part_in h as_lifetime (codes "lifetime") })))
+unfoldable pub label : Here → Option NamePart
+label h = Some (name_part.Label (record { id = h.id; range = h.range; lifetime = part_in h as_lifetime (codes "lifetime") }))
 
-abbrev pub lifetime : Here → Option AnyPart
-lifetime h =
-    option_map (λ t. part.Name (name_part.Lifetime (record { id = h.id; range = h.range; t = t }))) (text_in (codes "t") h.value)
+abbrev pub lifetime : Here → Option NamePart
+lifetime h = option_map (λ t. name_part.Lifetime (record { id = h.id; range = h.range; t = t })) (text_in (codes "t") h.value)
 
-abbrev pub name : Here → Option AnyPart
-name h = option_map (λ t. part.Name (name_part.Name (record { id = h.id; range = h.range; t = t }))) (text_in (codes "t") h.value)
+abbrev pub name : Here → Option NamePart
+name h = option_map (λ t. name_part.Name (record { id = h.id; range = h.range; t = t })) (text_in (codes "t") h.value)
 
 -- labels, lifetimes and names
-abbrev pub other : Here → PartNode → Option AnyPart
+abbrev pub other : Here → PartNode → Option NamePart
 other h kind.Label = label h
 other h kind.Lifetime = lifetime h
 other h kind.Name = name h

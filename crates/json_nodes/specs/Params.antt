@@ -8,8 +8,7 @@ use Rattle.json_kinds.specs.declared.kind.PartNode.TheVariants as kind
 use Rattle.json_nodes.specs.Fields.{flag_of}
 use Rattle.json_nodes.specs.Groups.{as_name, as_lifetime, as_pat, as_type, as_param, as_self_param}
 use Rattle.json_nodes.specs.Parts.{Here, part_in, list_in}
-use Rattle.json_nodes.specs.declared.part.AnyPart.{AnyPart}
-use Rattle.json_nodes.specs.declared.part.AnyPart.TheVariants as part
+use Rattle.json_nodes.specs.declared.param_parts.ParamPart.{ParamPart}
 use Rattle.json_nodes.specs.declared.param_parts.ParamPart.TheVariants as param_part
 
 unfoldable pub self_param : Here → SelfParam
@@ -24,19 +23,19 @@ self_param h = record {
 }
 
 -- a parameter, a `self`, or all of a function
-unfoldable pub of_param : Here → PartNode → Option AnyPart
-of_param h kind.Param = Some (part.Param (param_part.Param (roll-Param (record {
+unfoldable pub of_param : Here → PartNode → Option ParamPart
+of_param h kind.Param = Some (param_part.Param (roll-Param (record {
   id = h.id;
   range = h.range;
   pat = part_in h as_pat (codes "pat");
   ty = part_in h as_type (codes "ty");
   variadic = flag_of (get (codes "variadic") h.value);
-}))))
-of_param h kind.SelfParam = Some (part.Param (param_part.SelfParam (self_param h)))
-of_param h kind.ParamList = Some (part.Param (param_part.ParamList (record {
+})))
+of_param h kind.SelfParam = Some (param_part.SelfParam (self_param h))
+of_param h kind.ParamList = Some (param_part.ParamList (record {
   id = h.id;
   range = h.range;
   self_ = part_in h as_self_param (codes "self");
   params = list_in h as_param (codes "params");
-})))
+}))
 of_param h _ = None

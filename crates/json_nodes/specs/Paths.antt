@@ -11,8 +11,7 @@ use Rattle.json_kinds.specs.declared.kind.PathNode.TheVariants as kind
 use Rattle.json_nodes.specs.Fields.{flag_of, text_in}
 use Rattle.json_nodes.specs.Groups.{as_path, as_segment, as_name, as_generic_args, as_paren_args, as_ret, as_type, as_path_type}
 use Rattle.json_nodes.specs.Parts.{Here, part_in, list_with_nulls_in}
-use Rattle.json_nodes.specs.declared.part.AnyPart.{AnyPart}
-use Rattle.json_nodes.specs.declared.part.AnyPart.TheVariants as part
+use Rattle.json_nodes.specs.declared.path_parts.PathPart.{PathPart}
 use Rattle.json_nodes.specs.declared.path_parts.PathPart.TheVariants as path_part
 
 -- the word of a kind of segments
@@ -56,7 +55,7 @@ path h = roll-Path (record {
 })
 
 -- a path or a segment
-abbrev pub of_path : Here → PathNode → Option AnyPart
-of_path h kind.Path = Some (part.Path (path_part.Path (path h)))
-of_path h kind.PathSegment = Some (part.Path (path_part.Segment (segment h)))
+abbrev pub of_path : Here → PathNode → Option PathPart
+of_path h kind.Path = Some (path_part.Path (path h))
+of_path h kind.PathSegment = Some (path_part.Segment (segment h))
 of_path h _ = None

@@ -11,15 +11,14 @@ use Rattle.json_nodes.specs.Fields.{flag_of}
 use Rattle.json_nodes.specs.Groups.{as_pat, as_name, as_path, as_pat_field, as_pat_literal}
 use Rattle.json_nodes.specs.Operators.{range_op_in}
 use Rattle.json_nodes.specs.Parts.{Here, part_in, list_in}
-use Rattle.json_nodes.specs.declared.part.AnyPart.{AnyPart}
-use Rattle.json_nodes.specs.declared.part.AnyPart.TheVariants as part
+use Rattle.json_nodes.specs.declared.param_parts.PatPart.{PatPart}
 use Rattle.json_nodes.specs.declared.param_parts.PatPart.TheVariants as pat_part
 
-abbrev pub whole_pat : Here → PatKind → AnyPart
-whole_pat h x = part.Pat (pat_part.Pat (record { id = h.id; range = h.range; kind = x }))
+abbrev pub whole_pat : Here → PatKind → PatPart
+whole_pat h x = pat_part.Pat (record { id = h.id; range = h.range; kind = x })
 
 -- names and paths, and tuples behind a path or without one
-unfoldable pub named : Here → PatNode → Option AnyPart
+unfoldable pub named : Here → PatNode → Option PatPart
 named h kind.IdentPat = Some (whole_pat h (pat.IdentPat
     (part_in h as_name (codes "name"))
     (flag_of (get (codes "ref") h.value))
@@ -35,7 +34,7 @@ named h kind.PathPat = Some (whole_pat h (pat.PathPat (part_in h as_path (codes 
 named h _ = None
 
 -- what stands around one pattern, or between some
-unfoldable pub around : Here → PatNode → Option AnyPart
+unfoldable pub around : Here → PatNode → Option PatPart
 around h kind.RefPat = Some (whole_pat h (pat.RefPat (flag_of (get (codes "mut") h.value)) (part_in h as_pat (codes "pat"))))
 around h kind.OrPat = Some (whole_pat h (pat.OrPat (list_in h as_pat (codes "pats"))))
 around h kind.ParenPat = Some (whole_pat h (pat.ParenPat (part_in h as_pat (codes "pat"))))
@@ -44,7 +43,7 @@ around h kind.DerefPat = Some (whole_pat h (pat.DerefPat (part_in h as_pat (code
 around h _ = None
 
 -- records and slices
-unfoldable pub pieces : Here → PatNode → Option AnyPart
+unfoldable pub pieces : Here → PatNode → Option PatPart
 pieces h kind.RecordPat = Some (whole_pat h (pat.RecordPat
     (part_in h as_path (codes "path"))
     (list_in h as_pat_field (codes "fields"))
@@ -56,7 +55,7 @@ pieces h kind.SlicePat = Some (whole_pat h (pat.SlicePat
 pieces h _ = None
 
 -- values, and ranges between two
-unfoldable pub values : Here → PatNode → Option AnyPart
+unfoldable pub values : Here → PatNode → Option PatPart
 values h kind.LiteralPat =
     Some (whole_pat h (pat.LiteralPat (part_in h as_pat_literal (codes "lit")) (flag_of (get (codes "minus") h.value))))
 values h kind.RangePat =
@@ -64,7 +63,7 @@ values h kind.RangePat =
 values h _ = None
 
 -- what has no parts
-unfoldable pub partless_pat : Here → PatNode → Option AnyPart
+unfoldable pub partless_pat : Here → PatNode → Option PatPart
 partless_pat h kind.CfgPredPat = Some (whole_pat h (pat.CfgPredPat (pred_in (get (codes "pred") h.value))))
 partless_pat h kind.WildcardPat = Some (whole_pat h pat.WildcardPat)
 partless_pat h kind.RestPat = Some (whole_pat h pat.RestPat)
@@ -72,5 +71,5 @@ partless_pat h kind.NotNullPat = Some (whole_pat h pat.NotNullPat)
 partless_pat h kind.ConstBlockPat = Some (whole_pat h pat.ConstBlockPat)
 partless_pat h _ = None
 
-abbrev pub of_pat : Here → PatNode → Option AnyPart
+abbrev pub of_pat : Here → PatNode → Option PatPart
 of_pat h k = or_else (named h k) (or_else (around h k) (or_else (pieces h k) (or_else (values h k) (partless_pat h k))))

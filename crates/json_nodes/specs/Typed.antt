@@ -1,4 +1,4 @@
--- Expressions with types or paths, and the parts of a record.
+-- Expressions with types or paths, the parts of a record, and those of a pattern of one.
 use Rattle.std.specs.Prelude.{codes, Option, Some, None}
 use Rattle.serde_json.specs.Find.{get}
 use Rattle.hir_syntax.specs.declared.ast.ExprKind.TheVariants as expr
@@ -13,38 +13,43 @@ use Rattle.json_nodes.specs.Fields.{flag_of}
 use Rattle.json_nodes.specs.Exprs.{whole_expr}
 use Rattle.json_nodes.specs.Groups.{as_expr, as_name, as_pat, as_path, as_type, as_record_list, as_record_field}
 use Rattle.json_nodes.specs.Parts.{Here, part_in, list_in}
-use Rattle.json_nodes.specs.declared.part.AnyPart.{AnyPart}
-use Rattle.json_nodes.specs.declared.part.AnyPart.TheVariants as part
+use Rattle.json_nodes.specs.declared.code_parts.CodePart.{CodePart}
 use Rattle.json_nodes.specs.declared.code_parts.CodePart.TheVariants as code_part
+use Rattle.json_nodes.specs.declared.param_parts.PatPart.{PatPart}
 use Rattle.json_nodes.specs.declared.param_parts.PatPart.TheVariants as pat_part
+use Rattle.json_nodes.specs.declared.code_parts.ExprPart.{ExprPart}
 
 -- casts, records and offsets of fields
-unfoldable pub typed : Here → ExprNode → Option AnyPart
+unfoldable pub typed : Here → ExprNode → Option ExprPart
 typed h kind.CastExpr = Some (whole_expr h (expr.CastExpr (part_in h as_expr (codes "expr")) (part_in h as_type (codes "ty"))))
 typed h kind.RecordExpr =
     Some (whole_expr h (expr.RecordExpr (part_in h as_path (codes "path")) (part_in h as_record_list (codes "list"))))
 typed h kind.OffsetOfExpr = Some (whole_expr h (expr.OffsetOfExpr (part_in h as_type (codes "ty")) (list_in h as_name (codes "fields"))))
 typed h _ = None
 
--- the fields of a record, and one of them, also of a pattern
-unfoldable pub of_record : Here → PartNode → Option AnyPart
-of_record h part_kind.RecordExprFieldList = Some (part.Code (code_part.RecordList (roll-RecordExprFieldList (record {
+-- the fields of a record, and one of them
+unfoldable pub of_record : Here → PartNode → Option CodePart
+of_record h part_kind.RecordExprFieldList = Some (code_part.RecordList (roll-RecordExprFieldList (record {
   id = h.id;
   range = h.range;
   fields = list_in h as_record_field (codes "fields");
   spread = part_in h as_expr (codes "spread");
   dotdot = flag_of (get (codes "dotdot") h.value);
-}))))
-of_record h part_kind.RecordExprField = Some (part.Code (code_part.RecordField (roll-RecordExprField (record {
+})))
+of_record h part_kind.RecordExprField = Some (code_part.RecordField (roll-RecordExprField (record {
   id = h.id;
   range = h.range;
   name = part_in h as_name (codes "name");
   expr = part_in h as_expr (codes "expr");
-}))))
-of_record h part_kind.RecordPatField = Some (part.Pat (pat_part.PatField (roll-RecordPatField (record {
+})))
+of_record h _ = None
+
+-- a field of a pattern
+unfoldable pub of_pat_field : Here → PartNode → Option PatPart
+of_pat_field h part_kind.RecordPatField = Some (pat_part.PatField (roll-RecordPatField (record {
   id = h.id;
   range = h.range;
   name = part_in h as_name (codes "name");
   pat = part_in h as_pat (codes "pat");
-}))))
-of_record h _ = None
+})))
+of_pat_field h _ = None

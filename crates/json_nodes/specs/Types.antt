@@ -10,15 +10,14 @@ use Rattle.json_kinds.specs.declared.kind.TypeNode.TheVariants as kind
 use Rattle.json_nodes.specs.Fields.{flag_of, text_in}
 use Rattle.json_nodes.specs.Groups.{as_type, as_pat, as_path, as_lifetime, as_const_arg, as_param, as_ret, as_binder, as_bound}
 use Rattle.json_nodes.specs.Parts.{Here, part_in, list_in, list_if_there}
-use Rattle.json_nodes.specs.declared.part.AnyPart.{AnyPart}
-use Rattle.json_nodes.specs.declared.part.AnyPart.TheVariants as part
+use Rattle.json_nodes.specs.declared.type_parts.TypePart.{TypePart}
 use Rattle.json_nodes.specs.declared.type_parts.TypePart.TheVariants as type_part
 
-abbrev pub whole_type : Here → TypeKind → AnyPart
-whole_type h x = part.Type_ (type_part.Type_ (record { id = h.id; range = h.range; kind = x }))
+abbrev pub whole_type : Here → TypeKind → TypePart
+whole_type h x = type_part.Type_ (record { id = h.id; range = h.range; kind = x })
 
 -- what is made of other types
-unfoldable pub over_types : Here → TypeNode → Option AnyPart
+unfoldable pub over_types : Here → TypeNode → Option TypePart
 over_types h kind.ParenType = Some (whole_type h (type_kinds.ParenType (part_in h as_type (codes "ty"))))
 over_types h kind.SliceType = Some (whole_type h (type_kinds.SliceType (part_in h as_type (codes "ty"))))
 over_types h kind.TupleType = Some (whole_type h (type_kinds.TupleType (list_in h as_type (codes "fields"))))
@@ -34,7 +33,7 @@ function_pointer h = type_kinds.FnPtrType
     (part_in h as_ret (codes "ret"))
 
 -- what has a part of another group beside its type, or in its place
-unfoldable pub beside_types : Here → TypeNode → Option AnyPart
+unfoldable pub beside_types : Here → TypeNode → Option TypePart
 beside_types h kind.RefType = Some (whole_type h (type_kinds.RefType
     (part_in h as_lifetime (codes "lifetime"))
     (flag_of (get (codes "mut") h.value))
@@ -49,20 +48,20 @@ beside_types h kind.PatternType =
 beside_types h _ = None
 
 -- what has bounds, and what is a word
-unfoldable pub bounded : Here → TypeNode → Option AnyPart
+unfoldable pub bounded : Here → TypeNode → Option TypePart
 bounded h kind.ImplTraitType = Some (whole_type h (type_kinds.ImplTraitType (list_in h as_bound (codes "bounds"))))
 bounded h kind.DynTraitType = Some (whole_type h (type_kinds.DynTraitType (list_in h as_bound (codes "bounds"))))
 bounded h kind.NeverType = Some (whole_type h type_kinds.NeverType)
 bounded h kind.InferType = Some (whole_type h type_kinds.InferType)
 bounded h _ = None
 
-abbrev pub of_type : Here → TypeNode → Option AnyPart
+abbrev pub of_type : Here → TypeNode → Option TypePart
 of_type h k = or_else (over_types h k) (or_else (beside_types h k) (bounded h k))
 
 -- a path is told from other types, since it may also name a trait
-unfoldable pub of_path_type : Here → Option AnyPart
-of_path_type h = Some (part.Type_ (type_part.PathType (roll-PathType (record {
+unfoldable pub of_path_type : Here → Option TypePart
+of_path_type h = Some (type_part.PathType (roll-PathType (record {
   id = h.id;
   range = h.range;
   path = part_in h as_path (codes "path");
-}))))
+})))

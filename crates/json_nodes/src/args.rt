@@ -8,7 +8,6 @@ use crate::code_parts::Exprs;
 use crate::field::flag;
 use crate::fields::{All, Fields, InBox, One};
 use crate::name_parts::{Lifetimes, Names};
-use crate::part::AnyPart;
 use crate::path_parts::{GenericArgLists, GenericArgs, PathPart, TypeArgs};
 use crate::type_parts::{Bounds, Types};
 use hir_syntax::ast::{AssocTypeArg, GenericArg, LifetimeArg};
@@ -36,18 +35,18 @@ fn assoc_arg<F: Fields>(node: &F, refused: &mut bool) -> AssocTypeArg
 }
 
 #[tactic(auto, unfolding(crate::specs::Args::arg))]
-fn arg<F: Fields>(node: &F, refused: &mut bool, kind: PathNode) -> Option<AnyPart>
+fn arg<F: Fields>(node: &F, refused: &mut bool, kind: PathNode) -> Option<PathPart>
     requires { F.can node.now }
     ensures { Kept refused.old refused.new (result ≡ spec.arg (F.here node.now) kind) }
 {
     match kind {
         PathNode::TypeArg => {
             let ty = node.field::<InBox<Types>>(refused, "ty");
-            Some(AnyPart::Path(PathPart::TypeArg(ty)))
+            Some(PathPart::TypeArg(ty))
         }
         PathNode::AssocTypeArg => {
             let arg = GenericArg::AssocTypeArg(assoc_arg(node, refused));
-            Some(AnyPart::Path(PathPart::GenericArg(arg)))
+            Some(PathPart::GenericArg(arg))
         }
         PathNode::LifetimeArg => {
             let lifetime = node.field::<One<Lifetimes>>(refused, "lifetime");
@@ -56,36 +55,36 @@ fn arg<F: Fields>(node: &F, refused: &mut bool, kind: PathNode) -> Option<AnyPar
                 range: node.range(),
                 lifetime,
             });
-            Some(AnyPart::Path(PathPart::GenericArg(arg)))
+            Some(PathPart::GenericArg(arg))
         }
         PathNode::ConstArg => {
             let expr = node.field::<InBox<Exprs>>(refused, "expr");
-            Some(AnyPart::Path(PathPart::ConstArg(expr)))
+            Some(PathPart::ConstArg(expr))
         }
         _ => None,
     }
 }
 
 #[tactic(auto, unfolding(crate::specs::Args::arg_list))]
-fn arg_list<F: Fields>(node: &F, refused: &mut bool, kind: PathNode) -> Option<AnyPart>
+fn arg_list<F: Fields>(node: &F, refused: &mut bool, kind: PathNode) -> Option<PathPart>
     requires { F.can node.now }
     ensures { Kept refused.old refused.new (result ≡ spec.arg_list (F.here node.now) kind) }
 {
     match kind {
         PathNode::GenericArgList => {
             let args = node.field::<All<GenericArgs>>(refused, "args");
-            Some(AnyPart::Path(PathPart::GenericArgs(args)))
+            Some(PathPart::GenericArgs(args))
         }
         PathNode::ParenArgs => {
             let args = node.field::<All<TypeArgs>>(refused, "args");
-            Some(AnyPart::Path(PathPart::ParenArgs(args)))
+            Some(PathPart::ParenArgs(args))
         }
         _ => None,
     }
 }
 
 /// An argument, or a list of some.
-pub fn of_args<F: Fields>(node: &F, refused: &mut bool, kind: PathNode) -> Option<AnyPart>
+pub fn of_args<F: Fields>(node: &F, refused: &mut bool, kind: PathNode) -> Option<PathPart>
     requires { F.can node.now }
     ensures { Kept refused.old refused.new (result ≡ spec.of_args (F.here node.now) kind) }
 {

@@ -9,7 +9,6 @@ ghost use Rattle.json_nodes.specs.Fields.{text_in};
 use crate::field::{flag, text};
 use crate::fields::{All, AllOrNulls, Fields, InBox, One};
 use crate::name_parts::{Lifetimes, UseArgs};
-use crate::part::AnyPart;
 use crate::type_parts::{Binders, PathTypes, TypePart, Types};
 use hir_syntax::ast::{BoundKind, ForBinder, TypeBound};
 use json_kinds::kind::PartNode;
@@ -56,23 +55,23 @@ fn bound<F: Fields>(node: &F, refused: &mut bool) -> TypeBound
 
 /// A bound, or what else stands beside types.
 #[tactic(auto, unfolding(crate::specs::Bounds::of_bound))]
-pub fn of_bound<F: Fields>(node: &F, refused: &mut bool, kind: PartNode) -> Option<AnyPart>
+pub fn of_bound<F: Fields>(node: &F, refused: &mut bool, kind: PartNode) -> Option<TypePart>
     requires { F.can node.now }
     ensures { Kept refused.old refused.new (result ≡ spec.of_bound (F.here node.now) kind) }
 {
     match kind {
-        PartNode::TypeBound => Some(AnyPart::Type_(TypePart::Bound(bound(node, refused)))),
+        PartNode::TypeBound => Some(TypePart::Bound(bound(node, refused))),
         PartNode::ForBinder => {
             let params = node.field::<AllOrNulls<Lifetimes>>(refused, "params");
-            Some(AnyPart::Type_(TypePart::Binder(ForBinder {
+            Some(TypePart::Binder(ForBinder {
                 id: node.id(),
                 range: node.range(),
                 params,
-            })))
+            }))
         }
         PartNode::RetType => {
             let ty = node.field::<InBox<Types>>(refused, "ty");
-            Some(AnyPart::Type_(TypePart::Ret(ty)))
+            Some(TypePart::Ret(ty))
         }
         _ => None,
     }

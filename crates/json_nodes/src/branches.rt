@@ -4,17 +4,16 @@ ghost use Rattle.std.specs.Prelude.{◌≡◌};
 ghost use Rattle.json_nodes.specs.Kept.{Kept};
 ghost use Rattle.json_nodes.specs.Branches as spec;
 
-use crate::code_parts::{Arms, Blocks, CodePart, Exprs, Guards};
+use crate::code_parts::{Arms, Blocks, CodePart, ExprPart, Exprs, Guards};
 use crate::exprs::whole_expr;
 use crate::fields::{AllIfThere, Fields, InBox, One};
 use crate::param_parts::Pats;
-use crate::part::AnyPart;
 use hir_syntax::ast::{ExprKind, MatchArm};
 use json_kinds::kind::{ExprNode, PartNode};
 
 /// `let` as a condition, and `match`.
 #[tactic(auto, unfolding(crate::specs::Branches::branching))]
-pub fn branching<F: Fields>(node: &F, refused: &mut bool, kind: ExprNode) -> Option<AnyPart>
+pub fn branching<F: Fields>(node: &F, refused: &mut bool, kind: ExprNode) -> Option<ExprPart>
     requires { F.can node.now }
     ensures { Kept refused.old refused.new (result ≡ spec.branching (F.here node.now) kind) }
 {
@@ -35,7 +34,7 @@ pub fn branching<F: Fields>(node: &F, refused: &mut bool, kind: ExprNode) -> Opt
 
 /// An arm, its guard, and what follows the `else` of a `let`.
 #[tactic(auto, unfolding(crate::specs::Branches::of_branch))]
-pub fn of_branch<F: Fields>(node: &F, refused: &mut bool, kind: PartNode) -> Option<AnyPart>
+pub fn of_branch<F: Fields>(node: &F, refused: &mut bool, kind: PartNode) -> Option<CodePart>
     requires { F.can node.now }
     ensures { Kept refused.old refused.new (result ≡ spec.of_branch (F.here node.now) kind) }
 {
@@ -44,21 +43,21 @@ pub fn of_branch<F: Fields>(node: &F, refused: &mut bool, kind: PartNode) -> Opt
             let pat = node.field::<InBox<Pats>>(refused, "pat");
             let guard = node.field::<One<Guards>>(refused, "guard");
             let expr = node.field::<InBox<Exprs>>(refused, "expr");
-            Some(AnyPart::Code(CodePart::Arm(MatchArm {
+            Some(CodePart::Arm(MatchArm {
                 id: node.id(),
                 range: node.range(),
                 pat,
                 guard,
                 expr,
-            })))
+            }))
         }
         PartNode::Guard => {
             let condition = node.field::<InBox<Exprs>>(refused, "condition");
-            Some(AnyPart::Code(CodePart::Guard(condition)))
+            Some(CodePart::Guard(condition))
         }
         PartNode::LetElse => {
             let block = node.field::<One<Blocks>>(refused, "block");
-            Some(AnyPart::Code(CodePart::LetElse(block)))
+            Some(CodePart::LetElse(block))
         }
         _ => None,
     }

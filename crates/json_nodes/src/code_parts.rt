@@ -1,9 +1,9 @@
 //! Expressions, statements, and their parts.
 
-ghost use Rattle.json_nodes.specs.Groups.{as_arm, as_block, as_else, as_expr, as_guard, as_let_else, as_pat_literal};
-ghost use Rattle.json_nodes.specs.Groups.{as_record_field, as_record_list, as_stmt};
+ghost use Rattle.json_nodes.specs.Groups.{arm_of, block_of, code_in, else_of, expr_in, expr_of, guard_of, let_else_of};
+ghost use Rattle.json_nodes.specs.Groups.{pat_literal_of, record_field_of, record_list_of, stmt_of};
 
-use crate::part::{AnyPart, BoxedGroup, Group, ReadParts};
+use crate::part::{AnyPart, BoxedGroup, PartSort, ReadParts, SortGroup};
 use hir_base::Boxed;
 use hir_base::node::{NodeId, TextRange};
 use hir_syntax::ast::{
@@ -62,26 +62,55 @@ pub struct RecordLists;
 /// Fields of a record.
 pub struct RecordFields;
 
-impl Group for Exprs {
+impl PartSort for ExprPart {
+    ghost in_part = { expr_in };
+
+    fn served<G: SortGroup<Sort = ExprPart>>(part: AnyPart) -> Result<G::Part, AnyPart> {
+        match part {
+            AnyPart::Expr(part) => match G::from_sort(part) {
+                Ok(part) => Ok(part),
+                Err(part) => Err(AnyPart::Expr(part)),
+            },
+            other => Err(other),
+        }
+    }
+}
+
+impl PartSort for CodePart {
+    ghost in_part = { code_in };
+
+    fn served<G: SortGroup<Sort = CodePart>>(part: AnyPart) -> Result<G::Part, AnyPart> {
+        match part {
+            AnyPart::Code(part) => match G::from_sort(part) {
+                Ok(part) => Ok(part),
+                Err(part) => Err(AnyPart::Code(part)),
+            },
+            other => Err(other),
+        }
+    }
+}
+
+impl SortGroup for Exprs {
+    type Sort = ExprPart;
+
     type Part = Expr;
 
-    ghost as_group = { as_expr };
+    ghost of_sort = { expr_of };
 
-    fn from_part(part: AnyPart) -> Result<Expr, AnyPart> {
+    fn from_sort(part: ExprPart) -> Result<Expr, ExprPart> {
         match part {
-            AnyPart::Expr(ExprPart::Expr(expr)) => Ok(expr.into_inner()),
-            AnyPart::Expr(ExprPart::If(expr)) => Ok(expr.into_inner()),
-            AnyPart::Expr(ExprPart::Block(block)) => Ok(Expr {
+            ExprPart::Expr(expr) => Ok(expr.into_inner()),
+            ExprPart::If(expr) => Ok(expr.into_inner()),
+            ExprPart::Block(block) => Ok(Expr {
                 id: block.get().id,
                 range: block.get().range,
                 kind: ExprKind::BlockExpr(block),
             }),
-            AnyPart::Expr(ExprPart::Literal(id, range, literal)) => Ok(Expr {
+            ExprPart::Literal(id, range, literal) => Ok(Expr {
                 id,
                 range,
                 kind: ExprKind::Literal(literal),
             }),
-            other => Err(other),
         }
     }
 }
@@ -97,123 +126,137 @@ impl BoxedGroup for Exprs {
     }
 }
 
-impl Group for Elses {
+impl SortGroup for Elses {
+    type Sort = ExprPart;
+
     type Part = ElseBranch;
 
-    ghost as_group = { as_else };
+    ghost of_sort = { else_of };
 
-    fn from_part(part: AnyPart) -> Result<ElseBranch, AnyPart> {
+    fn from_sort(part: ExprPart) -> Result<ElseBranch, ExprPart> {
         match part {
-            AnyPart::Expr(ExprPart::Block(block)) => Ok(ElseBranch::ElseBlock(block)),
-            AnyPart::Expr(ExprPart::If(expr)) => Ok(ElseBranch::ElseIf(expr)),
+            ExprPart::Block(block) => Ok(ElseBranch::ElseBlock(block)),
+            ExprPart::If(expr) => Ok(ElseBranch::ElseIf(expr)),
             other => Err(other),
         }
     }
 }
 
-impl Group for Blocks {
+impl SortGroup for Blocks {
+    type Sort = ExprPart;
+
     type Part = Boxed<BlockExpr>;
 
-    ghost as_group = { as_block };
+    ghost of_sort = { block_of };
 
-    fn from_part(part: AnyPart) -> Result<Boxed<BlockExpr>, AnyPart> {
+    fn from_sort(part: ExprPart) -> Result<Boxed<BlockExpr>, ExprPart> {
         match part {
-            AnyPart::Expr(ExprPart::Block(block)) => Ok(block),
+            ExprPart::Block(block) => Ok(block),
             other => Err(other),
         }
     }
 }
 
-impl Group for PatLiterals {
+impl SortGroup for PatLiterals {
+    type Sort = ExprPart;
+
     type Part = PatLiteral;
 
-    ghost as_group = { as_pat_literal };
+    ghost of_sort = { pat_literal_of };
 
-    fn from_part(part: AnyPart) -> Result<PatLiteral, AnyPart> {
+    fn from_sort(part: ExprPart) -> Result<PatLiteral, ExprPart> {
         match part {
-            AnyPart::Expr(ExprPart::Literal(id, range, literal)) => Ok(PatLiteral {
-                id,
-                range,
-                literal,
-            }),
+            ExprPart::Literal(id, range, literal) => Ok(PatLiteral { id, range, literal }),
             other => Err(other),
         }
     }
 }
 
-impl Group for Stmts {
+impl SortGroup for Stmts {
+    type Sort = CodePart;
+
     type Part = Stmt;
 
-    ghost as_group = { as_stmt };
+    ghost of_sort = { stmt_of };
 
-    fn from_part(part: AnyPart) -> Result<Stmt, AnyPart> {
+    fn from_sort(part: CodePart) -> Result<Stmt, CodePart> {
         match part {
-            AnyPart::Code(CodePart::Stmt(stmt)) => Ok(stmt),
+            CodePart::Stmt(stmt) => Ok(stmt),
             other => Err(other),
         }
     }
 }
 
-impl Group for LetElses {
+impl SortGroup for LetElses {
+    type Sort = CodePart;
+
     type Part = LetElse;
 
-    ghost as_group = { as_let_else };
+    ghost of_sort = { let_else_of };
 
-    fn from_part(part: AnyPart) -> Result<LetElse, AnyPart> {
+    fn from_sort(part: CodePart) -> Result<LetElse, CodePart> {
         match part {
-            AnyPart::Code(CodePart::LetElse(let_else)) => Ok(let_else),
+            CodePart::LetElse(let_else) => Ok(let_else),
             other => Err(other),
         }
     }
 }
 
-impl Group for Arms {
+impl SortGroup for Arms {
+    type Sort = CodePart;
+
     type Part = MatchArm;
 
-    ghost as_group = { as_arm };
+    ghost of_sort = { arm_of };
 
-    fn from_part(part: AnyPart) -> Result<MatchArm, AnyPart> {
+    fn from_sort(part: CodePart) -> Result<MatchArm, CodePart> {
         match part {
-            AnyPart::Code(CodePart::Arm(arm)) => Ok(arm),
+            CodePart::Arm(arm) => Ok(arm),
             other => Err(other),
         }
     }
 }
 
-impl Group for Guards {
+impl SortGroup for Guards {
+    type Sort = CodePart;
+
     type Part = Guard;
 
-    ghost as_group = { as_guard };
+    ghost of_sort = { guard_of };
 
-    fn from_part(part: AnyPart) -> Result<Guard, AnyPart> {
+    fn from_sort(part: CodePart) -> Result<Guard, CodePart> {
         match part {
-            AnyPart::Code(CodePart::Guard(guard)) => Ok(guard),
+            CodePart::Guard(guard) => Ok(guard),
             other => Err(other),
         }
     }
 }
 
-impl Group for RecordLists {
+impl SortGroup for RecordLists {
+    type Sort = CodePart;
+
     type Part = RecordExprFieldList;
 
-    ghost as_group = { as_record_list };
+    ghost of_sort = { record_list_of };
 
-    fn from_part(part: AnyPart) -> Result<RecordExprFieldList, AnyPart> {
+    fn from_sort(part: CodePart) -> Result<RecordExprFieldList, CodePart> {
         match part {
-            AnyPart::Code(CodePart::RecordList(list)) => Ok(list),
+            CodePart::RecordList(list) => Ok(list),
             other => Err(other),
         }
     }
 }
 
-impl Group for RecordFields {
+impl SortGroup for RecordFields {
+    type Sort = CodePart;
+
     type Part = RecordExprField;
 
-    ghost as_group = { as_record_field };
+    ghost of_sort = { record_field_of };
 
-    fn from_part(part: AnyPart) -> Result<RecordExprField, AnyPart> {
+    fn from_sort(part: CodePart) -> Result<RecordExprField, CodePart> {
         match part {
-            AnyPart::Code(CodePart::RecordField(field)) => Ok(field),
+            CodePart::RecordField(field) => Ok(field),
             other => Err(other),
         }
     }

@@ -10,13 +10,12 @@ use crate::literal::literal;
 use crate::name_parts::{Labels, Lifetimes};
 use crate::operators::range_op;
 use crate::param_parts::Pats;
-use crate::part::AnyPart;
 use crate::path_parts::Paths;
 use hir_syntax::ast::{Expr, ExprKind};
 use json_kinds::kind::ExprNode;
 
 /// An expression of a kind, in a box.
-pub fn whole_expr<F: Fields>(node: &F, refused: &mut bool, kind: ExprKind) -> Option<AnyPart>
+pub fn whole_expr<F: Fields>(node: &F, refused: &mut bool, kind: ExprKind) -> Option<ExprPart>
     ensures { Kept refused.old refused.new (result ≡ Some (spec.whole_expr (F.here node.now) kind)) }
 {
     let expr = Expr {
@@ -25,7 +24,7 @@ pub fn whole_expr<F: Fields>(node: &F, refused: &mut bool, kind: ExprKind) -> Op
         kind,
     };
     let expr = node.boxed_expr(refused, expr)?;
-    Some(AnyPart::Expr(ExprPart::Expr(expr)))
+    Some(ExprPart::Expr(expr))
 }
 
 #[tactic(auto, unfolding(crate::specs::Exprs::if_expr))]
@@ -44,7 +43,7 @@ fn if_expr<F: Fields>(node: &F, refused: &mut bool) -> ExprKind
 }
 
 /// An `if`, which is told from other expressions, since it may follow `else`.
-pub fn of_if<F: Fields>(node: &F, refused: &mut bool) -> Option<AnyPart>
+pub fn of_if<F: Fields>(node: &F, refused: &mut bool) -> Option<ExprPart>
     requires { F.can node.now }
     ensures { Kept refused.old refused.new (result ≡ spec.of_if (F.here node.now)) }
 {
@@ -54,19 +53,15 @@ pub fn of_if<F: Fields>(node: &F, refused: &mut bool) -> Option<AnyPart>
         kind: if_expr(node, refused),
     };
     let expr = node.boxed_expr(refused, expr)?;
-    Some(AnyPart::Expr(ExprPart::If(expr)))
+    Some(ExprPart::If(expr))
 }
 
 /// A literal, which is told from other expressions, since it may stand in a pattern.
-pub fn of_literal<F: Fields>(node: &F, refused: &mut bool) -> Option<AnyPart>
+pub fn of_literal<F: Fields>(node: &F, refused: &mut bool) -> Option<ExprPart>
     ensures { Kept refused.old refused.new (result ≡ spec.of_literal (F.here node.now)) }
 {
     match literal(node.alloc(), node.value()) {
-        Ok(Some(literal)) => Some(AnyPart::Expr(ExprPart::Literal(
-            node.id(),
-            node.range(),
-            literal,
-        ))),
+        Ok(Some(literal)) => Some(ExprPart::Literal(node.id(), node.range(), literal)),
         Ok(None) => None,
         Err(_) => {
             *refused = true;
@@ -77,7 +72,7 @@ pub fn of_literal<F: Fields>(node: &F, refused: &mut bool) -> Option<AnyPart>
 
 /// What steers the order of running.
 #[tactic(auto, unfolding(crate::specs::Exprs::flow))]
-pub fn flow<F: Fields>(node: &F, refused: &mut bool, kind: ExprNode) -> Option<AnyPart>
+pub fn flow<F: Fields>(node: &F, refused: &mut bool, kind: ExprNode) -> Option<ExprPart>
     requires { F.can node.now }
     ensures { Kept refused.old refused.new (result ≡ spec.flow (F.here node.now) kind) }
 {
@@ -136,7 +131,7 @@ pub fn flow<F: Fields>(node: &F, refused: &mut bool, kind: ExprNode) -> Option<A
 
 /// Calls, paths, parentheses and ranges.
 #[tactic(auto, unfolding(crate::specs::Exprs::plain))]
-pub fn plain<F: Fields>(node: &F, refused: &mut bool, kind: ExprNode) -> Option<AnyPart>
+pub fn plain<F: Fields>(node: &F, refused: &mut bool, kind: ExprNode) -> Option<ExprPart>
     requires { F.can node.now }
     ensures { Kept refused.old refused.new (result ≡ spec.plain (F.here node.now) kind) }
 {

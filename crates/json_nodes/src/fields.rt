@@ -155,18 +155,6 @@ pub trait Fields {
         requires { can self.now }
         ensures { Kept refused.old refused.new (result ≡ A.said (here self.now) name.now) };
 
-    /// What a part is in a group, if it serves there.
-    fn served<G: Group>(&self, part: AnyPart) -> Option<G::Part>
-        ensures { result ≡ G.as_group part };
-
-    /// The same in a box.
-    fn served_in_box<G: BoxedGroup>(
-        &self,
-        refused: &mut bool,
-        part: AnyPart,
-    ) -> Option<Boxed<G::Part>>
-        ensures { Kept refused.old refused.new (result ≡ G.as_group part) };
-
     /// A parameter as the only one of a list.
     fn only_param(&self, refused: &mut bool, param: Param) -> Seq<Param>
         ensures { Kept refused.old refused.new (result ≡ param ∷ []) };
@@ -207,18 +195,6 @@ impl<P: ReadParts> Fields for Node<'_, P> {
 
     fn field<A: Field>(&self, refused: &mut bool, name: &str) -> A::Held {
         A::read(self, refused, name)
-    }
-
-    fn served<G: Group>(&self, part: AnyPart) -> Option<G::Part> {
-        Node::served::<G>(self, part)
-    }
-
-    fn served_in_box<G: BoxedGroup>(
-        &self,
-        refused: &mut bool,
-        part: AnyPart,
-    ) -> Option<Boxed<G::Part>> {
-        Node::served_in_box::<G>(self, refused, part)
     }
 
     fn only_param(&self, refused: &mut bool, param: Param) -> Seq<Param> {

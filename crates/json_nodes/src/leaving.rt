@@ -4,16 +4,15 @@ ghost use Rattle.std.specs.Prelude.{◌≡◌};
 ghost use Rattle.json_nodes.specs.Kept.{Kept};
 ghost use Rattle.json_nodes.specs.Exprs as spec;
 
-use crate::code_parts::Exprs;
+use crate::code_parts::{ExprPart, Exprs};
 use crate::exprs::whole_expr;
 use crate::fields::{Fields, InBox};
-use crate::part::AnyPart;
 use hir_syntax::ast::ExprKind;
 use json_kinds::kind::ExprNode;
 
 /// `return`, `become`, `yield`, `do yeet` and `.await`.
 #[tactic(auto, unfolding(crate::specs::Exprs::leaving))]
-pub fn leaving<F: Fields>(node: &F, refused: &mut bool, kind: ExprNode) -> Option<AnyPart>
+pub fn leaving<F: Fields>(node: &F, refused: &mut bool, kind: ExprNode) -> Option<ExprPart>
     requires { F.can node.now }
     ensures { Kept refused.old refused.new (result ≡ spec.leaving (F.here node.now) kind) }
 {

@@ -4,19 +4,34 @@ ghost use Rattle.std.specs.Prelude.{◌≡◌};
 ghost use Rattle.json_nodes.specs.Kept.{Kept};
 ghost use Rattle.json_nodes.specs.Exprs as spec;
 
-use crate::code_parts::Exprs;
+use crate::code_parts::{ExprPart, Exprs};
 use crate::exprs::whole_expr;
 use crate::field::flag;
 use crate::fields::{All, AllIfThere, Fields, InBox, One};
 use crate::name_parts::Names;
-use crate::part::AnyPart;
 use crate::path_parts::GenericArgLists;
 use hir_syntax::ast::ExprKind;
 use json_kinds::kind::ExprNode;
 
+/// An array, which with a semicolon repeats one part.
+#[tactic(auto, unfolding(crate::specs::Exprs::array))]
+fn array<F: Fields>(node: &F, refused: &mut bool) -> ExprKind
+    requires { F.can node.now }
+    ensures { Kept refused.old refused.new (result ≡ spec.array (F.here node.now)) }
+{
+    if flag(node.value(), "semi") {
+        let init = node.field::<InBox<Exprs>>(refused, "init");
+        let len = node.field::<InBox<Exprs>>(refused, "len");
+        ExprKind::RepeatExpr { init, len }
+    } else {
+        let elems = node.field::<All<Exprs>>(refused, "elems");
+        ExprKind::ArrayExpr { elems }
+    }
+}
+
 /// Methods and fields, tuples and arrays.
 #[tactic(auto, unfolding(crate::specs::Exprs::member))]
-pub fn member<F: Fields>(node: &F, refused: &mut bool, kind: ExprNode) -> Option<AnyPart>
+pub fn member<F: Fields>(node: &F, refused: &mut bool, kind: ExprNode) -> Option<ExprPart>
     requires { F.can node.now }
     ensures { Kept refused.old refused.new (result ≡ spec.member (F.here node.now) kind) }
 {
@@ -54,8 +69,8 @@ pub fn member<F: Fields>(node: &F, refused: &mut bool, kind: ExprNode) -> Option
             )
         }
         ExprNode::ArrayExpr => {
-            let elems = node.field::<All<Exprs>>(refused, "elems");
-            whole_expr(node, refused, ExprKind::ArrayExpr { elems })
+            let kind = array(node, refused);
+            whole_expr(node, refused, kind)
         }
         _ => None,
     }

@@ -1,10 +1,10 @@
 //! Names, lifetimes and labels.
 
 ghost use Rattle.std.specs.Prelude.{◌≡◌, Some};
-ghost use Rattle.json_nodes.specs.Groups.{is_quoted, use_arg_of, as_label, as_lifetime, as_name, as_use_arg};
+ghost use Rattle.json_nodes.specs.Groups.{is_quoted, label_of, lifetime_of, name_in, name_of, use_arg_of};
 ghost use Rattle.json_nodes.specs.declared.name_parts.NamePart.TheVariants as name_part;
 
-use crate::part::{AnyPart, Group};
+use crate::part::{AnyPart, PartSort, SortGroup};
 use hir_base::Text;
 use hir_base::node::{NodeId, TextRange};
 use hir_syntax::ast::{Label, Lifetime, Name, UseArg};
@@ -51,57 +51,79 @@ fn use_arg(id: NodeId, range: TextRange, t: Text) -> UseArg
     }
 }
 
-impl Group for Labels {
+impl PartSort for NamePart {
+    ghost in_part = { name_in };
+
+    fn served<G: SortGroup<Sort = NamePart>>(part: AnyPart) -> Result<G::Part, AnyPart> {
+        match part {
+            AnyPart::Name(part) => match G::from_sort(part) {
+                Ok(part) => Ok(part),
+                Err(part) => Err(AnyPart::Name(part)),
+            },
+            other => Err(other),
+        }
+    }
+}
+
+impl SortGroup for Labels {
+    type Sort = NamePart;
+
     type Part = Label;
 
-    ghost as_group = { as_label };
+    ghost of_sort = { label_of };
 
-    fn from_part(part: AnyPart) -> Result<Label, AnyPart> {
+    fn from_sort(part: NamePart) -> Result<Label, NamePart> {
         match part {
-            AnyPart::Name(NamePart::Label(label)) => Ok(label),
+            NamePart::Label(label) => Ok(label),
             other => Err(other),
         }
     }
 }
 
-impl Group for Lifetimes {
+impl SortGroup for Lifetimes {
+    type Sort = NamePart;
+
     type Part = Lifetime;
 
-    ghost as_group = { as_lifetime };
+    ghost of_sort = { lifetime_of };
 
-    fn from_part(part: AnyPart) -> Result<Lifetime, AnyPart> {
+    fn from_sort(part: NamePart) -> Result<Lifetime, NamePart> {
         match part {
-            AnyPart::Name(NamePart::Lifetime(lifetime)) => Ok(lifetime),
-            AnyPart::Name(NamePart::Text(id, range, t)) => Ok(Lifetime { id, range, t }),
+            NamePart::Lifetime(lifetime) => Ok(lifetime),
+            NamePart::Text(id, range, t) => Ok(Lifetime { id, range, t }),
             other => Err(other),
         }
     }
 }
 
-impl Group for Names {
+impl SortGroup for Names {
+    type Sort = NamePart;
+
     type Part = Name;
 
-    ghost as_group = { as_name };
+    ghost of_sort = { name_of };
 
-    fn from_part(part: AnyPart) -> Result<Name, AnyPart> {
+    fn from_sort(part: NamePart) -> Result<Name, NamePart> {
         match part {
-            AnyPart::Name(NamePart::Name(name)) => Ok(name),
-            AnyPart::Name(NamePart::Text(id, range, t)) => Ok(Name { id, range, t }),
+            NamePart::Name(name) => Ok(name),
+            NamePart::Text(id, range, t) => Ok(Name { id, range, t }),
             other => Err(other),
         }
     }
 }
 
-impl Group for UseArgs {
+impl SortGroup for UseArgs {
+    type Sort = NamePart;
+
     type Part = UseArg;
 
-    ghost as_group = { as_use_arg };
+    ghost of_sort = { use_arg_of };
 
-    fn from_part(part: AnyPart) -> Result<UseArg, AnyPart> {
+    fn from_sort(part: NamePart) -> Result<UseArg, NamePart> {
         match part {
-            AnyPart::Name(NamePart::Lifetime(lifetime)) => Ok(UseArg::Lifetime(lifetime)),
-            AnyPart::Name(NamePart::Name(name)) => Ok(UseArg::Name(name)),
-            AnyPart::Name(NamePart::Text(id, range, t)) => Ok(use_arg(id, range, t)),
+            NamePart::Lifetime(lifetime) => Ok(UseArg::Lifetime(lifetime)),
+            NamePart::Name(name) => Ok(UseArg::Name(name)),
+            NamePart::Text(id, range, t) => Ok(use_arg(id, range, t)),
             other => Err(other),
         }
     }

@@ -1,6 +1,6 @@
 //! A node and its fields.
 
-ghost use Rattle.std.specs.Prelude.{◌≡◌, option_map};
+ghost use Rattle.std.specs.Prelude.{◌≡◌, option_and_then, option_map};
 ghost use Rattle.serde_json.specs.View.{view, items_view};
 ghost use Rattle.json_nodes.specs.Kept.{Kept};
 ghost use Rattle.json_nodes.specs.Parts as spec;
@@ -95,47 +95,6 @@ impl<G: Group> Item for OrNull<G> {
 }
 
 impl<P: ReadParts> Node<'_, P> {
-    /// A text as a part.
-    fn text_part(&self, refused: &mut bool, text: &str) -> Option<AnyPart>
-        ensures { Kept refused.old refused.new (result ≡ spec.text_part (here P.parts self.now) text.now) }
-    {
-        match Text::new(self.alloc, text) {
-            Ok(text) => Some(AnyPart::Name(NamePart::Text(self.id, self.range, text))),
-            Err(_) => {
-                *refused = true;
-                None
-            }
-        }
-    }
-
-    /// What stands at an index.
-    fn part_at(&self, refused: &mut bool, at: u32) -> Option<AnyPart>
-        requires { P.can self.now.parts.now }
-        ensures { Kept refused.old refused.new (result ≡ (here P.parts self.now).part at) }
-    {
-        match self.parts.part_at(self.alloc, at) {
-            Ok(part) => part,
-            Err(_) => {
-                *refused = true;
-                None
-            }
-        }
-    }
-
-    /// What stands at the index in a value, or the text that it is.
-    fn part_in(&self, refused: &mut bool, value: &Value) -> Option<AnyPart>
-        requires { P.can self.now.parts.now }
-        ensures { Kept refused.old refused.new (result ≡ spec.any_part (here P.parts self.now) (view value.now)) }
-    {
-        if let Some(text) = value.as_str() {
-            return self.text_part(refused, text);
-        }
-        match small(value) {
-            Some(at) => self.part_at(refused, at),
-            None => None,
-        }
-    }
-
     /// A part in a group, if it serves there.
     pub fn served<G: Group>(&self, part: AnyPart) -> Option<G::Part>
         ensures { result ≡ G.as_group part }
@@ -149,27 +108,46 @@ impl<P: ReadParts> Node<'_, P> {
         }
     }
 
-    /// The same in a box.
-    pub fn served_in_box<G: BoxedGroup>(
-        &self,
-        refused: &mut bool,
-        part: AnyPart,
-    ) -> Option<Boxed<G::Part>>
-        ensures { Kept refused.old refused.new (result ≡ G.as_group part) }
+    /// A text as a part.
+    fn written<G: Group>(&self, refused: &mut bool, text: &str) -> Option<G::Part>
+        ensures { Kept refused.old refused.new
+            (result ≡ option_and_then G.as_group (spec.text_part (here P.parts self.now) text.now)) }
     {
-        match self.served::<G>(part) {
-            Some(part) => G::in_box(self.parts, self.alloc, refused, part),
-            None => None,
+        match Text::new(self.alloc, text) {
+            Ok(text) => self.served::<G>(AnyPart::Name(NamePart::Text(self.id, self.range, text))),
+            Err(_) => {
+                *refused = true;
+                None
+            }
         }
     }
 
-    /// The part that a value is or names.
+    /// The part that stands at an index.
+    fn part_at<G: Group>(&self, refused: &mut bool, at: u32) -> Option<G::Part>
+        requires { P.can self.now.parts.now }
+        ensures { Kept refused.old refused.new
+            (result ≡ option_and_then G.as_group ((here P.parts self.now).part at)) }
+    {
+        match self.parts.part_at(self.alloc, at) {
+            Ok(Some(part)) => self.served::<G>(part),
+            Ok(None) => None,
+            Err(_) => {
+                *refused = true;
+                None
+            }
+        }
+    }
+
+    /// The part that a value is, as a text, or names, by its index.
     pub fn child<G: Group>(&self, refused: &mut bool, value: &Value) -> Option<G::Part>
         requires { P.can self.now.parts.now }
         ensures { Kept refused.old refused.new (result ≡ spec.child (here P.parts self.now) G.as_group (view value.now)) }
     {
-        match self.part_in(refused, value) {
-            Some(part) => self.served::<G>(part),
+        if let Some(text) = value.as_str() {
+            return self.written::<G>(refused, text);
+        }
+        match small(value) {
+            Some(at) => self.part_at::<G>(refused, at),
             None => None,
         }
     }

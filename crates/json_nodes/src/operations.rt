@@ -4,18 +4,17 @@ ghost use Rattle.std.specs.Prelude.{◌≡◌};
 ghost use Rattle.json_nodes.specs.Kept.{Kept};
 ghost use Rattle.json_nodes.specs.Exprs as spec;
 
-use crate::code_parts::Exprs;
+use crate::code_parts::{ExprPart, Exprs};
 use crate::exprs::whole_expr;
 use crate::field::flag;
 use crate::fields::{Fields, InBox};
 use crate::operators::{binary_op, unary_op};
-use crate::part::AnyPart;
 use hir_syntax::ast::ExprKind;
 use json_kinds::kind::ExprNode;
 
 /// Operators, references and indexes.
 #[tactic(auto, unfolding(crate::specs::Exprs::operation))]
-pub fn operation<F: Fields>(node: &F, refused: &mut bool, kind: ExprNode) -> Option<AnyPart>
+pub fn operation<F: Fields>(node: &F, refused: &mut bool, kind: ExprNode) -> Option<ExprPart>
     requires { F.can node.now }
     ensures { Kept refused.old refused.new (result ≡ spec.operation (F.here node.now) kind) }
 {

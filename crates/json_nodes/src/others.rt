@@ -11,7 +11,6 @@ use crate::field::{flag, text};
 use crate::fields::{All, Fields, InBox, One, Written};
 use crate::name_parts::{Labels, Lifetimes, NamePart};
 use crate::param_parts::{ParamLists, Pats};
-use crate::part::AnyPart;
 use crate::type_parts::Types;
 use hir_syntax::ast::{BlockExpr, BlockModifier, Fn, Label, Lifetime, Name, Stmt, StmtKind};
 use json_kinds::kind::{PartNode, StmtNode};
@@ -45,16 +44,16 @@ fn statement<F: Fields>(node: &F, refused: &mut bool, kind: StmtNode) -> StmtKin
 }
 
 /// A statement.
-pub fn of_stmt<F: Fields>(node: &F, refused: &mut bool, kind: StmtNode) -> Option<AnyPart>
+pub fn of_stmt<F: Fields>(node: &F, refused: &mut bool, kind: StmtNode) -> Option<CodePart>
     requires { F.can node.now }
     ensures { Kept refused.old refused.new (result ≡ spec.of_stmt (F.here node.now) kind) }
 {
     let kind = statement(node, refused, kind);
-    Some(AnyPart::Code(CodePart::Stmt(Stmt {
+    Some(CodePart::Stmt(Stmt {
         id: node.id(),
         range: node.range(),
         kind,
-    })))
+    }))
 }
 
 fn modifier_with(word: &str) -> Option<BlockModifier>
@@ -63,6 +62,7 @@ fn modifier_with(word: &str) -> Option<BlockModifier>
     match word {
         "unsafe" => Some(BlockModifier::Unsafe),
         "try" => Some(BlockModifier::Try),
+        "const" => Some(BlockModifier::Const),
         _ => None,
     }
 }
@@ -75,7 +75,7 @@ fn modifier(node: &Value) -> Option<BlockModifier>
 
 /// A block.
 #[tactic(auto, unfolding(crate::specs::Others::of_block))]
-pub fn of_block<F: Fields>(node: &F, refused: &mut bool) -> Option<AnyPart>
+pub fn of_block<F: Fields>(node: &F, refused: &mut bool) -> Option<ExprPart>
     requires { F.can node.now }
     ensures { Kept refused.old refused.new (result ≡ spec.of_block (F.here node.now)) }
 {
@@ -93,52 +93,52 @@ pub fn of_block<F: Fields>(node: &F, refused: &mut bool) -> Option<AnyPart>
         tail,
     };
     let block = node.boxed_block(refused, block)?;
-    Some(AnyPart::Expr(ExprPart::Block(block)))
+    Some(ExprPart::Block(block))
 }
 
 #[tactic(auto, unfolding(crate::specs::Others::label))]
-fn label<F: Fields>(node: &F, refused: &mut bool) -> Option<AnyPart>
+fn label<F: Fields>(node: &F, refused: &mut bool) -> Option<NamePart>
     requires { F.can node.now }
     ensures { Kept refused.old refused.new (result ≡ spec.label (F.here node.now)) }
 {
     let lifetime = node.field::<One<Lifetimes>>(refused, "lifetime");
-    Some(AnyPart::Name(NamePart::Label(Label {
+    Some(NamePart::Label(Label {
         id: node.id(),
         range: node.range(),
         lifetime,
-    })))
+    }))
 }
 
-fn lifetime<F: Fields>(node: &F, refused: &mut bool) -> Option<AnyPart>
+fn lifetime<F: Fields>(node: &F, refused: &mut bool) -> Option<NamePart>
     requires { F.can node.now }
     ensures { Kept refused.old refused.new (result ≡ spec.lifetime (F.here node.now)) }
 {
     match node.field::<Written>(refused, "t") {
-        Some(t) => Some(AnyPart::Name(NamePart::Lifetime(Lifetime {
+        Some(t) => Some(NamePart::Lifetime(Lifetime {
             id: node.id(),
             range: node.range(),
             t,
-        }))),
+        })),
         None => None,
     }
 }
 
-fn name<F: Fields>(node: &F, refused: &mut bool) -> Option<AnyPart>
+fn name<F: Fields>(node: &F, refused: &mut bool) -> Option<NamePart>
     requires { F.can node.now }
     ensures { Kept refused.old refused.new (result ≡ spec.name (F.here node.now)) }
 {
     match node.field::<Written>(refused, "t") {
-        Some(t) => Some(AnyPart::Name(NamePart::Name(Name {
+        Some(t) => Some(NamePart::Name(Name {
             id: node.id(),
             range: node.range(),
             t,
-        }))),
+        })),
         None => None,
     }
 }
 
 /// Labels, lifetimes and names.
-pub fn other<F: Fields>(node: &F, refused: &mut bool, kind: PartNode) -> Option<AnyPart>
+pub fn other<F: Fields>(node: &F, refused: &mut bool, kind: PartNode) -> Option<NamePart>
     requires { F.can node.now }
     ensures { Kept refused.old refused.new (result ≡ spec.other (F.here node.now) kind) }
 {

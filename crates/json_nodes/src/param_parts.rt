@@ -1,8 +1,8 @@
 //! Patterns and parameters.
 
-ghost use Rattle.json_nodes.specs.Groups.{as_param, as_param_list, as_pat, as_pat_field, as_self_param};
+ghost use Rattle.json_nodes.specs.Groups.{param_in, param_list_of, param_of, pat_field_of, pat_in, pat_of, self_param_of};
 
-use crate::part::{AnyPart, BoxedGroup, Group, ReadParts};
+use crate::part::{AnyPart, BoxedGroup, PartSort, ReadParts, SortGroup};
 use hir_base::Boxed;
 use hir_syntax::ast::{Param, ParamList, Pat, RecordPatField, SelfParam};
 use std::alloc::Global;
@@ -35,14 +35,44 @@ pub struct SelfParams;
 /// All parameters of a function.
 pub struct ParamLists;
 
-impl Group for Pats {
+impl PartSort for PatPart {
+    ghost in_part = { pat_in };
+
+    fn served<G: SortGroup<Sort = PatPart>>(part: AnyPart) -> Result<G::Part, AnyPart> {
+        match part {
+            AnyPart::Pat(part) => match G::from_sort(part) {
+                Ok(part) => Ok(part),
+                Err(part) => Err(AnyPart::Pat(part)),
+            },
+            other => Err(other),
+        }
+    }
+}
+
+impl PartSort for ParamPart {
+    ghost in_part = { param_in };
+
+    fn served<G: SortGroup<Sort = ParamPart>>(part: AnyPart) -> Result<G::Part, AnyPart> {
+        match part {
+            AnyPart::Param(part) => match G::from_sort(part) {
+                Ok(part) => Ok(part),
+                Err(part) => Err(AnyPart::Param(part)),
+            },
+            other => Err(other),
+        }
+    }
+}
+
+impl SortGroup for Pats {
+    type Sort = PatPart;
+
     type Part = Pat;
 
-    ghost as_group = { as_pat };
+    ghost of_sort = { pat_of };
 
-    fn from_part(part: AnyPart) -> Result<Pat, AnyPart> {
+    fn from_sort(part: PatPart) -> Result<Pat, PatPart> {
         match part {
-            AnyPart::Pat(PatPart::Pat(pat)) => Ok(pat.into_inner()),
+            PatPart::Pat(pat) => Ok(pat.into_inner()),
             other => Err(other),
         }
     }
@@ -59,53 +89,61 @@ impl BoxedGroup for Pats {
     }
 }
 
-impl Group for PatFields {
+impl SortGroup for PatFields {
+    type Sort = PatPart;
+
     type Part = RecordPatField;
 
-    ghost as_group = { as_pat_field };
+    ghost of_sort = { pat_field_of };
 
-    fn from_part(part: AnyPart) -> Result<RecordPatField, AnyPart> {
+    fn from_sort(part: PatPart) -> Result<RecordPatField, PatPart> {
         match part {
-            AnyPart::Pat(PatPart::PatField(field)) => Ok(field),
+            PatPart::PatField(field) => Ok(field),
             other => Err(other),
         }
     }
 }
 
-impl Group for Params {
+impl SortGroup for Params {
+    type Sort = ParamPart;
+
     type Part = Param;
 
-    ghost as_group = { as_param };
+    ghost of_sort = { param_of };
 
-    fn from_part(part: AnyPart) -> Result<Param, AnyPart> {
+    fn from_sort(part: ParamPart) -> Result<Param, ParamPart> {
         match part {
-            AnyPart::Param(ParamPart::Param(param)) => Ok(param),
+            ParamPart::Param(param) => Ok(param),
             other => Err(other),
         }
     }
 }
 
-impl Group for SelfParams {
+impl SortGroup for SelfParams {
+    type Sort = ParamPart;
+
     type Part = SelfParam;
 
-    ghost as_group = { as_self_param };
+    ghost of_sort = { self_param_of };
 
-    fn from_part(part: AnyPart) -> Result<SelfParam, AnyPart> {
+    fn from_sort(part: ParamPart) -> Result<SelfParam, ParamPart> {
         match part {
-            AnyPart::Param(ParamPart::SelfParam(param)) => Ok(param),
+            ParamPart::SelfParam(param) => Ok(param),
             other => Err(other),
         }
     }
 }
 
-impl Group for ParamLists {
+impl SortGroup for ParamLists {
+    type Sort = ParamPart;
+
     type Part = ParamList;
 
-    ghost as_group = { as_param_list };
+    ghost of_sort = { param_list_of };
 
-    fn from_part(part: AnyPart) -> Result<ParamList, AnyPart> {
+    fn from_sort(part: ParamPart) -> Result<ParamList, ParamPart> {
         match part {
-            AnyPart::Param(ParamPart::ParamList(params)) => Ok(params),
+            ParamPart::ParamList(params) => Ok(params),
             other => Err(other),
         }
     }

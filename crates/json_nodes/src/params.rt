@@ -8,7 +8,6 @@ use crate::field::flag;
 use crate::fields::{All, Fields, InBox, One};
 use crate::name_parts::{Lifetimes, Names};
 use crate::param_parts::{ParamPart, Params, Pats, SelfParams};
-use crate::part::AnyPart;
 use crate::type_parts::Types;
 use hir_syntax::ast::{Param, ParamList, SelfParam};
 use json_kinds::kind::PartNode;
@@ -34,7 +33,7 @@ fn self_param<F: Fields>(node: &F, refused: &mut bool) -> SelfParam
 
 /// A parameter, a `self`, or all of a function.
 #[tactic(auto, unfolding(crate::specs::Params::of_param))]
-pub fn of_param<F: Fields>(node: &F, refused: &mut bool, kind: PartNode) -> Option<AnyPart>
+pub fn of_param<F: Fields>(node: &F, refused: &mut bool, kind: PartNode) -> Option<ParamPart>
     requires { F.can node.now }
     ensures { Kept refused.old refused.new (result ≡ spec.of_param (F.here node.now) kind) }
 {
@@ -42,26 +41,24 @@ pub fn of_param<F: Fields>(node: &F, refused: &mut bool, kind: PartNode) -> Opti
         PartNode::Param => {
             let pat = node.field::<InBox<Pats>>(refused, "pat");
             let ty = node.field::<InBox<Types>>(refused, "ty");
-            Some(AnyPart::Param(ParamPart::Param(Param {
+            Some(ParamPart::Param(Param {
                 id: node.id(),
                 range: node.range(),
                 pat,
                 ty,
                 variadic: flag(node.value(), "variadic"),
-            })))
+            }))
         }
-        PartNode::SelfParam => {
-            Some(AnyPart::Param(ParamPart::SelfParam(self_param(node, refused))))
-        }
+        PartNode::SelfParam => Some(ParamPart::SelfParam(self_param(node, refused))),
         PartNode::ParamList => {
             let self_ = node.field::<One<SelfParams>>(refused, "self");
             let params = node.field::<All<Params>>(refused, "params");
-            Some(AnyPart::Param(ParamPart::ParamList(ParamList {
+            Some(ParamPart::ParamList(ParamList {
                 id: node.id(),
                 range: node.range(),
                 self_,
                 params,
-            })))
+            }))
         }
         _ => None,
     }

@@ -1,6 +1,6 @@
 //! The parts of trees, by their group.
 
-ghost use Rattle.std.specs.Prelude.{◌≡◌, ℕ, IfOk, Option, Some};
+ghost use Rattle.std.specs.Prelude.{◌≡◌, ℕ, IfOk, Option, Some, option_and_then};
 ghost use Rattle.std.specs.Result.{result_ok};
 ghost use Rattle.json_nodes.specs.Kept.{Kept};
 ghost use Rattle.json_nodes.specs.declared.part.AnyPart.{AnyPart};
@@ -80,6 +80,50 @@ pub trait Group {
     /// The part as one of this group, or as it was where it is of another.
     fn from_part(part: AnyPart) -> Result<Self::Part, AnyPart>
         ensures { result_ok result ≡ as_group part };
+}
+
+/// A group of parts of one sort.
+pub trait SortGroup {
+    ghost use Rattle.std.specs.Prelude.{Option};
+
+    type Sort;
+
+    type Part;
+
+    /// What a part of the sort is in a field for this group, if it serves there.
+    ghost of_sort: { Self.Sort → Option Self.Part };
+
+    /// The part as one of this group, or as it was where it is of another.
+    fn from_sort(part: Self::Sort) -> Result<Self::Part, Self::Sort>
+        ensures { result_ok result ≡ of_sort part };
+}
+
+/// A sort of parts.
+///
+/// Each function that is handed a part of any sort is dear to check, so that one is taken apart here, once a sort.
+pub trait PartSort {
+    ghost use Rattle.std.specs.Prelude.{Option};
+    ghost use Rattle.json_nodes.specs.declared.part.AnyPart.{AnyPart};
+
+    /// A part where it is of this sort.
+    ghost in_part: { AnyPart → Option Self };
+
+    /// The part as one of a group of this sort, or as it was where it is of another.
+    fn served<G: SortGroup<Sort = Self>>(part: AnyPart) -> Result<G::Part, AnyPart>
+        ensures { result_ok result ≡ option_and_then G.of_sort (in_part part) };
+}
+
+impl<G: SortGroup> Group for G
+where
+    G::Sort: PartSort,
+{
+    type Part = G::Part;
+
+    ghost as_group = { λ part. option_and_then G.of_sort (G.Sort.in_part part) };
+
+    fn from_part(part: AnyPart) -> Result<G::Part, AnyPart> {
+        G::Sort::served::<G>(part)
+    }
 }
 
 /// A group of which trees hold parts in boxes.

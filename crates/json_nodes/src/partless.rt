@@ -6,9 +6,9 @@ ghost use Rattle.serde_json.specs.Find.{get};
 ghost use Rattle.json_nodes.specs.Kept.{Kept};
 ghost use Rattle.json_nodes.specs.Exprs as spec;
 
+use crate::code_parts::ExprPart;
 use crate::exprs::whole_expr;
 use crate::fields::Fields;
-use crate::part::AnyPart;
 use hir_base::node::PredId;
 use hir_syntax::ast::ExprKind;
 use json_faults::value::small;
@@ -24,7 +24,7 @@ pub fn pred(node: &Value) -> Option<PredId>
 
 /// Predicates of conditions, `_`, and what the compiler's own macros write.
 #[tactic(auto, unfolding(crate::specs::Exprs::partless))]
-pub fn partless<F: Fields>(node: &F, refused: &mut bool, kind: ExprNode) -> Option<AnyPart>
+pub fn partless<F: Fields>(node: &F, refused: &mut bool, kind: ExprNode) -> Option<ExprPart>
     ensures { Kept refused.old refused.new (result ≡ spec.partless (F.here node.now) kind) }
 {
     match kind {

@@ -1,9 +1,9 @@
 //! Paths, segments and arguments.
 
-ghost use Rattle.json_nodes.specs.Groups.{as_const_arg, as_generic_arg, as_generic_args, as_paren_args, as_path};
-ghost use Rattle.json_nodes.specs.Groups.{as_segment, as_type_arg};
+ghost use Rattle.json_nodes.specs.Groups.{const_arg_of, generic_arg_of, generic_args_of, paren_args_of, path_in};
+ghost use Rattle.json_nodes.specs.Groups.{path_of, segment_of, type_arg_of};
 
-use crate::part::{AnyPart, BoxedGroup, Group, ReadParts};
+use crate::part::{AnyPart, BoxedGroup, PartSort, ReadParts, SortGroup};
 use hir_base::Boxed;
 use hir_syntax::ast::{
     ConstArg, GenericArg, GenericArgList, ParenArgs, Path, PathSegment, TypeArg,
@@ -44,14 +44,30 @@ pub struct ParenArgLists;
 /// Arguments of a name.
 pub struct GenericArgs;
 
-impl Group for Paths {
+impl PartSort for PathPart {
+    ghost in_part = { path_in };
+
+    fn served<G: SortGroup<Sort = PathPart>>(part: AnyPart) -> Result<G::Part, AnyPart> {
+        match part {
+            AnyPart::Path(part) => match G::from_sort(part) {
+                Ok(part) => Ok(part),
+                Err(part) => Err(AnyPart::Path(part)),
+            },
+            other => Err(other),
+        }
+    }
+}
+
+impl SortGroup for Paths {
+    type Sort = PathPart;
+
     type Part = Path;
 
-    ghost as_group = { as_path };
+    ghost of_sort = { path_of };
 
-    fn from_part(part: AnyPart) -> Result<Path, AnyPart> {
+    fn from_sort(part: PathPart) -> Result<Path, PathPart> {
         match part {
-            AnyPart::Path(PathPart::Path(path)) => Ok(path),
+            PathPart::Path(path) => Ok(path),
             other => Err(other),
         }
     }
@@ -68,81 +84,93 @@ impl BoxedGroup for Paths {
     }
 }
 
-impl Group for Segments {
+impl SortGroup for Segments {
+    type Sort = PathPart;
+
     type Part = PathSegment;
 
-    ghost as_group = { as_segment };
+    ghost of_sort = { segment_of };
 
-    fn from_part(part: AnyPart) -> Result<PathSegment, AnyPart> {
+    fn from_sort(part: PathPart) -> Result<PathSegment, PathPart> {
         match part {
-            AnyPart::Path(PathPart::Segment(segment)) => Ok(segment),
+            PathPart::Segment(segment) => Ok(segment),
             other => Err(other),
         }
     }
 }
 
-impl Group for GenericArgLists {
+impl SortGroup for GenericArgLists {
+    type Sort = PathPart;
+
     type Part = GenericArgList;
 
-    ghost as_group = { as_generic_args };
+    ghost of_sort = { generic_args_of };
 
-    fn from_part(part: AnyPart) -> Result<GenericArgList, AnyPart> {
+    fn from_sort(part: PathPart) -> Result<GenericArgList, PathPart> {
         match part {
-            AnyPart::Path(PathPart::GenericArgs(args)) => Ok(args),
+            PathPart::GenericArgs(args) => Ok(args),
             other => Err(other),
         }
     }
 }
 
-impl Group for TypeArgs {
+impl SortGroup for TypeArgs {
+    type Sort = PathPart;
+
     type Part = TypeArg;
 
-    ghost as_group = { as_type_arg };
+    ghost of_sort = { type_arg_of };
 
-    fn from_part(part: AnyPart) -> Result<TypeArg, AnyPart> {
+    fn from_sort(part: PathPart) -> Result<TypeArg, PathPart> {
         match part {
-            AnyPart::Path(PathPart::TypeArg(arg)) => Ok(arg),
+            PathPart::TypeArg(arg) => Ok(arg),
             other => Err(other),
         }
     }
 }
 
-impl Group for ConstArgs {
+impl SortGroup for ConstArgs {
+    type Sort = PathPart;
+
     type Part = ConstArg;
 
-    ghost as_group = { as_const_arg };
+    ghost of_sort = { const_arg_of };
 
-    fn from_part(part: AnyPart) -> Result<ConstArg, AnyPart> {
+    fn from_sort(part: PathPart) -> Result<ConstArg, PathPart> {
         match part {
-            AnyPart::Path(PathPart::ConstArg(arg)) => Ok(arg),
+            PathPart::ConstArg(arg) => Ok(arg),
             other => Err(other),
         }
     }
 }
 
-impl Group for ParenArgLists {
+impl SortGroup for ParenArgLists {
+    type Sort = PathPart;
+
     type Part = ParenArgs;
 
-    ghost as_group = { as_paren_args };
+    ghost of_sort = { paren_args_of };
 
-    fn from_part(part: AnyPart) -> Result<ParenArgs, AnyPart> {
+    fn from_sort(part: PathPart) -> Result<ParenArgs, PathPart> {
         match part {
-            AnyPart::Path(PathPart::ParenArgs(args)) => Ok(args),
+            PathPart::ParenArgs(args) => Ok(args),
             other => Err(other),
         }
     }
 }
 
-impl Group for GenericArgs {
+impl SortGroup for GenericArgs {
+    type Sort = PathPart;
+
     type Part = GenericArg;
 
-    ghost as_group = { as_generic_arg };
+    ghost of_sort = { generic_arg_of };
 
-    fn from_part(part: AnyPart) -> Result<GenericArg, AnyPart> {
+    fn from_sort(part: PathPart) -> Result<GenericArg, PathPart> {
         match part {
-            AnyPart::Path(PathPart::GenericArg(arg)) => Ok(arg),
-            AnyPart::Path(PathPart::TypeArg(arg)) => Ok(GenericArg::TypeArg(arg)),
-            AnyPart::Path(PathPart::ConstArg(arg)) => Ok(GenericArg::ConstArg(arg)),
+            PathPart::GenericArg(arg) => Ok(arg),
+            PathPart::TypeArg(arg) => Ok(GenericArg::TypeArg(arg)),
+            PathPart::ConstArg(arg) => Ok(GenericArg::ConstArg(arg)),
             other => Err(other),
         }
     }

@@ -9,7 +9,6 @@ ghost use Rattle.json_nodes.specs.Paths as spec;
 use crate::field::{flag, text};
 use crate::fields::{AllOrNulls, Fields, InBox, One};
 use crate::name_parts::Names;
-use crate::part::AnyPart;
 use crate::path_parts::{GenericArgLists, ParenArgLists, PathPart, Paths, Segments};
 use crate::type_parts::{PathTypes, Rets, Types};
 use hir_syntax::ast::{Path, PathSegment, SegmentKind};
@@ -80,13 +79,13 @@ pub fn path<F: Fields>(node: &F, refused: &mut bool) -> Path
 }
 
 /// A path or a segment.
-pub fn of_path<F: Fields>(node: &F, refused: &mut bool, kind: PathNode) -> Option<AnyPart>
+pub fn of_path<F: Fields>(node: &F, refused: &mut bool, kind: PathNode) -> Option<PathPart>
     requires { F.can node.now }
     ensures { Kept refused.old refused.new (result ≡ spec.of_path (F.here node.now) kind) }
 {
     match kind {
-        PathNode::Path => Some(AnyPart::Path(PathPart::Path(path(node, refused)))),
-        PathNode::PathSegment => Some(AnyPart::Path(PathPart::Segment(segment(node, refused)))),
+        PathNode::Path => Some(PathPart::Path(path(node, refused))),
+        PathNode::PathSegment => Some(PathPart::Segment(segment(node, refused))),
         _ => None,
     }
 }

@@ -10,14 +10,13 @@ use crate::fields::{All, Fields, InBox, One};
 use crate::name_parts::Names;
 use crate::operators::range_op;
 use crate::param_parts::{PatFields, PatPart, Pats};
-use crate::part::AnyPart;
 use crate::partless::pred;
 use crate::path_parts::Paths;
 use hir_syntax::ast::{Pat, PatKind};
 use json_kinds::kind::PatNode;
 
 /// A pattern of a kind, in a box.
-fn whole_pat<F: Fields>(node: &F, refused: &mut bool, kind: PatKind) -> Option<AnyPart>
+fn whole_pat<F: Fields>(node: &F, refused: &mut bool, kind: PatKind) -> Option<PatPart>
     ensures { Kept refused.old refused.new (result ≡ Some (spec.whole_pat (F.here node.now) kind)) }
 {
     let pat = Pat {
@@ -26,12 +25,12 @@ fn whole_pat<F: Fields>(node: &F, refused: &mut bool, kind: PatKind) -> Option<A
         kind,
     };
     let pat = node.boxed_pat(refused, pat)?;
-    Some(AnyPart::Pat(PatPart::Pat(pat)))
+    Some(PatPart::Pat(pat))
 }
 
 /// Names and paths, and tuples behind a path or without one.
 #[tactic(auto, unfolding(crate::specs::Pats::named))]
-fn named<F: Fields>(node: &F, refused: &mut bool, kind: PatNode) -> Option<AnyPart>
+fn named<F: Fields>(node: &F, refused: &mut bool, kind: PatNode) -> Option<PatPart>
     requires { F.can node.now }
     ensures { Kept refused.old refused.new (result ≡ spec.named (F.here node.now) kind) }
 {
@@ -75,7 +74,7 @@ fn named<F: Fields>(node: &F, refused: &mut bool, kind: PatNode) -> Option<AnyPa
 
 /// What stands around one pattern, or between some.
 #[tactic(auto, unfolding(crate::specs::Pats::around))]
-fn around<F: Fields>(node: &F, refused: &mut bool, kind: PatNode) -> Option<AnyPart>
+fn around<F: Fields>(node: &F, refused: &mut bool, kind: PatNode) -> Option<PatPart>
     requires { F.can node.now }
     ensures { Kept refused.old refused.new (result ≡ spec.around (F.here node.now) kind) }
 {
@@ -107,7 +106,7 @@ fn around<F: Fields>(node: &F, refused: &mut bool, kind: PatNode) -> Option<AnyP
 
 /// Records and slices.
 #[tactic(auto, unfolding(crate::specs::Pats::pieces))]
-fn pieces<F: Fields>(node: &F, refused: &mut bool, kind: PatNode) -> Option<AnyPart>
+fn pieces<F: Fields>(node: &F, refused: &mut bool, kind: PatNode) -> Option<PatPart>
     requires { F.can node.now }
     ensures { Kept refused.old refused.new (result ≡ spec.pieces (F.here node.now) kind) }
 {
@@ -138,7 +137,7 @@ fn pieces<F: Fields>(node: &F, refused: &mut bool, kind: PatNode) -> Option<AnyP
 
 /// Values, and ranges between two.
 #[tactic(auto, unfolding(crate::specs::Pats::values))]
-fn values<F: Fields>(node: &F, refused: &mut bool, kind: PatNode) -> Option<AnyPart>
+fn values<F: Fields>(node: &F, refused: &mut bool, kind: PatNode) -> Option<PatPart>
     requires { F.can node.now }
     ensures { Kept refused.old refused.new (result ≡ spec.values (F.here node.now) kind) }
 {
@@ -160,7 +159,7 @@ fn values<F: Fields>(node: &F, refused: &mut bool, kind: PatNode) -> Option<AnyP
 
 /// Predicates of conditions, `_`, `..`, `!null`, and blocks of constants.
 #[tactic(auto, unfolding(crate::specs::Pats::partless_pat))]
-fn partless_pat<F: Fields>(node: &F, refused: &mut bool, kind: PatNode) -> Option<AnyPart>
+fn partless_pat<F: Fields>(node: &F, refused: &mut bool, kind: PatNode) -> Option<PatPart>
     ensures { Kept refused.old refused.new (result ≡ spec.partless_pat (F.here node.now) kind) }
 {
     match kind {
@@ -180,7 +179,7 @@ fn partless_pat<F: Fields>(node: &F, refused: &mut bool, kind: PatNode) -> Optio
 }
 
 /// A pattern.
-pub fn of_pat<F: Fields>(node: &F, refused: &mut bool, kind: PatNode) -> Option<AnyPart>
+pub fn of_pat<F: Fields>(node: &F, refused: &mut bool, kind: PatNode) -> Option<PatPart>
     requires { F.can node.now }
     ensures { Kept refused.old refused.new (result ≡ spec.of_pat (F.here node.now) kind) }
 {

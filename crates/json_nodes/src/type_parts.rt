@@ -1,8 +1,8 @@
 //! Types, and what stands beside them.
 
-ghost use Rattle.json_nodes.specs.Groups.{as_binder, as_bound, as_path_type, as_ret, as_type};
+ghost use Rattle.json_nodes.specs.Groups.{binder_of, bound_of, path_type_of, ret_of, type_in, type_of};
 
-use crate::part::{AnyPart, BoxedGroup, Group, ReadParts};
+use crate::part::{AnyPart, BoxedGroup, PartSort, ReadParts, SortGroup};
 use hir_base::Boxed;
 use hir_syntax::ast::{ForBinder, PathType, RetType, Type_, TypeBound, TypeKind};
 use std::alloc::Global;
@@ -32,15 +32,31 @@ pub struct Binders;
 /// Types that are returned.
 pub struct Rets;
 
-impl Group for Types {
+impl PartSort for TypePart {
+    ghost in_part = { type_in };
+
+    fn served<G: SortGroup<Sort = TypePart>>(part: AnyPart) -> Result<G::Part, AnyPart> {
+        match part {
+            AnyPart::Type_(part) => match G::from_sort(part) {
+                Ok(part) => Ok(part),
+                Err(part) => Err(AnyPart::Type_(part)),
+            },
+            other => Err(other),
+        }
+    }
+}
+
+impl SortGroup for Types {
+    type Sort = TypePart;
+
     type Part = Type_;
 
-    ghost as_group = { as_type };
+    ghost of_sort = { type_of };
 
-    fn from_part(part: AnyPart) -> Result<Type_, AnyPart> {
+    fn from_sort(part: TypePart) -> Result<Type_, TypePart> {
         match part {
-            AnyPart::Type_(TypePart::Type_(ty)) => Ok(ty.into_inner()),
-            AnyPart::Type_(TypePart::PathType(PathType { id, range, path })) => Ok(Type_ {
+            TypePart::Type_(ty) => Ok(ty.into_inner()),
+            TypePart::PathType(PathType { id, range, path }) => Ok(Type_ {
                 id,
                 range,
                 kind: TypeKind::PathType { path },
@@ -61,53 +77,61 @@ impl BoxedGroup for Types {
     }
 }
 
-impl Group for PathTypes {
+impl SortGroup for PathTypes {
+    type Sort = TypePart;
+
     type Part = PathType;
 
-    ghost as_group = { as_path_type };
+    ghost of_sort = { path_type_of };
 
-    fn from_part(part: AnyPart) -> Result<PathType, AnyPart> {
+    fn from_sort(part: TypePart) -> Result<PathType, TypePart> {
         match part {
-            AnyPart::Type_(TypePart::PathType(ty)) => Ok(ty),
+            TypePart::PathType(ty) => Ok(ty),
             other => Err(other),
         }
     }
 }
 
-impl Group for Bounds {
+impl SortGroup for Bounds {
+    type Sort = TypePart;
+
     type Part = TypeBound;
 
-    ghost as_group = { as_bound };
+    ghost of_sort = { bound_of };
 
-    fn from_part(part: AnyPart) -> Result<TypeBound, AnyPart> {
+    fn from_sort(part: TypePart) -> Result<TypeBound, TypePart> {
         match part {
-            AnyPart::Type_(TypePart::Bound(bound)) => Ok(bound),
+            TypePart::Bound(bound) => Ok(bound),
             other => Err(other),
         }
     }
 }
 
-impl Group for Binders {
+impl SortGroup for Binders {
+    type Sort = TypePart;
+
     type Part = ForBinder;
 
-    ghost as_group = { as_binder };
+    ghost of_sort = { binder_of };
 
-    fn from_part(part: AnyPart) -> Result<ForBinder, AnyPart> {
+    fn from_sort(part: TypePart) -> Result<ForBinder, TypePart> {
         match part {
-            AnyPart::Type_(TypePart::Binder(binder)) => Ok(binder),
+            TypePart::Binder(binder) => Ok(binder),
             other => Err(other),
         }
     }
 }
 
-impl Group for Rets {
+impl SortGroup for Rets {
+    type Sort = TypePart;
+
     type Part = RetType;
 
-    ghost as_group = { as_ret };
+    ghost of_sort = { ret_of };
 
-    fn from_part(part: AnyPart) -> Result<RetType, AnyPart> {
+    fn from_sort(part: TypePart) -> Result<RetType, TypePart> {
         match part {
-            AnyPart::Type_(TypePart::Ret(ret)) => Ok(ret),
+            TypePart::Ret(ret) => Ok(ret),
             other => Err(other),
         }
     }

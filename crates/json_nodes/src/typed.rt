@@ -1,16 +1,15 @@
-//! Expressions with types or paths, and the parts of a record.
+//! Expressions with types or paths, the parts of a record, and those of a pattern of one.
 
 ghost use Rattle.std.specs.Prelude.{◌≡◌};
 ghost use Rattle.json_nodes.specs.Kept.{Kept};
 ghost use Rattle.json_nodes.specs.Typed as spec;
 
-use crate::code_parts::{CodePart, Exprs, RecordFields, RecordLists};
+use crate::code_parts::{CodePart, ExprPart, Exprs, RecordFields, RecordLists};
 use crate::exprs::whole_expr;
 use crate::field::flag;
 use crate::fields::{All, Fields, InBox, One};
 use crate::name_parts::Names;
 use crate::param_parts::{PatPart, Pats};
-use crate::part::AnyPart;
 use crate::path_parts::Paths;
 use crate::type_parts::Types;
 use hir_syntax::ast::{ExprKind, RecordExprField, RecordExprFieldList, RecordPatField};
@@ -18,7 +17,7 @@ use json_kinds::kind::{ExprNode, PartNode};
 
 /// Casts, records and offsets of fields.
 #[tactic(auto, unfolding(crate::specs::Typed::typed))]
-pub fn typed<F: Fields>(node: &F, refused: &mut bool, kind: ExprNode) -> Option<AnyPart>
+pub fn typed<F: Fields>(node: &F, refused: &mut bool, kind: ExprNode) -> Option<ExprPart>
     requires { F.can node.now }
     ensures { Kept refused.old refused.new (result ≡ spec.typed (F.here node.now) kind) }
 {
@@ -42,9 +41,9 @@ pub fn typed<F: Fields>(node: &F, refused: &mut bool, kind: ExprNode) -> Option<
     }
 }
 
-/// The fields of a record, and one of them, also of a pattern.
+/// The fields of a record, and one of them.
 #[tactic(auto, unfolding(crate::specs::Typed::of_record))]
-pub fn of_record<F: Fields>(node: &F, refused: &mut bool, kind: PartNode) -> Option<AnyPart>
+pub fn of_record<F: Fields>(node: &F, refused: &mut bool, kind: PartNode) -> Option<CodePart>
     requires { F.can node.now }
     ensures { Kept refused.old refused.new (result ≡ spec.of_record (F.here node.now) kind) }
 {
@@ -52,33 +51,44 @@ pub fn of_record<F: Fields>(node: &F, refused: &mut bool, kind: PartNode) -> Opt
         PartNode::RecordExprFieldList => {
             let fields = node.field::<All<RecordFields>>(refused, "fields");
             let spread = node.field::<InBox<Exprs>>(refused, "spread");
-            Some(AnyPart::Code(CodePart::RecordList(RecordExprFieldList {
+            Some(CodePart::RecordList(RecordExprFieldList {
                 id: node.id(),
                 range: node.range(),
                 fields,
                 spread,
                 dotdot: flag(node.value(), "dotdot"),
-            })))
+            }))
         }
         PartNode::RecordExprField => {
             let name = node.field::<One<Names>>(refused, "name");
             let expr = node.field::<InBox<Exprs>>(refused, "expr");
-            Some(AnyPart::Code(CodePart::RecordField(RecordExprField {
+            Some(CodePart::RecordField(RecordExprField {
                 id: node.id(),
                 range: node.range(),
                 name,
                 expr,
-            })))
+            }))
         }
+        _ => None,
+    }
+}
+
+/// A field of a pattern.
+#[tactic(auto, unfolding(crate::specs::Typed::of_pat_field))]
+pub fn of_pat_field<F: Fields>(node: &F, refused: &mut bool, kind: PartNode) -> Option<PatPart>
+    requires { F.can node.now }
+    ensures { Kept refused.old refused.new (result ≡ spec.of_pat_field (F.here node.now) kind) }
+{
+    match kind {
         PartNode::RecordPatField => {
             let name = node.field::<One<Names>>(refused, "name");
             let pat = node.field::<InBox<Pats>>(refused, "pat");
-            Some(AnyPart::Pat(PatPart::PatField(RecordPatField {
+            Some(PatPart::PatField(RecordPatField {
                 id: node.id(),
                 range: node.range(),
                 name,
                 pat,
-            })))
+            }))
         }
         _ => None,
     }

@@ -8,14 +8,13 @@ use crate::field::flag;
 use crate::fields::{All, AllIfThere, Fields, InBox, One, Written};
 use crate::name_parts::Lifetimes;
 use crate::param_parts::{Params, Pats};
-use crate::part::AnyPart;
 use crate::path_parts::{ConstArgs, Paths};
 use crate::type_parts::{Binders, Bounds, Rets, TypePart, Types};
 use hir_syntax::ast::{PathType, Type_, TypeKind};
 use json_kinds::kind::TypeNode;
 
 /// A type of a kind, in a box.
-fn whole_type<F: Fields>(node: &F, refused: &mut bool, kind: TypeKind) -> Option<AnyPart>
+fn whole_type<F: Fields>(node: &F, refused: &mut bool, kind: TypeKind) -> Option<TypePart>
     ensures { Kept refused.old refused.new (result ≡ Some (spec.whole_type (F.here node.now) kind)) }
 {
     let ty = Type_ {
@@ -24,11 +23,11 @@ fn whole_type<F: Fields>(node: &F, refused: &mut bool, kind: TypeKind) -> Option
         kind,
     };
     let ty = node.boxed_type(refused, ty)?;
-    Some(AnyPart::Type_(TypePart::Type_(ty)))
+    Some(TypePart::Type_(ty))
 }
 
 #[tactic(auto, unfolding(crate::specs::Types::over_types))]
-fn over_types<F: Fields>(node: &F, refused: &mut bool, kind: TypeNode) -> Option<AnyPart>
+fn over_types<F: Fields>(node: &F, refused: &mut bool, kind: TypeNode) -> Option<TypePart>
     requires { F.can node.now }
     ensures { Kept refused.old refused.new (result ≡ spec.over_types (F.here node.now) kind) }
 {
@@ -72,7 +71,7 @@ fn function_pointer<F: Fields>(node: &F, refused: &mut bool) -> TypeKind
 
 /// A type with a part of another group beside its type, or in its place.
 #[tactic(auto, unfolding(crate::specs::Types::beside_types))]
-fn beside_types<F: Fields>(node: &F, refused: &mut bool, kind: TypeNode) -> Option<AnyPart>
+fn beside_types<F: Fields>(node: &F, refused: &mut bool, kind: TypeNode) -> Option<TypePart>
     requires { F.can node.now }
     ensures { Kept refused.old refused.new (result ≡ spec.beside_types (F.here node.now) kind) }
 {
@@ -107,7 +106,7 @@ fn beside_types<F: Fields>(node: &F, refused: &mut bool, kind: TypeNode) -> Opti
 }
 
 #[tactic(auto, unfolding(crate::specs::Types::bounded))]
-fn bounded<F: Fields>(node: &F, refused: &mut bool, kind: TypeNode) -> Option<AnyPart>
+fn bounded<F: Fields>(node: &F, refused: &mut bool, kind: TypeNode) -> Option<TypePart>
     requires { F.can node.now }
     ensures { Kept refused.old refused.new (result ≡ spec.bounded (F.here node.now) kind) }
 {
@@ -127,7 +126,7 @@ fn bounded<F: Fields>(node: &F, refused: &mut bool, kind: TypeNode) -> Option<An
 }
 
 /// A type that is no path.
-pub fn of_type<F: Fields>(node: &F, refused: &mut bool, kind: TypeNode) -> Option<AnyPart>
+pub fn of_type<F: Fields>(node: &F, refused: &mut bool, kind: TypeNode) -> Option<TypePart>
     requires { F.can node.now }
     ensures { Kept refused.old refused.new (result ≡ spec.of_type (F.here node.now) kind) }
 {
@@ -142,14 +141,14 @@ pub fn of_type<F: Fields>(node: &F, refused: &mut bool, kind: TypeNode) -> Optio
 
 /// A path as a type, which is told from other types, since it may also name a trait.
 #[tactic(auto, unfolding(crate::specs::Types::of_path_type))]
-pub fn of_path_type<F: Fields>(node: &F, refused: &mut bool) -> Option<AnyPart>
+pub fn of_path_type<F: Fields>(node: &F, refused: &mut bool) -> Option<TypePart>
     requires { F.can node.now }
     ensures { Kept refused.old refused.new (result ≡ spec.of_path_type (F.here node.now)) }
 {
     let path = node.field::<InBox<Paths>>(refused, "path");
-    Some(AnyPart::Type_(TypePart::PathType(PathType {
+    Some(TypePart::PathType(PathType {
         id: node.id(),
         range: node.range(),
         path,
-    })))
+    }))
 }

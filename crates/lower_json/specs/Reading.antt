@@ -1,5 +1,5 @@
 -- What stands at the nodes of a list.
-use Rattle.std.specs.Prelude.{ℕ, suc, zero, codes, List, [], ◌∷◌, false, Option, None, option_and_then, unwrap_or}
+use Rattle.std.specs.Prelude.{ℕ, suc, zero, codes, List, [], ◌∷◌, false, Option, None, option_and_then, option_map, unwrap_or}
 use Rattle.serde_json.specs.Data.{Data, null, Items}
 use Rattle.serde_json.specs.Find.{get, get_item}
 use Rattle.hir_base.specs.declared.node.NodeId.{NodeId}
@@ -21,39 +21,44 @@ use Rattle.json_nodes.specs.Params.{of_param}
 use Rattle.json_nodes.specs.Pats.{of_pat}
 use Rattle.json_nodes.specs.Paths.{path, of_path}
 use Rattle.json_nodes.specs.Types.{of_type, of_path_type}
-use Rattle.json_nodes.specs.Typed.{typed, of_record}
+use Rattle.json_nodes.specs.Typed.{typed, of_record, of_pat_field}
 use Rattle.json_nodes.specs.Args.{of_args}
 use Rattle.json_nodes.specs.Bounds.{of_bound}
 use Rattle.json_nodes.specs.Groups.{as_pat, as_type}
 use Rattle.json_nodes.specs.Parts.{Here}
 use Rattle.json_kinds.specs.ByWord.{or_else}
+use Rattle.json_nodes.specs.declared.code_parts.ExprPart.{ExprPart}
+use Rattle.json_nodes.specs.declared.path_parts.PathPart.{PathPart}
 use Rattle.json_nodes.specs.declared.part.AnyPart.{AnyPart}
+use Rattle.json_nodes.specs.declared.part.AnyPart.TheVariants as part
 use Rattle.lower_json.specs.declared.document.Root.{Root}
 use Rattle.lower_json.specs.declared.document.Root.TheVariants as root
 use Rattle.lower_json.specs.declared.document.Tree.{Tree}
 use Rattle.lower_json.specs.declared.document.Tree.TheVariants as tree
 
-abbrev pub of_expr : Here → ExprNode → Option AnyPart
+abbrev pub of_expr : Here → ExprNode → Option ExprPart
 of_expr h k = or_else (flow h k) (or_else (plain h k) (or_else (branching h k) (or_else (operation h k) (or_else (member h k)
     (or_else (leaving h k) (or_else (typed h k) (partless h k)))))))
 
-abbrev pub of_path_part : Here → PathNode → Option AnyPart
+abbrev pub of_path_part : Here → PathNode → Option PathPart
 of_path_part h k = or_else (of_path h k) (of_args h k)
 
 abbrev pub of_part : Here → PartNode → Option AnyPart
-of_part h k = or_else (of_bound h k) (or_else (of_branch h k) (or_else (of_record h k) (or_else (of_param h k) (other h k))))
+of_part h k = or_else (option_map part.Type_ (of_bound h k)) (or_else (option_map part.Code (of_branch h k))
+    (or_else (option_map part.Code (of_record h k)) (or_else (option_map part.Pat (of_pat_field h k))
+    (or_else (option_map part.Param (of_param h k)) (option_map part.Name (other h k))))))
 
 -- what stands at a node of each kind
 unfoldable pub of_kind : Here → Kind → Option AnyPart
-of_kind h kind.IfExpr = of_if h
-of_kind h kind.BlockExpr = of_block h
-of_kind h kind.Literal = of_literal h
-of_kind h kind.PathType = of_path_type h
-of_kind h (kind.Expr k) = of_expr h k
-of_kind h (kind.Stmt k) = of_stmt h k
-of_kind h (kind.Pat k) = of_pat h k
-of_kind h (kind.Type_ k) = of_type h k
-of_kind h (kind.Path k) = of_path_part h k
+of_kind h kind.IfExpr = option_map part.Expr (of_if h)
+of_kind h kind.BlockExpr = option_map part.Expr (of_block h)
+of_kind h kind.Literal = option_map part.Expr (of_literal h)
+of_kind h kind.PathType = option_map part.Type_ (of_path_type h)
+of_kind h (kind.Expr k) = option_map part.Expr (of_expr h k)
+of_kind h (kind.Stmt k) = option_map part.Code (of_stmt h k)
+of_kind h (kind.Pat k) = option_map part.Pat (of_pat h k)
+of_kind h (kind.Type_ k) = option_map part.Type_ (of_type h k)
+of_kind h (kind.Path k) = option_map part.Path (of_path_part h k)
 of_kind h (kind.Part k) = of_part h k
 
 -- a node at an index, by its data, of the parts that stand at others

@@ -2,6 +2,7 @@
 
 ghost use Rattle.std.specs.Prelude.{◌≡◌, IfOk, option_and_then};
 ghost use Rattle.serde_json.specs.View.{view, items_view};
+ghost use Rattle.json_nodes.specs.Groups.{as_pat};
 ghost use Rattle.json_nodes.specs.Kept.{Kept};
 ghost use Rattle.json_nodes.specs.Nodes.{here};
 ghost use Rattle.lower_json.specs.Reads.{Reads};
@@ -19,6 +20,7 @@ use json_kinds::kind::{ExprNode, Kind, PartNode, PathNode};
 use json_nodes::args::of_args;
 use json_nodes::bounds::of_bound;
 use json_nodes::branches::{branching, of_branch};
+use json_nodes::code_parts::ExprPart;
 use json_nodes::exprs::{flow, of_if, of_literal, plain};
 use json_nodes::field::{number_or, range};
 use json_nodes::fields::Fields;
@@ -29,12 +31,13 @@ use json_nodes::operations::operation;
 use json_nodes::others::{function, of_block, of_stmt, other};
 use json_nodes::param_parts::Pats;
 use json_nodes::params::of_param;
-use json_nodes::part::{AnyPart, BoxedGroup, Group, ReadParts};
+use json_nodes::part::{AnyPart, Group, ReadParts};
 use json_nodes::partless::partless;
+use json_nodes::path_parts::PathPart;
 use json_nodes::paths::{of_path, path};
 use json_nodes::pats::of_pat;
 use json_nodes::type_parts::Types;
-use json_nodes::typed::{of_record, typed};
+use json_nodes::typed::{of_pat_field, of_record, typed};
 use json_nodes::types::{of_path_type, of_type};
 use serde_json::Value;
 use std::alloc::{AllocError, Global};
@@ -131,7 +134,7 @@ where
 }
 
 /// An expression.
-fn of_expr<F: Fields>(node: &F, refused: &mut bool, kind: ExprNode) -> Option<AnyPart>
+fn of_expr<F: Fields>(node: &F, refused: &mut bool, kind: ExprNode) -> Option<ExprPart>
     requires { F.can node.now }
     ensures { Kept refused.old refused.new (result ≡ spec.of_expr (F.here node.now) kind) }
 {
@@ -160,7 +163,7 @@ fn of_expr<F: Fields>(node: &F, refused: &mut bool, kind: ExprNode) -> Option<An
 }
 
 /// A path, or what stands beside a name.
-fn of_path_part<F: Fields>(node: &F, refused: &mut bool, kind: PathNode) -> Option<AnyPart>
+fn of_path_part<F: Fields>(node: &F, refused: &mut bool, kind: PathNode) -> Option<PathPart>
     requires { F.can node.now }
     ensures { Kept refused.old refused.new (result ≡ spec.of_path_part (F.here node.now) kind) }
 {
@@ -176,18 +179,21 @@ fn of_part<F: Fields>(node: &F, refused: &mut bool, kind: PartNode) -> Option<An
     ensures { Kept refused.old refused.new (result ≡ spec.of_part (F.here node.now) kind) }
 {
     if let Some(part) = of_bound(node, refused, kind) {
-        return Some(part);
+        return Some(AnyPart::Type_(part));
     }
     if let Some(part) = of_branch(node, refused, kind) {
-        return Some(part);
+        return Some(AnyPart::Code(part));
     }
     if let Some(part) = of_record(node, refused, kind) {
-        return Some(part);
+        return Some(AnyPart::Code(part));
+    }
+    if let Some(part) = of_pat_field(node, refused, kind) {
+        return Some(AnyPart::Pat(part));
     }
     if let Some(part) = of_param(node, refused, kind) {
-        return Some(part);
+        return Some(AnyPart::Param(part));
     }
-    other(node, refused, kind)
+    Some(AnyPart::Name(other(node, refused, kind)?))
 }
 
 /// What stands at a node of a kind.
@@ -197,15 +203,15 @@ fn of_kind<F: Fields>(node: &F, refused: &mut bool, kind: Kind) -> Option<AnyPar
     ensures { Kept refused.old refused.new (result ≡ of_kind (F.here node.now) kind) }
 {
     match kind {
-        Kind::IfExpr => of_if(node, refused),
-        Kind::BlockExpr => of_block(node, refused),
-        Kind::Literal => of_literal(node, refused),
-        Kind::PathType => of_path_type(node, refused),
-        Kind::Expr(kind) => of_expr(node, refused, kind),
-        Kind::Stmt(kind) => of_stmt(node, refused, kind),
-        Kind::Pat(kind) => of_pat(node, refused, kind),
-        Kind::Type_(kind) => of_type(node, refused, kind),
-        Kind::Path(kind) => of_path_part(node, refused, kind),
+        Kind::IfExpr => Some(AnyPart::Expr(of_if(node, refused)?)),
+        Kind::BlockExpr => Some(AnyPart::Expr(of_block(node, refused)?)),
+        Kind::Literal => Some(AnyPart::Expr(of_literal(node, refused)?)),
+        Kind::PathType => Some(AnyPart::Type_(of_path_type(node, refused)?)),
+        Kind::Expr(kind) => Some(AnyPart::Expr(of_expr(node, refused, kind)?)),
+        Kind::Stmt(kind) => Some(AnyPart::Code(of_stmt(node, refused, kind)?)),
+        Kind::Pat(kind) => Some(AnyPart::Pat(of_pat(node, refused, kind)?)),
+        Kind::Type_(kind) => Some(AnyPart::Type_(of_type(node, refused, kind)?)),
+        Kind::Path(kind) => Some(AnyPart::Path(of_path_part(node, refused, kind)?)),
         Kind::Part(kind) => of_part(node, refused, kind),
     }
 }
@@ -275,27 +281,31 @@ fn read_part(
 }
 
 /// What of a group stands at a node, if anything does.
-fn one_of<G: Group, F: Fields>(node: &F, refused: &mut bool, kind: Option<Kind>) -> Option<G::Part>
-    requires { F.can node.now }
+fn one_of<G: Group, P: ReadParts>(
+    node: &Node<'_, P>,
+    refused: &mut bool,
+    kind: Option<Kind>,
+) -> Option<G::Part>
+    requires { P.can node.now.parts.now }
     ensures { Kept refused.old refused.new
-        (result ≡ option_and_then G.as_group (option_and_then (of_kind (F.here node.now)) kind)) }
+        (result ≡ option_and_then G.as_group (option_and_then (of_kind (here P.parts node.now)) kind)) }
 {
     let part = of_kind(node, refused, kind?)?;
     node.served::<G>(part)
 }
 
-/// The same in a box.
-fn boxed_one_of<G: BoxedGroup, F: Fields>(
-    node: &F,
+/// The pattern at a node in a box, if one stands there.
+fn boxed_pat<P: ReadParts>(
+    node: &Node<'_, P>,
     refused: &mut bool,
     kind: Option<Kind>,
-) -> Option<Boxed<G::Part>>
-    requires { F.can node.now }
+) -> Option<Boxed<Pat>>
+    requires { P.can node.now.parts.now }
     ensures { Kept refused.old refused.new
-        (result ≡ option_and_then G.as_group (option_and_then (of_kind (F.here node.now)) kind)) }
+        (result ≡ option_and_then as_pat (option_and_then (of_kind (here P.parts node.now)) kind)) }
 {
-    let part = of_kind(node, refused, kind?)?;
-    node.served_in_box::<G>(refused, part)
+    let pat = one_of::<Pats, P>(node, refused, kind)?;
+    node.boxed_pat(refused, pat)
 }
 
 /// A pattern as the only parameter of a function.
@@ -317,16 +327,21 @@ fn only_param<F: Fields>(node: &F, refused: &mut bool, pat: Option<Boxed<Pat>>) 
     }
 }
 
-fn tree_of<F: Fields>(node: &F, refused: &mut bool, want: Root, kind: Option<Kind>) -> Tree
-    requires { F.can node.now }
-    ensures { Kept refused.old refused.new (result ≡ tree_of want kind (F.here node.now)) }
+fn tree_of<P: ReadParts>(
+    node: &Node<'_, P>,
+    refused: &mut bool,
+    want: Root,
+    kind: Option<Kind>,
+) -> Tree
+    requires { P.can node.now.parts.now }
+    ensures { Kept refused.old refused.new (result ≡ tree_of want kind (here P.parts node.now)) }
 {
     match want {
         Root::Fn => Tree::Fn(function(node, refused)),
         Root::Path => Tree::Path(path(node, refused)),
-        Root::Type_ => Tree::Type_(one_of::<Types, F>(node, refused, kind)),
+        Root::Type_ => Tree::Type_(one_of::<Types, P>(node, refused, kind)),
         Root::Pat => {
-            let pat = boxed_one_of::<Pats, F>(node, refused, kind);
+            let pat = boxed_pat(node, refused, kind);
             Tree::Pat(only_param(node, refused, pat))
         }
     }

@@ -10,6 +10,8 @@ mod definitions;
 #[cfg(test)]
 mod errors;
 #[cfg(test)]
+mod inner;
+#[cfg(test)]
 mod limits;
 #[cfg(test)]
 mod listings;

@@ -4,7 +4,7 @@ use super::words::{
     binary_word, loop_word, mutability_word, rawness_word, unary_word, unsafe_word,
 };
 use hir_store::hir::{
-    Expr, Literal, MatchArm, RecordFieldPat, RecordLitField, RecordSpread, Statement,
+    Array, Expr, Literal, MatchArm, RecordFieldPat, RecordLitField, RecordSpread, Statement,
 };
 use hir_store::ids::{
     BindingId, BlockId, ExprId, HygieneId, LabelId, LangItemId, LifetimeRefId, PatId, TypeRefId,
@@ -179,9 +179,9 @@ impl<'a> Waiting<'a> {
             Expr::Return { expr } | Expr::Yield { expr } | Expr::Yeet { expr } => self.push_parts(&[
                 expr_or_absent(*expr),
             ]),
-            Expr::Tuple { exprs: elements } | Expr::Array { elements } => self.push_parts(&[
-                Piece::Exprs(elements.as_slice()),
-            ]),
+            Expr::Const(constant) => self.push_parts(&[Piece::Expr(constant.expr)]),
+            Expr::Tuple { exprs } => self.push_parts(&[Piece::Exprs(exprs.as_slice())]),
+            Expr::Array(array) => self.push_array_parts(array),
             Expr::If { .. }
             | Expr::Block { .. }
             | Expr::Loop { .. }
@@ -200,6 +200,19 @@ impl<'a> Waiting<'a> {
             Expr::Let { .. } | Expr::Match { .. } | Expr::Assignment { .. } => {
                 self.push_branch_parts(expr)
             }
+        }
+    }
+
+    /// The same of an array.
+    fn push_array_parts(&mut self, array: &'a Array) -> Result<(), AllocError> {
+        match array {
+            Array::ElementList { elements } => self.push_parts(&[Piece::Exprs(
+                elements.as_slice(),
+            )]),
+            Array::Repeat {
+                initializer,
+                repeat,
+            } => self.push_parts(&[Piece::Expr(*initializer), Piece::Expr(repeat.expr)]),
         }
     }
 

@@ -3,7 +3,8 @@
 use hir_env::lang::LangItems;
 use hir_store::diagnostics::{AwaitLocation, MissingBodyItemKind};
 use hir_store::hir::{
-    BindingAnnotation, BindingProblems, Expr, LoopSource, Mutability, Pat, Rawness, Statement,
+    Array, BindingAnnotation, BindingProblems, Expr, LoopSource, Mutability, Pat, Rawness,
+    Statement,
 };
 use hir_store::ids::LangItemId;
 use hir_store::type_ref::{ExternAbi, TypeRef};
@@ -17,6 +18,7 @@ pub fn expr_word(expr: &Expr) -> &'static str {
         Expr::If { .. } => "If",
         Expr::Let { .. } => "Let",
         Expr::Block { .. } => "Block",
+        Expr::Const(_) => "Const",
         Expr::Loop { .. } => "Loop",
         Expr::Call { .. } => "Call",
         Expr::Match { .. } => "Match",
@@ -31,7 +33,8 @@ pub fn expr_word(expr: &Expr) -> &'static str {
         Expr::Index { .. } => "Index",
         Expr::Ref { .. } => "Ref",
         Expr::Tuple { .. } => "Tuple",
-        Expr::Array { .. } => "Array",
+        Expr::Array(Array::ElementList { .. }) => "Array",
+        Expr::Array(Array::Repeat { .. }) => "Repeat",
         Expr::Return { .. } => "Return",
         Expr::Become { .. } => "Become",
         Expr::Yield { .. } => "Yield",
@@ -246,6 +249,7 @@ pub fn await_word(location: AwaitLocation) -> &'static str {
         AwaitLocation::Static => "diag AwaitOutsideOfAsync static",
         AwaitLocation::Constant => "diag AwaitOutsideOfAsync constant",
         AwaitLocation::EnumVariant => "diag AwaitOutsideOfAsync enum variant",
+        AwaitLocation::ConstantBlock => "diag AwaitOutsideOfAsync constant block",
         AwaitLocation::Unknown => "diag AwaitOutsideOfAsync unknown",
     }
 }

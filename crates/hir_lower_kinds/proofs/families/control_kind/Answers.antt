@@ -16,13 +16,9 @@ while_form-requires g c =
     let parts = rw (opened (kind.rolls-WhileExpr _ _ _ ∙ sym c.in-WhileExpr.is)) at c.requires.parts in
     record { condition = parts.0; body = parts.1 }
 
-pub block_form-requires-clause-block : goal.block_form-requires-clause-block
-block_form-requires-clause-block g c =
-    let parts = rw (opened (kind.rolls-BlockExpr _ ∙ sym c.in-BlockExpr.is)) at c.requires.parts in rw c.get.ensures parts.0
-
-pub block_form-requires-clause-own : goal.block_form-requires-clause-own
-block_form-requires-clause-own g c =
-    let parts = rw (opened (kind.rolls-BlockExpr _ ∙ sym c.in-BlockExpr.is)) at c.requires.parts in rw c.get.ensures parts.1
+pub block_form-requires : goal.block_form-requires
+block_form-requires g c =
+    let parts = rw (opened (kind.rolls-BlockExpr _ ∙ sym c.in-BlockExpr.is)) at c.requires.parts in rw c.get.ensures parts
 
 pub question_form-requires : goal.question_form-requires
 question_form-requires g c = rw (opened (kind.rolls-TryExpr _ ∙ sym c.in-TryExpr.is)) at c.requires.parts

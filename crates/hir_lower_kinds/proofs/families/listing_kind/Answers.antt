@@ -19,6 +19,11 @@ tuple_form-requires g c = rw (opened (kind.rolls-TupleExpr _ _ ∙ sym c.in-Tupl
 pub array_form-requires : goal.array_form-requires
 array_form-requires g c = rw (opened (kind.rolls-ArrayExpr _ ∙ sym c.in-ArrayExpr.is)) at c.requires.parts
 
+pub repeat_form-requires : goal.repeat_form-requires
+repeat_form-requires g c =
+    let parts = rw (opened (kind.rolls-RepeatExpr _ _ ∙ sym c.in-RepeatExpr.is)) at c.requires.parts in
+    record { init = parts.0; len = parts.1 }
+
 pub returns-in-CallExpr : goal.returns-in-CallExpr
 returns-in-CallExpr g c = rw (opened (kind.rolls-CallExpr _ _ ∙ sym c.in-CallExpr.is)) c.call_form.ensures
 
@@ -30,3 +35,6 @@ returns-in-TupleExpr g c = rw (opened (kind.rolls-TupleExpr _ _ ∙ sym c.in-Tup
 
 pub returns-in-ArrayExpr : goal.returns-in-ArrayExpr
 returns-in-ArrayExpr g c = rw (opened (kind.rolls-ArrayExpr _ ∙ sym c.in-ArrayExpr.is)) c.array_form.ensures
+
+pub returns-in-RepeatExpr : goal.returns-in-RepeatExpr
+returns-in-RepeatExpr g c = rw (opened (kind.rolls-RepeatExpr _ _ ∙ sym c.in-RepeatExpr.is)) c.repeat_form.ensures

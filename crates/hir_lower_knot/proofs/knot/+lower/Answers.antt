@@ -30,7 +30,7 @@ maybe_collect_expr-expr_node-requires g t c =
     let size = kept_below at c.args.node.now in
     kids_expr env (HandlesExpr g.E.LowerEnv.answers _ _ c.args.env.now) (HandlesBlock g.E.LowerEnv.answers _ _ c.args.env.now)
     (HandlesPath g.E.LowerEnv.answers _ _ c.args.env.now) (HandlesType g.E.LowerEnv.answers _ _ c.args.env.now)
-    (HandlesArgs g.E.LowerEnv.answers _ _ c.args.env.now) (λ p o. Unit {0}) t
+    (HandlesArgs g.E.LowerEnv.answers _ _ c.args.env.now) (HandlesConstant g.E.LowerEnv.answers _ _ c.args.env.now) t
     (λ p e h. record {
       callable = λ alloc v old b same is. (rw same (rw is h), λ a m. m);
       lowers = λ alloc v old new b r same is q. rw (← is) (rw (← same) q.2);
@@ -51,6 +51,11 @@ maybe_collect_expr-expr_node-requires g t c =
       callable = λ alloc v old b same is. (rw same (rw is h), λ a m. m);
       lowers = λ alloc v old new b r same is q. args_read g.E.LowerEnv.answers p old.now new.now r same is q.2;
     })
+    (λ p e h. record {
+      callable = λ alloc v old b same is. (rw same (rw is h), λ a m. m);
+      lowers = λ alloc v old new b r same is q. rw (← is) (rw (← same) q.2);
+    })
+    (λ p. tt)
     c.args.place (pointer_at at c.args.node.now.id c.args.node.now.range) (out-ExprKind c.args.node.now.kind) (omega (arith, d, size))
 
 pub collect_block_inside-returns : goal.collect_block_inside-returns
@@ -96,6 +101,11 @@ collect_block_inside-block_node-requires-clause-parts g t c =
       callable = λ alloc v old b same is. (rw same (rw is h), λ a m. m);
       lowers = λ alloc v old new b r same is q. args_read g.E.LowerEnv.answers p old.now new.now r same is q.2;
     })
+    (λ p e h. record {
+      callable = λ alloc v old b same is. (rw same (rw is h), λ a m. m);
+      lowers = λ alloc v old new b r same is q. rw (← is) (rw (← same) q.2);
+    })
+    (λ p. tt)
     c.inside-inner.result c.args.node.now (omega (arith, d, size))
 
 pub read_path_segments-returns : goal.read_path_segments-returns
@@ -109,7 +119,7 @@ read_path_segments-path_node-requires-clause-parts g t c =
     let size = ap count_path (path_is_level (spot_at env c.args.place) c.args.node.now) in
     kids_path env (record {
       expr = λ e. Unit {0};
-      block = λ b. Unit {0};
+      block = λ p b. Unit {0};
       path = HandlesPath g.E.LowerEnv.answers _ _ c.args.env.now;
       type_ = HandlesType g.E.LowerEnv.answers _ _ c.args.env.now;
       args = HandlesArgs g.E.LowerEnv.answers _ _ c.args.env.now;
@@ -148,7 +158,7 @@ lower_type_node-type_node-requires g t c =
     let size = ap count_type (type_is_level at c.args.node.now) in
     kids_type env (record {
       expr = λ e. Unit {0};
-      block = λ b. Unit {0};
+      block = λ p b. Unit {0};
       path = HandlesPath g.E.LowerEnv.answers _ _ c.args.env.now;
       type_ = HandlesType g.E.LowerEnv.answers _ _ c.args.env.now;
       args = λ p l. Unit {0};
@@ -187,7 +197,7 @@ lower_arg_list-args_node-requires g t c =
     let env = complete (g.E.LowerEnv.answers c.args.env.now) in
     kids_args env (record {
       expr = HandlesExpr g.E.LowerEnv.answers _ _ c.args.env.now c.args.place;
-      block = HandlesBlock g.E.LowerEnv.answers _ _ c.args.env.now c.args.place;
+      block = HandlesBlock g.E.LowerEnv.answers _ _ c.args.env.now;
       path = HandlesPath g.E.LowerEnv.answers _ _ c.args.env.now;
       type_ = HandlesType g.E.LowerEnv.answers _ _ c.args.env.now;
       args = HandlesArgs g.E.LowerEnv.answers _ _ c.args.env.now;

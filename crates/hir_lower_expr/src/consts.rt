@@ -1,0 +1,82 @@
+//! `const` blocks, which are bodies of their own.
+
+ghost use Rattle.std.specs.Prelude.{◌≡◌, None, false};
+ghost use Rattle.hir_store.specs.Range.{HasConst, HasExpr};
+ghost use Rattle.hir_env.specs.Paths as of;
+ghost use Rattle.hir_env.specs.Whole.{answered_plain, in_const_block};
+ghost use Rattle.hir_lower_form.specs.Lower as spec;
+ghost use Rattle.hir_lower_form.specs.Lowering.{Lowers};
+ghost use Rattle.hir_lower_form.specs.Methods.{LowersInside, const_steps_at};
+ghost use Rattle.hir_lower_form.specs.declared.parts.BlockRole.TheVariants as role;
+
+use hir_env::place::Place;
+use hir_lower_form::builder::BodyBuilder;
+use hir_lower_form::parts::{BlockRole, LowerParts, Lowerer};
+use hir_store::diagnostics::AwaitLocation;
+use hir_store::fault::StoreFault;
+use hir_store::hir::Expr;
+use hir_store::ids::ExprId;
+use hir_store::type_ref::ConstRef;
+use hir_syntax::ast;
+
+/// Where what is in a `const` block is read that is written at this place.
+fn inside_const_block(place: Place) -> Place
+    ensures { result ≡ of.inside_const_block place }
+{
+    Place {
+        await_location: Some(AwaitLocation::ConstantBlock),
+        ..place
+    }
+}
+
+/// The block in a `const` block, which is a plain one.
+fn inner_block<P: LowerParts>(
+    lowerer: &Lowerer<P>,
+    state: &mut BodyBuilder,
+    node: &ast::BlockExpr,
+) -> Result<ExprId, StoreFault>
+    requires { (P.can lowerer.now.parts).block (of.inside_const_block (P.spot lowerer.now.parts).place) node.now }
+    ensures { let inside = in_const_block (P.spot lowerer.now.parts) in
+        LowersInside (role.Plain false None) (answered_plain inside node.now) state.old result state.new }
+{
+    let role = BlockRole::Plain {
+        is_unsafe: false,
+        label: None,
+    };
+    lowerer.parts.collect_block_inside(state, inside_const_block(lowerer.parts.place()), role, node)
+}
+
+/// The same as a constant: no jump in it reaches what is open around it.
+#[tactic(auto, unfolding(hir_lower_form::specs::Forms::constant_form))]
+fn inner_constant<P: LowerParts>(
+    lowerer: &Lowerer<P>,
+    state: &mut BodyBuilder,
+    node: &ast::BlockExpr,
+) -> Result<ConstRef, StoreFault>
+    requires { (P.can lowerer.now.parts).block (of.inside_const_block (P.spot lowerer.now.parts).place) node.now }
+    ensures { let inside = in_const_block (P.spot lowerer.now.parts) in
+        let inner = spec.lower_inside (role.Plain false None) (answered_plain inside node.now) in
+        Lowers HasConst (spec.constant_form inner) state.old result state.new }
+{
+    state.open_barrier()?;
+    let outer = state.enter_root();
+    let id = inner_block(lowerer, state, node)?;
+    state.close();
+    state.leave_root(outer, id)?;
+    Ok(ConstRef { expr: id })
+}
+
+/// A `const` block, of which neither a label nor a type counts.
+#[tactic(auto, unfolding(hir_lower_form::specs::Forms::const_form))]
+pub(crate) fn const_form<P: LowerParts>(
+    lowerer: &Lowerer<P>,
+    state: &mut BodyBuilder,
+    node: &ast::BlockExpr,
+) -> Result<ExprId, StoreFault>
+    requires { (P.can lowerer.now.parts).block (of.inside_const_block (P.spot lowerer.now.parts).place) node.now }
+    ensures { Lowers HasExpr (const_steps_at (P.spot lowerer.now.parts) node.now) state.old result state.new }
+{
+    let constant = inner_constant(lowerer, state, node)?;
+    let at = lowerer.pointer(node.id, node.range);
+    state.alloc_expr(Expr::Const(constant), Some(at))
+}
