@@ -7,6 +7,8 @@ pub mod Uses
 pub mod Patterns
 pub mod Targets
 pub mod Tops
+pub mod Yields
+pub mod Closures
 pub mod Reading
 pub mod BindingRule
 pub mod Lookup

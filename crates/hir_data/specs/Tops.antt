@@ -1,9 +1,9 @@
--- The top patterns of a body: those of `let`, of arms and of parameters. Each has bindings of its own. Those of the bodies inside
--- of it aren't among them.
+-- The top patterns of a body: those of `let`, of arms, and of parameters, its own and those of its closures. Each has bindings of its
+-- own. Those of the bodies inside of it aren't among them.
 use Rattle.std.specs.Prelude.{List, [], ◌∷◌, ◌++◌, Option, Some, None}
 use Rattle.hir_env.specs.Answered as tree
 use Rattle.hir_env.specs.Answered.{Expr, OptionExpr, Exprs, Fields, Spread, Block, OptionBlock, Stmts, Arms, Guard, OptionPat}
-use Rattle.hir_env.specs.Answered.{Target, Targets, TargetFields, Formal}
+use Rattle.hir_env.specs.Answered.{Target, Targets, TargetFields, Formal, Params}
 use Rattle.hir_data.specs.Rule.{PathRead}
 use Rattle.hir_data.specs.Written.{path_of}
 
@@ -14,6 +14,12 @@ Tops = List OptionPat
 abbrev pub tops_if_read : Option PathRead → Tops → Tops
 tops_if_read None ps = []
 tops_if_read (Some p) ps = ps
+
+-- of the parameters of a closure
+abbrev pub params_tops : Params → Tops
+params_tops tree.no_params = []
+params_tops (tree.more_params (tree.disabled_param at by x) ps) = params_tops ps
+params_tops (tree.more_params (tree.param p t) ps) = p ∷ params_tops ps
 
 abbrev mutual
   pub expr_tops : Expr → Tops
@@ -39,6 +45,7 @@ abbrev mutual
   expr_tops (tree.list_expr at form es) = each_tops es
   expr_tops (tree.repeat_expr at e c) = tops_of e
   expr_tops (tree.const_expr at c) = []
+  expr_tops (tree.closure_expr at by_move is_static ps t e) = params_tops ps
   expr_tops (tree.method_call_expr at e name es generics) = tops_of e ++ each_tops es
   expr_tops (tree.leaving_expr at form e) = tops_of e
   expr_tops (tree.become_expr at e) = tops_of e

@@ -28,7 +28,7 @@ use Rattle.hir_env.specs.Folds.{written, reader, read_else_branch, read_expr_kin
 use Rattle.hir_env.specs.Folds.{read_expr, read_field, read_record, read_stmt, read_arm}
 use Rattle.hir_env.specs.Answered as tree
 use Rattle.hir_env.specs.Answered.{Expr, OptionExpr, Field, OptionBlock, Arm}
-use Rattle.hir_env.specs.Paths.{inside_const_block, inside_constant}
+use Rattle.hir_env.specs.Paths.{inside_closure, inside_const_block, inside_constant}
 use Rattle.hir_env.specs.Targets.{resolves}
 use Rattle.hir_env.specs.Whole.{answered, answered_plain, answered_block, answered_else, answered_constant, answered_field}
 use Rattle.hir_env.specs.Whole.{answered_record, block_head, stmts_part, in_block, block_number, pointer_at, asked_expr}
@@ -39,7 +39,7 @@ use Rattle.hir_env.proofs.Mapped.{optional, listed, mapped_else, mapped_kind, ma
 use Rattle.hir_env.proofs.Mapped.{mapped_field, mapped_record, mapped_arm}
 use Rattle.hir_env.proofs.Opened.{opened_else_branch, opened_expr_kind, opened_stmt_kind, opened_block}
 use Rattle.hir_env.proofs.Opened.{opened_expr, opened_field, opened_record, opened_stmt, opened_arm}
-use Rattle.hir_env.proofs.PathLevels.{type_is, path_is, pat_is, arg_list_is}
+use Rattle.hir_env.proofs.PathLevels.{answer_is, closure_params_are, type_is, path_is, pat_is, arg_list_is}
 
 -- parts that may be absent, and lists
 
@@ -139,6 +139,9 @@ module _ (env : Answers) where
   expr_at_is (ExprKind-F.ArrayExpr es) p s = λ j. tree.list_expr s tree.array_of (exprs_is rd.expr es p j)
   expr_at_is (ExprKind-F.RepeatExpr e n) p s = λ j.
       tree.repeat_expr s (expr_is rd.expr e p j) (tree.constant (expr_is rd.expr n (inside_constant p) j))
+  expr_at_is (ExprKind-F.ClosureExpr ps r e moves is_static) p s = λ j.
+      tree.closure_expr s moves is_static (closure_params_are rd.param ps p j) (answer_is rd.type_ r p j)
+      (expr_is rd.expr e (inside_closure p) j)
   expr_at_is (ExprKind-F.ReturnExpr e) p s = λ j. tree.leaving_expr s tree.returning (expr_is rd.expr e p j)
   expr_at_is (ExprKind-F.BecomeExpr e) p s = λ j. tree.become_expr s (expr_is rd.expr e p j)
   expr_at_is (ExprKind-F.YieldExpr e) p s = λ j. tree.yield_expr s (expr_is rd.expr e p j)

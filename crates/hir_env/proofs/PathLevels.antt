@@ -16,7 +16,7 @@ use Rattle.hir_store.specs.Pointers.{Pointer}
 use Rattle.hir_env.specs.declared.place.Place.{Place}
 use Rattle.hir_env.specs.Answers.{Answers}
 use Rattle.hir_env.specs.Wrapped.{AstGenericArgList, AstParenArgs, AstRetType, AstTypeArg}
-use Rattle.hir_env.specs.Spot.{Spot, in_file, ptr}
+use Rattle.hir_env.specs.Spot.{Spot, in_file, ptr, site_of}
 use Rattle.hir_env.specs.Layers.{Reader, itself}
 use Rattle.hir_env.specs.TypeLayers.{ParamReading, PathTypeReading, GenericArgLayer, TypeKindLayer, PathLayer, PathSegmentLayer}
 use Rattle.hir_env.specs.TypeLayers.{AssocTypeArgLayer, ParamLayer, PathTypeLayer}
@@ -61,7 +61,7 @@ path_type_is : {A : Type 0} (h : A → Place → PathTypeReading) (x : Option A)
 path_type_is h None p = refl
 path_type_is h (Some x) p = refl
 
-answer_is : {A : Type 0} (h : A → Place → Type_) (x : Option (Option A)) (p : Place)
+pub answer_is : {A : Type 0} (h : A → Place → Type_) (x : Option (Option A)) (p : Place)
     → of.answer_or_none (of.type_or_none (λ y. y)) (optional (optional h) x) p ≡ of.answer_or_none (of.type_or_none h) x p
 answer_is h None p = refl
 answer_is h (Some None) p = refl
@@ -121,6 +121,16 @@ names_is : {A : Type 0} (h : A → Place → ParamReading) (xs : List A) (p : Pl
 names_is h [] p = refl
 names_is h (x ∷ xs) p = λ j. let r = h x p in if r.variadic then names_is h xs p j else r.name ∷ names_is h xs p j
 
+closure_params_is : {A : Type 0} (h : A → Place → ParamReading) (xs : List A) (p : Place)
+    → of.closure_params_of (λ y. y) (listed h xs) p ≡ of.closure_params_of h xs p
+closure_params_is h [] p = refl
+closure_params_is h (x ∷ xs) p = λ j. tree.more_params (h x p).own (closure_params_is h xs p j)
+
+pub closure_params_are : {A : Type 0} (h : A → Place → ParamReading) (x : Option (List A)) (p : Place)
+    → of.closure_params_or_none (λ y. y) (optional (listed h) x) p ≡ of.closure_params_or_none h x p
+closure_params_are h None p = refl
+closure_params_are h (Some xs) p = closure_params_is h xs p
+
 last_is : {A : Type 0} (h : A → Place → ParamReading) (b : Bool) (xs : List A) (p : Place)
     → of.last_variadic (λ y. y) b (listed h xs) p ≡ of.last_variadic h b xs p
 last_is h b [] p = refl
@@ -178,10 +188,11 @@ module _ (env : Answers) where
 
   param_step_is : (x : ParamLayer written) (p : Place)
       → of.param_step env itself (mapped_param env x) p ≡ of.param_step env rd x p
-  param_step_is x p = λ j. record {
+  param_step_is x p = λ j. let s = in_file p (ptr x.id x.range) in record {
     variadic = x.variadic;
     name = name_given (pat_is rd.pat x.pat p j);
     ty = type_is rd.type_ x.ty p j;
+    own = of.asked_param s (env.cfg (site_of s)) (tree.param (pat_is rd.pat x.pat p j) (type_is rd.type_ x.ty p j));
   }
 
   path_step_is : (x : PathLayer written) (p : Place) → of.path_step env itself (mapped_path env x) p ≡ of.path_step env rd x p

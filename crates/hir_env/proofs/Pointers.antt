@@ -73,6 +73,7 @@ kept_pointer at (ExprKind-F.RefExpr r m e) s = refl
 kept_pointer at (ExprKind-F.TupleExpr comma es) s = refl
 kept_pointer at (ExprKind-F.ArrayExpr es) s = refl
 kept_pointer at (ExprKind-F.RepeatExpr e n) s = refl
+kept_pointer at (ExprKind-F.ClosureExpr ps r e moves is_static) s = refl
 kept_pointer at (ExprKind-F.ReturnExpr e) s = refl
 kept_pointer at (ExprKind-F.BecomeExpr e) s = refl
 kept_pointer at (ExprKind-F.YieldExpr e) s = refl

@@ -293,6 +293,9 @@ mutual
     repeat_expr : Pointer → OptionExpr → Constant → Expr
     -- a `const` block, which is a body of its own
     const_expr : Pointer → Constant → Expr
+    -- A closure: whether `move` and whether `static` stands in front of it, its parameters, what it returns, and its body, which is a
+    -- body of its own.
+    closure_expr : Pointer → Bool → Bool → Params → OptionType → OptionExpr → Expr
     method_call_expr : Pointer → OptionExpr → Name → Exprs → OptionArgs → Expr
     leaving_expr : Pointer → Leaving → OptionExpr → Expr
     become_expr : Pointer → OptionExpr → Expr
@@ -310,6 +313,16 @@ mutual
     range_expr : Pointer → RangeForm → OptionExpr → OptionExpr → Expr
     -- what is assigned to, as an expression and as a target, and the value
     assign_expr : Pointer → OptionExpr → Target → OptionExpr → Expr
+
+  -- the parameters of a closure
+  pub data Params : Type 0 where
+    no_params : Params
+    more_params : Param → Params → Params
+
+  -- its pattern and its type
+  pub data Param : Type 0 where
+    disabled_param : Pointer → CfgId → Param → Param
+    param : OptionPat → OptionType → Param
 
   pub data OptionExpr : Type 0 where
     no_expr : OptionExpr

@@ -31,7 +31,8 @@ use Rattle.hir_env.specs.declared.lang.LangItems.{LangItems}
 use Rattle.hir_env.specs.Answers.{Answers}
 pub use Rattle.hir_env.specs.Spot.{in_file, ptr, site_of}
 pub use Rattle.hir_env.specs.Paths.{mutability, expr_or_none, constant_step, generic_arg_list_step}
-use Rattle.hir_env.specs.Paths.{inside_const_block, path_or_none, type_or_none, pat_or_none, arg_list_or_none}
+use Rattle.hir_env.specs.Paths.{inside_closure, inside_const_block, path_or_none, type_or_none, pat_or_none, arg_list_or_none}
+use Rattle.hir_env.specs.Paths.{answer_or_none, closure_params_or_none, ret_type_step}
 use Rattle.hir_env.specs.Ranges.{range_form}
 use Rattle.hir_env.specs.Targets.{resolves, target_of}
 use Rattle.hir_env.specs.Layers.{BlockReading, StmtReading, RecordReading, Sorts, Reader, ElseBranchLayer, ExprKindLayer}
@@ -297,6 +298,10 @@ module _ (env : Answers) {S : Sorts} (part : Reader S) where
   expr_at (ExprKind-F.TupleExpr comma es) p s = tree.list_expr s (tree.tuple_of comma) (exprs_of part.expr es p)
   expr_at (ExprKind-F.ArrayExpr es) p s = tree.list_expr s tree.array_of (exprs_of part.expr es p)
   expr_at (ExprKind-F.RepeatExpr e n) p s = tree.repeat_expr s (expr_or_none part.expr e p) (constant_step env part n p)
+  -- the parameters and what it returns are read outside of it
+  expr_at (ExprKind-F.ClosureExpr ps r e moves is_static) p s =
+      tree.closure_expr s moves is_static (closure_params_or_none part.param ps p) (answer_or_none (ret_type_step env part) r p)
+      (expr_or_none part.expr e (inside_closure p))
   expr_at (ExprKind-F.ReturnExpr e) p s = tree.leaving_expr s tree.returning (expr_or_none part.expr e p)
   expr_at (ExprKind-F.BecomeExpr e) p s = tree.become_expr s (expr_or_none part.expr e p)
   expr_at (ExprKind-F.YieldExpr e) p s = tree.yield_expr s (expr_or_none part.expr e p)

@@ -5,7 +5,7 @@ use Rattle.hir_env.specs.Answered as tree
 use Rattle.hir_env.specs.Answered.{Type_, OptionType, Parts, Path, OptionPath, Segments, Segment, SegmentArgs, OptionParens}
 use Rattle.hir_env.specs.Answered.{OptionRet, OptionArgs, Args, Arg, Bounds, Bound, Constant}
 use Rattle.hir_env.specs.Answered.{Expr, OptionExpr, Exprs, Fields, Field, Spread, Block, OptionBlock, Stmts, Stmt, Arms, Arm}
-use Rattle.hir_env.specs.Answered.{Guard, Pat, OptionPat, Pats, PatFields, PatField, Side}
+use Rattle.hir_env.specs.Answered.{Guard, Param, Params, Pat, OptionPat, Pats, PatFields, PatField, Side}
 
 abbrev mutual
   pub count_type : Type_ → ℕ
@@ -116,6 +116,7 @@ abbrev mutual
   count_expr (tree.list_expr at form es) = suc (count_exprs es)
   count_expr (tree.repeat_expr at e c) = suc (count_option_expr e + count_constant c)
   count_expr (tree.const_expr at c) = suc (count_constant c)
+  count_expr (tree.closure_expr at moves is_static ps r e) = suc (count_params ps + (count_option_type r + count_option_expr e))
   count_expr (tree.method_call_expr at e name es as') = suc (count_option_expr e + (count_exprs es + count_option_args as'))
   count_expr (tree.leaving_expr at form e) = suc (count_option_expr e)
   count_expr (tree.become_expr at e) = suc (count_option_expr e)
@@ -129,6 +130,14 @@ abbrev mutual
   count_expr (tree.match_expr at e arms) = suc (count_option_expr e + count_arms arms)
   count_expr (tree.range_expr at form a b) = suc (count_option_expr a + count_option_expr b)
   count_expr (tree.assign_expr at a target b) = suc (count_option_expr a + count_option_expr b)
+
+  pub count_params : Params → ℕ
+  count_params tree.no_params = 0
+  count_params (tree.more_params x xs) = count_param x + count_params xs
+
+  pub count_param : Param → ℕ
+  count_param (tree.disabled_param at by x) = count_param x
+  count_param (tree.param p t) = count_option_pat p + count_option_type t
 
   pub count_option_expr : OptionExpr → ℕ
   count_option_expr tree.no_expr = 0

@@ -1,6 +1,6 @@
 -- How the answers are written into paths and types.
 use Rattle.std.specs.Prelude.{ℕ, List, [], ◌∷◌, map, Bool, true, false, ◌||◌, if◌then◌else◌, codes, bytes_eq}
-use Rattle.std.specs.Prelude.{Option, Some, None, option_map}
+use Rattle.std.specs.Prelude.{Option, Some, None, option_map, Result, Ok, Err}
 use Rattle.hir_base.specs.declared.node.NodeId.{NodeId}
 use Rattle.hir_base.specs.declared.node.AstPtr.{AstPtr}
 use Rattle.hir_syntax.specs.declared.ast.Name.{Name as AstName}
@@ -14,6 +14,7 @@ use Rattle.hir_syntax.specs.declared.types.UseArg.{UseArg as AstUseArg}
 use Rattle.hir_syntax.specs.declared.types.UseArg.TheVariants as used
 use Rattle.hir_syntax.specs.declared.ast.ElseBranch.TheOpen.{GenericArg-F, TypeKind-F}
 use Rattle.hir_store.specs.Pointers.{Pointer}
+use Rattle.hir_store.specs.declared.ids.CfgId.{CfgId}
 use Rattle.hir_store.specs.declared.ids.CrateId.{CrateId}
 use Rattle.hir_store.specs.declared.name.Name.{Name}
 use Rattle.hir_store.specs.declared.name.Name.TheVariants as name
@@ -28,7 +29,7 @@ use Rattle.hir_env.specs.declared.place.Place.{Place}
 use Rattle.hir_env.specs.declared.place.ImplTrait.{ImplTrait}
 use Rattle.hir_env.specs.declared.place.ImplTrait.TheVariants as becomes
 use Rattle.hir_env.specs.Answers.{Answers}
-use Rattle.hir_env.specs.Spot.{in_file, ptr}
+use Rattle.hir_env.specs.Spot.{in_file, ptr, site_of}
 use Rattle.hir_env.specs.Layers.{Sorts, Reader}
 use Rattle.hir_env.specs.TypePats.{type_pat_or_none, name_given}
 use Rattle.hir_env.specs.TypeLayers.{ParamReading, PathTypeReading, GenericArgLayer, TypeKindLayer, PathLayer, PathSegmentLayer}
@@ -37,7 +38,7 @@ use Rattle.hir_env.specs.TypeLayers.{TypeBoundLayer, Type_Layer}
 use Rattle.hir_env.specs.Answered as tree
 use Rattle.hir_env.specs.Answered.{Lifetime, Binder, UseRead, FnHead, Type_, OptionType, Parts, Path, OptionPath, Segments, Segment}
 use Rattle.hir_env.specs.Answered.{SegmentArgs, OptionParens, OptionRet, OptionArgs, Args, Arg, Bounds, Bound, Constant, Pat}
-use Rattle.hir_env.specs.Answered.{OptionPat, Expr, OptionExpr}
+use Rattle.hir_env.specs.Answered.{OptionPat, Expr, OptionExpr, Param, Params}
 
 -- names, lifetimes and texts
 
@@ -112,6 +113,10 @@ inside_constant p = record p { impl_trait = becomes.Error }
 abbrev pub inside_const_block : Place → Place
 inside_const_block p = record p { await_location = Some location.ConstantBlock }
 
+-- Inside of the body of a closure, which is what an `await` there stands in.
+abbrev pub inside_closure : Place → Place
+inside_closure p = record p { await_location = Some location.NonAsyncClosure }
+
 -- segments
 
 -- the root of the crate that `$crate` at the node stands for
@@ -164,6 +169,11 @@ bound_of (Some bound.Path) (Some t) maybe binder l us = tree.path_bound t.pointe
 bound_of (Some bound.Lifetime) t maybe binder (Some l) us = tree.lifetime_bound l
 bound_of (Some bound.Use) t maybe binder l us = tree.use_bound us
 bound_of b t maybe binder l us = tree.error_bound
+
+-- the parameter of a closure, with the condition that disables it
+abbrev pub asked_param : Pointer → Result (Unit {0}) CfgId → Param → Param
+asked_param s (Ok _) x = x
+asked_param s (Err by) x = tree.disabled_param s by x
 
 -- parts that may be absent, and lists
 
@@ -220,7 +230,16 @@ module _ {A : Type 0} where
   is_varargs read None p = false
   is_varargs read (Some xs) p = last_variadic read false xs p
 
-  -- what a function pointer answers
+  -- those of a closure
+  abbrev pub closure_params_of : (A → Place → ParamReading) → List A → Place → Params
+  closure_params_of read [] p = tree.no_params
+  closure_params_of read (x ∷ xs) p = tree.more_params (read x p).own (closure_params_of read xs p)
+
+  abbrev pub closure_params_or_none : (A → Place → ParamReading) → Option (List A) → Place → Params
+  closure_params_or_none read None p = tree.no_params
+  closure_params_or_none read (Some xs) p = closure_params_of read xs p
+
+  -- what a function pointer or a closure answers
   abbrev pub answer_or_none : (A → Place → OptionType) → Option A → Place → OptionType
   answer_or_none read None p = tree.no_type
   answer_or_none read (Some x) p = read x p
@@ -315,8 +334,12 @@ module _ (env : Answers) {S : Sorts} (part : Reader S) where
   type_step t = part.type_kind t.kind (ptr t.id t.range)
 
   abbrev pub param_step : ParamLayer S → Place → ParamReading
-  param_step x p =
-      record { variadic = x.variadic; name = name_given (pat_or_none part.pat x.pat p); ty = type_or_none part.type_ x.ty p }
+  param_step x p = let s = in_file p (ptr x.id x.range) in record {
+    variadic = x.variadic;
+    name = name_given (pat_or_none part.pat x.pat p);
+    ty = type_or_none part.type_ x.ty p;
+    own = asked_param s (env.cfg (site_of s)) (tree.param (pat_or_none part.pat x.pat p) (type_or_none part.type_ x.ty p));
+  }
 
   abbrev pub path_step : PathLayer S → Place → Path
   path_step x p = tree.path x.leading (first_of part.segment x.segs p) (rest_of part.segment x.segs p) (path_or_none part.path x.use_ p)

@@ -43,8 +43,8 @@ use Rattle.hir_env.specs.Answering.{guard_or_none, let_else_or_none, guard_step,
 use Rattle.hir_env.specs.Pats.{pats_of, pat_fields_of, pat_at, pat_field_step}
 use Rattle.hir_env.specs.Targets.{resolves, target_of}
 use Rattle.hir_env.specs.TypePats.{type_pat_or_none}
-use Rattle.hir_env.specs.Paths.{inside_impl, outside_impl, inside_constant, inside_const_block, path_or_none, segment_or_absent}
-use Rattle.hir_env.specs.Paths.{segments_of}
+use Rattle.hir_env.specs.Paths.{inside_closure, inside_impl, outside_impl, inside_constant, inside_const_block, path_or_none}
+use Rattle.hir_env.specs.Paths.{closure_params_of, closure_params_or_none, segment_or_absent, segments_of}
 use Rattle.hir_env.specs.Paths.{first_of, rest_of, type_or_none, types_of, parts_of, params_or_none, is_varargs, answer_or_none}
 use Rattle.hir_env.specs.Paths.{ret_or_none, parens_or_none, path_type_or_none, arg_list_or_none, generic_args_of, bounds_of}
 use Rattle.hir_env.specs.Paths.{constant_or_absent, type_at, generic_arg_step, path_step, segment_step, assoc_type_arg_step}
@@ -60,7 +60,7 @@ use Rattle.hir_env.specs.Answered as tree
 use Rattle.hir_env.specs.Answered.{Label, Jump, Type_, OptionType, Parts, Path, OptionPath, Segments, Segment}
 use Rattle.hir_env.specs.Answered.{SegmentArgs, OptionParens, OptionRet, OptionArgs, Args, Arg, Bounds, Bound}
 use Rattle.hir_env.specs.Answered.{Expr, OptionExpr, Exprs, Fields, Field, Spread, Block, OptionBlock, Stmts, Stmt, Constant}
-use Rattle.hir_env.specs.Answered.{Arms, Arm, Guard, Pat, OptionPat, Pats, PatFields, PatField, OptionTypePat, Target}
+use Rattle.hir_env.specs.Answered.{Arms, Arm, Guard, Param, Params, Pat, OptionPat, Pats, PatFields, PatField, OptionTypePat, Target}
 
 -- read at a spot
 
@@ -109,6 +109,10 @@ answered_type at x = read_type at.answers x at.place
 
 abbrev pub answered_param : Spot → AstParam → ParamReading
 answered_param at x = read_param at.answers x at.place
+
+-- the same as a parameter of a closure
+abbrev pub answered_closure_param : Spot → AstParam → Param
+answered_closure_param at x = (answered_param at x).own
 
 abbrev pub answered_ret : Spot → AstRetType → OptionType
 answered_ret at x = read_ret_type at.answers x at.place
@@ -238,6 +242,12 @@ varargs_part at ps = is_varargs (read_param at.answers) ps at.place
 abbrev pub names_part : Spot → Option (List AstParam) → List (Option Name)
 names_part at ps = names_or_none (read_param at.answers) ps at.place
 
+abbrev pub closure_params_part : Spot → List AstParam → Params
+closure_params_part at ps = closure_params_of (read_param at.answers) ps at.place
+
+abbrev pub closure_params_or_none_part : Spot → Option (List AstParam) → Params
+closure_params_or_none_part at ps = closure_params_or_none (read_param at.answers) ps at.place
+
 abbrev pub answer_part : Spot → Option AstRetType → OptionType
 answer_part at r = answer_or_none (read_ret_type at.answers) r at.place
 
@@ -318,6 +328,10 @@ try_level at b =
 -- the spot inside of a `const` block
 abbrev pub in_const_block : Spot → Spot
 in_const_block at = record at { place = inside_const_block at.place }
+
+-- the spot inside of the body of a closure
+abbrev pub in_closure : Spot → Spot
+in_closure at = record at { place = inside_closure at.place }
 
 abbrev pub const_level : Spot → AstBlockExpr → Expr
 const_level at b =

@@ -33,7 +33,8 @@ use Rattle.hir_scope.specs.Each.{Each}
 use Rattle.hir_steps.proofs.Logic.{longer}
 use Rattle.hir_lower.proofs.Ways.{Leading, Low, Goes, Went, any, since, then', makes, anyway, in_turn, leading_pure, leading_alloc}
 use Rattle.hir_lower.proofs.Ways.{leading_alloc_binding}
-use Rattle.hir_lower.proofs.Ways.{leading_alloc_pat, leading_barrier, leading_close, leading_count_out, leading_define, leading_enter}
+use Rattle.hir_lower.proofs.Ways.{leading_alloc_pat, leading_barrier, leading_close_barrier, leading_count_out, leading_define}
+use Rattle.hir_lower.proofs.Ways.{leading_enter}
 use Rattle.hir_lower.proofs.Ways.{leading_leave, leading_point_pat_field, leading_report}
 
 node_leads : (e : HirExpr) (source : Option Pointer) → Leading any (alloc_expr e source)
@@ -381,8 +382,8 @@ let_stmt_leads hp ht hi hb = then' hp (λ p. then' ht (λ t. then' hi (λ i. the
 
 pub inner_leads : {e : ExprSteps} → Leading any e → Leading any (ranges.inner_form e)
 unfolding ranges.inner_form
-inner_leads h = then' leading_barrier (λ u. then' leading_enter (λ outer.
-    then' h (λ i. then' leading_close (λ u. then' (leading_leave outer i) (λ u. leading_pure i)))))
+inner_leads h = then' leading_barrier (λ outside. then' leading_enter (λ outer.
+    then' h (λ i. then' (leading_close_barrier outside) (λ y. then' (leading_leave outer i) (λ u. leading_pure i)))))
 
 pub item_leads : (item : Option LangItemId) → Leading any (ranges.item_form item)
 unfolding ranges.item_form

@@ -25,13 +25,15 @@ use Rattle.hir_env.specs.Answered.{Binder, Type_, OptionType, Parts, Path, Optio
 use Rattle.hir_env.specs.Answered.{OptionRet, OptionArgs, Args, Arg, Bounds, Bound, Constant}
 use Rattle.hir_env.specs.Answered.{Listing, Label, Jump, Expr, OptionExpr, Exprs, Fields, Field, Spread, Block, OptionBlock, Stmts, Stmt}
 use Rattle.hir_env.specs.Answered.{Arms, Arm, Guard, Pat, OptionPat, Pats, PatFields, PatField, Side, OptionTypePat, TypePat, TypePats}
-use Rattle.hir_env.specs.Answered.{Limit, Target, Targets, TargetFields, TargetField}
+use Rattle.hir_env.specs.Answered.{Limit, Param, Params, Target, Targets, TargetFields, TargetField}
 use Rattle.hir_env.specs.Targets.{head_pointer}
 use Rattle.hir_lower_form.specs.declared.args.ArgLists.{ArgLists}
+use Rattle.hir_lower_form.specs.declared.closures.ClosureParams.{ClosureParams}
 use Rattle.hir_lower_form.specs.declared.walk.PathWalk.{PathWalk}
-use Rattle.hir_lower_form.specs.Lowering.{Lowering, ◌>>=◌}
+use Rattle.hir_lower_form.specs.Lowering.{Lowering}
 use Rattle.hir_lower_form.specs.Lower.{ExprSteps, StoredContents, missing, some, if_form, loop_form, turn_form, call_form, continue_form}
 use Rattle.hir_lower_form.specs.Lower.{break_form, paren_form, operand_form, operands_form, value_form, list_form, repeat_form, const_form}
+use Rattle.hir_lower_form.specs.Lower.{closure_form, param_form, yield_form, lower_param, lower_params, no_closure_params}
 use Rattle.hir_lower_form.specs.Types.{TypeSteps}
 use Rattle.hir_lower_form.specs.Lower.{path_form, method_call_form, await_form, block_form, labelled, kept, lower, lower_part}
 use Rattle.hir_lower_form.specs.Lower.{StoredFields, cast_form, offset_of_form, record_contents, record_of, record_form, field_form}
@@ -53,6 +55,7 @@ use Rattle.hir_lower.proofs.TypeWays.{segment_args_leads, pattern_type_leads}
 use Rattle.hir_lower.proofs.Ways.{Leading, any, since, then', makes, leading_pure, leading_report, leading_block, leading_close}
 use Rattle.hir_lower.proofs.Ways.{leading_jump, leading_alloc, leading_open, leading_point, leading_closed, leading_report_await}
 use Rattle.hir_lower.proofs.Ways.{leading_point_field, leading_alloc_type, leading_alloc_pat, leading_barrier, leading_enter}
+use Rattle.hir_lower.proofs.Ways.{leading_close_barrier, leading_note}
 use Rattle.hir_lower.proofs.Ways.{leading_leave, anyway}
 use Rattle.hir_lower.proofs.PatWays.{alone_leads, arm_leads, array_target_leads, assign_leads, before_leads, bind_leads, call_target_leads}
 use Rattle.hir_lower.proofs.PatWays.{element_leads, inner_leads, item_leads, let_leads, let_stmt_leads, limits_leads, literal_limit_leads}
@@ -133,6 +136,16 @@ module _ (at : Pointer) where
   unfolding const_form
   const_leads h = makes h (λ c. leading_alloc _ (Some at))
 
+  closure_leads : (moves is_static : Bool) {p : Lowering ClosureParams} {t : Lowering (Option TypeRefId)} {e : ExprSteps} → Leading any p
+      → Leading any t → Leading since e → Leading since (closure_form at moves is_static p t e)
+  unfolding closure_form
+  closure_leads moves is_static hp ht he = makes leading_barrier (λ outside. makes hp (λ c. makes ht (λ t. makes he
+      (λ i. makes (leading_close_barrier outside) (λ y. leading_alloc _ (Some at))))))
+
+  yield_leads : {e : Lowering (Option ExprId)} → Leading any e → Leading since (yield_form at e)
+  unfolding yield_form
+  yield_leads h = makes leading_note (λ u. makes h (λ v. leading_alloc _ (Some at)))
+
   method_call_leads : {e : ExprSteps} (name : Name) {xs : Lowering (List ExprId)} {as' : Lowering (Option GenericArgs)}
       → Leading since e → Leading any xs → Leading any as' → Leading since (method_call_form at e name xs as')
   unfolding method_call_form
@@ -182,8 +195,13 @@ labelled_leads (Some l) h = makes (leading_open l) (λ n. leading_closed (h (Som
 
 constant_form_leads : {e : ExprSteps} → Leading since e → Leading any (constant_form e)
 unfolding constant_form
-constant_form_leads h = then' leading_barrier (λ u. then' leading_enter (λ outer.
-    then' h (λ i. then' leading_close (λ u. then' (leading_leave outer i) (λ u. leading_pure _)))))
+constant_form_leads h = then' leading_barrier (λ outside. then' leading_enter (λ outer.
+    then' h (λ i. then' (leading_close_barrier outside) (λ y. then' (leading_leave outer i) (λ u. leading_pure _)))))
+
+param_leads : (c : ClosureParams) {p : Lowering PatId} {t : Lowering (Option TypeRefId)} → Leading any p → Leading any t
+    → Leading any (param_form c p t)
+unfolding param_form
+param_leads c hp ht = then' hp (λ p. then' ht (λ t. leading_pure _))
 
 kept_leads : (e : Expr) {p : ExprSteps} → Leading since p → Leading any (kept e p)
 kept_leads (tree.disabled_expr at by e) h = then' (leading_report _) (λ u. leading_pure None)
@@ -324,11 +342,13 @@ mutual
   node_leads (tree.list_expr at form es) = list_leads at form (each_leads [] es)
   node_leads (tree.repeat_expr at e c) = repeat_leads at (part_leads e) (constant_leads c)
   node_leads (tree.const_expr at c) = const_leads at (constant_leads c)
+  node_leads (tree.closure_expr at moves is_static xs t e) =
+      closure_leads at moves is_static (params_lead no_closure_params xs) (present_type_leads t) (part_leads e)
   node_leads (tree.method_call_expr at e name es as') =
       method_call_leads at name (part_leads e) (each_leads [] es) (args_part_leads as')
   node_leads (tree.leaving_expr at form e) = value_leads at _ (present_leads e)
   node_leads (tree.become_expr at e) = operand_leads at _ (part_leads e)
-  node_leads (tree.yield_expr at e) = value_leads at _ (present_leads e)
+  node_leads (tree.yield_expr at e) = yield_leads at (present_leads e)
   node_leads (tree.await_expr at location e) = await_leads at location (part_leads e)
   node_leads (tree.cast_expr at e t) = cast_leads at (part_leads e) (type_part_leads None t)
   node_leads (tree.record_expr at x head fs s) =
@@ -344,6 +364,14 @@ mutual
       → Leading since (try_form at t block)
   try_leads at tree.no_type h = h false
   try_leads at (tree.some_type t) h = typed_try_leads at (h true) (type_leads None t)
+
+  params_lead : (c : ClosureParams) (xs : Params) → Leading any (lower_params c xs)
+  params_lead c tree.no_params = leading_pure c
+  params_lead c (tree.more_params x xs) = then' (one_param_leads c x) (λ d. params_lead d xs)
+
+  one_param_leads : (c : ClosureParams) (x : Param) → Leading any (lower_param c x)
+  one_param_leads c (tree.disabled_param at by x) = then' (leading_report _) (λ u. leading_pure c)
+  one_param_leads c (tree.param p t) = param_leads c (top_leads p) (present_type_leads t)
 
   pub part_leads : (e : OptionExpr) → Leading since (lower_part e)
   part_leads tree.no_expr = missing_leads

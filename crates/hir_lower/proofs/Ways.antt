@@ -33,6 +33,7 @@ use Rattle.hir_lower_form.specs.Builder.{Builder}
 use Rattle.hir_lower_form.specs.Lowering.{Checked, go_on, Lowering, ◌>>=◌, pure, alloc_expr, alloc_lifetime, alloc_type, point, report}
 use Rattle.hir_lower_form.specs.Lowering.{alloc_binding, alloc_made, alloc_pat, define, made_number, point_pat_field}
 use Rattle.hir_lower_form.specs.Lowering.{open_try, open_try_as, open_try_named, try_target}
+use Rattle.hir_lower_form.specs.Lowering.{close_barrier, note_yield}
 use Rattle.hir_lower_form.specs.Lowering.{point_field, open_barrier, enter_root, outside_root, leave_root, record_root}
 use Rattle.hir_lower_form.specs.Lowering.{enter_block, open_label, close, jump_target, found_or_fault, open_as, report_await, count_out}
 use Rattle.hir_lower.specs.Stays.{LeadsOn, Stays}
@@ -273,6 +274,14 @@ leading_block (Some n) = record { goes = λ b. (went_same _ _ (refl, (refl, (ref
 pub leading_barrier : Leading any open_barrier
 unfolding open_barrier
 leading_barrier = record { goes = λ b. (went_same _ _ (refl, (refl, (refl, (refl, (refl, refl))))), tt) }
+
+pub leading_close_barrier : (outside : Bool) → Leading any (close_barrier outside)
+unfolding close_barrier
+leading_close_barrier outside = record { goes = λ b. (went_same _ _ (refl, (refl, (refl, (refl, (refl, refl))))), tt) }
+
+pub leading_note : Leading any note_yield
+unfolding note_yield
+leading_note = record { goes = λ b. (went_same _ _ (refl, (refl, (refl, (refl, (refl, refl))))), tt) }
 
 pub leading_enter : Leading any enter_root
 unfolding enter_root

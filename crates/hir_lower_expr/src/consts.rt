@@ -58,10 +58,10 @@ fn inner_constant<P: LowerParts>(
         let inner = spec.lower_inside (role.Plain false None) (answered_plain inside node.now) in
         Lowers HasConst (spec.constant_form inner) state.old result state.new }
 {
-    state.open_barrier()?;
+    let outside = state.open_barrier()?;
     let outer = state.enter_root();
     let id = inner_block(lowerer, state, node)?;
-    state.close();
+    let _ = state.close_barrier(outside);
     state.leave_root(outer, id)?;
     Ok(ConstRef { expr: id })
 }

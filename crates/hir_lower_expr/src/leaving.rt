@@ -47,8 +47,8 @@ pub fn yeet_form<P: LowerParts>(
     state.alloc_expr(Expr::Yeet { expr }, Some(at))
 }
 
-/// A `yield`, with its value if it has one.
-#[tactic(auto, unfolding(hir_lower_form::specs::Forms::value_form))]
+/// A `yield`, with its value if it has one. It is noted before its value is lowered.
+#[tactic(auto, unfolding(hir_lower_form::specs::Forms::yield_form))]
 pub fn yield_form<P: LowerParts>(
     lowerer: &Lowerer<P>,
     state: &mut BodyBuilder,
@@ -58,6 +58,7 @@ pub fn yield_form<P: LowerParts>(
     requires { IfPresent (P.can lowerer.now.parts).expr value.now }
     ensures { LowersExpr (tree.yield_expr at (expr_part (P.spot lowerer.now.parts) value.now)) state.old result state.new }
 {
+    state.note_yield();
     let expr = lowerer.collect_expr_if_present(state, value)?;
     state.alloc_expr(Expr::Yield { expr }, Some(at))
 }

@@ -5,6 +5,7 @@
 pub mod assignments;
 pub mod blocks;
 pub mod calls;
+pub mod closures;
 mod consts;
 pub mod control;
 pub mod fors;

@@ -5,18 +5,19 @@ use Rattle.hir_store.specs.Storing.{empty}
 use Rattle.hir_store.specs.declared.ids.LabelId.{LabelId}
 use Rattle.hir_scope.specs.Ribs.{Rib, label_rib, try_rib, macro_rib, barrier_rib}
 
--- what is stored, what is open, innermost first, how many names were made up, whether a counter came to its end, and whether a root
--- is being lowered
+-- what is stored, what is open, innermost first, how many names were made up, whether a counter came to its end, whether a root is
+-- being lowered, and whether a kept `yield` stood in the body that is being lowered, so far, and in none inside of it
 pub record Builder : Type 0 where
   pub stored : Stored
   pub scopes : List (Rib LabelId)
   pub names : ℕ
   pub counted_out : Bool
   pub in_root : Bool
+  pub yields : Bool
 
--- nothing is stored, no label is open, no name is made up, no counter is at its end and no root is being lowered
+-- nothing is stored, no label is open, no name is made up, no counter is at its end, no root is being lowered and no `yield` stood there
 abbrev pub fresh : ℕ → Builder
-fresh limit = record { stored = empty limit; scopes = []; names = 0; counted_out = false; in_root = false }
+fresh limit = record { stored = empty limit; scopes = []; names = 0; counted_out = false; in_root = false; yields = false }
 
 -- the least number above those of the labels
 abbrev pub past_ribs : List (Rib LabelId) → ℕ

@@ -8,6 +8,12 @@ use Rattle.hir_store.specs.Pointers.{Pointer}
 use Rattle.hir_store.specs.declared.hir.Expr.{Expr as HirExpr}
 use Rattle.hir_store.specs.declared.hir.Expr.TheVariants as hir
 use Rattle.hir_store.specs.declared.hir.Array.TheVariants as array
+use Rattle.hir_store.specs.declared.hir.CaptureBy.{CaptureBy}
+use Rattle.hir_store.specs.declared.hir.CaptureBy.TheVariants as capture
+use Rattle.hir_store.specs.declared.hir.ClosureKind.{ClosureKind}
+use Rattle.hir_store.specs.declared.hir.ClosureKind.TheVariants as closure
+use Rattle.hir_store.specs.declared.hir.Movability.{Movability}
+use Rattle.hir_store.specs.declared.hir.Movability.TheVariants as movable
 use Rattle.hir_store.specs.declared.hir.LoopSource.{LoopSource}
 use Rattle.hir_store.specs.declared.hir.MatchArm.{MatchArm}
 use Rattle.hir_store.specs.declared.hir.Statement.{Statement}
@@ -31,8 +37,10 @@ use Rattle.hir_store.specs.declared.diagnostics.ExpressionStoreDiagnostics.TheVa
 use Rattle.hir_env.specs.Answered as tree
 use Rattle.hir_env.specs.Answered.{Leaf, Unary, Binary, Leaving, Listing, Label, Jump, Expr}
 use Rattle.hir_lower_form.specs.Lowering.{Lowering, ◌>>=◌, ◌>>◌, pure, alloc_expr, point, point_field, report, enter_block}
-use Rattle.hir_lower_form.specs.Lowering.{report_await, open_label, open_barrier, close, jump_target, enter_root, leave_root}
+use Rattle.hir_lower_form.specs.Lowering.{report_await, note_yield, open_label, open_barrier, close, close_barrier, jump_target}
+use Rattle.hir_lower_form.specs.Lowering.{enter_root, leave_root}
 use Rattle.hir_lower_form.specs.Types.{TypeSteps}
+use Rattle.hir_lower_form.specs.declared.closures.ClosureParams.{ClosureParams}
 
 -- steps that make an expression
 abbrev pub ExprSteps : Type 0
@@ -179,6 +187,13 @@ unfoldable pub value_form : Pointer → (Option ExprId → HirExpr) → Lowering
 value_form at form value = do
   v ← value
   alloc_expr (form v) (Some at)
+
+-- It is noted before its value is lowered.
+unfoldable pub yield_form : Pointer → Lowering (Option ExprId) → ExprSteps
+yield_form at value = do
+  note_yield
+  v ← value
+  alloc_expr (hir.Yield v) (Some at)
 
 -- a leading comma stands for a missing element in front, which is made last
 unfoldable pub list_form : Pointer → Listing → Lowering (List ExprId) → ExprSteps
@@ -334,9 +349,49 @@ kept e node = some node
 -- No jump in it reaches what is open around it, and it is recorded where no other root is being lowered.
 unfoldable pub constant_form : ExprSteps → Lowering ConstRef
 constant_form contents = do
-  open_barrier
+  outside ← open_barrier
   outer ← enter_root
   id ← contents
-  close
+  close_barrier outside
   leave_root outer id
   pure (record { expr = id })
+
+-- ---- closures
+
+abbrev pub no_closure_params : ClosureParams
+no_closure_params = record { args = []; arg_types = [] }
+
+abbrev pub add_param : ClosureParams → PatId → Option TypeRefId → ClosureParams
+add_param l p t = record { args = l.args ++ p ∷ []; arg_types = l.arg_types ++ t ∷ [] }
+
+unfoldable pub param_form : ClosureParams → Lowering PatId → Lowering (Option TypeRefId) → Lowering ClosureParams
+param_form l pattern type_ref = do
+  p ← pattern
+  t ← type_ref
+  pure (add_param l p t)
+
+abbrev pub movability : Bool → Movability
+movability true = movable.Static
+movability false = movable.Movable
+
+-- one whose body yields is an old coroutine
+abbrev pub closure_kind : Bool → Bool → ClosureKind
+closure_kind false is_static = closure.Closure
+closure_kind true is_static = closure.OldCoroutine (movability is_static)
+
+abbrev pub capture_by : Bool → CaptureBy
+capture_by true = capture.Value
+capture_by false = capture.Ref
+
+abbrev pub stored_closure : Bool → Bool → ClosureParams → Option TypeRefId → ExprId → Bool → HirExpr
+stored_closure moves is_static l t e yields = hir.Closure l.args l.arg_types t e (closure_kind yields is_static) (capture_by moves)
+
+-- The parameters, what it returns, its body. No jump in it reaches what is open around it.
+unfoldable pub closure_form : Pointer → Bool → Bool → Lowering ClosureParams → Lowering (Option TypeRefId) → ExprSteps → ExprSteps
+closure_form at moves is_static params ret body = do
+  outside ← open_barrier
+  l ← params
+  t ← ret
+  e ← body
+  yields ← close_barrier outside
+  alloc_expr (stored_closure moves is_static l t e yields) (Some at)

@@ -162,9 +162,17 @@ open_try at typed = do
 unfoldable pub try_target : Lowering (Option (Try LabelId))
 try_target = λ b. (Ok (innermost_try_rib b.scopes), b)
 
--- no jump behind it reaches what is open
-unfoldable pub open_barrier : Lowering (Unit {0})
-open_barrier = λ b. (Ok tt, record b { scopes = barrier_rib ∷ b.scopes })
+-- No jump behind it reaches what is open, and no `yield` stands in it so far. It answers whether one stood outside of it.
+unfoldable pub open_barrier : Lowering Bool
+open_barrier = λ b. (Ok b.yields, record b { scopes = barrier_rib ∷ b.scopes; yields = false })
+
+-- Closes the barrier, outside of which a `yield` stood or none did. It answers whether one stood in it.
+unfoldable pub close_barrier : Bool → Lowering Bool
+close_barrier outside = λ b. (Ok b.yields, record b { scopes = rest b.scopes; yields = outside })
+
+-- a `yield` stands here
+unfoldable pub note_yield : Lowering (Unit {0})
+note_yield = λ b. (Ok tt, record b { yields = true })
 
 -- closes what was opened last
 unfoldable pub close : Lowering (Unit {0})

@@ -16,7 +16,7 @@ use Rattle.hir_store.specs.declared.path.GenericArgs.{GenericArgs}
 use Rattle.hir_store.specs.declared.type_ref.ConstRef.{ConstRef}
 use Rattle.hir_store.specs.declared.type_ref.TypeBound.{TypeBound}
 use Rattle.hir_store.specs.declared.type_ref.UseArgRef.{UseArgRef}
-use Rattle.hir_store.specs.Past.{past_arm, past_present, past_use_arg}
+use Rattle.hir_store.specs.Past.{Past, join, past_arm, past_pat_ids, past_present, past_type_options, past_use_arg}
 use Rattle.hir_store.specs.declared.hir.MatchArm.{MatchArm}
 use Rattle.hir_store.specs.declared.hir.Statement.{Statement}
 use Rattle.hir_store.specs.declared.ids.ExprId.{ExprId}
@@ -30,7 +30,7 @@ use Rattle.hir_env.specs.Answered as tree
 use Rattle.hir_env.specs.declared.place.Place.{Place}
 use Rattle.hir_env.specs.Answered.{Binder, Type_, OptionType, Parts, Path, OptionPath, Segment, OptionArgs, Bounds, Constant}
 use Rattle.hir_env.specs.Answered.{Expr, OptionExpr, Exprs, Block, OptionBlock, Stmts, Stmt}
-use Rattle.hir_env.specs.Answered.{OptionPat, Side, OptionTypePat, Limit, Target}
+use Rattle.hir_env.specs.Answered.{OptionPat, Param, Params, Side, OptionTypePat, Limit, Target}
 use Rattle.hir_env.specs.Whole.{answered_plain, expr_part, in_const_block, in_constant, label_part, pointer_at, reader, stmts_part}
 use Rattle.hir_env.specs.Whole.{type_part}
 use Rattle.hir_store.specs.declared.path.Path.{Path as HirPath}
@@ -38,6 +38,7 @@ use Rattle.hir_lower_form.specs.Builder.{Builder}
 use Rattle.hir_lower_form.specs.Walks.{past_walk, past_reading}
 use Rattle.hir_lower_form.specs.Types.{past_lists}
 use Rattle.hir_lower_form.specs.declared.args.ArgLists.{ArgLists}
+use Rattle.hir_lower_form.specs.declared.closures.ClosureParams.{ClosureParams}
 use Rattle.hir_lower_form.specs.declared.parts.BlockRole.{BlockRole}
 use Rattle.hir_lower_form.specs.declared.parts.BlockRole.TheVariants as role
 use Rattle.hir_lower_form.specs.declared.walk.PathWalk.{PathWalk}
@@ -91,6 +92,20 @@ LowersBlockOpt b old result new = Lowers HasExpr (spec.lower_block_part b) old r
 -- none where it is absent
 abbrev pub LowersBlockIfPresent : OptionBlock → Builder → Checked (Option ExprId) → Builder → Type 0
 LowersBlockIfPresent b old result new = Lowers HasExprOption (spec.present_block b) old result new
+
+-- those of a closure
+abbrev pub past_params : ClosureParams → Past
+past_params l = join (past_pat_ids l.args) (past_type_options l.arg_types)
+
+abbrev pub HasClosureParams : Stored → ClosureParams → Type 0
+HasClosureParams s l = Has s (past_params l)
+
+-- behind those that are lowered already
+abbrev pub LowersParams : ClosureParams → Params → Builder → Checked ClosureParams → Builder → Type 0
+LowersParams l ps old result new = Lowers HasClosureParams (spec.lower_params l ps) old result new
+
+abbrev pub LowersParam : ClosureParams → Param → Builder → Checked ClosureParams → Builder → Type 0
+LowersParam l x old result new = Lowers HasClosureParams (spec.lower_param l x) old result new
 
 abbrev pub HasArm : Stored → MatchArm → Type 0
 HasArm s a = Has s (past_arm a)

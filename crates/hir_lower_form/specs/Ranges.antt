@@ -16,8 +16,8 @@ use Rattle.hir_store.specs.declared.path.Path.{Path as HirPath}
 use Rattle.hir_store.specs.declared.path.Path.TheVariants.{LangItem}
 use Rattle.hir_env.specs.Answered as tree
 use Rattle.hir_env.specs.Answered.{RangeForm, Signed}
-use Rattle.hir_lower_form.specs.Lowering.{Lowering, ◌>>=◌, ◌>>◌, pure, alloc_expr, alloc_pat, close, enter_root, leave_root}
-use Rattle.hir_lower_form.specs.Lowering.{open_barrier}
+use Rattle.hir_lower_form.specs.Lowering.{Lowering, ◌>>=◌, ◌>>◌, pure, alloc_expr, alloc_pat, close_barrier, enter_root}
+use Rattle.hir_lower_form.specs.Lowering.{leave_root, open_barrier}
 use Rattle.hir_lower_form.specs.Forms.{ExprSteps, root_hygiene}
 use Rattle.hir_lower_form.specs.Pats.{name_path, signed_literal}
 
@@ -63,10 +63,10 @@ range_form at form low high = do
 -- No jump in it reaches what is open around it, and it is recorded where no other root is being lowered.
 unfoldable pub inner_form : ExprSteps → ExprSteps
 inner_form contents = do
-  open_barrier
+  outside ← open_barrier
   outer ← enter_root
   id ← contents
-  close
+  close_barrier outside
   leave_root outer id
   pure id
 

@@ -40,6 +40,8 @@ pub struct BodyBuilder {
     names: u32,
     counted_out: bool,
     in_root: bool,
+    /// Whether a kept `yield` stood in the body that is being lowered, so far, and in none inside of it.
+    yields: bool,
 }
 
 impl Drop for BodyBuilder {
@@ -50,6 +52,7 @@ impl Drop for BodyBuilder {
             names: _,
             counted_out: _,
             in_root: _,
+            yields: _,
         } = self;
     }
 }
@@ -69,6 +72,7 @@ impl Model for BodyBuilder {
       names = b.names;
       counted_out = b.counted_out;
       in_root = b.in_root;
+      yields = b.yields;
     } };
 
     ghost invariant = { λ b. RibsExist (record {
@@ -77,6 +81,7 @@ impl Model for BodyBuilder {
       names = b.names;
       counted_out = b.counted_out;
       in_root = b.in_root;
+      yields = b.yields;
     }) };
 }
 
@@ -101,6 +106,7 @@ impl BodyBuilder {
             names: 0,
             counted_out: false,
             in_root: false,
+            yields: false,
         }
     }
 
@@ -411,13 +417,35 @@ impl BodyBuilder {
         self.scopes.find_try()
     }
 
-    /// Opens the border of a constant: until it is closed no jump reaches what is open around it.
+    /// Opens the border of a constant or a closure: until it is closed no jump reaches what is open around it. It answers whether a
+    /// `yield` stood around it, for `close_barrier`.
     #[tactic(auto, unfolding(crate::specs::Lowering::open_barrier))]
-    pub fn open_barrier(&mut self) -> Result<(), StoreFault>
-        ensures { Lowers HasNone spec.open_barrier self.old result self.new }
+    pub fn open_barrier(&mut self) -> Result<bool, StoreFault>
+        ensures { Lowers HasFlag spec.open_barrier self.old result self.new }
     {
         self.scopes.enter_barrier()?;
-        Ok(())
+        let outside = self.yields;
+        self.yields = false;
+        Ok(outside)
+    }
+
+    /// Closes a border that was opened last, around which a `yield` stood or none did. It answers whether one stood in it.
+    #[tactic(auto, unfolding(crate::specs::Lowering::close_barrier, crate::specs::Lowering::close))]
+    pub fn close_barrier(&mut self, outside: bool) -> bool
+        ensures { Lowers HasFlag (spec.close_barrier outside) self.old (Ok result) self.new }
+    {
+        self.close();
+        let inside = self.yields;
+        self.yields = outside;
+        inside
+    }
+
+    /// Notes that a `yield` stands here.
+    #[tactic(auto, unfolding(crate::specs::Lowering::note_yield))]
+    pub fn note_yield(&mut self)
+        ensures { Lowers HasNone spec.note_yield self.old (Ok tt) self.new }
+    {
+        self.yields = true;
     }
 
     /// Closes what was opened last.
@@ -483,6 +511,7 @@ impl BodyBuilder {
             names: _,
             counted_out: _,
             in_root: _,
+            yields: _,
         } = self;
         store
     }

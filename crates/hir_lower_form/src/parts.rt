@@ -99,6 +99,16 @@ pub trait LowerParts {
         requires { (can self.now).expr node.now }
         ensures { MaybeLowersExpr (answered (spot self.now) node.now) state.old result state.new };
 
+    /// The same, read at this place.
+    fn maybe_collect_expr_inside(
+        &self,
+        state: &mut BodyBuilder,
+        place: Place,
+        node: &ast::Expr,
+    ) -> Result<Option<ExprId>, StoreFault>
+        requires { (can self.now).inner place node.now }
+        ensures { MaybeLowersExpr (answered (at_place (spot self.now) place) node.now) state.old result state.new };
+
     /// The block, read at this place, as one of this role.
     fn collect_block_inside(
         &self,
@@ -226,6 +236,39 @@ impl<P: LowerParts> Lowerer<P> {
         match part {
             None => state.missing_expr(),
             Some(part) => self.collect_expr(state, part.get()),
+        }
+    }
+
+    /// The expression, read at this place, missing where a condition disables it.
+    #[tactic(auto, using(crate::proofs::Kept::lower_on))]
+    fn collect_expr_inside(
+        &self,
+        state: &mut BodyBuilder,
+        place: Place,
+        node: &ast::Expr,
+    ) -> Result<ExprId, StoreFault>
+        requires { (P.can self.now.parts).inner place node.now }
+        ensures { LowersExpr (answered (at_place (P.spot self.now.parts) place) node.now) state.old result state.new }
+    {
+        match self.parts.maybe_collect_expr_inside(state, place, node)? {
+            Some(id) => Ok(id),
+            None => state.missing_expr(),
+        }
+    }
+
+    /// The expression, read at this place, missing where it is absent or a condition disables it.
+    pub fn collect_expr_opt_inside(
+        &self,
+        state: &mut BodyBuilder,
+        place: Place,
+        part: &Option<Boxed<ast::Expr>>,
+    ) -> Result<ExprId, StoreFault>
+        requires { IfPresent ((P.can self.now.parts).inner place) part.now }
+        ensures { LowersExprOpt (expr_part (at_place (P.spot self.now.parts) place) part.now) state.old result state.new }
+    {
+        match part {
+            None => state.missing_expr(),
+            Some(part) => self.collect_expr_inside(state, place, part.get()),
         }
     }
 

@@ -124,6 +124,7 @@ module _ {E : Type 0} (answers : E → Answers) (pre : Pre E) (post : Post E (Op
   abbrev pub Handled : Place → Claims
   Handled p = record {
     expr = HandlesExpr answers pre post env p;
+    inner = HandlesExpr answers pre post env;
     block = HandlesBlock answers block_pre block_post env;
     path = HandlesPath answers path_pre path_post env;
     type_ = HandlesType answers type_pre type_post env;

@@ -76,10 +76,10 @@ pub fn constant_form<
     requires { IfPresent (HandlesExpr E.answers (F.pre lower.now) (F.post lower.now) env.now place) expr.now }
     ensures { LowersConstant (tree.constant (expr_part (spot_at (E.answers env.now) place) expr.now)) state.old result state.new }
 {
-    state.open_barrier()?;
+    let outside = state.open_barrier()?;
     let outer = state.enter_root();
     let id = expr_or_missing(alloc, env, place, state, lower, expr)?;
-    state.close();
+    let _ = state.close_barrier(outside);
     state.leave_root(outer, id)?;
     Ok(ConstRef { expr: id })
 }

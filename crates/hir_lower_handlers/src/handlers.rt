@@ -132,6 +132,15 @@ impl<
         (self.expr)(self.alloc, self.env, self.place, state, node)
     }
 
+    fn maybe_collect_expr_inside(
+        &self,
+        state: &mut BodyBuilder,
+        place: Place,
+        node: &ast::Expr,
+    ) -> Result<Option<ExprId>, StoreFault> {
+        (self.expr)(self.alloc, self.env, place, state, node)
+    }
+
     fn collect_block_inside(
         &self,
         state: &mut BodyBuilder,

@@ -13,6 +13,7 @@ use Rattle.hir_syntax.specs.declared.ast.Literal.{Literal as AstLiteral}
 use Rattle.hir_syntax.specs.declared.ast.Name.{Name as AstName}
 use Rattle.hir_syntax.specs.declared.ast.Path.{Path as AstPath}
 use Rattle.hir_syntax.specs.declared.ast.RecordExprFieldList.{RecordExprFieldList as AstFieldList}
+use Rattle.hir_syntax.specs.declared.types.Param.{Param as AstParam}
 use Rattle.hir_syntax.specs.declared.types.Type_.{Type_ as AstType_}
 use Rattle.hir_base.specs.declared.op.BinaryOp.{BinaryOp}
 use Rattle.hir_base.specs.declared.op.UnaryOp.{UnaryOp}
@@ -22,7 +23,7 @@ use Rattle.hir_base.specs.declared.op.RangeOp.{RangeOp}
 use Rattle.hir_base.specs.declared.node.PredId.{PredId}
 use Rattle.hir_env.specs.Layers.{ExprKindLayer}
 use Rattle.hir_env.specs.Whole.{written}
-use Rattle.hir_env.specs.Wrapped.{AstGenericArgList}
+use Rattle.hir_env.specs.Wrapped.{AstGenericArgList, AstRetType}
 use Rattle.hir_lower_form.specs.Families.{IsControl, IsMatching, IsListing, IsAccess, IsOperator, IsLeaving, IsTyped, IsLeaf}
 
 made : (k : AstExprKind) (l : ExprKindLayer written) → out-ExprKind k ≡ l → k ≡ roll-ExprKind l
@@ -54,13 +55,17 @@ only_control k is no_if no_block no_loop no_while no_try no_continue no_break = 
 pub only_matching : (k : AstExprKind) → IsMatching (out-ExprKind k)
     → ((p : Option AstPat) (e : Option AstExpr) → k ≡ kind.LetExpr p e → ⊥)
     → ((e : Option AstExpr) (as' : Option (List AstMatchArm)) → k ≡ kind.MatchExpr e as' → ⊥)
-    → ((l : Option AstLabel) (p : Option AstPat) (e : Option AstExpr) (b : Option AstBlockExpr) → k ≡ kind.ForExpr l p e b → ⊥) → ⊥
-only_matching k is no_let no_match no_for = by (out-ExprKind k) refl is
+    → ((l : Option AstLabel) (p : Option AstPat) (e : Option AstExpr) (b : Option AstBlockExpr) → k ≡ kind.ForExpr l p e b → ⊥)
+    → ((ps : Option (List AstParam)) (r : Option AstRetType) (e : Option AstExpr) (moves is_static : Bool)
+    → k ≡ kind.ClosureExpr ps r e moves is_static → ⊥) → ⊥
+only_matching k is no_let no_match no_for no_closure = by (out-ExprKind k) refl is
   where
     by : (l : ExprKindLayer written) → out-ExprKind k ≡ l → IsMatching l → ⊥
     by (ExprKind-F.LetExpr p e) h is = no_let p e (made k _ h ∙ kind.rolls-LetExpr p e)
     by (ExprKind-F.MatchExpr e as') h is = no_match e as' (made k _ h ∙ kind.rolls-MatchExpr e as')
     by (ExprKind-F.ForExpr l p e b) h is = no_for l p e b (made k _ h ∙ kind.rolls-ForExpr l p e b)
+    by (ExprKind-F.ClosureExpr ps r e moves is_static) h is =
+        no_closure ps r e moves is_static (made k _ h ∙ kind.rolls-ClosureExpr ps r e moves is_static)
     by _ h is = is
 
 pub only_listing : (k : AstExprKind) → IsListing (out-ExprKind k)

@@ -57,7 +57,8 @@ fn expr_form<P: LowerParts>(
         | ast::ExprKind::OffsetOfExpr { .. } => typed_kind(lowerer, state, at, &node.kind),
         ast::ExprKind::LetExpr { .. }
         | ast::ExprKind::MatchExpr { .. }
-        | ast::ExprKind::ForExpr { .. } => matching_kind(lowerer, state, at, &node.kind),
+        | ast::ExprKind::ForExpr { .. }
+        | ast::ExprKind::ClosureExpr { .. } => matching_kind(lowerer, state, at, &node.kind),
         ast::ExprKind::Literal(_)
         | ast::ExprKind::CfgPredExpr { .. }
         | ast::ExprKind::UnderscoreExpr

@@ -10,6 +10,7 @@ use hir_base::node::{AstPtr, InFile};
 use hir_lower_expr::assignments::bin_form;
 use hir_lower_expr::blocks::block_form;
 use hir_lower_expr::calls::{call_form, method_call_form, paren_form};
+use hir_lower_expr::closures::closure_form;
 use hir_lower_expr::control::{if_form, loop_form, while_form};
 use hir_lower_expr::fors::for_form;
 use hir_lower_expr::jumps::{break_form, continue_form};
@@ -86,6 +87,13 @@ pub(crate) fn matching_kind<P: LowerParts>(
             iterable,
             body,
         } => for_form(lowerer, state, at, label, pat, iterable, body),
+        ast::ExprKind::ClosureExpr {
+            params,
+            ret,
+            body,
+            move_,
+            static_,
+        } => closure_form(lowerer, state, at, params, ret, body, *move_, *static_),
         _ => unreachable!(),
     }
 }

@@ -1,21 +1,27 @@
 -- The borders of the end of a range in a type, and the patterns that no type has.
 use Rattle.std.specs.Prelude.{Bool}
 use Rattle.hir_syntax.specs.declared.ast.ElseBranch.TheOpen.{PatKind-F}
+use Rattle.hir_store.specs.Stored.{Stored}
 use Rattle.hir_store.specs.declared.ids.ExprId.{ExprId}
 use Rattle.hir_env.specs.PatLayers.{PatKindLayer}
 use Rattle.hir_env.specs.Whole.{written}
-use Rattle.hir_lower_form.specs.Lowering.{Lowering, ◌>>=◌, ◌>>◌, pure, close, enter_root, leave_root, open_barrier}
+use Rattle.hir_lower_form.specs.Lowering.{Lowering, ◌>>=◌, ◌>>◌, pure, close_barrier, enter_root, leave_root, open_barrier}
 
--- whether a root was being lowered before
-abbrev pub opened : Lowering Bool
+-- whether a `yield` stood around it, and whether a root was being lowered before
+abbrev pub opened : Lowering (Bool × Bool)
 opened = do
-  open_barrier
-  enter_root
+  outside ← open_barrier
+  outer ← enter_root
+  pure (outside, outer)
 
-abbrev pub shut : Bool → ExprId → Lowering ExprId
-shut outer id = do
-  close
-  leave_root outer id
+-- answers that are no numbers of entries
+abbrev pub HasFlags : Stored → Bool × Bool → Type 0
+HasFlags s flags = Unit {0}
+
+abbrev pub shut : Bool × Bool → ExprId → Lowering ExprId
+shut around id = do
+  close_barrier around.0
+  leave_root around.1 id
   pure id
 
 -- all kinds but these

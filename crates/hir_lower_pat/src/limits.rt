@@ -8,7 +8,7 @@ ghost use Rattle.hir_env.specs.Answering.{name_or_missing};
 ghost use Rattle.hir_env.specs.Pats.{side_of};
 ghost use Rattle.hir_env.specs.TypePats as of;
 ghost use Rattle.hir_env.specs.Whole.{answered_pat, pat_level, pat_part, path_part};
-ghost use Rattle.hir_lower_form.specs.Lowering.{HasFlag, Lowers};
+ghost use Rattle.hir_lower_form.specs.Lowering.{Lowers};
 ghost use Rattle.hir_lower_form.specs.Lower as steps;
 ghost use Rattle.hir_lower_form.specs.Methods.{LowersLimit, at_place};
 ghost use Rattle.hir_lower_form.specs.Nests.{IfPresent, KidsSide, KidsSidePart};
@@ -31,21 +31,23 @@ use hir_syntax::ast::RangeOp;
 use hir_syntax::{Boxed, Seq, ast};
 use std::alloc::{AllocError, Global};
 
-/// From here on a body of its own is being lowered, where no jump reaches what is open around it. It answers whether a root was
-/// being lowered before.
-fn open(state: &mut BodyBuilder) -> Result<bool, StoreFault>
-    ensures { Lowers HasFlag bodies.opened state.old result state.new }
+/// From here on a body of its own is being lowered, where no jump reaches what is open around it. It answers whether a `yield` stood
+/// around it, and whether a root was being lowered before.
+fn open(state: &mut BodyBuilder) -> Result<(bool, bool), StoreFault>
+    ensures { Lowers bodies.HasFlags bodies.opened state.old result state.new }
 {
-    state.open_barrier()?;
-    Ok(state.enter_root())
+    let outside = state.open_barrier()?;
+    let outer = state.enter_root();
+    Ok((outside, outer))
 }
 
 /// The body ends with this expression, and is recorded unless it stands inside of another root.
-fn shut(state: &mut BodyBuilder, outer: bool, id: ExprId) -> Result<ExprId, StoreFault>
+fn shut(state: &mut BodyBuilder, around: (bool, bool), id: ExprId) -> Result<ExprId, StoreFault>
     requires { HasExpr state.old.stored id }
-    ensures { Lowers HasExpr (bodies.shut outer id) state.old result state.new }
+    ensures { Lowers HasExpr (bodies.shut around id) state.old result state.new }
 {
-    state.close();
+    let (outside, outer) = around;
+    let _ = state.close_barrier(outside);
     state.leave_root(outer, id)?;
     Ok(id)
 }
@@ -154,9 +156,9 @@ fn side<P: LowerParts>(
 fn item_limit(state: &mut BodyBuilder, item: Option<LangItemId>) -> Result<ExprId, StoreFault>
     ensures { LowersLimit (tree.item_limit item) state.old result state.new }
 {
-    let outer = open(state)?;
+    let around = open(state)?;
     let id = state.alloc_expr(item_expr(item), None)?;
-    shut(state, outer, id)
+    shut(state, around, id)
 }
 
 /// The side itself.
@@ -171,9 +173,9 @@ fn side_limit<P: LowerParts>(
     ensures { let here = at_place (P.spot lowerer.now.parts) place in
         LowersLimit (tree.side_limit (side_of (tree.some_pat (answered_pat here node.now)))) state.old result state.new }
 {
-    let outer = open(state)?;
+    let around = open(state)?;
     let id = side(lowerer, state, place, node)?;
-    shut(state, outer, id)
+    shut(state, around, id)
 }
 
 fn operand(alloc: Global, id: ExprId) -> Result<Seq<ExprId>, AllocError>
@@ -217,9 +219,9 @@ fn before_limit<P: LowerParts>(
     ensures { let here = at_place (P.spot lowerer.now.parts) place in
         LowersLimit (tree.before_limit item (side_of (tree.some_pat (answered_pat here node.now)))) state.old result state.new }
 {
-    let outer = open(state)?;
+    let around = open(state)?;
     let id = before(lowerer, state, place, item, node)?;
-    shut(state, outer, id)
+    shut(state, around, id)
 }
 
 /// The least value of the type where no start is written.

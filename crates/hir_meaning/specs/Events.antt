@@ -7,6 +7,8 @@ use Rattle.hir_base.specs.declared.op.UnaryOp.{UnaryOp}
 use Rattle.hir_base.specs.declared.op.BinaryOp.{BinaryOp}
 use Rattle.hir_store.specs.declared.hir.Rawness.{Rawness}
 use Rattle.hir_store.specs.declared.hir.Mutability.{Mutability}
+use Rattle.hir_store.specs.declared.hir.CaptureBy.{CaptureBy}
+use Rattle.hir_store.specs.declared.hir.ClosureKind.{ClosureKind}
 use Rattle.hir_store.specs.declared.name.Name.{Name}
 use Rattle.hir_env.specs.NodeMap.{Site}
 use Rattle.hir_data.specs.Data.{TypeData, OptionTypeData, PathData, PatData, OptionArgsData}
@@ -53,6 +55,9 @@ pub data Operation : Type 0 where
   repeated : Operation
   -- what is in it is a body inside
   const_block : Operation
+  -- what it is, how it takes what its body uses of the outside, its parameters, a type for each where one is written, and what it
+  -- returns; its body is a body inside
+  closure : ClosureKind → CaptureBy → List PatData → List OptionTypeData → OptionTypeData → Operation
   method_call : Name → OptionArgsData → Operation
   cast : TypeData → Operation
   -- with the names of its fields

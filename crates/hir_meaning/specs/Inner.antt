@@ -1,5 +1,5 @@
--- The bodies inside a body, written and stored: the constants of its expressions, types, paths and arguments, and the ends of ranges
--- in its types, each before those that are inside it, in the order of parts.
+-- The bodies inside a body, written and stored: the constants of its expressions, types, paths and arguments, the bodies of its closures,
+-- and the ends of ranges in its types, each before those that are inside it, in the order of parts.
 use Rattle.std.specs.Prelude.{ℕ, zero, suc, ◌+◌, List, [], ◌∷◌, ◌++◌, length, slice_get}
 use Rattle.std.specs.Prelude.{Option, Some, None}
 use Rattle.hir_store.specs.Stored.{Store}
@@ -38,7 +38,8 @@ pub use Rattle.hir_meaning.specs.InnerWritten.{part_bodies, parts_bodies, bounds
 pub use Rattle.hir_meaning.specs.InnerWritten.{type_pat_part_bodies, type_pats_bodies, list_bodies, arguments_bodies}
 pub use Rattle.hir_meaning.specs.InnerWritten.{argument_bodies, bindings_bodies, binding_bodies, beside_bodies, parens_bodies}
 pub use Rattle.hir_meaning.specs.InnerWritten.{output_bodies, path_bodies, held, path_parts, outer_parts, behind_parts}
-pub use Rattle.hir_meaning.specs.InnerWritten.{anchor_bodies, names_bodies, expr_bodies, bodies_in, each_bodies, fields_bodies}
+pub use Rattle.hir_meaning.specs.InnerWritten.{anchor_bodies, names_bodies, expr_bodies, params_bodies, bodies_in, each_bodies}
+pub use Rattle.hir_meaning.specs.InnerWritten.{fields_bodies}
 pub use Rattle.hir_meaning.specs.InnerWritten.{field_bodies, spread_bodies, arms_bodies, arm_bodies, guard_bodies, block_bodies}
 pub use Rattle.hir_meaning.specs.InnerWritten.{block_part_bodies, stmts_bodies, stmt_bodies, pat_bodies, pat_part_bodies}
 pub use Rattle.hir_meaning.specs.InnerWritten.{pats_bodies, pat_fields_bodies, target_bodies, targets_bodies}
@@ -157,6 +158,12 @@ module _ (r : Inners) where
   abbrev pub of_arm : MatchArm → List ExprId
   of_arm a = r.pat a.pat ++ (of_present r.expr a.guard ++ r.expr a.expr)
 
+  -- the parameters of a closure: the pattern of each before its type
+  abbrev pub of_params : List PatId → List (Option TypeRefId) → List ExprId
+  of_params [] ts = all_of (of_present r.type) ts
+  of_params (p ∷ ps) [] = r.pat p ++ of_params ps []
+  of_params (p ∷ ps) (t ∷ ts) = (r.pat p ++ of_present r.type t) ++ of_params ps ts
+
   abbrev pub of_expr : HirExpr → List ExprId
   of_expr hir.Missing = []
   of_expr (hir.Literal l) = []
@@ -180,6 +187,7 @@ module _ (r : Inners) where
   of_expr (hir.Array (array.ElementList es)) = all_of r.expr es
   of_expr (hir.Array (array.Repeat e c)) = r.expr e ++ of_constant c
   of_expr (hir.Const c) = of_constant c
+  of_expr (hir.Closure args types ret body kind capture) = of_params args types ++ (of_present r.type ret ++ (body ∷ r.expr body))
   of_expr (hir.MethodCall e name generics es) = r.expr e ++ (of_list generics ++ all_of r.expr es)
   of_expr (hir.Cast e t) = r.expr e ++ r.type t
   of_expr (hir.RecordLit p fields others) = of_path p ++ (all_of of_field fields ++ of_others others)

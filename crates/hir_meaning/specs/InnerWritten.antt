@@ -1,6 +1,6 @@
--- The bodies inside a written body: the constants of its expressions, types, paths and arguments, and the ends of ranges in its
--- types, each before those that are inside it, in the order of parts. What nothing reads isn't among them: what a refused path or
--- an `impl` that is an error held, what stands left of where a path begins, and arguments that go again.
+-- The bodies inside a written body: the constants of its expressions, types, paths and arguments, the bodies of its closures, and the
+-- ends of ranges in its types, each before those that are inside it, in the order of parts. What nothing reads isn't among them: what a
+-- refused path or an `impl` that is an error held, what stands left of where a path begins, and arguments that go again.
 use Rattle.std.specs.Prelude.{if◌then◌else◌, Bool, true, false, List, [], ◌∷◌, ◌++◌, reverse, map}
 use Rattle.std.specs.Prelude.{Option, Some, None}
 use Rattle.hir_env.specs.declared.place.ImplTrait.{ImplTrait}
@@ -10,12 +10,13 @@ use Rattle.hir_env.specs.Answered.{Type_, OptionType, Parts, Path, OptionPath, S
 use Rattle.hir_env.specs.Answered.{OptionArgs, Args, Arg, Bounds, Bound, Constant}
 use Rattle.hir_env.specs.Answered.{Expr, OptionExpr, Exprs, Fields, Field, Spread, Block, OptionBlock, Stmts, Stmt}
 use Rattle.hir_env.specs.Answered.{Arms, Arm, Guard, RangeForm, Pat, OptionPat, Pats, PatFields, Side, TypePat, OptionTypePat, TypePats}
-use Rattle.hir_env.specs.Answered.{Limit, Target, Targets, TargetFields}
+use Rattle.hir_env.specs.Answered.{Limit, Target, Targets, TargetFields, Params}
 use Rattle.hir_data.specs.Data.{OptionArgsData, no_args, some_args}
 use Rattle.hir_data.specs.Rule.{Item, Named, PathRead, ended, has_self, is_list, names}
 use Rattle.hir_data.specs.Written.{list_data, path_of, what}
 
 pub data InnerBody : Type 0 where
+  -- an expression that is a body of its own: a constant, or the body of a closure
   constant_body : OptionExpr → InnerBody
   limit_body : Limit → InnerBody
 
@@ -292,6 +293,8 @@ abbrev mutual
   -- the length stands behind what is repeated
   expr_bodies (tree.repeat_expr at e c) = bodies_in e ++ constant_bodies c
   expr_bodies (tree.const_expr at c) = constant_bodies c
+  -- its body stands behind what is in its parameters and in what it returns
+  expr_bodies (tree.closure_expr at by_move is_static ps t e) = params_bodies ps ++ (part_bodies t ++ (constant_body e ∷ bodies_in e))
   expr_bodies (tree.method_call_expr at e name es generics) = bodies_in e ++ (list_bodies generics ++ each_bodies es)
   expr_bodies (tree.cast_expr at e t) = bodies_in e ++ part_bodies t
   -- a record whose path is absent or refused isn't read
@@ -307,6 +310,12 @@ abbrev mutual
   expr_bodies (tree.match_expr at e arms) = bodies_in e ++ arms_bodies arms
   expr_bodies (tree.range_expr at form start end) = if_made form (bodies_in start ++ bodies_in end)
   expr_bodies (tree.assign_expr at e t v) = target_bodies t ++ bodies_in v
+
+  -- the pattern of each before its type
+  pub params_bodies : Params → Bodies
+  params_bodies tree.no_params = []
+  params_bodies (tree.more_params (tree.disabled_param at by x) ps) = params_bodies ps
+  params_bodies (tree.more_params (tree.param p t) ps) = (pat_part_bodies p ++ part_bodies t) ++ params_bodies ps
 
   pub bodies_in : OptionExpr → Bodies
   bodies_in tree.no_expr = []

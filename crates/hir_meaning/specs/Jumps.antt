@@ -66,6 +66,7 @@ module _ (store : Store) (Part : List LabelId → ExprId → Type 0) (ls : List 
   StoredEnclosed (hir.Array (array.ElementList es)) = Each (Part ls) es
   StoredEnclosed (hir.Array (array.Repeat e c)) = Part ls e
   StoredEnclosed (hir.Const c) = Unit {0}
+  StoredEnclosed (hir.Closure args types ret body kind capture) = Unit {0}
   StoredEnclosed (hir.MethodCall e name generics es) = Part ls e × Each (Part ls) es
   StoredEnclosed (hir.Cast e t) = Part ls e
   StoredEnclosed (hir.RecordLit p fields others) = Each (Part ls) (map (λ f. f.expr) fields) × OthersEnclosed (Part ls) others

@@ -26,3 +26,4 @@ pub mod Questions
 pub mod Tries
 pub mod Fors
 pub mod Constants
+pub mod Closures

@@ -11,7 +11,7 @@ pub use Rattle.hir_meaning.specs.Events.{Value, answered, unit, truth, item, mut
 pub use Rattle.hir_meaning.specs.Events.{call, enter, test, bound, assigned, Event}
 pub use Rattle.hir_meaning.specs.Events.{underscore, include_bytes, field, prefix, reference, operator, index, tuple, array, repeated}
 pub use Rattle.hir_meaning.specs.Events.{method_call, cast, SpreadForm, no_spread, field_defaults, rest_of, made_record, offset_of}
-pub use Rattle.hir_meaning.specs.Events.{const_block, yielding}
+pub use Rattle.hir_meaning.specs.Events.{const_block, closure, yielding}
 pub use Rattle.hir_meaning.specs.Events.{awaiting}
 pub use Rattle.hir_meaning.specs.Events.{Answer, Answerer, Leave, returned, became, yeeted, unmatched, missing, cut}
 pub use Rattle.hir_meaning.specs.Events.{Outcome, value, break, continue, leave, World}

@@ -36,7 +36,7 @@ use Rattle.hir_meaning.specs.Places.{places}
 use Rattle.hir_meaning.specs.Run.{Value, answered, unit, truth, mutable_to, is_true, matches, test, bound, Operation, literal, call, Answer}
 use Rattle.hir_meaning.specs.Run.{Outcome, value, break, continue, leave, missing, Body, Run}
 use Rattle.hir_meaning.specs.Run.{underscore, include_bytes, field, prefix, reference, operator, index, array, method_call}
-use Rattle.hir_meaning.specs.Run.{repeated, const_block}
+use Rattle.hir_meaning.specs.Run.{repeated, const_block, closure}
 use Rattle.hir_meaning.specs.Run.{yielding, awaiting, cast, SpreadForm, no_spread, field_defaults, rest_of, made_record, offset_of}
 use Rattle.hir_meaning.specs.Run.{returned, became, yeeted, unmatched, made_tuple, lazily, read_path, binds, assigns}
 use Rattle.hir_base.specs.declared.op.BinaryOp.TheVariants as ast
@@ -304,6 +304,9 @@ module _ (store : Store) (source_map : SourceMap) where
       ask array vs site
     run_stored (hir.Array (hir_array.Repeat e c)) site = operand e repeated site
     run_stored (hir.Const c) site = ask const_block [] site
+    run_stored (hir.Closure args types ret body kind capture) site =
+        ask (closure kind capture (map (λ p. stored_pat store source_map p) args)
+        (map (λ t. stored_option_type store source_map t) types) (stored_option_type store source_map ret)) [] site
     run_stored (hir.MethodCall e name generics es) site = do
       v ← part e
       vs ← run_each turns part es

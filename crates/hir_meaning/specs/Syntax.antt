@@ -1,6 +1,6 @@
 -- How a written body runs: over the answered tree, by the rules of the Rust Reference for each form. It knows no store, no
 -- numbers and no stack of labels.
-use Rattle.std.specs.Prelude.{ℕ, Bool, true, false, codes, List, [], ◌∷◌, ◌++◌, Option, Some, None, if◌then◌else◌}
+use Rattle.std.specs.Prelude.{ℕ, Bool, true, false, codes, List, [], ◌∷◌, ◌++◌, map, Option, Some, None, if◌then◌else◌}
 use Rattle.hir_store.specs.declared.name.Name.{Name}
 use Rattle.hir_store.specs.declared.name.Name.TheVariants as name
 use Rattle.hir_store.specs.declared.ids.BlockId.{BlockId}
@@ -13,12 +13,12 @@ use Rattle.hir_env.specs.Answering.{site_of}
 use Rattle.hir_env.specs.Answered as tree
 use Rattle.hir_env.specs.Answered.{Leaf, Unary, Binary, Listing, Leaving, RangeForm}
 use Rattle.hir_env.specs.Answered.{Label, Expr, OptionExpr, Exprs, Fields, Spread, Block, OptionBlock, Stmts, Arms, Guard}
-use Rattle.hir_env.specs.Answered.{ForItems, Target, Targets, TargetFields, OptionType, QuestionItems}
+use Rattle.hir_env.specs.Answered.{ForItems, Target, Targets, TargetFields, OptionType, Params, QuestionItems}
 use Rattle.hir_env.specs.Targets.{head_pointer}
 use Rattle.hir_meaning.specs.Run.{Value, answered, unit, item, mutable_to, truth, is_true, matches, test, bound, Operation, literal, call}
 use Rattle.hir_meaning.specs.Run.{Outcome, break, continue, leave, missing, Body, Run}
 use Rattle.hir_meaning.specs.Run.{underscore, include_bytes, field, prefix, reference, operator, index, array, method_call}
-use Rattle.hir_meaning.specs.Run.{repeated, const_block}
+use Rattle.hir_meaning.specs.Run.{repeated, const_block, closure}
 use Rattle.hir_meaning.specs.Run.{yielding, awaiting, cast, SpreadForm, no_spread, field_defaults, rest_of, made_record, offset_of}
 use Rattle.hir_meaning.specs.Run.{Leave, returned, became, yeeted, unmatched, made_tuple, lazily, read_path, binds, assigns}
 use Rattle.hir_meaning.specs.Run.{ends, pure, ◌>>=◌, ◌>>◌, event, ask, tests, tests_pattern, entering}
@@ -26,6 +26,7 @@ use Rattle.hir_meaning.specs.Catching.{turn, loop, block}
 use Rattle.hir_scope.specs.Ribs.{Try}
 use Rattle.hir_scope.specs.Scopes.{Scope, loop_scope, try_scope, Count, break_target, continue_target, innermost_try, outward}
 use Rattle.hir_scope.specs.Scopes.{continue_past_block, scopes_in_block}
+use Rattle.hir_data.specs.Closures.{capture_of, kind_of, params_types}
 use Rattle.hir_data.specs.Data.{PathData, item_path, OptionTypeData, no_type, some_type, PatData, pat_at, generated_pattern}
 use Rattle.hir_data.specs.Data.{path_pattern, tuple_struct_pattern, no_patterns, more_patterns}
 use Rattle.hir_data.specs.Literals.{literal_data}
@@ -33,6 +34,7 @@ use Rattle.hir_data.specs.Lookup.{lookup_hygiene}
 use Rattle.hir_data.specs.Patterns.{written_pat}
 use Rattle.hir_data.specs.Rule.{PathRead}
 use Rattle.hir_data.specs.Targets.{target_data}
+use Rattle.hir_data.specs.Tops.{params_tops}
 use Rattle.hir_data.specs.Written.{path_of, root_hygiene, written_path, written_type, written_option_type, written_args}
 use Rattle.hir_meaning.specs.Left.{is_kept, is_left, is_last, field_names}
 
@@ -202,6 +204,12 @@ is_typed (tree.some_type t) = true
 abbrev pub as_it_is : SyntaxRun Value → SyntaxRun Value
 as_it_is m = m
 
+-- A closure is made as what it is: an old coroutine where its body yields (Rust Reference, closure expressions).
+abbrev pub closure_of : Bool → Bool → Params → OptionType → OptionExpr → Operation
+closure_of by_move is_static ps t e =
+    closure (kind_of is_static e) (capture_of by_move) (map written_pat (params_tops ps)) (map written_option_type (params_types ps))
+    (written_option_type t)
+
 -- parts beside a path that is absent or refused don't run
 abbrev pub if_read : {A : Type 0} → Option PathRead → A → A → A
 if_read None there behind = behind
@@ -290,6 +298,8 @@ module _ (turns : ℕ) where
       ask repeated (v ∷ []) (Some (site_of at))
     -- what is in it is a body inside
     run_expr (tree.const_expr at c) ss = ask const_block [] (Some (site_of at))
+    -- its body is a body inside
+    run_expr (tree.closure_expr at by_move is_static ps t e) ss = ask (closure_of by_move is_static ps t e) [] (Some (site_of at))
     run_expr (tree.method_call_expr at e name es generics) ss = do
       v ← run_part e ss
       vs ← run_each es ss

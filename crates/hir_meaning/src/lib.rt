@@ -22,6 +22,7 @@ ghost use Rattle.hir_meaning.specs.Tries.{LeavesPastTheLoop, GoesThroughTheOutpu
 ghost use Rattle.hir_meaning.specs.Tries.{BarrierHidesTheTry};
 ghost use Rattle.hir_meaning.specs.Fors.{AsksForTheNext, HasItsTurns, IsNeitherNoneNorGiven, KeepsItsIterator, LeavesByItsBody};
 ghost use Rattle.hir_meaning.specs.Fors.{ContinuesTheFor, LeavesByItsHead, HeadAsWritten, ForItemlessIsMissing, RefersSilently};
+ghost use Rattle.hir_meaning.specs.Closures.{CountsNoYieldInside, IsAnOldCoroutine, MakesAClosure, StraysFromItsClosure};
 ghost use Rattle.hir_meaning.specs.Constants.{RepeatsItsOperand, HasItsBlockInside, StraysFromItsLength, ReturnsFromItsLength};
 ghost use Rattle.hir_meaning.specs.InnerRows.{TypesInOrder, PathsInOrder, ExprsInOrder, PatternsInOrder, StoredInOrder};
 
@@ -244,7 +245,8 @@ pub fn foreign_is_not_enclosed()
 /// arguments that go again, there are none. Arguments come before bindings, and of a method call those in `<..>` before the
 /// others; of an arm those of its guard before those of its body; of a `try` those of its type; of a `for` those of its head, its
 /// pattern and its body; of a repeat array those of what is repeated before its length and what is in that; of a const block the
-/// block and what is in that. So they are stored, too.
+/// block and what is in that; of a closure those of its parameters and of what it returns before its body and what is in that. So they
+/// are stored, too.
 pub fn inner_bodies_in_order()
     ensures types { TypesInOrder }
     ensures paths { PathsInOrder }
@@ -472,4 +474,24 @@ pub fn strays_from_its_length()
 /// `try { [1; a?] }` has the array's value, and the length by itself returns what is made of the residual as for a body.
 pub fn returns_from_its_length()
     ensures { ReturnsFromItsLength }
+{}
+
+/// `|_: !, x, #[cfg(..)] x| 1` is one event with what is left of its parameters; its body is a body inside, and runs by itself.
+pub fn makes_a_closure()
+    ensures { MakesAClosure }
+{}
+
+/// `static move || yield` is an old coroutine, since its body yields; nothing is yielded by making it.
+pub fn is_an_old_coroutine()
+    ensures { IsAnOldCoroutine }
+{}
+
+/// A `yield` in a body inside is that body's own: `|| || yield` and `|| [1; yield]` are closures that don't yield.
+pub fn counts_no_yield_inside()
+    ensures { CountsNoYieldInside }
+{}
+
+/// `'a: loop { || break 'a }` makes the closure turn after turn, and its body by itself is a stray break.
+pub fn strays_from_its_closure()
+    ensures { StraysFromItsClosure }
 {}

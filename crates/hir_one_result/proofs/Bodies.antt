@@ -22,7 +22,8 @@ use Rattle.hir_steps.proofs.Steps as steps
 use Rattle.hir_one_result.specs.Formals.{lower_self, each_formal, lower_formals, lower_body, formals_read}
 use Rattle.hir_one_result.specs.Leads.{Ways, OneBindingWay, ◌&◌}
 use Rattle.hir_one_result.specs.OneResult.{StandsSelf, StandsTops, StandsGiven}
-use Rattle.hir_one_result.specs.Stands.{Open, StandsPart, StandsTop}
+use Rattle.hir_one_result.specs.Stands.{Open, StandsPart}
+use Rattle.hir_one_result.specs.StandsWhole.{StandsTop}
 use Rattle.hir_one_result.proofs.Lasting.{Correct, correct_as, correct_bind, correct_pure, correct_report}
 use Rattle.hir_one_result.proofs.Leading.{shown_as, shown_after, shown_before, shown_both, shown_binding, shown_none, moved_then}
 use Rattle.hir_one_result.proofs.PatStanding.{Behind}

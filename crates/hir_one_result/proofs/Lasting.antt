@@ -11,6 +11,7 @@ use Rattle.hir_store.specs.declared.ids.BlockId.{BlockId}
 use Rattle.hir_store.specs.declared.ids.ExprId.{ExprId}
 use Rattle.hir_store.specs.declared.ids.LabelId.{LabelId}
 use Rattle.hir_store.specs.declared.ids.PatId.{PatId}
+use Rattle.hir_store.specs.declared.ids.TypeRefId.{TypeRefId}
 use Rattle.hir_store.specs.declared.pat.Binding.{Binding}
 use Rattle.hir_store.specs.declared.pat.Pat.{Pat}
 use Rattle.hir_store.specs.declared.type_ref.LifetimeRef.{LifetimeRef}
@@ -18,11 +19,14 @@ use Rattle.hir_store.specs.declared.type_ref.TypeRef.{TypeRef}
 use Rattle.hir_store.proofs.Arenas.{prefix_refl, prefix_push, prefix_trans}
 use Rattle.hir_env.specs.Answered.{Jump, Label}
 use Rattle.hir_scope.specs.Ribs.{Rib, Target, reachable, unreachable, undeclared, target}
-use Rattle.hir_lower_form.specs.Lower.{ExprSteps, constant_form}
+use Rattle.hir_lower_form.specs.declared.closures.ClosureParams.{ClosureParams}
+use Rattle.hir_lower_form.specs.Lower.{ExprSteps, closure_form, constant_form}
 use Rattle.hir_lower_form.specs.Lowering.{Lowering, ◌>>=◌, pure, alloc_binding, alloc_expr, alloc_lifetime, alloc_pat, alloc_type, close}
 use Rattle.hir_lower_form.specs.Lowering.{count_out, enter_block, jump_target, open_label, point, point_field, point_pat_field}
 use Rattle.hir_lower_form.specs.Lowering.{report, report_await, alloc_made, made_number, open_try, try_target}
 use Rattle.hir_lower_form.specs.Ranges.{inner_form}
+use Rattle.hir_steps.proofs.Barriers as barriers
+use Rattle.hir_steps.proofs.Barriers.{ClosureRow}
 use Rattle.hir_steps.proofs.Constants as constants
 use Rattle.hir_steps.proofs.Constants.{Constant, Inner}
 use Rattle.hir_steps.proofs.Frames.{Frame, rib, ribs}
@@ -287,6 +291,35 @@ correct_constant h = steps.correct_as (constants.correct_constant h) (λ final p
         names = row.names;
         first = row.first.rel (unchanged_first same s);
         stored = row.stored;
+      };
+    })
+
+pub correct_closure : {p : Lowering ClosureParams} {t : Lowering (Option TypeRefId)} {e : ExprSteps} {P : Rel ClosureParams}
+    {T : Rel (Option TypeRefId)} {S : Rel ExprId} (at : Pointer) (moves is_static : Bool) → Correct p P → Correct t T → Correct e S
+    → Correct (closure_form at moves is_static p t e) (ClosureRow at moves is_static p t e P T S)
+correct_closure at moves is_static hp ht he = steps.correct_as (barriers.correct_closure at moves is_static hp ht he)
+    (λ final ps m m' i g row.
+    let made : Settled row.left.stored m'.stored = settled_as row.left.stored m'.stored (ap (λ s. s.bindings) row.made.stored) in
+    let from_body = prefix_trans row.in_body.settled made in
+    let from_ret = prefix_trans row.in_ret.settled from_body in record {
+      settled = prefix_trans row.in_params.settled from_ret;
+      rel = λ s. record {
+        params = row.params;
+        ret = row.ret;
+        body = row.body;
+        yields = row.yields;
+        raised = row.raised;
+        after_params = row.after_params;
+        after_ret = row.after_ret;
+        left = row.left;
+        to_params = row.to_params;
+        to_ret = row.to_ret;
+        to_body = row.to_body;
+        to_end = row.to_end;
+        in_params = row.in_params.rel (unchanged_first from_ret s);
+        in_ret = row.in_ret.rel (unchanged_first from_body (unchanged_behind row.in_params.settled s));
+        in_body = row.in_body.rel (unchanged_first made (unchanged_behind (prefix_trans row.in_params.settled row.in_ret.settled) s));
+        made = row.made;
       };
     })
 

@@ -15,7 +15,8 @@ use Rattle.hir_data.specs.BindingRule.{made_for}
 use Rattle.hir_data.specs.Patterns.{written_uses}
 use Rattle.hir_meaning.specs.Small.{at}
 use Rattle.hir_one_result.specs.Leads.{Way, expr_way, binding_way}
-use Rattle.hir_one_result.specs.Stands.{Stands, StandsTop}
+use Rattle.hir_one_result.specs.Stands.{Stands}
+use Rattle.hir_one_result.specs.StandsWhole.{StandsTop}
 use Rattle.hir_one_result.specs.Worked.{Assigns, BindsTwice, Patterned, assign_one, twice, use_x}
 use Rattle.hir_one_result.proofs.Rows.{literal_stored}
 

@@ -28,7 +28,7 @@ use Rattle.hir_lower_form.specs.Builder.{Builder}
 use Rattle.hir_lower_form.specs.Lowering.{Checked, go_on, Lowering, ◌>>=◌, pure, alloc_expr, point, point_field, report, enter_block}
 use Rattle.hir_lower_form.specs.Lowering.{open_label, close, jump_target, found_or_fault, open_as, report_await, open_barrier, enter_root}
 use Rattle.hir_lower_form.specs.Lowering.{leave_root, outside_root, record_root, alloc_type, alloc_lifetime, alloc_pat, alloc_binding}
-use Rattle.hir_lower_form.specs.Lowering.{define, set_problem, point_pat_field}
+use Rattle.hir_lower_form.specs.Lowering.{define, set_problem, point_pat_field, close_barrier, note_yield}
 use Rattle.hir_lower_form.specs.Lower.{ExprSteps, constant_form}
 use Rattle.hir_lower_form.specs.Ranges.{inner_form}
 use Rattle.hir_meaning.specs.InnerWritten.{InnerBody}
@@ -545,11 +545,19 @@ pub takes_point_pat_field : (i : PatId) (at : Pointer) → Takes nothing (point_
 unfolding point_pat_field storing.point_pat_field
 takes_point_pat_field i at = record { takes = λ b. took_besides _ _ refl refl refl refl refl refl refl refl refl }
 
--- a constant: behind a barrier, in a root
+-- behind a barrier, and a constant there in a root
 
-takes_barrier : Takes nothing open_barrier
+pub takes_barrier : Takes nothing open_barrier
 unfolding open_barrier
 takes_barrier = record { takes = λ b. took_besides _ _ refl refl refl refl refl refl refl refl refl }
+
+pub takes_close_barrier : (outside : Bool) → Takes nothing (close_barrier outside)
+unfolding close_barrier
+takes_close_barrier outside = record { takes = λ b. took_besides _ _ refl refl refl refl refl refl refl refl refl }
+
+pub takes_note : Takes nothing note_yield
+unfolding note_yield
+takes_note = record { takes = λ b. took_besides _ _ refl refl refl refl refl refl refl refl refl }
 
 takes_enter : Takes nothing enter_root
 unfolding enter_root
@@ -574,11 +582,11 @@ as_body x n = record {
 
 pub takes_constant : (x : InnerBody) {n : Size} {p : ExprSteps} → Takes n p → Takes (a_body x n) (constant_form p)
 unfolding constant_form
-takes_constant x {n = n} h = takes_as (as_body x n) (takes_begin takes_barrier (λ u. takes_begin takes_enter (λ outer.
-    takes_end h (λ id. takes_end takes_close (λ u. takes_end (takes_leave outer id) (λ u. takes_pure _))))))
+takes_constant x {n = n} h = takes_as (as_body x n) (takes_begin takes_barrier (λ outside. takes_begin takes_enter (λ outer.
+    takes_end h (λ id. takes_end (takes_close_barrier outside) (λ y. takes_end (takes_leave outer id) (λ u. takes_pure _))))))
 
 -- the same for an end of a range in a type
 pub takes_inner : (x : InnerBody) {n : Size} {p : ExprSteps} → Takes n p → Takes (a_body x n) (inner_form p)
 unfolding inner_form
-takes_inner x {n = n} h = takes_as (as_body x n) (takes_begin takes_barrier (λ u. takes_begin takes_enter (λ outer.
-    takes_end h (λ id. takes_end takes_close (λ u. takes_end (takes_leave outer id) (λ u. takes_pure _))))))
+takes_inner x {n = n} h = takes_as (as_body x n) (takes_begin takes_barrier (λ outside. takes_begin takes_enter (λ outer.
+    takes_end h (λ id. takes_end (takes_close_barrier outside) (λ y. takes_end (takes_leave outer id) (λ u. takes_pure _))))))

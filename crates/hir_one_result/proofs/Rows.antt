@@ -2,6 +2,8 @@
 use Rattle.std.proofs.Common.{slice_get, ◌≡◌, ◌∙◌, refl, sym, ap, Bool, true, false, List, [], ◌∷◌, ◌++◌, option_to_list, map, Option}
 use Rattle.std.proofs.Common.{Some, None, true≢false}
 use Rattle.hir_store.specs.Stored.{Store, SourceMap}
+use Rattle.hir_store.specs.declared.hir.CaptureBy.TheVariants as capture
+use Rattle.hir_store.specs.declared.hir.ClosureKind.TheVariants as closure
 use Rattle.hir_store.specs.declared.hir.Expr.{Expr as HirExpr}
 use Rattle.hir_store.specs.declared.hir.Expr.TheVariants as hir
 use Rattle.hir_store.specs.declared.hir.Statement.{Statement}
@@ -24,14 +26,14 @@ use Rattle.hir_read_back.proofs.Lookup.{names_read}
 use Rattle.hir_meaning.specs.Data.{LiteralData, literal_data}
 use Rattle.hir_meaning.specs.Contents.{BlockContents}
 use Rattle.hir_store.specs.declared.ids.CfgId.{CfgId}
-use Rattle.hir_meaning.specs.Small.{at, root, stored_one}
+use Rattle.hir_meaning.specs.Small.{at, label_a, root, stored_one}
 use Rattle.hir_one_result.specs.Forms.{leaves_with}
 use Rattle.hir_one_result.specs.Leads.{Way, Ways, expr_way, unled_way, overtaken}
-use Rattle.hir_one_result.specs.Stands.{Absent, Stands, statement_of, StandsLiteral, StandsEach, StandsContents}
+use Rattle.hir_one_result.specs.Stands.{Absent, Stands, opened, statement_of, StandsLiteral, StandsEach, StandsContents}
 use Rattle.hir_one_result.specs.Worked.{Jumps, other, literal_first, Statements, EntersInOrder, Leaves, letter, block_id}
 use Rattle.hir_one_result.specs.StandsMade.{StandsQuestion}
 use Rattle.hir_one_result.specs.Worked.{elements, PlainForms, LeavesWith, Tries, Iterates, Fors, for_one}
-use Rattle.hir_one_result.specs.Worked.{Consts, IsConst, const_one}
+use Rattle.hir_one_result.specs.Worked.{Closures, Consts, IsClosure, IsConst, closure_break, const_one}
 
 -- the bare path of this data
 abbrev bare_path : PathData → Path
@@ -315,4 +317,24 @@ consts = record {
   unreachable = refl;
   is_const = is_const;
   length_last = refl;
+}
+
+-- closures
+
+is_closure : (outer : LabelId) (store : Store) (source_map : SourceMap) (i : ExprId) (ws : List Way)
+    → Stands store source_map (opened label_a outer []) closure_break i ws → IsClosure store i
+is_closure outer store source_map i ws h =
+    let body = h.4.second.second.first in record {
+      ret = h.1;
+      body = h.2;
+      whole = h.3.stored ∙ ap (λ l. Some (hir.Closure l.0 l.1 h.1 h.2 closure.Closure capture.Value)) h.4.first.0;
+      inner = body.1.stored ∙ ap (λ v. Some (hir.Break None v)) body.2.first.0;
+    }
+
+pub closures : Closures
+closures = record {
+  is_closure = is_closure;
+  unreachable = refl;
+  parameters_first = refl;
+  disabled = λ by p. refl;
 }

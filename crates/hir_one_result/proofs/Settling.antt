@@ -26,7 +26,8 @@ use Rattle.hir_steps.proofs.PatSteps as pats
 use Rattle.hir_steps.proofs.PatSteps.{with_problem_of}
 use Rattle.hir_steps.proofs.Steps as steps
 use Rattle.hir_steps.proofs.Steps.{Mark}
-use Rattle.hir_one_result.specs.Stands.{NamesOf, StandsPat, StandsTop}
+use Rattle.hir_one_result.specs.Stands.{NamesOf, StandsPat}
+use Rattle.hir_one_result.specs.StandsWhole.{StandsTop}
 use Rattle.hir_one_result.proofs.Defining.{at_other}
 use Rattle.hir_one_result.proofs.Lasting.{Correct, bound, correct_as, correct_both}
 use Rattle.hir_one_result.proofs.Leading.{shown_as, shown_before, Moved, moved_problem, moved_same, moved_then, moved_to}

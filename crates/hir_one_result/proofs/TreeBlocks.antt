@@ -20,7 +20,7 @@ use Rattle.hir_env.specs.Answered.{Fields, Field, Spread, Expr, OptionExpr, Expr
 use Rattle.hir_env.specs.Answered.{Parts, Path, OptionPath, Segments, Segment, SegmentArgs, OptionParens, OptionRet, OptionArgs, Args, Arg}
 use Rattle.hir_env.specs.Answered.{Bounds, Bound, Constant, Binder, Arms, Arm, Guard, Pat, OptionPat, Pats, PatFields, PatField, Side}
 use Rattle.hir_env.specs.Answered.{TypePat, OptionTypePat, TypePats, Limit, Target, Targets, TargetFields, TargetField, SelfFormal, Formal}
-use Rattle.hir_env.specs.Answered.{Formals}
+use Rattle.hir_env.specs.Answered.{Formals, Param, Params}
 use Rattle.hir_env.specs.Targets.{head_pointer}
 use Rattle.hir_lower_form.specs.Lowering.{Lowering}
 use Rattle.hir_steps.proofs.Aside.{error_aside, unit_aside, lifetime_aside, uses_aside}
@@ -35,7 +35,7 @@ use Rattle.hir_one_result.specs.Blocks.{blocks_of_bound, blocks_of_constant, blo
 use Rattle.hir_one_result.specs.Blocks.{blocks_of_top, blocks_of_pats, blocks_of_pat_fields, blocks_of_pat_field, blocks_of_target}
 use Rattle.hir_one_result.specs.Blocks.{blocks_of_targets, blocks_of_target_fields, blocks_of_target_field, blocks_of_type_pat}
 use Rattle.hir_one_result.specs.Blocks.{blocks_of_type_pat_part, blocks_of_type_pats, blocks_of_limit, blocks_of_side, blocks_of_tops}
-use Rattle.hir_one_result.specs.Blocks.{where_some}
+use Rattle.hir_one_result.specs.Blocks.{where_some, blocks_of_param, blocks_of_params}
 use Rattle.hir_one_result.specs.Laws.{BlocksAre}
 use Rattle.hir_data.specs.Written.{written_path}
 use Rattle.hir_store.specs.Pointers.{Pointer}
@@ -49,6 +49,7 @@ use Rattle.hir_one_result.proofs.MadeTelling.{for_tells, question_tells, try_blo
 use Rattle.hir_one_result.proofs.Telling.{cast_tells, record_tells, offset_of_tells, field_tells, contents_tells, path_tells}
 use Rattle.hir_one_result.proofs.Telling.{block_form_tells, labelled_tells, tells_alloc, tells_aside, constant_tells, inner_tells}
 use Rattle.hir_one_result.proofs.Telling.{repeat_tells, const_tells}
+use Rattle.hir_one_result.proofs.ClosureTelling.{closure_tells, param_tells, yield_tells}
 use Rattle.hir_lower_form.specs.Walks.{start, super_read}
 use Rattle.hir_one_result.proofs.PathTelling.{tells_type, over_tells, array_tells, tuple_tells, path_type_tells, ref_tells, fn_tells}
 use Rattle.hir_one_result.proofs.PathTelling.{impl_tells, dyn_tells, path_bound_tells, reads_then, whole_tells, first_tells, counted_tells}
@@ -59,6 +60,8 @@ use Rattle.hir_one_result.specs.PathRoom.{at_first}
 use Rattle.hir_store.specs.declared.ids.TypeRefId.{TypeRefId}
 use Rattle.hir_store.specs.declared.type_ref.TypeBound.{TypeBound}
 use Rattle.hir_lower_form.specs.declared.args.ArgLists.{ArgLists}
+use Rattle.hir_lower_form.specs.declared.closures.ClosureParams.{ClosureParams}
+use Rattle.hir_lower_form.specs.Lower.{lower_params, lower_param, no_closure_params}
 use Rattle.hir_lower_form.specs.declared.walk.PathWalk.{PathWalk}
 use Rattle.hir_lower_form.specs.Types.{no_lists}
 use Rattle.hir_store.specs.declared.hir.MatchArm.{MatchArm}
@@ -286,6 +289,8 @@ mutual
   node_blocks (tree.list_expr at form es) = list_tells entered at form (each_blocks [] es)
   node_blocks (tree.repeat_expr at e c) = repeat_tells entered at (part_blocks e) (constant_enters c)
   node_blocks (tree.const_expr at c) = const_tells entered at (constant_enters c)
+  node_blocks (tree.closure_expr at moves is_static xs t e) = closure_tells entered at moves is_static
+      (params_enters no_closure_params xs) (present_type_enters t) (part_blocks e)
   node_blocks (tree.method_call_expr at e name es generics) =
       method_call_tells entered at name (part_blocks e) (each_blocks [] es) (args_enters generics)
   node_blocks (tree.cast_expr at e t) = cast_tells entered at (part_blocks e) (type_enters None t)
@@ -294,7 +299,7 @@ mutual
   node_blocks (tree.offset_of_expr at t names) = offset_of_tells entered at names (type_enters None t)
   node_blocks (tree.leaving_expr at form e) = value_tells entered at _ (present_blocks e)
   node_blocks (tree.become_expr at e) = operand_tells entered at _ (part_blocks e)
-  node_blocks (tree.yield_expr at e) = value_tells entered at _ (present_blocks e)
+  node_blocks (tree.yield_expr at e) = yield_tells entered at (present_blocks e)
   node_blocks (tree.await_expr at location e) =
       tells_as entered (await_tells entered at location (part_blocks e)) (λ ss. sym (append-nil (blocks_of_part e)))
   node_blocks (tree.nameless_expr at e) = operand_tells entered at _ (part_blocks e)
@@ -302,6 +307,14 @@ mutual
   node_blocks (tree.match_expr at e arms) = match_tells entered at (part_blocks e) (arms_enters [] arms)
   node_blocks (tree.range_expr at form low high) = range_tells entered at form (present_blocks low) (present_blocks high)
   node_blocks (tree.assign_expr at own t e) = assign_tells entered at (target_enters t) (part_blocks e)
+
+  params_enters : (l : ClosureParams) (xs : Params) → Enters (blocks_of_params xs) (lower_params l xs)
+  params_enters l tree.no_params = tells_pure entered l
+  params_enters l (tree.more_params x xs) = tells_bind entered (one_param_enters l x) (λ m. params_enters m xs)
+
+  one_param_enters : (l : ClosureParams) (x : Param) → Enters (blocks_of_param x) (lower_param l x)
+  one_param_enters l (tree.disabled_param at by x) = tells_end entered (tells_report entered _) (λ u. tells_pure entered l)
+  one_param_enters l (tree.param p t) = param_tells entered l (top_enters p) (present_type_enters t)
 
   part_blocks : (e : OptionExpr) → Enters (blocks_of_part e) (lower_part e)
   part_blocks tree.no_expr = missing_tells entered

@@ -23,7 +23,7 @@ use Rattle.hir_env.specs.Answered.{Fields, Field, Spread, Expr, OptionExpr, Expr
 use Rattle.hir_env.specs.Answered.{Path, OptionPath, Segments, Segment, SegmentArgs, OptionParens, OptionRet, OptionArgs, Args, Arg, Bounds}
 use Rattle.hir_env.specs.Answered.{Bound, Constant, Binder, Arms, Arm, Guard, Pat, OptionPat, Pats, PatFields, PatField, Side, TypePat}
 use Rattle.hir_env.specs.Answered.{OptionTypePat, TypePats, Limit, Target, Targets, TargetFields, TargetField, SelfFormal, Formal, Formals}
-use Rattle.hir_env.specs.Answered.{Stmt}
+use Rattle.hir_env.specs.Answered.{Stmt, Param, Params}
 use Rattle.hir_env.specs.Targets.{head_pointer}
 use Rattle.hir_lower_form.specs.Lowering.{Lowering}
 use Rattle.hir_steps.proofs.Aside.{error_aside, unit_aside, lifetime_aside, uses_aside}
@@ -38,7 +38,7 @@ use Rattle.hir_one_result.specs.Diagnostics.{bound_faults, constant_faults, arms
 use Rattle.hir_one_result.specs.Diagnostics.{stmt_diagnostics, pat_faults, top_faults, pats_faults, pat_fields_faults, pat_field_faults}
 use Rattle.hir_one_result.specs.Diagnostics.{target_faults_in, targets_faults, target_fields_faults, target_field_faults, type_pat_faults}
 use Rattle.hir_one_result.specs.Diagnostics.{type_pat_part_faults, type_pats_faults, limit_faults, side_faults, self_faults, formal_faults}
-use Rattle.hir_one_result.specs.Diagnostics.{each_formal_faults, body_faults}
+use Rattle.hir_one_result.specs.Diagnostics.{each_formal_faults, body_faults, param_faults, params_faults}
 use Rattle.hir_one_result.specs.Laws.{DiagnosticsAre}
 use Rattle.hir_one_result.proofs.AfterLowering.{after_lowering}
 use Rattle.hir_one_result.proofs.Telling.{Listing, Tells, tells_bind, tells_as, tells_end, tells_pure, tells_some, tells_report}
@@ -49,6 +49,7 @@ use Rattle.hir_one_result.proofs.MadeTelling.{for_tells, question_tells, try_blo
 use Rattle.hir_one_result.proofs.Telling.{cast_tells, record_tells, offset_of_tells, field_tells, contents_tells, path_tells}
 use Rattle.hir_one_result.proofs.Telling.{block_form_tells, labelled_tells, tells_alloc, tells_aside, constant_tells, inner_tells}
 use Rattle.hir_one_result.proofs.Telling.{repeat_tells, const_tells}
+use Rattle.hir_one_result.proofs.ClosureTelling.{closure_tells, param_tells, yield_tells}
 use Rattle.hir_lower_form.specs.Walks.{start, super_read}
 use Rattle.hir_one_result.proofs.PathTelling.{tells_type, over_tells, array_tells, tuple_tells, path_type_tells, ref_tells, fn_tells}
 use Rattle.hir_one_result.proofs.PathTelling.{impl_tells, dyn_tells, path_bound_tells, reads_then, whole_tells, first_tells, counted_tells}
@@ -59,6 +60,8 @@ use Rattle.hir_one_result.specs.PathRoom.{at_first}
 use Rattle.hir_store.specs.declared.ids.TypeRefId.{TypeRefId}
 use Rattle.hir_store.specs.declared.type_ref.TypeBound.{TypeBound}
 use Rattle.hir_lower_form.specs.declared.args.ArgLists.{ArgLists}
+use Rattle.hir_lower_form.specs.declared.closures.ClosureParams.{ClosureParams}
+use Rattle.hir_lower_form.specs.Lower.{lower_params, lower_param, no_closure_params}
 use Rattle.hir_lower_form.specs.declared.walk.PathWalk.{PathWalk}
 use Rattle.hir_lower_form.specs.Types.{no_lists}
 use Rattle.hir_store.specs.declared.hir.MatchArm.{MatchArm}
@@ -296,6 +299,8 @@ mutual
   node_faults (tree.list_expr at form es) = list_tells reported at form (each_faults [] es)
   node_faults (tree.repeat_expr at e c) = repeat_tells reported at (part_faults e) (constant_reports c)
   node_faults (tree.const_expr at c) = const_tells reported at (constant_reports c)
+  node_faults (tree.closure_expr at moves is_static xs t e) = closure_tells reported at moves is_static
+      (params_reports no_closure_params xs) (present_type_reports t) (part_faults e)
   node_faults (tree.method_call_expr at e name es generics) =
       method_call_tells reported at name (part_faults e) (each_faults [] es) (args_reports generics)
   node_faults (tree.cast_expr at e t) = cast_tells reported at (part_faults e) (type_reports None t)
@@ -304,13 +309,21 @@ mutual
   node_faults (tree.offset_of_expr at t names) = offset_of_tells reported at names (type_reports None t)
   node_faults (tree.leaving_expr at form e) = value_tells reported at _ (present_faults e)
   node_faults (tree.become_expr at e) = operand_tells reported at _ (part_faults e)
-  node_faults (tree.yield_expr at e) = value_tells reported at _ (present_faults e)
+  node_faults (tree.yield_expr at e) = yield_tells reported at (present_faults e)
   node_faults (tree.await_expr at location e) = await_tells reported at location (part_faults e)
   node_faults (tree.nameless_expr at e) = operand_tells reported at _ (part_faults e)
   node_faults (tree.let_expr at p e) = let_tells reported at (top_reports p) (part_faults e)
   node_faults (tree.match_expr at e arms) = match_tells reported at (part_faults e) (arms_reports [] arms)
   node_faults (tree.range_expr at form low high) = range_tells reported at form (present_faults low) (present_faults high)
   node_faults (tree.assign_expr at own t e) = assign_tells reported at (target_reports t) (part_faults e)
+
+  params_reports : (l : ClosureParams) (xs : Params) → Reports (λ ss. params_faults ss xs) (lower_params l xs)
+  params_reports l tree.no_params = tells_pure reported l
+  params_reports l (tree.more_params x xs) = tells_bind reported (one_param_reports l x) (λ m. params_reports m xs)
+
+  one_param_reports : (l : ClosureParams) (x : Param) → Reports (λ ss. param_faults ss x) (lower_param l x)
+  one_param_reports l (tree.disabled_param at by x) = tells_end reported (tells_report reported _) (λ u. tells_pure reported l)
+  one_param_reports l (tree.param p t) = param_tells reported l (top_reports p) (present_type_reports t)
 
   part_faults : (e : OptionExpr) → Reports (λ ss. part_diagnostics ss e) (lower_part e)
   part_faults tree.no_expr = missing_tells reported

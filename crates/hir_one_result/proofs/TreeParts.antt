@@ -24,7 +24,8 @@ use Rattle.hir_lower_form.specs.Pats.{Elements}
 use Rattle.hir_steps.proofs.Frames.{ribs}
 use Rattle.hir_one_result.specs.Leads.{Ways, No, OneWay, ◌&◌}
 use Rattle.hir_one_result.specs.Stands.{StandsFields, Open, ThereIf, statement_of, StandsPart, StandsKept, StandsEach, StandsContents}
-use Rattle.hir_one_result.specs.Stands.{StandsArms, StandsAssigned, StandsTarget, StandsTargets, StandsTargetFields}
+use Rattle.hir_one_result.specs.Stands.{StandsArms, StandsTarget, StandsTargets, StandsTargetFields}
+use Rattle.hir_one_result.specs.StandsWhole.{StandsAssigned}
 use Rattle.hir_one_result.proofs.Contents.{has_contents}
 use Rattle.hir_one_result.proofs.Lasting.{Correct, correct_as, correct_bind, correct_both, correct_pure, correct_report}
 use Rattle.hir_one_result.proofs.Leading.{Shown, shown_as, shown_none, shown_before, moved_then}

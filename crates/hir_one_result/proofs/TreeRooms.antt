@@ -8,7 +8,7 @@ use Rattle.hir_env.specs.Answered.{OptionPath, Expr, OptionExpr, Exprs, Block, O
 use Rattle.hir_env.specs.Answered.{Binder, Type_, OptionType, Parts, Path as TreePath, Segments, Segment, SegmentArgs, OptionParens}
 use Rattle.hir_env.specs.Answered.{OptionRet, OptionArgs, Args, Arg, Bounds, Bound, Arms, Arm, Guard, Pat, OptionPat, Pats, PatFields}
 use Rattle.hir_env.specs.Answered.{PatField, Side, TypePat, OptionTypePat, TypePats, Limit, Target, Targets, TargetFields, TargetField}
-use Rattle.hir_env.specs.Answered.{SelfFormal, Formal, Formals}
+use Rattle.hir_env.specs.Answered.{SelfFormal, Formal, Formals, Param, Params}
 use Rattle.hir_env.specs.Targets.{head_pointer}
 use Rattle.hir_store.specs.declared.hir.MatchArm.{MatchArm}
 use Rattle.hir_store.specs.declared.pat.RecordFieldPat.{RecordFieldPat}
@@ -25,7 +25,8 @@ use Rattle.hir_lower_form.specs.Lower.{lower_segment_args, parens_part, output_p
 use Rattle.hir_lower_form.specs.Lower.{lower_bound, lower_arms, lower_arm, lower_guard, present_block, lower_top, lower_pat, pat_part}
 use Rattle.hir_lower_form.specs.Lower.{present_pat, lower_pats, lower_elements, lower_later, lower_pat_fields, lower_pat_field, lower_side}
 use Rattle.hir_lower_form.specs.Lower.{lower_type_pat_part, lower_type_pat, lower_type_pats, lower_limit, limit_side, lower_target}
-use Rattle.hir_lower_form.specs.Lower.{lower_targets, lower_target_fields, lower_target_field}
+use Rattle.hir_lower_form.specs.Lower.{lower_targets, lower_target_fields, lower_target_field, lower_params, lower_param, no_closure_params}
+use Rattle.hir_lower_form.specs.declared.closures.ClosureParams.{ClosureParams}
 use Rattle.hir_lower_form.specs.Pats.{Elements, Table, no_elements, no_names, next_alternative}
 use Rattle.hir_lower_form.specs.Targets as targets
 use Rattle.hir_read_back.proofs.PatParts as parts
@@ -45,6 +46,8 @@ use Rattle.hir_one_result.specs.Room.{arm_size, guard_size, block_present_size, 
 use Rattle.hir_one_result.specs.Room.{elements_size, pat_fields_size, pat_field_size, side_size, top_size, type_pat_size}
 use Rattle.hir_one_result.specs.Room.{type_pat_part_size, type_pats_size, limit_size, limit_side_size, target_size, targets_size}
 use Rattle.hir_one_result.specs.Room.{target_fields_size, target_field_size, tops_size, self_size, formals_size, body_size}
+use Rattle.hir_one_result.specs.Room.{param_size, params_size}
+use Rattle.hir_one_result.proofs.ClosureRooms.{closure_takes, param_takes, yield_takes}
 use Rattle.hir_one_result.proofs.Rooms.{Takes, takes_then, takes_as, takes_end, takes_begin, takes_pure, takes_report, takes_alloc}
 use Rattle.hir_one_result.proofs.Rooms.{nothing_first, moved_in, moved_out, takes_constant, takes_inner, takes_type, takes_pat}
 use Rattle.hir_one_result.proofs.Rooms.{takes_binding}
@@ -285,6 +288,8 @@ mutual
   node_takes (tree.list_expr at form es) = list_takes at form (each_takes [] es)
   node_takes (tree.repeat_expr at e c) = repeat_takes at (part_takes e) (constant_takes c)
   node_takes (tree.const_expr at c) = const_takes at (constant_takes c)
+  node_takes (tree.closure_expr at moves is_static xs t e) =
+      closure_takes at moves is_static (params_take no_closure_params xs) (present_type_takes t) (part_takes e)
   node_takes (tree.method_call_expr at e name es generics) =
       method_call_takes at name (part_takes e) (each_takes [] es) (takes_of (args_tell generics))
   node_takes (tree.cast_expr at e t) = cast_takes at (part_takes e) (type_part_takes None t)
@@ -292,13 +297,21 @@ mutual
   node_takes (tree.offset_of_expr at t names) = offset_of_takes at names (type_part_takes None t)
   node_takes (tree.leaving_expr at form e) = value_takes at _ (present_takes e)
   node_takes (tree.become_expr at e) = operand_takes at _ (part_takes e)
-  node_takes (tree.yield_expr at e) = value_takes at _ (present_takes e)
+  node_takes (tree.yield_expr at e) = yield_takes at (present_takes e)
   node_takes (tree.await_expr at location e) = await_takes at location (part_takes e)
   node_takes (tree.nameless_expr at e) = operand_takes at _ (part_takes e)
   node_takes (tree.let_expr at p e) = let_takes at (top_takes p) (part_takes e)
   node_takes (tree.match_expr at e arms) = match_takes at (part_takes e) (arms_take [] arms)
   node_takes (tree.range_expr at form low high) = range_takes at form (present_takes low) (present_takes high)
   node_takes (tree.assign_expr at own t e) = assign_takes at (target_takes t) (part_takes e)
+
+  params_take : (l : ClosureParams) (xs : Params) → Takes (params_size xs) (lower_params l xs)
+  params_take l tree.no_params = takes_pure l
+  params_take l (tree.more_params x xs) = takes_then (one_param_takes l x) (λ m. params_take m xs)
+
+  one_param_takes : (l : ClosureParams) (x : Param) → Takes (param_size x) (lower_param l x)
+  one_param_takes l (tree.disabled_param at by x) = takes_end (takes_report _) (λ u. takes_pure l)
+  one_param_takes l (tree.param p t) = param_takes l (top_takes p) (present_type_takes t)
 
   pub part_takes : (e : OptionExpr) → Takes (size_part e) (lower_part e)
   part_takes tree.no_expr = missing_takes

@@ -19,7 +19,7 @@ use Rattle.hir_env.specs.Answered as tree
 use Rattle.hir_env.specs.Answered.{Expr, OptionExpr, Exprs, Fields, Spread, Block, OptionBlock, Stmts, Type_, OptionType, Parts, Path}
 use Rattle.hir_env.specs.Answered.{OptionPath, Segments, Segment, SegmentArgs, OptionParens, OptionRet, OptionArgs, Args, Arg, Bounds}
 use Rattle.hir_env.specs.Answered.{Bound, Constant, Binder, Arms, Guard, Pat, OptionPat, Pats, PatFields, Side, TypePat, OptionTypePat}
-use Rattle.hir_env.specs.Answered.{TypePats, Limit, Target, Targets, TargetFields}
+use Rattle.hir_env.specs.Answered.{TypePats, Limit, Params, Target, Targets, TargetFields}
 use Rattle.hir_env.specs.Targets.{head_pointer}
 use Rattle.hir_data.specs.Patterns.{uses_after, uses_after_part, uses_after_each, uses_after_fields, uses_of, part_uses, each_uses}
 use Rattle.hir_data.specs.Patterns.{field_uses}
@@ -31,26 +31,32 @@ use Rattle.hir_lower_form.specs.Lower.{read_each, read_path, read_option, lower_
 use Rattle.hir_lower_form.specs.Lower.{args_part, lower_args, lower_arg, lower_bounds, lower_bound, lower_arms, lower_guard, present_block}
 use Rattle.hir_lower_form.specs.Lower.{lower_top, lower_pat, pat_part, present_pat, lower_pats, lower_elements, lower_later}
 use Rattle.hir_lower_form.specs.Lower.{lower_side, lower_type_pat_part, lower_type_pat, lower_type_pats, lower_limit, limit_side}
-use Rattle.hir_lower_form.specs.Lower.{lower_target, lower_targets, lower_target_fields, lower_pat_fields}
+use Rattle.hir_lower_form.specs.Lower.{lower_target, lower_targets, lower_target_fields, lower_pat_fields, lower_params, no_closure_params}
 use Rattle.hir_lower_form.specs.Lowering.{Lowering}
 use Rattle.hir_lower_form.specs.Pats as forms
 use Rattle.hir_lower_form.specs.Pats.{Elements, no_elements}
 use Rattle.hir_lower_form.specs.Types.{no_lists}
 use Rattle.hir_lower_form.specs.Walks.{start, super_read}
 use Rattle.hir_lower_form.specs.declared.args.ArgLists.{ArgLists}
+use Rattle.hir_lower_form.specs.declared.closures.ClosureParams.{ClosureParams}
 use Rattle.hir_lower_form.specs.declared.walk.PathWalk.{PathWalk}
+use Rattle.hir_steps.proofs.Barriers.{correct_yield}
 use Rattle.hir_steps.proofs.Frames.{ribs, ribs_frames}
 use Rattle.hir_one_result.specs.Laws.{AllStand}
 use Rattle.hir_one_result.specs.Leads.{Ways, OneFieldWay, ◌&◌}
 use Rattle.hir_one_result.specs.PathRoom.{at_first}
-use Rattle.hir_one_result.specs.Stands.{StandsOthers, Open, Stands, StandsPresent}
-use Rattle.hir_one_result.specs.Stands.{StandsBlock, StandsBlockPart, TypeWays, TypePartWays}
+use Rattle.hir_one_result.specs.Stands.{StandsOthers, Open, Stands, StandsPresent, StandsBlock, StandsBlockPart, TypeWays}
+use Rattle.hir_one_result.specs.Stands.{TypePartWays}
 use Rattle.hir_one_result.specs.Stands.{PresentTypeWays, PartsWays, SegmentWays, SegmentsWays, PathWays, OuterWays, WholeWays, BesideWays}
-use Rattle.hir_one_result.specs.Stands.{ParensWays, OutputWays, ArgsWays, EachArgWays, ArgWays, BoundsWays, BoundWays, ConstantWays}
-use Rattle.hir_one_result.specs.Stands.{TypePatWays, TypePatPartWays, TypePatsWays, LimitWays, StandsLimitSide, StandsGuard}
-use Rattle.hir_one_result.specs.Stands.{StandsPresentBlock, StandsTop, StandsPat, StandsPatPart, StandsSubpat, StandsPats}
+use Rattle.hir_one_result.specs.Stands.{ParensWays, OutputWays, ArgsWays, EachArgWays, ArgWays, BoundsWays, BoundWays}
+use Rattle.hir_one_result.specs.Stands.{TypePatWays, TypePatPartWays, TypePatsWays, StandsLimitSide, StandsGuard}
+use Rattle.hir_one_result.specs.StandsWhole.{ConstantWays, LimitWays}
+use Rattle.hir_one_result.specs.Stands.{StandsPresentBlock, StandsPat, StandsPatPart, StandsSubpat, StandsPats}
+use Rattle.hir_one_result.specs.StandsWhole.{StandsTop}
 use Rattle.hir_one_result.specs.Stands.{StandsElements, StandsPatFields, StandsSide, StandsTarget}
 use Rattle.hir_one_result.proofs.AfterLowering.{after_lowering}
+use Rattle.hir_one_result.proofs.ClosureStands.{ParamsBehind, closure_stands, off_stands, params_for, params_more}
+use Rattle.hir_one_result.proofs.ClosureStands.{params_none, params_off}
 use Rattle.hir_one_result.proofs.Elements.{all_behind, all_elements, element_stands, no_alternatives, no_elements_stand}
 use Rattle.hir_one_result.proofs.Lasting.{Correct, bound, correct_as, correct_bind, correct_pure, correct_report, unchanged_settled}
 use Rattle.hir_one_result.proofs.Leading.{Shown, shown_as, shown_none, shown_both, shown_after, shown_before, moved_then}
@@ -237,6 +243,8 @@ mutual
   node_stands (tree.list_expr at form es) = list_stands at form (all_stand_for es (each_stands [] es))
   node_stands (tree.repeat_expr at e (tree.constant l)) = repeat_stands at (part_stands e) (constant_shows (part_stands l))
   node_stands (tree.const_expr at (tree.constant e)) = const_stands at (constant_shows (part_stands e))
+  node_stands (tree.closure_expr at moves is_static xs t e) = closure_stands (params_for xs) at moves is_static xs t e
+      (params_stand xs no_closure_params) (option_type_shown t (present_type_left t)) (part_stands e)
   node_stands (tree.method_call_expr at e name es generics) =
       method_call_stands at name (part_stands e) (all_stand_for es (each_stands [] es)) (args_shown generics (args_left generics))
   node_stands (tree.cast_expr at e t) = cast_stands at (part_stands e) (type_shown t (type_left None t))
@@ -245,13 +253,20 @@ mutual
   node_stands (tree.offset_of_expr at t names) = offset_of_stands at names (type_shown t (type_left None t))
   node_stands (tree.leaving_expr at form e) = value_stands at (leaving_is form) (present_stands e)
   node_stands (tree.become_expr at e) = operand_stands at (λ i. refl) (part_stands e)
-  node_stands (tree.yield_expr at e) = value_stands at (λ o. refl) (present_stands e)
+  node_stands (tree.yield_expr at e) = correct_yield at _ (value_stands at (λ o. refl) (present_stands e))
   node_stands (tree.await_expr at location e) = await_stands at location (part_stands e)
   node_stands (tree.nameless_expr at e) = operand_stands at (λ i. refl) (part_stands e)
   node_stands (tree.let_expr at p e) = let_stands at (top_stands p) (part_stands e)
   node_stands (tree.match_expr at e arms) = match_stands at (part_stands e) (all_arms_stand arms (arms_stand [] arms))
   node_stands (tree.range_expr at form low high) = range_stands at form (present_stands low) (present_stands high)
   node_stands (tree.assign_expr at own t e) = assign_stands at (assigned_stands t (target_stands t)) (part_stands e)
+
+  params_stand : (xs : Params) (done : ClosureParams) → Correct (lower_params done xs)
+      (Shows (λ final rs l. ParamsBehind done (params_for xs final rs) l))
+  params_stand tree.no_params done = params_none done
+  params_stand (tree.more_params (tree.disabled_param at by x) xs) done = params_off (params_for xs) at by done (params_stand xs)
+  params_stand (tree.more_params (tree.param p t) xs) done =
+      params_more (params_for xs) done (top_stands p) (option_type_shown t (present_type_left t)) (params_stand xs)
 
   pub part_stands : (e : OptionExpr) → Correct (lower_part e) (Shows (λ final rs i. part final rs e i))
   part_stands tree.no_expr = missing_stands
@@ -266,8 +281,7 @@ mutual
   kept_part_stands (tree.some_expr e) = kept_stands e (node_stands e)
 
   each_stands : (done : List ExprId) (es : Exprs) → Correct (lower_each done es) (Shows (λ final rs is. Behind done (each final rs es) is))
-  each_stands done tree.no_exprs = correct_as (correct_pure done) (λ final ps m m' is g row.
-      record { shown = shown_none (moved_pure row.still) ([], row.is ∙ sym (append-nil done), (refl, refl)) })
+  each_stands done tree.no_exprs = done_stand done
   each_stands done (tree.more_exprs e es) =
       correct_as (correct_bind (kept_stands e (node_stands e)) (λ x. each_stands (push_some done x) es)) (λ final ps m m' is g row.
       let r = row.second.shown in
@@ -280,13 +294,9 @@ mutual
 
   fields_stand : (done : List RecordLitField) (fs : Fields)
       → Correct (lower_fields done fs) (Shows (λ final rs is. Behind done (fields final rs fs) is))
-  fields_stand done tree.no_fields = correct_as (correct_pure done) (λ final ps m m' is g row.
-      record { shown = shown_none (moved_pure row.still) ([], row.is ∙ sym (append-nil done), (refl, refl)) })
-  fields_stand done (tree.more_fields (tree.disabled_field at by f) fs) = correct_as
-      (correct_bind (correct_bind (correct_report _) (λ u. correct_pure None)) (λ x. fields_stand (push_some done x) fs))
-      (λ final ps m m' is g row.
-      let moved = moved_then (moved_fault (InactiveCode at by) row.first.first.stored) (moved_pure row.first.second.still) in
-      record { shown = shown_after moved (left_out (fields final (ribs ps) fs) done row.one row.first.second.is row.second.shown) })
+  fields_stand done tree.no_fields = done_stand done
+  fields_stand done (tree.more_fields (tree.disabled_field at by f) fs) =
+      off_stands at by done (λ final rs d is. Behind d (fields final rs fs) is) (λ d. fields_stand d fs)
   fields_stand done (tree.more_fields (tree.nameless_field at e) fs) = correct_as
       (correct_bind (correct_pure None) (λ x. fields_stand (push_some done x) fs))
       (λ final ps m m' is g row.
@@ -312,11 +322,8 @@ mutual
   arms_stand : (done : List MatchArm) (as' : Arms)
       → Correct (lower_arms done as') (Shows (λ final rs is. Behind done (arms final rs as') is))
   arms_stand done tree.no_arms = done_stand done
-  arms_stand done (tree.more_arms (tree.disabled_arm at by a) as') = correct_as
-      (correct_bind (correct_bind (correct_report _) (λ u. correct_pure None)) (λ x. arms_stand (push_some done x) as'))
-      (λ final ps m m' is g row.
-      let moved = moved_then (moved_fault (InactiveCode at by) row.first.first.stored) (moved_pure row.first.second.still) in
-      record { shown = shown_after moved (left_out (arms final (ribs ps) as') done row.one row.first.second.is row.second.shown) })
+  arms_stand done (tree.more_arms (tree.disabled_arm at by a) as') =
+      off_stands at by done (λ final rs d is. Behind d (arms final rs as') is) (λ d. arms_stand d as')
   arms_stand done (tree.more_arms (tree.arm p e g) as') = correct_as
       (correct_bind (arm_stands (top_stands p) (part_stands e) (guard_stands g)) (λ x. arms_stand (push_some done x) as'))
       (λ final ps m m' is u row. record {
@@ -399,14 +406,8 @@ mutual
       record { ways = q.ways; shown = q.shown.2; moved = q.moved } in
       let whole = shown_as others (λ ws y. (statement.Item ∷ q.shown.0, q.shown.1 ∙ more, (q.shown.0, refl, y))) in
       record { shown = shown_after (moved_pure row.first.still) whole })
-  contents_stands done (tree.more_stmts (tree.disabled_stmt at by x) ss) e h = correct_as
-      (correct_bind (correct_bind (correct_report _) (λ u. correct_pure None)) (λ y. contents_stands (push_some done y) ss e h))
-      (λ final ps m m' r g row.
-      let moved = moved_then (moved_fault (InactiveCode at by) row.first.first.stored) (moved_pure row.first.second.still) in
-      record {
-        shown = shown_after moved
-            (left_out (λ is. contents final (ribs ps) ss e is r.1) done row.one row.first.second.is row.second.shown);
-      })
+  contents_stands done (tree.more_stmts (tree.disabled_stmt at by x) ss) e h = off_stands at by done
+      (λ final rs d r. Behind d (λ is. contents final rs ss e is r.1) r.0) (λ d. contents_stands d ss e h)
   contents_stands done (tree.more_stmts (tree.let_stmt p t x b) ss) e h = correct_as
       (correct_bind (let_stmt_stands (top_stands p) (option_type_shown t (present_type_left t)) (present_stands x) (present_block_stands b))
       (λ y. contents_stands (push_some done y) ss e h))

@@ -6,7 +6,7 @@ use Rattle.hir_env.specs.Answered as tree
 use Rattle.hir_env.specs.Answered.{Type_, OptionType, Parts, Path, OptionPath, Segments, Segment, SegmentArgs, OptionParens, OptionRet}
 use Rattle.hir_env.specs.Answered.{OptionArgs, Args, Arg, Bounds, Bound, Constant, Expr, OptionExpr, Exprs, Fields, Field, Spread, Block}
 use Rattle.hir_env.specs.Answered.{OptionBlock, Stmts, Stmt, Arms, Arm, Guard, Pat, OptionPat, Pats, PatFields, PatField, Side, TypePat}
-use Rattle.hir_env.specs.Answered.{OptionTypePat, TypePats, Limit, Target, Targets, TargetFields, TargetField}
+use Rattle.hir_env.specs.Answered.{OptionTypePat, TypePats, Limit, Param, Params, Target, Targets, TargetFields, TargetField}
 use Rattle.hir_data.specs.Tops.{Tops}
 use Rattle.hir_data.specs.Written.{written_path}
 use Rattle.hir_one_result.specs.PathRoom.{Seen, nothing_seen, at_first, Read, goes_on, segments_read, own_read, yields}
@@ -173,6 +173,7 @@ abbrev mutual
   blocks_of (tree.list_expr at form es) = blocks_of_each es
   blocks_of (tree.repeat_expr at e c) = blocks_of_part e ++ blocks_of_constant c
   blocks_of (tree.const_expr at c) = blocks_of_constant c
+  blocks_of (tree.closure_expr at moves is_static xs t e) = blocks_of_params xs ++ (blocks_of_present_type t ++ blocks_of_part e)
   blocks_of (tree.method_call_expr at e name es generics) = blocks_of_part e ++ (blocks_of_each es ++ blocks_of_args generics)
   blocks_of (tree.cast_expr at e t) = blocks_of_part e ++ blocks_of_type_part t
   blocks_of (tree.record_expr at p head fs s) =
@@ -188,6 +189,15 @@ abbrev mutual
   blocks_of (tree.range_expr at form low high) = blocks_of_part low ++ blocks_of_part high
   -- the target before the value
   blocks_of (tree.assign_expr at own t e) = blocks_of_target t ++ blocks_of_part e
+
+  -- the pattern of each before its type
+  pub blocks_of_params : Params → List BlockId
+  blocks_of_params tree.no_params = []
+  blocks_of_params (tree.more_params x xs) = blocks_of_param x ++ blocks_of_params xs
+
+  pub blocks_of_param : Param → List BlockId
+  blocks_of_param (tree.disabled_param at by x) = []
+  blocks_of_param (tree.param p t) = blocks_of_top p ++ blocks_of_present_type t
 
   pub blocks_of_part : OptionExpr → List BlockId
   blocks_of_part tree.no_expr = []

@@ -14,7 +14,7 @@ use Rattle.hir_env.specs.Answered.{Type_, OptionType, Parts, Path, OptionPath, S
 use Rattle.hir_env.specs.Answered.{OptionArgs, Args, Arg, Bounds, Bound, Constant, Jump, Expr, OptionExpr, Exprs, Fields, Field, Spread}
 use Rattle.hir_env.specs.Answered.{Block, OptionBlock, Stmts, Stmt, Arms, Arm, Guard, Pat, OptionPat, Pats, PatFields, PatField, Side}
 use Rattle.hir_env.specs.Answered.{TypePat, OptionTypePat, TypePats, Limit, Target, Targets, TargetFields, TargetField, SelfFormal, Formal}
-use Rattle.hir_env.specs.Answered.{Formals}
+use Rattle.hir_env.specs.Answered.{Formals, Param, Params}
 use Rattle.hir_data.specs.Written.{written_path}
 use Rattle.hir_meaning.specs.Syntax.{is_typed}
 use Rattle.hir_one_result.specs.Blocks.{where_some, where_goes_on, unless}
@@ -196,6 +196,9 @@ abbrev mutual
   diagnostics ss (tree.list_expr at form es) = each_diagnostics ss es
   diagnostics ss (tree.repeat_expr at e c) = part_diagnostics ss e ++ constant_faults ss c
   diagnostics ss (tree.const_expr at c) = constant_faults ss c
+  -- no jump in it reaches what is open around it
+  diagnostics ss (tree.closure_expr at moves is_static xs t e) =
+      params_faults (barrier ∷ ss) xs ++ (present_type_faults (barrier ∷ ss) t ++ part_diagnostics (barrier ∷ ss) e)
   diagnostics ss (tree.method_call_expr at e name es generics) =
       part_diagnostics ss e ++ (each_diagnostics ss es ++ args_faults ss generics)
   diagnostics ss (tree.cast_expr at e t) = part_diagnostics ss e ++ type_part_faults ss t
@@ -211,6 +214,14 @@ abbrev mutual
   diagnostics ss (tree.match_expr at e arms) = part_diagnostics ss e ++ arms_diagnostics ss arms
   diagnostics ss (tree.range_expr at form low high) = part_diagnostics ss low ++ part_diagnostics ss high
   diagnostics ss (tree.assign_expr at own t e) = target_faults_in ss t ++ part_diagnostics ss e
+
+  pub params_faults : List Scope → Params → Faults
+  params_faults ss tree.no_params = []
+  params_faults ss (tree.more_params x xs) = param_faults ss x ++ params_faults ss xs
+
+  pub param_faults : List Scope → Param → Faults
+  param_faults ss (tree.disabled_param at by x) = InactiveCode at by ∷ []
+  param_faults ss (tree.param p t) = top_faults ss p ++ present_type_faults ss t
 
   pub part_diagnostics : List Scope → OptionExpr → Faults
   part_diagnostics ss tree.no_expr = []

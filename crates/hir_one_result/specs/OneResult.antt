@@ -17,7 +17,8 @@ use Rattle.hir_one_result.specs.Formals.{Given, formals_read, lower_body}
 use Rattle.hir_one_result.specs.Leads.{Way, Ways, No, OneBindingWay, ◌&◌, label_ways, Covers, CoversLabels, CoversBindings, MapLeads}
 use Rattle.hir_one_result.specs.Leads.{LeadBack}
 use Rattle.hir_one_result.specs.Room.{body_size}
-use Rattle.hir_one_result.specs.Stands.{Open, Absent, StandsBefore, StandsPart, StandsTop}
+use Rattle.hir_one_result.specs.Stands.{Open, Absent, StandsBefore, StandsPart}
+use Rattle.hir_one_result.specs.StandsWhole.{StandsTop}
 
 -- what stands for a body and its parameters
 

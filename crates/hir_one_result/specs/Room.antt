@@ -8,7 +8,7 @@ use Rattle.hir_env.specs.Answered.{Type_, OptionType, Parts, Path, OptionPath, S
 use Rattle.hir_env.specs.Answered.{OptionArgs, Args, Arg, Bounds, Bound, Constant, Listing, Label, Expr, OptionExpr, Exprs, Fields, Field}
 use Rattle.hir_env.specs.Answered.{Spread, Block, OptionBlock, Stmts, Stmt, Arms, Arm, Guard, Pat, OptionPat, Pats, PatFields, PatField}
 use Rattle.hir_env.specs.Answered.{Side, TypePat, OptionTypePat, TypePats, Limit, Target, Targets, TargetFields, TargetField, SelfFormal}
-use Rattle.hir_env.specs.Answered.{Formals}
+use Rattle.hir_env.specs.Answered.{Formals, Param, Params}
 use Rattle.hir_data.specs.Patterns.{is_dots, ellipsis_of}
 use Rattle.hir_data.specs.Targets.{target_dots}
 use Rattle.hir_data.specs.Tops.{Tops}
@@ -206,6 +206,7 @@ abbrev mutual
   size (tree.list_expr at form es) = size_each es ∪ front_size form ∪ an_expr
   size (tree.repeat_expr at e c) = size_part e ∪ constant_size c ∪ an_expr
   size (tree.const_expr at c) = constant_size c ∪ an_expr
+  size (tree.closure_expr at moves is_static xs t e) = params_size xs ∪ present_size t ∪ size_part e ∪ an_expr
   size (tree.method_call_expr at e name es generics) = size_part e ∪ size_each es ∪ args_size generics ∪ an_expr
   size (tree.cast_expr at e t) = size_part e ∪ type_part_size t ∪ an_expr
   -- where the path is absent or refused nothing else is read
@@ -221,6 +222,15 @@ abbrev mutual
   size (tree.range_expr at form low high) = size_present low ∪ size_present high ∪ range_size form
   -- the target before the value
   size (tree.assign_expr at own t e) = target_size t ∪ size_part e ∪ an_expr
+
+  -- a disabled parameter becomes nothing
+  pub params_size : Params → Size
+  params_size tree.no_params = nothing
+  params_size (tree.more_params x xs) = param_size x ∪ params_size xs
+
+  pub param_size : Param → Size
+  param_size (tree.disabled_param at by x) = nothing
+  param_size (tree.param p t) = top_size p ∪ present_size t
 
   -- of a part that is missing where it is absent
   pub size_part : OptionExpr → Size

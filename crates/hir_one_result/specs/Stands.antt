@@ -5,8 +5,8 @@
 -- and to each missing one and each made up from no node. What its constants became stands for them, also where nothing names it. A top
 -- pattern reads back as it is written, and so does one in a field without a name, which is part of nothing; the names of a top pattern
 -- have one binding each, and what is in it stands for what is written there.
-use Rattle.std.specs.Prelude.{◌≡◌, ℕ, Bool, true, false, List, [], ◌∷◌, ◌++◌, map, Option, Some, None, option_to_list}
-use Rattle.std.specs.Prelude.{slice_get, unwrap_or}
+use Rattle.std.specs.Prelude.{◌≡◌, ℕ, Bool, true, false, List, [], ◌∷◌, ◌++◌, map, Option, Some, None, option_to_list, slice_get}
+use Rattle.std.specs.Prelude.{unwrap_or}
 use Rattle.hir_base.specs.declared.op.RangeOp.{RangeOp}
 use Rattle.hir_binding.specs.Rule.{Shows}
 use Rattle.hir_syntax.specs.declared.ast.Literal.{Literal as AstLiteral}
@@ -44,9 +44,10 @@ use Rattle.hir_env.specs.Answered as tree
 use Rattle.hir_env.specs.Answered.{Type_, OptionType, Parts, Path as WrittenPath, OptionPath, Segments, Segment, SegmentArgs, OptionParens}
 use Rattle.hir_env.specs.Answered.{OptionRet, OptionArgs, Args, Arg, Bounds, Bound, Constant, Listing, Label, Expr, OptionExpr, Exprs}
 use Rattle.hir_env.specs.Answered.{Fields, Spread, Block, OptionBlock, Stmts, Arms, Guard, RangeForm, Signed, Pat, OptionPat, Pats}
-use Rattle.hir_env.specs.Answered.{PatFields, Side, TypePat, OptionTypePat, TypePats, Limit, Target, Targets, TargetFields}
+use Rattle.hir_env.specs.Answered.{PatFields, Side, TypePat, OptionTypePat, TypePats, Limit, Params, Target, Targets, TargetFields}
 use Rattle.hir_env.specs.Targets.{head_pointer}
 use Rattle.hir_data.specs.BindingRule.{made_for}
+use Rattle.hir_data.specs.Closures.{capture_of, kind_of}
 use Rattle.hir_data.specs.Data.{PathData, PatData}
 use Rattle.hir_data.specs.Patterns.{is_dots, first_uses, pattern_data, uses_after, uses_after_part, uses_after_each, written_pat}
 use Rattle.hir_data.specs.Patterns.{written_uses}
@@ -63,9 +64,10 @@ use Rattle.hir_one_result.specs.Forms.{pat_unary_form, range_fields}
 use Rattle.hir_one_result.specs.PathRoom.{Seen, nothing_seen, at_first, segments_read, own_read, yields}
 use Rattle.hir_one_result.specs.Leads.{Ways, No, OneWay, OneUnled, OneLabelWay, OneFieldWay, OnePatFieldWay, Overtaken, ◌&◌}
 pub use Rattle.hir_one_result.specs.StandsParts.{ExprAt, LabelAt, Open, opened, Absent, There, ThereIf, ReadsAs, statement_of, SomeExpr}
-pub use Rattle.hir_one_result.specs.StandsParts.{SomeConst, WhereOn, Unless}
+pub use Rattle.hir_one_result.specs.StandsParts.{SomeConst}
 use Rattle.hir_one_result.specs.StandsMade.{StandsFor, StandsForLoop, StandsForTurn, StandsQuestion, StandsTry, StandsTypedTry, StandsWhile}
-pub use Rattle.hir_one_result.specs.StandsParts.{StandsBefore, WherePath, BehindFront, Names, NewName, StandsName}
+use Rattle.hir_one_result.specs.StandsMade.{StandsClosure, StandsParam, StoredParams}
+pub use Rattle.hir_one_result.specs.StandsParts.{WhereOn, Unless, StandsBefore, WherePath, BehindFront, Names, NewName, StandsName}
 
 -- in a store
 
@@ -366,6 +368,10 @@ module _ (store : Store) (source_map : SourceMap) where
         StandsOverTwo (λ x n. hir.Array (array.Repeat x n)) at (λ x. StandsPart rs e x) (λ n. StandsConstant rs c n) i
     -- the block in it came from the same node, which leads to the const block alone
     Stands rs (tree.const_expr at c) i = StandsOver hir.Const at (λ n. Overtaken at (StandsConstant rs c n)) i
+    -- no jump in it reaches what is open around it
+    Stands rs (tree.closure_expr at moves is_static xs t e) i =
+        StandsClosure store source_map at (kind_of is_static e) (capture_of moves) (λ l. StandsParams (barrier_rib ∷ rs) xs l)
+        (λ y. StandsType (barrier_rib ∷ rs) t y) (λ x. StandsPart (barrier_rib ∷ rs) e x) i
     Stands rs (tree.method_call_expr at e name es generics) i =
         StandsOverThree (λ receiver arguments g. hir.MethodCall receiver name g arguments) at
         (λ x. StandsPart rs e x) (λ is. StandsEach rs es is)
@@ -392,6 +398,17 @@ module _ (store : Store) (source_map : SourceMap) where
     -- the target before the value
     Stands rs (tree.assign_expr at own t e) i =
         StandsOverTwo hir.Assignment at (λ q. ReadsAsTarget t (StandsTarget rs t q) q) (λ x. StandsPart rs e x) i
+
+    -- a disabled parameter becomes nothing
+    pub StandsParams : Open → Params → StoredParams → Ways
+    StandsParams rs tree.no_params l = λ ws. (l ≡ ([], [])) × No ws
+    StandsParams rs (tree.more_params (tree.disabled_param at by x) xs) l = StandsParams rs xs l
+    StandsParams rs (tree.more_params (tree.param p t) xs) l = StandsParam
+        (λ q. WithNames p (λ ks. StandsPatPart ks rs p [] q) q) (λ y. StandsType rs t y) (λ others. StandsParams rs xs others) l
+
+    -- a type that may stay absent
+    pub StandsType : Open → OptionType → Option TypeRefId → Ways
+    StandsType rs t y = PresentTypeWays rs t & ReadsAs (stored_option_type store source_map) (written_option_type t) y
 
     pub StandsPart : Open → OptionExpr → ExprId → Ways
     StandsPart rs tree.no_expr i = StandsMissing i
@@ -466,8 +483,7 @@ module _ (store : Store) (source_map : SourceMap) where
         (q : PatId) × (y : Option TypeRefId) × (x : Option ExprId) × (z : Option ExprId) × (others : List Statement)
         × (is ≡ statement.Let q y x z ∷ others)
         × ((WithNames p (λ ks. StandsPatPart ks rs p [] q) q
-        & (PresentTypeWays rs t & ReadsAs (stored_option_type store source_map) (written_option_type t) y)
-        & StandsPresent rs e x & StandsPresentBlock rs b z) & StandsContents rs ss Tail others tail) ws
+        & StandsType rs t y & StandsPresent rs e x & StandsPresentBlock rs b z) & StandsContents rs ss Tail others tail) ws
 
     -- ---- patterns
 
@@ -574,20 +590,3 @@ module _ (store : Store) (source_map : SourceMap) where
         (i : PatId) × (others : List RecordFieldPat) × (is ≡ record { name = n; pat = i } ∷ others)
         × ((StandsTarget rs t i & OnePatFieldWay i at) & StandsTargetFields rs fs others) ws
     StandsTargetFields rs (tree.more_target_fields f fs) is = StandsTargetFields rs fs is
-
-  -- ---- whole ones
-
-  -- a constant, whatever its number
-  abbrev pub ConstantWays : Open → Constant → Ways
-  ConstantWays rs c = SomeConst (λ n. StandsConstant rs c n)
-
-  -- an end of a range in a type, which is a body of its own
-  abbrev pub LimitWays : Open → Limit → Ways
-  LimitWays rs l = SomeExpr (λ i. StandsLimit (barrier_rib ∷ rs) l i)
-
-  -- a top pattern, before which no name has a use
-  abbrev pub StandsTop : Open → OptionPat → PatId → Ways
-  StandsTop rs p i = WithNames p (λ ks. StandsPatPart ks rs p [] i) i
-
-  abbrev pub StandsAssigned : Open → Target → PatId → Ways
-  StandsAssigned rs t i = ReadsAsTarget t (StandsTarget rs t i) i

@@ -6,6 +6,8 @@ use Rattle.hir_binding.specs.declared.binding.BindingAnnotation.{BindingAnnotati
 use Rattle.hir_binding.specs.declared.binding.BindingAnnotation.TheVariants.{Mutable, Unannotated}
 use Rattle.hir_store.specs.Pointers.{Pointer}
 use Rattle.hir_store.specs.Stored.{Store, SourceMap}
+use Rattle.hir_store.specs.declared.hir.CaptureBy.{CaptureBy}
+use Rattle.hir_store.specs.declared.hir.ClosureKind.{ClosureKind}
 use Rattle.hir_store.specs.declared.hir.Expr.{Expr as HirExpr}
 use Rattle.hir_store.specs.declared.hir.Expr.TheVariants as hir
 use Rattle.hir_store.specs.declared.hir.LoopSource.TheVariants.{ForLoop, While}
@@ -31,6 +33,15 @@ use Rattle.hir_meaning.specs.Contents.{BlockContents}
 use Rattle.hir_one_result.specs.Forms.{item_form, no_macro, generated_path, generated_binding, residual_item, leaves_with}
 use Rattle.hir_one_result.specs.Leads.{Ways, No, OneWay, OneUnled, OneLabelWay, OneBindingWay, ◌&◌}
 use Rattle.hir_one_result.specs.StandsParts.{ExprAt}
+
+-- what is stored for parameters: their patterns, and their types
+abbrev pub StoredParams : Type 0
+StoredParams = List PatId × List (Option TypeRefId)
+
+-- one parameter before others
+abbrev pub StandsParam : (PatId → Ways) → (Option TypeRefId → Ways) → (StoredParams → Ways) → StoredParams → Ways
+StandsParam P T O l = λ ws. (p : PatId) × (t : Option TypeRefId) × (others : StoredParams)
+    × (l ≡ (p ∷ others.0, t ∷ others.1)) × ((P p & T t) & O others) ws
 
 module _ (store : Store) (source_map : SourceMap) where
   -- a pattern that came from no node
@@ -67,6 +78,15 @@ module _ (store : Store) (source_map : SourceMap) where
       × ExprAt store source_map turn (hir.If condition body (Some out)) (Some at)
       × ExprAt store source_map out (hir.Break None None) (Some at)
       × (C condition & B body & OneUnled out & OneUnled turn & OneWay at i) ws
+
+  -- ---- closures
+
+  -- Its parameters, what it returns and its body, and then the closure; it is what is written.
+  abbrev pub StandsClosure : Pointer → ClosureKind → CaptureBy → (StoredParams → Ways) → (Option TypeRefId → Ways) → (ExprId → Ways)
+      → ExprId → Ways
+  StandsClosure at kind capture P T B i = λ ws. (l : StoredParams) × (ret : Option TypeRefId) × (body : ExprId)
+      × ExprAt store source_map i (hir.Closure l.0 l.1 ret body kind capture) (Some at)
+      × (P l & T ret & B body & OneWay at i) ws
 
   -- ---- `?`
 

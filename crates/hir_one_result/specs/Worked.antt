@@ -7,6 +7,8 @@ use Rattle.hir_store.specs.declared.diagnostics.ExpressionStoreDiagnostics.TheVa
 use Rattle.hir_store.specs.declared.diagnostics.ExpressionStoreDiagnostics.TheVariants.{UndeclaredLabel, UnreachableLabel}
 use Rattle.hir_store.specs.declared.diagnostics.AwaitLocation.{AwaitLocation}
 use Rattle.hir_store.specs.declared.hir.Array.TheVariants as array
+use Rattle.hir_store.specs.declared.hir.CaptureBy.TheVariants as capture
+use Rattle.hir_store.specs.declared.hir.ClosureKind.TheVariants as closure
 use Rattle.hir_store.specs.declared.hir.Expr.{Expr as HirExpr}
 use Rattle.hir_store.specs.declared.hir.Expr.TheVariants as hir
 use Rattle.hir_store.specs.declared.hir.LoopSource.TheVariants.{ForLoop}
@@ -24,6 +26,7 @@ use Rattle.hir_store.specs.declared.ids.BindingId.{BindingId}
 use Rattle.hir_store.specs.declared.ids.ExprId.{ExprId}
 use Rattle.hir_store.specs.declared.ids.LabelId.{LabelId}
 use Rattle.hir_store.specs.declared.ids.PatId.{PatId}
+use Rattle.hir_store.specs.declared.ids.TypeRefId.{TypeRefId}
 use Rattle.hir_store.specs.declared.pat.Binding.{Binding}
 use Rattle.hir_store.specs.declared.pat.Pat.TheVariants as pat
 use Rattle.hir_scope.specs.Ribs.{try_rib, barrier_rib}
@@ -37,7 +40,8 @@ use Rattle.hir_meaning.specs.Small.{stored_one, stored_two, none_beside}
 pub use Rattle.hir_meaning.specs.Turns.{other}
 use Rattle.hir_meaning.specs.Forms.{plus}
 use Rattle.hir_one_result.specs.Leads.{Way, expr_way, unled_way, binding_way}
-use Rattle.hir_one_result.specs.Stands.{Open, opened, Stands, StandsTop}
+use Rattle.hir_one_result.specs.Stands.{Open, opened, Stands}
+use Rattle.hir_one_result.specs.StandsWhole.{StandsTop}
 use Rattle.hir_one_result.specs.Diagnostics.{diagnostics}
 use Rattle.hir_one_result.specs.Blocks.{blocks_of}
 
@@ -378,3 +382,36 @@ pub record Consts : Type 0 where
   pub is_const : (store : Store) (source_map : SourceMap) (i : ExprId) (ws : List Way) → Stands store source_map [] const_one i ws
       → IsConst store i ws
   pub length_last : blocks_of (tree.repeat_expr (at 0) (just 2) (tree.constant (just 3))) ≡ block_id 2 ∷ block_id 3 ∷ []
+
+-- closures
+
+-- `move || break 'a`
+abbrev pub closure_break : Expr
+closure_break = tree.closure_expr (at 0) true false tree.no_params tree.no_type (tree.some_expr break_a)
+
+-- `|_: [!; { .. }]| { .. }`, of numbered blocks
+abbrev pub closure_blocks : Expr
+closure_blocks =
+    let never = tree.some_type (tree.leaf_type (at 7) tree.never_leaf) in
+    let nevers = tree.some_type (tree.array_type (at 6) (tree.constant (just 2)) never) in
+    tree.closure_expr (at 0) false false (tree.more_params (tree.param tree.no_pat nevers) tree.no_params) tree.no_type (just 3)
+
+-- `|#[cfg(..)] _| 1`
+abbrev pub closure_disabled : CfgId → OptionPat → Expr
+closure_disabled by p = tree.closure_expr (at 0) false false
+    (tree.more_params (tree.disabled_param (at 1) by (tree.param p tree.no_type)) tree.no_params) tree.no_type (literal_part 1)
+
+-- It has no parameter, and a body.
+pub record IsClosure (store : Store) (i : ExprId) : Type 0 where
+  pub ret : Option TypeRefId
+  pub body : ExprId
+  pub whole : slice_get store.exprs i.0 ≡ Some (hir.Closure [] [] ret body closure.Closure capture.Value)
+  pub inner : slice_get store.exprs body.0 ≡ Some (hir.Break None None)
+
+pub record Closures : Type 0 where
+  -- a label that is open around it isn't in its body, and that is told
+  pub is_closure : (outer : LabelId) (store : Store) (source_map : SourceMap) (i : ExprId) (ws : List Way)
+      → Stands store source_map (opened label_a outer []) closure_break i ws → IsClosure store i
+  pub unreachable : diagnostics (loop_scope (Some label_a) ∷ []) closure_break ≡ UnreachableLabel jump_a.pointer jump_a.name ∷ []
+  pub parameters_first : blocks_of closure_blocks ≡ block_id 2 ∷ block_id 3 ∷ []
+  pub disabled : (by : CfgId) (p : OptionPat) → diagnostics [] (closure_disabled by p) ≡ InactiveCode (at 1) by ∷ []

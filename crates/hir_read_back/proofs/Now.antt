@@ -69,7 +69,7 @@ path_now p = correct_as (correct_in_store (path_reads p))
 -- ---- laws
 
 -- what a step that is correct answers
-answered : {A : Type 0} {p : Lowering A} {R : Rel A} → Correct p R → (o o' : Builder) (a : A) → Paired o.stored → p o ≡ (Ok a, o')
+pub answered : {A : Type 0} {p : Lowering A} {R : Rel A} → Correct p R → (o o' : Builder) (a : A) → Paired o.stored → p o ≡ (Ok a, o')
     → (final : Stored) → Extends o'.stored final → R final (frames o.scopes) (mark o) (mark o') a
 answered {R = R} h o o' a d e final x =
     let ps = frames o.scopes in

@@ -4,6 +4,7 @@ use Rattle.hir_binding.specs.declared.binding.BindingAnnotation.TheVariants.{Mut
 use Rattle.hir_store.specs.Pointers.{Pointer}
 use Rattle.hir_store.specs.Stored.{Stored}
 use Rattle.hir_store.specs.declared.hir.Expr.{Expr as HirExpr}
+use Rattle.hir_store.specs.declared.hir.Expr.TheVariants as hir
 use Rattle.hir_store.specs.declared.hir.LoopSource.{LoopSource}
 use Rattle.hir_store.specs.declared.hir.MatchArm.{MatchArm}
 use Rattle.hir_store.specs.declared.ids.BlockId.{BlockId}
@@ -22,6 +23,7 @@ use Rattle.hir_env.specs.Answered as tree
 use Rattle.hir_env.specs.Answered.{ForItems, Jump, Label, Listing, QuestionItems, RangeForm}
 use Rattle.hir_env.specs.NodeMap.{Site}
 use Rattle.hir_env.specs.Spot.{site_of}
+use Rattle.hir_lower_form.specs.declared.closures.ClosureParams.{ClosureParams}
 use Rattle.hir_lower_form.specs.Lowering.{Lowering, ◌>>=◌, alloc_expr, alloc_made}
 use Rattle.hir_lower_form.specs.Made.{for_form, for_turn_form, made_loop_form, question_form, try_block_form, typed_try_form}
 use Rattle.hir_lower_form.specs.Types.{TypeSteps}
@@ -29,10 +31,12 @@ use Rattle.hir_lower_form.specs.Forms.{ExprSteps, StoredContents, StoredFields, 
 use Rattle.hir_lower_form.specs.Forms.{break_form, paren_form, path_form, operand_form, operands_form, value_form, list_form}
 use Rattle.hir_lower_form.specs.Forms.{method_call_form, await_form, cast_form, offset_of_form, record_of, record_form, block_form}
 use Rattle.hir_lower_form.specs.Forms.{labelled, constant_form, let_form, match_form, assign_form, settled, repeat_form, const_form}
+use Rattle.hir_lower_form.specs.Forms.{closure_form, yield_form}
 use Rattle.hir_lower_form.specs.Ranges.{made_range, range_form}
 use Rattle.hir_steps.proofs.Frames.{Frame, loop_at, block_at}
 use Rattle.hir_steps.proofs.Steps.{Mark, Rel, Correct, correct_bind, correct_as, correct_pure, correct_alloc, correct_point}
 use Rattle.hir_steps.proofs.Steps.{correct_enter_block, correct_opened, correct_report_await, correct_target}
+use Rattle.hir_steps.proofs.Barriers.{correct_closure, correct_yield}
 use Rattle.hir_steps.proofs.Constants.{correct_constant}
 use Rattle.hir_steps.proofs.ApartForms.{flow_arm_apart, item_call_apart, made_path_apart, residual_apart, wrapped_apart}
 use Rattle.hir_steps.proofs.Keeping.{Any}
@@ -131,6 +135,14 @@ module _ (at : Pointer) where
   pub const_from : {c : Lowering ConstRef} → Correct c Any → From here (const_form at c)
   unfolding const_form
   const_from h = ends_from h (λ c. stored_from _)
+
+  pub closure_from : (moves is_static : Bool) {p : Lowering ClosureParams} {t : Lowering (Option TypeRefId)} {e : ExprSteps} → Correct p Any
+      → Correct t Any → Correct e Any → From here (closure_form at moves is_static p t e)
+  closure_from moves is_static hp ht he = correct_as (correct_closure at moves is_static hp ht he)
+      (λ final ps m m' i g row. record { is = λ d le. rw (row.made.number, row.made.from) refl })
+
+  pub yield_from : {e : Lowering (Option ExprId)} → Correct e Any → From here (yield_form at e)
+  yield_from h = correct_yield at _ (value_from hir.Yield h)
 
   pub method_call_from : {e : ExprSteps} (name : Name) {xs : Lowering (List ExprId)} {as' : Lowering (Option GenericArgs)}
       → Correct e Any → Correct xs Any → Correct as' Any → From here (method_call_form at e name xs as')

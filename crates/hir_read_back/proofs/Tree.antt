@@ -25,7 +25,7 @@ use Rattle.hir_lower_form.specs.Lower as lower
 use Rattle.hir_steps.proofs.Steps.{Correct, correct_report}
 use Rattle.hir_steps.proofs.Keeping.{part_any, present_any, each_any, block_part_any, contents_part_any, contents_any, fields_any}
 use Rattle.hir_steps.proofs.Keeping.{any, turn_any, spread_any, one_type_any, type_any, lower_path_any, args_any, top_any, arms_any}
-use Rattle.hir_steps.proofs.Keeping.{for_loop_any, target_any, constant_any}
+use Rattle.hir_steps.proofs.Keeping.{for_loop_any, target_any, constant_any, params_any, present_type_any}
 use Rattle.hir_data.specs.Data as datum
 use Rattle.hir_data.specs.Data.{TypesData, no_args}
 use Rattle.hir_data.specs.Rule.{broken, named}
@@ -257,11 +257,13 @@ mutual
   expr_from (tree.list_expr at form es) = sites.list_from at form (each_any [] es)
   expr_from (tree.repeat_expr at e c) = sites.repeat_from at (part_any e) (constant_any c)
   expr_from (tree.const_expr at c) = sites.const_from at (constant_any c)
+  expr_from (tree.closure_expr at moves is_static xs t e) =
+      sites.closure_from at moves is_static (params_any lower.no_closure_params xs) (present_type_any t) (part_any e)
   expr_from (tree.method_call_expr at e name es as') =
       sites.method_call_from at name (part_any e) (each_any [] es) (args_any as')
   expr_from (tree.leaving_expr at form e) = sites.value_from at _ (present_any e)
   expr_from (tree.become_expr at e) = sites.operand_from at _ (part_any e)
-  expr_from (tree.yield_expr at e) = sites.value_from at _ (present_any e)
+  expr_from (tree.yield_expr at e) = sites.yield_from at (present_any e)
   expr_from (tree.await_expr at location e) = sites.await_from at location (part_any e)
   expr_from (tree.cast_expr at e t) = sites.cast_from at (part_any e) (type_any None t)
   expr_from (tree.offset_of_expr at t names) = sites.offset_of_from at names (type_any None t)

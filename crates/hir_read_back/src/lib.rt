@@ -2,7 +2,7 @@
 #![tactic(auto)]
 
 ghost use Rattle.hir_read_back.specs.Asked.{NameLaw};
-ghost use Rattle.hir_read_back.specs.Laws.{PathLaw, TypeLaw, ArgsLaw, PatLaw, TargetLaw};
+ghost use Rattle.hir_read_back.specs.Laws.{PathLaw, TypeLaw, ArgsLaw, PatLaw, TargetLaw, YieldsLaw};
 
 /// A path reads back as it is written, and none is answered exactly where it is absent or refused.
 pub fn path_law()
@@ -32,4 +32,9 @@ pub fn target_law()
 /// What is asked about a path in a pattern, or in what is assigned to, is asked about the path that the rule says it is.
 pub fn name_law()
     ensures { NameLaw }
+{}
+
+/// What lowering notes of `yield`s is what is written.
+pub fn yields_law()
+    ensures { YieldsLaw }
 {}

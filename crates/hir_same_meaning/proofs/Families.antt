@@ -20,9 +20,11 @@ use Rattle.hir_env.specs.Answering.{site_of}
 use Rattle.hir_lower_form.specs.Lowering.{Lowering, alloc_expr}
 use Rattle.hir_lower_form.specs.Lower.{ExprSteps, stored_leaf, stored_unary, stored_binary, stored_lazy, stored_leaving}
 use Rattle.hir_lower_form.specs.Lower.{operand_form, operands_form, value_form, list_form, await_form, repeat_form, const_form}
+use Rattle.hir_lower_form.specs.Lower.{yield_form}
 use Rattle.hir_meaning.specs.Run.{Value, Operation, field, prefix, reference, array, repeated, const_block, yielding}
 use Rattle.hir_meaning.specs.Run.{awaiting, leave, became, missing, ends, ◌>>=◌, ask}
 use Rattle.hir_meaning.specs.Syntax.{run_leaf, unary_operation, run_binary, run_lazy, run_list, leaves_with}
+use Rattle.hir_steps.proofs.Barriers.{correct_yield}
 use Rattle.hir_steps.proofs.Steps.{Rel, Correct, correct_bind, correct_both, correct_as, correct_alloc, correct_report_await}
 use Rattle.hir_same_meaning.proofs.Named.{Unnamed}
 use Rattle.hir_same_meaning.proofs.Relation.{same_ask, same_bind}
@@ -47,7 +49,7 @@ leaving_is tree.yeeting = record { runs = λ w a. refl; jumps = λ s P ls a h. h
 pub become_is : Form1 hir.Become one (leaves became)
 become_is = record { runs = λ w a. refl; jumps = λ s P ls a h. h }
 
-pub yield_is : Form1 hir.Yield optional (asks yielding (λ v. v ∷ []))
+yield_is : Form1 hir.Yield optional (asks yielding (λ v. v ∷ []))
 yield_is = record { runs = λ w a. refl; jumps = λ s P ls a h. h }
 
 await_is : Form1 hir.Await one (asks awaiting (λ v. v ∷ []))
@@ -102,6 +104,10 @@ module _ (at : Pointer) where
       → Form1 make optional f → Correct p (Runs optional x) → Correct (value_form at make p) (Runs one (finished at x f))
   unfolding value_form
   value_fine is h = form1_fine at is h
+
+  pub yield_fine : {p : Lowering (Option ExprId)} {x : Walk Value} → Correct p (Runs optional x)
+      → Correct (yield_form at p) (Runs one (finished at x (asks yielding (λ v. v ∷ []))))
+  yield_fine h = correct_yield at _ (value_fine yield_is h)
 
   pub operands_fine : {make : ExprId → ExprId → HirExpr} {o : Operation} {p q : ExprSteps} {x y : Walk Value}
       → Event2 make one one o (λ v w. v ∷ w ∷ []) → Correct p (Runs one x) → Correct q (Runs one y)

@@ -30,7 +30,7 @@ use Rattle.hir_lower_form.specs.Lower.{ExprSteps, StoredContents, StoredFields, 
 use Rattle.hir_lower_form.specs.Lower.{turn_form, continue_form, break_form, operand_form, operands_form, value_form, list_form}
 use Rattle.hir_lower_form.specs.Lower.{method_call_form, await_form, paren_form, path_form, path_or_missing, cast_form}
 use Rattle.hir_lower_form.specs.Lower.{offset_of_form, record_contents, record_of, record_form, field_form, block_form, labelled}
-use Rattle.hir_lower_form.specs.Lower.{repeat_form, const_form}
+use Rattle.hir_lower_form.specs.Lower.{repeat_form, const_form, yield_form}
 use Rattle.hir_lower_form.specs.Lower.{stored_leaf, stored_unary, stored_binary, stored_leaving, settled, settled_block, kept}
 use Rattle.hir_meaning.specs.Inner.{Bodies, Inners, all_of, of_present, of_path, of_list, of_field, of_others, of_statement, of_expr}
 use Rattle.hir_meaning.specs.Inner.{if_read, expr_bodies}
@@ -38,6 +38,7 @@ use Rattle.hir_read_back.proofs.Going.{PathIs}
 use Rattle.hir_read_back.proofs.Layers.{Pushed}
 use Rattle.hir_read_back.proofs.Walk.{Answers}
 use Rattle.hir_steps.proofs.Frames.{Frame, loop_at, block_at}
+use Rattle.hir_steps.proofs.Barriers.{correct_yield}
 use Rattle.hir_steps.proofs.Steps.{Mark, Rel, Correct, correct_bind, correct_as, correct_both, correct_pure, correct_alloc}
 use Rattle.hir_steps.proofs.Steps.{correct_report, correct_report_await, correct_point, correct_point_field, correct_enter_block}
 use Rattle.hir_steps.proofs.Steps.{correct_opened, correct_target}
@@ -171,9 +172,9 @@ module _ (at : Pointer) {es : Bodies} where
   leaving_held form h = expr1 (Some at) (stored_leaving form) (leaving_is form) h
 
   pub yield_held : {p : Lowering (Option ExprId)} → Correct p (Holds (maybe an_expr) es)
-      → Correct (value_form at hir.Yield p) (Holds an_expr es)
+      → Correct (yield_form at p) (Holds an_expr es)
   unfolding value_form
-  yield_held h = expr1 (Some at) hir.Yield (λ r o. refl) h
+  yield_held h = correct_yield at _ (expr1 (Some at) hir.Yield (λ r o. refl) h)
 
   pub list_held : (form : Listing) {p : Lowering (List ExprId)} → Correct p (Holds (each an_expr) es)
       → Correct (list_form at form p) (Holds an_expr es)

@@ -20,10 +20,11 @@ use Rattle.hir_env.specs.Answered.{Binder, Type_, OptionType, Parts, Path, Optio
 use Rattle.hir_env.specs.Answered.{OptionRet, OptionArgs, Args, Arg, Bounds, Bound, Constant}
 use Rattle.hir_env.specs.Answered.{Expr, OptionExpr, Exprs, Fields, Field, Spread, Block, OptionBlock, Stmts, Stmt}
 use Rattle.hir_env.specs.Answered.{Arms, Arm, Guard, Pat, OptionPat, Pats, PatFields, Side, TypePat, OptionTypePat, TypePats, Limit}
-use Rattle.hir_env.specs.Answered.{Target, Targets, TargetFields}
+use Rattle.hir_env.specs.Answered.{Params, Target, Targets, TargetFields}
 use Rattle.hir_env.specs.Targets.{head_pointer}
 use Rattle.hir_data.specs.Written.{path_of}
 use Rattle.hir_lower_form.specs.declared.args.ArgLists.{ArgLists}
+use Rattle.hir_lower_form.specs.declared.closures.ClosureParams.{ClosureParams}
 use Rattle.hir_lower_form.specs.Lowering.{Lowering}
 use Rattle.hir_lower_form.specs.Types.{no_lists}
 use Rattle.hir_lower_form.specs.Forms.{push_some}
@@ -42,6 +43,8 @@ use Rattle.hir_same_meaning.proofs.Body.{body_is}
 use Rattle.hir_same_meaning.proofs.Induction.{part_fine}
 use Rattle.hir_same_meaning.proofs.Holding.{an_expr, a_type, each, maybe, Holds, holds_none, holds_one, holds_behind, none_held, more_held}
 use Rattle.hir_same_meaning.proofs.Holding.{type0, expr0, pat0, Ids, a_pat, a_type_pat}
+use Rattle.hir_same_meaning.proofs.HeldClosures as closures
+use Rattle.hir_same_meaning.proofs.HeldClosures.{ParamsHeld}
 use Rattle.hir_same_meaning.proofs.HeldLimits as limits
 use Rattle.hir_same_meaning.proofs.HeldPats as pats
 use Rattle.hir_same_meaning.proofs.HeldPats.{PatHeld, Added, added_none, added_more, added_some, added_all}
@@ -225,6 +228,8 @@ mutual
   expr_holds (tree.list_expr at form es) = forms.list_held at form (pushed_all (each_holds es []))
   expr_holds (tree.repeat_expr at e c) = forms.repeat_held at (body_holds e) (constant_holds c)
   expr_holds (tree.const_expr at c) = forms.const_held at (constant_holds c)
+  expr_holds (tree.closure_expr at moves is_static ps t e) = closures.closure_held at moves is_static e
+      (params_hold ps lower.no_closure_params) (maybe_type_holds t) (body_holds e)
   expr_holds (tree.method_call_expr at e name es generics) =
       forms.method_call_held at name (body_holds e) (list_holds generics) (pushed_all (each_holds es []))
   expr_holds (tree.cast_expr at e t) = forms.cast_held at (body_holds e) (part_holds None t)
@@ -240,6 +245,14 @@ mutual
   expr_holds (tree.match_expr at e arms) = patterned.match_held at (body_holds e) (pushed_all (arms_hold arms []))
   expr_holds (tree.range_expr at form s e) = patterned.range_held at form (present_holds s) (present_holds e)
   expr_holds (tree.assign_expr at own t e) = patterned.assign_held at (target_holds t) (body_holds e)
+
+  -- the parameters of a closure
+  params_hold : (xs : Params) (done : ClosureParams)
+      → Correct (lower.lower_params done xs) (ParamsHeld done (inner.params_bodies xs))
+  params_hold tree.no_params done = closures.params_none done
+  params_hold (tree.more_params (tree.disabled_param at by x) xs) done = closures.params_skip done (InactiveCode at by) (params_hold xs)
+  params_hold (tree.more_params (tree.param p t) xs) done =
+      closures.params_more done (closures.param_held done (top_holds p) (maybe_type_holds t)) (params_hold xs)
 
   -- what is inside a body
   pub body_holds : (e : OptionExpr) → Correct (lower.lower_part e) (Holds an_expr (bodies_in e))

@@ -23,7 +23,7 @@ use Rattle.hir_meaning.specs.Syntax.{run_expr, run_block_part, run_or_unit, run_
 use Rattle.hir_meaning.specs.Syntax.{run_present, run_arms, run_places, run_each_place, run_field_places}
 use Rattle.hir_data.specs.Written.{path_of}
 use Rattle.hir_read_back.proofs.Tree.{path_reads}
-use Rattle.hir_steps.proofs.Keeping.{constant_any}
+use Rattle.hir_steps.proofs.Keeping.{constant_any, part_any}
 use Rattle.hir_steps.proofs.Steps.{Correct, correct_bind, correct_as, correct_pure, correct_report}
 use Rattle.hir_steps.proofs.TypeAny.{any}
 use Rattle.hir_same_meaning.proofs.Senses.{base_of}
@@ -33,6 +33,7 @@ use Rattle.hir_same_meaning.proofs.Blocks.{part_walk, KeptIs, ElseIs}
 use Rattle.hir_same_meaning.proofs.Nodes
 use Rattle.hir_same_meaning.proofs.Forms
 use Rattle.hir_same_meaning.proofs.Families
+use Rattle.hir_same_meaning.proofs.Closures
 use Rattle.hir_same_meaning.proofs.Typed
 use Rattle.hir_same_meaning.proofs.Patterned
 use Rattle.hir_same_meaning.proofs.Ranges
@@ -70,6 +71,7 @@ mutual
   expr_fine (tree.list_expr at form es) = Families.list_fine at form (Forms.pushed_all (each_fine es []))
   expr_fine (tree.repeat_expr at e c) = Families.repeat_fine at (part_fine e) (constant_any c)
   expr_fine (tree.const_expr at c) = Families.const_fine at (constant_any c)
+  expr_fine (tree.closure_expr at moves is_static ps t e) = Closures.closure_fine at moves is_static ps t e (part_any e)
   expr_fine (tree.method_call_expr at e name es generics) =
       Typed.method_call_fine at name generics (part_fine e) (Forms.pushed_all (each_fine es []))
   expr_fine (tree.cast_expr at e t) = Typed.cast_fine at t (part_fine e)
@@ -78,7 +80,7 @@ mutual
   expr_fine (tree.offset_of_expr at t names) = Typed.offset_of_fine at t names
   expr_fine (tree.leaving_expr at form e) = Families.value_fine at (Families.leaving_is form) (present_fine e)
   expr_fine (tree.become_expr at e) = Families.operand_fine at Families.become_is (part_fine e)
-  expr_fine (tree.yield_expr at e) = Families.value_fine at Families.yield_is (present_fine e)
+  expr_fine (tree.yield_expr at e) = Families.yield_fine at (present_fine e)
   expr_fine (tree.await_expr at location e) = Families.await_fine at location (part_fine e)
   expr_fine (tree.nameless_expr at e) = Families.nameless_fine at (part_fine e)
   expr_fine (tree.let_expr at p e) = Patterned.let_fine at p (part_fine e)

@@ -12,6 +12,7 @@ pub mod Strict
 pub mod Forms
 pub mod Named
 pub mod Families
+pub mod Closures
 pub mod Typed
 pub mod Patterned
 pub mod TargetPlaces
@@ -40,6 +41,7 @@ pub mod HeldFors
 pub mod HeldPats
 pub mod HeldLimits
 pub mod HeldPatterned
+pub mod HeldClosures
 pub mod HeldTree
 pub mod Whole
 pub mod Computed

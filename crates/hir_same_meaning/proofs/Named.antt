@@ -22,7 +22,8 @@ use Rattle.hir_lower_form.specs.Lower as lower
 use Rattle.hir_lower_form.specs.Made.{for_form, for_turn_form, made_loop_form, question_form, try_block_form, typed_try_form}
 use Rattle.hir_lower_form.specs.Forms.{ExprSteps, StoredContents, StoredFields, missing, if_form, loop_form, call_form, continue_form}
 use Rattle.hir_lower_form.specs.Forms.{break_form, paren_form, path_form, path_or_missing, operand_form, operands_form, value_form}
-use Rattle.hir_lower_form.specs.Forms.{list_form, repeat_form, const_form}
+use Rattle.hir_lower_form.specs.declared.closures.ClosureParams.{ClosureParams}
+use Rattle.hir_lower_form.specs.Forms.{list_form, repeat_form, const_form, closure_form}
 use Rattle.hir_lower_form.specs.Forms.{method_call_form, await_form, cast_form, offset_of_form, record_of, record_form, block_form}
 use Rattle.hir_lower_form.specs.Forms.{labelled, let_form, match_form, assign_form, settled, stored_binary, stored_leaf}
 use Rattle.hir_lower_form.specs.Forms.{stored_leaving, stored_unary}
@@ -35,7 +36,8 @@ use Rattle.hir_steps.proofs.Steps.{correct_enter_block, correct_opened, correct_
 use Rattle.hir_steps.proofs.ApartForms.{flow_arm_apart, item_call_apart, made_path_apart, residual_apart, wrapped_apart}
 use Rattle.hir_steps.proofs.Keeping.{Any, any, args_any, arms_any, block_part_any, contents_any, contents_part_any, each_any, fields_any}
 use Rattle.hir_steps.proofs.Keeping.{for_loop_any, lower_path_any, one_type_any, part_any, present_any, spread_any, target_any, top_any}
-use Rattle.hir_steps.proofs.Keeping.{turn_any, type_any, constant_any}
+use Rattle.hir_steps.proofs.Barriers.{correct_closure, correct_yield}
+use Rattle.hir_steps.proofs.Keeping.{turn_any, type_any, constant_any, params_any, present_type_any}
 use Rattle.hir_steps.proofs.MadeSteps.{correct_alloc_made, correct_made_bind, correct_made_number, correct_opened_try}
 
 -- what stands at this number is no made name
@@ -98,6 +100,11 @@ module _ (at : Pointer) where
       → Correct e Any → Correct (value_form at form e) Unnamed
   unfolding value_form
   value_unnamed form none h = ends_unnamed h (λ v. stored_unnamed _ (Some at) (none v))
+
+  closure_unnamed : (moves is_static : Bool) {p : Lowering ClosureParams} {t : Lowering (Option TypeRefId)} {e : ExprSteps} → Correct p Any
+      → Correct t Any → Correct e Any → Correct (closure_form at moves is_static p t e) Unnamed
+  closure_unnamed moves is_static hp ht he = correct_as (correct_closure at moves is_static hp ht he)
+      (λ final ps m m' i g row. record { is = rw (row.made.number, row.made.here) refl })
 
   loop_unnamed : (from : LoopSource) (label : Option Label) {b : ExprSteps} → Correct b Any → Correct (loop_form at from label b) Unnamed
   unfolding loop_form
@@ -217,12 +224,14 @@ mutual
   expr_unnamed (tree.list_expr at form es) = list_unnamed at form (each_any [] es)
   expr_unnamed (tree.repeat_expr at e c) =
       ends_unnamed (part_any e) (λ i. ends_unnamed (constant_any c) (λ n. stored_unnamed _ (Some at) (λ final. refl)))
+  expr_unnamed (tree.closure_expr at moves is_static ps t e) =
+      closure_unnamed at moves is_static (params_any lower.no_closure_params ps) (present_type_any t) (part_any e)
   expr_unnamed (tree.const_expr at c) = ends_unnamed (constant_any c) (λ n. stored_unnamed _ (Some at) (λ final. refl))
   expr_unnamed (tree.method_call_expr at e name es as') = ends_unnamed (part_any e) (λ i. ends_unnamed (each_any [] es)
       (λ is. ends_unnamed (args_any as') (λ g. stored_unnamed _ (Some at) (λ final. refl))))
   expr_unnamed (tree.leaving_expr at form e) = value_unnamed at _ (leaving_none form) (present_any e)
   expr_unnamed (tree.become_expr at e) = operand_unnamed at _ (λ i final. refl) (part_any e)
-  expr_unnamed (tree.yield_expr at e) = value_unnamed at _ (λ v final. refl) (present_any e)
+  expr_unnamed (tree.yield_expr at e) = correct_yield at _ (value_unnamed at _ (λ v final. refl) (present_any e))
   expr_unnamed (tree.await_expr at location e) =
       ends_unnamed (part_any e) (λ i. ends_unnamed (correct_report_await at location) (λ u. stored_unnamed _ (Some at) (λ final. refl)))
   expr_unnamed (tree.cast_expr at e t) =

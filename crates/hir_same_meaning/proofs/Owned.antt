@@ -17,10 +17,10 @@ use Rattle.hir_lower_form.specs.Lowering.{Lowering, ◌>>=◌}
 use Rattle.hir_lower_form.specs.Lower.{push_some, lower, lower_part, present, kept_part, lower_each, lower_block, lower_block_part}
 use Rattle.hir_lower_form.specs.Lower.{lower_fields, lower_field, lower_spread, lower_stmts, lower_arms, lower_arm, lower_guard}
 use Rattle.hir_lower_form.specs.Lower.{lower_target, lower_targets, lower_target_fields, lower_target_field, present_block}
-use Rattle.hir_lower_form.specs.Lower.{stored_leaf, stored_unary, stored_binary, stored_lazy, stored_leaving}
+use Rattle.hir_lower_form.specs.Lower.{stored_leaf, stored_unary, stored_binary, stored_lazy, stored_leaving, no_closure_params}
 use Rattle.hir_lower_form.specs.Pats.{Elements, no_elements}
 use Rattle.hir_same_meaning.specs.Reached.{of_each, of_fields, of_others, of_arms}
-use Rattle.hir_steps.proofs.Keeping.{constant_any, lower_path_any}
+use Rattle.hir_steps.proofs.Keeping.{constant_any, lower_path_any, params_any, part_any, present_type_any}
 use Rattle.hir_steps.proofs.Steps.{Correct, correct_bind, correct_as, correct_pure, correct_report}
 use Rattle.hir_same_meaning.proofs.Forms.{Pushed, pushed_none, correct_statement}
 use Rattle.hir_same_meaning.proofs.OwningPats as Pats
@@ -28,7 +28,7 @@ use Rattle.hir_same_meaning.proofs.Owning.{OwnsAs, Owns, OwnsSome, owns_none, le
 use Rattle.hir_same_meaning.proofs.Owning.{unary_below, binary_below, leaving_below, of_field, contents_owns, operand_owns}
 use Rattle.hir_same_meaning.proofs.Owning.{operands_owns, value_owns, list_owns, method_call_owns, cast_owns, offset_of_owns, record_owns}
 use Rattle.hir_same_meaning.proofs.Owning.{field_owns, await_owns, nameless_owns, if_owns, call_owns, loop_owns, turn_owns}
-use Rattle.hir_same_meaning.proofs.Owning.{break_owns, repeat_owns, const_owns}
+use Rattle.hir_same_meaning.proofs.Owning.{break_owns, repeat_owns, const_owns, closure_owns, yield_owns}
 use Rattle.hir_same_meaning.proofs.Owning.{continue_owns, paren_owns, path_owns, kept_owns, disabled_owns, each_more, fields_more}
 use Rattle.hir_same_meaning.proofs.Owning.{fields_own_all, Filled, filled_end, filled_held, filled_none, filled_silent, filled_expr}
 use Rattle.hir_same_meaning.proofs.Owning.{block_owns, each_owns_all}
@@ -65,6 +65,8 @@ mutual
   expr_owns (tree.list_expr at form es) = list_owns at form (each_owns_all (each_owns es []))
   expr_owns (tree.repeat_expr at e c) = repeat_owns at (part_owns e) (constant_any c)
   expr_owns (tree.const_expr at c) = const_owns at (constant_any c)
+  expr_owns (tree.closure_expr at moves is_static ps t e) =
+      closure_owns at moves is_static (params_any no_closure_params ps) (present_type_any t) (part_any e)
   expr_owns (tree.method_call_expr at e name es generics) =
       method_call_owns at name generics (part_owns e) (each_owns_all (each_owns es []))
   expr_owns (tree.cast_expr at e t) = cast_owns at t (part_owns e)
@@ -72,7 +74,7 @@ mutual
   expr_owns (tree.offset_of_expr at t names) = offset_of_owns at t names
   expr_owns (tree.leaving_expr at form e) = value_owns at (stored_leaving form) (leaving_below form) (present_owns e)
   expr_owns (tree.become_expr at e) = operand_owns at hir.Become (λ f s i. refl) (part_owns e)
-  expr_owns (tree.yield_expr at e) = value_owns at hir.Yield (λ f s o. refl) (present_owns e)
+  expr_owns (tree.yield_expr at e) = yield_owns at (present_owns e)
   expr_owns (tree.await_expr at location e) = await_owns at location (part_owns e)
   expr_owns (tree.nameless_expr at e) = nameless_owns at (part_owns e)
   expr_owns (tree.let_expr at p e) = Pats.let_owns at p (part_owns e)

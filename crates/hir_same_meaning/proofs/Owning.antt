@@ -16,6 +16,7 @@ use Rattle.hir_store.specs.declared.type_ref.ConstRef.{ConstRef}
 use Rattle.hir_store.specs.declared.hir.RecordLitField.{RecordLitField}
 use Rattle.hir_store.specs.declared.hir.RecordSpread.{RecordSpread}
 use Rattle.hir_store.specs.declared.ids.ExprId.{ExprId}
+use Rattle.hir_store.specs.declared.ids.TypeRefId.{TypeRefId}
 use Rattle.hir_store.specs.declared.ids.LabelId.{LabelId}
 use Rattle.hir_store.specs.declared.ids.BlockId.{BlockId}
 use Rattle.hir_store.specs.declared.ids.HygieneId.{HygieneId}
@@ -35,9 +36,11 @@ use Rattle.hir_lower_form.specs.Lower.{StoredFields, type_part, args_part, cast_
 use Rattle.hir_lower_form.specs.Lower.{record_form, field_form}
 use Rattle.hir_lower_form.specs.Lower.{stored_leaf, stored_unary, stored_binary, stored_leaving}
 use Rattle.hir_lower_form.specs.Lower.{operand_form, operands_form, value_form, list_form, method_call_form, await_form}
-use Rattle.hir_lower_form.specs.Lower.{repeat_form, const_form}
+use Rattle.hir_lower_form.specs.declared.closures.ClosureParams.{ClosureParams}
+use Rattle.hir_lower_form.specs.Lower.{repeat_form, const_form, closure_form, yield_form}
 use Rattle.hir_same_meaning.specs.Reached.{of_some, of_each, of_fields, of_others, of_statement, of_statements, below, reached_to, Spread}
 use Rattle.hir_steps.proofs.Frames.{Frame, loop_at, block_at}
+use Rattle.hir_steps.proofs.Barriers.{correct_closure, correct_yield}
 use Rattle.hir_steps.proofs.Steps.{Mark, Grows, Put, Rel, Correct, AllocatedBy, correct_bind, correct_as, correct_pure}
 use Rattle.hir_steps.proofs.Steps.{correct_report, correct_report_await, correct_point, correct_enter_block, correct_alloc}
 use Rattle.hir_steps.proofs.Steps.{correct_opened, correct_target, correct_point_field}
@@ -189,6 +192,17 @@ module _ (at : Pointer) where
   unfolding const_form
   const_owns h = correct_as (correct_bind h (λ c. correct_alloc (hir.Const c) (Some at)))
       (λ final ps m m' i g row. owns_at m row.second (omega arith) (λ d le. spread_none m.nodes row.middle.nodes))
+
+  -- nor is what is in a closure, which runs when it is called
+  pub closure_owns : (moves is_static : Bool) {p : Lowering ClosureParams} {t : Lowering (Option TypeRefId)} {e : ExprSteps}
+      {P : Rel ClosureParams} {T : Rel (Option TypeRefId)} {S : Rel ExprId} → Correct p P → Correct t T → Correct e S
+      → Correct (closure_form at moves is_static p t e) Owns
+  closure_owns moves is_static hp ht he = correct_as (correct_closure at moves is_static hp ht he)
+      (λ final ps m m' i g row. owns_at m row.made (omega (row.to_params.nodes, row.to_ret.nodes, row.to_body.nodes, arith))
+      (λ d le. spread_none m.nodes row.left.nodes))
+
+  pub yield_owns : {p : Lowering (Option ExprId)} → Correct p OwnsSome → Correct (yield_form at p) Owns
+  yield_owns h = correct_yield at _ (value_owns hir.Yield (λ f s o. refl) h)
 
   pub method_call_owns : (name : Name) (g : OptionArgs) {p : ExprSteps} {q : Lowering (List ExprId)} → Correct p Owns
       → Correct q (OwnsAs of_each) → Correct (method_call_form at p name q (args_part g)) Owns

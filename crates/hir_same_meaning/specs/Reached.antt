@@ -71,6 +71,8 @@ module _ (f : ExprId → List ℕ) where
     -- the length is a body by itself, and so is what is in a const block
     below (hir.Array (array.Repeat e c)) = f e
     below (hir.Const c) = []
+    -- what is in a closure runs when it is called
+    below (hir.Closure args types ret body kind capture) = []
     below (hir.MethodCall e name generics es) = f e ++ of_each es
     below (hir.Cast e t) = f e
     below (hir.RecordLit p fields others) = of_fields fields ++ of_others others

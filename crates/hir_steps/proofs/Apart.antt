@@ -17,6 +17,7 @@ use Rattle.hir_store.specs.declared.ids.BlockId.{BlockId}
 use Rattle.hir_store.specs.declared.ids.ExprId.{ExprId}
 use Rattle.hir_store.specs.declared.ids.LabelId.{LabelId}
 use Rattle.hir_store.specs.declared.ids.PatId.{PatId}
+use Rattle.hir_store.specs.declared.ids.TypeRefId.{TypeRefId}
 use Rattle.hir_store.specs.declared.name.Name.{Name}
 use Rattle.hir_store.specs.declared.name.Name.TheVariants as name
 use Rattle.hir_store.specs.declared.pat.Binding.{Binding}
@@ -29,10 +30,13 @@ use Rattle.hir_lower_form.specs.Lowering.{Lowering, ◌>>=◌, pure, alloc_bindi
 use Rattle.hir_lower_form.specs.Lowering.{alloc_lifetime}
 use Rattle.hir_lower_form.specs.Lowering.{close, define, enter_block, jump_target, made_number, open_label, open_try, point, point_field}
 use Rattle.hir_lower_form.specs.Lowering.{point_pat_field, report, report_await, set_problem, try_target}
-use Rattle.hir_lower_form.specs.Lower.{ExprSteps, constant_form}
+use Rattle.hir_lower_form.specs.declared.closures.ClosureParams.{ClosureParams}
+use Rattle.hir_lower_form.specs.Forms.{stored_closure}
+use Rattle.hir_lower_form.specs.Lower.{ExprSteps, closure_form, constant_form}
 use Rattle.hir_lower_form.specs.Made.{made_binding, made_bind_form}
 use Rattle.hir_lower_form.specs.Ranges.{inner_form}
 use Rattle.hir_steps.specs.Keeps.{MadeApart, times_bound, times_labelled, times_made, times_named}
+use Rattle.hir_steps.proofs.Barriers.{correct_closure}
 use Rattle.hir_steps.proofs.Constants.{correct_constant, correct_inner, with_root}
 use Rattle.hir_steps.proofs.Frames.{Frame, rib, ribs}
 use Rattle.hir_steps.proofs.MadeSteps.{correct_alloc_made, correct_made_bind, correct_made_number, correct_opened_try, correct_try_target}
@@ -193,6 +197,14 @@ constant_apart h = correct_as (correct_constant h) (λ final ps m m' c g row.
     let still : (k : ℕ) → times_made k m'.stored ≡ times_made k row.left.stored =
     λ k. ⊎_elim (λ e. ap (times_made k) e) (λ e. ap (times_made k) e ∙ root_times c.expr row.left.stored k) row.stored in
     apart_trans (apart_of {qs = ps} {b = c} row.first) (apart_same row.left m' row.names still))
+
+pub closure_apart : (at : Pointer) (moves is_static : Bool) {p : Lowering ClosureParams} {t : Lowering (Option TypeRefId)} {e : ExprSteps}
+    → Correct p Apart → Correct t Apart → Correct e Apart → Correct (closure_form at moves is_static p t e) Apart
+closure_apart at moves is_static hp ht he = correct_as (correct_closure at moves is_static hp ht he) (λ final ps m m' i g row.
+    let node = stored_closure moves is_static row.params row.ret row.body row.yields in
+    apart_trans (apart_of {qs = ps} {b = i} row.in_params) (apart_trans (apart_of {qs = ps} {b = i} row.in_ret)
+    (apart_trans (apart_of {qs = ps} {b = i} row.in_body)
+    (apart_stored (with_expr node (Some at)) row.left m' row.made.names row.made.stored (λ s k. refl)))))
 
 -- names
 

@@ -29,6 +29,7 @@ use Rattle.hir_lower_form.specs.Made.{conversion, flow_arm_form, question_form, 
 use Rattle.hir_steps.proofs.Apart.{Apart, enter_block_apart, expr_apart, made_apart, named_apart}
 use Rattle.hir_steps.proofs.Apart.{opened_apart, opened_try_apart, point_apart, point_field_apart, pure_apart, report_apart}
 use Rattle.hir_steps.proofs.Apart.{report_await_apart, stored_pat_apart, jump_apart, then_apart, try_target_apart}
+use Rattle.hir_steps.proofs.Barriers.{correct_yield}
 use Rattle.hir_steps.proofs.Frames.{loop_at, block_at}
 use Rattle.hir_steps.proofs.Steps.{Correct}
 use Rattle.hir_env.specs.Answered.{ForItems, QuestionItems, IsWrittenLabel}
@@ -37,7 +38,8 @@ use Rattle.hir_store.specs.declared.ids.PatId.{PatId}
 use Rattle.hir_lower_form.specs.Made.{arm_for, done_arm_form, for_form, for_turn_form, gives_arm_form, made_loop_form, made_reference_form}
 use Rattle.hir_lower_form.specs.Made.{next_form}
 use Rattle.hir_store.specs.declared.ids.LangItemId.{LangItemId}
-use Rattle.hir_lower_form.specs.Lower.{settled, repeat_form, const_form}
+use Rattle.hir_lower_form.specs.declared.closures.ClosureParams.{ClosureParams}
+use Rattle.hir_lower_form.specs.Lower.{settled, repeat_form, const_form, param_form, yield_form}
 use Rattle.hir_lower_form.specs.Lowering.{pure, alloc_pat}
 use Rattle.hir_lower_form.specs.Made.{item_pat}
 
@@ -122,6 +124,9 @@ module _ (at : Pointer) where
   unfolding const_form
   const_apart h = then_apart h (λ c. stored_apart _ at)
 
+  pub yield_apart : {e : Lowering (Option ExprId)} → Correct e Apart → Correct (yield_form at e) Apart
+  yield_apart h = correct_yield at _ (value_apart hir.Yield h)
+
   pub method_call_apart : {e : ExprSteps} (name : Name) {xs : Lowering (List ExprId)} {as' : Lowering (Option GenericArgs)}
       → Correct e Apart → Correct xs Apart → Correct as' Apart → Correct (method_call_form at e name xs as') Apart
   unfolding method_call_form
@@ -178,15 +183,15 @@ module _ (at : Pointer) where
       (λ b. then_apart (flow_arm_apart items.goes_on made_path_apart)
       (λ a. then_apart (flow_arm_apart items.breaks (residual_apart items)) (λ c. stored_apart _ at))))
 
-  next_apart : (item : LangItemId) (n : ℕ) → Correct (next_form at item n) Apart
+  pub next_apart : (item : LangItemId) (n : ℕ) → Correct (next_form at item n) Apart
   unfolding next_form made_reference_form
   next_apart item n = then_apart (then_apart (made_path_apart n) (λ e. made_apart _ (Some at))) (λ r. item_call_apart (Some item) r)
 
-  done_arm_apart : (item : LangItemId) → Correct (done_arm_form at item) Apart
+  pub done_arm_apart : (item : LangItemId) → Correct (done_arm_form at item) Apart
   unfolding done_arm_form
   done_arm_apart item = then_apart (stored_pat_apart _ None) (λ p. then_apart (made_apart _ (Some at)) (λ e. pure_apart _))
 
-  gives_arm_apart : (item : LangItemId) (p : PatId) {b : ExprSteps} → Correct b Apart → Correct (gives_arm_form item p b) Apart
+  pub gives_arm_apart : (item : LangItemId) (p : PatId) {b : ExprSteps} → Correct b Apart → Correct (gives_arm_form item p b) Apart
   unfolding gives_arm_form
   gives_arm_apart item p h = then_apart (stored_pat_apart _ None) (λ q. then_apart h (λ e. pure_apart _))
 
@@ -202,7 +207,7 @@ module _ (at : Pointer) where
   made_loop_apart None w h = then_apart h (λ i. made_apart _ (Some at))
   made_loop_apart (Some l) w h = opened_apart loop_at l w (λ n ps. refl) (λ n. h) (λ n i. made_apart _ (Some at))
 
-  value_or_unit_apart : (tail : Option ExprId) → Correct (value_or_unit at tail) Apart
+  pub value_or_unit_apart : (tail : Option ExprId) → Correct (value_or_unit at tail) Apart
   unfolding value_or_unit
   value_or_unit_apart (Some e) = pure_apart e
   value_or_unit_apart None = made_apart _ (Some at)
@@ -232,6 +237,11 @@ for_apart at head_at items label w {b = b} hh hp hb = then_apart hh (λ h. then_
     (λ i. then_apart hp (λ p. named_apart Mutable {A = Unit {0}} {p = pure tt}
     {f = λ n u q. made_loop_form at label (for_turn_form at items n p b) >>= (λ l. alloc_expr (hir.Match i (arm_for q l ∷ [])) (Some at))}
     (pure_apart tt) (λ n u q. then_apart (made_loop_apart at label w (for_turn_apart at items n p hb)) (λ l. stored_apart _ at)))))
+
+pub param_apart : (l : ClosureParams) {p : Lowering PatId} {t : Lowering (Option TypeRefId)} → Correct p Apart → Correct t Apart
+    → Correct (param_form l p t) Apart
+unfolding param_form
+param_apart l hp ht = then_apart hp (λ i. then_apart ht (λ r. pure_apart _))
 
 pub contents_apart : {fs : Lowering (List RecordLitField)} {s : Lowering RecordSpread} → Correct fs Apart → Correct s Apart
     → Correct (record_contents fs s) Apart

@@ -80,7 +80,7 @@ elements_apart comma es = then_apart (dots_apart comma es.1) (λ place. then_apa
 
 -- ---- records
 
-named_apart : (at : Pointer) (n : Option Name) (i : PatId) → Correct (forms.named_part at n i) Apart
+pub named_apart : (at : Pointer) (n : Option Name) (i : PatId) → Correct (forms.named_part at n i) Apart
 named_apart at None i = pure_apart None
 named_apart at (Some n) i = then_apart (point_pat_field_apart i at) (λ u. pure_apart _)
 

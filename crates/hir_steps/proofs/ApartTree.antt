@@ -10,19 +10,20 @@ use Rattle.hir_store.specs.declared.ids.ExprId.{ExprId}
 use Rattle.hir_env.specs.Answered as tree
 use Rattle.hir_env.specs.Answered.{Expr, OptionExpr, Exprs, Fields, Field, Spread, Block, OptionBlock}
 use Rattle.hir_env.specs.Answered.{Stmts, Stmt, Arms, Arm, Guard, Pat, OptionPat, Pats, PatFields, PatField, Side, OptionTypePat}
-use Rattle.hir_env.specs.Answered.{TypePat, TypePats, Limit, Target, Targets, TargetFields, TargetField}
+use Rattle.hir_env.specs.Answered.{TypePat, TypePats, Limit, Param, Params, Target, Targets, TargetFields, TargetField}
 use Rattle.hir_env.specs.Answered.{Binder, Type_, OptionType, Parts, Path as TreePath, OptionPath, Segments, Segment, SegmentArgs}
 use Rattle.hir_env.specs.Answered.{OptionParens, OptionRet, OptionArgs, Args, Arg, Bounds, Bound, Constant}
 use Rattle.hir_store.specs.declared.ids.TypeRefId.{TypeRefId}
 use Rattle.hir_store.specs.declared.type_ref.TypeBound.{TypeBound}
 use Rattle.hir_lower_form.specs.declared.args.ArgLists.{ArgLists}
+use Rattle.hir_lower_form.specs.declared.closures.ClosureParams.{ClosureParams}
 use Rattle.hir_lower_form.specs.declared.walk.PathWalk.{PathWalk}
 use Rattle.hir_lower_form.specs.declared.walk.Reading.TheVariants.{Open}
 use Rattle.hir_lower_form.specs.Walks.{start, at_first, super_read, path_read}
 use Rattle.hir_lower_form.specs.Types.{no_lists}
 use Rattle.hir_lower_form.specs.Lower.{lower_type, type_part, present_type, type_or_unit, lower_parts, read_segment, read_each, read_path}
 use Rattle.hir_lower_form.specs.Lower.{read_option, lower_path, lower_segment_args, parens_part, output_part, args_part, lower_args}
-use Rattle.hir_lower_form.specs.Lower.{lower_arg, lower_bounds, lower_bound, lower_constant}
+use Rattle.hir_lower_form.specs.Lower.{lower_arg, lower_bounds, lower_bound, lower_constant, lower_param, lower_params, no_closure_params}
 use Rattle.hir_lower_form.specs.Lowering.{Lowering}
 use Rattle.hir_lower_form.specs.Lower.{lower_fields, lower_field, lower_spread}
 use Rattle.hir_lower_form.specs.Lower.{lower, lower_part}
@@ -32,7 +33,7 @@ use Rattle.hir_lower_form.specs.Lower.{present_pat, lower_pats, lower_elements, 
 use Rattle.hir_lower_form.specs.Lower.{lower_pat_field, lower_side, lower_type_pat_part, lower_type_pat, lower_type_pats, lower_limit}
 use Rattle.hir_lower_form.specs.Lower.{limit_side, lower_target, lower_targets, lower_target_fields, lower_target_field}
 use Rattle.hir_lower_form.specs.Pats.{Table, no_names, next_alternative, Elements, no_elements, is_dots}
-use Rattle.hir_steps.proofs.Apart.{Apart, constant_apart, inner_apart}
+use Rattle.hir_steps.proofs.Apart.{Apart, closure_apart, constant_apart, inner_apart}
 use Rattle.hir_steps.proofs.Apart.{pure_apart, report_apart}
 use Rattle.hir_steps.proofs.Apart.{stored_pat_apart, stored_type_apart, then_apart}
 use Rattle.hir_steps.proofs.ApartPats.{alone_apart, arm_apart, array_target_apart, assign_apart, before_apart, bind_apart}
@@ -52,7 +53,7 @@ use Rattle.hir_steps.proofs.ApartForms.{missing_apart, stored_apart, some_apart,
 use Rattle.hir_steps.proofs.ApartForms.{continue_apart, break_apart, paren_apart, path_apart, operand_apart, operands_apart, value_apart}
 use Rattle.hir_steps.proofs.ApartForms.{list_apart, method_call_apart, cast_apart, offset_of_apart, record_apart, field_apart, await_apart}
 use Rattle.hir_steps.proofs.ApartForms.{block_form_apart, question_apart, try_apart, typed_try_apart, contents_apart, labelled_apart}
-use Rattle.hir_steps.proofs.ApartForms.{for_apart, kept_apart, repeat_apart, const_apart}
+use Rattle.hir_steps.proofs.ApartForms.{for_apart, kept_apart, repeat_apart, const_apart, param_apart, yield_apart}
 
 mutual
   pub one_type_apart : (b : Option Binder) (t : Type_) → Correct (lower_type b t) Apart
@@ -107,7 +108,7 @@ mutual
   segments_apart tree.no_segments w = pure_apart (Open w)
   segments_apart (tree.more_segments s ss) w = then_apart (segments_apart ss w) (λ r. proceed_apart r (λ v. segment_apart false s v))
 
-  reading_apart : (p : TreePath) (w : PathWalk) → Correct (read_path p w) Apart
+  pub reading_apart : (p : TreePath) (w : PathWalk) → Correct (read_path p w) Apart
   reading_apart (tree.path leading first rest use_) w =
       whole_apart (then_apart (segments_apart rest w) (λ r. proceed_apart r (λ v. segment_apart true first (at_first leading v))))
       (λ v. outer_apart use_ v)
@@ -164,7 +165,7 @@ mutual
 
   -- expressions
 
-  node_apart : (e : Expr) → Correct (lower e) Apart
+  pub node_apart : (e : Expr) → Correct (lower e) Apart
   node_apart (tree.disabled_expr at by e) = then_apart (report_apart _) (λ u. missing_apart)
   node_apart (tree.if_expr at c t e) = if_apart at (part_apart c) (block_part_apart t) (present_apart e)
   node_apart (tree.block_expr b) = block_apart b
@@ -191,6 +192,8 @@ mutual
   node_apart (tree.list_expr at form es) = list_apart at form (each_apart [] es)
   node_apart (tree.repeat_expr at e c) = repeat_apart at (part_apart e) (a_constant_apart c)
   node_apart (tree.const_expr at c) = const_apart at (a_constant_apart c)
+  node_apart (tree.closure_expr at moves is_static xs r e) =
+      closure_apart at moves is_static (params_apart no_closure_params xs) (present_type_apart r) (part_apart e)
   node_apart (tree.method_call_expr at e name es generics) =
       method_call_apart at name (part_apart e) (each_apart [] es) (args_apart generics)
   node_apart (tree.cast_expr at e t) = cast_apart at (part_apart e) (type_apart None t)
@@ -198,13 +201,21 @@ mutual
   node_apart (tree.offset_of_expr at t names) = offset_of_apart at names (type_apart None t)
   node_apart (tree.leaving_expr at form e) = value_apart at _ (present_apart e)
   node_apart (tree.become_expr at e) = operand_apart at _ (part_apart e)
-  node_apart (tree.yield_expr at e) = value_apart at _ (present_apart e)
+  node_apart (tree.yield_expr at e) = yield_apart at (present_apart e)
   node_apart (tree.await_expr at location e) = await_apart at location (part_apart e)
   node_apart (tree.nameless_expr at e) = operand_apart at _ (part_apart e)
   node_apart (tree.let_expr at p e) = let_apart at (top_apart p) (part_apart e)
   node_apart (tree.match_expr at e arms) = match_apart at (part_apart e) (arms_apart [] arms)
   node_apart (tree.range_expr at form s e) = range_apart at form (present_apart s) (present_apart e)
   node_apart (tree.assign_expr at own t v) = assign_apart at (target_apart t) (part_apart v)
+
+  pub params_apart : (l : ClosureParams) (xs : Params) → Correct (lower_params l xs) Apart
+  params_apart l tree.no_params = pure_apart l
+  params_apart l (tree.more_params x xs) = then_apart (one_param_apart l x) (λ m. params_apart m xs)
+
+  one_param_apart : (l : ClosureParams) (x : Param) → Correct (lower_param l x) Apart
+  one_param_apart l (tree.disabled_param at by x) = then_apart (report_apart _) (λ u. pure_apart l)
+  one_param_apart l (tree.param p t) = param_apart l (top_apart p) (present_type_apart t)
 
   pub part_apart : (e : OptionExpr) → Correct (lower_part e) Apart
   part_apart tree.no_expr = missing_apart
@@ -226,7 +237,7 @@ mutual
   fields_apart done tree.no_fields = pure_apart done
   fields_apart done (tree.more_fields f fs) = then_apart (one_field_apart f) (λ x. fields_apart _ fs)
 
-  one_field_apart : (f : Field) → Correct (lower_field f) Apart
+  pub one_field_apart : (f : Field) → Correct (lower_field f) Apart
   one_field_apart (tree.disabled_field at by f) = then_apart (report_apart _) (λ u. pure_apart None)
   one_field_apart (tree.nameless_field at e) = pure_apart None
   one_field_apart (tree.named_field at name e) = field_apart at name (part_apart e)
@@ -236,7 +247,7 @@ mutual
   spread_apart tree.field_defaults = pure_apart _
   spread_apart (tree.spread_of e) = then_apart (node_apart e) (λ i. pure_apart _)
 
-  block_apart : (b : Block) → Correct (lower_block b) Apart
+  pub block_apart : (b : Block) → Correct (lower_block b) Apart
   block_apart (tree.block at is_unsafe label w number ss e) =
       labelled_apart label w (λ n. block_form_apart at is_unsafe n number (stmts_apart [] ss (kept_part_apart e)))
 
@@ -249,13 +260,13 @@ mutual
   stmts_apart done tree.no_stmts h = then_apart h (λ t. pure_apart (done, t))
   stmts_apart done (tree.more_stmts s ss) h = then_apart (stmt_apart s) (λ x. stmts_apart _ ss h)
 
-  stmt_apart : (s : Stmt) → Correct (lower_stmt s) Apart
+  pub stmt_apart : (s : Stmt) → Correct (lower_stmt s) Apart
   stmt_apart (tree.expr_stmt e semi) = then_apart (kept_part_apart e) (λ x. pure_apart _)
   stmt_apart (tree.disabled_stmt at by s) = then_apart (report_apart _) (λ u. pure_apart None)
   stmt_apart tree.item_stmt = pure_apart _
   stmt_apart (tree.let_stmt p t e b) = let_stmt_apart (top_apart p) (present_type_apart t) (present_apart e) (present_block_apart b)
 
-  present_block_apart : (b : OptionBlock) → Correct (present_block b) Apart
+  pub present_block_apart : (b : OptionBlock) → Correct (present_block b) Apart
   present_block_apart tree.no_block = pure_apart None
   present_block_apart (tree.some_block b) = some_apart (block_apart b)
 
@@ -263,11 +274,11 @@ mutual
   arms_apart done tree.no_arms = pure_apart done
   arms_apart done (tree.more_arms a arms) = then_apart (one_arm_apart a) (λ x. arms_apart _ arms)
 
-  one_arm_apart : (a : Arm) → Correct (lower_arm a) Apart
+  pub one_arm_apart : (a : Arm) → Correct (lower_arm a) Apart
   one_arm_apart (tree.disabled_arm at by a) = then_apart (report_apart _) (λ u. pure_apart None)
   one_arm_apart (tree.arm p e g) = arm_apart (top_apart p) (part_apart e) (guard_apart g)
 
-  guard_apart : (g : Guard) → Correct (lower_guard g) Apart
+  pub guard_apart : (g : Guard) → Correct (lower_guard g) Apart
   guard_apart tree.no_guard = pure_apart None
   guard_apart (tree.guard e) = some_apart (part_apart e)
 
@@ -377,16 +388,16 @@ mutual
   target_apart (tree.record_target at p fs dots spread) =
       record_target_apart at dots spread (target_fields_apart [] fs) (lower_path_apart p)
 
-  targets_apart : (done : Elements) (ts : Targets) → Correct (lower_targets done ts) Apart
+  pub targets_apart : (done : Elements) (ts : Targets) → Correct (lower_targets done ts) Apart
   targets_apart done tree.no_targets = pure_apart done
   targets_apart done (tree.more_targets t ts) = then_apart (target_apart t) (λ i. targets_apart _ ts)
   targets_apart done (tree.dots_targets ts) = targets_apart _ ts
 
-  target_fields_apart : (done : List RecordFieldPat) (fs : TargetFields) → Correct (lower_target_fields done fs) Apart
+  pub target_fields_apart : (done : List RecordFieldPat) (fs : TargetFields) → Correct (lower_target_fields done fs) Apart
   target_fields_apart done tree.no_target_fields = pure_apart done
   target_fields_apart done (tree.more_target_fields f fs) = then_apart (one_target_field_apart f) (λ x. target_fields_apart _ fs)
 
-  one_target_field_apart : (f : TargetField) → Correct (lower_target_field f) Apart
+  pub one_target_field_apart : (f : TargetField) → Correct (lower_target_field f) Apart
   one_target_field_apart (tree.disabled_target_field at by) = then_apart (report_apart _) (λ u. pure_apart None)
   one_target_field_apart tree.partless_target_field = pure_apart None
   one_target_field_apart (tree.target_field at n t) = target_field_apart at n (target_apart t)

@@ -9,8 +9,8 @@ use Rattle.hir_store.proofs.Extending.{extends_root, extends_trans}
 use Rattle.hir_scope.specs.Ribs.{barrier_rib}
 use Rattle.hir_lower_scope.specs.Labels.{rest}
 use Rattle.hir_lower_form.specs.Builder.{Builder}
-use Rattle.hir_lower_form.specs.Lowering.{Checked, go_on, Lowering, ◌>>=◌, ◌>>◌, pure, open_barrier, enter_root, close, leave_root}
-use Rattle.hir_lower_form.specs.Lowering.{outside_root, record_root}
+use Rattle.hir_lower_form.specs.Lowering.{Checked, go_on, Lowering, ◌>>=◌, ◌>>◌, pure, open_barrier, enter_root, close_barrier}
+use Rattle.hir_lower_form.specs.Lowering.{leave_root, outside_root, record_root}
 use Rattle.hir_lower_form.specs.Lower.{ExprSteps, constant_form}
 use Rattle.hir_lower_form.specs.Ranges.{inner_form}
 use Rattle.hir_steps.proofs.Frames.{Frame, barrier_at}
@@ -30,8 +30,8 @@ pub record Inner (R : Rel ExprId) (final : Stored) (ps : List Frame) (m m' : Mar
   pub stored : (m'.stored ≡ left.stored) ⊎ (m'.stored ≡ with_root i left.stored)
 
 -- behind the barrier, in a root
-abbrev entered : Builder → Builder
-entered b = record b { scopes = barrier_rib ∷ b.scopes; in_root = true }
+abbrev pub entered : Builder → Builder
+entered b = record b { scopes = barrier_rib ∷ b.scopes; in_root = true; yields = false }
 
 module _ {A : Type 0} (make : ExprId → A) where
   -- the number, as what is made of it
@@ -40,13 +40,13 @@ module _ {A : Type 0} (make : ExprId → A) where
     is : a ≡ make number
     inner : Inner R final ps m m' number
 
-  -- what is done when its expression is there
-  abbrev leaving : Bool → ExprId → Lowering A
-  leaving outer id = close >> (leave_root outer id >> pure (make id))
+  -- what is done when its expression is there; whether a `yield` stood outside of it
+  abbrev pub leaving : Bool → Bool → ExprId → Lowering A
+  leaving outside outer id = close_barrier outside >> (leave_root outer id >> pure (make id))
 
   correct_behind : {p : ExprSteps} {R : Rel ExprId} → Correct p R
-      → Correct (open_barrier >> (enter_root >>= (λ outer. p >>= leaving outer))) (MadeOf R)
-  unfolding open_barrier enter_root close leave_root outside_root record_root storing.record_root
+      → Correct (open_barrier >>= (λ outside. enter_root >>= (λ outer. p >>= leaving outside outer))) (MadeOf R)
+  unfolding open_barrier enter_root close_barrier leave_root outside_root record_root storing.record_root
   correct_behind {p = p} {R = R} h = record {
     holds = λ final ps b r.
         by final ps b b.in_root refl (p (entered b)).0 (p (entered b)).1
@@ -55,7 +55,7 @@ module _ {A : Type 0} (make : ExprId → A) where
     where
       by : (final : Stored) (ps : List Frame) (b : Builder) (outer : Bool) → b.in_root ≡ outer → (o : Checked ExprId) (c : Builder)
           → Holds R final (barrier_at ∷ ps) (entered b) o c
-          → Holds (MadeOf R) final ps b (go_on o c (leaving outer)).0 (go_on o c (leaving outer)).1
+          → Holds (MadeOf R) final ps b (go_on o c (leaving b.yields outer)).0 (go_on o c (leaving b.yields outer)).1
       by final ps b true e (Ok i) c x = record {
         kept = record {
           scopes = ap rest x.kept.scopes;

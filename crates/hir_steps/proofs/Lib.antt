@@ -5,6 +5,12 @@ pub mod PatSteps
 pub mod Steps
 pub mod MadeSteps
 pub mod Constants
+pub mod Yields
+pub mod Opening
+pub mod Barriers
+pub mod StillTypes
+pub mod StillPats
+pub mod StillTree
 pub mod Aside
 pub mod Apart
 pub mod ApartTypes

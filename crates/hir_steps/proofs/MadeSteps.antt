@@ -223,7 +223,7 @@ rib_of typed n = try_rib n typed
 abbrev one_more_name : Builder → Builder
 one_more_name b = record b { names = suc b.names }
 
-opens_try : (at : Pointer) (typed : Bool) (b : Builder)
+pub opens_try : (at : Pointer) (typed : Bool) (b : Builder)
     → Opens 1 (rib_of typed) (made_label at b.names) b (open_try at typed b).0 (open_try at typed b).1
 unfolding open_try made_number count_out storing.alloc_label
 opens_try at typed b = go (nat_lt (suc b.names) (2 ^ 32))
@@ -262,7 +262,7 @@ module _ {A B C : Type 0} (p : Lowering C) (q : Lowering A) (f : A → Lowering 
       by (Ok u) c = refl
       by (Err e) c = refl
 
-behind : {A B : Type 0} (p : Lowering A) {f g : A → Lowering B} → ((a : A) (b : Builder) → f a b ≡ g a b)
+pub behind : {A B : Type 0} (p : Lowering A) {f g : A → Lowering B} → ((a : A) (b : Builder) → f a b ≡ g a b)
     → (b : Builder) → (p >>= f) b ≡ (p >>= g) b
 behind {A = A} p {f = f} {g = g} h b = by (p b).0 (p b).1
   where
@@ -270,7 +270,7 @@ behind {A = A} p {f = f} {g = g} h b = by (p b).0 (p b).1
     by (Ok a) c = h a c
     by (Err e) c = refl
 
-correct_like : {A : Type 0} {p q : Lowering A} {R : Rel A} → ((b : Builder) → p b ≡ q b) → Correct p R → Correct q R
+pub correct_like : {A : Type 0} {p q : Lowering A} {R : Rel A} → ((b : Builder) → p b ≡ q b) → Correct p R → Correct q R
 correct_like {R = R} e h = record { holds = λ final ps b r. subst (λ x. Holds R final ps b x.0 x.1) (e b) (h.holds final ps b r) }
 
 -- two things run in it

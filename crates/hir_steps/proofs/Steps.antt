@@ -439,7 +439,7 @@ correct_entered {A = A} {B = B} made opener at r l {p = p} {R = R} {f = f} {Q = 
         second final ps b c n e h (p n c).0 (p n c).1 ((hp n).holds final (at (l b.names) n ∷ ps) c in')
     first final ps b e (Err u) c h = h
 
-opens : (l : Label) (b : Builder) → Opens 0 (rib l) l b (open_label l b).0 (open_label l b).1
+pub opens : (l : Label) (b : Builder) → Opens 0 (rib l) l b (open_label l b).0 (open_label l b).1
 unfolding open_label storing.alloc_label
 opens l b = opens_as (rib l) l (nat_lt (length b.stored.labels.entries) b.stored.labels.limit) b
 

@@ -29,6 +29,9 @@ same_past exprs types lifetimes pats =
 pub join_assoc : (p q r : Past) → join p (join q r) ≡ join (join p q) r
 join_assoc p q r = same_past (omega arith) (omega arith) (omega arith) (omega arith)
 
+pub join_across : (p q r s : Past) → join (join p q) (join r s) ≡ join (join p r) (join q s)
+join_across p q r s = same_past (omega arith) (omega arith) (omega arith) (omega arith)
+
 pub join_nothing : (p : Past) → join p of.nothing ≡ join of.nothing p
 join_nothing p = same_past (omega arith) (omega arith) (omega arith) (omega arith)
 
@@ -41,6 +44,10 @@ each_push past (y ∷ xs) x =
 pub type_ids_push : (xs : List TypeRefId) (x : TypeRefId)
     → of.past_type_ids (xs ++ x ∷ []) ≡ join (of.past_type_ids xs) (of.past_type_id x)
 type_ids_push = each_push of.past_type_id
+
+pub type_options_push : (xs : List (Option TypeRefId)) (x : Option TypeRefId)
+    → of.past_type_options (xs ++ x ∷ []) ≡ join (of.past_type_options xs) (of.past_present of.past_type_id x)
+type_options_push = each_push (of.past_present of.past_type_id)
 
 pub pat_ids_push : (xs : List PatId) (x : PatId)
     → of.past_pat_ids (xs ++ x ∷ []) ≡ join (of.past_pat_ids xs) (of.past_pat_id x)

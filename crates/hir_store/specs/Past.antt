@@ -82,6 +82,10 @@ past_type_ids = past_each past_type_id
 abbrev pub past_pat_ids : List PatId → Past
 past_pat_ids = past_each past_pat_id
 
+-- a type each, where there is one
+abbrev pub past_type_options : List (Option TypeRefId) → Past
+past_type_options = past_each (past_present past_type_id)
+
 abbrev pub past_arg : GenericArg → Past
 past_arg (arg.Type_ id) = past_type_id id
 past_arg (arg.Lifetime id) = past_lifetime_id id

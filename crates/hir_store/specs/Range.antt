@@ -4,7 +4,8 @@ use Rattle.hir_store.specs.Arenas.{past, past_option}
 use Rattle.hir_store.specs.Stored.{Stored, Store, SourceMap, store_of}
 use Rattle.hir_store.specs.Past.{Past, Within, past_arg, past_arms, past_binding, past_bound, past_bounds, past_each, past_generic}
 use Rattle.hir_store.specs.Past.{past_pat, past_pat_fields, past_pat_id, past_pat_ids, past_pats, past_statement, past_statements}
-use Rattle.hir_store.specs.Past.{past_lifetime_id, past_path, past_present, past_type, past_type_id, past_type_ids, past_use_args}
+use Rattle.hir_store.specs.Past.{past_lifetime_id, past_path, past_present, past_type, past_type_id, past_type_ids}
+use Rattle.hir_store.specs.Past.{past_type_options, past_use_args}
 use Rattle.hir_store.specs.declared.hir.Expr.{Expr}
 use Rattle.hir_store.specs.declared.hir.Expr.TheVariants as hir
 use Rattle.hir_store.specs.declared.hir.Array.TheVariants as array
@@ -76,6 +77,7 @@ exprs_in (hir.BinaryOp op lhs rhs) = max (suc lhs.0) (suc rhs.0)
 exprs_in (hir.Assignment target value) = suc value.0
 exprs_in (hir.Index base index) = max (suc base.0) (suc index.0)
 exprs_in (hir.Ref rawness mutability e) = suc e.0
+exprs_in (hir.Closure args arg_types ret_type body kind capture) = suc body.0
 exprs_in (hir.Tuple es) = past past_expr es
 exprs_in (hir.Array (array.ElementList es)) = past past_expr es
 exprs_in (hir.Array (array.Repeat e c)) = max (suc e.0) (suc c.expr.0)
@@ -102,6 +104,8 @@ types_in (hir.Block is_unsafe label id ss tail) = (past_statements ss).types
 types_in (hir.Match e arms) = (past_arms arms).types
 types_in (hir.MethodCall receiver name generics es) = (past_present past_generic generics).types
 types_in (hir.RecordLit p fields spread) = (past_path p).types
+types_in (hir.Closure args arg_types ret_type body kind capture) =
+    max (past_type_options arg_types).types (past_present past_type_id ret_type).types
 types_in (hir.Cast e type_ref) = suc type_ref.0
 types_in (hir.OffsetOf container fields) = suc container.0
 types_in _ = 0
@@ -123,6 +127,7 @@ pats_in (hir.Match e arms) = (past_arms arms).pats
 pats_in (hir.MethodCall receiver name generics es) = (past_present past_generic generics).pats
 pats_in (hir.RecordLit p fields spread) = (past_path p).pats
 pats_in (hir.Assignment target value) = suc target.0
+pats_in (hir.Closure args arg_types ret_type body kind capture) = (past_pat_ids args).pats
 pats_in _ = 0
 
 -- the bindings that a pattern names
@@ -192,6 +197,9 @@ HasTypeOption s o = Has s (past_present past_type_id o)
 
 abbrev pub HasTypes : Stored → List TypeRefId → Type 0
 HasTypes s ids = Has s (past_type_ids ids)
+
+abbrev pub HasTypeOptions : Stored → List (Option TypeRefId) → Type 0
+HasTypeOptions s ids = Has s (past_type_options ids)
 
 abbrev pub HasConst : Stored → ConstRef → Type 0
 HasConst s c = HasExpr s c.expr

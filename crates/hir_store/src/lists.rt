@@ -6,7 +6,8 @@ ghost use Rattle.hir_store.specs.Range.{past_expr, past_field};
 ghost use Rattle.hir_store.specs.Past.{past_arm, past_arms, past_pat_field, past_pat_fields, past_pat_id, past_pat_ids};
 ghost use Rattle.hir_store.specs.Past.{past_statement, past_statements};
 ghost use Rattle.hir_store.specs.Past.{join, past_arg, past_arg_lists, past_args, past_binding, past_bindings, past_bound, past_bounds};
-ghost use Rattle.hir_store.specs.Past.{past_generic, past_present, past_type_id, past_type_ids, past_use_arg, past_use_args};
+ghost use Rattle.hir_store.specs.Past.{past_generic, past_present, past_type_id, past_type_ids, past_type_options, past_use_arg};
+ghost use Rattle.hir_store.specs.Past.{past_use_args};
 
 use crate::hir::{MatchArm, RecordFieldPat, RecordLitField, Statement};
 use crate::ids::{ExprId, PatId, TypeRefId};
@@ -81,6 +82,18 @@ pub fn push_arm(arms: &mut Seq<MatchArm>, arm: MatchArm) -> Result<(), AllocErro
 pub fn push_type(types: &mut Seq<TypeRefId>, ty: TypeRefId) -> Result<(), AllocError>
     ensures items { OnOk result (types.new ≡ types.old ++ ty ∷ []) }
     ensures past { OnOk result (past_type_ids types.new ≡ join (past_type_ids types.old) (past_type_id ty)) }
+{
+    types.push(ty)
+}
+
+/// Adds the type of a parameter, or that it has none, to those of a closure.
+#[tactic(auto, using(crate::proofs::Past::type_options_push))]
+pub fn push_type_option(
+    types: &mut Seq<Option<TypeRefId>>,
+    ty: Option<TypeRefId>,
+) -> Result<(), AllocError>
+    ensures items { OnOk result (types.new ≡ types.old ++ ty ∷ []) }
+    ensures past { OnOk result (past_type_options types.new ≡ join (past_type_options types.old) (past_present past_type_id ty)) }
 {
     types.push(ty)
 }

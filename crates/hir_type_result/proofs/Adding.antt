@@ -200,9 +200,10 @@ pub adds_then : {A B : Type 0} {bs : List ℕ} {was : Numbers} {cs : A → List 
 adds_then h k = correct_as (correct_bind h k) (λ final ps m m' b g row. adds_seq row)
 
 -- beside what was named
-pub adds_beside : {A : Type 0} {bs : List ℕ} {cs : A → List ℕ} {now : A → Numbers} {p : Lowering A} (more : Numbers)
-    → Correct p (Steps bs none cs now) → Correct p (Steps bs more cs (λ a l. more l ++ now a l))
-adds_beside {now = now} more h = correct_as h (λ final ps m m' a g row. record {
+pub added_beside : {A : Type 0} {bs : List ℕ} {cs : A → List ℕ} {now : A → Numbers} {final : Stored} {ps : List Frame} {m m' : Mark}
+    {a : A} (more : Numbers) → Grows m m' → Steps bs none cs now final ps m m' a
+    → Steps bs more cs (λ a l. more l ++ now a l) final ps m m' a
+added_beside {now = now} {final = final} {m = m} {m' = m'} {a = a} more g row = record {
   bound = λ lo le t w.
       let x = row.bound lo le t tt in record {
         known = x.known;
@@ -218,11 +219,17 @@ adds_beside {now = now} more h = correct_as h (λ final ps m m' a g row. record 
         deep = omega (arith, le, grows s g);
         counted = λ k. let e = x.counted k in let s = times_append k (more l) (now a l) in omega arith;
       };
-})
+}
+
+pub adds_beside : {A : Type 0} {bs : List ℕ} {cs : A → List ℕ} {now : A → Numbers} {p : Lowering A} (more : Numbers)
+    → Correct p (Steps bs none cs now) → Correct p (Steps bs more cs (λ a l. more l ++ now a l))
+adds_beside more h = correct_as h (λ final ps m m' a g row. added_beside more g row)
 
 -- what was named is still named where the answer names nothing
-pub adds_quiet : {A : Type 0} {was : Numbers} {p : Lowering A} → Correct p Quiet → Correct p (Adds was (λ a. was))
-adds_quiet {was = was} h = correct_as h (λ final ps m m' a g row. record {
+
+pub added_quiet : {A : Type 0} {was : Numbers} {final : Stored} {ps : List Frame} {m m' : Mark} {a : A} → Grows m m'
+    → Quiet final ps m m' a → Adds was (λ a. was) final ps m m' a
+added_quiet {was = was} {m = m} {m' = m'} g row = record {
   bound = λ lo le t w.
       let x = row.bound lo le t tt in record {
         known = tt;
@@ -236,7 +243,10 @@ adds_quiet {was = was} h = correct_as h (λ final ps m m' a g row. record {
         deep = omega (arith, le, grows s g);
         counted = λ k. let e = x.counted k in omega arith;
       };
-})
+}
+
+pub adds_quiet : {A : Type 0} {was : Numbers} {p : Lowering A} → Correct p Quiet → Correct p (Adds was (λ a. was))
+adds_quiet h = correct_as h (λ final ps m m' a g row. added_quiet g row)
 
 -- beside a table, which stays as it is
 pub framed : {A : Type 0} {bs : List ℕ} {was : Numbers} {now : A → Numbers} {p : Lowering A} → Correct p (Adds was now)
@@ -385,7 +395,7 @@ adds_lifetime l source = correct_as (correct_alloc_lifetime l source)
     (λ l k. omega arith))
 
 -- an expression names what was named, whether or not its node leads to it
-expr_adds : {was : Numbers} (e : HirExpr) {final : Stored} {ps : List Frame} {m m' : Mark} {i : ExprId} → Grows m m'
+pub expr_adds : {was : Numbers} (e : HirExpr) {final : Stored} {ps : List Frame} {m m' : Mark} {i : ExprId} → Grows m m'
     → m'.stored.pats.entries ≡ m.stored.pats.entries
     → ((s : Sort) (d k : ℕ) → named s final d m'.stored k ≡ times k (of_exprs (look s final d) (m.stored.exprs.entries ++ e ∷ []))
     + (times k (of_pats (look s final d) (chosen s m.stored.pats.entries)) + times k (of_types (look s final d) m.stored.types.entries)))

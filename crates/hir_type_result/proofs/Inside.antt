@@ -18,9 +18,10 @@ use Rattle.hir_env.specs.Answered.{OptionType, OptionPath, OptionArgs, Arms, Arm
 use Rattle.hir_env.specs.Answered.{Expr, OptionExpr, Exprs, Fields, Field, Spread as TreeSpread, Block, OptionBlock, Stmts, Stmt}
 use Rattle.hir_env.specs.Answered.{Binder, Type_, Parts, Path as TreePath, Segments, Segment, SegmentArgs, OptionParens, OptionRet}
 use Rattle.hir_env.specs.Answered.{Args, Arg, Bounds, Bound, Constant, TypePat, OptionTypePat, TypePats, Limit, Target, Targets}
-use Rattle.hir_env.specs.Answered.{TargetFields, TargetField}
+use Rattle.hir_env.specs.Answered.{TargetFields, TargetField, Param, Params}
 use Rattle.hir_env.specs.Targets.{head_pointer}
 use Rattle.hir_lower_form.specs.declared.args.ArgLists.{ArgLists}
+use Rattle.hir_lower_form.specs.declared.closures.ClosureParams.{ClosureParams}
 use Rattle.hir_lower_form.specs.declared.walk.PathWalk.{PathWalk}
 use Rattle.hir_lower_form.specs.declared.walk.Reading.TheVariants.{Open}
 use Rattle.hir_lower_form.specs.Builder.{Builder}
@@ -37,7 +38,7 @@ use Rattle.hir_lower_form.specs.Lower.{lower_bounds, lower_bound, lower_constant
 use Rattle.hir_lower_form.specs.Lower.{lower_top, lower_pat, pat_part, present_pat, lower_pats, lower_elements, lower_alternatives}
 use Rattle.hir_lower_form.specs.Lower.{lower_later, lower_pat_fields, lower_pat_field, lower_side, lower_type_pat_part, lower_type_pat}
 use Rattle.hir_lower_form.specs.Lower.{lower_type_pats, lower_limit, limit_side, lower_target, lower_targets, lower_target_fields}
-use Rattle.hir_lower_form.specs.Lower.{lower_target_field, push_some}
+use Rattle.hir_lower_form.specs.Lower.{lower_target_field, push_some, lower_param, lower_params, no_closure_params}
 use Rattle.hir_meaning.specs.Inner.{of_bound, of_present}
 use Rattle.hir_steps.specs.Keeps.{Paired}
 use Rattle.hir_steps.proofs.Steps.{Correct, correct_in_store, correct_report}
@@ -62,6 +63,7 @@ use Rattle.hir_type_result.proofs.InsideTypes.{super_adds, self_adds, at_first_a
 use Rattle.hir_type_result.proofs.InsideTypes.{args_form_adds, binding_adds, none_more, one_more, pattern_adds}
 use Rattle.hir_type_result.proofs.InsidePats as pats
 use Rattle.hir_type_result.proofs.InsideTargets as aims
+use Rattle.hir_type_result.proofs.InsideClosures as closures
 use Rattle.hir_type_result.proofs.InsideForms as forms
 use Rattle.hir_type_result.proofs.InsideMade as made
 use Rattle.hir_type_result.proofs.InsideFors.{for_adds}
@@ -247,6 +249,8 @@ mutual
   node_adds (tree.list_expr at form es) = forms.list_adds at form (each_expr_adds [] es)
   node_adds (tree.repeat_expr at e c) = forms.repeat_adds at (body_adds e) (constant_adds c)
   node_adds (tree.const_expr at c) = forms.const_adds at (constant_adds c)
+  node_adds (tree.closure_expr at moves is_static xs t e) =
+      closures.closure_adds at moves is_static (params_add no_closure_params xs) (present_adds t) (body_adds e)
   node_adds (tree.method_call_expr at e name es generics) =
       forms.method_call_adds at name (body_adds e) (each_expr_adds [] es) (args_add generics)
   node_adds (tree.cast_expr at e t) = forms.cast_adds at (body_adds e) (part_adds None t)
@@ -255,13 +259,21 @@ mutual
   node_adds (tree.offset_of_expr at t names) = forms.offset_of_adds at names (part_adds None t)
   node_adds (tree.leaving_expr at form e) = forms.value_adds at _ (forms.leaving_less form) (present_expr_adds e)
   node_adds (tree.become_expr at e) = forms.operand_adds at _ (λ i v. omega arith) (body_adds e)
-  node_adds (tree.yield_expr at e) = forms.value_adds at _ forms.value_less (present_expr_adds e)
+  node_adds (tree.yield_expr at e) = closures.yield_adds at (present_expr_adds e)
   node_adds (tree.await_expr at location e) = forms.await_adds at location (body_adds e)
   node_adds (tree.nameless_expr at e) = forms.operand_adds at _ (λ i v. omega arith) (body_adds e)
   node_adds (tree.let_expr at p e) = pats.let_adds at (top_adds p) (body_adds e)
   node_adds (tree.match_expr at e arms) = pats.match_adds at (body_adds e) (arms_add [] arms)
   node_adds (tree.range_expr at form low high) = pats.range_adds at form (present_expr_adds low) (present_expr_adds high)
   node_adds (tree.assign_expr at own target e) = aims.assign_adds at (target_adds target) (body_adds e)
+
+  params_add : (c : ClosureParams) (xs : Params) → Correct (lower_params c xs) (Adds (closures.params c) closures.params)
+  params_add c tree.no_params = adds_pure c (λ v. omega arith)
+  params_add c (tree.more_params x xs) = adds_then (one_param_adds c x) (λ d. params_add d xs)
+
+  one_param_adds : (c : ClosureParams) (x : Param) → Correct (lower_param c x) (Adds (closures.params c) closures.params)
+  one_param_adds c (tree.disabled_param at by x) = adds_then (adds_any (correct_report _)) (λ u. adds_pure c (λ v. omega arith))
+  one_param_adds c (tree.param p t) = closures.param_adds c (top_adds p) (present_adds t)
 
   pub body_adds : (e : OptionExpr) → Correct (lower_part e) (Adds free an_expr)
   body_adds tree.no_expr = missing_adds

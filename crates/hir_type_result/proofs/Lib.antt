@@ -5,6 +5,7 @@ pub mod Naming
 pub mod Owned
 pub mod OwnedPats
 pub mod NamingForms
+pub mod ClosureNaming
 pub mod NamingMade
 pub mod NamingFors
 pub mod TreeNamed
@@ -21,6 +22,7 @@ pub mod Weighed
 pub mod Weights
 pub mod InsideTypes
 pub mod InsideForms
+pub mod InsideClosures
 pub mod Fronts
 pub mod InsidePats
 pub mod InsideTargets

@@ -19,7 +19,7 @@ use Rattle.hir_env.specs.Answered.{Limit, OptionExpr}
 use Rattle.hir_scope.specs.Ribs.{barrier_rib}
 use Rattle.hir_lower_form.specs.Builder.{Builder}
 use Rattle.hir_lower_form.specs.Lowering.{Checked, go_on, Lowering, ◌>>=◌, ◌>>◌, pure, alloc_pat, alloc_type, alloc_lifetime, open_barrier}
-use Rattle.hir_lower_form.specs.Lowering.{enter_root, close, leave_root, outside_root, record_root, count_out}
+use Rattle.hir_lower_form.specs.Lowering.{enter_root, close_barrier, leave_root, outside_root, record_root, count_out}
 use Rattle.hir_lower_form.specs.Lower.{constant_form, lower_limit, lower_part}
 use Rattle.hir_lower_form.specs.Ranges.{inner_form}
 use Rattle.hir_meaning.specs.Inner.{Bodies, InnerBody, constant_body, limit_body}
@@ -282,29 +282,29 @@ module _ {A : Type 0} {p : Lowering A} (x : InnerBody) (b c : Builder) (a : A) (
 
 -- behind the barrier, in a root
 abbrev entered : Builder → Builder
-entered b = record b { scopes = barrier_rib ∷ b.scopes; in_root = true }
+entered b = record b { scopes = barrier_rib ∷ b.scopes; in_root = true; yields = false }
 
 module _ {A : Type 0} (make : ExprId → A) (x : InnerBody) where
-  abbrev leaving : Bool → ExprId → Lowering A
-  leaving outer id = close >> (leave_root outer id >> pure (make id))
+  abbrev leaving : Bool → Bool → ExprId → Lowering A
+  leaving outside outer id = close_barrier outside >> (leave_root outer id >> pure (make id))
 
   abbrev behind : Lowering A
-  behind = open_barrier >> (enter_root >>= (λ outer. contents x >>= leaving outer))
+  behind = open_barrier >>= (λ outside. enter_root >>= (λ outer. contents x >>= leaving outside outer))
 
   notes_behind : Correct (contents x) Any → Correct behind Any
       → ((b c : Builder) (i : ExprId) → Paired b.stored → behind b ≡ (Ok (make i), c) → (later : Stored) → Extends c.stored later
       → Facts x b.stored c.stored i later) → Notes (x ∷ []) behind
-  unfolding open_barrier enter_root close leave_root outside_root record_root storing.record_root
+  unfolding open_barrier enter_root close_barrier leave_root outside_root record_root storing.record_root
   notes_behind any_inside any_all facts = record {
     notes = λ b. by b b.in_root refl (contents x (entered b)).0 (contents x (entered b)).1 refl (kept_by any_inside (entered b))
         (kept_by any_all b) (facts b);
   }
     where
       by : (b : Builder) (outer : Bool) → b.in_root ≡ outer → (o : Checked ExprId) (c : Builder) → contents x (entered b) ≡ (o, c)
-          → Keeps (entered b) o c → Keeps b (go_on o c (leaving outer)).0 (go_on o c (leaving outer)).1
-          → ((d : Builder) (i : ExprId) → Paired b.stored → go_on o c (leaving outer) ≡ (Ok (make i), d) → (later : Stored)
+          → Keeps (entered b) o c → Keeps b (go_on o c (leaving b.yields outer)).0 (go_on o c (leaving b.yields outer)).1
+          → ((d : Builder) (i : ExprId) → Paired b.stored → go_on o c (leaving b.yields outer) ≡ (Ok (make i), d) → (later : Stored)
           → Extends d.stored later → Facts x b.stored d.stored i later)
-          → Noted (x ∷ []) b (go_on o c (leaving outer)).0 (go_on o c (leaving outer)).1
+          → Noted (x ∷ []) b (go_on o c (leaving b.yields outer)).0 (go_on o c (leaving b.yields outer)).1
       by b true in' (Ok i) c is inner kept facts = record {
         kept = kept;
         settled = λ d. root_settles x (entered b) c i d is;
@@ -312,7 +312,7 @@ module _ {A : Type 0} (make : ExprId → A) (x : InnerBody) where
       }
       by b false in' (Ok i) c is inner kept facts =
           let root = root_at (store_of c.stored) i in
-          let left = (go_on {B = A} (Ok i) c (leaving false)).1 in record {
+          let left = (go_on {B = A} (Ok i) c (leaving b.yields false)).1 in record {
             kept = kept;
             settled = λ d. root_settles x (entered b) c i d is;
             noted = λ outside d later e.

@@ -17,8 +17,10 @@ use Rattle.hir_env.specs.Answered.{OptionType, OptionPath, OptionArgs, Arms, Arm
 use Rattle.hir_env.specs.Answered.{Expr, OptionExpr, Exprs, Fields, Field, Spread as TreeSpread, Block, OptionBlock, Stmts, Stmt}
 use Rattle.hir_env.specs.Answered.{Binder, Type_, Parts, Path as TreePath, Segments, Segment, SegmentArgs, OptionParens, OptionRet}
 use Rattle.hir_env.specs.Answered.{Args, Arg, Bounds, Bound, Constant, TypePat, OptionTypePat, TypePats, Limit, Target, Targets}
-use Rattle.hir_env.specs.Answered.{TargetFields, TargetField}
+use Rattle.hir_env.specs.Answered.{TargetFields, TargetField, Param, Params}
 use Rattle.hir_lower_form.specs.declared.args.ArgLists.{ArgLists}
+use Rattle.hir_lower_form.specs.declared.closures.ClosureParams.{ClosureParams}
+use Rattle.hir_lower_form.specs.Lower.{lower_param, lower_params, no_closure_params}
 use Rattle.hir_lower_form.specs.declared.walk.PathWalk.{PathWalk}
 use Rattle.hir_lower_form.specs.declared.walk.Reading.TheVariants.{Open}
 use Rattle.hir_lower_form.specs.Lowering.{Lowering, ◌>>=◌, pure}
@@ -57,6 +59,7 @@ use Rattle.hir_type_result.proofs.NamingMade.{question_quiet, try_block_quiet, t
 use Rattle.hir_type_result.proofs.NamingFors.{for_quiet}
 use Rattle.hir_env.specs.Targets.{head_pointer}
 use Rattle.hir_type_result.proofs.NamingForms.{call_quiet, continue_quiet, break_quiet, paren_quiet, operand_quiet, operands_quiet}
+use Rattle.hir_type_result.proofs.ClosureNaming.{closure_quiet, param_adds, params_named, yield_quiet}
 use Rattle.hir_type_result.proofs.NamingForms.{value_quiet, list_quiet, await_quiet, field_quiet, block_form_quiet, path_quiet, cast_quiet}
 use Rattle.hir_type_result.proofs.NamingForms.{offset_of_quiet, method_call_quiet, record_quiet, contents_quiet, labelled_quiet}
 use Rattle.hir_type_result.proofs.NamingForms.{kept_quiet, contents}
@@ -256,6 +259,8 @@ mutual
   node_quiet (tree.list_expr at form es) = list_quiet at form (each_quiet [] es)
   node_quiet (tree.repeat_expr at e c) = repeat_quiet at (part_quiet e) (constant_quiet c)
   node_quiet (tree.const_expr at c) = const_quiet at (constant_quiet c)
+  node_quiet (tree.closure_expr at moves is_static xs t e) =
+      closure_quiet at moves is_static (params_add no_closure_params xs) (present_adds t) (part_quiet e)
   node_quiet (tree.method_call_expr at e name es generics) =
       method_call_quiet at name (part_quiet e) (each_quiet [] es) (args_add generics)
   node_quiet (tree.cast_expr at e t) = cast_quiet at (part_quiet e) (part_adds None t)
@@ -263,13 +268,21 @@ mutual
   node_quiet (tree.offset_of_expr at t names) = offset_of_quiet at names (part_adds None t)
   node_quiet (tree.leaving_expr at form e) = value_quiet at _ (leaving_quiet form) (present_quiet e)
   node_quiet (tree.become_expr at e) = operand_quiet at _ (λ i f k. omega arith) (part_quiet e)
-  node_quiet (tree.yield_expr at e) = value_quiet at _ (λ v f k. omega arith) (present_quiet e)
+  node_quiet (tree.yield_expr at e) = yield_quiet at (present_quiet e)
   node_quiet (tree.await_expr at location e) = await_quiet at location (part_quiet e)
   node_quiet (tree.nameless_expr at e) = operand_quiet at _ (λ i f k. omega arith) (part_quiet e)
   node_quiet (tree.let_expr at p e) = pats.let_quiet at (top_adds p) (part_quiet e)
   node_quiet (tree.match_expr at e arms) = pats.match_quiet at (part_quiet e) (arms_add [] arms)
   node_quiet (tree.range_expr at form low high) = pats.range_quiet at form (present_quiet low) (present_quiet high)
   node_quiet (tree.assign_expr at own target e) = pats.assign_quiet at (target_adds target) (part_quiet e)
+
+  params_add : (c : ClosureParams) (xs : Params) → Correct (lower_params c xs) (Adds (params_named c) params_named)
+  params_add c tree.no_params = adds_pure c (λ l k. omega arith)
+  params_add c (tree.more_params x xs) = adds_then (one_param_adds c x) (λ d. params_add d xs)
+
+  one_param_adds : (c : ClosureParams) (x : Param) → Correct (lower_param c x) (Adds (params_named c) params_named)
+  one_param_adds c (tree.disabled_param at by x) = adds_then (adds_quiet (quiet_report _)) (λ u. adds_pure c (λ l k. omega arith))
+  one_param_adds c (tree.param p t) = param_adds c (top_adds p) (present_adds t)
 
   pub part_quiet : (e : OptionExpr) → Correct (lower_part e) Quiet
   part_quiet tree.no_expr = missing_quiet

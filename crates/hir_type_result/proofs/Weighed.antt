@@ -144,13 +144,14 @@ adds_pure a h = correct_as (correct_pure a) (λ final ps m m' b g row. rw (row.i
   };
 }))
 
-pub adds_then : {A B : Type 0} {was : Cost} {one : A → Cost} {now : B → Cost} {p : Lowering A} {q : A → Lowering B}
-    → Correct p (Adds was one) → ((a : A) → Correct (q a) (Adds (one a) now)) → Correct (p >>= q) (Adds was now)
-adds_then h k = correct_as (correct_bind h k) (λ final ps m m' b g row. record {
+-- one after another, whatever is open around them
+pub added_then : {A B : Type 0} {was : Cost} {one : A → Cost} {now : B → Cost} {final : Stored} {ps qs rs : List Frame} {m n m' : Mark}
+    {a : A} {b : B} → Grows n m' → Adds was one final ps m n a → Adds (one a) now final qs n m' b → Adds was now final rs m m' b
+added_then after first second = record {
   earlier = λ all number reach hold place d.
-      let y = row.second.earlier all number reach hold place d in
-      let x = row.first.earlier all number y.reach y.hold y.place (record {
-        all_of = omega (arith, d.all_of, row.after.nodes);
+      let y = second.earlier all number reach hold place d in
+      let x = first.earlier all number y.reach y.hold y.place (record {
+        all_of = omega (arith, d.all_of, after.nodes);
         deep = y.deep;
         inside = y.inside;
         placed = y.placed;
@@ -163,16 +164,25 @@ adds_then h k = correct_as (correct_bind h k) (λ final ps m m' b g row. record 
         placed = x.placed;
         counted = let a = x.counted in let b = y.counted in omega arith;
       };
-})
+}
+
+pub adds_then : {A B : Type 0} {was : Cost} {one : A → Cost} {now : B → Cost} {p : Lowering A} {q : A → Lowering B}
+    → Correct p (Adds was one) → ((a : A) → Correct (q a) (Adds (one a) now)) → Correct (p >>= q) (Adds was now)
+adds_then h k = correct_as (correct_bind h k) (λ final ps m m' b g row. added_then row.after row.first row.second)
 
 -- beside what was reached
-pub adds_beside : {A : Type 0} {now : A → Cost} {p : Lowering A} (more : Cost) → Correct p (Adds free now)
-    → Correct p (Adds more (λ a. beside more (now a)))
-adds_beside more h = correct_as h (λ final ps m m' a g row. record {
+
+pub added_beside : {A : Type 0} {now : A → Cost} {final : Stored} {ps : List Frame} {m m' : Mark} {a : A} (more : Cost) → Grows m m'
+    → Adds free now final ps m m' a → Adds more (λ a. beside more (now a)) final ps m m' a
+added_beside more g row = record {
   earlier = λ all number reach hold place d.
       let x = row.earlier all number reach hold place d in
       still_deep reach hold place g d (let e = x.counted in omega arith);
-})
+}
+
+pub adds_beside : {A : Type 0} {now : A → Cost} {p : Lowering A} (more : Cost) → Correct p (Adds free now)
+    → Correct p (Adds more (λ a. beside more (now a)))
+adds_beside more h = correct_as h (λ final ps m m' a g row. added_beside more g row)
 
 -- what is answered isn't looked at
 pub adds_any : {A : Type 0} {R : Rel A} {was : Cost} {p : Lowering A} → Correct p R → Correct p (Adds was (λ a. was))
@@ -298,34 +308,40 @@ unfolding unruns places_to
 adds_target p source h = adds_pat_as a_target (in_target p) p source (λ final all number reach hold place i here. rw here refl) h
 
 -- an expression reaches itself and what it names, with all places looked for, whether or not its node leads to it
+
+pub added_expr : {was : Cost} {put : Put} (e : HirExpr) {source : Option Pointer} {final : Stored} {ps qs : List Frame} {m m' : Mark}
+    {i : ExprId} → AllocatedBy put e source final qs m m' i → Grows m m' → m'.pats ≤ length final.pats.entries
+    → ((all number reach hold : ℕ)
+    → in_expr e (view final all number reach hold (length final.pats.entries))
+    ≤ was (view final all number reach hold (length final.pats.entries)))
+    → Adds was an_expr final ps m m' i
+unfolding unruns reached_to
+added_expr {was = was} e {final = final} {m = m} {m' = m'} {i = i} row g pats h =
+    record { earlier = λ all number reach hold place d. at_depth all number reach hold place d }
+  where
+    at_depth : (all number reach hold place : ℕ) → Deep m' all reach hold place
+        → Earlier was final m m' all number (an_expr i (view final all number reach hold place))
+    at_depth all number zero hold place d = absurd (omega (arith, d.deep, row.next))
+    at_depth all number (suc reach) zero place d = absurd (omega (arith, d.inside, row.next))
+    at_depth all number (suc reach) (suc hold) place d = record {
+      reach = reach;
+      hold = hold;
+      place = length final.pats.entries;
+      deep = omega (arith, d.deep, row.next);
+      inside = omega (arith, d.inside, row.next, g.entries);
+      placed = omega (arith, pats, g.pats);
+      counted =
+          let x = h all number reach hold in
+          let p = one_past number m.nodes in rw (row.number, row.here, row.next) (omega (arith, x, p));
+    }
+
 adds_expr_by : {was : Cost} {put : Put} {p : ExprSteps} (e : HirExpr) {source : Option Pointer} → Correct p (AllocatedBy put e source)
     → ((final : Stored) (all number reach hold : ℕ)
     → in_expr e (view final all number reach hold (length final.pats.entries))
     ≤ was (view final all number reach hold (length final.pats.entries)))
     → Correct p (Adds was an_expr)
-unfolding unruns reached_to
-adds_expr_by {was = was} e stored h = correct_as (correct_in_store stored) (λ final ps m m' i g row. record {
-  earlier = λ all number reach hold place d.
-      let r = row.rel in at_depth final m m' i all number reach hold place g row.pats d r.number r.here r.next;
-})
-  where
-    at_depth : (final : Stored) (m m' : Mark) (i : ExprId) (all number reach hold place : ℕ) → Grows m m'
-        → m'.pats ≤ length final.pats.entries → Deep m' all reach hold place → i.0 ≡ m.nodes
-        → slice_get final.exprs.entries m.nodes ≡ Some e → m'.nodes ≡ suc m.nodes
-        → Earlier was final m m' all number (an_expr i (view final all number reach hold place))
-    at_depth final m m' i all number zero hold place g pats d at here next = absurd (omega (arith, d.deep, next))
-    at_depth final m m' i all number (suc reach) zero place g pats d at here next = absurd (omega (arith, d.inside, next))
-    at_depth final m m' i all number (suc reach) (suc hold) place g pats d at here next = record {
-      reach = reach;
-      hold = hold;
-      place = length final.pats.entries;
-      deep = omega (arith, d.deep, next);
-      inside = omega (arith, d.inside, next, g.entries);
-      placed = omega (arith, pats, g.pats);
-      counted =
-          let x = h final all number reach hold in
-          let p = one_past number m.nodes in rw (at, here, next) (omega (arith, x, p));
-    }
+adds_expr_by e stored h =
+    correct_as (correct_in_store stored) (λ final ps m m' i g row. added_expr e row.rel g row.pats (h final))
 
 pub adds_expr_at : {was : Cost} (e : HirExpr) (source : Option Pointer)
     → ((final : Stored) (all number reach hold : ℕ)

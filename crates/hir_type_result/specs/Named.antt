@@ -60,6 +60,9 @@ module _ (l : Look) where
   of_expr (hir.Let p e) = l.pats p
   of_expr (hir.Match e arms) = of_each of_arm arms
   of_expr (hir.Assignment p e) = l.pats p
+  -- its parameters, and what it returns
+  of_expr (hir.Closure args types ret body kind capture) =
+      of_each l.pats args ++ (of_each (of_present l.types) types ++ of_present l.types ret)
   of_expr e = []
 
   abbrev pub of_exprs : List HirExpr → List ℕ

@@ -169,6 +169,18 @@ expr_row kind.OffsetOfExpr = record {
   groups = group.Expr ∷ [];
   fields = (codes "ty" ∶ sort.Part group.Type_) ∷ (codes "fields" ∶ sort.List group.Name) ∷ [];
 }
+expr_row kind.ClosureExpr = record {
+  word = codes "ClosureExpr";
+  groups = group.Expr ∷ [];
+  fields = (codes "params" ∶ sort.List group.Param)
+      ∷ (codes "ret" ∶ sort.Part group.Ret)
+      ∷ (codes "body" ∶ sort.Part group.Expr)
+      ∷ (codes "async" ∶ sort.NotYet)
+      ∷ (codes "gen" ∶ sort.NotYet)
+      ∷ (codes "move" ∶ sort.Flag)
+      ∷ (codes "static" ∶ sort.Flag)
+      ∷ [];
+}
 expr_row kind.CfgPredExpr = record {
   word = codes "CfgPredExpr";
   groups = group.Expr ∷ [];

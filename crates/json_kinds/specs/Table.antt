@@ -80,7 +80,7 @@ keywords = kind.Expr expr.ReturnExpr ∷ kind.Expr expr.BecomeExpr ∷ kind.Expr
 
 -- expressions with types or paths, and the parts of a record
 abbrev pub typed : List Kind
-typed = kind.Expr expr.CastExpr ∷ kind.Expr expr.RecordExpr ∷ kind.Expr expr.OffsetOfExpr
+typed = kind.Expr expr.CastExpr ∷ kind.Expr expr.RecordExpr ∷ kind.Expr expr.OffsetOfExpr ∷ kind.Expr expr.ClosureExpr
     ∷ kind.Part part.RecordExprFieldList ∷ kind.Part part.RecordExprField ∷ []
 
 -- what has patterns, and its parts

@@ -68,6 +68,7 @@ fn typed(word: &str) -> Option<Kind>
         "CastExpr" => Some(Kind::Expr(ExprNode::CastExpr)),
         "RecordExpr" => Some(Kind::Expr(ExprNode::RecordExpr)),
         "OffsetOfExpr" => Some(Kind::Expr(ExprNode::OffsetOfExpr)),
+        "ClosureExpr" => Some(Kind::Expr(ExprNode::ClosureExpr)),
         "RecordExprFieldList" => Some(Kind::Part(PartNode::RecordExprFieldList)),
         "RecordExprField" => Some(Kind::Part(PartNode::RecordExprField)),
         _ => None,

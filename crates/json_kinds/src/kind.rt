@@ -51,6 +51,7 @@ pub enum ExprNode {
     IndexExpr,
     RangeExpr,
     OffsetOfExpr,
+    ClosureExpr,
     CfgPredExpr,
     UnderscoreExpr,
     IncludeBytesExpr,

@@ -57,6 +57,10 @@ macro_rules! exprs {
             IndexExpr [Expr] { "base": Part(Expr), "index": Part(Expr) }
             RangeExpr [Expr] { "op": WordIfThere(Words::RangeOps), "start": Part(Expr), "end": Part(Expr) }
             OffsetOfExpr [Expr] { "ty": Part(Type_), "fields": List(Name) }
+            ClosureExpr [Expr] {
+                "params": List(Param), "ret": Part(Ret), "body": Part(Expr), "async": NotYet, "gen": NotYet, "move": Flag,
+                "static": Flag
+            }
             CfgPredExpr [Expr] { "pred": Number }
             UnderscoreExpr [Expr] {  }
             IncludeBytesExpr [Expr] {  }

@@ -7,15 +7,32 @@ ghost use Rattle.json_nodes.specs.Typed as spec;
 use crate::code_parts::{CodePart, ExprPart, Exprs, RecordFields, RecordLists};
 use crate::exprs::whole_expr;
 use crate::field::flag;
-use crate::fields::{All, Fields, InBox, One};
+use crate::fields::{All, AllIfThere, Fields, InBox, One};
 use crate::name_parts::Names;
-use crate::param_parts::{PatPart, Pats};
+use crate::param_parts::{Params, PatPart, Pats};
 use crate::path_parts::Paths;
-use crate::type_parts::Types;
+use crate::type_parts::{Rets, Types};
 use hir_syntax::ast::{ExprKind, RecordExprField, RecordExprFieldList, RecordPatField};
 use json_kinds::kind::{ExprNode, PartNode};
 
-/// Casts, records and offsets of fields.
+#[tactic(auto, unfolding(crate::specs::Typed::closure))]
+fn closure<F: Fields>(node: &F, refused: &mut bool) -> ExprKind
+    requires { F.can node.now }
+    ensures { Kept refused.old refused.new (result ≡ spec.closure (F.here node.now)) }
+{
+    let params = node.field::<AllIfThere<Params>>(refused, "params");
+    let ret = node.field::<One<Rets>>(refused, "ret");
+    let body = node.field::<InBox<Exprs>>(refused, "body");
+    ExprKind::ClosureExpr {
+        params,
+        ret,
+        body,
+        move_: flag(node.value(), "move"),
+        static_: flag(node.value(), "static"),
+    }
+}
+
+/// Casts, records, offsets of fields and closures.
 #[tactic(auto, unfolding(crate::specs::Typed::typed))]
 pub fn typed<F: Fields>(node: &F, refused: &mut bool, kind: ExprNode) -> Option<ExprPart>
     requires { F.can node.now }
@@ -36,6 +53,10 @@ pub fn typed<F: Fields>(node: &F, refused: &mut bool, kind: ExprNode) -> Option<
             let ty = node.field::<InBox<Types>>(refused, "ty");
             let fields = node.field::<All<Names>>(refused, "fields");
             whole_expr(node, refused, ExprKind::OffsetOfExpr { ty, fields })
+        }
+        ExprNode::ClosureExpr => {
+            let kind = closure(node, refused);
+            whole_expr(node, refused, kind)
         }
         _ => None,
     }

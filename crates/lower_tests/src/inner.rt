@@ -1,10 +1,10 @@
-//! What the nodes of `const` blocks and of repeat arrays lead to, and how much is stored for them.
+//! What the nodes of `const` blocks, repeat arrays and closures lead to, and how much is stored for them.
 
 use crate::lowered::lowered_text;
 use crate::ways::node;
 use hir_lower::{Body, BodySourceMap};
 use hir_store::hir::{Array, Expr};
-use hir_store::ids::ExprId;
+use hir_store::ids::{ExprId, PatId, TypeRefId};
 use lower_json::fault::ReadError;
 use std::alloc::Global;
 
@@ -25,13 +25,39 @@ const REPEAT: &str = r#"{"nodes": [
     {"k": "Literal", "lit": "int", "t": "3"}
 ]}"#;
 
+/// `fn f() { |x: A, x| 1 }`
+const CLOSURE: &str = r#"{"nodes": [
+    {"k": "Fn", "body": 1},
+    {"k": "BlockExpr", "tail": 2},
+    {"k": "ClosureExpr", "params": [3, 8], "body": 10},
+    {"k": "Param", "pat": 4, "ty": 5},
+    {"k": "IdentPat", "name": "x"},
+    {"k": "PathType", "path": 6},
+    {"k": "Path", "segs": [7]},
+    {"k": "PathSegment", "seg": "name", "name": "A"},
+    {"k": "Param", "pat": 9},
+    {"k": "IdentPat", "name": "x"},
+    {"k": "Literal", "lit": "int", "t": "1"}
+]}"#;
+
 /// What a node leads to, with the parts of it.
 #[derive(Clone, Copy, Debug, PartialEq)]
 enum Led {
     Nowhere,
     Const(ExprId),
     Repeat(ExprId, ExprId),
+    /// The patterns of the first two parameters, the types of these, and the body.
+    Closure([Option<PatId>; 2], [Option<TypeRefId>; 2], ExprId),
     Other,
+}
+
+fn pat_of(args: &[PatId], at: usize) -> Option<PatId> {
+    args.get(at).copied()
+}
+
+/// The type of a parameter, none where it has none.
+fn type_of(types: &[Option<TypeRefId>], at: usize) -> Option<TypeRefId> {
+    *types.get(at)?
 }
 
 fn led_to(body: &Body, source_map: &BodySourceMap) -> Led {
@@ -48,6 +74,22 @@ fn led_to(body: &Body, source_map: &BodySourceMap) -> Led {
                 },
             ),
         ) => Led::Repeat(*initializer, repeat.expr),
+        Some(
+            Expr::Closure {
+                args,
+                arg_types,
+                body,
+                ..
+            },
+        ) => {
+            let args = args.as_slice();
+            let types = arg_types.as_slice();
+            Led::Closure(
+                [pat_of(args, 0), pat_of(args, 1)],
+                [type_of(types, 0), type_of(types, 1)],
+                *body,
+            )
+        }
         _ => Led::Other,
     }
 }
@@ -79,4 +121,12 @@ fn a_const_block_leads_to_what_is_around_its_block(rt: HostRuntime) {
 fn a_repeat_array_is_stored_behind_its_length_which_is_no_root(rt: HostRuntime) {
     let became = (Led::Repeat(ExprId(0), ExprId(1)), 4, 1);
     assert_eq!(rt; became_in_text(rt.alloc(), REPEAT), Ok(Some(became)));
+}
+
+#[test]
+fn a_closure_has_a_pattern_for_each_parameter_and_is_no_root(rt: HostRuntime) {
+    let pats = [Some(PatId(0)), Some(PatId(1))];
+    let types = [Some(TypeRefId(0)), None];
+    let became = (Led::Closure(pats, types, ExprId(0)), 3, 1);
+    assert_eq!(rt; became_in_text(rt.alloc(), CLOSURE), Ok(Some(became)));
 }

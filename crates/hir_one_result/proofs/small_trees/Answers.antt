@@ -1,5 +1,5 @@
 use Rattle.hir_one_result.proofs.PatRows.{patterned}
-use Rattle.hir_one_result.proofs.Rows.{jumps, statements, enters_in_order, leaves, plain_forms, tries, fors, consts}
+use Rattle.hir_one_result.proofs.Rows.{jumps, statements, enters_in_order, leaves, plain_forms, tries, fors, consts, closures}
 use Rattle.hir_one_result.proofs.small_trees.Goals as goal
 
 pub returns-clause-jumps : goal.returns-clause-jumps
@@ -28,3 +28,6 @@ returns-clause-fors c = fors
 
 pub returns-clause-consts : goal.returns-clause-consts
 returns-clause-consts c = consts
+
+pub returns-clause-closures : goal.returns-clause-closures
+returns-clause-closures c = closures

@@ -1,7 +1,7 @@
 //! The parts of patterns and of what holds them, in the order in which they are printed.
 
 use super::waiting::{ABSENT, Piece, Waiting, expr_or_absent};
-use super::words::{mutability_word, range_word};
+use super::words::{capture_word, closure_word, mutability_word, range_word};
 use hir_store::hir::{Expr, MatchArm, Pat, RecordFieldPat, Statement};
 use hir_store::ids::{PatId, TypeRefId};
 use std::alloc::AllocError;
@@ -13,7 +13,7 @@ fn pat_or_absent(pat: Option<PatId>) -> Piece<'static> {
     }
 }
 
-fn type_or_absent(ty: Option<TypeRefId>) -> Piece<'static> {
+pub fn type_or_absent(ty: Option<TypeRefId>) -> Piece<'static> {
     match ty {
         Some(id) => Piece::Type_(id),
         None => ABSENT,
@@ -111,6 +111,20 @@ impl<'a> Waiting<'a> {
                 Piece::Pat(*target),
                 Piece::Expr(*value),
             ]),
+            Expr::Closure {
+                args,
+                arg_types,
+                ret_type,
+                body,
+                closure_kind,
+                capture_by,
+            } => self.push_parts(&[
+                Piece::Word(closure_word(*closure_kind)),
+                Piece::Word(capture_word(*capture_by)),
+                Piece::ClosureParamList(args.as_slice(), arg_types.as_slice()),
+                type_or_absent(*ret_type),
+                Piece::Expr(*body),
+            ]),
             _ => self.push_parts(&[]),
         }
     }
@@ -141,6 +155,19 @@ impl<'a> Waiting<'a> {
             Statement::Expr { expr, .. } => self.push_parts(&[Piece::Expr(*expr)]),
             Statement::Item => self.push_parts(&[]),
         }
+    }
+
+    /// Lets a list of the parameters of a closure wait.
+    pub fn push_closure_param_list(
+        &mut self,
+        pats: &'a [PatId],
+        types: &'a [Option<TypeRefId>],
+    ) -> Result<(), AllocError> {
+        self.push_all(&[
+            Piece::Word("["),
+            Piece::ClosureParams("", pats, types),
+            Piece::Word("]"),
+        ])
     }
 
     /// Lets a list of the fields of a record pattern wait.

@@ -1,6 +1,7 @@
 //! Printing of expressions, patterns and types.
 
 use super::numbering::Numbering;
+use super::pats::type_or_absent;
 use super::waiting::{Piece, Waiting, arg_piece};
 use super::words::{expr_word, lang_word, pat_word, statement_word};
 use super::writer::Writer;
@@ -203,8 +204,44 @@ impl<'a> Printer<'a> {
             Piece::Arms(arms) => self.arms("[", arms, "[]"),
             Piece::MoreArms(arms) => self.arms(" ", arms, "]"),
             Piece::Arm(arm) => self.open_arm(arm),
+            _ => self.closure_piece(piece),
+        }
+    }
+
+    /// A piece of the parameters of a closure, or of a path.
+    fn closure_piece(&mut self, piece: Piece<'a>) -> Result<(), AllocError> {
+        match piece {
+            Piece::ClosureParamList(pats, types) => {
+                self.waiting.push_closure_param_list(pats, types)
+            }
+            Piece::ClosureParams(before, pats, types) => self.closure_params(before, pats, types),
             _ => self.path_piece(piece),
         }
+    }
+
+    /// Prints what stands before the first of these, and lets it wait with its type, and the others.
+    fn closure_params(
+        &mut self,
+        before: &'static str,
+        pats: &'a [PatId],
+        types: &'a [Option<TypeRefId>],
+    ) -> Result<(), AllocError> {
+        let Some((first, pats)) = pats.split_first() else {
+            return Ok(());
+        };
+        let (ty, types) = match types.split_first() {
+            Some((ty, types)) => (*ty, types),
+            None => (None, types),
+        };
+        self.waiting.push_all(&[
+            Piece::Pat(*first),
+            Piece::Word(" "),
+            type_or_absent(ty),
+            Piece::Word(")"),
+            Piece::ClosureParams(" ", pats, types),
+        ])?;
+        self.writer.word(before)?;
+        self.writer.word("(")
     }
 
     /// Prints what stands before the first of these, and lets them wait.

@@ -65,6 +65,10 @@ pub enum Piece<'a> {
     TypeBinding(&'a AssociatedTypeBinding),
     Type_(TypeRefId),
     Types(&'static str, &'a [TypeRefId]),
+    /// The parameters of a closure as a list, and a type for each that has one.
+    ClosureParamList(&'a [PatId], &'a [Option<TypeRefId>]),
+    /// What stands before the first of these, and they.
+    ClosureParams(&'static str, &'a [PatId], &'a [Option<TypeRefId>]),
     /// The types of parameters, and the name of each that has one.
     Params(&'static str, &'a [TypeRefId], &'a [Option<Name>]),
     Lifetime(LifetimeRefId),
@@ -197,9 +201,10 @@ impl<'a> Waiting<'a> {
             Expr::Cast { .. } | Expr::RecordLit { .. } | Expr::OffsetOf { .. } => {
                 self.push_typed_parts(expr)
             }
-            Expr::Let { .. } | Expr::Match { .. } | Expr::Assignment { .. } => {
-                self.push_branch_parts(expr)
-            }
+            Expr::Let { .. }
+            | Expr::Match { .. }
+            | Expr::Assignment { .. }
+            | Expr::Closure { .. } => self.push_branch_parts(expr),
         }
     }
 

@@ -3,8 +3,8 @@
 use hir_env::lang::LangItems;
 use hir_store::diagnostics::{AwaitLocation, MissingBodyItemKind};
 use hir_store::hir::{
-    Array, BindingAnnotation, BindingProblems, Expr, LoopSource, Mutability, Pat, Rawness,
-    Statement,
+    Array, BindingAnnotation, BindingProblems, CaptureBy, ClosureKind, Expr, LoopSource,
+    Movability, Mutability, Pat, Rawness, Statement,
 };
 use hir_store::ids::LangItemId;
 use hir_store::type_ref::{ExternAbi, TypeRef};
@@ -32,6 +32,7 @@ pub fn expr_word(expr: &Expr) -> &'static str {
         Expr::Assignment { .. } => "Assignment",
         Expr::Index { .. } => "Index",
         Expr::Ref { .. } => "Ref",
+        Expr::Closure { .. } => "Closure",
         Expr::Tuple { .. } => "Tuple",
         Expr::Array(Array::ElementList { .. }) => "Array",
         Expr::Array(Array::Repeat { .. }) => "Repeat",
@@ -86,6 +87,21 @@ pub fn loop_word(source: LoopSource) -> &'static str {
         LoopSource::Loop => "loop",
         LoopSource::While => "while",
         LoopSource::ForLoop => "for",
+    }
+}
+
+pub fn closure_word(kind: ClosureKind) -> &'static str {
+    match kind {
+        ClosureKind::Closure => "closure",
+        ClosureKind::OldCoroutine(Movability::Movable) => "old:movable",
+        ClosureKind::OldCoroutine(Movability::Static) => "old:static",
+    }
+}
+
+pub fn capture_word(capture: CaptureBy) -> &'static str {
+    match capture {
+        CaptureBy::Ref => "ref",
+        CaptureBy::Value => "move",
     }
 }
 
@@ -250,6 +266,7 @@ pub fn await_word(location: AwaitLocation) -> &'static str {
         AwaitLocation::Constant => "diag AwaitOutsideOfAsync constant",
         AwaitLocation::EnumVariant => "diag AwaitOutsideOfAsync enum variant",
         AwaitLocation::ConstantBlock => "diag AwaitOutsideOfAsync constant block",
+        AwaitLocation::NonAsyncClosure => "diag AwaitOutsideOfAsync non-async closure",
         AwaitLocation::Unknown => "diag AwaitOutsideOfAsync unknown",
     }
 }

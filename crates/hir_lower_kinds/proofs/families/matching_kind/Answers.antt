@@ -18,6 +18,11 @@ for_form-requires g c =
     let parts = rw (opened (kind.rolls-ForExpr _ _ _ _ ∙ sym c.in-ForExpr.is)) at c.requires.parts in
     record { pat = parts.0; iterable = parts.1; body = parts.2 }
 
+pub closure_form-requires : goal.closure_form-requires
+closure_form-requires g c =
+    let parts = rw (opened (kind.rolls-ClosureExpr _ _ _ _ _ ∙ sym c.in-ClosureExpr.is)) at c.requires.parts in
+    record { params = parts.0; ret = parts.1; body = parts.2 }
+
 pub returns-in-LetExpr : goal.returns-in-LetExpr
 returns-in-LetExpr g c = rw (opened (kind.rolls-LetExpr _ _ ∙ sym c.in-LetExpr.is)) c.let_form.ensures
 
@@ -26,3 +31,6 @@ returns-in-MatchExpr g c = rw (opened (kind.rolls-MatchExpr _ _ ∙ sym c.in-Mat
 
 pub returns-in-ForExpr : goal.returns-in-ForExpr
 returns-in-ForExpr g c = rw (opened (kind.rolls-ForExpr _ _ _ _ ∙ sym c.in-ForExpr.is)) c.for_form.ensures
+
+pub returns-in-ClosureExpr : goal.returns-in-ClosureExpr
+returns-in-ClosureExpr g c = rw (opened (kind.rolls-ClosureExpr _ _ _ _ _ ∙ sym c.in-ClosureExpr.is)) c.closure_form.ensures

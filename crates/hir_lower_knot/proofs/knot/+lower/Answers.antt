@@ -119,6 +119,7 @@ read_path_segments-path_node-requires-clause-parts g t c =
     let size = ap count_path (path_is_level (spot_at env c.args.place) c.args.node.now) in
     kids_path env (record {
       expr = λ e. Unit {0};
+      inner = λ p e. Unit {0};
       block = λ p b. Unit {0};
       path = HandlesPath g.E.LowerEnv.answers _ _ c.args.env.now;
       type_ = HandlesType g.E.LowerEnv.answers _ _ c.args.env.now;
@@ -158,6 +159,7 @@ lower_type_node-type_node-requires g t c =
     let size = ap count_type (type_is_level at c.args.node.now) in
     kids_type env (record {
       expr = λ e. Unit {0};
+      inner = λ p e. Unit {0};
       block = λ p b. Unit {0};
       path = HandlesPath g.E.LowerEnv.answers _ _ c.args.env.now;
       type_ = HandlesType g.E.LowerEnv.answers _ _ c.args.env.now;
@@ -197,6 +199,7 @@ lower_arg_list-args_node-requires g t c =
     let env = complete (g.E.LowerEnv.answers c.args.env.now) in
     kids_args env (record {
       expr = HandlesExpr g.E.LowerEnv.answers _ _ c.args.env.now c.args.place;
+      inner = HandlesExpr g.E.LowerEnv.answers _ _ c.args.env.now;
       block = HandlesBlock g.E.LowerEnv.answers _ _ c.args.env.now;
       path = HandlesPath g.E.LowerEnv.answers _ _ c.args.env.now;
       type_ = HandlesType g.E.LowerEnv.answers _ _ c.args.env.now;

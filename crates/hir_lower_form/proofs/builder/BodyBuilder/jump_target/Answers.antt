@@ -11,6 +11,7 @@ returns-in-Ok g c =
       names = c.self.inside.names;
       counted_out = c.self.inside.counted_out;
       in_root = c.self.inside.in_root;
+      yields = c.self.inside.yields;
     } in
     let env = (g.P.LowerParts.spot c.args.parts.now).answers in
     let is = sym c.find_label.ensures ∙ c.in-Ok.is in
@@ -25,6 +26,7 @@ returns-in-Err g c =
       names = c.self.inside.names;
       counted_out = c.self.inside.counted_out;
       in_root = c.self.inside.in_root;
+      yields = c.self.inside.yields;
     } in
     let env = (g.P.LowerParts.spot c.args.parts.now).answers in
     let is = sym c.find_label.ensures ∙ c.in-Err.is in

@@ -1,0 +1,7 @@
+use Rattle.std.proofs.Common.{rules}
+use Rattle.hir_lower_form.specs.Lower.{param_form}
+use Rattle.hir_lower_expr.proofs.closures.kept_param.Goals as goal
+
+pub returns : goal.returns
+unfolding param_form
+returns g c = search rules

@@ -1,0 +1,137 @@
+-- What a closure and its parameters become stands for them.
+use Rattle.std.proofs.Common.{◌≡◌, ◌∙◌, refl, sym, ap, subst, List, [], ◌∷◌, ◌++◌, append-nil, append_assoc, Bool, Option, Some, None}
+use Rattle.hir_store.specs.Pointers.{Pointer}
+use Rattle.hir_store.specs.Stored.{Stored, store_of, map_of}
+use Rattle.hir_store.specs.declared.diagnostics.ExpressionStoreDiagnostics.TheVariants.{InactiveCode}
+use Rattle.hir_store.specs.declared.hir.CaptureBy.{CaptureBy}
+use Rattle.hir_store.specs.declared.hir.ClosureKind.{ClosureKind}
+use Rattle.hir_store.specs.declared.hir.Expr.TheVariants as hir
+use Rattle.hir_store.specs.declared.ids.CfgId.{CfgId}
+use Rattle.hir_store.specs.declared.ids.ExprId.{ExprId}
+use Rattle.hir_store.specs.declared.ids.PatId.{PatId}
+use Rattle.hir_store.specs.declared.ids.TypeRefId.{TypeRefId}
+use Rattle.hir_scope.specs.Ribs.{barrier_rib}
+use Rattle.hir_env.specs.Answered.{OptionExpr, OptionType, Params}
+use Rattle.hir_data.specs.Closures.{capture_of, kind_of}
+use Rattle.hir_data.specs.Yields.{yields_in}
+use Rattle.hir_lower_form.specs.declared.closures.ClosureParams.{ClosureParams}
+use Rattle.hir_lower_form.specs.Forms.{add_param}
+use Rattle.hir_lower_form.specs.Lower.{closure_form, lower_params, lower_part, no_closure_params, param_form, present_type, push_some}
+use Rattle.hir_lower_form.specs.Lowering.{Lowering, ◌>>=◌, ◌>>◌, pure, report}
+use Rattle.hir_read_back.proofs.Kinds.{captures_as, kind_as}
+use Rattle.hir_read_back.proofs.YieldTree.{part_raises}
+use Rattle.hir_steps.proofs.Frames.{ribs}
+use Rattle.hir_steps.proofs.StillTree.{params_still, present_type_still}
+use Rattle.hir_one_result.specs.Leads.{Ways, ◌&◌}
+use Rattle.hir_one_result.specs.Stands.{Open, StandsParams}
+use Rattle.hir_one_result.specs.StandsMade.{StandsClosure, StandsParam, StoredParams}
+use Rattle.hir_one_result.proofs.Lasting.{Correct, correct_as, correct_bind, correct_closure, correct_pure, correct_report}
+use Rattle.hir_one_result.proofs.Leading.{Shown, moved_then, shown_after, shown_as, shown_before, shown_both, shown_none}
+use Rattle.hir_one_result.proofs.Standing.{Of, Placed, Shows, expr_at, moved_fault, moved_pure, own}
+
+-- ---- what a condition disables
+
+-- one leaves a fault, and nothing else of a list
+pub off_stands : {A B : Type 0} (at : Pointer) (by : CfgId) (done : List A) {q : List A → Lowering B}
+    (T : Stored → Open → List A → B → Ways)
+    → ((d : List A) → Correct (q d) (Shows (λ final rs r. T final rs d r)))
+    → Correct ((report (InactiveCode at by) >>= (λ u. pure None)) >>= (λ x. q (push_some done x))) (Shows (λ final rs r. T final rs done r))
+off_stands at by done T h = correct_as
+    (correct_bind (correct_bind (correct_report (InactiveCode at by)) (λ u. correct_pure None)) (λ x. h (push_some done x)))
+    (λ final ps m m' r g row.
+    let moved = moved_then (moved_fault (InactiveCode at by) row.first.first.stored) (moved_pure row.first.second.still) in record {
+      shown = shown_after moved
+          (subst (λ x. Shown (T final (ribs ps) (push_some done x) r) row.middle.stored m'.stored) row.first.second.is row.second.shown);
+    })
+
+-- ---- parameters
+
+-- these behind those that there were
+abbrev pub ParamsBehind : ClosureParams → (StoredParams → Ways) → ClosureParams → Ways
+ParamsBehind done S l = λ ws. (new : StoredParams) × (l.args ≡ done.args ++ new.0) × (l.arg_types ≡ done.arg_types ++ new.1) × S new ws
+
+-- what stands for them
+abbrev pub params_for : Params → Stored → Open → StoredParams → Ways
+params_for xs final rs l = StandsParams (store_of final) (map_of final) rs xs l
+
+pub params_none : (done : ClosureParams)
+    → Correct (pure done) (Shows (λ final rs l. ParamsBehind done (λ new ws. (new ≡ ([], [])) × (ws ≡ [])) l))
+params_none done = correct_as (correct_pure done) (λ final ps m m' l g row. record {
+  shown = shown_none (moved_pure row.still) (
+    ([], []),
+    ap (λ k. k.args) row.is ∙ sym (append-nil done.args),
+    ap (λ k. k.arg_types) row.is ∙ sym (append-nil done.arg_types),
+    (refl, refl),
+  );
+})
+
+pub params_off : (S : Stored → Open → StoredParams → Ways) (at : Pointer) (by : CfgId) (done : ClosureParams)
+    {q : ClosureParams → Lowering ClosureParams}
+    → ((k : ClosureParams) → Correct (q k) (Shows (λ final rs l. ParamsBehind k (S final rs) l)))
+    → Correct ((report (InactiveCode at by) >> pure done) >>= q) (Shows (λ final rs l. ParamsBehind done (S final rs) l))
+params_off S at by done h = correct_as
+    (correct_bind (correct_bind (correct_report (InactiveCode at by)) (λ u. correct_pure done)) h)
+    (λ final ps m m' l g row.
+    let moved = moved_then (moved_fault (InactiveCode at by) row.first.first.stored) (moved_pure row.first.second.still) in record {
+      shown = shown_after moved
+          (subst (λ k. Shown (ParamsBehind k (S final (ribs ps)) l) row.middle.stored m'.stored) row.first.second.is row.second.shown);
+    })
+
+module _ {P : Of PatId} {T : Of (Option TypeRefId)} where
+  param_stands : (done : ClosureParams) {p : Lowering PatId} {t : Lowering (Option TypeRefId)} → Correct p (Shows P) → Correct t (Shows T)
+      → Correct (param_form done p t) (Shows (λ final rs l ws. (q : PatId) × (y : Option TypeRefId) × (l ≡ add_param done q y)
+      × (P final rs q & T final rs y) ws))
+  unfolding param_form
+  param_stands done hp ht = correct_as (correct_bind hp (λ q. correct_bind ht (λ y. correct_pure (add_param done q y))))
+      (λ final ps m m' l g row. let s = row.second in record {
+        shown = shown_as (shown_both row.first.shown (shown_before s.first.shown (moved_pure s.second.still)))
+            (λ ws z. (row.one, s.one, s.second.is, z));
+      })
+
+  pub params_more : (S : Stored → Open → StoredParams → Ways) (done : ClosureParams) {p : Lowering PatId} {t : Lowering (Option TypeRefId)}
+      {q : ClosureParams → Lowering ClosureParams} → Correct p (Shows P) → Correct t (Shows T)
+      → ((k : ClosureParams) → Correct (q k) (Shows (λ final rs l. ParamsBehind k (S final rs) l)))
+      → Correct (param_form done p t >>= q) (Shows (λ final rs l.
+      ParamsBehind done (λ new. StandsParam (P final rs) (T final rs) (S final rs) new) l))
+  params_more S done hp ht h = correct_as (correct_bind (param_stands done hp ht) h) (λ final ps m m' l g row. record {
+    shown = shown_as (shown_both row.first.shown row.second.shown) (λ ws z.
+        let x = z.first in
+        let y = z.second in
+        let args = y.1 ∙ (ap (λ k. k.args ++ y.0.0) x.2 ∙ append_assoc done.args (x.0 ∷ []) y.0.0) in
+        let types = y.2 ∙ (ap (λ k. k.arg_types ++ y.0.1) x.2 ∙ append_assoc done.arg_types (x.1 ∷ []) y.0.1) in (
+          (x.0 ∷ y.0.0, x.1 ∷ y.0.1),
+          args,
+          types,
+          (x.0, x.1, y.0, refl, record { left = z.left; right = z.right; is = z.is; first = x.3; second = y.3 }),
+        ));
+  })
+
+-- ---- the closure
+
+-- of the same parts
+closure_as : {a a' : List PatId} {b b' : List (Option TypeRefId)} {k k' : ClosureKind} {c c' : CaptureBy} (t : Option TypeRefId)
+    (body : ExprId) → a ≡ a' → b ≡ b' → k ≡ k' → c ≡ c' → hir.Closure a b t body k c ≡ hir.Closure a' b' t body k' c'
+closure_as {a' = a'} {b = b} {b' = b'} {k = k} {k' = k'} {c = c} t body f g h i =
+    ap (λ x. hir.Closure x b t body k c) f ∙ (ap (λ x. hir.Closure a' x t body k c) g
+    ∙ (ap (λ x. hir.Closure a' b' t body x c) h ∙ ap (λ x. hir.Closure a' b' t body k' x) i))
+
+pub closure_stands : (P : Stored → Open → StoredParams → Ways) {T : Of (Option TypeRefId)} {S : Of ExprId} (at : Pointer)
+    (moves is_static : Bool) (xs : Params) (t : OptionType) (e : OptionExpr)
+    → Correct (lower_params no_closure_params xs) (Shows (λ final rs l. ParamsBehind no_closure_params (P final rs) l))
+    → Correct (present_type t) (Shows T) → Correct (lower_part e) (Shows S)
+    → Correct (closure_form at moves is_static (lower_params no_closure_params xs) (present_type t) (lower_part e))
+    (Shows (λ final rs i. StandsClosure (store_of final) (map_of final) at (kind_of is_static e) (capture_of moves)
+    (λ l. P final (barrier_rib ∷ rs) l) (λ y. T final (barrier_rib ∷ rs) y) (λ x. S final (barrier_rib ∷ rs) x) i))
+closure_stands P at moves is_static xs t e hp ht he = correct_as (correct_closure at moves is_static hp ht he)
+    (λ final ps m m' i g row.
+    let noted = row.raised (params_still no_closure_params xs) (present_type_still t) (yields_in e) (part_raises e) in record {
+      shown = shown_as (shown_both row.in_params.shown (shown_both row.in_ret.shown (shown_both row.in_body.shown (own row.made))))
+          (λ ws z. let x = z.first in
+          let is = closure_as row.ret row.body x.1 x.2 (kind_as is_static e noted) (captures_as moves) in (
+            x.0,
+            row.ret,
+            row.body,
+            subst (λ k. Placed final i k (Some at)) is (expr_at row.made),
+            record { left = z.left; right = z.right; is = z.is; first = x.3; second = z.second },
+          ));
+    })

@@ -1,0 +1,38 @@
+-- What a closure and its parameters tell: as much as their parts do behind a barrier.
+use Rattle.std.proofs.Common.{◌∙◌, ap, List, ◌∷◌, ◌++◌, Bool, Option, Some}
+use Rattle.hir_store.specs.Pointers.{Pointer}
+use Rattle.hir_store.specs.declared.ids.ExprId.{ExprId}
+use Rattle.hir_store.specs.declared.ids.PatId.{PatId}
+use Rattle.hir_store.specs.declared.ids.TypeRefId.{TypeRefId}
+use Rattle.hir_scope.specs.Ribs.{barrier_rib}
+use Rattle.hir_scope.specs.Scopes.{Scope, barrier}
+use Rattle.hir_lower_form.specs.declared.closures.ClosureParams.{ClosureParams}
+use Rattle.hir_lower_form.specs.Forms.{stored_closure}
+use Rattle.hir_lower_form.specs.Lower.{ExprSteps, closure_form, param_form, yield_form}
+use Rattle.hir_lower_form.specs.Lowering.{Lowering}
+use Rattle.hir_store.specs.declared.hir.Expr.TheVariants as hir
+use Rattle.hir_steps.proofs.Barriers.{correct_closure, correct_yield}
+use Rattle.hir_steps.proofs.Steps.{Correct, correct_as}
+use Rattle.hir_one_result.proofs.Telling.{Listing, Tells, added_none, added_then, last_none, tells_bind, tells_end, tells_pure, value_tells}
+
+module _ {X : Type 0} (L : Listing X) where
+  pub closure_tells : (at : Pointer) (moves is_static : Bool) {D E F : List Scope → List X} {p : Lowering ClosureParams}
+      {t : Lowering (Option TypeRefId)} {e : ExprSteps} → Correct p (Tells L D) → Correct t (Tells L E) → Correct e (Tells L F)
+      → Correct (closure_form at moves is_static p t e) (Tells L (λ ss. D (barrier ∷ ss) ++ (E (barrier ∷ ss) ++ F (barrier ∷ ss))))
+  closure_tells at moves is_static hp ht he = correct_as (correct_closure at moves is_static hp ht he)
+      (λ final ps m m' i g row.
+      let node = stored_closure moves is_static row.params row.ret row.body row.yields in record {
+        told = λ ss e. let around = ap (λ y. barrier_rib ∷ y) e in let inside = barrier ∷ ss in
+            added_then L (row.in_params.told inside around) (added_then L (row.in_ret.told inside around)
+            (last_none L (added_then L (row.in_body.told inside around)
+            (added_none L (ap L.list row.made.stored ∙ L.expr node (Some at) row.left.stored)))));
+      })
+
+  pub param_tells : (l : ClosureParams) {D E : List Scope → List X} {p : Lowering PatId} {t : Lowering (Option TypeRefId)}
+      → Correct p (Tells L D) → Correct t (Tells L E) → Correct (param_form l p t) (Tells L (λ ss. D ss ++ E ss))
+  unfolding param_form
+  param_tells l hp ht = tells_bind L hp (λ i. tells_end L ht (λ r. tells_pure L _))
+
+  pub yield_tells : (at : Pointer) {D : List Scope → List X} {e : Lowering (Option ExprId)} → Correct e (Tells L D)
+      → Correct (yield_form at e) (Tells L D)
+  yield_tells at h = correct_yield at _ (value_tells L at hir.Yield h)

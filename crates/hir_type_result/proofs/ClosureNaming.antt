@@ -1,0 +1,110 @@
+-- A closure names the types and the patterns of its parameters and what it returns.
+use Rattle.std.proofs.Common.{arith, ap, ℕ, List, [], ◌∷◌, ◌++◌, Bool, Option}
+use Rattle.hir_store.specs.Pointers.{Pointer}
+use Rattle.hir_store.specs.Stored.{Stored}
+use Rattle.hir_store.specs.declared.hir.Expr.TheVariants as hir
+use Rattle.hir_store.specs.declared.ids.ExprId.{ExprId}
+use Rattle.hir_store.specs.declared.ids.PatId.{PatId}
+use Rattle.hir_store.specs.declared.ids.TypeRefId.{TypeRefId}
+use Rattle.hir_lower_form.specs.declared.closures.ClosureParams.{ClosureParams}
+use Rattle.hir_lower_form.specs.Forms.{ExprSteps, add_param, stored_closure}
+use Rattle.hir_lower_form.specs.Lower.{closure_form, param_form, yield_form}
+use Rattle.hir_lower_form.specs.Lowering.{Lowering}
+use Rattle.hir_steps.proofs.Barriers.{correct_closure, correct_yield}
+use Rattle.hir_steps.proofs.Frames.{Frame}
+use Rattle.hir_steps.proofs.Logic.{grows_trans}
+use Rattle.hir_steps.proofs.Steps.{Correct, Mark, correct_as}
+use Rattle.hir_type_result.specs.Named.{Look, of_expr}
+use Rattle.hir_type_result.specs.Reached.{of_each, of_present}
+use Rattle.hir_type_result.proofs.Counted.{◌⊑◌, times_append}
+use Rattle.hir_type_result.proofs.Numbers.{each_push}
+use Rattle.hir_type_result.proofs.Adding.{Adds, Numbers, Quiet, Steps, added_beside, added_quiet, adds_beside, adds_pure, adds_seq}
+use Rattle.hir_type_result.proofs.Adding.{adds_then}
+use Rattle.hir_type_result.proofs.Adding.{expr_adds, named, none}
+use Rattle.hir_type_result.proofs.NamingForms.{value_quiet}
+use Rattle.hir_type_result.proofs.Owned.{a_pat, maybe_type}
+
+-- the patterns, and then the types
+abbrev pub params_named : ClosureParams → Numbers
+params_named c l = of_each l.pats c.args ++ of_each (of_present l.types) c.arg_types
+
+pushed : (c : ClosureParams) (i : PatId) (r : Option TypeRefId) (l : Look)
+    → params_named (add_param c i r) l ⊑ (params_named c l ++ a_pat i l) ++ maybe_type r l
+pushed c i r l k =
+    let types = of_present l.types in
+    let a = each_push l.pats c.args i k in
+    let b = each_push types c.arg_types r k in
+    let d = times_append k (of_each l.pats (c.args ++ i ∷ [])) (of_each types (c.arg_types ++ r ∷ [])) in
+    let e = times_append k (of_each l.pats c.args) (of_each types c.arg_types) in
+    let f = times_append k (params_named c l) (l.pats i) in
+    let g = times_append k (params_named c l ++ l.pats i) (types r) in omega arith
+
+pub param_adds : (c : ClosureParams) {p : Lowering PatId} {t : Lowering (Option TypeRefId)} → Correct p (Adds none a_pat)
+    → Correct t (Adds none maybe_type) → Correct (param_form c p t) (Adds (params_named c) params_named)
+unfolding param_form
+param_adds c hp ht = adds_then (adds_beside (params_named c) hp)
+    (λ i. adds_then (adds_beside (λ l. params_named c l ++ a_pat i l) ht) (λ r. adds_pure (add_param c i r) (pushed c i r)))
+
+-- whatever is open
+added_in : {A : Type 0} {bs : List ℕ} {was : Numbers} {cs : A → List ℕ} {now : A → Numbers} {final : Stored} {ps qs : List Frame}
+    {m m' : Mark} {a : A} → Steps bs was cs now final ps m m' a → Steps bs was cs now final qs m m' a
+added_in x = record { bound = x.bound; grown = x.grown; earlier = x.earlier }
+
+-- what the closure names
+abbrev all_named : ClosureParams → Option TypeRefId → Numbers
+all_named c r l = params_named c l ++ maybe_type r l
+
+node_named : (moves is_static : Bool) (c : ClosureParams) (r : Option TypeRefId) (body : ExprId) (y : Bool) (l : Look)
+    → of_expr l (stored_closure moves is_static c r body y) ⊑ all_named c r l
+node_named moves is_static c r body y l k =
+    let types = of_present l.types in
+    let a = times_append k (of_each l.pats c.args) (of_each types c.arg_types ++ types r) in
+    let b = times_append k (of_each types c.arg_types) (types r) in
+    let d = times_append k (of_each l.pats c.args) (of_each types c.arg_types) in
+    let e = times_append k (params_named c l) (types r) in omega arith
+
+module _ (at : Pointer) where
+  -- its body names by itself
+  pub closure_quiet : (moves is_static : Bool) {p : Lowering ClosureParams} {t : Lowering (Option TypeRefId)} {e : ExprSteps}
+      → Correct p (Adds none params_named) → Correct t (Adds none maybe_type) → Correct e Quiet
+      → Correct (closure_form at moves is_static p t e) Quiet
+  closure_quiet moves is_static hp ht he = correct_as (correct_closure at moves is_static hp ht he) (λ final ps m m' i g row.
+      let c = row.params in
+      let r = row.ret in
+      let node = stored_closure moves is_static c r row.body row.yields in
+      let stored = row.made.stored in
+      let params : Adds none params_named final ps m row.after_params c = added_in row.in_params in
+      let ret : Adds (params_named c) (all_named c) final ps row.after_params row.after_ret r =
+      added_beside (params_named c) row.to_ret (added_in row.in_ret) in
+      let body : Adds (all_named c r) (λ x. all_named c r) final ps row.after_ret row.left row.body =
+      added_quiet row.to_body (added_in row.in_body) in
+      let made : Adds (all_named c r) (λ x. none) final ps row.left m' i =
+      expr_adds node row.to_end (ap (λ x. x.pats.entries) stored) (λ s d k. ap (λ x. named s final d x k) stored)
+      (node_named moves is_static c r row.body row.yields) in
+      let last : Adds (all_named c r) (λ x. none) final ps row.after_ret m' i = adds_seq {one = λ x. all_named c r} (record {
+        middle = row.left;
+        one = row.body;
+        before = row.to_body;
+        after = row.to_end;
+        first = body;
+        second = made;
+      }) in
+      let behind : Adds (params_named c) (λ x. none) final ps row.after_params m' i = adds_seq {one = all_named c} (record {
+        middle = row.after_ret;
+        one = r;
+        before = row.to_ret;
+        after = grows_trans row.to_body row.to_end;
+        first = ret;
+        second = last;
+      }) in
+      adds_seq {one = params_named} (record {
+        middle = row.after_params;
+        one = c;
+        before = row.to_params;
+        after = grows_trans row.to_ret (grows_trans row.to_body row.to_end);
+        first = params;
+        second = behind;
+      }))
+
+  pub yield_quiet : {e : Lowering (Option ExprId)} → Correct e Quiet → Correct (yield_form at e) Quiet
+  yield_quiet h = correct_yield at _ (value_quiet at hir.Yield (λ v l k. omega arith) h)
