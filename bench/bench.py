@@ -259,6 +259,31 @@ def questions(size):
     return nodes
 
 
+def closures(size):
+    """One block of very many closures with a parameter, 50,000 of them at 200,000 nodes."""
+    nodes, block = body()
+    while len(nodes.all) + 5 <= size:
+        nodes.statement(block)
+        here = nodes.add("ClosureExpr")
+        param = nodes.add("Param")
+        nodes.all[here]["params"] = [param]
+        nodes.all[param]["pat"] = nodes.add("IdentPat", name="x")
+        nodes.all[here]["body"] = nodes.add("UnderscoreExpr")
+    return nodes
+
+
+def barriers(size):
+    """Many chains of closures, each the body of the one around it, with a yield in the innermost."""
+    nodes, block = body()
+    while len(nodes.all) + CHAIN + 1 <= size:
+        nodes.statement(block)
+        for _ in range(CHAIN - 1):
+            here = nodes.add("ClosureExpr")
+            nodes.all[here]["body"] = here + 1
+        nodes.add("YieldExpr")
+    return nodes
+
+
 SHAPES = {
     "wide": wide,
     "calls": calls,
@@ -268,6 +293,8 @@ SHAPES = {
     "fors": fors,
     "visits": visits,
     "questions": questions,
+    "closures": closures,
+    "barriers": barriers,
     "segments": segments,
     "arguments": arguments,
     "constants": constants,
