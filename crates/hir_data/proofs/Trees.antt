@@ -1,5 +1,5 @@
 -- Worked trees, computed level by level.
-use Rattle.std.proofs.Common.{◌≡◌, ◌∙◌, ap, ℕ, codes, true, false, if◌then◌else◌, List, [], ◌∷◌, Option, Some, None}
+use Rattle.std.proofs.Common.{◌≡◌, ◌∙◌, ap, ℕ, codes, Bool, true, false, if◌then◌else◌, List, [], ◌∷◌, Option, Some, None}
 use Rattle.hir_syntax.specs.declared.ast.Path.{roll-Path, out-roll-Path}
 use Rattle.hir_syntax.specs.declared.ast.PathSegment.{PathSegment as AstPathSegment, roll-PathSegment, out-roll-PathSegment}
 use Rattle.hir_syntax.specs.declared.types.AssocTypeArg.{roll-AssocTypeArg, out-roll-AssocTypeArg}
@@ -13,7 +13,7 @@ use Rattle.hir_syntax.specs.declared.types.Type_.{Type_ as AstType_}
 use Rattle.hir_store.specs.declared.hir.Mutability.TheVariants.{Shared}
 use Rattle.hir_store.specs.declared.name.Name.TheVariants as name
 use Rattle.hir_env.specs.declared.place.ImplTrait.TheVariants as impl
-use Rattle.hir_env.specs.Spot.{Spot}
+use Rattle.hir_env.specs.Spot.{Spot, site_of}
 use Rattle.hir_env.specs.TypeLayers.{ParamReading, TypeKindLayer, PathLayer, PathSegmentLayer, AssocTypeArgLayer, GenericArgLayer}
 use Rattle.hir_env.specs.TypeLayers.{ParamLayer, PathTypeLayer, TypeBoundLayer}
 use Rattle.hir_env.specs.Paths as of
@@ -199,14 +199,20 @@ of_two at r q =
     let rest = if q.variadic then tree.no_parts else only_part q.ty in
     tree.fn_type (pointer at 0) (head_of_two r q) (if r.variadic then rest else tree.more_parts r.ty rest) tree.no_type
 
-abbrev of_type : Type_ → ParamReading
-of_type t = record { variadic = false; name = None; ty = tree.some_type t }
+-- one parameter of this type, if it has one
+abbrev reading_of : Spot → Bool → OptionType → ParamReading
+reading_of at variadic t =
+    let own = of.asked_param (pointer at 9) (at.answers.cfg (site_of (pointer at 9))) (tree.param tree.no_pat t) in
+    record { variadic = variadic; name = None; ty = t; own = own }
+
+abbrev of_type : Spot → Type_ → ParamReading
+of_type at t = reading_of at false (tree.some_type t)
 
 abbrev plain_reading : Spot → ParamReading
-plain_reading at = of_type (tree.leaf_type (pointer at 1) tree.never_leaf)
+plain_reading at = of_type at (tree.leaf_type (pointer at 1) tree.never_leaf)
 
-abbrev dots_reading : ParamReading
-dots_reading = record { variadic = true; name = None; ty = tree.no_type }
+abbrev dots_reading : Spot → ParamReading
+dots_reading at = reading_of at true tree.no_type
 
 module _ (at : Spot) where
   of_two_is : (x y : AstParam) (r q : ParamReading) → answered_param at x ≡ r → answered_param at y ≡ q
@@ -215,13 +221,13 @@ module _ (at : Spot) where
       ∙ (ap (λ z. of_two at z (answered_param at y)) f ∙ ap (of_two at r) g))
 
   plain_is : answered_param at plain_param ≡ plain_reading at
-  plain_is = param_made at _ ∙ ap of_type (never_is at 1)
+  plain_is = param_made at _ ∙ ap (of_type at) (never_is at 1)
 
-  dots_is : answered_param at dots_param ≡ dots_reading
+  dots_is : answered_param at dots_param ≡ dots_reading at
   dots_is = param_made at _
 
 pub reads_varargs : VarargsAtTheEnd
 reads_varargs at = (
-  of_two_is at plain_param dots_param (plain_reading at) dots_reading (plain_is at) (dots_is at),
-  of_two_is at dots_param plain_param dots_reading (plain_reading at) (dots_is at) (plain_is at),
+  of_two_is at plain_param dots_param (plain_reading at) (dots_reading at) (plain_is at) (dots_is at),
+  of_two_is at dots_param plain_param (dots_reading at) (plain_reading at) (dots_is at) (plain_is at),
 )

@@ -5,7 +5,8 @@ use Rattle.hir_store.specs.declared.ids.PatId.{PatId}
 use Rattle.hir_scope.specs.Ribs.{barrier_rib}
 use Rattle.hir_env.specs.Answered.{Constant, Limit, OptionPat, Target}
 use Rattle.hir_one_result.specs.Leads.{Ways}
-use Rattle.hir_one_result.specs.Stands.{Open, ReadsAsTarget, SomeConst, SomeExpr, StandsConstant, StandsLimit, StandsPatPart, StandsTarget, WithNames}
+use Rattle.hir_one_result.specs.Stands.{Open, ReadsAsTarget, SomeConst, SomeExpr, StandsConstant, StandsLimit, StandsPatPart}
+use Rattle.hir_one_result.specs.Stands.{StandsTarget, WithNames}
 
 module _ (store : Store) (source_map : SourceMap) where
   -- a constant, whatever its number

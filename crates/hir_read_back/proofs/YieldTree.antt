@@ -115,7 +115,8 @@ module _ (at : Pointer) where
   record_target_raises : {y : Bool} (p : OptionPath) (dots : Bool) (spread : Option Pointer) {fs : Lowering (List RecordFieldPat)}
       → Raises y fs → Raises (yields_if_read (path_of p) y) (targets.record_target_form at dots spread fs (lower.lower_path p))
   unfolding targets.record_target_form
-  record_target_raises p dots spread {fs = fs} h = beside p (targets.record_target_of at dots spread fs) (raises_still missing_pat_apart missing_pat_still)
+  record_target_raises p dots spread {fs = fs} h = beside p (targets.record_target_of at dots spread fs)
+      (raises_still missing_pat_apart missing_pat_still)
       (λ o. raises_begin (spread_off spread) (λ u. raises_end h (λ fs. pat_off _ (Some at))))
 
   target_field_raises : {y : Bool} (n : Option Name) {p : Lowering PatId} → Raises y p → Raises y (targets.target_field_form at n p)

@@ -105,7 +105,7 @@ closure_held {ps = es} {ts = ts} at moves is_static e hp ht h = correct_as
     let behind : Bodies = constant_body e ∷ bodies_in e in
     expr_held row.made row.to_end (λ d le. let r = inners_in final d in
     let roll = ap (λ k. of_params r k l.arg_types) held.args ∙ (ap (λ k. of_params r (map (λ y. y.0) held.new) k) held.types
-        ∙ params_roll r held.new) in
+    ∙ params_roll r held.new) in
     same_append final (of_params r l.args l.arg_types) (of_present r.type row.ret ++ (row.body ∷ r.expr row.body)) es (ts ++ behind)
     (same_ids final es roll (held.same d
     (omega (le, row.to_ret.nodes, row.to_ret.entries, row.to_body.nodes, row.to_body.entries, arith))))
