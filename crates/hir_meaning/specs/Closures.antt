@@ -36,7 +36,7 @@ plain_event k n = event_of (closure k capture.Ref [] [] datum.no_type) [] n
 abbrev pub yield_at : ℕ → Expr
 yield_at n = tree.yield_expr (at n) tree.no_expr
 
--- `|_: !, x, #[cfg(..)] x| 1`
+-- `|_: !, x, #[cfg(..)] x| -> ! 1`
 
 abbrev pub parameters : CfgId → Params
 parameters by = tree.more_params (tree.param (wild_at 1) never) (tree.more_params (tree.param (x_at 4) tree.no_type)
@@ -48,9 +48,10 @@ body_one = tree.some_expr (literal_at 5 one)
 abbrev pub with_parameters : CfgId → TypedTry
 with_parameters by = record {
   example = record {
-    written = tree.some_expr (tree.closure_expr (at 0) false false (parameters by) tree.no_type body_one);
+    written = tree.some_expr (tree.closure_expr (at 0) false false (parameters by) never body_one);
     nodes = (stored_one, Some 5)
-        ∷ (hir.Closure (pat_number 0 ∷ pat_number 1 ∷ []) (Some (type_number 0) ∷ None ∷ []) None (id 0) kind.Closure capture.Ref, Some 0)
+        ∷ (hir.Closure (pat_number 0 ∷ pat_number 1 ∷ []) (Some (type_number 0) ∷ None ∷ []) (Some (type_number 0)) (id 0)
+        kind.Closure capture.Ref, Some 0)
         ∷ [];
     pats = (pat.Wild, Some 1) ∷ (stored_x, Some 4) ∷ [];
     bindings = binding_x ∷ [];
@@ -59,13 +60,13 @@ with_parameters by = record {
   types = stored_never;
 }
 
--- It is one event, with the patterns and the types of its parameters, of which one is disabled. Its body is a body inside, whose run is
--- its own.
+-- It is one event, with the patterns and the types of its parameters, of which one is disabled, and with what it returns. Its body is a
+-- body inside, whose run is its own.
 abbrev pub MakesAClosure : Type 0
 MakesAClosure = (by : CfgId)
     → BothDoTypedTry (with_parameters by) (no 11 ∷ [])
     (event_of (closure kind.Closure capture.Ref (wild_data 1 ∷ x_data 4 ∷ []) (datum.some_type never_data ∷ datum.no_type ∷ [])
-    datum.no_type) [] 0 ∷ [])
+    (datum.some_type never_data)) [] 0 ∷ [])
     (ended (answered 11))
     × HasInside (with_parameters by).example.written (typed_in (with_parameters by)) 1 (body_one ∷ []) (id 0 ∷ [])
     × BothDoTypedTry (record (with_parameters by) { example = record (with_parameters by).example { written = body_one; root = 0 } })

@@ -138,10 +138,13 @@ block_of at l a = tree.some_expr (tree.block_expr (tree.block at false None tt N
 abbrev pub const_of : Pointer → OptionExpr → OptionExpr → OptionExpr
 const_of at l a = tree.some_expr (tree.const_expr at (tree.constant (block_of at l a)))
 
--- `|_: [!; a]| -> [!; b] e`
-abbrev pub closure_with : Pointer → OptionExpr → OptionExpr → OptionExpr → OptionExpr
-closure_with at a b e = tree.some_expr (tree.closure_expr at false false
-    (tree.more_params (tree.param (tree.some_pat (tree.leaf_pat at tree.wild_leaf)) (nevers at a)) tree.no_params) (nevers at b) e)
+-- `|A::<{a}>: [!; b], _: [!; c]| -> [!; d] e`
+abbrev pub closure_with : Pointer → OptionExpr → OptionExpr → OptionExpr → OptionExpr → OptionExpr → OptionExpr
+closure_with at a b c d e =
+    let named = tree.some_pat (tree.path_pat at (one_segment (with_list (just (constant a))))) in
+    let wild = tree.some_pat (tree.leaf_pat at tree.wild_leaf) in
+    tree.some_expr (tree.closure_expr at false false
+    (tree.more_params (tree.param named (nevers at b)) (tree.more_params (tree.param wild (nevers at c)) tree.no_params)) (nevers at d) e)
 
 abbrev pub ExprsInOrder : Type 0
 ExprsInOrder = (at : Pointer) (a b e f : Literal) (n : Name) (items : QuestionItems)
@@ -152,8 +155,8 @@ ExprsInOrder = (at : Pointer) (a b e f : Literal) (n : Name) (items : QuestionIt
     × (bodies_in (repeat_of at (body at e) (body at a) (body at b))
     ≡ constants (body at a ∷ cast_to at (body at e) (body at b) ∷ body at b ∷ []))
     × (bodies_in (const_of at (body at e) (body at a)) ≡ constants (block_of at (body at e) (body at a) ∷ body at a ∷ []))
-    × (bodies_in (closure_with at (body at a) (body at b) (cast_to at (body at e) (body at f)))
-    ≡ constants (body at a ∷ body at b ∷ cast_to at (body at e) (body at f) ∷ body at f ∷ []))
+    × (bodies_in (closure_with at (body at a) (body at b) (body at e) (body at f) (cast_to at (body at a) (body at b)))
+    ≡ constants (body at a ∷ body at b ∷ body at e ∷ body at f ∷ cast_to at (body at a) (body at b) ∷ body at b ∷ []))
 
 -- `A::<{a}>(..)` with a part `A::<{b}>`, and the same behind a path that is refused
 abbrev pub call_of : Pointer → OptionPath → OptionExpr → OptionPat

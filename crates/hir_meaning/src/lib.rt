@@ -245,8 +245,8 @@ pub fn foreign_is_not_enclosed()
 /// arguments that go again, there are none. Arguments come before bindings, and of a method call those in `<..>` before the
 /// others; of an arm those of its guard before those of its body; of a `try` those of its type; of a `for` those of its head, its
 /// pattern and its body; of a repeat array those of what is repeated before its length and what is in that; of a const block the
-/// block and what is in that; of a closure those of its parameters and of what it returns before its body and what is in that. So they
-/// are stored, too.
+/// block and what is in that; of a closure those of each parameter, in its pattern before its type, and of what it returns before its
+/// body and what is in that. So they are stored, too.
 pub fn inner_bodies_in_order()
     ensures types { TypesInOrder }
     ensures paths { PathsInOrder }
@@ -476,7 +476,8 @@ pub fn returns_from_its_length()
     ensures { ReturnsFromItsLength }
 {}
 
-/// `|_: !, x, #[cfg(..)] x| 1` is one event with what is left of its parameters; its body is a body inside, and runs by itself.
+/// `|_: !, x, #[cfg(..)] x| -> ! 1` is one event with what is left of its parameters and what it returns; its body is a body inside, and
+/// runs by itself.
 pub fn makes_a_closure()
     ensures { MakesAClosure }
 {}
