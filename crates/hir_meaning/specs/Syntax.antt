@@ -204,7 +204,7 @@ is_typed (tree.some_type t) = true
 abbrev pub as_it_is : SyntaxRun Value → SyntaxRun Value
 as_it_is m = m
 
--- A closure is made as what it is: an old coroutine where its body yields (Rust Reference, closure expressions).
+-- A closure is made as what it is: an old coroutine where its body yields.
 abbrev pub closure_of : Bool → Bool → Params → OptionType → OptionExpr → Operation
 closure_of by_move is_static ps t e =
     closure (kind_of is_static e) (capture_of by_move) (map written_pat (params_tops ps)) (map written_option_type (params_types ps))
