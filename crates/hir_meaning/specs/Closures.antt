@@ -50,8 +50,11 @@ with_parameters by = record {
   example = record {
     written = tree.some_expr (tree.closure_expr (at 0) false false (parameters by) never body_one);
     nodes = (stored_one, Some 5)
-        ∷ (hir.Closure (pat_number 0 ∷ pat_number 1 ∷ []) (Some (type_number 0) ∷ None ∷ []) (Some (type_number 0)) (id 0)
-        kind.Closure capture.Ref, Some 0)
+        ∷ (
+          hir.Closure (pat_number 0 ∷ pat_number 1 ∷ []) (Some (type_number 0) ∷ None ∷ []) (Some (type_number 0)) (id 0)
+              kind.Closure capture.Ref,
+          Some 0,
+        )
         ∷ [];
     pats = (pat.Wild, Some 1) ∷ (stored_x, Some 4) ∷ [];
     bindings = binding_x ∷ [];
