@@ -18,7 +18,7 @@ use Rattle.hir_lower_form.specs.declared.closures.ClosureParams.{ClosureParams}
 use Rattle.hir_lower_form.specs.Forms.{add_param}
 use Rattle.hir_lower_form.specs.Lower.{closure_form, lower_params, lower_part, no_closure_params, param_form, present_type, push_some}
 use Rattle.hir_lower_form.specs.Lowering.{Lowering, ◌>>=◌, ◌>>◌, pure, report}
-use Rattle.hir_read_back.proofs.Kinds.{captures_as, kind_as}
+use Rattle.hir_read_back.proofs.ClosureKinds.{captures_as, kind_as}
 use Rattle.hir_read_back.proofs.YieldTree.{part_raises}
 use Rattle.hir_steps.proofs.Frames.{ribs}
 use Rattle.hir_steps.proofs.StillTree.{params_still, present_type_still}

@@ -15,7 +15,7 @@ use Rattle.hir_lower_form.specs.Lower.{closure_form, lower_params, lower_part, n
 use Rattle.hir_data.specs.Data.{OptionTypeData, PatData}
 use Rattle.hir_data.specs.Reading.{stored_option_type}
 use Rattle.hir_data.specs.Yields.{yields_in}
-use Rattle.hir_read_back.proofs.Kinds.{captures_as, kind_as}
+use Rattle.hir_read_back.proofs.ClosureKinds.{captures_as, kind_as}
 use Rattle.hir_read_back.proofs.Now.{option_type_now}
 use Rattle.hir_read_back.proofs.Params.{params_now, pats_in, types_in}
 use Rattle.hir_read_back.proofs.YieldTree.{part_raises}
