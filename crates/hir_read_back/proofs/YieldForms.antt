@@ -102,6 +102,7 @@ module _ (at : Pointer) where
       (λ t. raises_begin (item_call_off (conversion items t) r) (λ e. made_off _ (Some at))))
 
   value_or_unit_off : (tail : Option ExprId) → Raises false (value_or_unit at tail)
+  unfolding value_or_unit
   value_or_unit_off (Some e) = raises_pure e
   value_or_unit_off None = made_off _ (Some at)
 

@@ -1,11 +1,12 @@
 -- What lowering notes of `yield`s is what is written: by induction, a line for each kind.
-use Rattle.std.proofs.Common.{◌≡◌, ℕ, sym, subst, Bool, true, false, ◌||◌, List, [], Option, Some, None, Ok}
+use Rattle.std.proofs.Common.{◌≡◌, ℕ, sym, subst, Bool, true, false, ◌||◌, List, [], ◌∷◌, ◌++◌, Option, Some, None, Ok}
 use Rattle.hir_store.specs.Pointers.{Pointer}
 use Rattle.hir_store.specs.Stored.{Stored}
 use Rattle.hir_store.specs.declared.hir.Expr.TheVariants as hir
 use Rattle.hir_store.specs.declared.hir.MatchArm.{MatchArm}
 use Rattle.hir_store.specs.declared.hir.RecordLitField.{RecordLitField}
 use Rattle.hir_store.specs.declared.hir.Statement.{Statement}
+use Rattle.hir_store.specs.declared.hir.Statement.TheVariants as statement
 use Rattle.hir_store.specs.declared.ids.ExprId.{ExprId}
 use Rattle.hir_store.specs.declared.ids.HygieneId.{HygieneId}
 use Rattle.hir_store.specs.declared.ids.PatId.{PatId}
@@ -198,7 +199,7 @@ mutual
   fields_raise done tree.no_fields = raises_pure done
   fields_raise done (tree.more_fields (tree.disabled_field at by f) fs) =
       raises_begin (raises_begin (report_off _) (λ u. raises_pure None)) (λ x. fields_raise _ fs)
-  fields_raise done (tree.more_fields (tree.nameless_field at e) fs) = raises_begin (raises_pure None) (λ x. fields_raise _ fs)
+  fields_raise done (tree.more_fields (tree.nameless_field at e) fs) = fields_raise done fs
   fields_raise done (tree.more_fields (tree.named_field at name e) fs) =
       raises_then (forms.field_raises at name (part_raises e)) (λ x. fields_raise _ fs)
 
@@ -227,7 +228,7 @@ mutual
   stmts_raise done (tree.more_stmts (tree.expr_stmt e semi) ss) {y = y} h =
       raises_as (sym (or_assoc (yields_in e) (stmts_yields ss) y))
       (raises_then (raises_end (kept_part_raises e) (λ x. raises_pure _)) (λ x. stmts_raise _ ss h))
-  stmts_raise done (tree.more_stmts tree.item_stmt ss) h = raises_begin (raises_pure _) (λ x. stmts_raise _ ss h)
+  stmts_raise done (tree.more_stmts tree.item_stmt ss) h = stmts_raise (done ++ statement.Item ∷ []) ss h
   stmts_raise done (tree.more_stmts (tree.let_stmt p t e b) ss) {y = y} h =
       raises_as (sym (or_assoc (yields_in e || block_part_yields b) (stmts_yields ss) y))
       (raises_then (forms.let_stmt_raises (top_off p) (present_type_off t) (present_raises e) (present_block_raises b))
@@ -266,8 +267,7 @@ mutual
   target_fields_raise done tree.no_target_fields = raises_pure done
   target_fields_raise done (tree.more_target_fields (tree.disabled_target_field at by) fs) =
       raises_begin (raises_begin (report_off _) (λ u. raises_pure None)) (λ x. target_fields_raise _ fs)
-  target_fields_raise done (tree.more_target_fields tree.partless_target_field fs) =
-      raises_begin (raises_pure None) (λ x. target_fields_raise _ fs)
+  target_fields_raise done (tree.more_target_fields tree.partless_target_field fs) = target_fields_raise done fs
   target_fields_raise done (tree.more_target_fields (tree.target_field at n t) fs) =
       raises_then (target_field_raises at n (target_raises t)) (λ x. target_fields_raise _ fs)
 
