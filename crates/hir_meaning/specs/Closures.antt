@@ -1,5 +1,5 @@
 -- Small bodies with closures, and what they do: what a closure does when it is called is its body, which is a body inside.
-use Rattle.std.specs.Prelude.{false, true, ℕ, [], ◌∷◌, Some, None}
+use Rattle.std.specs.Prelude.{false, true, ℕ, [], ◌∷◌, ◌++◌, Some, None}
 use Rattle.hir_store.specs.declared.hir.CaptureBy.TheVariants as capture
 use Rattle.hir_store.specs.declared.hir.ClosureKind.{ClosureKind}
 use Rattle.hir_store.specs.declared.hir.ClosureKind.TheVariants as kind
@@ -51,7 +51,7 @@ with_parameters by = record {
     written = tree.some_expr (tree.closure_expr (at 0) false false (parameters by) never body_one);
     nodes = (stored_one, Some 5)
         ∷ (
-          hir.Closure (pat_number 0 ∷ pat_number 1 ∷ []) (Some (type_number 0) ∷ None ∷ []) (Some (type_number 0)) (id 0)
+          hir.Closure (pat_number 0 ∷ pat_number 1 ∷ []) (Some (type_number 0) ∷ None ∷ []) (Some (type_number 1)) (id 0)
               kind.Closure capture.Ref,
           Some 0,
         )
@@ -60,7 +60,7 @@ with_parameters by = record {
     bindings = binding_x ∷ [];
     root = 1;
   };
-  types = stored_never;
+  types = stored_never ++ stored_never;
 }
 
 -- It is one event, with the patterns and the types of its parameters, of which one is disabled, and with what it returns. Its body is a
