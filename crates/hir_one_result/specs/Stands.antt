@@ -188,6 +188,10 @@ module _ (store : Store) (source_map : SourceMap) where
   abbrev pub ReadsAsTarget : Target → Ways → PatId → Ways
   ReadsAsTarget t S i = ReadsAsPat (target_data t) S i
 
+  -- a type that may stay absent, in which this stands
+  abbrev pub ReadsAsType : OptionType → Ways → Option TypeRefId → Ways
+  ReadsAsType t S y = S & ReadsAs (stored_option_type store source_map) (written_option_type t) y
+
   abbrev mutual
     -- ---- what stands for the constants of types, paths, arguments and bounds
 
@@ -371,7 +375,7 @@ module _ (store : Store) (source_map : SourceMap) where
     -- no jump in it reaches what is open around it
     Stands rs (tree.closure_expr at moves is_static xs t e) i =
         StandsClosure store source_map at (kind_of is_static e) (capture_of moves) (λ l. StandsParams (barrier_rib ∷ rs) xs l)
-        (λ y. StandsType (barrier_rib ∷ rs) t y) (λ x. StandsPart (barrier_rib ∷ rs) e x) i
+        (λ y. ReadsAsType t (PresentTypeWays (barrier_rib ∷ rs) t) y) (λ x. StandsPart (barrier_rib ∷ rs) e x) i
     Stands rs (tree.method_call_expr at e name es generics) i =
         StandsOverThree (λ receiver arguments g. hir.MethodCall receiver name g arguments) at
         (λ x. StandsPart rs e x) (λ is. StandsEach rs es is)
@@ -404,11 +408,8 @@ module _ (store : Store) (source_map : SourceMap) where
     StandsParams rs tree.no_params l = λ ws. (l ≡ ([], [])) × No ws
     StandsParams rs (tree.more_params (tree.disabled_param at by x) xs) l = StandsParams rs xs l
     StandsParams rs (tree.more_params (tree.param p t) xs) l = StandsParam
-        (λ q. WithNames p (λ ks. StandsPatPart ks rs p [] q) q) (λ y. StandsType rs t y) (λ others. StandsParams rs xs others) l
-
-    -- a type that may stay absent
-    pub StandsType : Open → OptionType → Option TypeRefId → Ways
-    StandsType rs t y = PresentTypeWays rs t & ReadsAs (stored_option_type store source_map) (written_option_type t) y
+        (λ q. WithNames p (λ ks. StandsPatPart ks rs p [] q) q) (λ y. ReadsAsType t (PresentTypeWays rs t) y)
+        (λ others. StandsParams rs xs others) l
 
     pub StandsPart : Open → OptionExpr → ExprId → Ways
     StandsPart rs tree.no_expr i = StandsMissing i
@@ -483,7 +484,8 @@ module _ (store : Store) (source_map : SourceMap) where
         (q : PatId) × (y : Option TypeRefId) × (x : Option ExprId) × (z : Option ExprId) × (others : List Statement)
         × (is ≡ statement.Let q y x z ∷ others)
         × ((WithNames p (λ ks. StandsPatPart ks rs p [] q) q
-        & StandsType rs t y & StandsPresent rs e x & StandsPresentBlock rs b z) & StandsContents rs ss Tail others tail) ws
+        & ReadsAsType t (PresentTypeWays rs t) y & StandsPresent rs e x & StandsPresentBlock rs b z)
+        & StandsContents rs ss Tail others tail) ws
 
     -- ---- patterns
 
