@@ -13,7 +13,7 @@ use Rattle.hir_env.specs.Targets.{is_dots, pointer_of, target_field_of, target_f
 use Rattle.hir_env.specs.Whole.{answered, answered_field, exprs_part, fields_part, target_part}
 use Rattle.hir_lower_form.specs.Builder.{Builder}
 use Rattle.hir_lower_form.specs.Forms.{push_some}
-use Rattle.hir_lower_form.specs.Lowering.{Checked, go_on}
+use Rattle.hir_lower_form.specs.Lowering.{Checked, Lowering, Lowers, ◌>>=◌, go_on}
 use Rattle.hir_lower_form.specs.Lower.{lower_target, lower_target_field, lower_target_fields}
 use Rattle.hir_lower_form.specs.Pats.{Elements}
 use Rattle.hir_lower_pat.specs.Aims.{ArrayParts, array_read, array_steps, element_steps, elements_read, found_at, is_first}
@@ -30,6 +30,14 @@ grows_on a b c g h = (
   omega (arith, g.4, h.4),
   omega (arith, g.5, h.5),
 )
+
+-- what is so of the steps behind a first step, which answered, is so of both
+pub behind_first : {A B : Type 0} (Has : Stored → B → Type 0) (p : Lowering A) (q : A → Lowering B) (a : A) (old mid : Builder)
+    (r : Checked B) (new : Builder) → p old ≡ (Ok a, mid) → Grows old.stored mid.stored → Lowers Has (q a) mid r new
+    → Lowers Has (p >>= q) old r new
+behind_first Has p q a old mid (Ok b) new is grown h =
+    (ap (λ o. go_on o.0 o.1 q) is ∙ h.0, grows_on old.stored mid.stored new.stored grown h.1, h.2)
+behind_first Has p q a old mid (Err x) new is grown h = λ no. (ap (λ o. go_on o.0 o.1 q) is ∙ (h no).0, (h no).1)
 
 -- a field more
 pub fields_has : (old new : Stored) (done more : List RecordFieldPat) (x : RecordFieldPat)

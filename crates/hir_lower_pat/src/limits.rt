@@ -9,6 +9,7 @@ ghost use Rattle.hir_env.specs.Pats.{side_of};
 ghost use Rattle.hir_env.specs.TypePats as of;
 ghost use Rattle.hir_env.specs.Whole.{answered_pat, pat_level, pat_part, path_part};
 ghost use Rattle.hir_lower_form.specs.Lowering.{Lowers};
+ghost use Rattle.hir_lower_form.specs.Lowering as step;
 ghost use Rattle.hir_lower_form.specs.Lower as steps;
 ghost use Rattle.hir_lower_form.specs.Methods.{LowersLimit, at_place};
 ghost use Rattle.hir_lower_form.specs.Nests.{IfPresent, KidsSide, KidsSidePart};
@@ -186,6 +187,13 @@ fn operand(alloc: Global, id: ExprId) -> Result<Seq<ExprId>, AllocError>
     Ok(operands)
 }
 
+/// The item, from no node.
+fn item_callee(state: &mut BodyBuilder, item: Option<LangItemId>) -> Result<ExprId, StoreFault>
+    ensures { Lowers HasExpr (step.alloc_expr (spec.item_expr item) None) state.old result state.new }
+{
+    state.alloc_expr(item_expr(item), None)
+}
+
 /// A call of the item with the side, both from no node.
 #[tactic(auto, unfolding(hir_lower_form::specs::Ranges::before_form))]
 fn before<P: LowerParts>(
@@ -201,7 +209,7 @@ fn before<P: LowerParts>(
         Lowers HasExpr (spec.before_form item read) state.old result state.new }
 {
     let excluded = side(lowerer, state, place, node)?;
-    let callee = state.alloc_expr(item_expr(item), None)?;
+    let callee = item_callee(state, item)?;
     let args = operand(lowerer.alloc, excluded)?;
     state.alloc_expr(Expr::Call { callee, args }, None)
 }
