@@ -1,9 +1,13 @@
 //! Expressions with a path or a type.
 
-ghost use Rattle.std.specs.Prelude.{◌≡◌, IfOk};
+ghost use Rattle.std.specs.Prelude.{◌≡◌, IfOk, Some};
+ghost use Rattle.hir_store.specs.Range.{HasExpr, HasPathOption};
 ghost use Rattle.hir_env.specs.Answered as tree;
 ghost use Rattle.hir_env.specs.Answering.{names_of, site_of};
 ghost use Rattle.hir_env.specs.Whole.{expr_part, path_part, type_part};
+ghost use Rattle.hir_lower_form.specs.Forms.{path_or_missing};
+ghost use Rattle.hir_lower_form.specs.Lowering as step;
+ghost use Rattle.hir_lower_form.specs.Lowering.{Lowers};
 ghost use Rattle.hir_lower_form.specs.Nests.{IfPresent};
 ghost use Rattle.hir_lower_form.specs.Methods.{LowersExpr};
 
@@ -14,10 +18,24 @@ use hir_lower_form::names::{names_of, path_expr};
 use hir_lower_form::parts::{LowerParts, Lowerer, site};
 use hir_store::fault::StoreFault;
 use hir_store::hir::Expr;
-use hir_store::ids::ExprId;
+use hir_store::ids::{ExprId, HygieneId};
 use hir_store::name::Name;
+use hir_store::path::Path;
 use hir_syntax::{Boxed, Seq, ast};
 use std::alloc::{AllocError, Global};
+
+/// What was read of a path, which is missing where it is absent or refused.
+fn read_path_expr(
+    state: &mut BodyBuilder,
+    at: InFile<AstPtr>,
+    path: Option<Path>,
+    hygiene: HygieneId,
+) -> Result<ExprId, StoreFault>
+    requires { HasPathOption state.old.stored path }
+    ensures { Lowers HasExpr (step.alloc_expr (path_or_missing hygiene path) (Some at)) state.old result state.new }
+{
+    state.alloc_expr(path_expr(path, hygiene), Some(at))
+}
 
 /// A path that is absent or refused is missing.
 #[tactic(auto, unfolding(hir_lower_form::specs::Forms::path_form))]
@@ -33,7 +51,7 @@ pub fn path_form<P: LowerParts>(
 {
     let hygiene = lowerer.parts.hygiene(site(at));
     let path = path_here(lowerer, state, path)?;
-    state.alloc_expr(path_expr(path, hygiene), Some(at))
+    read_path_expr(state, at, path, hygiene)
 }
 
 /// A cast: what is cast, then the type.
