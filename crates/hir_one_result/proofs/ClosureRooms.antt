@@ -9,8 +9,7 @@ use Rattle.hir_lower_form.specs.Lower.{ExprSteps, closure_form, param_form, yiel
 use Rattle.hir_lower_form.specs.Lowering.{Lowering}
 use Rattle.hir_one_result.specs.Size.{Size, an_expr, ◌∪◌}
 use Rattle.hir_one_result.proofs.Rooms.{Takes, takes_alloc, takes_barrier, takes_begin, takes_close_barrier, takes_end, takes_note}
-use Rattle.hir_one_result.proofs.Rooms.{takes_pure}
-use Rattle.hir_one_result.proofs.Rooms.{takes_then}
+use Rattle.hir_one_result.proofs.Rooms.{takes_pure, takes_then}
 
 module _ (at : Pointer) where
   pub closure_takes : (moves is_static : Bool) {n k j : Size} {p : Lowering ClosureParams} {t : Lowering (Option TypeRefId)} {e : ExprSteps}

@@ -4,7 +4,8 @@ use Rattle.hir_lower_form.specs.Builder.{Builder}
 use Rattle.hir_lower_form.specs.Lowering.{Checked, Lowering}
 use Rattle.hir_one_result.specs.Size.{Size}
 use Rattle.hir_one_result.specs.Laws.{GrownUnless, AllFit, TypesFit, PathsFit, BodiesFit}
-use Rattle.hir_one_result.proofs.Rooms.{Room, Takes}
+use Rattle.hir_one_result.proofs.Rooms.{Takes}
+use Rattle.hir_one_result.proofs.Took.{Room}
 use Rattle.hir_one_result.proofs.Tellings.{takes_of}
 use Rattle.hir_one_result.proofs.TreeRooms.{body_takes, part_takes, path_tells, type_part_takes}
 

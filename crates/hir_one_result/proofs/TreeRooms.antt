@@ -49,8 +49,8 @@ use Rattle.hir_one_result.specs.Room.{target_fields_size, target_field_size, top
 use Rattle.hir_one_result.specs.Room.{param_size, params_size}
 use Rattle.hir_one_result.proofs.ClosureRooms.{closure_takes, param_takes, yield_takes}
 use Rattle.hir_one_result.proofs.Rooms.{Takes, takes_then, takes_as, takes_end, takes_begin, takes_pure, takes_report, takes_alloc}
-use Rattle.hir_one_result.proofs.Rooms.{nothing_first, moved_in, moved_out, takes_constant, takes_inner, takes_type, takes_pat}
-use Rattle.hir_one_result.proofs.Rooms.{takes_binding}
+use Rattle.hir_one_result.proofs.Rooms.{takes_binding, takes_constant, takes_inner, takes_type, takes_pat}
+use Rattle.hir_one_result.proofs.Took.{nothing_first, moved_in, moved_out}
 use Rattle.hir_one_result.proofs.Tellings.{tells_then, tells_any, takes_of, Tells, tells_as, tells_pure, tells_end, tells_less}
 use Rattle.hir_one_result.proofs.PatRooms.{Keyed, none_keyed, PatTakes, missing_pat_takes, alone_takes, path_pat_takes, bind_takes}
 use Rattle.hir_one_result.proofs.PatRooms.{over_pat_takes, tuple_pat_takes, tuple_struct_takes, record_pat_takes, pat_field_takes}

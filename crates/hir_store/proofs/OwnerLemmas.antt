@@ -155,7 +155,7 @@ none_left (x ∷ xs) h =
     let l : length (x ∷ xs) ≡ suc (length xs) = refl in
     absurd (none-some _ (sym h ∙ slice_get-get_or (x ∷ xs) (length (x ∷ xs) - 1) x (omega (arith, l))))
 
-abbrev number : BindingId → ℕ
+abbrev pub number : BindingId → ℕ
 number b = b.0
 
 -- one more that nothing owns

@@ -30,9 +30,9 @@ use Rattle.hir_type_result.specs.Unrun.{unrun_in_type}
 -- which they are done, also one that the type doesn't reach. Nodes of patterns, types and lifetimes lead to them, those of
 -- expressions and labels to what they became, and no other nodes lead anywhere. However deep one looks, the type, all expressions
 -- and all patterns together reach no type in two ways, types and expressions no pattern, and what the type holds and doesn't run no
--- expression. Each binding is that of a name of a top pattern in these bodies, or of a name that is made up, has the patterns that make
--- it, and is owned by the innermost closure, coroutine, `const` block, length or argument around it, or, in none of these, by nothing.
--- The faults and the entered blocks are those of these bodies.
+-- expression. Each binding is that of a name of a top pattern in these bodies, has the patterns that make it, and is owned by the
+-- innermost closure, coroutine, `const` block, length or argument around it. The faults and the entered blocks are those of these
+-- bodies.
 pub record TypeResult (store : Store) (source_map : SourceMap) (i : TypeRefId) (t : OptionType) : Type 0 where
   pub reads_back : stored_type store source_map i ≡ written_type t
   pub inner : SameBodies store source_map (type_inner_bodies store i) (part_bodies t)
