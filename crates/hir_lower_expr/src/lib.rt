@@ -7,6 +7,7 @@ pub mod blocks;
 pub mod calls;
 pub mod closures;
 mod consts;
+mod coroutine_closures;
 pub mod control;
 mod coroutines;
 pub mod fors;
