@@ -1,5 +1,5 @@
 -- What is lowered as a root is what is written.
-use Rattle.std.proofs.Common.{◌≡◌, ◌≢◌, ◌∙◌, refl, sym, ap, subst, true, length, [], ◌∷◌, ◌++◌, Ok, Err}
+use Rattle.std.proofs.Common.{◌≡◌, ◌≢◌, ◌∙◌, refl, sym, ap, subst, suc, true, length, [], ◌∷◌, ◌++◌, Ok, Err}
 use Rattle.std.specs.Prelude.{IfOk, IsErrOf}
 use Rattle.hir_store.specs.Bindings.{binding_id}
 use Rattle.hir_store.specs.Stored.{Stored, store_of, map_of}
@@ -11,6 +11,7 @@ use Rattle.hir_store.specs.declared.ids.ExprId.{ExprId}
 use Rattle.hir_store.specs.declared.fault.StoreFault.{StoreFault}
 use Rattle.hir_store.specs.declared.fault.StoreFault.TheVariants.{Memory, Full}
 use Rattle.hir_store.proofs.Extending.{extends_owner, extends_root, extends_trans}
+use Rattle.hir_store.proofs.OwnerLemmas.{length_owned}
 use Rattle.hir_env.specs.Answered.{OptionExpr}
 use Rattle.hir_lower_form.specs.Builder.{Builder}
 use Rattle.hir_lower_form.specs.Lowering.{Checked, Lowering, Lowers, go_on, bindings_end, close_labels, enter_root, outside_root, own}
@@ -28,6 +29,9 @@ use Rattle.hir_one_result.specs.Room.{TooLarge, size_part}
 use Rattle.hir_one_result.specs.Size.{owned}
 use Rattle.hir_one_result.specs.Diagnostics.{forget}
 use Rattle.hir_one_result.specs.Stands.{StandsPart}
+use Rattle.hir_one_result.proofs.Last.{EndsWith}
+use Rattle.hir_one_result.proofs.LastTree.{part_last}
+use Rattle.hir_one_result.proofs.Owners.{last_owns}
 use Rattle.hir_one_result.proofs.TreeStands.{all_stand}
 use Rattle.hir_one_result.proofs.TreeFaults.{diagnostics_are}
 use Rattle.hir_one_result.proofs.TreeBlocks.{blocks_are}
@@ -179,7 +183,26 @@ module _ (e : OptionExpr) (b inner : Builder) (i : ExprId) (none_open : b.scopes
   roots_inside in_root = let kept : KeepsAll b inner = subst (λ r. Keeps b r.0 r.1) is (keeping e b) in kept.roots in_root
 
   owned_inside : Grown (owned (size_part e)) b.stored (with_owned (first b) i inner.stored)
-  owned_inside = grown_owned (subst (λ r. FitsUnless e b r.0 r.1) is (all_fit e b)) (part_last e b i inner is)
+  owned_inside =
+      let size = size_part e in
+      let start = length b.stored.bindings.entries in
+      let fits : Grown size b.stored inner.stored = subst (λ r. FitsUnless e b r.0 r.1) is (all_fit e b) in
+      let last : suc i.0 ≡ length inner.stored.exprs.entries =
+      subst (λ (r : Checked ExprId × Builder). EndsWith (λ j. j) r.0 r.1) is ((part_last e).last b) in
+      record {
+        exprs = fits.exprs;
+        labels = fits.labels;
+        bindings = fits.bindings;
+        owners = λ m. last_owns b.stored.bindings.owners (length b.stored.exprs.entries) size.exprs size.owners i start m
+            (last ∙ fits.exprs) (fits.owners m);
+        may_be_owned = λ m. length_owned start i inner.stored.bindings.owners ∙ fits.may_be_owned m;
+        pats = fits.pats;
+        types = fits.types;
+        lifetimes = fits.lifetimes;
+        pat_sources = fits.pat_sources;
+        type_sources = fits.type_sources;
+        lifetime_sources = fits.lifetime_sources;
+      }
 
   -- it is recorded, and owns its bindings
   rooted_inside : b.in_root ≡ true → MayBeOwned b.stored → Rooted b.stored (owned_root (first b) inner i).stored i e
@@ -221,7 +244,7 @@ module _ (e : OptionExpr) (b inner : Builder) (i : ExprId) (none_open : b.scopes
           lifetime_sources = fits.lifetime_sources;
         };
         owners = fits.owners may;
-        roots = ap (λ rs. rs ++ root_at (store_of inner.stored) i ∷ []) (kept.roots in_root);
+        roots = ap (λ rs. rs ++ root_at (store_of inner.stored) i ∷ []) (roots_inside in_root);
         bindings_came = expr_bindings_came e b inner i paired is;
         more = faults.more;
         faults = faults.is;

@@ -22,8 +22,8 @@ use Rattle.hir_env.specs.Answered.{Block, Expr, ForItems, Jump, Label, Listing, 
 use Rattle.hir_lower_form.specs.declared.closures.ClosureParams.{ClosureParams}
 use Rattle.hir_lower_form.specs.Forms.{ExprSteps, StoredContents, StoredFields, if_form, loop_form, call_form, continue_form, break_form}
 use Rattle.hir_lower_form.specs.Forms.{path_form, operand_form, operands_form, value_form, yield_form, list_form, repeat_form, const_form}
-use Rattle.hir_lower_form.specs.Forms.{method_call_form, await_form, cast_form, offset_of_form, record_of, record_form, let_form, match_form}
-use Rattle.hir_lower_form.specs.Forms.{assign_form, block_form, labelled, closure_form, coroutine_block_form, missing}
+use Rattle.hir_lower_form.specs.Forms.{method_call_form, await_form, cast_form, offset_of_form, record_of, record_form, let_form}
+use Rattle.hir_lower_form.specs.Forms.{match_form, assign_form, block_form, labelled, closure_form, coroutine_block_form, missing}
 use Rattle.hir_lower_form.specs.Lower.{lower, lower_block, lower_part}
 use Rattle.hir_lower_form.specs.Lowering.{Lowering, alloc_expr, close, close_barrier, enter_block, jump_target, made_number, note_yield}
 use Rattle.hir_lower_form.specs.Lowering.{open_barrier, open_label, open_try, report, report_await}
