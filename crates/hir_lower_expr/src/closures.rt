@@ -181,8 +181,7 @@ pub(crate) fn body_opt<P: LowerParts>(
         IfPresent ((P.can lowerer.now.parts).inner (of.inside_closure is_async place)) body.now }
     ensures { LowersExprOpt (expr_part (in_closure is_async (P.spot lowerer.now.parts)) body.now) state.old result state.new }
 {
-    let inside = inside_closure(is_async, lowerer.parts.place());
-    lowerer.collect_expr_opt_inside(state, inside, body)
+    lowerer.collect_expr_opt_inside(state, inside_closure(is_async, lowerer.parts.place()), body)
 }
 
 /// The parameters, what it returns, its body. No jump in it reaches what is open around it, and whether a `yield` stands in its body,

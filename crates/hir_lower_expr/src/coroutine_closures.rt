@@ -162,7 +162,9 @@ pub(crate) fn coroutine_closure_form<P: LowerParts>(
         (expr_part (in_closure is_async spot) body.now)) state.old result state.new }
 {
     let start = state.bindings_end();
-    let id = bordered_coroutine_closure(lowerer, state, at, params, ret, body, is_async, kind, moves)?;
+    let id = bordered_coroutine_closure(
+        lowerer, state, at, params, ret, body, is_async, kind, moves,
+    )?;
     state.own(start, id);
     Ok(id)
 }

@@ -1,6 +1,6 @@
 -- What stands in front of the body of a coroutine that a closure or a function has: `let`s of its parameters, in order (rust-analyzer,
 -- `lower_coroutine_body_with_moved_arguments`).
-use Rattle.std.specs.Prelude.{Bool, true, false, List, [], ◌∷◌, ◌++◌, Option, Some, None, Ok, option_map, slice_get}
+use Rattle.std.specs.Prelude.{Bool, true, false, List, [], ◌∷◌, ◌++◌, Option, Some, None, Ok, slice_get}
 use Rattle.hir_binding.specs.declared.binding.BindingAnnotation.{BindingAnnotation}
 use Rattle.hir_binding.specs.declared.binding.BindingAnnotation.TheVariants.{Unannotated, Mutable}
 use Rattle.hir_store.specs.Pointers.{Pointer, flattened}
@@ -48,11 +48,21 @@ name_form n h = alloc_expr (hir.Path (name_path n) h) None
 abbrev pub handed_binding : Handed → Binding
 handed_binding x = record { name = x.name; mode = Mutable; hygiene = x.hygiene; problems = None }
 
--- A pattern that binds it so that it can be changed, from the node of the parameter's own pattern, which doesn't lead to it.
+-- the node that it came from
+unfoldable pub pat_source : PatId → Lowering (Option Pointer)
+pat_source p = λ b. (Ok (flattened (slice_get b.stored.pats.sources p.0)), b)
+
+-- a pattern more from the node that this one came from, which doesn't lead to it
+unfoldable pub alloc_beside : Pat → PatId → Lowering PatId
+alloc_beside x p = do
+  at ← pat_source p
+  alloc_made_pat x at
+
+-- A pattern that binds it so that it can be changed, from the node of the parameter's own pattern.
 unfoldable pub handed_form : Handed → Lowering PatId
 handed_form x = do
   i ← alloc_binding (handed_binding x)
-  p ← alloc_made_pat (pat.Bind i None) x.source
+  p ← alloc_beside (pat.Bind i None) x.pat
   define i p
   pure p
 
@@ -82,20 +92,25 @@ is_plain Unannotated None = true
 is_plain Mutable None = true
 is_plain _ _ = false
 
-abbrev pub own_of : Option PatId → Binding → OwnName
-own_of sub x = record { name = x.name; hygiene = x.hygiene; is_alone = is_plain x.mode sub }
+-- a name that is made up is none of its own
+abbrev pub if_written : {A : Type 0} → Name → A → Option A
+if_written (Generated n) a = None
+if_written _ a = Some a
+
+abbrev pub own_of : Option PatId → Binding → Option OwnName
+own_of sub x = if_written x.name (record { name = x.name; hygiene = x.hygiene; is_alone = is_plain x.mode sub })
+
+abbrev pub own_bound : Option PatId → Option Binding → Option OwnName
+own_bound sub None = None
+own_bound sub (Some x) = own_of sub x
 
 abbrev pub own_in : Stored → Option Pat → Option OwnName
-own_in s (Some (pat.Bind id sub)) = option_map (own_of sub) (slice_get s.bindings.entries id.0)
+own_in s (Some (pat.Bind id sub)) = own_bound sub (slice_get s.bindings.entries id.0)
 own_in s _ = None
 
--- the name that the pattern is as a whole, where it is one
+-- the name that the pattern is as a whole, where it is one that is written
 unfoldable pub own_name_of : PatId → Lowering (Option OwnName)
 own_name_of p = λ b. (Ok (own_in b.stored (slice_get b.stored.pats.entries p.0)), b)
-
--- the node that it came from
-unfoldable pub pat_source : PatId → Lowering (Option Pointer)
-pat_source p = λ b. (Ok (flattened (slice_get b.stored.pats.sources p.0)), b)
 
 -- ---- preludes
 
@@ -117,25 +132,24 @@ handed_between done p x = do
   ss ← two_lets_form x p
   pure (add_handed done x ss)
 
-abbrev pub handed_as : Name → HygieneId → Option Pointer → Handed
-handed_as n h at = record { name = n; hygiene = h; source = at }
+abbrev pub handed_as : Name → HygieneId → PatId → Handed
+handed_as n h p = record { name = n; hygiene = h; pat = p }
 
 -- by its own name where the pattern is one
 abbrev pub handed_own : Prelude → PatId → Bool → Handed → Lowering Prelude
 handed_own done p true x = handed_by_name done p x
 handed_own done p false x = handed_between done p x
 
-unfoldable pub handed_in : Prelude → PatId → Option Pointer → Option OwnName → Lowering Prelude
-handed_in done p at (Some own) = handed_own done p own.is_alone (handed_as own.name own.hygiene at)
-handed_in done p at None = do
+unfoldable pub handed_in : Prelude → PatId → Option OwnName → Lowering Prelude
+handed_in done p (Some own) = handed_own done p own.is_alone (handed_as own.name own.hygiene p)
+handed_in done p None = do
   n ← made_number
-  handed_between done p (handed_as (Generated n) root_hygiene at)
+  handed_between done p (handed_as (Generated n) root_hygiene p)
 
 unfoldable pub let_param : Prelude → PatId → Lowering Prelude
 let_param done p = do
   own ← own_name_of p
-  at ← pat_source p
-  handed_in done p at own
+  handed_in done p own
 
 abbrev pub let_params : Prelude → List PatId → Lowering Prelude
 let_params done [] = pure done

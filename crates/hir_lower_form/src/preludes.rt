@@ -1,8 +1,8 @@
 //! What stands in front of the body of a coroutine that a closure or a function has.
 
-ghost use Rattle.std.specs.Prelude.{◌≡◌, Ok, IfOk, [], ◌∷◌};
+ghost use Rattle.std.specs.Prelude.{◌≡◌, Ok, IfOk, [], ◌∷◌, slice_get};
 ghost use Rattle.hir_store.specs.Past.{join, past_statements};
-ghost use Rattle.hir_store.specs.Range.{HasBindingId, HasExpr, HasPat, HasPats, HasStatements};
+ghost use Rattle.hir_store.specs.Range.{HasBindingId, HasExpr, HasPat, HasPatParts, HasPats, HasStatements};
 ghost use Rattle.hir_lower_form.specs.Lowering.{Lowers};
 ghost use Rattle.hir_lower_form.specs.Methods.{HasPrelude, HasRead, HasRebound, HasSelf, HasSelfPrelude};
 ghost use Rattle.hir_lower_form.specs.Preludes as spec;
@@ -10,7 +10,10 @@ ghost use Rattle.hir_lower_form.specs.Preludes as spec;
 use crate::builder::BodyBuilder;
 use hir_base::node::{AstPtr, InFile};
 use hir_store::fault::StoreFault;
-use hir_store::hir::{Binding, BindingAnnotation, CaptureBy, ClosureKind, CoroutineKind, CoroutineSource, Expr, Pat, Statement};
+use hir_store::hir::{
+    Binding, BindingAnnotation, CaptureBy, ClosureKind, CoroutineKind, CoroutineSource, Expr, Pat,
+    Statement,
+};
 use hir_store::ids::{BindingId, ExprId, HygieneId, PatId, TypeRefId};
 use hir_store::lists::{append_statements, push_pat, push_statement};
 use hir_store::name::Name;
@@ -18,15 +21,15 @@ use hir_store::path::{ModPath, Path, PathKind};
 use hir_syntax::Seq;
 use std::alloc::{AllocError, Global};
 
-/// The name by which a parameter is handed in, and the node of its pattern, where that came from one.
+/// The name by which a parameter is handed in, and the parameter's own pattern.
 #[derive(Drop)]
 pub struct Handed {
     pub name: Name,
     pub hygiene: HygieneId,
-    pub source: Option<InFile<AstPtr>>,
+    pub pat: PatId,
 }
 
-/// The name that a pattern is as a whole, and whether it is that name alone, plain or `mut`.
+/// The written name that a pattern is as a whole, and whether it is that name alone, plain or `mut`.
 #[derive(Drop)]
 pub struct OwnName {
     pub name: Name,
@@ -137,6 +140,30 @@ fn is_plain(mode: BindingAnnotation, subpat: Option<PatId>) -> bool
     }
 }
 
+/// The written name of the binding that is made by a pattern with this behind `@`.
+fn own_of(subpat: Option<PatId>, binding: &Binding) -> Result<Option<OwnName>, AllocError>
+    ensures { IfOk result (λ own. own ≡ spec.own_of subpat binding.now) }
+{
+    let hygiene = binding.hygiene;
+    let is_alone = is_plain(binding.mode, subpat);
+    match &binding.name {
+        Name::Text(text) => {
+            let name = Name::Text(text.clone()?);
+            Ok(Some(OwnName {
+                name,
+                hygiene,
+                is_alone,
+            }))
+        }
+        Name::Missing => Ok(Some(OwnName {
+            name: Name::Missing,
+            hygiene,
+            is_alone,
+        })),
+        Name::Generated(_) => Ok(None),
+    }
+}
+
 /// A binding of this name, mode and hygiene, in which nothing is wrong.
 fn bound_anew(binding: &Binding) -> Result<Binding, AllocError>
     ensures { IfOk result (λ b. b ≡ spec.bound_anew binding.now) }
@@ -150,12 +177,7 @@ fn bound_anew(binding: &Binding) -> Result<Binding, AllocError>
 }
 
 /// The coroutine around the block that is its body, which takes by reference what it uses of the outside.
-fn coroutine_of(
-    alloc: Global,
-    kind: CoroutineKind,
-    source: CoroutineSource,
-    body: ExprId,
-) -> Expr
+fn coroutine_of(alloc: Global, kind: CoroutineKind, source: CoroutineSource, body: ExprId) -> Expr
     ensures { result ≡ spec.coroutine_of kind source body }
 {
     Expr::Closure {
@@ -183,6 +205,24 @@ impl BodyBuilder {
         self.alloc_expr(Expr::Path { path, hygiene }, None)
     }
 
+    /// The node that the pattern came from, where it came from one.
+    #[tactic(auto, unfolding(crate::specs::Preludes::pat_source))]
+    fn pat_source(&self, pat: PatId) -> Option<InFile<AstPtr>>
+        ensures { Lowers HasRead (spec.pat_source pat) self.now (Ok result) self.now }
+    {
+        self.store().pat_source(pat)
+    }
+
+    /// Stores a pattern from the node that this one came from, which doesn't lead to it.
+    #[tactic(auto, unfolding(crate::specs::Preludes::alloc_beside))]
+    fn alloc_beside(&mut self, pat: Pat, own: PatId) -> Result<PatId, StoreFault>
+        requires { HasPatParts self.old.stored pat }
+        ensures { Lowers HasPat (spec.alloc_beside pat own) self.old result self.new }
+    {
+        let source = self.pat_source(own);
+        self.alloc_made_pat(pat, source)
+    }
+
     /// Stores a pattern that binds the name by which a parameter is handed in.
     #[tactic(auto, unfolding(crate::specs::Preludes::handed_form))]
     fn handed_pat(&mut self, handed: &Handed) -> Result<PatId, StoreFault>
@@ -195,7 +235,7 @@ impl BodyBuilder {
             problems: None,
         };
         let id = self.alloc_binding(binding)?;
-        let pat = self.alloc_made_pat(Pat::Bind { id, subpat: None }, handed.source)?;
+        let pat = self.alloc_beside(Pat::Bind { id, subpat: None }, handed.pat)?;
         self.define(id, pat)?;
         Ok(pat)
     }
@@ -232,30 +272,29 @@ impl BodyBuilder {
         Ok(two_lets(alloc, between, first, pat, second)?)
     }
 
-    /// The name that the pattern is as a whole, where it is one.
+    /// The written name of the binding, where there is one of that number, of a pattern with this behind `@`.
+    fn own_bound(
+        &self,
+        id: BindingId,
+        subpat: Option<PatId>,
+    ) -> Result<Option<OwnName>, AllocError>
+        ensures { IfOk result (λ own. own ≡ spec.own_bound subpat (slice_get self.now.stored.bindings.entries id.0)) }
+    {
+        match self.store().binding(id) {
+            None => Ok(None),
+            Some(binding) => own_of(subpat, binding),
+        }
+    }
+
+    /// The name that the pattern is as a whole, where it is one that is written.
     #[tactic(auto, unfolding(crate::specs::Preludes::own_name_of))]
     fn own_name_of(&self, pat: PatId) -> Result<Option<OwnName>, StoreFault>
         ensures { Lowers HasRead (spec.own_name_of pat) self.now result self.now }
     {
-        let Some(Pat::Bind { id, subpat }) = self.store().pat(pat) else {
-            return Ok(None);
-        };
-        let Some(binding) = self.store().binding(*id) else {
-            return Ok(None);
-        };
-        Ok(Some(OwnName {
-            name: binding.name.clone()?,
-            hygiene: binding.hygiene,
-            is_alone: is_plain(binding.mode, *subpat),
-        }))
-    }
-
-    /// The node that the pattern came from, where it came from one.
-    #[tactic(auto, unfolding(crate::specs::Preludes::pat_source))]
-    fn pat_source(&self, pat: PatId) -> Option<InFile<AstPtr>>
-        ensures { Lowers HasRead (spec.pat_source pat) self.now (Ok result) self.now }
-    {
-        self.store().pat_source(pat)
+        match self.store().pat(pat) {
+            Some(Pat::Bind { id, subpat }) => Ok(self.own_bound(*id, *subpat)?),
+            _ => Ok(None),
+        }
     }
 
     /// The parameter of this pattern is handed in by the name that the pattern is.
@@ -292,31 +331,28 @@ impl BodyBuilder {
         Ok(prelude.with_handed(handed, lets)?)
     }
 
-    /// The parameter of this pattern, which came from this node, is handed in by the name that the pattern is, or by one that is made up.
+    /// The parameter of this pattern is handed in by the name that the pattern is, or by one that is made up.
     #[tactic(auto, unfolding(crate::specs::Preludes::handed_in))]
     fn handed_in(
         &mut self,
         alloc: Global,
         prelude: Prelude,
         pat: PatId,
-        source: Option<InFile<AstPtr>>,
         own: Option<OwnName>,
     ) -> Result<Prelude, StoreFault>
         requires prelude { HasPrelude self.old.stored prelude }
         requires pat { HasPat self.old.stored pat }
-        ensures { Lowers HasPrelude (spec.handed_in prelude pat source own) self.old result self.new }
+        ensures { Lowers HasPrelude (spec.handed_in prelude pat own) self.old result self.new }
     {
         match own {
-            Some(OwnName {
-                name,
-                hygiene,
-                is_alone,
-            }) => {
-                let handed = Handed {
+            Some(
+                OwnName {
                     name,
                     hygiene,
-                    source,
-                };
+                    is_alone,
+                },
+            ) => {
+                let handed = Handed { name, hygiene, pat };
                 if is_alone {
                     self.handed_by_name(alloc, prelude, pat, handed)
                 } else {
@@ -327,7 +363,7 @@ impl BodyBuilder {
                 let handed = Handed {
                     name: Name::Generated(self.made_number()?),
                     hygiene: HygieneId::ROOT,
-                    source,
+                    pat,
                 };
                 self.handed_between(alloc, prelude, pat, handed)
             }
@@ -347,8 +383,7 @@ impl BodyBuilder {
         ensures { Lowers HasPrelude (spec.let_param prelude pat) self.old result self.new }
     {
         let own = self.own_name_of(pat)?;
-        let source = self.pat_source(pat);
-        self.handed_in(alloc, prelude, pat, source, own)
+        self.handed_in(alloc, prelude, pat, own)
     }
 
     /// Stores a pattern that binds anew what this binds, and `let`s it be that.

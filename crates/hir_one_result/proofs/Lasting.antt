@@ -19,7 +19,11 @@ use Rattle.hir_store.specs.declared.type_ref.TypeRef.{TypeRef}
 use Rattle.hir_store.proofs.Arenas.{prefix_refl, prefix_push, prefix_trans}
 use Rattle.hir_env.specs.Answered.{Jump, Label}
 use Rattle.hir_scope.specs.Ribs.{Rib, Target, reachable, unreachable, undeclared, target}
+use Rattle.hir_store.specs.declared.hir.CoroutineKind.{CoroutineKind}
 use Rattle.hir_lower_form.specs.declared.closures.ClosureParams.{ClosureParams}
+use Rattle.hir_lower_form.specs.declared.preludes.Handed.{Handed}
+use Rattle.hir_lower_form.specs.declared.preludes.Within.{Within}
+use Rattle.hir_lower_form.specs.Preludes.{coroutine_closure_form, lower_handed, within_form}
 use Rattle.hir_lower_form.specs.Lower.{ExprSteps, closure_form, constant_form, coroutine_form}
 use Rattle.hir_lower_form.specs.Lowering.{Lowering, ◌>>=◌, pure, alloc_binding, alloc_expr, alloc_lifetime, alloc_pat, alloc_type, close}
 use Rattle.hir_lower_form.specs.Lowering.{count_out, enter_block, jump_target, open_label, point, point_field, point_pat_field}
@@ -29,6 +33,8 @@ use Rattle.hir_steps.proofs.Barriers as barriers
 use Rattle.hir_steps.proofs.Barriers.{ClosureRow, CoroutineRow}
 use Rattle.hir_steps.proofs.Constants as constants
 use Rattle.hir_steps.proofs.Constants.{Constant, Inner}
+use Rattle.hir_steps.proofs.CoroutineClosures as closures
+use Rattle.hir_steps.proofs.CoroutineClosures.{CoroutineClosureRow}
 use Rattle.hir_steps.proofs.Frames.{Frame, rib, ribs}
 use Rattle.hir_steps.proofs.Logic.{longer}
 use Rattle.hir_steps.proofs.MadeSteps as made
@@ -74,7 +80,7 @@ unchanged_settled from s = record { at = λ n x le h. in_prefix s n x h }
 pub unchanged_first : {a b c : Stored} {from : ℕ} → Settled a b → Unchanged from b c → Unchanged from a c
 unchanged_first s u = record { at = λ n x le h. u.at n x le (in_prefix s n x h) }
 
-unchanged_behind : {xs ys : List Binding} {a b : Stored} → Prefix xs ys → Unchanged (length xs) a b → Unchanged (length ys) a b
+pub unchanged_behind : {xs ys : List Binding} {a b : Stored} → Prefix xs ys → Unchanged (length xs) a b → Unchanged (length ys) a b
 unchanged_behind s u = let more = longer s in record { at = λ n x le h. u.at n x (omega (arith, le, more)) h }
 
 -- the bindings are what they were
@@ -328,6 +334,29 @@ correct_closure at moves is_static hp ht he = steps.correct_as (barriers.correct
 pub correct_coroutine : {p : ExprSteps} {R : Rel ExprId} → Correct p R → Correct (coroutine_form p) (CoroutineRow R)
 correct_coroutine h = steps.correct_as (barriers.correct_coroutine h)
     (λ final ps m m' i g row. record { settled = row.inside.settled; rel = λ s. record { inside = row.inside.rel s } })
+
+pub correct_coroutine_closure : (at : Pointer) (which : CoroutineKind) (moves : Bool) {p : Lowering ClosureParams}
+    {t : Lowering (Option TypeRefId)} {e : ExprSteps} {W : Rel Within} {H : List Handed → Rel (List PatId)}
+    → Correct (within_form which p t e) W → ((xs : List Handed) → Correct (lower_handed [] xs) (H xs))
+    → Correct (coroutine_closure_form at which moves p t e) (CoroutineClosureRow at which moves W H)
+correct_coroutine_closure at which moves hw hh =
+    steps.correct_as (closures.correct_coroutine_closure at which moves _ _ _ hw hh) (λ final ps m m' i g row.
+    let made : Settled row.handed.stored m'.stored = settled_as row.handed.stored m'.stored (ap (λ s. s.bindings) row.made.stored) in
+    let behind = prefix_trans row.in_formals.settled made in record {
+      settled = prefix_trans row.in_within.settled behind;
+      rel = λ s. record {
+        within = row.within;
+        formals = row.formals;
+        left = row.left;
+        handed = row.handed;
+        to_left = row.to_left;
+        to_handed = row.to_handed;
+        to_end = row.to_end;
+        in_within = row.in_within.rel (unchanged_first behind s);
+        in_formals = row.in_formals.rel (unchanged_first made (unchanged_behind row.in_within.settled s));
+        made = row.made;
+      };
+    })
 
 -- what owns them is no part of what stays
 pub correct_owning : {A : Type 0} (owner : A → ExprId) {p : Lowering A} {R : Rel A} → Correct p R
