@@ -121,15 +121,16 @@ with_constant = tree.some_pat (tree.path_pat (at 2) (tree.some_path
 abbrev pub cast_of_one : OptionExpr
 cast_of_one = cast_to (at 10) (tree.some_expr (literal_at 11 one)) (tree.some_expr (literal_at 12 two))
 
--- `[!; e]`, behind this many types
-abbrev pub stored_array : ℕ → ℕ → StoredTypes
-stored_array n e = (ty.Never, Some 4) ∷ (ty.Array (record { ty = type_number n; len = record { expr = id e } }), Some 3) ∷ []
+-- `[!; e]` at this node, of a never at this one, behind this many types
+abbrev pub stored_array : ℕ → ℕ → ℕ → ℕ → StoredTypes
+stored_array at_array at_never n e =
+    (ty.Never, Some at_never) ∷ (ty.Array (record { ty = type_number n; len = record { expr = id e } }), Some at_array) ∷ []
 
 abbrev pub stored_path_pat : StoredPat
 stored_path_pat = pat.Path (Normal (record {
   type_anchor = Some (type_number 1);
   mod_path = record { kind = Plain; segments = letter 65 ∷ [] };
-  generic_args = [];
+  generic_args = None ∷ [];
 })) root
 
 -- the coroutine, and behind it the closure
@@ -158,7 +159,7 @@ closure_with_constants k from n = record {
     bindings = made_mut 0 ∷ made_mut 0 ∷ [];
     root = n;
   };
-  types = stored_array 0 0 ++ (stored_array 2 1 ++ (stored_array 4 2 ++ stored_array 6 4));
+  types = stored_array 3 4 0 0 ++ (stored_array 6 6 2 1 ++ (stored_array 8 8 4 2 ++ stored_array 10 10 6 4));
 }
 
 abbrev pub length_of : ℕ → Literal → InnerBody

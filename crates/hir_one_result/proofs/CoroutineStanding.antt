@@ -4,6 +4,7 @@ use Rattle.hir_store.specs.Bindings.{binding_id}
 use Rattle.hir_store.specs.Pointers.{Pointer}
 use Rattle.hir_store.specs.Stored.{Stored, store_of, map_of}
 use Rattle.hir_store.proofs.Extending.{extends_owner, extends_trans}
+use Rattle.hir_store.specs.declared.hir.CaptureBy.{CaptureBy}
 use Rattle.hir_store.specs.declared.hir.CoroutineKind.{CoroutineKind}
 use Rattle.hir_store.specs.declared.hir.ClosureKind.TheVariants as closure
 use Rattle.hir_store.specs.declared.hir.CoroutineSource.TheVariants as source
@@ -30,7 +31,7 @@ use Rattle.hir_read_back.proofs.Preludes.{ReadAs}
 use Rattle.hir_steps.proofs.Always.{Always, correct_always}
 use Rattle.hir_steps.proofs.Frames.{Frame, ribs}
 use Rattle.hir_steps.proofs.Keeping.{Any, any, part_any, present_type_any}
-use Rattle.hir_steps.proofs.Owning.{owned_by}
+use Rattle.hir_steps.proofs.Owning.{with_owned}
 use Rattle.hir_steps.proofs.Preludes.{correct_handed}
 use Rattle.hir_steps.proofs.Steps as steps
 use Rattle.hir_steps.proofs.Steps.{Both, Holds, Mark, Rel}
@@ -74,6 +75,12 @@ handed_nodes done (x ∷ xs) = steps.correct_as
     (steps.correct_bind (correct_handed x) (λ p. handed_nodes (done ++ p ∷ []) xs))
     (λ final ps m m' is g row. record { is = row.second.is ∙ row.first.nodes })
 
+-- of the same parts
+closure_as : {a a' : List PatId} {b b' : List (Option TypeRefId)} {c c' : CaptureBy} (t : Option TypeRefId) (coroutine : ExprId)
+    (kind : CoroutineKind) → a ≡ a' → b ≡ b' → c ≡ c'
+    → hir.Closure a b t coroutine (closure.CoroutineClosure kind) c ≡ hir.Closure a' b' t coroutine (closure.CoroutineClosure kind) c'
+closure_as t coroutine kind f g h = λ j. hir.Closure (f j) (g j) t coroutine (closure.CoroutineClosure kind) (h j)
+
 -- ---- what is in it
 
 -- the parameters that were written, what it returns, its body, and in front of that the `let`s
@@ -85,23 +92,22 @@ In kind ys P T S final rs w = λ ws. (l : StoredParams) × (body : ExprId) × (l
 
 module _ (P : Stored → Open → StoredParams → Ways) {T : Of (Option TypeRefId)} {S : Of ExprId} (kind : CoroutineKind) (xs : Params)
     (t : OptionType) (e : OptionExpr) where
-  abbrev data : List PatData
-  data = params_data xs
-
   within_stands : Correct (lower_params no_closure_params xs) (Shows (λ final rs l. ParamsBehind no_closure_params (P final rs) l))
       → Correct (present_type t) (Shows T) → Correct (lower_part e) (Shows S)
-      → Correct (within_form kind (lower_params no_closure_params xs) (present_type t) (lower_part e)) (Shows (In kind data P T S))
+      → Correct (within_form kind (lower_params no_closure_params xs) (present_type t) (lower_part e))
+      (Shows (In kind (params_data xs) P T S))
   unfolding within_form
   within_stands hp ht he = correct_as
       (correct_bind (correct_both hp (correct_always (params_now no_closure_params xs))) (λ l.
       correct_bind (correct_both ht (correct_always (present_type_any t))) (λ r.
       correct_bind (correct_both he (correct_always (part_any e))) (λ i.
-      correct_bind (lets_stand no_prelude l.args data) (λ k.
+      correct_bind (lets_stand no_prelude l.args (params_data xs)) (λ k.
       correct_bind (made_coroutine_stands kind source.Closure k.lets i) (λ c. correct_pure _))))))
       (λ final ps m m' w g row.
       let two = row.second in let three = two.second in let four = three.second in let five = four.second in
-      let written : ReadAs row.middle.stored row.one.args data = λ later f. (row.first.other.always later f).pats in
-      let before = written_lasts row.one.args data (extends_trans two.first.other.stays three.first.other.stays) written in
+      let written : ReadAs row.middle.stored row.one.args (params_data xs) = λ later f. (row.first.other.always later f).pats in
+      let to_prelude = extends_trans two.first.other.stays three.first.other.stays in
+      let before = written_lasts row.one.args (params_data xs) row.middle.stored three.middle.stored to_prelude written in
       let made = shown_before five.first.shown (moved_pure five.second.still) in
       let front = shown_both (four.first.shown before) made in
       let parts = shown_both row.first.one.shown (shown_both two.first.one.shown (shown_both three.first.one.shown front)) in
@@ -114,9 +120,10 @@ module _ (P : Stored → Open → StoredParams → Ways) {T : Of (Option TypeRef
             let last = inner.second.second in
             let coroutine = subst (λ ss. IsCoroutine (store_of final) (map_of final) kind source.Closure ss three.one last.0 five.one)
             lets.3 last.1 in
-            let there = subst (λ is. StandsLets (store_of final) (map_of final) (map named lets.0) data is lets.1 inner.second.left)
+            let vs = inner.second.left in
+            let there = subst (λ is. StandsLets (store_of final) (map_of final) (map named lets.0) (params_data xs) is lets.1 vs)
             params.1 lets.5 in
-            let these = subst (λ hs. StandsLets (store_of final) (map_of final) (map named hs) data params.0.0 lets.1 inner.second.left)
+            let these = subst (λ hs. StandsLets (store_of final) (map_of final) (map named hs) (params_data xs) params.0.0 lets.1 vs)
             (sym lets.2) there in (
               params.0,
               three.one,
@@ -158,17 +165,19 @@ module _ (P : Stored → Open → StoredParams → Ways) {T : Of (Option TypeRef
       → Correct (lower_params no_closure_params xs) (Shows (λ final rs l. ParamsBehind no_closure_params (P final rs) l))
       → Correct (present_type t) (Shows T) → Correct (lower_part e) (Shows S)
       → Correct (owning (λ i. i) (coroutine_closure_form at kind moves (lower_params no_closure_params xs) (present_type t) (lower_part e)))
-      (Shows (λ final rs i. StandsCoroutineClosure (store_of final) (map_of final) at kind (capture_of moves) data
+      (Shows (λ final rs i. StandsCoroutineClosure (store_of final) (map_of final) at kind (capture_of moves) (params_data xs)
       (λ l. P final (barrier_rib ∷ rs) l) (λ y. T final (barrier_rib ∷ rs) y) (λ x. S final (barrier_rib ∷ rs) x) i))
   coroutine_closure_stands at moves hp ht he = owning_shows (λ i. i) (correct_as
-      (correct_coroutine_closure at kind moves
+      (correct_coroutine_closure at kind moves _ _ _
       (correct_both (within_stands hp ht he) (steps.correct_both known (ends_at (within_last kind _ _ _) (any known))))
-      (λ hs. correct_both (handed_stand [] hs data) (handed_nodes [] hs)))
+      (λ hs. correct_both (handed_stand [] hs (params_data xs)) (handed_nodes [] hs)))
       (λ final ps m m' i g row.
       let w = row.within in
       let start = binding_id m.bindings in
       let told = row.in_within.other in
-      let from = froms_last w.handed data (extends_owner row.left.stored start w.coroutine) told.one.now in
+      let left = row.left.stored in
+      let after = with_owned start w.coroutine left in
+      let from = froms_last w.handed (params_data xs) left after (extends_owner left start w.coroutine) told.one.now in
       let owned = moved_owner start w.coroutine row.left.stored in
       let formals = shown_after owned (row.in_formals.one.shown from) in
       let number = row.made.number ∙ (row.in_formals.other.is ∙ told.other.is) in
@@ -177,7 +186,7 @@ module _ (P : Stored → Open → StoredParams → Ways) {T : Of (Option TypeRef
             let x = z.first in
             let y = z.second in
             let new = y.first in
-            let is = λ j. hir.Closure (new.1 j) (x.4 j) w.ret w.coroutine (closure.CoroutineClosure kind) (captures_as moves j) in
+            let is = closure_as w.ret w.coroutine kind new.1 x.4 (captures_as moves) in
             let placed = subst (λ k. Placed final i k (Some at)) is (expr_at row.made) in (
               x.0,
               w.ret,
@@ -201,5 +210,5 @@ module _ (P : Stored → Open → StoredParams → Ways) {T : Of (Option TypeRef
       }))
     where
       known : steps.Correct (within_form kind (lower_params no_closure_params xs) (present_type t) (lower_part e))
-          (Now (λ w. Froms w.handed data))
+          (Now (λ w. Froms w.handed (params_data xs)))
       known = handed_known kind xs t e

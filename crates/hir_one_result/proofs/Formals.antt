@@ -95,9 +95,9 @@ HasSelf (tree.self_formal at u _) o s = (b : BindingId) × (o ≡ Some b)
     × ((later : Stored) → Extends s later → option_map without_problem (binding_at b later) ≡ Some (new_binding u))
 
 pub self_lasts : (r : SelfFormal) (o : Option BindingId) → Lasting (HasSelf r o)
-self_lasts tree.no_self o e h = h
-self_lasts (tree.disabled_self at by) o e h = h
-self_lasts (tree.self_formal at u w) o e h = (h.0, h.1, λ later f. h.2 later (extends_trans e f))
+self_lasts tree.no_self o s t e h = h
+self_lasts (tree.disabled_self at by) o s t e h = h
+self_lasts (tree.self_formal at u w) o s t e h = (h.0, h.1, λ later f. h.2 later (extends_trans e f))
 
 pub self_known : (r : SelfFormal) → Correct (lower_self r) (Now (HasSelf r))
 self_known tree.no_self = correct_as (correct_pure None) (λ final ps m m' o g row. record { now = row.is })

@@ -82,8 +82,8 @@ let_self_takes (tree.self_formal at u w) o = record {
 -- ---- in the coroutine
 
 module _ (kind : CoroutineKind) (skipped : Bool) (self : Option BindingId) (fs : List Formal) (e : OptionExpr) where
-  abbrev data : List PatData
-  data = formals_data skipped fs
+  abbrev shapes : List PatData
+  shapes = formals_data skipped fs
 
   pub in_function_last : Last (λ x. x.1.1) (in_function kind skipped self fs e)
   unfolding in_function
@@ -92,17 +92,17 @@ module _ (kind : CoroutineKind) (skipped : Bool) (self : Option BindingId) (fs :
       (λ l. last_hands (made_coroutine_last kind source.Fn l.lets i) (λ c. hands_pure _ refl)))))
 
   -- the parameters, once they are stored
-  formals_known : Correct (each_formal skipped [] fs) (Now (λ ps. Written ps data))
+  formals_known : Correct (each_formal skipped [] fs) (Now (λ ps. Written ps shapes))
   formals_known = correct_as (correct_always (each_now skipped [] fs))
       (λ final ps m m' is g row. record { now = formals_read_as skipped fs row })
 
-  none_handed : (o : Option BindingId) {final : Stored} {ps : List Frame} {m m' : Mark} {r : Option BindingId × Prelude}
+  none_handed : (o : Option BindingId) (final : Stored) (ps : List Frame) (m m' : Mark) (r : Option BindingId × Prelude)
       → LetSelf o final ps m m' r → r.1.handed ≡ []
-  none_handed None row = ap (λ z. z.1.handed) row.0
-  none_handed (Some b) row = ap (λ z. z.1.handed) row.is
+  none_handed None final ps m m' r row = ap (λ z. z.1.handed) row.0
+  none_handed (Some b) final ps m m' r row = ap (λ z. z.1.handed) row.is
 
   -- how each is handed in, once the coroutine is stored
-  handed_known : Correct (in_function kind skipped self fs e) (Now (λ x. Froms x.1.0 data))
+  pub handed_known : Correct (in_function kind skipped self fs e) (Now (λ x. Froms x.1.0 shapes))
   unfolding in_function
   handed_known = correct_as
       (correct_bind (correct_always (each_now skipped [] fs)) (λ ps. correct_bind (correct_always (part_any e))
@@ -113,25 +113,28 @@ module _ (kind : CoroutineKind) (skipped : Bool) (self : Option BindingId) (fs :
       let two = row.second in let three = two.second in let four = three.second in let five = four.second in
       let begun = three.one in let l = four.one in
       let written = formals_read_as skipped fs row.first in
-      let before = written_lasts row.one data (extends_trans two.first.stays three.first.stays) written in
-      let behind = written_lasts row.one data (extends_trans four.first.stays five.first.stays) before in
-      let all = all_handed begun.1 row.one data final ps three.middle four.middle l (four.first.rel.each data before) in
-      let handed = all.handed ∙ ap (λ hs. hs ++ all.more) (none_handed self three.first.rel) in
-      let hand = subst (λ hs. HandIn hs row.one data) (sym handed) all.hand in
-      rw (five.second.is, five.second.still) (record { now = hand_from l.handed row.one data five.middle.stored hand behind }))
+      let to_prelude = extends_trans two.first.stays three.first.stays in
+      let to_end = extends_trans four.first.stays five.first.stays in
+      let before = written_lasts row.one shapes row.middle.stored three.middle.stored to_prelude written in
+      let behind = written_lasts row.one shapes three.middle.stored five.middle.stored to_end before in
+      let all = all_handed begun.1 row.one shapes final ps three.middle four.middle l (four.first.rel.each shapes before) in
+      let handed = all.handed ∙ ap (λ hs. hs ++ all.more) (none_handed self final ps two.middle three.middle begun three.first.rel) in
+      let hand = subst (λ hs. HandIn hs row.one shapes) (sym handed) all.hand in
+      rw (five.second.is, five.second.still) (record { now = hand_from l.handed row.one shapes five.middle.stored hand behind }))
 
   in_function_takes : (r : SelfFormal) {n k : Size} → Takes n (each_formal skipped [] fs) → Takes k (lower_part e)
-      → TakesIf (HasSelf r self) (n ∪ (k ∪ (self_let_size r ∪ (prelude_size data ∪ (an_expr ∪ an_expr)))))
+      → TakesIf (HasSelf r self) (n ∪ (k ∪ (self_let_size r ∪ (prelude_size shapes ∪ (an_expr ∪ an_expr)))))
       (in_function kind skipped self fs e)
   unfolding in_function
-  in_function_takes r hf he = takes_now {R = λ ps s. HasSelf r self s × Written ps data s}
-      (λ ps f h k. (self_lasts r self f h, k)) (takes_any hf) formals_known (λ ps.
-      takes_if_then {Q = λ s. HasSelf r self s × Written ps data s} (λ f h. (self_lasts r self f h.0, written_lasts ps data f h.1))
+  in_function_takes r hf he = takes_now {R = λ ps s. HasSelf r self s × Written ps shapes s}
+      (λ ps s t f h k. (self_lasts r self s t f h, k)) (takes_any hf) formals_known (λ ps.
+      takes_if_then {Q = λ s. HasSelf r self s × Written ps shapes s}
+      (λ s t f h. (self_lasts r self s t f h.0, written_lasts ps shapes s t f h.1))
       (takes_any he) (part_any e) (λ i.
-      takes_if_then {Q = Written ps data} (λ f h. written_lasts ps data f h.1)
+      takes_if_then {Q = Written ps shapes} (λ s t f h. written_lasts ps shapes s t f h.1)
       (record { takes = λ c d h. (let_self_takes r self).takes c d h.0 }) (any (correct_let_self self)) (λ begun.
-      takes_if_then {Q = Unknown} (λ f h. tt)
-      (let_params_take begun.1 ps data) (lets_any begun.1 ps) (λ l.
+      takes_if_then {Q = Unknown} (λ s t f h. tt)
+      (let_params_take begun.1 ps shapes) (lets_any begun.1 ps) (λ l.
       takes_any (takes_end (made_coroutine_takes kind source.Fn l.lets i) (λ c. takes_pure _))))))
 
 -- ---- the whole
@@ -146,9 +149,9 @@ module _ (kind : CoroutineKind) (skipped : Bool) (f : Formals) (e : OptionExpr) 
       ∪ (owned (n ∪ (k ∪ (self_let_size f.receiver ∪ (prelude_size written_data ∪ (an_expr ∪ an_expr))))) ∪ handed_size written_data))
       (coroutine_body kind skipped f e)
   unfolding coroutine_body
-  coroutine_body_takes hs hf he = takes_always {P = Unknown} (λ s. tt) (takes_now (λ o f h k. k)
+  coroutine_body_takes hs hf he = takes_always {P = Unknown} (λ s. tt) (takes_now (λ o s t f h k. k)
       (takes_any {P = Unknown} hs) (self_known f.receiver) (λ o.
-      takes_now (λ x f h k. k) (owning_takes (in_function_last kind skipped o f.formals e)
+      takes_now (λ x s t f h k. k) (owning_takes (in_function_last kind skipped o f.formals e)
       (in_function_takes kind skipped o f.formals e f.receiver hf he))
-      (owning_now (λ x. x.1.1) (λ x f h. froms_last x.1.0 written_data f h) (handed_known kind skipped o f.formals e)) (λ x.
+      (owning_now (λ x. x.1.1) (λ x. froms_last x.1.0 written_data) (handed_known kind skipped o f.formals e)) (λ x.
       takes_if_end (lower_handed_takes [] x.1.0 written_data) (λ ps. takes_pure _))))

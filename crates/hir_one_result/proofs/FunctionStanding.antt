@@ -175,8 +175,8 @@ In kind r skipped fs e final rs x = λ ws. (body : ExprId) × (begin : List Stat
     & OneUnled x.1.1) ws
 
 module _ (kind : CoroutineKind) (r : SelfFormal) (skipped : Bool) (self : Option BindingId) (fs : List Formal) (e : OptionExpr) where
-  abbrev data : List PatData
-  data = formals_data skipped fs
+  abbrev shapes : List PatData
+  shapes = formals_data skipped fs
 
   in_function_stands : Correct (each_formal skipped [] fs)
       (Shows (λ final rs is. Behind [] (StandsTops (store_of final) (map_of final) rs (formals_read skipped fs)) is))
@@ -187,19 +187,20 @@ module _ (kind : CoroutineKind) (r : SelfFormal) (skipped : Bool) (self : Option
       (correct_bind (correct_both hf (correct_always (each_now skipped [] fs))) (λ is.
       correct_bind (correct_both he (correct_always (part_any e))) (λ i.
       correct_bind (correct_both (let_self_stands r self) (correct_always (any (correct_let_self self)))) (λ begun.
-      correct_bind (lets_stand begun.1 is data) (λ l.
+      correct_bind (lets_stand begun.1 is shapes) (λ l.
       correct_bind (made_coroutine_stands kind source.Fn l.lets i) (λ c. correct_pure ((begun.0, is), (l.handed, c))))))))
       (λ final ps m m' x g row.
       let two = row.second in let three = two.second in let four = three.second in let five = four.second in
       let inside = extends_trans row.first.other.stays two.first.other.stays in
       let written = formals_read_as skipped fs row.first.other in
-      let before = written_lasts row.one data (extends_trans two.first.other.stays three.first.other.stays) written in
+      let to_prelude = extends_trans two.first.other.stays three.first.other.stays in
+      let before = written_lasts row.one shapes row.middle.stored three.middle.stored to_prelude written in
       let tops = behind_none (StandsTops (store_of final) (map_of final) (ribs ps) (formals_read skipped fs)) row.first.one.shown in
       let made = shown_before five.first.shown (moved_pure five.second.still) in
       let front = shown_both (four.first.shown before) made in
       rw five.second.is (record {
         shown = λ known.
-            let own = three.first.one.shown (self_lasts r self inside known) in
+            let own = three.first.one.shown (self_lasts r self m.stored two.middle.stored inside known) in
             shown_as (shown_both tops (shown_both two.first.one.shown (shown_both own front))) (λ ws z.
             let rest = z.second in
             let inner = rest.second in
@@ -209,7 +210,7 @@ module _ (kind : CoroutineKind) (r : SelfFormal) (skipped : Bool) (self : Option
             let coroutine = subst (λ ss. IsCoroutine (store_of final) (map_of final) kind source.Fn ss two.one last.0 five.one) lets.3
             last.1 in
             let none = lets.2 ∙ ap (λ hs. hs ++ lets.0) begun.0 in
-            let these = subst (λ hs. StandsLets (store_of final) (map_of final) (map named hs) data row.one lets.1 inner.second.left)
+            let these = subst (λ hs. StandsLets (store_of final) (map_of final) (map named hs) shapes row.one lets.1 inner.second.left)
             (sym none) lets.5 in (
               two.one,
               three.one.1.lets,
@@ -270,7 +271,7 @@ module _ (kind : CoroutineKind) (skipped : Bool) (f : Formals) (e : OptionExpr) 
       let owned = moved_to (ap (λ k. k.stored) own.is) (moved_owner start root own.left.stored) in
       let inside = shown_before (own.first.one.shown row.first.other.now) owned in
       let later = subst (λ k. Extends own.left.stored k.stored) (sym own.is) (extends_owner own.left.stored start root) in
-      let from = froms_last two.one.1.0 written_data later own.first.other.now in
+      let from = froms_last two.one.1.0 written_data own.left.stored two.middle.stored later own.first.other.now in
       let hands = StandsHanded (store_of final) (map_of final) (map named two.one.1.0) written_data in
       let formals = behind_none hands (three.first.shown from) in
       let behind = shown_before formals (moved_pure three.second.still) in

@@ -11,6 +11,7 @@ use Rattle.hir_steps.specs.Keeps.{Keeps, Paired}
 use Rattle.hir_steps.proofs.Frames.{Frame, frames, ribs_frames}
 use Rattle.hir_steps.proofs.Keeping.{Any, kept_by}
 use Rattle.hir_steps.proofs.Owning as owners
+use Rattle.hir_steps.proofs.Owning.{with_owned}
 use Rattle.hir_steps.proofs.Steps.{Correct, Holds, Mark, correct_as}
 use Rattle.hir_one_result.specs.Size.{Size, nothing, ◌∪◌}
 use Rattle.hir_one_result.proofs.Rooms.{Takes}
@@ -22,7 +23,7 @@ Known = Stored → Type 0
 
 -- it lasts, whatever else is stored
 abbrev pub Lasting : Known → Type 0
-Lasting P = {s t : Stored} → Extends s t → P s → P t
+Lasting P = (s t : Stored) → Extends s t → P s → P t
 
 pub record TakesIf {A : Type 0} (P : Known) (n : Size) (p : Lowering A) : Type 0 where
   pub takes : (b : Builder) → Paired b.stored → P b.stored → Room n b (p b).0 (p b).1
@@ -33,7 +34,7 @@ takes_any h = record { takes = λ b d k. h.takes b d }
 
 -- one after another, where what is known before tells enough behind
 pub takes_if_then : {A B : Type 0} {P Q : Known} {n k : Size} {p : Lowering A} {f : A → Lowering B}
-    → ({s t : Stored} → Extends s t → P s → Q t) → TakesIf P n p → Correct p Any → ((a : A) → TakesIf Q k (f a))
+    → ((s t : Stored) → Extends s t → P s → Q t) → TakesIf P n p → Correct p Any → ((a : A) → TakesIf Q k (f a))
     → TakesIf P (n ∪ k) (p >>= f)
 takes_if_then {A = A} {B = B} {P = P} {Q = Q} {n = n} {k = k} {p = p} {f = f} lasts h keeps more =
     record { takes = λ b d x. first b d x (p b).0 (p b).1 (h.takes b d x) (kept_by keeps b) }
@@ -44,7 +45,7 @@ takes_if_then {A = A} {B = B} {P = P} {Q = Q} {n = n} {k = k} {p = p} {f = f} la
 
     first : (b : Builder) → Paired b.stored → P b.stored → (o : Checked A) (c : Builder) → Room n b o c → Keeps b o c
         → Room (n ∪ k) b (go_on o c f).0 (go_on o c f).1
-    first b d x (Ok a) c y z = second b c y (f a c).0 (f a c).1 ((more a).takes c (y.paired d) (lasts z.stays x))
+    first b d x (Ok a) c y z = second b c y (f a c).0 (f a c).1 ((more a).takes c (y.paired d) (lasts b.stored c.stored z.stays x))
     first b d x (Err e) c y z = short_first n k b y
 
 -- what comes after stores nothing
@@ -67,7 +68,7 @@ pub record Now {A : Type 0} (Q : A → Known) (final : Stored) (ps : List Frame)
 
 -- steps behind whose answer something is known, with what was known before
 pub takes_now : {A B : Type 0} {P : Known} {Q R : A → Known} {n k : Size} {p : Lowering A} {f : A → Lowering B}
-    → ((a : A) {s t : Stored} → Extends s t → P s → Q a t → R a t) → TakesIf P n p → Correct p (Now Q)
+    → ((a : A) (s t : Stored) → Extends s t → P s → Q a t → R a t) → TakesIf P n p → Correct p (Now Q)
     → ((a : A) → TakesIf (R a) k (f a)) → TakesIf P (n ∪ k) (p >>= f)
 takes_now {A = A} {B = B} {P = P} {Q = Q} {R = R} {n = n} {k = k} {p = p} {f = f} lasts h knows more = record {
   takes = λ b d x. first b d x (p b).0 (p b).1 (h.takes b d x)
@@ -83,7 +84,7 @@ takes_now {A = A} {B = B} {P = P} {Q = Q} {R = R} {n = n} {k = k} {p = p} {f = f
     first b d x (Ok a) c y z =
         let done = z c.stored in
         let known = done.in_final d (extends_refl c.stored) in
-        second b c y (f a c).0 (f a c).1 ((more a).takes c (y.paired d) (lasts a done.kept.stays x known.now))
+        second b c y (f a c).0 (f a c).1 ((more a).takes c (y.paired d) (lasts a b.stored c.stored done.kept.stays x known.now))
     first b d x (Err e) c y z = short_first n k b y
 
 -- of whatever is known nothing is asked
@@ -95,5 +96,6 @@ pub owning_now : {A : Type 0} (owner : A → ExprId) {Q : A → Known} {p : Lowe
     → Correct (owning owner p) (Now Q)
 owning_now owner {Q = Q} lasts h = correct_as (owners.correct_owning owner h) (λ final ps m m' a g row.
     let start = binding_id m.bindings in
-    let owned = lasts a (extends_owner row.left.stored start (owner a)) row.first.now in
+    let left = row.left.stored in
+    let owned = lasts a left (with_owned start (owner a) left) (extends_owner left start (owner a)) row.first.now in
     rw row.is (record { now = owned }))

@@ -335,12 +335,12 @@ pub correct_coroutine : {p : ExprSteps} {R : Rel ExprId} → Correct p R → Cor
 correct_coroutine h = steps.correct_as (barriers.correct_coroutine h)
     (λ final ps m m' i g row. record { settled = row.inside.settled; rel = λ s. record { inside = row.inside.rel s } })
 
-pub correct_coroutine_closure : (at : Pointer) (which : CoroutineKind) (moves : Bool) {p : Lowering ClosureParams}
-    {t : Lowering (Option TypeRefId)} {e : ExprSteps} {W : Rel Within} {H : List Handed → Rel (List PatId)}
+pub correct_coroutine_closure : (at : Pointer) (which : CoroutineKind) (moves : Bool) (p : Lowering ClosureParams)
+    (t : Lowering (Option TypeRefId)) (e : ExprSteps) {W : Rel Within} {H : List Handed → Rel (List PatId)}
     → Correct (within_form which p t e) W → ((xs : List Handed) → Correct (lower_handed [] xs) (H xs))
     → Correct (coroutine_closure_form at which moves p t e) (CoroutineClosureRow at which moves W H)
-correct_coroutine_closure at which moves hw hh =
-    steps.correct_as (closures.correct_coroutine_closure at which moves _ _ _ hw hh) (λ final ps m m' i g row.
+correct_coroutine_closure at which moves p t e hw hh =
+    steps.correct_as (closures.correct_coroutine_closure at which moves p t e hw hh) (λ final ps m m' i g row.
     let made : Settled row.handed.stored m'.stored = settled_as row.handed.stored m'.stored (ap (λ s. s.bindings) row.made.stored) in
     let behind = prefix_trans row.in_formals.settled made in record {
       settled = prefix_trans row.in_within.settled behind;

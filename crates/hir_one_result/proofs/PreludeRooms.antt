@@ -47,10 +47,10 @@ abbrev pub From : PatId → Option Pointer → Known
 From p at s = (later : Stored) → Extends s later → Paired later → source_in later p ≡ at
 
 pub from_lasts : (p : PatId) (at : Option Pointer) → Lasting (From p at)
-from_lasts p at e h = λ later f. h later (extends_trans e f)
+from_lasts p at s t e h = λ later f. h later (extends_trans e f)
 
 -- what it reads as tells that
-reads_from : (s : Stored) (p : PatId) (y : PatData) → ReadsAs s p y → From p (source_of y) s
+pub reads_from : (s : Stored) (p : PatId) (y : PatData) → ReadsAs s p y → From p (source_of y) s
 reads_from s p y h = λ later e d. source_alike later d p ∙ ap source_of (h later e)
 
 -- so of each that is handed in
@@ -60,20 +60,20 @@ Froms (x ∷ xs) (y ∷ ys) s = From x.pat (source_of y) s × Froms xs ys s
 Froms xs ys s = ⊥
 
 pub froms_last : (xs : List Handed) (ys : List PatData) → Lasting (Froms xs ys)
-froms_last [] [] e h = tt
-froms_last (x ∷ xs) (y ∷ ys) e h = (from_lasts x.pat (source_of y) e h.0, froms_last xs ys e h.1)
-froms_last [] (y ∷ ys) e h = absurd h
-froms_last (x ∷ xs) [] e h = absurd h
+froms_last [] [] s t e h = tt
+froms_last (x ∷ xs) (y ∷ ys) s t e h = (from_lasts x.pat (source_of y) s t e h.0, froms_last xs ys s t e h.1)
+froms_last [] (y ∷ ys) s t e h = absurd h
+froms_last (x ∷ xs) [] s t e h = absurd h
 
-is_empty : {A : Type 0} → List A → Bool
+abbrev is_empty : {A : Type 0} → List A → Bool
 is_empty [] = true
 is_empty (x ∷ xs) = false
 
-first_or : {A : Type 0} → A → List A → A
+abbrev first_or : {A : Type 0} → A → List A → A
 first_or d [] = d
 first_or d (x ∷ xs) = x
 
-others : {A : Type 0} → List A → List A
+abbrev others : {A : Type 0} → List A → List A
 others [] = []
 others (x ∷ xs) = xs
 
@@ -119,7 +119,7 @@ beside_takes x p at = record {
 
 handed_takes : (x : Handed) (at : Option Pointer) → TakesIf (From x.pat at) (a_binding ∪ a_made_pat at) (handed_form x)
 unfolding handed_form
-handed_takes x at = takes_if_then (λ e h. from_lasts x.pat at e h) (takes_any (takes_binding _)) (any (correct_alloc_binding _))
+handed_takes x at = takes_if_then (from_lasts x.pat at) (takes_any (takes_binding _)) (any (correct_alloc_binding _))
     (λ i. takes_if_end (beside_takes _ x.pat at) (λ p. takes_end (takes_define i p) (λ u. takes_pure p)))
 
 -- ---- `let`s
@@ -130,7 +130,7 @@ let_takes x p = takes_end (name_takes x.name x.hygiene) (λ e. takes_pure _)
 
 two_lets_take : (x : Handed) (p : PatId) (y : PatData) → TakesIf (From x.pat (source_of y)) (two_lets_size y) (two_lets_form x p)
 unfolding two_lets_form
-two_lets_take x p y = takes_if_then {Q = λ s. Unit {0}} (λ e h. tt) (handed_takes x (source_of y)) (any (correct_handed x))
+two_lets_take x p y = takes_if_then {Q = λ s. Unit {0}} (λ s t e h. tt) (handed_takes x (source_of y)) (any (correct_handed x))
     (λ q. takes_any (takes_then (name_takes x.name x.hygiene) (λ e. takes_end (name_takes x.name x.hygiene) (λ f. takes_pure _))))
 
 between_takes : (done : Prelude) (p : PatId) (x : Handed) (y : PatData)
@@ -148,7 +148,7 @@ in_takes : (done : Prelude) (p : PatId) (own : Option OwnName) (y : PatData)
     → TakesIf (From p (source_of y)) (lets_size y (handed_of own)) (forms.handed_in done p own)
 unfolding forms.handed_in
 in_takes done p (Some own) y = own_takes done p own.is_alone own.name own.hygiene y
-in_takes done p None y = takes_if_then (λ e h. from_lasts p (source_of y) e h) (takes_any takes_number) (any correct_made_number)
+in_takes done p None y = takes_if_then (from_lasts p (source_of y)) (takes_any takes_number) (any correct_made_number)
     (λ n. between_takes done p (handed_as (Generated n) root_hygiene p) y)
 
 -- by what is stored it is handed in as by what is written
@@ -167,7 +167,7 @@ pub let_params_take : (done : Prelude) (is : List PatId) (ys : List PatData)
 let_params_take done [] [] = takes_any (takes_pure done)
 let_params_take done [] (y ∷ ys) = record { takes = λ b d h. absurd (none_written b.stored y ys h) }
 let_params_take done (p ∷ is) [] = record { takes = λ b d h. absurd (one_written b.stored p is h) }
-let_params_take done (p ∷ is) (y ∷ ys) = takes_if_then {P = λ s. ReadAs s (p ∷ is) (y ∷ ys)} (λ {s} {t} e h. others_read s t e p is y ys h)
+let_params_take done (p ∷ is) (y ∷ ys) = takes_if_then {P = λ s. ReadAs s (p ∷ is) (y ∷ ys)} (λ s t e h. others_read s t e p is y ys h)
     (record { takes = λ b d h. (let_param_takes done p y).takes b d (first_reads b.stored p is y ys h) })
     (any (correct_let_param done p)) (λ l. let_params_take l is ys)
 
@@ -178,7 +178,7 @@ pub lower_handed_takes : (done : List PatId) (xs : List Handed) (ys : List PatDa
 lower_handed_takes done [] [] = takes_any (takes_pure done)
 lower_handed_takes done [] (y ∷ ys) = record { takes = λ b d h. absurd h }
 lower_handed_takes done (x ∷ xs) [] = record { takes = λ b d h. absurd h }
-lower_handed_takes done (x ∷ xs) (y ∷ ys) = takes_if_then {P = Froms (x ∷ xs) (y ∷ ys)} (λ e h. froms_last xs ys e h.1)
+lower_handed_takes done (x ∷ xs) (y ∷ ys) = takes_if_then {P = Froms (x ∷ xs) (y ∷ ys)} (λ s t e h. froms_last xs ys s t e h.1)
     (record { takes = λ b d h. (handed_takes x (source_of y)).takes b d h.0 })
     (any (correct_handed x)) (λ p. lower_handed_takes (done ++ p ∷ []) xs ys)
 

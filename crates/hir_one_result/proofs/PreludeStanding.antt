@@ -287,7 +287,7 @@ handed_stand done (x ∷ xs) (y ∷ ys) = correct_as
     (λ p. handed_stand (done ++ p ∷ []) xs ys))
     (λ final ps m m' is g row. record {
       shown = λ from.
-          let behind = froms_last xs ys row.first.other.stays from.1 in
+          let behind = froms_last xs ys m.stored row.middle.stored row.first.other.stays from.1 in
           shown_as (shown_both (row.first.one.shown from.0) (row.second.shown behind)) (λ ws z.
           let new = z.second in
           let at = new.1 ∙ append_assoc done (row.one ∷ []) new.0 in (

@@ -215,11 +215,10 @@ pub unnamed : {a b : ℕ} → b ≡ a → b ≡ a + 0
 unnamed e = omega (arith, e)
 
 -- each has its source still
-pub as_many_still : {T I J : Type 0} {a : Sourced T I} {b : Sourced T J} → b.entries ≡ a.entries → b.sources ≡ a.sources
-    → length a.sources ≡ length a.entries → length b.sources ≡ length b.entries
+as_many_still : {A B : Type 0} {xs us : List A} {ys vs : List B} → us ≡ xs → vs ≡ ys → length ys ≡ length xs → length vs ≡ length us
 as_many_still e f h = ap length f ∙ (h ∙ sym (ap length e))
 
-pub pairs_still : {T I : Type 0} {a b : Sourced T I} → b ≡ a → length a.sources ≡ length a.entries → length b.sources ≡ length b.entries
+pairs_still : {T I : Type 0} {a b : Sourced T I} → b ≡ a → length a.sources ≡ length a.entries → length b.sources ≡ length b.entries
 pairs_still e h = subst (λ s. length s.sources ≡ length s.entries) (sym e) h
 
 -- what is stored besides takes nothing

@@ -1,18 +1,14 @@
 -- What is in a closure whose body is a coroutine reads back as what is written: what it is handed its arguments by, their types and what
 -- it returns. Its `let`s are those of what is written.
-use Rattle.std.proofs.Common.{◌≡◌, ◌∙◌, ap, subst, sym, List, [], ◌∷◌, map, Bool, Option}
+use Rattle.std.proofs.Common.{◌≡◌, ◌∙◌, ap, subst, sym, List, [], map, Bool}
 use Rattle.hir_store.specs.Bindings.{binding_id}
 use Rattle.hir_store.specs.Pointers.{Pointer}
 use Rattle.hir_store.specs.Stored.{Stored, store_of, map_of}
-use Rattle.hir_store.specs.Storing.{Extends}
 use Rattle.hir_store.specs.declared.hir.CoroutineKind.{CoroutineKind}
 use Rattle.hir_store.specs.declared.hir.CoroutineSource.TheVariants as source
-use Rattle.hir_store.specs.declared.hir.Statement.{Statement}
 use Rattle.hir_store.specs.declared.ids.ExprId.{ExprId}
-use Rattle.hir_store.specs.declared.ids.PatId.{PatId}
 use Rattle.hir_store.proofs.Extending.{extends_owner, extends_trans}
 use Rattle.hir_env.specs.Answered.{OptionType, Params}
-use Rattle.hir_lower_form.specs.declared.preludes.Handed.{Handed}
 use Rattle.hir_lower_form.specs.declared.preludes.Within.{Within}
 use Rattle.hir_lower_form.specs.Forms.{ExprSteps}
 use Rattle.hir_lower_form.specs.Lower.{lower_params, no_closure_params, present_type}
@@ -31,7 +27,7 @@ use Rattle.hir_data.specs.Tops.{params_tops}
 use Rattle.hir_data.specs.Written.{written_option_type}
 use Rattle.hir_read_back.proofs.Now.{OptionTypeNow, option_type_now}
 use Rattle.hir_read_back.proofs.Params.{ParamsNow, params_now, pats_in, types_in}
-use Rattle.hir_read_back.proofs.Preludes.{AllHanded, FormalsNow, HandIn, HandedParams, LetsNow, ReadAs, all_handed, formals_now, lets_now}
+use Rattle.hir_read_back.proofs.Preludes.{FormalsNow, HandIn, HandedParams, LetsNow, ReadAs, all_handed, formals_now, lets_now}
 
 -- the data of its parameters
 abbrev pub params_data : Params → List PatData

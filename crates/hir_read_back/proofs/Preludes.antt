@@ -2,7 +2,7 @@
 -- formal pattern of what is written.
 use Rattle.std.proofs.Common.{◌≡◌, ◌∙◌, refl, sym, ap, subst, ℕ, zero, suc, ◌+◌, ◌≤◌, Bool, true, false, true≢false, arith, length, map}
 use Rattle.std.proofs.Common.{List, [], ◌∷◌, ◌++◌, append-nil, append_assoc, Option, Some, None, option_map, slice_get}
-use Rattle.std.proofs.lemmas.Option.{none-some, same_Some, slice_get-map, slice_get_past}
+use Rattle.std.proofs.lemmas.Option.{slice_get-map, slice_get_past}
 use Rattle.hir_binding.specs.declared.binding.BindingAnnotation.{BindingAnnotation}
 use Rattle.hir_binding.specs.declared.binding.BindingAnnotation.TheVariants as mode
 use Rattle.hir_store.specs.Bindings.{without_problem}
@@ -25,7 +25,7 @@ use Rattle.hir_lower_form.specs.declared.preludes.Handed.{Handed}
 use Rattle.hir_lower_form.specs.declared.preludes.OwnName.{OwnName}
 use Rattle.hir_lower_form.specs.declared.preludes.Prelude.{Prelude}
 use Rattle.hir_lower_form.specs.Forms.{root_hygiene}
-use Rattle.hir_lower_form.specs.Preludes.{handed_as, handed_binding, if_written, is_plain, let_param, let_params, lower_handed, own_bound}
+use Rattle.hir_lower_form.specs.Preludes.{handed_as, handed_binding, if_written, is_plain, let_params, lower_handed, own_bound}
 use Rattle.hir_lower_form.specs.Preludes.{own_in}
 use Rattle.hir_steps.specs.Keeps.{Paired}
 use Rattle.hir_steps.proofs.Always.{Always, correct_always}

@@ -49,9 +49,10 @@ put_below : (n : ℕ) (v : Value) (table : RunTable) (i lo : ℕ) (os : List (Op
 put_below n v table i lo [] lt r h = tt
 put_below n v table i lo (None ∷ os) lt r h = (tt, put_below n v table (suc i) lo os lt r.1 h.1)
 put_below n v table i lo (Some k ∷ os) lt r h =
-    let least : lo ≤ k = r.0 in
-    (rw (ne_eqb k n (λ e. omega (arith, e, lt, least))) h.0,
-    put_below n v table (suc i) (suc k) os (omega (arith, lt, least)) r.1 h.1)
+    let least : lo ≤ k = r.0 in (
+      rw (ne_eqb k n (λ e. omega (arith, e, lt, least))) h.0,
+      put_below n v table (suc i) (suc k) os (omega (arith, lt, least)) r.1 h.1,
+    )
 
 pub stand_for : (i lo : ℕ) (os : List (Option ℕ)) → Rising lo os → ArgumentsIn (given i os) i os
 stand_for i lo [] r = tt

@@ -1,5 +1,5 @@
 -- An `async` or `gen` closure runs as it is written: what its arguments are handed to is in its event, as it is read back.
-use Rattle.std.proofs.Common.{◌≡◌, ◌∙◌, refl, sym, ap, subst, Bool, List, [], ◌∷◌, map, Option, Some}
+use Rattle.std.proofs.Common.{◌≡◌, ◌∙◌, refl, sym, ap, subst, Bool, List, [], map, Option, Some}
 use Rattle.hir_store.specs.Bindings.{binding_id}
 use Rattle.hir_store.specs.Pointers.{Pointer}
 use Rattle.hir_store.specs.Stored.{Stored, store_of, map_of}

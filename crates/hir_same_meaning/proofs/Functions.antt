@@ -1,6 +1,6 @@
 -- A function with `async` or `gen` makes its coroutine, which binds its parameters, `self` first, and then runs its body.
 use Rattle.std.proofs.Common.{◌≡◌, ◌∙◌, refl, sym, ap, subst, ℕ, zero, suc, ◌+◌, ◌≤◌, List, [], ◌∷◌, ◌++◌, length, map, append-nil}
-use Rattle.std.proofs.Common.{append_assoc, Option, Some, None, option_map, Ok, slice_get, arith}
+use Rattle.std.proofs.Common.{append_assoc, Option, Some, None, option_map, arith}
 use Rattle.std.proofs.lemmas.Option.{none-some, same_Some, slice_get-map}
 use Rattle.hir_store.specs.Bindings.{without_problem}
 use Rattle.hir_store.specs.Names.{IsWritten}
@@ -15,26 +15,23 @@ use Rattle.hir_store.specs.declared.ids.CfgId.{CfgId}
 use Rattle.hir_store.specs.declared.ids.ExprId.{ExprId}
 use Rattle.hir_store.specs.declared.ids.PatId.{PatId}
 use Rattle.hir_store.specs.declared.pat.Binding.{Binding}
-use Rattle.hir_store.specs.declared.pat.Pat.TheVariants as pat
-use Rattle.hir_store.proofs.Extending.{extends_owner, extends_refl, extends_trans}
+use Rattle.hir_store.proofs.Extending.{extends_trans}
 use Rattle.hir_env.specs.Answered as tree
 use Rattle.hir_env.specs.Answered.{OptionExpr, SelfFormal, Use}
 use Rattle.hir_data.specs.Data.{no_type, pat_at}
 use Rattle.hir_data.specs.Patterns.{written_pat}
 use Rattle.hir_data.specs.Reading.{readers}
 use Rattle.hir_data.specs.Tops.{Tops}
-use Rattle.hir_data.proofs.MadeNames.{Unmade}
-use Rattle.hir_lower_form.specs.declared.preludes.Handed.{Handed}
 use Rattle.hir_lower_form.specs.declared.preludes.Prelude.{Prelude}
 use Rattle.hir_lower_form.specs.Lower.{lower_part}
 use Rattle.hir_lower_form.specs.Lowering.{Lowering}
 use Rattle.hir_lower_form.specs.Pats.{new_binding}
-use Rattle.hir_lower_form.specs.Preludes.{bound_anew, let_from, no_prelude}
-use Rattle.hir_meaning.specs.Inner.{all_of, bodies_in, function_bodies, handed_to, inner_bodies, inners, of_statement, prelude_body}
+use Rattle.hir_lower_form.specs.Preludes.{bound_anew, no_prelude}
+use Rattle.hir_meaning.specs.Inner.{all_of, bodies_in, inner_bodies, inners, prelude_body}
 use Rattle.hir_meaning.specs.Inner.{pat_part_bodies, tops_bodies}
 use Rattle.hir_meaning.specs.Limits.{stored_inside, written_inner}
 use Rattle.hir_meaning.specs.Prelude.{hands_in, hands_in_self, reads_name, self_pattern}
-use Rattle.hir_meaning.specs.Run.{Value, binds}
+use Rattle.hir_meaning.specs.Run.{binds}
 use Rattle.hir_meaning.specs.Same.{SameBody, SameCoroutine}
 use Rattle.hir_read_back.proofs.Layers.{within}
 use Rattle.hir_read_back.proofs.Made.{pat_in_full}
@@ -44,11 +41,12 @@ use Rattle.hir_read_back.proofs.PatTree.{top_now}
 use Rattle.hir_read_back.proofs.Preludes.{BindEach, formals_now}
 use Rattle.hir_steps.proofs.Always.{Always, correct_always}
 use Rattle.hir_steps.proofs.Frames.{Frame}
-use Rattle.hir_steps.proofs.Owning.{Owning, correct_owning}
-use Rattle.hir_steps.proofs.PatSteps.{AllocatedBinding, correct_alloc_binding}
+use Rattle.hir_steps.proofs.Logic.{grows_trans}
+use Rattle.hir_steps.proofs.Owning.{correct_owning}
+use Rattle.hir_steps.proofs.PatSteps.{correct_alloc_binding}
 use Rattle.hir_steps.proofs.Preludes.{LetSelf, MadeCoroutine, NameRead, Rebound, ReboundAs, binding_at, correct_let_self}
 use Rattle.hir_steps.proofs.Preludes.{correct_made_coroutine, self_prelude}
-use Rattle.hir_steps.proofs.Steps.{Answers, Both, Correct, Grows, InStore, Mark, Rel, Seq, correct_as, correct_bind, correct_both}
+use Rattle.hir_steps.proofs.Steps.{Answers, Both, Correct, Grows, InStore, Mark, Rel, correct_as, correct_bind, correct_both}
 use Rattle.hir_steps.proofs.Steps.{correct_in_store, correct_pure}
 use Rattle.hir_same_meaning.specs.Functions.{FunctionHeadline, InFunction, Received, coroutine_function, in_function, lower_receiver}
 use Rattle.hir_same_meaning.specs.Functions.{lower_tops}
@@ -59,9 +57,8 @@ use Rattle.hir_same_meaning.proofs.Handing.{DoesEach, HandsNow, bind_layer_is, e
 use Rattle.hir_same_meaning.proofs.HeldPreludes.{PreludeDoes, SelfDoes, coroutine_holds, coroutine_is, formals_made, making_is}
 use Rattle.hir_same_meaning.proofs.HeldPreludes.{no_self_does, prelude_does}
 use Rattle.hir_same_meaning.proofs.HeldTree.{body_holds, top_holds}
-use Rattle.hir_same_meaning.proofs.Holding.{Holds, SameIn, an_expr, inners_in, same_append, same_ids}
+use Rattle.hir_same_meaning.proofs.Holding.{Holds, SameIn, an_expr, inners_in, same_append}
 use Rattle.hir_same_meaning.proofs.Induction.{part_fine}
-use Rattle.hir_same_meaning.proofs.Patterned.{pat_in}
 use Rattle.hir_same_meaning.proofs.Preludes.{let_runs, name_holds, name_jumps, number_written}
 use Rattle.hir_same_meaning.proofs.Senses.{Runs, base_of, goes_within, one, under_refl, wider}
 use Rattle.hir_same_meaning.proofs.Unmade.{all_of as entries_of}
@@ -243,12 +240,13 @@ module _ (kind : CoroutineKind) (self : SelfFormal) (ts : Tops) (e : OptionExpr)
 
   contents : (d : ℕ) → row.after_prelude.nodes + row.after_prelude.entries ≤ d
       → let r = inners_in final d in SameIn final (all_of r.pat row.params ++ r.expr row.body) (tops_bodies ts ++ bodies_in e)
-  contents d le = let r = inners_in final d in
+  contents d le =
+      let r = inners_in final d in
+      let near = grows_trans row.to_self row.to_prelude in
+      let far = grows_trans row.to_body near in
       same_append final (all_of r.pat row.params) (r.expr row.body) (tops_bodies ts) (bodies_in e)
-      (row.in_params.rel.same d (omega (arith, le, row.to_body.nodes, row.to_body.entries, row.to_self.nodes, row.to_self.entries,
-      row.to_prelude.nodes, row.to_prelude.entries)))
-      (row.in_body.rel.other.same d (omega (arith, le, row.to_self.nodes, row.to_self.entries, row.to_prelude.nodes,
-      row.to_prelude.entries)))
+      (row.in_params.rel.same d (omega (arith, le, far.nodes, far.entries)))
+      (row.in_body.rel.other.same d (omega (arith, le, near.nodes, near.entries)))
 
   same_made : SameCoroutine (store_of final) (map_of final) formals row.coroutine kind self ts e
   unfolding inner_bodies

@@ -1,5 +1,5 @@
 -- What hands in the parameters of a coroutine runs as it is written: each as its pattern says, one after another.
-use Rattle.std.proofs.Common.{◌≡◌, ◌∙◌, refl, sym, ap, subst, ℕ, zero, suc, ◌+◌, ◌≤◌, List, [], ◌∷◌, ◌++◌, map, append-nil, append_assoc}
+use Rattle.std.proofs.Common.{◌≡◌, ◌∙◌, refl, sym, ap, subst, ℕ, zero, suc, ◌≤◌, List, [], ◌∷◌, ◌++◌, map, append-nil, append_assoc}
 use Rattle.std.proofs.Common.{Bool, true, false, true≢false, Option, Some, None, arith}
 use Rattle.hir_binding.specs.declared.binding.BindingAnnotation.{BindingAnnotation}
 use Rattle.hir_binding.specs.declared.binding.BindingAnnotation.TheVariants.{Mutable}

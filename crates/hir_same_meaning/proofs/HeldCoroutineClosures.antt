@@ -24,6 +24,7 @@ use Rattle.hir_meaning.specs.Limits.{stored_inside, written_inner}
 use Rattle.hir_meaning.specs.Same.{SameBody}
 use Rattle.hir_read_back.proofs.Preludes.{BindEach}
 use Rattle.hir_steps.proofs.Frames.{Frame, barrier_at}
+use Rattle.hir_steps.proofs.Logic.{grows_trans}
 use Rattle.hir_steps.proofs.Steps.{Both, Correct, Mark, Rel, correct_as, correct_bind, correct_both, correct_in_store, correct_pure}
 use Rattle.hir_steps.proofs.Steps.{correct_report}
 use Rattle.hir_same_meaning.proofs.Arguments.{Rising}
@@ -159,9 +160,9 @@ module _ (which : CoroutineKind) (xs : Params) (e : OptionExpr) (es fs ts : Bodi
   contents_inside d le =
       let r = inners_in final d in
       let apart = x.in_params.rel.other in
+      let far = grows_trans x.to_ret (grows_trans x.to_body x.to_prelude) in
       same_append final (all_of r.pat x.params.args) (r.expr x.body) es (bodies_in e)
-      (same_ids final es (ap (all_of r.pat) apart.args) (apart.pats d
-      (omega (arith, le, x.to_ret.nodes, x.to_ret.entries, x.to_body.nodes, x.to_body.entries, x.to_prelude.nodes, x.to_prelude.entries))))
+      (same_ids final es (ap (all_of r.pat) apart.args) (apart.pats d (omega (arith, le, far.nodes, far.entries))))
       (x.in_body.rel.other.same d (omega (arith, le, x.to_prelude.nodes, x.to_prelude.entries)))
 
   inside_coroutine : (d : ℕ) → m'.nodes + m'.entries ≤ d
@@ -178,14 +179,14 @@ module _ (which : CoroutineKind) (xs : Params) (e : OptionExpr) (es fs ts : Bodi
       let r = inners_in final d in
       let apart = x.in_params.rel.other in
       let none = formals_hold final formals w.handed binds d in
+      let near = grows_trans x.to_body (grows_trans x.to_prelude x.to_end) in
+      let far = grows_trans x.to_ret near in
       same_append final (of_params r formals x.params.arg_types) (of_present r.type x.ret ++ handed_to formals (r.expr x.coroutine))
       fs (ts ++ coroutine_bodies xs e es)
       (same_ids final fs (types_alone final d formals x.params.arg_types none ∙ ap (all_of (of_present r.type)) apart.arg_types)
-      (apart.types d (omega (arith, le, x.to_ret.nodes, x.to_ret.entries, x.to_body.nodes, x.to_body.entries, x.to_prelude.nodes,
-      x.to_prelude.entries, x.to_end.nodes, x.to_end.entries))))
+      (apart.types d (omega (arith, le, far.nodes, far.entries))))
       (same_append final (of_present r.type x.ret) (handed_to formals (r.expr x.coroutine)) ts (coroutine_bodies xs e es)
-      (x.in_ret.rel.same d (omega (arith, le, x.to_body.nodes, x.to_body.entries, x.to_prelude.nodes, x.to_prelude.entries,
-      x.to_end.nodes, x.to_end.entries)))
+      (x.in_ret.rel.same d (omega (arith, le, near.nodes, near.entries)))
       (inside_coroutine d le))
 
   -- and what makes it

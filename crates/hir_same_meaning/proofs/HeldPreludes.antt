@@ -17,7 +17,7 @@ use Rattle.hir_data.specs.Data.{PatData, no_type}
 use Rattle.hir_data.specs.Reading.{stored_option_type}
 use Rattle.hir_lower_form.specs.declared.preludes.Handed.{Handed}
 use Rattle.hir_lower_form.specs.declared.preludes.Prelude.{Prelude}
-use Rattle.hir_lower_form.specs.Preludes.{coroutine_of, no_prelude}
+use Rattle.hir_lower_form.specs.Preludes.{no_prelude}
 use Rattle.hir_meaning.specs.Inner.{Bodies, InnerBody, all_of, by_itself, handed_to, inners, of_statement}
 use Rattle.hir_meaning.specs.Jumps.{EachStatement, EnclosedTo}
 use Rattle.hir_meaning.specs.Limits.{stored_inside, written_inner}
@@ -29,7 +29,7 @@ use Rattle.hir_meaning.specs.Syntax.{SyntaxRun, made_coroutine}
 use Rattle.hir_read_back.proofs.Preludes.{BindEach, BindsName}
 use Rattle.hir_steps.proofs.Frames.{Falls, Frame, scopes}
 use Rattle.hir_steps.proofs.Preludes.{MadeCoroutine}
-use Rattle.hir_steps.proofs.Steps.{Allocated, Mark}
+use Rattle.hir_steps.proofs.Steps.{Mark}
 use Rattle.hir_same_meaning.proofs.Arguments.{ArgumentsIn, Rising, arguments_stand}
 use Rattle.hir_same_meaning.proofs.Body.{body_from, body_is}
 use Rattle.hir_same_meaning.proofs.From.{SameFrom, from_plain_block, from_where}

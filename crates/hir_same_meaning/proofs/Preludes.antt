@@ -1,5 +1,5 @@
 -- `let`s that hand in a parameter of a coroutine run as they are written, where a made name stands for its argument.
-use Rattle.std.proofs.Common.{◌≡◌, ◌∙◌, refl, sym, ap, subst, ℕ, zero, suc, ◌≤◌, Bool, List, [], ◌∷◌, ◌++◌, append-nil, arith}
+use Rattle.std.proofs.Common.{◌≡◌, ◌∙◌, refl, sym, ℕ, zero, suc, ◌≤◌, Bool, List, [], ◌∷◌, ◌++◌, arith}
 use Rattle.std.proofs.Common.{Option, Some, None, option_map}
 use Rattle.hir_store.specs.Names.{IsWritten}
 use Rattle.hir_store.specs.Pointers.{Pointer}

@@ -1,5 +1,5 @@
 -- What holds of each function with `async` or `gen` that is lowered: its expression makes its coroutine, and that does what is written.
-use Rattle.std.specs.Prelude.{◌≡◌, List, [], ◌∷◌, ◌++◌, Option, Some, None, Ok}
+use Rattle.std.specs.Prelude.{◌≡◌, List, [], ◌∷◌, ◌++◌, Option, None, Ok}
 use Rattle.hir_store.specs.Stored.{Stored, store_of, map_of}
 use Rattle.hir_store.specs.Storing.{Extends}
 use Rattle.hir_store.specs.declared.hir.CoroutineKind.{CoroutineKind}

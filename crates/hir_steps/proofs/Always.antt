@@ -6,7 +6,7 @@ use Rattle.hir_lower_form.specs.Builder.{Builder}
 use Rattle.hir_lower_form.specs.Lowering.{Checked, Lowering}
 use Rattle.hir_steps.specs.Keeps.{Paired}
 use Rattle.hir_steps.proofs.Frames.{Frame}
-use Rattle.hir_steps.proofs.Logic.{Mark, mark, Rel, Holds, Correct}
+use Rattle.hir_steps.proofs.Logic.{Mark, Rel, Holds, Correct}
 
 -- It is so in each store that begins with what is stored by then, as in the final one; each entry had its source before.
 pub record Always {A : Type 0} (R : Rel A) (final : Stored) (ps : List Frame) (m m' : Mark) (a : A) : Type 0 where

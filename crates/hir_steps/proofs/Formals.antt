@@ -4,7 +4,7 @@ use Rattle.std.proofs.Common.{List, [], ◌∷◌, ◌++◌, map, Option, Some, 
 use Rattle.std.proofs.lemmas.Option.{none-some, slice_get-map}
 use Rattle.hir_store.specs.Arenas.{Prefix}
 use Rattle.hir_store.specs.Bindings.{without_problem}
-use Rattle.hir_store.specs.Stored.{Stored, Store, store_of}
+use Rattle.hir_store.specs.Stored.{Stored, store_of}
 use Rattle.hir_store.specs.Storing.{Extends}
 use Rattle.hir_store.specs.declared.hir.Expr.{Expr}
 use Rattle.hir_store.specs.declared.ids.PatId.{PatId}
