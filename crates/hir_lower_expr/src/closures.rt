@@ -1,6 +1,6 @@
 //! Closures, whose bodies are bodies of their own.
 
-ghost use Rattle.std.specs.Prelude.{◌≡◌};
+ghost use Rattle.std.specs.Prelude.{◌≡◌, false};
 ghost use Rattle.hir_syntax.specs.declared.types.Param.{out-Param};
 ghost use Rattle.hir_store.specs.Range.{HasExpr};
 ghost use Rattle.hir_env.specs.Answered as tree;

@@ -21,7 +21,7 @@ use Rattle.hir_steps.proofs.PatSteps as pats
 use Rattle.hir_steps.proofs.PatSteps.{with_new_binding}
 use Rattle.hir_steps.proofs.Steps as steps
 use Rattle.hir_one_result.specs.Formals.{lower_self, each_formal, lower_formals, lower_body, formals_read, plain_body}
-use Rattle.hir_one_result.specs.Leads.{Ways, OneBindingWay, ◌&◌}
+use Rattle.hir_one_result.specs.Leads.{Ways, OneBindingWay}
 use Rattle.hir_one_result.specs.OneResult.{StandsBody, StandsSelf, StandsTops, StandsGiven}
 use Rattle.hir_one_result.specs.Stands.{Open}
 use Rattle.hir_one_result.specs.StandsWhole.{StandsTop}

@@ -1,15 +1,11 @@
 -- How much a closure that is a coroutine stores.
-use Rattle.std.proofs.Common.{◌≡◌, ◌∙◌, ap, map, Bool, List, [], Option, Some, None}
+use Rattle.std.proofs.Common.{Bool, List, [], Some}
 use Rattle.hir_store.specs.Pointers.{Pointer}
-use Rattle.hir_store.specs.Stored.{Stored}
 use Rattle.hir_store.proofs.Extending.{extends_trans}
 use Rattle.hir_store.specs.declared.hir.CoroutineKind.{CoroutineKind}
 use Rattle.hir_store.specs.declared.hir.CoroutineSource.TheVariants as source
-use Rattle.hir_store.specs.declared.ids.ExprId.{ExprId}
 use Rattle.hir_store.specs.declared.ids.PatId.{PatId}
 use Rattle.hir_env.specs.Answered.{OptionExpr, OptionType, Params}
-use Rattle.hir_lower_form.specs.declared.closures.ClosureParams.{ClosureParams}
-use Rattle.hir_lower_form.specs.declared.preludes.Within.{Within}
 use Rattle.hir_lower_form.specs.Lower.{lower_params, lower_part, no_closure_params, present_type}
 use Rattle.hir_lower_form.specs.Lowering.{owning}
 use Rattle.hir_lower_form.specs.Preludes.{coroutine_closure_form, no_prelude, within_form}
@@ -22,8 +18,8 @@ use Rattle.hir_read_back.proofs.Params.{params_now}
 use Rattle.hir_read_back.proofs.Preludes.{ReadAs}
 use Rattle.hir_one_result.specs.PreludeRoom.{handed_size, prelude_size}
 use Rattle.hir_one_result.specs.Size.{Size, an_expr, owned, ◌∪◌}
-use Rattle.hir_one_result.proofs.ClosureRooms.{owning_takes, takes_owning}
-use Rattle.hir_one_result.proofs.Knowing.{Known, Lasting, Now, TakesIf, owning_now, takes_always, takes_any, takes_if_then, takes_now}
+use Rattle.hir_one_result.proofs.ClosureRooms.{takes_owning}
+use Rattle.hir_one_result.proofs.Knowing.{Known, Lasting, Now, owning_now, takes_always, takes_any, takes_if_then, takes_now}
 use Rattle.hir_one_result.proofs.Last.{within_last}
 use Rattle.hir_one_result.proofs.LastTree.{coroutine_closure_last}
 use Rattle.hir_one_result.proofs.PreludeRooms.{Froms, froms_last, hand_from, let_params_take, lower_handed_takes, made_coroutine_takes}
@@ -57,33 +53,33 @@ module _ (kind : CoroutineKind) (xs : Params) (t : OptionType) (e : OptionExpr) 
   })
 
   module _ {n k j : Size} (hp : Takes n (lower_params no_closure_params xs)) (ht : Takes k (present_type t)) (he : Takes j (lower_part e))
-      where
-    within_takes : Takes (n ∪ (k ∪ (j ∪ (prelude_size shapes ∪ (an_expr ∪ an_expr)))))
-        (within_form kind (lower_params no_closure_params xs) (present_type t) (lower_part e))
-    unfolding within_form
-    within_takes = takes_always {P = Unknown} (λ s. tt) (takes_now (λ l s t f u k. k) (takes_any {P = Unknown} hp) params_known (λ l.
-        takes_if_then {P = Written l.args shapes} {Q = Written l.args shapes} (written_lasts l.args shapes)
-        (takes_any ht) (present_type_any t) (λ r.
-        takes_if_then {P = Written l.args shapes} {Q = Written l.args shapes} (written_lasts l.args shapes)
-        (takes_any he) (part_any e) (λ i.
-        takes_if_then {P = Written l.args shapes} {Q = Unknown} (λ s u f h. tt)
-        (let_params_take no_prelude l.args shapes) (lets_any no_prelude l.args) (λ p.
-        takes_any (takes_end (made_coroutine_takes kind source.Closure p.lets i) (λ c. takes_pure _)))))))
+    where
+      within_takes : Takes (n ∪ (k ∪ (j ∪ (prelude_size shapes ∪ (an_expr ∪ an_expr)))))
+          (within_form kind (lower_params no_closure_params xs) (present_type t) (lower_part e))
+      unfolding within_form
+      within_takes = takes_always {P = Unknown} (λ s. tt) (takes_now (λ l s t f u k. k) (takes_any {P = Unknown} hp) params_known (λ l.
+          takes_if_then {P = Written l.args shapes} {Q = Written l.args shapes} (written_lasts l.args shapes)
+          (takes_any ht) (present_type_any t) (λ r.
+          takes_if_then {P = Written l.args shapes} {Q = Written l.args shapes} (written_lasts l.args shapes)
+          (takes_any he) (part_any e) (λ i.
+          takes_if_then {P = Written l.args shapes} {Q = Unknown} (λ s u f h. tt)
+          (let_params_take no_prelude l.args shapes) (lets_any no_prelude l.args) (λ p.
+          takes_any (takes_end (made_coroutine_takes kind source.Closure p.lets i) (λ c. takes_pure _)))))))
 
-    -- behind the barrier, and in front of the node
-    bordered_takes : (at : Pointer) (moves : Bool)
-        → Takes (owned (n ∪ (k ∪ (j ∪ (prelude_size shapes ∪ (an_expr ∪ an_expr))))) ∪ (handed_size shapes ∪ an_expr))
-        (coroutine_closure_form at kind moves (lower_params no_closure_params xs) (present_type t) (lower_part e))
-    unfolding coroutine_closure_form
-    bordered_takes at moves = takes_begin takes_barrier (λ outside.
-        takes_always {P = Unknown} (λ s. tt) (takes_now (λ w s t f u k. k)
-        (takes_any {P = Unknown} (takes_owning (within_last kind _ _ _) within_takes))
-        (owning_now (λ w. w.coroutine) (λ w. froms_last w.handed shapes) handed_known) (λ w.
-        takes_if_then {P = Froms w.handed shapes} {Q = Unknown} (λ s u f h. tt)
-        (lower_handed_takes [] w.handed shapes) (handed_any [] w.handed) (λ ps.
-        takes_any (takes_begin (takes_close_barrier outside) (λ y. takes_alloc _ (Some at)))))))
+      -- behind the barrier, and in front of the node
+      bordered_takes : (at : Pointer) (moves : Bool)
+          → Takes (owned (n ∪ (k ∪ (j ∪ (prelude_size shapes ∪ (an_expr ∪ an_expr))))) ∪ (handed_size shapes ∪ an_expr))
+          (coroutine_closure_form at kind moves (lower_params no_closure_params xs) (present_type t) (lower_part e))
+      unfolding coroutine_closure_form
+      bordered_takes at moves = takes_begin takes_barrier (λ outside.
+          takes_always {P = Unknown} (λ s. tt) (takes_now (λ w s t f u k. k)
+          (takes_any {P = Unknown} (takes_owning (within_last kind _ _ _) within_takes))
+          (owning_now (λ w. w.coroutine) (λ w. froms_last w.handed shapes) handed_known) (λ w.
+          takes_if_then {P = Froms w.handed shapes} {Q = Unknown} (λ s u f h. tt)
+          (lower_handed_takes [] w.handed shapes) (handed_any [] w.handed) (λ ps.
+          takes_any (takes_begin (takes_close_barrier outside) (λ y. takes_alloc _ (Some at)))))))
 
-    pub coroutine_closure_takes : (at : Pointer) (moves : Bool)
-        → Takes (owned (owned (n ∪ (k ∪ (j ∪ (prelude_size shapes ∪ (an_expr ∪ an_expr))))) ∪ (handed_size shapes ∪ an_expr)))
-        (owning (λ i. i) (coroutine_closure_form at kind moves (lower_params no_closure_params xs) (present_type t) (lower_part e)))
-    coroutine_closure_takes at moves = takes_owning (coroutine_closure_last at kind moves _ _ _) (bordered_takes at moves)
+      pub coroutine_closure_takes : (at : Pointer) (moves : Bool)
+          → Takes (owned (owned (n ∪ (k ∪ (j ∪ (prelude_size shapes ∪ (an_expr ∪ an_expr))))) ∪ (handed_size shapes ∪ an_expr)))
+          (owning (λ i. i) (coroutine_closure_form at kind moves (lower_params no_closure_params xs) (present_type t) (lower_part e)))
+      coroutine_closure_takes at moves = takes_owning (coroutine_closure_last at kind moves _ _ _) (bordered_takes at moves)

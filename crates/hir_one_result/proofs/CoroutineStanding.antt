@@ -1,5 +1,5 @@
 -- What a closure that is a coroutine becomes stands for it.
-use Rattle.std.proofs.Common.{◌≡◌, ◌∙◌, refl, sym, ap, subst, suc, Bool, length, map, List, [], ◌∷◌, ◌++◌, Option, Some, None, Ok, Err}
+use Rattle.std.proofs.Common.{◌≡◌, ◌∙◌, sym, ap, subst, suc, Bool, map, List, [], ◌∷◌, ◌++◌, Option, Some, Ok, Err}
 use Rattle.hir_store.specs.Bindings.{binding_id}
 use Rattle.hir_store.specs.Pointers.{Pointer}
 use Rattle.hir_store.specs.Stored.{Stored, store_of, map_of}
@@ -18,26 +18,25 @@ use Rattle.hir_env.specs.Answered.{OptionExpr, OptionType, Params}
 use Rattle.hir_data.specs.Closures.{capture_of}
 use Rattle.hir_data.specs.Data.{PatData}
 use Rattle.hir_lower_form.specs.Builder.{Builder}
-use Rattle.hir_lower_form.specs.declared.closures.ClosureParams.{ClosureParams}
 use Rattle.hir_lower_form.specs.declared.preludes.Handed.{Handed}
 use Rattle.hir_lower_form.specs.declared.preludes.Within.{Within}
 use Rattle.hir_lower_form.specs.Lower.{lower_params, lower_part, no_closure_params, present_type}
 use Rattle.hir_lower_form.specs.Lowering.{Checked, Lowering, owning}
-use Rattle.hir_lower_form.specs.Preludes.{coroutine_closure_form, lower_handed, no_prelude, stored_coroutine_closure, within_form}
+use Rattle.hir_lower_form.specs.Preludes.{coroutine_closure_form, lower_handed, no_prelude, within_form}
 use Rattle.hir_read_back.proofs.ClosureKinds.{captures_as}
 use Rattle.hir_read_back.proofs.CoroutineClosures.{params_data}
 use Rattle.hir_read_back.proofs.Params.{params_now}
 use Rattle.hir_read_back.proofs.Preludes.{ReadAs}
-use Rattle.hir_steps.proofs.Always.{Always, correct_always}
-use Rattle.hir_steps.proofs.Frames.{Frame, ribs}
+use Rattle.hir_steps.proofs.Always.{correct_always}
+use Rattle.hir_steps.proofs.Frames.{Frame}
 use Rattle.hir_steps.proofs.Keeping.{Any, any, part_any, present_type_any}
 use Rattle.hir_steps.proofs.Owning.{with_owned}
 use Rattle.hir_steps.proofs.Preludes.{correct_handed}
 use Rattle.hir_steps.proofs.Steps as steps
 use Rattle.hir_steps.proofs.Steps.{Both, Holds, Mark, Rel}
-use Rattle.hir_one_result.specs.Leads.{OneUnled, OneWay, Ways, ◌&◌}
+use Rattle.hir_one_result.specs.Leads.{OneUnled, Ways, ◌&◌}
 use Rattle.hir_one_result.specs.StandsMade.{StoredParams}
-use Rattle.hir_one_result.specs.StandsPreludes.{IsCoroutine, Named, StandsCoroutineClosure, StandsHanded, StandsLets}
+use Rattle.hir_one_result.specs.StandsPreludes.{IsCoroutine, StandsCoroutineClosure, StandsLets}
 use Rattle.hir_one_result.specs.Stands.{Open}
 use Rattle.hir_one_result.proofs.ClosureStands.{ParamsBehind}
 use Rattle.hir_one_result.proofs.CoroutineRooms.{handed_known, written_lasts}
@@ -45,9 +44,8 @@ use Rattle.hir_one_result.proofs.Knowing.{Now}
 use Rattle.hir_one_result.proofs.Last.{EndsWith, Last, within_last}
 use Rattle.hir_one_result.proofs.Lasting.{Correct, correct_as, correct_bind, correct_both, correct_coroutine_closure, correct_pure}
 use Rattle.hir_one_result.proofs.Leading.{moved_owner, shown_after, shown_as, shown_before, shown_both}
-use Rattle.hir_one_result.proofs.PatStanding.{Behind}
 use Rattle.hir_one_result.proofs.PreludeRooms.{Froms, froms_last}
-use Rattle.hir_one_result.proofs.PreludeStanding.{SamePats, ShowsIf, handed_stand, lets_stand, made_coroutine_stands, named}
+use Rattle.hir_one_result.proofs.PreludeStanding.{handed_stand, lets_stand, made_coroutine_stands, named}
 use Rattle.hir_one_result.proofs.Standing.{Of, Placed, Shows, expr_at, moved_pure, own, owning_shows}
 
 -- ---- the number of what is stored last

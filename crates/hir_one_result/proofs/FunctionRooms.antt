@@ -1,6 +1,6 @@
 -- How much a function that is a coroutine stores.
-use Rattle.std.proofs.Common.{◌≡◌, ◌∙◌, refl, sym, ap, subst, Bool, true, true≢false, List, [], ◌∷◌, ◌++◌, Option, Some, None}
-use Rattle.std.proofs.Common.{is_some, option_map}
+use Rattle.std.proofs.Common.{◌≡◌, ◌∙◌, refl, sym, ap, subst, Bool, List, [], ◌++◌, Option, Some, None}
+use Rattle.std.proofs.Common.{option_map}
 use Rattle.std.proofs.lemmas.Option.{none-some}
 use Rattle.hir_store.specs.Bindings.{without_problem}
 use Rattle.hir_store.specs.Stored.{Stored}
@@ -9,33 +9,29 @@ use Rattle.hir_store.proofs.Extending.{extends_refl, extends_trans}
 use Rattle.hir_store.specs.declared.hir.CoroutineKind.{CoroutineKind}
 use Rattle.hir_store.specs.declared.hir.CoroutineSource.TheVariants as source
 use Rattle.hir_store.specs.declared.ids.BindingId.{BindingId}
-use Rattle.hir_store.specs.declared.ids.ExprId.{ExprId}
-use Rattle.hir_store.specs.declared.ids.PatId.{PatId}
 use Rattle.hir_store.specs.declared.pat.Binding.{Binding}
 use Rattle.hir_env.specs.Answered as tree
 use Rattle.hir_env.specs.Answered.{Formal, Formals, OptionExpr, SelfFormal}
 use Rattle.hir_data.specs.Data.{PatData}
 use Rattle.hir_lower_form.specs.declared.preludes.Prelude.{Prelude}
-use Rattle.hir_lower_form.specs.Builder.{Builder}
 use Rattle.hir_lower_form.specs.Lower.{lower_part}
-use Rattle.hir_lower_form.specs.Lowering.{owning}
 use Rattle.hir_lower_form.specs.Pats.{new_binding}
 use Rattle.hir_lower_form.specs.Preludes as forms
 use Rattle.hir_lower_form.specs.Preludes.{binding_of, let_params, let_self, lower_handed, made_coroutine_form}
-use Rattle.hir_steps.proofs.Always.{Always, correct_always}
-use Rattle.hir_steps.proofs.Keeping.{Any, any, lets_any, made_coroutine_any, part_any}
+use Rattle.hir_steps.proofs.Always.{correct_always}
+use Rattle.hir_steps.proofs.Keeping.{any, lets_any, made_coroutine_any, part_any}
 use Rattle.hir_steps.proofs.Preludes.{LetSelf, binding_at, correct_let_self}
 use Rattle.hir_steps.proofs.Frames.{Frame}
 use Rattle.hir_steps.proofs.Steps.{Correct, Mark, correct_as, correct_bind, correct_pure}
 use Rattle.hir_read_back.proofs.Preludes.{HandIn, all_handed, lets_now}
-use Rattle.hir_one_result.specs.Formals.{InFunction, coroutine_body, each_formal, in_function, lower_self}
+use Rattle.hir_one_result.specs.Formals.{coroutine_body, each_formal, in_function, lower_self}
 use Rattle.hir_one_result.specs.PreludeRoom.{handed_size, prelude_size, self_let_size}
 use Rattle.hir_one_result.specs.Room.{formals_data, self_size}
 use Rattle.hir_one_result.specs.Size.{Size, a_binding, a_pat, an_expr, nothing, owned, ◌∪◌}
 use Rattle.hir_one_result.proofs.ClosureRooms.{owning_takes}
 use Rattle.hir_one_result.proofs.CoroutineRooms.{Unknown, Written, written_lasts}
-use Rattle.hir_one_result.proofs.Formals.{FormalsNow, HasSelf, each_now, formals_read_as, self_known, self_lasts}
-use Rattle.hir_one_result.proofs.Knowing.{Known, Now, TakesIf, owning_now, takes_always, takes_any, takes_if_end, takes_if_then}
+use Rattle.hir_one_result.proofs.Formals.{HasSelf, each_now, formals_read_as, self_known, self_lasts}
+use Rattle.hir_one_result.proofs.Knowing.{Now, TakesIf, owning_now, takes_always, takes_any, takes_if_end, takes_if_then}
 use Rattle.hir_one_result.proofs.Knowing.{takes_now}
 use Rattle.hir_one_result.proofs.Last.{Last, hands_pure, last_hands, last_then, made_coroutine_last}
 use Rattle.hir_one_result.proofs.PreludeRooms.{Froms, froms_last, hand_from, let_params_take, lower_handed_takes, made_coroutine_takes}

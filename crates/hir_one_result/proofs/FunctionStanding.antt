@@ -1,5 +1,5 @@
 -- What a function that is a coroutine becomes stands for it.
-use Rattle.std.proofs.Common.{arith, ◌≡◌, ◌∙◌, refl, sym, ap, subst, Bool, length, length-append, map, List, [], ◌∷◌, ◌++◌, append-nil}
+use Rattle.std.proofs.Common.{arith, ◌≡◌, ◌∙◌, refl, sym, ap, subst, Bool, length, length-append, map, List, [], ◌∷◌, ◌++◌}
 use Rattle.std.proofs.Common.{slice_get, Option, Some, None, option_map}
 use Rattle.std.proofs.lemmas.Option.{none-some, same_Some}
 use Rattle.hir_store.specs.Arenas.{Prefix}
@@ -28,15 +28,13 @@ use Rattle.hir_steps.proofs.Always.{correct_always}
 use Rattle.hir_steps.proofs.Frames.{Frame, ribs}
 use Rattle.hir_steps.proofs.Keeping.{any, part_any}
 use Rattle.hir_steps.proofs.Logic as logic
-use Rattle.hir_steps.proofs.Owning.{owned_by}
 use Rattle.hir_steps.proofs.PatSteps as pats
 use Rattle.hir_steps.proofs.PatSteps.{defining, with_new_binding, with_pat}
 use Rattle.hir_steps.proofs.Preludes.{Told, binding_at, correct_binding_of, correct_let_self}
 use Rattle.hir_steps.proofs.Steps as steps
 use Rattle.hir_steps.proofs.Steps.{Mark}
-use Rattle.hir_read_back.proofs.Preludes.{ReadAs}
-use Rattle.hir_one_result.specs.Formals.{Given, InFunction, Received, coroutine_body, each_formal, formals_read, in_function, lower_self}
-use Rattle.hir_one_result.specs.Leads.{OneBindingWay, OneUnled, Way, Ways, ◌&◌}
+use Rattle.hir_one_result.specs.Formals.{InFunction, coroutine_body, each_formal, formals_read, in_function, lower_self}
+use Rattle.hir_one_result.specs.Leads.{OneBindingWay, OneUnled, Ways, ◌&◌}
 use Rattle.hir_one_result.specs.OneResult.{StandsBody, StandsSelf, StandsTops}
 use Rattle.hir_one_result.specs.Room.{formals_data}
 use Rattle.hir_one_result.specs.Stands.{StandsPart}

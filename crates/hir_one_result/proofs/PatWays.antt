@@ -1,6 +1,6 @@
 -- Where the nodes of patterns lead once patterns are stored.
 use Rattle.std.proofs.Common.{arith, ◌≡◌, ◌∙◌, refl, sym, ap, subst, ℕ, suc, ◌+◌, List, [], ◌∷◌, ◌++◌, append-nil, append_assoc, length}
-use Rattle.std.proofs.Common.{length-append, map, Option}
+use Rattle.std.proofs.Common.{length-append, map}
 use Rattle.std.proofs.lemmas.List.{length-map, map-append}
 use Rattle.hir_store.specs.Arenas.{MapsBack, pointed, sourced_of}
 use Rattle.hir_store.specs.Pointers.{Pointer}

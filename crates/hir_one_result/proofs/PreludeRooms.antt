@@ -1,8 +1,8 @@
 -- How much the `let`s store that stand in front of the body of a coroutine, and what the outside hands its parameters to: as much as it
 -- is of what the written patterns are, by which they read back.
-use Rattle.std.proofs.Common.{◌≡◌, ◌∙◌, sym, ap, subst, refl, map, Bool, true, false, true≢false, List, [], ◌∷◌, ◌++◌, Option, Some, None}
+use Rattle.std.proofs.Common.{◌≡◌, ◌∙◌, sym, ap, subst, Bool, true, false, true≢false, List, [], ◌∷◌, ◌++◌, Option, Some, None}
 use Rattle.hir_store.specs.Pointers.{Pointer}
-use Rattle.hir_store.specs.Stored.{Stored, store_of, map_of}
+use Rattle.hir_store.specs.Stored.{Stored}
 use Rattle.hir_store.specs.Storing.{Extends}
 use Rattle.hir_store.proofs.Extending.{extends_refl, extends_trans}
 use Rattle.hir_store.specs.declared.hir.CoroutineKind.{CoroutineKind}
@@ -17,7 +17,6 @@ use Rattle.hir_store.specs.declared.pat.Pat.{Pat}
 use Rattle.hir_lower_form.specs.declared.preludes.Handed.{Handed}
 use Rattle.hir_lower_form.specs.declared.preludes.OwnName.{OwnName}
 use Rattle.hir_lower_form.specs.declared.preludes.Prelude.{Prelude}
-use Rattle.hir_lower_form.specs.Builder.{Builder}
 use Rattle.hir_lower_form.specs.Forms.{root_hygiene}
 use Rattle.hir_lower_form.specs.Lowering.{alloc_made_pat}
 use Rattle.hir_lower_form.specs.Preludes as forms
@@ -29,11 +28,9 @@ use Rattle.hir_steps.proofs.PatSteps.{correct_alloc_binding, source_in}
 use Rattle.hir_steps.proofs.Preludes.{correct_handed, correct_let_param, own_at}
 use Rattle.hir_steps.proofs.MadeSteps.{correct_made_number}
 use Rattle.hir_data.specs.Data.{PatData}
-use Rattle.hir_data.specs.Preludes.{HandedIn, by_name, by_its_name, by_made_name, handed_in, source_of}
-use Rattle.hir_data.specs.Reading.{stored_pat}
-use Rattle.hir_read_back.proofs.Params.{pats_in}
-use Rattle.hir_read_back.proofs.Preludes.{HandIn, HandsIn, ReadAs, ReadsAs, by_alone, handed_alike, handed_of, source_alike}
-use Rattle.hir_one_result.specs.PreludeRoom.{handed_bind_size, handed_size, let_size, lets_size, prelude_size, two_lets_size}
+use Rattle.hir_data.specs.Preludes.{handed_in, source_of}
+use Rattle.hir_read_back.proofs.Preludes.{HandIn, ReadAs, ReadsAs, by_alone, handed_alike, handed_of, source_alike}
+use Rattle.hir_one_result.specs.PreludeRoom.{handed_size, let_size, lets_size, prelude_size, two_lets_size}
 use Rattle.hir_one_result.specs.Size.{a_binding, a_made_pat, an_expr, ◌∪◌}
 use Rattle.hir_one_result.proofs.Knowing.{Known, Lasting, TakesIf, takes_any, takes_if_end, takes_if_then}
 use Rattle.hir_one_result.proofs.MadeRooms.{takes_number}

@@ -1,5 +1,5 @@
 -- Small closures and functions that are coroutines.
-use Rattle.std.proofs.Common.{◌≡◌, ◌∙◌, refl, sym, ap, subst, Bool, true, false, List, [], ◌∷◌, ◌++◌, Option, Some, None, slice_get}
+use Rattle.std.proofs.Common.{◌≡◌, ◌∙◌, refl, ap, subst, Bool, true, false, List, [], ◌∷◌, ◌++◌, Some, None}
 use Rattle.hir_binding.specs.declared.binding.BindingAnnotation.TheVariants.{Mutable}
 use Rattle.hir_store.specs.Stored.{Store, SourceMap}
 use Rattle.hir_store.specs.declared.hir.ClosureKind.TheVariants as closure
@@ -16,7 +16,7 @@ use Rattle.hir_meaning.specs.Small.{label_a}
 use Rattle.hir_one_result.specs.Forms.{path_of_name}
 use Rattle.hir_one_result.specs.Leads.{Way}
 use Rattle.hir_one_result.specs.Stands.{Stands, opened}
-use Rattle.hir_one_result.specs.StandsPreludes.{Named, StandsHanded, StandsLets, let_from}
+use Rattle.hir_one_result.specs.StandsPreludes.{Named, StandsHanded, StandsLets}
 use Rattle.hir_one_result.specs.WorkedPreludes.{CoroutineClosures, IsCoroutineClosure, OwnersOfCoroutines, async_break, plain_x}
 
 -- ---- what stands for one

@@ -1,10 +1,9 @@
 -- What stands in front of the body of a coroutine, and what the outside hands its parameters to, stand for the written parameters.
-use Rattle.std.proofs.Common.{arith, ◌≡◌, ◌∙◌, refl, sym, ap, subst, ℕ, Bool, true, false, length, length-append, map, List, [], ◌∷◌, ◌++◌}
+use Rattle.std.proofs.Common.{arith, ◌≡◌, ◌∙◌, refl, sym, ap, subst, Bool, true, false, length, length-append, map, List, [], ◌∷◌, ◌++◌}
 use Rattle.std.proofs.Common.{append-nil, append_assoc, slice_get, Option, Some, None}
 use Rattle.hir_store.specs.Arenas.{Prefix}
 use Rattle.hir_store.specs.Pointers.{Pointer}
-use Rattle.hir_store.specs.Stored.{Stored, Store, SourceMap, store_of, map_of}
-use Rattle.hir_store.specs.Storing.{Extends}
+use Rattle.hir_store.specs.Stored.{Stored, store_of, map_of}
 use Rattle.hir_store.specs.declared.hir.CoroutineKind.{CoroutineKind}
 use Rattle.hir_store.specs.declared.hir.CoroutineSource.{CoroutineSource}
 use Rattle.hir_store.specs.declared.hir.Expr.TheVariants as hir
@@ -26,9 +25,9 @@ use Rattle.hir_lower_form.specs.Forms.{root_hygiene}
 use Rattle.hir_lower_form.specs.Preludes as forms
 use Rattle.hir_lower_form.specs.Preludes.{add_handed, coroutine_of, handed_as, handed_binding, handed_form, let_form, let_param, let_params}
 use Rattle.hir_lower_form.specs.Preludes.{lower_handed, made_coroutine_form, name_form, name_path, two_lets_form}
-use Rattle.hir_steps.proofs.Always.{Always, correct_always}
+use Rattle.hir_steps.proofs.Always.{correct_always}
 use Rattle.hir_steps.proofs.Frames.{Frame, ribs}
-use Rattle.hir_steps.proofs.Keeping.{Any, any}
+use Rattle.hir_steps.proofs.Keeping.{any}
 use Rattle.hir_steps.proofs.Logic as logic
 use Rattle.hir_steps.proofs.PatSteps as pats
 use Rattle.hir_steps.proofs.PatSteps.{AllocatedPatBy, PutPat, defining, put_made_pat, source_in}
@@ -38,9 +37,9 @@ use Rattle.hir_steps.proofs.Steps.{Mark, Rel}
 use Rattle.hir_data.specs.Data.{PatData, generated_pattern, pat_at}
 use Rattle.hir_data.specs.Preludes.{HandedIn, handed_in, source_of}
 use Rattle.hir_read_back.proofs.Preludes.{ReadAs, ReadsAs, by_alone, handed_alike, handed_of, source_alike}
-use Rattle.hir_one_result.specs.Leads.{OneUnled, Ways, ◌&◌}
+use Rattle.hir_one_result.specs.Leads.{OneUnled, ◌&◌}
 use Rattle.hir_one_result.specs.StandsPreludes.{IsCoroutine, IsHandedBy, Named, PatFound, StandsBind, StandsHanded, StandsLet, StandsLetAs}
-use Rattle.hir_one_result.specs.StandsPreludes.{StandsLets, StandsRead, StandsTwoLets, let_from, the_name}
+use Rattle.hir_one_result.specs.StandsPreludes.{StandsLets, StandsRead, StandsTwoLets, the_name}
 use Rattle.hir_one_result.proofs.Knowing.{Known}
 use Rattle.hir_one_result.proofs.Lasting.{Correct, correct_alloc, correct_as, correct_bind, correct_both, correct_made_number, correct_pure}
 use Rattle.hir_one_result.proofs.Lasting.{keeping, settled_as}
@@ -48,7 +47,7 @@ use Rattle.hir_one_result.proofs.Leading.{Shown, moved_made_bind, moved_same, mo
 use Rattle.hir_one_result.proofs.Leading.{shown_both, shown_none}
 use Rattle.hir_one_result.proofs.PatStanding.{Behind}
 use Rattle.hir_one_result.proofs.PreludeRooms.{From, Froms, first_reads, froms_last, none_written, one_written, others_read, reads_from}
-use Rattle.hir_one_result.proofs.Standing.{Of, Placed, Shows, expr_at, moved_pure, unled}
+use Rattle.hir_one_result.proofs.Standing.{Of, Shows, expr_at, moved_pure, unled}
 
 -- the name that it is handed in by
 abbrev pub named : Handed → Named

@@ -24,7 +24,7 @@ use Rattle.hir_env.specs.Targets.{head_pointer}
 use Rattle.hir_data.specs.Patterns.{uses_after, uses_after_part, uses_after_each, uses_after_fields, uses_of, part_uses, each_uses}
 use Rattle.hir_data.specs.Patterns.{field_uses}
 use Rattle.hir_read_back.proofs.PatParts.{dots_or_part}
-use Rattle.hir_lower_form.specs.Lower.{lower_fields, lower_spread, push_some, settled, lower}
+use Rattle.hir_lower_form.specs.Lower.{lower_fields, lower_spread, push_some, lower}
 use Rattle.hir_lower_form.specs.Lower.{lower_part, present, kept_part, lower_each, lower_block, lower_block_part, lower_stmts}
 use Rattle.hir_lower_form.specs.Lower.{lower_constant, lower_type, type_part, present_type, type_or_unit, lower_parts, read_segment}
 use Rattle.hir_lower_form.specs.Lower.{read_each, read_path, read_option, lower_path, lower_segment_args, parens_part, output_part}

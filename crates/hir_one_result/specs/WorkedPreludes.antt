@@ -1,6 +1,6 @@
 -- Small closures and functions that are coroutines: what whatever stands for one has stored, where nodes of patterns lead, and what owns
 -- bindings.
-use Rattle.std.specs.Prelude.{◌≡◌, ℕ, suc, Bool, true, false, List, [], ◌∷◌, Option, Some, None, slice_get}
+use Rattle.std.specs.Prelude.{◌≡◌, suc, Bool, true, false, List, [], ◌∷◌, Option, Some, None, slice_get}
 use Rattle.hir_binding.specs.declared.binding.BindingAnnotation.TheVariants.{Mutable, Ref}
 use Rattle.hir_store.specs.Pointers.{Pointer}
 use Rattle.hir_store.specs.Storing.{pat_id}
