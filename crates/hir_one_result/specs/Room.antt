@@ -2,7 +2,8 @@
 -- parentheses become none besides what is in them, and a range may become a call of one more. An absent or disabled part is one
 -- missing expression, or none where the form knows none, and so is what stands in front of a tuple with a leading comma. Nothing
 -- in a disabled node becomes anything. Patterns likewise; each name of a top pattern becomes one binding, at its first use.
-use Rattle.std.specs.Prelude.{◌+◌, ◌<◌, ◌≤◌, ◌^◌, ◌⊎◌, ◌||◌, List, [], ◌∷◌, map, Option, Some, None, Bool, true, false, is_some, not, length}
+use Rattle.std.specs.Prelude.{◌+◌, ◌<◌, ◌≤◌, ◌^◌, ◌⊎◌, ◌||◌, List, [], ◌∷◌, map, length, Option, Some, None, is_some}
+use Rattle.std.specs.Prelude.{Bool, true, false, not}
 use Rattle.hir_store.specs.declared.hir.CoroutineKind.{CoroutineKind}
 use Rattle.hir_env.specs.Answered as tree
 use Rattle.hir_env.specs.Answered.{Type_, OptionType, Parts, Path, OptionPath, Segments, Segment, SegmentArgs, OptionParens, OptionRet}
